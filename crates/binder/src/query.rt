@@ -1,0 +1,114 @@
+//! Bound queries as plain data.
+
+use schema::Table;
+use values::{Boxed, Comparison, Items, Text, Value};
+
+/// The column at a place of the row at a level. Level 0 is the innermost row: that of the block's own FROM, and in an ON
+/// the row of the join's two sides. Level 1 is the row of the enclosing block, and so on.
+#[derive(Clone, Copy, Debug, PartialEq, Eq)]
+pub struct Column {
+    pub level: usize,
+    pub place: usize,
+}
+
+#[derive(Debug, Drop)]
+pub enum Term {
+    Column(Column),
+    Literal(Value),
+}
+
+/// A condition. `x IS NOT NULL` is `Not` of `IsNull`, and `x NOT IN Q` is `Not` of `In`.
+#[cycle(block)]
+#[derive(Debug, Drop)]
+pub enum Cond {
+    Compare(Comparison, Term, Term),
+    IsNull(Term),
+    Not(Boxed<Cond>),
+    And(Items<Cond>),
+    Or(Items<Cond>),
+    Exists(Boxed<Block>),
+    In(Term, Boxed<Block>),
+}
+
+/// A table of the schema, where it stands in the text. Occurrences are numbered from 0 as they stand there, those in
+/// subqueries among them.
+#[derive(Clone, Copy, Debug, PartialEq, Eq)]
+pub struct Occurrence {
+    pub number: usize,
+    /// The table's place in the schema.
+    pub table: usize,
+}
+
+#[cycle(block)]
+#[derive(Debug, Drop)]
+pub enum From {
+    Table(Occurrence),
+    /// `FROM .. JOIN table ON condition`
+    Join(Boxed<From>, Occurrence, Boxed<Cond>),
+    /// `FROM .. LEFT JOIN table ON condition`
+    LeftJoin(Boxed<From>, Occurrence, Boxed<Cond>),
+    /// A comma: all before it, and the chain of joins after it, whose ONs see that chain alone.
+    Comma(Boxed<From>, Boxed<From>),
+}
+
+/// An aggregate of a column of the block's own FROM, which is named by its place.
+#[derive(Clone, Copy, Debug, PartialEq, Eq)]
+pub enum Aggregate {
+    CountRows,
+    Count(usize),
+    Sum(usize),
+    Min(usize),
+    Max(usize),
+}
+
+#[derive(Clone, Copy, Debug, PartialEq, Eq)]
+pub enum Item {
+    Column(Column),
+    /// An aggregate, and the column number that it has: those of the text's aggregates follow those of its tables.
+    Aggregate(usize, Aggregate),
+}
+
+/// A SELECT without its ORDER BY: a query block, which may also stand as a subquery.
+#[cycle(block)]
+#[derive(Debug, Drop)]
+pub struct Block {
+    pub from: From,
+    pub filter: Option<Boxed<Cond>>,
+    /// Whether it has GROUP BY or an aggregate.
+    pub grouped: bool,
+    /// The GROUP BY columns, by their places in the own FROM.
+    pub keys: Items<usize>,
+    pub items: Items<Item>,
+    pub distinct: bool,
+}
+
+/// A key of ORDER BY: the place of an item, which is a column.
+#[derive(Clone, Copy, Debug, PartialEq, Eq)]
+pub struct SortKey {
+    pub item: usize,
+    pub descending: bool,
+}
+
+/// What the text says of a table occurrence.
+#[derive(Debug, Drop)]
+pub struct TableUse {
+    /// The table's place in the schema.
+    pub table: usize,
+    /// Its entry in the schema.
+    pub entry: Table,
+    /// The name by which columns name it: its alias, or the table's name.
+    pub name: Text,
+    /// The number of its first column. The others follow in the order of the schema.
+    pub first_column: usize,
+}
+
+/// A bound query.
+#[derive(Debug, Drop)]
+pub struct Query {
+    /// Of each occurrence, by its number.
+    pub tables: Items<TableUse>,
+    pub block: Block,
+    /// The items' output names.
+    pub names: Items<Text>,
+    pub order: Items<SortKey>,
+}

@@ -1,0 +1,23 @@
+-- The total order of values: Null, then numbers, then texts by their bytes (this project's profile of SQL).
+use Rattle.std.specs.Prelude.{Bool}
+use Rattle.std.specs.declared.cmp.Ordering.{Ordering}
+use Rattle.std.specs.declared.cmp.Ordering.TheVariants.{Less, Equal, Greater}
+use Rattle.std.specs.Ordering.{nat_cmp, int_cmp, is_eq}
+use Rattle.std.specs.Cmp.Lexicographic.{slice_cmp}
+use Rattle.values.specs.declared.value.Value.{Value}
+use Rattle.values.specs.declared.value.Value.TheVariants.{Null, Int, Text}
+
+abbrev pub order : Value → Value → Ordering
+order Null Null = Equal
+order Null (Int n) = Less
+order Null (Text t) = Less
+order (Int m) Null = Greater
+order (Int m) (Int n) = int_cmp m n
+order (Int m) (Text t) = Less
+order (Text s) Null = Greater
+order (Text s) (Int n) = Greater
+order (Text s) (Text t) = slice_cmp nat_cmp s t
+
+-- equal in the order, so Null is the same as Null
+abbrev pub same : Value → Value → Bool
+same a b = is_eq (order a b)
