@@ -1,0 +1,6 @@
+//! Answers queries over tables in files, by checked plans.
+#![tactic(auto)]
+
+mod syntax;
+
+fn main() {}

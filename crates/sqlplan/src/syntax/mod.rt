@@ -1,0 +1,11 @@
+//! The text of a query: tokens, and the tree that they are.
+
+pub mod ast;
+pub mod fault;
+pub mod lexer;
+pub mod parser;
+pub mod token;
+
+pub use ast::{Ast, Filter, Name};
+pub use fault::{ParseCode, ParseFault, ParseRefusal};
+pub use parser::parse;
