@@ -1,1 +1,5 @@
-
+pub mod Aggregates
+pub mod Answer
+pub mod Laws
+pub mod Meaning
+pub mod Rows

@@ -3,4 +3,6 @@
 
 pub mod query;
 
-pub use query::{Aggregate, Block, Column, Cond, From, Item, Occurrence, Query, SortKey, TableUse, Term};
+pub use query::{
+    Aggregate, Block, Column, Cond, From, Item, Occurrence, Query, SortKey, TableUse, Term,
+};

@@ -1,0 +1,76 @@
+//! What a certificate is, and why one is refused.
+
+use logical::{Columns, Conjuncts, Expr};
+use thiserror::Error;
+use values::{Fault, Items};
+
+/// A line of a derivation. Lines are numbered from 0.
+#[derive(Debug, Drop)]
+pub enum Line {
+    /// Founds a class, which is named by this line's number.
+    Founds(Expr),
+}
+
+/// An operator of a plan. Its `line` is the line whose expression it computes.
+#[derive(Debug, Drop)]
+pub enum Node {
+    /// The rows of a table occurrence, in the order of the table.
+    Scan { line: usize, occurrence: usize },
+    /// The input's rows that make all conjuncts true.
+    Filter { line: usize, conjuncts: Conjuncts },
+    /// The input's rows cut to the columns.
+    Cut { line: usize, columns: Columns },
+}
+
+#[derive(Debug, Drop)]
+pub struct Plan {
+    pub node: Node,
+    pub inputs: Items<Plan>,
+}
+
+/// A plan, and the derivation that ties it to its query.
+#[derive(Debug, Drop)]
+pub struct Certificate {
+    pub lines: Items<Line>,
+    pub plan: Plan,
+}
+
+/// What is wrong with a line or a node. Displayed by its code, `K01` to `K08`.
+#[derive(Clone, Copy, Debug, PartialEq, Eq, Error)]
+pub enum CheckCode {
+    /// A number names no earlier line, or as a class a line that founds none.
+    #[error("K01")]
+    UnknownLine,
+    /// What the line cites isn't of the form that it needs.
+    #[error("K02")]
+    OtherForm,
+    /// The line gives another result, or is another line than the query's own, or the query's own is missing.
+    #[error("K03")]
+    OtherLine,
+    /// The expression isn't well formed, or the columns aren't its class's.
+    #[error("K04")]
+    IllFormed,
+    /// The condition under which the line may stand fails.
+    #[error("K05")]
+    FailedCondition,
+    /// The node implements no cited member of its class.
+    #[error("K06")]
+    OtherOperator,
+    /// An input doesn't deliver the order that the node needs.
+    #[error("K07")]
+    UnsortedInput,
+    /// The plan doesn't deliver the query's ORDER BY.
+    #[error("K08")]
+    UnsortedAnswer,
+}
+
+/// The first fault of a certificate.
+#[derive(Clone, Copy, Debug, PartialEq, Eq, Error)]
+#[error("{code} line {line}")]
+pub struct CheckRefusal {
+    /// The number of the faulty line, or of the faulty node: nodes are numbered on from the lines, each before its inputs.
+    pub line: usize,
+    pub code: CheckCode,
+}
+
+pub type CheckFault = Fault<CheckRefusal>;

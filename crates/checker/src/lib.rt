@@ -1,0 +1,8 @@
+//! Certificates: a derivation and a plan, and their check against a query.
+#![tactic(auto)]
+
+pub mod certificate;
+pub mod checked;
+
+pub use certificate::{Certificate, CheckCode, CheckFault, CheckRefusal, Line, Node, Plan};
+pub use checked::Checked;
