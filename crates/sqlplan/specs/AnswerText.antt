@@ -1,0 +1,32 @@
+-- The text of an answer, over csv's own words (this project's profile of Null and of texts that look like it).
+use Rattle.std.specs.Prelude.{◌≡◌, ◌==◌, ℕ, List, [], ◌∷◌, ◌++◌, map, if◌then◌else◌, codes, Option}
+use Rattle.std.specs.Fmt.{signed_decimal}
+use Rattle.std.specs.Io.KnownBytes.{Appends}
+use Rattle.csv.specs.Writing.{default_writer, row_text}
+use Rattle.values.specs.declared.value.Value.{Value}
+use Rattle.values.specs.declared.value.Value.TheVariants as value
+use Rattle.schema.specs.Databases.{Row}
+
+-- a text that begins with `\` gets one more, so that none looks like Null
+abbrev pub escaped : List ℕ → List ℕ
+escaped [] = []
+escaped (b ∷ bs) = if b == 92 then 92 ∷ b ∷ bs else b ∷ bs
+
+-- Null is `\N`, and a number stands in decimal
+abbrev pub field_of : Value → List ℕ
+field_of value.Null = codes "\\N"
+field_of (value.Int n) = signed_decimal n
+field_of (value.Text t) = escaped t
+
+-- a record a row
+abbrev pub rows_text : List Row → List ℕ
+rows_text [] = []
+rows_text (r ∷ rs) = row_text default_writer (map field_of r) ++ rows_text rs
+
+-- the names as a header, and the rows
+abbrev pub answer_text : List (List ℕ) → List Row → List ℕ
+answer_text names rows = row_text default_writer names ++ rows_text rows
+
+-- some beginning of the text was added
+abbrev pub HasFront : Option (List ℕ) → Option (List ℕ) → List ℕ → Type 0
+HasFront old new text = (front rest : List ℕ) × (text ≡ front ++ rest) × Appends old new front
