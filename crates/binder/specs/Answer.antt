@@ -14,7 +14,7 @@ use Rattle.binder.specs.declared.query.SortKey.{SortKey}
 use Rattle.binder.specs.declared.query.Query.{Query}
 use Rattle.binder.specs.Rows.{Env, Tables, IsFitting, tables_of, value_at, count}
 use Rattle.binder.specs.Meaning.{truth, src, often}
-use Rattle.binder.specs.Laws.{IsMeaning, IsMeaningOn}
+use Rattle.binder.specs.Laws.{IsMeaningOn}
 
 -- ---- ORDER BY
 
@@ -47,10 +47,6 @@ pub record Agree (truth' : Cond → Tables → Env → Truth) (src' : From → T
   pub truth : (c : Cond) (e : Env) → truth' c D e ≡ Rattle.binder.specs.Meaning.truth c D e
   pub src : (f : From) (e : Env) (s : Row) → src' f D e s ≡ Rattle.binder.specs.Meaning.src f D e s
   pub often : (q : Block) (e : Env) (r : Row) → often' q D e r ≡ Rattle.binder.specs.Meaning.often q D e r
-
--- the computing form obeys the laws
-abbrev pub MeaningObeysLaws : Type 0
-MeaningObeysLaws = IsMeaning truth src often
 
 -- whatever obeys the laws at a database agrees there with the computing form
 abbrev pub LawsDetermineMeaning : Type 0

@@ -1,8 +1,10 @@
 //! Bound queries, and what they mean.
 #![tactic(auto)]
 
+pub mod laws;
 pub mod query;
 
+pub use laws::{laws_determine_meaning, meaning_obeys_laws, satisfying_databases_fit};
 pub use query::{
     Aggregate, Block, Column, Cond, From, Item, Occurrence, Query, SortKey, TableUse, Term,
 };
