@@ -2,6 +2,16 @@
 #![tactic(auto)]
 
 mod copies;
+mod each;
+mod entries;
+pub mod fault;
+mod limits;
+mod names;
+mod places;
+mod reading;
 pub mod schema;
+#[cfg(test)]
+mod tests;
 
+pub use fault::{SchemaFault, SchemaRefusal};
 pub use schema::{Column, Kind, Schema, Table};

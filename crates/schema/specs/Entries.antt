@@ -1,0 +1,114 @@
+-- What bytes spell as JSON: the entries of tables, or why they have another shape.
+use Rattle.std.specs.Prelude.{ℕ, List, [], ◌∷◌, length, Bool, Option, Result, Ok, Err, ◌==◌, if◌then◌else◌, codes, bytes_eq}
+use Rattle.std.specs.Str.{is_utf8}
+use Rattle.serde_json.specs.Data.{Data, Items, no_items, item}
+use Rattle.serde_json.specs.Events.{members_len}
+use Rattle.serde_json.specs.Read as json
+use Rattle.serde_json.specs.Find.{get, as_str, as_bool, as_array, as_object}
+use Rattle.values.specs.Faults.{◌>>=◌}
+use Rattle.values.specs.Faults as faults
+use Rattle.schema.specs.declared.fault.SchemaRefusal.{SchemaRefusal}
+use Rattle.schema.specs.declared.fault.SchemaRefusal.TheVariants.{NotJson, Shape}
+use Rattle.schema.specs.declared.schema.Kind.{Kind}
+use Rattle.schema.specs.declared.schema.Kind.TheVariants.{Int, Text}
+use Rattle.schema.specs.declared.schema.Column.{Column}
+use Rattle.schema.specs.declared.entries.TableEntry.{TableEntry}
+use Rattle.schema.specs.Names.{Name, is_name}
+use Rattle.schema.specs.Each.{each}
+
+abbrev pub wanted : {A : Type 0} → Option A → Result A SchemaRefusal
+wanted x = faults.wanted Shape x
+
+abbrev pub wanted_if : {A : Type 0} → Bool → A → Result A SchemaRefusal
+wanted_if b x = faults.wanted_if Shape b x
+
+-- what the bytes are as JSON
+unfoldable pub json_in : List ℕ → Result Data SchemaRefusal
+json_in bytes = if is_utf8 bytes then faults.wanted NotJson (json.read bytes) else Err NotJson
+
+-- an object with as many members as this
+unfoldable pub keys_in : ℕ → Data → Result (Unit {0}) SchemaRefusal
+keys_in n d = do
+  members ← wanted (as_object d)
+  wanted_if (members_len members == n) tt
+
+abbrev pub field_in : Name → Data → Result Data SchemaRefusal
+field_in name d = wanted (get name d)
+
+abbrev pub flag_in : Data → Result Bool SchemaRefusal
+flag_in d = wanted (as_bool d)
+
+-- an array's items as a list
+unfoldable pub list_of : Items → List Data
+list_of no_items = []
+list_of (item d ds) = d ∷ list_of ds
+
+unfoldable pub items_in : Data → Result (List Data) SchemaRefusal
+items_in d = do
+  ds ← wanted (as_array d)
+  Ok (list_of ds)
+
+-- a list with an item at least
+abbrev pub some_of : {A : Type 0} → List A → Result (List A) SchemaRefusal
+some_of xs = if length xs == 0 then Err Shape else Ok xs
+
+unfoldable pub name_in : Data → Result Name SchemaRefusal
+name_in d = do
+  text ← wanted (as_str d)
+  wanted_if (is_name text) text
+
+unfoldable pub kind_in : Data → Result Kind SchemaRefusal
+kind_in d = do
+  text ← wanted (as_str d)
+  if bytes_eq text (codes "INT") then Ok Int else (if bytes_eq text (codes "TEXT") then Ok Text else Err Shape)
+
+-- at least one name
+unfoldable pub names_in : Data → Result (List Name) SchemaRefusal
+names_in d = do
+  ds ← items_in d
+  names ← each name_in ds
+  some_of names
+
+unfoldable pub column_in : Data → Result Column SchemaRefusal
+column_in d = do
+  _ ← keys_in 3 d
+  n ← field_in (codes "name") d
+  name ← name_in n
+  k ← field_in (codes "kind") d
+  kind ← kind_in k
+  b ← field_in (codes "not_null") d
+  not_null ← flag_in b
+  Ok (record { name = name; kind = kind; not_null = not_null })
+
+-- at least one column
+unfoldable pub columns_in : Data → Result (List Column) SchemaRefusal
+columns_in d = do
+  ds ← items_in d
+  columns ← each column_in ds
+  some_of columns
+
+unfoldable pub lists_in : Data → Result (List (List Name)) SchemaRefusal
+lists_in d = do
+  ds ← items_in d
+  each names_in ds
+
+unfoldable pub table_in : Data → Result TableEntry SchemaRefusal
+table_in d = do
+  _ ← keys_in 4 d
+  n ← field_in (codes "name") d
+  name ← name_in n
+  cs ← field_in (codes "columns") d
+  columns ← columns_in cs
+  us ← field_in (codes "unique") d
+  unique ← lists_in us
+  is ← field_in (codes "indexes") d
+  indexes ← lists_in is
+  Ok (record { name = name; columns = columns; unique = unique; indexes = indexes })
+
+unfoldable pub entries_in : List ℕ → Result (List TableEntry) SchemaRefusal
+entries_in bytes = do
+  d ← json_in bytes
+  _ ← keys_in 1 d
+  ts ← field_in (codes "tables") d
+  ds ← items_in ts
+  each table_in ds

@@ -1,0 +1,30 @@
+//! Reading a schema.
+
+ghost use Rattle.values.specs.Faults.{Gives};
+ghost use Rattle.schema.specs.Reading.{schema_of};
+
+use crate::each::each;
+use crate::entries::entries_of;
+use crate::fault::{SchemaFault, SchemaRefusal};
+use crate::limits::{are_few, names_differ};
+use crate::places::TablePlacer;
+use crate::schema::Schema;
+use std::alloc::Global;
+
+impl Schema {
+    /// The schema that the bytes spell as JSON.
+    #[tactic(auto, unfolding(crate::specs::Reading::schema_of))]
+    pub fn read(alloc: Global, bytes: &[u8]) -> Result<Schema, SchemaFault>
+        ensures exact { Gives (λ x. x) result (schema_of bytes.now) }
+    {
+        let entries = entries_of(alloc, bytes)?;
+        if !are_few(entries.as_slice()) {
+            return Err(SchemaFault::Refused(SchemaRefusal::TooMany));
+        }
+        if !names_differ(entries.as_slice()) {
+            return Err(SchemaFault::Refused(SchemaRefusal::Repeated));
+        }
+        let tables = each(alloc, &TablePlacer, entries.as_slice())?;
+        Ok(Schema { tables })
+    }
+}
