@@ -1,2 +1,7 @@
 pub mod AnswerText
 pub mod Devices
+pub mod Grammar
+pub mod Refusals
+pub mod StoreFaults
+pub mod StoreInput
+pub mod Tokens

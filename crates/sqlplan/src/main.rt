@@ -3,6 +3,12 @@
 
 mod answer;
 mod binding;
+mod execution;
+mod refusal;
+mod store;
 mod syntax;
+
+mod command;
+mod stop;
 
 fn main() {}

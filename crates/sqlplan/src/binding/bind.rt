@@ -2,7 +2,7 @@
 
 ghost use Rattle.std.specs.Prelude.{◌<◌, length, IfOk};
 
-use crate::binding::fault::{BindCode, BindFault, refused};
+use crate::binding::fault::{BindReason, BindFault, refused};
 use crate::syntax::{Ast, Filter, Name};
 use binder::{Block, Column, Cond, From, Item, Occurrence, Query, TableUse, Term};
 use schema::{Kind, Schema, Table};
@@ -18,7 +18,7 @@ fn table_place(schema: &Schema, name: &Name) -> Result<usize, BindFault>
             return Ok(place);
         }
     }
-    Err(refused(BindCode::UnknownTable, name.at))
+    Err(refused(BindReason::UnknownTable, name.at))
 }
 
 /// The place of the column that a name means.
@@ -30,7 +30,7 @@ fn column_place(table: &Table, name: &Name) -> Result<usize, BindFault>
             return Ok(place);
         }
     }
-    Err(refused(BindCode::UnknownColumn, name.at))
+    Err(refused(BindReason::UnknownColumn, name.at))
 }
 
 /// Whether a literal may be compared with a column of this kind. NULL has either kind.
@@ -53,7 +53,7 @@ fn bound_filter(
     let place = column_place(table, &filter.column)?;
     let column = &table.columns.as_slice()[place];
     if !is_of_kind(&filter.literal, column.kind) {
-        return Err(refused(BindCode::MixedKinds, filter.comparison_at));
+        return Err(refused(BindReason::MixedKinds, filter.comparison_at));
     }
     let own = Term::Column(Column { level: 0, place });
     let literal = Term::Literal(filter.literal.copy(alloc)?);

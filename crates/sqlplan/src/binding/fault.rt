@@ -5,8 +5,9 @@ ghost use Rattle.std.specs.Prelude.{◌≡◌};
 use thiserror::Error;
 use values::Fault;
 
+/// Why a tree is refused.
 #[derive(Clone, Copy, Debug, PartialEq, Eq)]
-pub enum BindCode {
+pub enum BindReason {
     /// B01: no table of this name.
     UnknownTable,
     /// B02: no column of this name.
@@ -31,37 +32,38 @@ pub enum BindCode {
     OuterAggregate,
 }
 
-impl BindCode {
-    pub fn name(self) -> &'static str {
+impl BindReason {
+    /// The code by which the program tells it.
+    pub fn code(self) -> &'static str {
         match self {
-            BindCode::UnknownTable => "B01",
-            BindCode::UnknownColumn => "B02",
-            BindCode::AmbiguousName => "B03",
-            BindCode::RepeatedName => "B04",
-            BindCode::MixedKinds => "B05",
-            BindCode::UngroupedColumn => "B06",
-            BindCode::SumOfText => "B07",
-            BindCode::NotOneColumn => "B08",
-            BindCode::NoOutputColumn => "B09",
-            BindCode::TooLarge => "B10",
-            BindCode::OuterAggregate => "B11",
+            BindReason::UnknownTable => "B01",
+            BindReason::UnknownColumn => "B02",
+            BindReason::AmbiguousName => "B03",
+            BindReason::RepeatedName => "B04",
+            BindReason::MixedKinds => "B05",
+            BindReason::UngroupedColumn => "B06",
+            BindReason::SumOfText => "B07",
+            BindReason::NotOneColumn => "B08",
+            BindReason::NoOutputColumn => "B09",
+            BindReason::TooLarge => "B10",
+            BindReason::OuterAggregate => "B11",
         }
     }
 }
 
 /// What is wrong with a tree, and at which byte of its text.
 #[derive(Clone, Copy, Debug, PartialEq, Eq, Drop, Error)]
-#[error("{code:?} at byte {at}")]
+#[error("{} at {at}", .reason.code())]
 pub struct BindRefusal {
-    pub code: BindCode,
+    pub reason: BindReason,
     pub at: usize,
 }
 
 pub type BindFault = Fault<BindRefusal>;
 
 /// The fault of a tree that is refused.
-pub fn refused(code: BindCode, at: usize) -> BindFault
-    ensures { result ≡ Fault.Refused (record { code = code; at = at }) }
+pub fn refused(reason: BindReason, at: usize) -> BindFault
+    ensures { result ≡ Fault.Refused (record { reason = reason; at = at }) }
 {
-    Fault::Refused(BindRefusal { code, at })
+    Fault::Refused(BindRefusal { reason, at })
 }

@@ -1,6 +1,6 @@
 //! The tree of a query's text.
 
-use values::{Comparison, Text, Value};
+use values::{Comparison, Items, Text, Value};
 
 /// A name of the text.
 #[derive(Debug, Drop)]
@@ -24,7 +24,7 @@ pub struct Filter {
 /// `SELECT columns FROM table WHERE filter`
 #[derive(Debug, Drop)]
 pub struct Ast {
-    pub columns: Vec<Name>,
+    pub columns: Items<Name>,
     pub table: Name,
     pub filter: Option<Filter>,
 }

@@ -5,8 +5,9 @@ ghost use Rattle.std.specs.Prelude.{◌≡◌};
 use thiserror::Error;
 use values::Fault;
 
+/// Why a text is refused.
 #[derive(Clone, Copy, Debug, PartialEq, Eq)]
-pub enum ParseCode {
+pub enum ParseReason {
     /// P01: a character at which no token begins.
     NoToken,
     /// P02: a text token that isn't closed.
@@ -21,32 +22,33 @@ pub enum ParseCode {
     TooLong,
 }
 
-impl ParseCode {
-    pub fn name(self) -> &'static str {
+impl ParseReason {
+    /// The code by which the program tells it.
+    pub fn code(self) -> &'static str {
         match self {
-            ParseCode::NoToken => "P01",
-            ParseCode::OpenText => "P02",
-            ParseCode::NumberRange => "P03",
-            ParseCode::Unexpected => "P04",
-            ParseCode::TooDeep => "P05",
-            ParseCode::TooLong => "P06",
+            ParseReason::NoToken => "P01",
+            ParseReason::OpenText => "P02",
+            ParseReason::NumberRange => "P03",
+            ParseReason::Unexpected => "P04",
+            ParseReason::TooDeep => "P05",
+            ParseReason::TooLong => "P06",
         }
     }
 }
 
 /// What is wrong with a text, and at which of its bytes.
 #[derive(Clone, Copy, Debug, PartialEq, Eq, Drop, Error)]
-#[error("{code:?} at byte {at}")]
+#[error("{} at {at}", .reason.code())]
 pub struct ParseRefusal {
-    pub code: ParseCode,
+    pub reason: ParseReason,
     pub at: usize,
 }
 
 pub type ParseFault = Fault<ParseRefusal>;
 
 /// The fault of a text that is refused.
-pub fn refused(code: ParseCode, at: usize) -> ParseFault
-    ensures { result ≡ Fault.Refused (record { code = code; at = at }) }
+pub fn refused(reason: ParseReason, at: usize) -> ParseFault
+    ensures { result ≡ Fault.Refused (record { reason = reason; at = at }) }
 {
-    Fault::Refused(ParseRefusal { code, at })
+    Fault::Refused(ParseRefusal { reason, at })
 }

@@ -2,7 +2,7 @@
 
 ghost use Rattle.std.specs.Prelude.{◌<◌, ◌≤◌, length, IfOk, IfSome};
 
-use crate::syntax::fault::{ParseCode, ParseFault, refused};
+use crate::syntax::fault::{ParseReason, ParseFault, refused};
 use crate::syntax::token::{Symbol, Token, TokenKind, keyword_of};
 use std::alloc::{AllocError, Global};
 use values::{Comparison, Text};
@@ -82,7 +82,7 @@ fn number<'t>(
 {
     match value_of(negative, digits) {
         Some(value) => Ok((TokenKind::Number(value), behind.trim_start_matches(is_digit))),
-        None => Err(refused(ParseCode::NumberRange, at)),
+        None => Err(refused(ParseReason::NumberRange, at)),
     }
 }
 
@@ -132,7 +132,7 @@ fn symbol<'t>(at: usize, first: char, behind: &'t str) -> Result<Lexed<'t>, Pars
     }
     match comparison(first, behind) {
         Some((comparison, rest)) => Ok((TokenKind::Comparison(comparison), rest)),
-        None => Err(refused(ParseCode::NoToken, at)),
+        None => Err(refused(ParseReason::NoToken, at)),
     }
 }
 
@@ -142,7 +142,7 @@ fn token(alloc: Global, at: usize, text: &str) -> Result<Lexed<'_>, ParseFault>
 {
     let mut characters = text.chars();
     let Some(first) = characters.next() else {
-        return Err(refused(ParseCode::NoToken, at));
+        return Err(refused(ParseReason::NoToken, at));
     };
     let behind = characters.as_str();
     if is_word_start(first) {
@@ -159,7 +159,7 @@ fn token(alloc: Global, at: usize, text: &str) -> Result<Lexed<'_>, ParseFault>
     }
     match quoted(alloc, behind)? {
         Some(lexed) => Ok(lexed),
-        None => Err(refused(ParseCode::OpenText, at)),
+        None => Err(refused(ParseReason::OpenText, at)),
     }
 }
 

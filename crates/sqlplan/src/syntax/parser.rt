@@ -3,12 +3,12 @@
 ghost use Rattle.std.specs.Prelude.{◌<◌, ◌≤◌, length, IfOk, IfSome};
 
 use crate::syntax::ast::{Ast, Filter, Name};
-use crate::syntax::fault::{ParseCode, ParseFault, refused};
+use crate::syntax::fault::{ParseReason, ParseFault, refused};
 use crate::syntax::lexer::tokens;
 use crate::syntax::token::{Keyword, Symbol, Token, TokenKind};
 use std::alloc::Global;
 use std::str;
-use values::{Comparison, Value};
+use values::{Comparison, Items, Value};
 
 /// The most bytes that a query's text may have.
 pub const MAX_TEXT: usize = 65536;
@@ -24,8 +24,8 @@ impl<'t> Rest<'t> {
     /// The fault of what stands next.
     fn unexpected(self) -> ParseFault {
         match self.tokens {
-            [] => refused(ParseCode::Unexpected, self.end),
-            [token, ..] => refused(ParseCode::Unexpected, token.at),
+            [] => refused(ParseReason::Unexpected, self.end),
+            [token, ..] => refused(ParseReason::Unexpected, token.at),
         }
     }
 
@@ -80,9 +80,9 @@ fn name(alloc: Global, rest: Rest<'_>) -> Result<(Name, Rest<'_>), ParseFault>
 }
 
 /// `column {, column}`
-fn columns(alloc: Global, rest: Rest<'_>) -> Result<(Vec<Name>, Rest<'_>), ParseFault> {
+fn columns(alloc: Global, rest: Rest<'_>) -> Result<(Items<Name>, Rest<'_>), ParseFault> {
     let (first, mut rest) = name(alloc, rest)?;
-    let mut columns = Vec::new(alloc);
+    let mut columns = Items::new(alloc);
     columns.push(first)?;
     while let Some(behind) = symbol(rest, Symbol::Comma) {
         let (column, more) = name(alloc, behind)?;
@@ -149,7 +149,7 @@ fn statement(alloc: Global, rest: Rest<'_>) -> Result<Ast, ParseFault> {
 /// The tree of a query's text.
 pub fn parse(alloc: Global, text: &str) -> Result<Ast, ParseFault> {
     if text.len() > MAX_TEXT {
-        return Err(refused(ParseCode::TooLong, MAX_TEXT));
+        return Err(refused(ParseReason::TooLong, MAX_TEXT));
     }
     let tokens = tokens(alloc, text)?;
     statement(
@@ -164,10 +164,10 @@ pub fn parse(alloc: Global, text: &str) -> Result<Ast, ParseFault> {
 /// The tree of the bytes of a query's text. Bytes that are no text are refused at the first bad one.
 pub fn parse_bytes(alloc: Global, bytes: &[u8]) -> Result<Ast, ParseFault> {
     if bytes.len() > MAX_TEXT {
-        return Err(refused(ParseCode::TooLong, MAX_TEXT));
+        return Err(refused(ParseReason::TooLong, MAX_TEXT));
     }
     match str::from_utf8(bytes) {
         Ok(text) => parse(alloc, text),
-        Err(error) => Err(refused(ParseCode::NoToken, error.valid_up_to())),
+        Err(error) => Err(refused(ParseReason::NoToken, error.valid_up_to())),
     }
 }

@@ -4,4 +4,4 @@ pub mod bind;
 pub mod fault;
 
 pub use bind::bind;
-pub use fault::{BindCode, BindFault, BindRefusal};
+pub use fault::{BindReason, BindFault, BindRefusal};

@@ -1,0 +1,76 @@
+-- The grammar of queries, as a relation on lists of tokens (this project's cut of SQL):
+--   SELECT column {, column} FROM name [WHERE column comparison literal] [;]
+use Rattle.std.specs.Prelude.{◌≡◌, ◌≤◌, List, [], ◌∷◌, ◌++◌, length, Option, Some, None, ◌⊎◌}
+use Rattle.std.specs.Str.{IsUtf8}
+use Rattle.values.specs.declared.value.Value.{Value}
+use Rattle.values.specs.declared.value.Value.TheVariants as value
+use Rattle.sqlplan.specs.declared.syntax.token.Keyword.TheVariants as k
+use Rattle.sqlplan.specs.declared.syntax.token.Symbol.TheVariants as s
+use Rattle.sqlplan.specs.declared.syntax.token.TokenKind.TheVariants as token
+use Rattle.sqlplan.specs.declared.syntax.token.Token.{Token}
+use Rattle.sqlplan.specs.declared.syntax.ast.Name.{Name}
+use Rattle.sqlplan.specs.declared.syntax.ast.Filter.{Filter}
+use Rattle.sqlplan.specs.declared.syntax.ast.Ast.{Ast}
+use Rattle.sqlplan.specs.declared.syntax.parser.TheConstants.{MAX_TEXT}
+use Rattle.sqlplan.specs.Tokens.{Bytes, AreTokens}
+
+-- the token is this name
+abbrev pub IsName : Token → Name → Type 0
+IsName t name = (t.kind ≡ token.Name name.text) × (t.at ≡ name.at)
+
+-- `name {, name}`
+abbrev pub AreNames : List Token → List Name → Type 0
+AreNames w [] = ⊥
+AreNames w (name ∷ []) = (t : Token) × (w ≡ t ∷ []) × IsName t name
+AreNames w (name ∷ next ∷ names) = (t comma : Token) × (rest : List Token) × (w ≡ t ∷ comma ∷ rest)
+    × IsName t name × (comma.kind ≡ token.Symbol s.Comma) × AreNames rest (next ∷ names)
+
+-- a number, a text or NULL
+abbrev pub IsLiteral : Token → Value → Type 0
+IsLiteral t value.Null = t.kind ≡ token.Keyword k.Null
+IsLiteral t (value.Int n) = t.kind ≡ token.Number n
+IsLiteral t (value.Text text) = t.kind ≡ token.Text text
+
+-- `column comparison literal`
+pub record IsComparison (w : List Token) (f : Filter) : Type 0 where
+  pub column : Token
+  pub operator : Token
+  pub literal : Token
+  pub tokens : w ≡ column ∷ operator ∷ literal ∷ []
+  pub is_column : IsName column f.column
+  pub is_operator : operator.kind ≡ token.Comparison f.comparison
+  pub operator_at : operator.at ≡ f.comparison_at
+  pub is_literal : IsLiteral literal f.literal
+
+-- `[WHERE comparison]`
+abbrev pub IsFilter : List Token → Option Filter → Type 0
+IsFilter w None = w ≡ []
+IsFilter w (Some f) = (keyword : Token) × (rest : List Token) × (w ≡ keyword ∷ rest) × (keyword.kind ≡ token.Keyword k.Where) × IsComparison rest f
+
+-- `[;]`
+abbrev pub IsEnd : List Token → Type 0
+IsEnd w = (w ≡ []) ⊎ ((t : Token) × (w ≡ t ∷ []) × (t.kind ≡ token.Symbol s.Semicolon))
+
+-- the tokens are a statement, with this tree
+pub record Reads (w : List Token) (tree : Ast) : Type 0 where
+  pub select : Token
+  pub columns : List Token
+  pub from : Token
+  pub table : Token
+  pub filter : List Token
+  pub end : List Token
+  pub tokens : w ≡ select ∷ columns ++ (from ∷ table ∷ filter ++ end)
+  pub is_select : select.kind ≡ token.Keyword k.Select
+  pub are_columns : AreNames columns tree.columns
+  pub is_from : from.kind ≡ token.Keyword k.From
+  pub is_table : IsName table tree.table
+  pub is_filter : IsFilter filter tree.filter
+  pub is_end : IsEnd end
+
+-- the bytes are a text of at most this length that is a statement, with this tree
+pub record ReadsText (bytes : Bytes) (tree : Ast) : Type 0 where
+  pub short : length bytes ≤ MAX_TEXT
+  pub utf8 : IsUtf8 bytes
+  pub tokens : List Token
+  pub are_tokens : AreTokens 0 bytes tokens
+  pub reads : Reads tokens tree

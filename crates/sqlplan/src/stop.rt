@@ -1,0 +1,73 @@
+//! Why the program stops early, and what it says.
+
+use crate::refusal::{Refusal, fault_line};
+use schema::Schema;
+use std::alloc::{AllocError, AllocFailed, Global};
+use std::io;
+
+/// Why the program stops early.
+#[derive(Debug, Drop)]
+pub enum Stop {
+    /// The command line was told to be wrong, or its help was shown.
+    Usage,
+    Memory,
+    /// A line to say, and the exit status.
+    Line(String, u8),
+}
+
+impl Stop {
+    /// The stop of a refusal. The schema names the table of a table's fault.
+    pub fn of_refusal(alloc: Global, refusal: &Refusal, schema: Option<&Schema>) -> Stop {
+        match fault_line(alloc, refusal, schema) {
+            Ok(line) => Stop::Line(line, refusal.status()),
+            Err(AllocError) => Stop::Memory,
+        }
+    }
+
+    /// The stop of a file that can't be opened or read.
+    pub fn of_file(alloc: Global, path: &str, error: &io::Error) -> Stop {
+        if error.kind() == io::ErrorKind::OutOfMemory {
+            return Stop::Memory;
+        }
+        match format!(in alloc; "device {path}") {
+            Ok(line) => Stop::Line(line, 3),
+            Err(_) => Stop::Memory,
+        }
+    }
+
+    /// Says the line on standard error. That it can't be said changes nothing.
+    pub fn tell(&self, rt: &impl Eprint) {
+        let _ = match self {
+            Stop::Usage => Ok(()),
+            Stop::Memory => rt.eprintln("memory"),
+            Stop::Line(line, _) => rt.eprintln(line.as_str()),
+        };
+    }
+
+    pub fn status(&self) -> u8 {
+        match self {
+            Stop::Usage => 2,
+            Stop::Memory => 3,
+            Stop::Line(_, status) => *status,
+        }
+    }
+}
+
+impl From<AllocError> for Stop {
+    fn from(_error: AllocError) -> Stop {
+        Stop::Memory
+    }
+}
+
+impl<T: Drop> From<AllocFailed<T>> for Stop {
+    fn from(_error: AllocFailed<T>) -> Stop {
+        Stop::Memory
+    }
+}
+
+/// What std's calls fail with here: for want of memory alone.
+impl From<io::Error> for Stop {
+    fn from(_error: io::Error) -> Stop {
+        Stop::Memory
+    }
+}
