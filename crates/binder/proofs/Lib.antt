@@ -6,3 +6,4 @@ pub mod SameCounts
 pub mod Sources
 pub mod Unique
 pub mod Widths
+pub mod Worked

@@ -11,7 +11,7 @@ use Rattle.binder.specs.declared.query.From.{From}
 use Rattle.binder.specs.declared.query.From.TheVariants.{LeftJoin}
 use Rattle.binder.specs.declared.query.Block.{Block}
 use Rattle.binder.specs.Rows.{Env, Tables, IsFitting, term_value, nulls, count, same_rows}
-use Rattle.binder.specs.Meaning.{truth, source, rows, often, src, from_width, passes, passes_filter, pairs_of, matches, all_of, any_of, is_empty, equals_row}
+use Rattle.binder.specs.Meaning.{truth, source, rows, often, src, from_width, passes, passes_filter, pairs_of, matches, is_empty, equals_row}
 use Rattle.binder.specs.Laws.{left_part, right_part, IsMeaning, holds_filter, number_joined, IsPadded}
 use Rattle.binder.proofs.Counting.{same_rows-equal, same_rows-from, counted-first, counted-later, count-filter}
 use Rattle.binder.proofs.Equations.{truth-Compare, truth-IsNull, truth-Not, truth-And, truth-Or, truth-Exists, truth-In, source-Table, source-Join, source-LeftJoin, source-Comma, rows-Block}
@@ -45,11 +45,7 @@ exists-false : (b : Bool) → truth_of (not b) ≡ False → b ≡ true
 exists-false true h = refl
 exists-false false h = cc
 
--- ---- AND and OR over a list
-
-truths-map : (D : Tables) (e : Env) (cs : List Cond) → map (λ m. m D e) (map truth cs) ≡ map (λ c. truth c D e) cs
-truths-map D e [] = refl
-truths-map D e (c ∷ cs) = ap (λ ts. truth c D e ∷ ts) (truths-map D e cs)
+-- ---- OR over a list
 
 or-true : (a b : Truth) → disjunction a b ≡ True → (a ≡ True) ⊎ (b ≡ True)
 or-true True b h = inl refl
@@ -169,40 +165,40 @@ count-kept q D e s = count-filter (passes_filter (option_map truth q.filter) D e
 count-left : (f : From) (o : Occurrence) (on : Cond) (D : Tables) (e : Env) (s : Row) (b : Bool) → IsFitting D → is_padded (truth on) o.table D e s ≡ b
     → src (LeftJoin f o on) D e s ≡ number_joined truth src often f o on D e s + src f D e (left_part (D.width o.table) s) * one_if b
 count-left f o on D e s b fits h =
-    ap (λ g. count s (g D e)) (source-LeftJoin f o on) ∙ count-left_join (truth on) o.table D e s (source f D e)
+    ap (count s) (source-LeftJoin f o on D e) ∙ count-left_join (truth on) o.table D e s (source f D e)
     ∙ ap (λ n. n + src f D e (left_part (D.width o.table) s) * one_if (is_padded (truth on) o.table D e s)) (count-join (truth on) o.table D e s (source f D e) (fits o.table))
     ∙ ap (λ c. number_joined truth src often f o on D e s + src f D e (left_part (D.width o.table) s) * one_if c) h
 
 pub meaning_obeys : IsMeaning truth src often
 meaning_obeys D fits e = record {
-  compare = λ c a b. ap (λ f. f D e) (truth-Compare c a b);
-  is_null = λ a. ap (λ f. f D e) (truth-IsNull a);
-  not = λ c. ap (λ f. f D e) (truth-Not c);
-  and = λ cs. ap (λ f. f D e) (truth-And cs) ∙ ap all_of (truths-map D e cs);
-  or = λ cs. ap (λ f. f D e) (truth-Or cs) ∙ ap any_of (truths-map D e cs);
+  compare = λ c a b. truth-Compare c a b D e;
+  is_null = λ a. truth-IsNull a D e;
+  not = λ c. truth-Not c D e;
+  and = λ cs. truth-And cs D e;
+  or = λ cs. truth-Or cs D e;
   exists_true = λ q. (
-    (λ h. some-row (rows q D e) (exists-true _ (sym (ap (λ f. f D e) (truth-Exists q)) ∙ h))),
-    (λ found. ap (λ f. f D e) (truth-Exists q) ∙ ap (λ b. truth_of (not b)) (not-empty found.0 (rows q D e) found.1)),
+    (λ h. some-row (rows q D e) (exists-true _ (sym (truth-Exists q D e) ∙ h))),
+    (λ found. truth-Exists q D e ∙ ap (λ b. truth_of (not b)) (not-empty found.0 (rows q D e) found.1)),
   );
   exists_false = λ q. (
-    (λ h. no-row (rows q D e) (exists-false _ (sym (ap (λ f. f D e) (truth-Exists q)) ∙ h))),
-    (λ none. ap (λ f. f D e) (truth-Exists q) ∙ ap (λ b. truth_of (not b)) (empty (rows q D e) none)),
+    (λ h. no-row (rows q D e) (exists-false _ (sym (truth-Exists q D e) ∙ h))),
+    (λ none. truth-Exists q D e ∙ ap (λ b. truth_of (not b)) (empty (rows q D e) none)),
   );
   in_true = λ a q. (
-    (λ h. elim (any-true (equals_row (term_value a e)) False (rows q D e) (sym (ap (λ f. f D e) (truth-In a q)) ∙ h)) [ inl never ↦ cc | inr found ↦ found ]),
-    (λ found. ap (λ f. f D e) (truth-In a q) ∙ true-any (equals_row (term_value a e)) False (rows q D e) found.0 found.1 found.2),
+    (λ h. elim (any-true (equals_row (term_value a e)) False (rows q D e) (sym (truth-In a q D e) ∙ h)) [ inl never ↦ cc | inr found ↦ found ]),
+    (λ found. truth-In a q D e ∙ true-any (equals_row (term_value a e)) False (rows q D e) found.0 found.1 found.2),
   );
   in_false = λ a q. (
-    (λ h. (any-false (equals_row (term_value a e)) False (rows q D e) (sym (ap (λ f. f D e) (truth-In a q)) ∙ h)).1),
-    (λ each. ap (λ f. f D e) (truth-In a q) ∙ false-any (equals_row (term_value a e)) False (rows q D e) refl each),
+    (λ h. (any-false (equals_row (term_value a e)) False (rows q D e) (sym (truth-In a q D e) ∙ h)).1),
+    (λ each. truth-In a q D e ∙ false-any (equals_row (term_value a e)) False (rows q D e) refl each),
   );
-  table = λ o s. ap (λ f. count s (f D e)) (source-Table o);
-  join = λ f o on s. ap (λ g. count s (g D e)) (source-Join f o on) ∙ count-join (truth on) o.table D e s (source f D e) (fits o.table);
-  comma = λ f g s. ap (λ h. count s (h D e)) (source-Comma f g) ∙ count-product (from_width g D) s (source g D e) (source_fits g D e fits) (source f D e);
+  table = λ o s. ap (count s) (source-Table o D e);
+  join = λ f o on s. ap (count s) (source-Join f o on D e) ∙ count-join (truth on) o.table D e s (source f D e) (fits o.table);
+  comma = λ f g s. ap (count s) (source-Comma f g D e) ∙ count-product (from_width g D) s (source g D e) (source_fits g D e fits) (source f D e);
   left_join = λ f o on s unpadded. count-left f o on D e s false fits (false_from_ne_true _ (λ h. unpadded ((padded-test o on D e s).0 h))) ∙ omega arith;
   left_join_padded = λ f o on s padded. count-left f o on D e s true fits ((padded-test o on D e s).1 padded) ∙ omega arith;
   source_exists = λ q. (kept_rows q D e, count-kept q D e);
-  number = λ q L r h. ap (λ f. count r (f D e)) (rows-Block q)
+  number = λ q L r h. ap (count r) (rows-Block q D e)
       ∙ count-shown q.distinct q.grouped q.keys q.items e (kept_rows q D e) r
       ∙ same-number q e (kept_rows q D e) L (λ s. count-kept q D e s ∙ sym (h s)) r;
 }
