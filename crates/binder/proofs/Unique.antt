@@ -131,14 +131,22 @@ module _ (t : Cond → Tables → Env → Truth) (n : From → Tables → Env �
   agrees-block y None = agrees-number (roll-Block (plain_block (record y { filter = None }))) y.from.1 (λ e s. refl)
   agrees-block y (Some c) = agrees-number (roll-Block (plain_block (record y { filter = Some c }))) y.from.1 (λ e s. ap is_true (c.1 (s ∷ e)))
 
+  -- ---- the whole, by induction
+
+  step-cond : (x : Cond-F Cond From Block) (y : Proved) → plain y ≡ x → AgreesCond (roll-Cond x)
+  step-cond x y is = subst (λ z. AgreesCond (roll-Cond z)) is (agrees-cond y)
+
+  step-from : (x : From-F Cond From Block) (y : ProvedFrom) → plain_from y ≡ x → AgreesFrom (roll-From x)
+  step-from x y is = subst (λ z. AgreesFrom (roll-From z)) is (agrees-from y)
+
+  step-block : (x : Block-F Cond From Block) (y : ProvedBlock) → plain_block y ≡ x → AgreesBlock (roll-Block x)
+  step-block x y is = subst (λ z. AgreesBlock (roll-Block z)) is (agrees-block y y.filter)
+
   agrees : Agree t n o D
   agrees = record {
-    truth = ind-Cond AgreesCond AgreesFrom AgreesBlock (λ x y is. subst (λ z. AgreesCond (roll-Cond z)) is (agrees-cond y))
-        (λ x y is. subst (λ z. AgreesFrom (roll-From z)) is (agrees-from y)) (λ x y is. subst (λ z. AgreesBlock (roll-Block z)) is (agrees-block y y.filter));
-    src = ind-From AgreesCond AgreesFrom AgreesBlock (λ x y is. subst (λ z. AgreesCond (roll-Cond z)) is (agrees-cond y))
-        (λ x y is. subst (λ z. AgreesFrom (roll-From z)) is (agrees-from y)) (λ x y is. subst (λ z. AgreesBlock (roll-Block z)) is (agrees-block y y.filter));
-    often = ind-Block AgreesCond AgreesFrom AgreesBlock (λ x y is. subst (λ z. AgreesCond (roll-Cond z)) is (agrees-cond y))
-        (λ x y is. subst (λ z. AgreesFrom (roll-From z)) is (agrees-from y)) (λ x y is. subst (λ z. AgreesBlock (roll-Block z)) is (agrees-block y y.filter));
+    truth = ind-Cond AgreesCond AgreesFrom AgreesBlock step-cond step-from step-block;
+    src = ind-From AgreesCond AgreesFrom AgreesBlock step-cond step-from step-block;
+    often = ind-Block AgreesCond AgreesFrom AgreesBlock step-cond step-from step-block;
   }
 
 pub laws_determine : LawsDetermineMeaning
