@@ -8,3 +8,4 @@ pub mod Truths
 pub mod Unique
 pub mod Widths
 pub mod Worked
+pub mod Company

@@ -16,7 +16,7 @@ use Rattle.binder.specs.declared.query.Block.{Block, roll-Block}
 use Rattle.binder.specs.Rows.{Env, Tables, IsFitting, count}
 use Rattle.binder.specs.Meaning.{truth, often, src, from_width, all_of, any_of}
 use Rattle.binder.specs.Laws.{IsMeaningOn, IsPadded, holds_filter, number_joined, left_part, right_part}
-use Rattle.binder.specs.Answer.{Agree, LawsDetermineMeaning}
+use Rattle.binder.specs.Answer.{Agree, LawsDetermineMeaning, AnswersAreByLaws}
 use Rattle.binder.proofs.Obeys.{meaning_obeys, padded-test}
 use Rattle.binder.proofs.Sources.{is_padded}
 
@@ -151,3 +151,9 @@ module _ (t : Cond → Tables → Env → Truth) (n : From → Tables → Env �
 
 pub laws_determine : LawsDetermineMeaning
 laws_determine t n o D fits m = agrees t n o D fits m
+
+pub answers_by_laws : AnswersAreByLaws
+answers_by_laws q D A fits = (
+  (λ is. record { spread = λ t n o m r. is.spread r ∙ sym ((laws_determine t n o D fits m).often q.block [] r); ordered = is.ordered }),
+  (λ is. record { spread = is.spread truth src often (meaning_obeys D fits); ordered = is.ordered }),
+)

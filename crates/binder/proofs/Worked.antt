@@ -4,6 +4,7 @@ use Rattle.values.specs.declared.value.Value.TheVariants.{Null}
 use Rattle.schema.specs.Databases.{Row}
 use Rattle.binder.specs.Rows.{count}
 use Rattle.binder.specs.Examples.{WorkedRows, answers, pay_of_depts, int, two}
+use Rattle.binder.proofs.Company.{company_satisfies}
 use Rattle.binder.proofs.Equations.{truth-Compare, truth-IsNull, truth-Not, truth-Exists, truth-In, source-Table, source-Join, source-LeftJoin, source-Comma, rows-Block}
 
 groups-of_pay : answers pay_of_depts ≡ two (int 1) (int 500) ∷ two (int 3) (int 400) ∷ two Null (int 500) ∷ []
@@ -14,6 +15,7 @@ exchanged r a b L = omega arith
 
 pub worked : WorkedRows
 worked = record {
+  satisfying = company_satisfies;
   comparison_with_null = simp (rows-Block, source-Table, truth-Compare) refl;
   not_of_unknown = simp (rows-Block, source-Table, truth-Not, truth-Compare) refl;
   not_in_with_null = simp (rows-Block, source-Table, truth-Not, truth-In) refl;

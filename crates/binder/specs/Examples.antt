@@ -6,7 +6,7 @@ use Rattle.values.specs.declared.truth.Comparison.TheVariants as by
 use Rattle.schema.specs.declared.schema.Schema.{Schema}
 use Rattle.schema.specs.declared.schema.Table.{Table}
 use Rattle.schema.specs.declared.schema.Kind.TheVariants as kind
-use Rattle.schema.specs.Databases.{Row, Database}
+use Rattle.schema.specs.Databases.{Row, Database, Satisfies}
 use Rattle.binder.specs.declared.query.Aggregate.TheVariants as aggregate
 use Rattle.binder.specs.declared.query.Term.{Term}
 use Rattle.binder.specs.declared.query.Term.TheVariants as term
@@ -198,6 +198,7 @@ abbrev pub two : Value → Value → Row
 two v w = v ∷ w ∷ []
 
 pub record WorkedRows : Type 0 where
+  pub satisfying : Satisfies company company_rows
   pub comparison_with_null : answers other_pay ≡ one (int 12) ∷ []
   pub not_of_unknown : answers other_than_itself ≡ []
   pub not_in_with_null : answers no_dept_of_emps ≡ []
