@@ -1,5 +1,5 @@
 -- Rows are the same where they are equal, and how often a row stands in a list that is made of others.
-use Rattle.std.proofs.Common.{◌≡◌, refl, ℕ, ◌+◌, ◌<◌, Bool, true, false, cond, if◌then◌else◌, min, not, List, [], ◌∷◌, ◌++◌, filter, ap, ◌∙◌, arith, rules, subst}
+use Rattle.std.proofs.Common.{◌⊎◌, inl, inr, ◌≡◌, refl, ℕ, ◌+◌, ◌<◌, Bool, true, false, cond, if◌then◌else◌, min, not, List, [], ◌∷◌, ◌++◌, filter, ap, ◌∙◌, arith, rules, subst}
 use Rattle.std.specs.declared.cmp.Ordering.{Ordering}
 use Rattle.std.specs.declared.cmp.Ordering.TheVariants.{Less, Equal, Greater}
 use Rattle.std.specs.Ordering.{is_eq}
@@ -67,6 +67,14 @@ counted-first r L = rw (same_rows-refl r) (omega arith)
 
 pub counted-later : (r s : Row) (L : List Row) → 0 < count r L → 0 < count r (s ∷ L)
 counted-later r s L h = omega arith
+
+-- what stands in a list is its first row or stands in the rest
+pub counted-either : (r s : Row) (L : List Row) → 0 < count r (s ∷ L) → (r ≡ s) ⊎ (0 < count r L)
+counted-either r s L h = by (same_rows r s) refl h
+  where
+    by : (b : Bool) → same_rows r s ≡ b → 0 < (if b then 1 else 0) + count r L → (r ≡ s) ⊎ (0 < count r L)
+    by true same h = inl (same_rows-equal r s same)
+    by false same h = inr (omega arith)
 
 pub count-append : (r : Row) (L M : List Row) → count r (L ++ M) ≡ count r L + count r M
 count-append r [] M = omega arith

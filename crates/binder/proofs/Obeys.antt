@@ -1,9 +1,9 @@
 -- The computing form of the meaning obeys the laws.
-use Rattle.std.proofs.Common.{◌≡◌, ◌≢◌, ◌↔◌, refl, ℕ, ◌+◌, ◌*◌, ◌<◌, Bool, true, false, not, if◌then◌else◌, List, [], ◌∷◌, ◌++◌, map, filter, fold, ap, sym, ◌∙◌, arith, subst, Option, Some, None, option_map, ◌⊎◌, inl, inr}
+use Rattle.std.proofs.Common.{◌≡◌, ◌≢◌, ◌↔◌, refl, ℕ, ◌+◌, ◌*◌, ◌<◌, Bool, true, false, not, if◌then◌else◌, List, [], ◌∷◌, ◌++◌, filter, ap, sym, ◌∙◌, arith, subst, Option, Some, None, option_map, inl, inr}
 use Rattle.std.proofs.lemmas.Bool.{and_parts, and_from, false_from_ne_true}
 use Rattle.values.specs.declared.truth.Truth.{Truth}
 use Rattle.values.specs.declared.truth.Truth.TheVariants.{False, Unknown, True}
-use Rattle.values.specs.Truth.{disjunction, truth_of, is_true}
+use Rattle.values.specs.Truth.{truth_of, is_true}
 use Rattle.schema.specs.Databases.{Row}
 use Rattle.binder.specs.declared.query.Cond.{Cond}
 use Rattle.binder.specs.declared.query.Occurrence.{Occurrence}
@@ -11,116 +11,46 @@ use Rattle.binder.specs.declared.query.From.{From}
 use Rattle.binder.specs.declared.query.From.TheVariants.{LeftJoin}
 use Rattle.binder.specs.declared.query.Block.{Block}
 use Rattle.binder.specs.Rows.{Env, Tables, IsFitting, term_value, nulls, count, same_rows}
-use Rattle.binder.specs.Meaning.{truth, source, rows, often, src, from_width, passes, passes_filter, pairs_of, matches, all_of, any_of, is_empty, equals_row}
+use Rattle.binder.specs.Meaning.{truth, source, rows, often, src, from_width, passes, passes_filter, pairs_of, matches, is_empty, equals_row}
 use Rattle.binder.specs.Laws.{left_part, right_part, IsMeaning, holds_filter, number_joined, IsPadded}
-use Rattle.binder.proofs.Counting.{same_rows-equal, same_rows-from, counted-first, counted-later, count-filter}
+use Rattle.binder.proofs.Counting.{same_rows-equal, same_rows-from, counted-first, counted-later, counted-either, count-filter}
 use Rattle.binder.proofs.Equations.{truth-Compare, truth-IsNull, truth-Not, truth-And, truth-Or, truth-Exists, truth-In, source-Table, source-Join, source-LeftJoin, source-Comma, rows-Block}
+use Rattle.binder.proofs.Truths.{any-true, any-false}
 use Rattle.binder.proofs.Widths.{source_fits}
 use Rattle.binder.proofs.Sources.{count-product, count-join, count-left_join, is_padded, one_if}
 use Rattle.binder.proofs.Groups.{count-shown, same-number}
 
 -- ---- whether there is a row
 
-some-row : (L : List Row) → is_empty L ≡ false → (r : Row) × (0 < count r L)
-some-row [] h = cc
-some-row (r ∷ L) h = (r, counted-first r L)
+no-row : (L : List Row) → is_empty L ≡ true ↔ ((r : Row) → 0 < count r L → ⊥)
+no-row [] = ((λ h r c. absurd (omega arith)), (λ none. refl))
+no-row (s ∷ L) = ((λ h. cc), (λ none. absurd (none s (counted-first s L))))
 
-not-empty : (r : Row) (L : List Row) → 0 < count r L → is_empty L ≡ false
-not-empty r [] h = absurd (omega arith)
-not-empty r (s ∷ L) h = refl
+exists-true : (L : List Row) → truth_of (not (is_empty L)) ≡ True ↔ ((r : Row) × (0 < count r L))
+exists-true [] = ((λ h. cc), (λ found. let c : 0 < count found.0 [] = found.1 in absurd (omega arith)))
+exists-true (s ∷ L) = ((λ h. (s, counted-first s L)), (λ found. refl))
 
-no-row : (L : List Row) → is_empty L ≡ true → (r : Row) → 0 < count r L → ⊥
-no-row [] h r c = absurd (omega arith)
-no-row (s ∷ L) h r c = cc
-
-empty : (L : List Row) → ((r : Row) → 0 < count r L → ⊥) → is_empty L ≡ true
-empty [] h = refl
-empty (r ∷ L) h = absurd (h r (counted-first r L))
-
-exists-true : (b : Bool) → truth_of (not b) ≡ True → b ≡ false
-exists-true true h = cc
-exists-true false h = refl
-
-exists-false : (b : Bool) → truth_of (not b) ≡ False → b ≡ true
-exists-false true h = refl
-exists-false false h = cc
-
--- ---- AND and OR over a list
-
-truths-map : (D : Tables) (e : Env) (cs : List Cond) → map (λ m. m D e) (map truth cs) ≡ map (λ c. truth c D e) cs
-truths-map D e [] = refl
-truths-map D e (c ∷ cs) = ap (λ ts. truth c D e ∷ ts) (truths-map D e cs)
-
-or-true : (a b : Truth) → disjunction a b ≡ True → (a ≡ True) ⊎ (b ≡ True)
-or-true True b h = inl refl
-or-true Unknown True h = inr refl
-or-true Unknown Unknown h = cc
-or-true Unknown False h = cc
-or-true False b h = inr h
-
-or-of_true : (a : Truth) → disjunction a True ≡ True
-or-of_true True = refl
-or-of_true Unknown = refl
-or-of_true False = refl
-
-or-false : (a b : Truth) → disjunction a b ≡ False → (a ≡ False) × (b ≡ False)
-or-false True b h = cc
-or-false Unknown True h = cc
-or-false Unknown Unknown h = cc
-or-false Unknown False h = cc
-or-false False b h = (refl, h)
-
-any-from_true : (f : Row → Truth) (L : List Row) → fold disjunction True (map f L) ≡ True
-any-from_true f [] = refl
-any-from_true f (r ∷ L) = any-from_true f L
-
-any-true : (f : Row → Truth) (a : Truth) (L : List Row) → fold disjunction a (map f L) ≡ True → (a ≡ True) ⊎ ((r : Row) × (0 < count r L) × (f r ≡ True))
-any-true f a [] h = inl h
-any-true f a (s ∷ L) h = elim (any-true f (disjunction a (f s)) L h) as (λ _. (a ≡ True) ⊎ ((r : Row) × (0 < count r (s ∷ L)) × (f r ≡ True))) [
-  | inl e ↦ elim (or-true a (f s) e) as (λ _. (a ≡ True) ⊎ ((r : Row) × (0 < count r (s ∷ L)) × (f r ≡ True))) [ inl d ↦ inl d | inr d ↦ inr (s, counted-first s L, d) ]
-  | inr e ↦ inr (e.0, counted-later e.0 s L e.1, e.2)
-]
-
-true-any : (f : Row → Truth) (a : Truth) (L : List Row) (r : Row) → 0 < count r L → f r ≡ True → fold disjunction a (map f L) ≡ True
-true-any f a [] r h g = absurd (omega arith)
-true-any f a (s ∷ L) r h g = by (same_rows r s) refl h (λ c. true-any f (disjunction a (f s)) L r c g)
-  where
-    by : (b : Bool) → same_rows r s ≡ b → 0 < (if b then 1 else 0) + count r L → (0 < count r L → fold disjunction (disjunction a (f s)) (map f L) ≡ True) → fold disjunction (disjunction a (f s)) (map f L) ≡ True
-    by true same h more = rw (ap f (sym (same_rows-equal r s same)) ∙ g, or-of_true a) (any-from_true f L)
-    by false same h more = more (omega arith)
-
-any-false : (f : Row → Truth) (a : Truth) (L : List Row) → fold disjunction a (map f L) ≡ False → (a ≡ False) × ((r : Row) → 0 < count r L → f r ≡ False)
-any-false f a [] h = (h, λ r c. absurd (omega arith))
-any-false f a (s ∷ L) h =
-    let rest = any-false f (disjunction a (f s)) L h in
-    let both = or-false a (f s) rest.0 in
-    (both.0, λ r c. by r (same_rows r s) refl c both.1 rest.1)
-  where
-    by : (r : Row) (b : Bool) → same_rows r s ≡ b → 0 < (if b then 1 else 0) + count r L → f s ≡ False → ((q : Row) → 0 < count q L → f q ≡ False) → f r ≡ False
-    by r true same h here more = ap f (same_rows-equal r s same) ∙ here
-    by r false same h here more = more r (omega arith)
-
-false-any : (f : Row → Truth) (a : Truth) (L : List Row) → a ≡ False → ((r : Row) → 0 < count r L → f r ≡ False) → fold disjunction a (map f L) ≡ False
-false-any f a [] h g = h
-false-any f a (s ∷ L) h g = false-any f (disjunction a (f s)) L (rw h (g s (counted-first s L))) (λ r c. g r (counted-later r s L c))
+exists-false : (L : List Row) → truth_of (not (is_empty L)) ≡ False ↔ ((r : Row) → 0 < count r L → ⊥)
+exists-false [] = ((λ h r c. absurd (omega arith)), (λ none. refl))
+exists-false (s ∷ L) = ((λ h. cc), (λ none. absurd (none s (counted-first s L))))
 
 -- ---- left rows without a match
 
+-- a row of the table gives a pair
 pair-in : (l r : Row) (R : List Row) → 0 < count r R → 0 < count (l ++ r) (pairs_of l R)
 pair-in l r [] h = h
-pair-in l r (s ∷ R) h = by (same_rows r s) refl h (pair-in l r R)
-  where
-    by : (b : Bool) → same_rows r s ≡ b → 0 < (if b then 1 else 0) + count r R → (0 < count r R → 0 < count (l ++ r) (pairs_of l R)) → 0 < count (l ++ r) (pairs_of l (s ∷ R))
-    by true same h more = rw (sym (same_rows-equal r s same)) (counted-first (l ++ r) (pairs_of l R))
-    by false same h more = counted-later (l ++ r) (l ++ s) (pairs_of l R) (more (omega arith))
+pair-in l r (s ∷ R) h = elim (counted-either r s R h) [
+  | inl e ↦ rw (← e) (counted-first (l ++ r) (pairs_of l R))
+  | inr c ↦ counted-later (l ++ r) (l ++ s) (pairs_of l R) (pair-in l r R c)
+]
 
+-- a pair is of a row of the table
 in-pairs : (l x : Row) (R : List Row) → 0 < count x (pairs_of l R) → (r : Row) × (0 < count r R) × (x ≡ l ++ r)
 in-pairs l x [] h = absurd (omega arith)
-in-pairs l x (s ∷ R) h = by (same_rows x (l ++ s)) refl h (in-pairs l x R)
-  where
-    by : (b : Bool) → same_rows x (l ++ s) ≡ b → 0 < (if b then 1 else 0) + count x (pairs_of l R) → (0 < count x (pairs_of l R) → (r : Row) × (0 < count r R) × (x ≡ l ++ r)) → (r : Row) × (0 < count r (s ∷ R)) × (x ≡ l ++ r)
-    by true same h more = (s, counted-first s R, same_rows-equal x (l ++ s) same)
-    by false same h more = let found = more (omega arith) in (found.0, counted-later found.0 s R found.1, found.2)
+in-pairs l x (s ∷ R) h = elim (counted-either x (l ++ s) (pairs_of l R) h) [
+  | inl e ↦ (s, counted-first s R, e)
+  | inr c ↦ let found = in-pairs l x R c in (found.0, counted-later found.0 s R found.1, found.2)
+]
 
 is_true-True : (t : Truth) → is_true t ≡ true → t ≡ True
 is_true-True True h = refl
@@ -134,8 +64,8 @@ kept false n h = absurd (omega arith)
 -- a left row has no match where the ON is true with no right row
 no-match : (on : Cond) (t : ℕ) (D : Tables) (e : Env) (l : Row) → is_empty (matches (truth on) t D e l) ≡ true ↔ ((r : Row) → 0 < count r (D.rows t) → truth on D ((l ++ r) ∷ e) ≢ True)
 no-match on t D e l = (
-  (λ h r c is. no-row (matches (truth on) t D e l) h (l ++ r) (rw (counted (l ++ r), is) (pair-in l r (D.rows t) c))),
-  (λ none. empty _ (λ x c.
+  (λ h r c is. (no-row (matches (truth on) t D e l)).0 h (l ++ r) (rw (counted (l ++ r), is) (pair-in l r (D.rows t) c))),
+  (λ none. (no-row _).1 (λ x c.
       let both = kept (is_true (truth on D (x ∷ e))) _ (rw (counted x) at c) in
       let pair = in-pairs l x (D.rows t) both.1 in
       none pair.0 pair.1 (subst (λ y. truth on D (y ∷ e) ≡ True) pair.2 (is_true-True _ both.0)))),
@@ -169,40 +99,28 @@ count-kept q D e s = count-filter (passes_filter (option_map truth q.filter) D e
 count-left : (f : From) (o : Occurrence) (on : Cond) (D : Tables) (e : Env) (s : Row) (b : Bool) → IsFitting D → is_padded (truth on) o.table D e s ≡ b
     → src (LeftJoin f o on) D e s ≡ number_joined truth src often f o on D e s + src f D e (left_part (D.width o.table) s) * one_if b
 count-left f o on D e s b fits h =
-    ap (λ g. count s (g D e)) (source-LeftJoin f o on) ∙ count-left_join (truth on) o.table D e s (source f D e)
+    ap (count s) (source-LeftJoin f o on D e) ∙ count-left_join (truth on) o.table D e s (source f D e)
     ∙ ap (λ n. n + src f D e (left_part (D.width o.table) s) * one_if (is_padded (truth on) o.table D e s)) (count-join (truth on) o.table D e s (source f D e) (fits o.table))
     ∙ ap (λ c. number_joined truth src often f o on D e s + src f D e (left_part (D.width o.table) s) * one_if c) h
 
 pub meaning_obeys : IsMeaning truth src often
 meaning_obeys D fits e = record {
-  compare = λ c a b. ap (λ f. f D e) (truth-Compare c a b);
-  is_null = λ a. ap (λ f. f D e) (truth-IsNull a);
-  not = λ c. ap (λ f. f D e) (truth-Not c);
-  and = λ cs. ap (λ f. f D e) (truth-And cs) ∙ ap all_of (truths-map D e cs);
-  or = λ cs. ap (λ f. f D e) (truth-Or cs) ∙ ap any_of (truths-map D e cs);
-  exists_true = λ q. (
-    (λ h. some-row (rows q D e) (exists-true _ (sym (ap (λ f. f D e) (truth-Exists q)) ∙ h))),
-    (λ found. ap (λ f. f D e) (truth-Exists q) ∙ ap (λ b. truth_of (not b)) (not-empty found.0 (rows q D e) found.1)),
-  );
-  exists_false = λ q. (
-    (λ h. no-row (rows q D e) (exists-false _ (sym (ap (λ f. f D e) (truth-Exists q)) ∙ h))),
-    (λ none. ap (λ f. f D e) (truth-Exists q) ∙ ap (λ b. truth_of (not b)) (empty (rows q D e) none)),
-  );
-  in_true = λ a q. (
-    (λ h. elim (any-true (equals_row (term_value a e)) False (rows q D e) (sym (ap (λ f. f D e) (truth-In a q)) ∙ h)) [ inl never ↦ cc | inr found ↦ found ]),
-    (λ found. ap (λ f. f D e) (truth-In a q) ∙ true-any (equals_row (term_value a e)) False (rows q D e) found.0 found.1 found.2),
-  );
-  in_false = λ a q. (
-    (λ h. (any-false (equals_row (term_value a e)) False (rows q D e) (sym (ap (λ f. f D e) (truth-In a q)) ∙ h)).1),
-    (λ each. ap (λ f. f D e) (truth-In a q) ∙ false-any (equals_row (term_value a e)) False (rows q D e) refl each),
-  );
-  table = λ o s. ap (λ f. count s (f D e)) (source-Table o);
-  join = λ f o on s. ap (λ g. count s (g D e)) (source-Join f o on) ∙ count-join (truth on) o.table D e s (source f D e) (fits o.table);
-  comma = λ f g s. ap (λ h. count s (h D e)) (source-Comma f g) ∙ count-product (from_width g D) s (source g D e) (source_fits g D e fits) (source f D e);
+  compare = λ c a b. truth-Compare c a b D e;
+  is_null = λ a. truth-IsNull a D e;
+  not = λ c. truth-Not c D e;
+  and = λ cs. truth-And cs D e;
+  or = λ cs. truth-Or cs D e;
+  exists_true = λ q. rw (truth-Exists q D e) (exists-true (rows q D e));
+  exists_false = λ q. rw (truth-Exists q D e) (exists-false (rows q D e));
+  in_true = λ a q. rw (truth-In a q D e) (any-true (equals_row (term_value a e)) (rows q D e));
+  in_false = λ a q. rw (truth-In a q D e) (any-false (equals_row (term_value a e)) (rows q D e));
+  table = λ o s. ap (count s) (source-Table o D e);
+  join = λ f o on s. ap (count s) (source-Join f o on D e) ∙ count-join (truth on) o.table D e s (source f D e) (fits o.table);
+  comma = λ f g s. ap (count s) (source-Comma f g D e) ∙ count-product (from_width g D) s (source g D e) (source_fits g D e fits) (source f D e);
   left_join = λ f o on s unpadded. count-left f o on D e s false fits (false_from_ne_true _ (λ h. unpadded ((padded-test o on D e s).0 h))) ∙ omega arith;
   left_join_padded = λ f o on s padded. count-left f o on D e s true fits ((padded-test o on D e s).1 padded) ∙ omega arith;
   source_exists = λ q. (kept_rows q D e, count-kept q D e);
-  number = λ q L r h. ap (λ f. count r (f D e)) (rows-Block q)
+  number = λ q L r h. ap (count r) (rows-Block q D e)
       ∙ count-shown q.distinct q.grouped q.keys q.items e (kept_rows q D e) r
       ∙ same-number q e (kept_rows q D e) L (λ s. count-kept q D e s ∙ sym (h s)) r;
 }

@@ -1,8 +1,8 @@
 -- Two lists in which each row stands equally often: what is put together of them, whatever the order, is the same.
-use Rattle.std.proofs.Common.{◌≡◌, refl, ◌+◌, ◌<◌, Bool, true, false, if◌then◌else◌, min, List, [], ◌∷◌, ◌++◌, map, filter, ap, sym, ◌∙◌, arith}
+use Rattle.std.proofs.Common.{inl, inr, ◌≡◌, refl, ◌+◌, ◌<◌, Bool, if◌then◌else◌, min, List, [], ◌∷◌, ◌++◌, map, filter, ap, sym, ◌∙◌, arith}
 use Rattle.schema.specs.Databases.{Row}
 use Rattle.binder.specs.Rows.{same_rows, count, distinct}
-use Rattle.binder.proofs.Counting.{same_rows-equal, same_rows-refl, counted-first, count-append, count-filter, count-distinct}
+use Rattle.binder.proofs.Counting.{counted-either, same_rows-refl, counted-first, count-append, count-filter, count-distinct}
 
 abbrev pub SameCounts : List Row → List Row → Type 0
 SameCounts L M = (s : Row) → count s L ≡ count s M
@@ -12,11 +12,10 @@ SameCounts L M = (s : Row) → count s L ≡ count s M
 -- the list has the row at some place
 split-at : (x : Row) (M : List Row) → 0 < count x M → (A : List Row) × (B : List Row) × (M ≡ A ++ x ∷ B)
 split-at x [] h = absurd (omega arith)
-split-at x (m ∷ M) h = by (same_rows x m) refl h (split-at x M)
-  where
-    by : (b : Bool) → same_rows x m ≡ b → 0 < (if b then 1 else 0) + count x M → (0 < count x M → (A : List Row) × (B : List Row) × (M ≡ A ++ x ∷ B)) → (A : List Row) × (B : List Row) × (m ∷ M ≡ A ++ x ∷ B)
-    by true same h more = ([], M, ap (λ y. y ∷ M) (sym (same_rows-equal x m same)))
-    by false same h more = let found = more (omega arith) in (m ∷ found.0, found.1, ap (λ y. m ∷ y) found.2)
+split-at x (m ∷ M) h = elim (counted-either x m M h) [
+  | inl e ↦ ([], M, ap (λ y. y ∷ M) (sym e))
+  | inr c ↦ let found = split-at x M c in (m ∷ found.0, found.1, ap (λ y. m ∷ y) found.2)
+]
 
 none-first : (m : Row) (M : List Row) → SameCounts [] (m ∷ M) → ⊥
 none-first m M h = let e : 0 ≡ (if same_rows m m then 1 else 0) + count m M = h m in let f : 0 ≡ 1 + count m M = rw (same_rows-refl m) at e in omega arith

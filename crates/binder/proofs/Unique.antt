@@ -16,7 +16,7 @@ use Rattle.binder.specs.declared.query.Block.{Block, roll-Block}
 use Rattle.binder.specs.Rows.{Env, Tables, IsFitting, count}
 use Rattle.binder.specs.Meaning.{truth, often, src, from_width, all_of, any_of}
 use Rattle.binder.specs.Laws.{IsMeaningOn, IsPadded, holds_filter, number_joined, left_part, right_part}
-use Rattle.binder.specs.Answer.{Agree, LawsDetermineMeaning}
+use Rattle.binder.specs.Answer.{Agree, LawsDetermineMeaning, AnswersAreByLaws}
 use Rattle.binder.proofs.Obeys.{meaning_obeys, padded-test}
 use Rattle.binder.proofs.Sources.{is_padded}
 
@@ -131,15 +131,29 @@ module _ (t : Cond → Tables → Env → Truth) (n : From → Tables → Env �
   agrees-block y None = agrees-number (roll-Block (plain_block (record y { filter = None }))) y.from.1 (λ e s. refl)
   agrees-block y (Some c) = agrees-number (roll-Block (plain_block (record y { filter = Some c }))) y.from.1 (λ e s. ap is_true (c.1 (s ∷ e)))
 
+  -- ---- the whole, by induction
+
+  step-cond : (x : Cond-F Cond From Block) (y : Proved) → plain y ≡ x → AgreesCond (roll-Cond x)
+  step-cond x y is = subst (λ z. AgreesCond (roll-Cond z)) is (agrees-cond y)
+
+  step-from : (x : From-F Cond From Block) (y : ProvedFrom) → plain_from y ≡ x → AgreesFrom (roll-From x)
+  step-from x y is = subst (λ z. AgreesFrom (roll-From z)) is (agrees-from y)
+
+  step-block : (x : Block-F Cond From Block) (y : ProvedBlock) → plain_block y ≡ x → AgreesBlock (roll-Block x)
+  step-block x y is = subst (λ z. AgreesBlock (roll-Block z)) is (agrees-block y y.filter)
+
   agrees : Agree t n o D
   agrees = record {
-    truth = ind-Cond AgreesCond AgreesFrom AgreesBlock (λ x y is. subst (λ z. AgreesCond (roll-Cond z)) is (agrees-cond y))
-        (λ x y is. subst (λ z. AgreesFrom (roll-From z)) is (agrees-from y)) (λ x y is. subst (λ z. AgreesBlock (roll-Block z)) is (agrees-block y y.filter));
-    src = ind-From AgreesCond AgreesFrom AgreesBlock (λ x y is. subst (λ z. AgreesCond (roll-Cond z)) is (agrees-cond y))
-        (λ x y is. subst (λ z. AgreesFrom (roll-From z)) is (agrees-from y)) (λ x y is. subst (λ z. AgreesBlock (roll-Block z)) is (agrees-block y y.filter));
-    often = ind-Block AgreesCond AgreesFrom AgreesBlock (λ x y is. subst (λ z. AgreesCond (roll-Cond z)) is (agrees-cond y))
-        (λ x y is. subst (λ z. AgreesFrom (roll-From z)) is (agrees-from y)) (λ x y is. subst (λ z. AgreesBlock (roll-Block z)) is (agrees-block y y.filter));
+    truth = ind-Cond AgreesCond AgreesFrom AgreesBlock step-cond step-from step-block;
+    src = ind-From AgreesCond AgreesFrom AgreesBlock step-cond step-from step-block;
+    often = ind-Block AgreesCond AgreesFrom AgreesBlock step-cond step-from step-block;
   }
 
 pub laws_determine : LawsDetermineMeaning
 laws_determine t n o D fits m = agrees t n o D fits m
+
+pub answers_by_laws : AnswersAreByLaws
+answers_by_laws q D A fits = (
+  (λ is. record { spread = λ t n o m r. is.spread r ∙ sym ((laws_determine t n o D fits m).often q.block [] r); ordered = is.ordered }),
+  (λ is. record { spread = is.spread truth src often (meaning_obeys D fits); ordered = is.ordered }),
+)

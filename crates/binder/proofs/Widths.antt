@@ -66,12 +66,12 @@ abbrev plain : Proved → From-F Cond From Block
 plain = map-From _ _ _ Cond From Block (λ c. c.0) (λ f. f.0) (λ q. q.0)
 
 has_width-layer : (y : Proved) → HasWidth (roll-From (plain y))
-has_width-layer (From-F.Table o) = subst HasWidth (sym (rolls-Table o)) (λ D e fits. rw (source-Table o, width-Table o) (fits o.table))
-has_width-layer (From-F.Join f o on) = subst HasWidth (sym (rolls-Join f.0 o on.0)) (λ D e fits. rw (source-Join f.0 o on.0, width-Join f.0 o on.0)
+has_width-layer (From-F.Table o) = subst HasWidth (sym (rolls-Table o)) (λ D e fits. rw (source-Table o D e, width-Table o D) (fits o.table))
+has_width-layer (From-F.Join f o on) = subst HasWidth (sym (rolls-Join f.0 o on.0)) (λ D e fits. rw (source-Join f.0 o on.0 D e, width-Join f.0 o on.0 D)
     (width-flat_map (from_width f.0 D) _ (matches (truth on.0) o.table D e) (width-matches (truth on.0) o.table D e fits _) (source f.0 D e) (f.1 D e fits)))
-has_width-layer (From-F.LeftJoin f o on) = subst HasWidth (sym (rolls-LeftJoin f.0 o on.0)) (λ D e fits. rw (source-LeftJoin f.0 o on.0, width-LeftJoin f.0 o on.0)
+has_width-layer (From-F.LeftJoin f o on) = subst HasWidth (sym (rolls-LeftJoin f.0 o on.0)) (λ D e fits. rw (source-LeftJoin f.0 o on.0 D e, width-LeftJoin f.0 o on.0 D)
     (width-flat_map (from_width f.0 D) _ (padded (truth on.0) o.table D e) (width-padded (truth on.0) o.table D e fits _) (source f.0 D e) (f.1 D e fits)))
-has_width-layer (From-F.Comma f g) = subst HasWidth (sym (rolls-Comma f.0 g.0)) (λ D e fits. rw (source-Comma f.0 g.0, width-Comma f.0 g.0)
+has_width-layer (From-F.Comma f g) = subst HasWidth (sym (rolls-Comma f.0 g.0)) (λ D e fits. rw (source-Comma f.0 g.0 D e, width-Comma f.0 g.0 D)
     (width-flat_map (from_width f.0 D) _ (λ l. pairs_of l (source g.0 D e)) (λ l h. width-pairs _ _ l h (source g.0 D e) (g.1 D e fits)) (source f.0 D e) (f.1 D e fits)))
 
 pub source_fits : (f : From) (D : Tables) (e : Env) → IsFitting D → HaveWidth (from_width f D) (source f D e)

@@ -1,6 +1,7 @@
 //! The laws of the meaning of queries. Each function does nothing: its contract is the law.
 
-ghost use Rattle.binder.specs.Answer.{LawsDetermineMeaning, SatisfyingFits};
+ghost use Rattle.binder.specs.Answer.{AnswersAreByLaws, LawsDetermineMeaning, SatisfyingFits};
+ghost use Rattle.binder.specs.Examples.{WorkedRows};
 ghost use Rattle.binder.specs.Laws.{IsMeaning};
 ghost use Rattle.binder.specs.Meaning.{often, src, truth};
 
@@ -18,4 +19,15 @@ pub fn laws_determine_meaning()
 /// The laws speak of each database that satisfies a schema: its rows are as wide as their tables.
 pub fn satisfying_databases_fit()
     ensures { SatisfyingFits }
+{}
+
+/// So an answer, which is told by the computed meaning, is one by the laws alone.
+pub fn answers_are_by_laws()
+    ensures { AnswersAreByLaws }
+{}
+
+/// What the definitions give on small tables, row by row: Null in comparisons, in NOT IN and under DISTINCT, joins, and
+/// aggregates with and without rows.
+pub fn worked_rows_hold()
+    ensures { WorkedRows }
 {}
