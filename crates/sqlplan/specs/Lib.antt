@@ -1,4 +1,5 @@
 pub mod AnswerText
+pub mod Binding
 pub mod Devices
 pub mod Grammar
 pub mod Refusals

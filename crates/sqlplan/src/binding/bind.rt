@@ -1,40 +1,44 @@
 //! Names become the tables and columns that they mean.
 
-ghost use Rattle.std.specs.Prelude.{◌<◌, length, IfOk};
+ghost use Rattle.std.specs.Prelude.{◌≡◌, map, option_map, IfOk};
+ghost use Rattle.values.specs.Faults.{Gives};
+ghost use Rattle.sqlplan.specs.Binding as spec;
 
-use crate::binding::fault::{BindReason, BindFault, refused};
+use crate::binding::fault::{BindFault, BindReason, refused};
 use crate::syntax::{Ast, Filter, Name};
 use binder::{Block, Column, Cond, From, Item, Occurrence, Query, TableUse, Term};
 use schema::{Kind, Schema, Table};
 use std::alloc::{AllocError, Global};
-use values::{Boxed, Items, Value};
+use values::{Boxed, Items, Text, Value};
 
-/// The place of the table that a name means.
-fn table_place(schema: &Schema, name: &Name) -> Result<usize, BindFault>
-    ensures { IfOk result (λ place. place < length schema.now.tables) }
+/// The table that a name means, and its place in the schema.
+fn table_of<'s>(schema: &'s Schema, name: &Name) -> Result<(usize, &'s Table), BindFault>
+    ensures { Gives (λ found. (found.0, found.1.now)) result (spec.table_in schema.entry.now name.now) }
 {
     for (place, table) in schema.tables.as_slice().iter().enumerate() {
         if table.name == name.text {
-            return Ok(place);
+            return Ok((place, table));
         }
     }
     Err(refused(BindReason::UnknownTable, name.at))
 }
 
-/// The place of the column that a name means.
-fn column_place(table: &Table, name: &Name) -> Result<usize, BindFault>
-    ensures { IfOk result (λ place. place < length table.now.columns) }
+/// The column of a table that a name means, and its place.
+fn column_of<'t>(table: &'t Table, name: &Name) -> Result<(usize, &'t schema::Column), BindFault>
+    ensures { Gives (λ found. (found.0, found.1.now)) result (spec.column_in table.entry.now name.now) }
 {
     for (place, column) in table.columns.as_slice().iter().enumerate() {
         if column.name == name.text {
-            return Ok(place);
+            return Ok((place, column));
         }
     }
     Err(refused(BindReason::UnknownColumn, name.at))
 }
 
 /// Whether a literal may be compared with a column of this kind. NULL has either kind.
-fn is_of_kind(literal: &Value, kind: Kind) -> bool {
+fn is_of_kind(literal: &Value, kind: Kind) -> bool
+    ensures { result ≡ spec.is_of_kind literal.now kind }
+{
     match literal {
         Value::Null => true,
         Value::Int(_) => kind == Kind::Int,
@@ -46,12 +50,13 @@ fn bound_filter(
     alloc: Global,
     table: &Table,
     filter: &Option<Filter>,
-) -> Result<Option<Boxed<Cond>>, BindFault> {
+) -> Result<Option<Boxed<Cond>>, BindFault>
+    ensures { Gives (λ bound. bound) result (spec.filter_in table.now filter.now) }
+{
     let Some(filter) = filter else {
         return Ok(None);
     };
-    let place = column_place(table, &filter.column)?;
-    let column = &table.columns.as_slice()[place];
+    let (place, column) = column_of(table, &filter.column)?;
     if !is_of_kind(&filter.literal, column.kind) {
         return Err(refused(BindReason::MixedKinds, filter.comparison_at));
     }
@@ -61,17 +66,27 @@ fn bound_filter(
     Ok(Some(Boxed::new(alloc, condition)?))
 }
 
-fn bound_items(alloc: Global, table: &Table, columns: &[Name]) -> Result<Items<Item>, BindFault> {
+fn bound_item(table: &Table, name: &Name) -> Result<Item, BindFault>
+    ensures { Gives (λ item. item) result (spec.item_in table.now name.now) }
+{
+    let (place, _) = column_of(table, name)?;
+    Ok(Item::Column(Column { level: 0, place }))
+}
+
+fn bound_items(alloc: Global, table: &Table, columns: &[Name]) -> Result<Items<Item>, BindFault>
+    ensures { Gives (λ items. items) result (spec.items_in table.now columns.now) }
+{
     let mut items = Items::new(alloc);
     for name in columns {
-        let place = column_place(table, name)?;
-        items.push(Item::Column(Column { level: 0, place }))?;
+        items.push(bound_item(table, name)?)?;
     }
     Ok(items)
 }
 
 /// A column's output name is its own, which is the name that the text has for it.
-fn output_names(alloc: Global, columns: &[Name]) -> Result<Items<values::Text>, AllocError> {
+fn output_names(alloc: Global, columns: &[Name]) -> Result<Items<Text>, AllocError>
+    ensures { IfOk result (λ names. names ≡ map (λ name. name.text) columns.now) }
+{
     let mut names = Items::new(alloc);
     for name in columns {
         names.push(name.text.copy(alloc)?)?;
@@ -79,28 +94,24 @@ fn output_names(alloc: Global, columns: &[Name]) -> Result<Items<values::Text>, 
     Ok(names)
 }
 
-/// The one table occurrence of a text, which is known by its table's name.
-fn table_uses(
+/// The query of one table, which is known by its own name.
+fn query_over(
     alloc: Global,
     place: usize,
     table: &Table,
-) -> Result<Items<TableUse>, AllocError> {
-    let mut uses = Items::new(alloc);
-    uses.push(TableUse {
+    filter: Option<Boxed<Cond>>,
+    items: Items<Item>,
+    columns: &[Name],
+) -> Result<Query, AllocError>
+    ensures { IfOk result (λ query. query ≡ spec.query_over (place, table.now) filter items columns.now) }
+{
+    let mut tables = Items::new(alloc);
+    tables.push(TableUse {
         table: place,
         entry: table.copy(alloc)?,
         name: table.name.copy(alloc)?,
         first_column: 0,
     })?;
-    Ok(uses)
-}
-
-/// The query that a tree is over a schema, or the first fault: of FROM, then of WHERE, then of SELECT.
-pub fn bind(alloc: Global, schema: &Schema, ast: &Ast) -> Result<Query, BindFault> {
-    let place = table_place(schema, &ast.table)?;
-    let table = &schema.tables.as_slice()[place];
-    let filter = bound_filter(alloc, table, &ast.filter)?;
-    let items = bound_items(alloc, table, ast.columns.as_slice())?;
     let occurrence = Occurrence {
         number: 0,
         table: place,
@@ -114,9 +125,21 @@ pub fn bind(alloc: Global, schema: &Schema, ast: &Ast) -> Result<Query, BindFaul
         distinct: false,
     };
     Ok(Query {
-        tables: table_uses(alloc, place, table)?,
+        tables,
         block,
-        names: output_names(alloc, ast.columns.as_slice())?,
+        names: output_names(alloc, columns)?,
         order: Items::new(alloc),
     })
+}
+
+/// The query that a tree is over a schema, or the first fault: of FROM, then of WHERE, then of SELECT.
+#[tactic(auto, unfolding(crate::specs::Binding::bound))]
+pub fn bind(alloc: Global, schema: &Schema, ast: &Ast) -> Result<Query, BindFault>
+    ensures { Gives (λ query. query) result (spec.bound schema.now ast.now) }
+{
+    let (place, table) = table_of(schema, &ast.table)?;
+    let filter = bound_filter(alloc, table, &ast.filter)?;
+    let items = bound_items(alloc, table, ast.columns.as_slice())?;
+    let query = query_over(alloc, place, table, filter, items, ast.columns.as_slice())?;
+    Ok(query)
 }
