@@ -1,8 +1,12 @@
 //! Sets of columns.
 
-ghost use Rattle.std.specs.Prelude.{◌≡◌};
-ghost use Rattle.logical.specs.Columns.{IsRising};
+ghost use Rattle.std.specs.Prelude.{◌≡◌, ◌↔◌, ◌+◌, ◌<◌, ◌^◌, ◌++◌, IsTrue, IfOk};
+ghost use Rattle.std.specs.List.{range_with_len};
+ghost use Rattle.logical.specs.Equality.{same_columns};
+ghost use Rattle.logical.specs.Columns.{has, within, apart, rising};
+ghost use Rattle.std.specs.List.Sorted.{IsStrictlyIncreasing};
 
+use std::alloc::{AllocError, Global};
 use std::marker::Model;
 use values::Items;
 
@@ -14,21 +18,89 @@ pub struct Columns {
 
 impl Model for Columns {
     ghost use Rattle.std.specs.Prelude.{ℕ, List};
-    ghost use Rattle.logical.specs.Columns.{IsRising};
+    ghost use Rattle.std.specs.List.Sorted.{IsStrictlyIncreasing};
 
     ghost Value = { List ℕ };
 
     ghost view = { λ c. c.columns };
 
-    ghost invariant = { λ c. IsRising c.columns };
+    ghost invariant = { λ c. IsStrictlyIncreasing c.columns };
 }
 
 impl Columns {
+    /// The set of the columns of a list, in any order and with repeats.
+    pub fn from_vec(mut columns: Vec<usize>) -> Columns
+        ensures { result ≡ rising columns.items }
+    {
+        columns.sort_unstable();
+        columns.dedup();
+        Columns {
+            columns: Items::from_vec(columns),
+        }
+    }
+
+    /// So many columns from the first on.
+    pub fn run(alloc: Global, first: usize, count: usize) -> Result<Columns, AllocError>
+        requires { first + count < 2 ^ 64 }
+        ensures { IfOk result (λ c. c ≡ range_with_len first count) }
+    {
+        let mut columns = Items::new(alloc);
+        for i in 0..count {
+            columns.push(first + i)?;
+        }
+        Ok(Columns { columns })
+    }
+
+    /// The columns of two sets.
+    pub fn union(&self, alloc: Global, other: &Columns) -> Result<Columns, AllocError>
+        ensures { IfOk result (λ c. c ≡ rising (self.now ++ other.now)) }
+    {
+        let mut columns = Vec::new(alloc);
+        columns.extend_from_slice(self.as_slice())?;
+        columns.extend_from_slice(other.as_slice())?;
+        Ok(Columns::from_vec(columns))
+    }
+
     /// The column numbers, strictly rising.
     pub fn as_slice(&self) -> &[usize]
         ensures columns { result.now ≡ self.now }
-        ensures rising { IsRising self.now }
+        ensures rising { IsStrictlyIncreasing self.now }
     {
         self.columns.as_slice()
     }
+
+    pub fn contains(&self, column: usize) -> bool
+        ensures { result ≡ has self.now column }
+    {
+        self.columns.as_slice().binary_search(&column).is_ok()
+    }
+
+    pub fn same(&self, other: &Columns) -> bool
+        ensures equal { IsTrue result ↔ (self.now ≡ other.now) }
+        ensures test { result ≡ same_columns self.now other.now }
+    {
+        self.as_slice() == other.as_slice()
+    }
+
+    pub fn copy(&self, alloc: Global) -> Result<Columns, AllocError>
+        ensures { IfOk result (λ c. c ≡ self.now) }
+    {
+        Ok(Columns {
+            columns: Items::from_slice(alloc, self.as_slice())?,
+        })
+    }
+}
+
+/// Whether each column of a list is in the set.
+pub fn are_within(columns: &[usize], set: &Columns) -> bool
+    ensures { result ≡ within columns.now set.now }
+{
+    columns.iter().all(|c| set.contains(*c))
+}
+
+/// Whether no column of a list is in the set.
+pub fn are_apart(columns: &[usize], set: &Columns) -> bool
+    ensures { result ≡ apart columns.now set.now }
+{
+    columns.iter().all(|c| !set.contains(*c))
 }

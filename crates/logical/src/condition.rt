@@ -1,12 +1,13 @@
 //! Conditions on rows.
 
-ghost use Rattle.std.specs.Prelude.{◌≡◌, ◌∷◌, [], IfOk};
+ghost use Rattle.std.specs.Prelude.{◌≡◌, ◌↔◌, ◌∷◌, [], IfOk, IsTrue};
+ghost use Rattle.logical.specs.Equality.{same_conditions};
 
 use std::alloc::{AllocError, Global};
 use std::marker::Model;
-use values::{Boxed, Comparison, Items, Value};
+use values::{Boxed, Comparison, Items, Value, same};
 
-#[derive(Debug, Drop, PartialEq, Eq)]
+#[derive(Debug, Drop)]
 pub enum Term {
     /// A column by its number, read in the row or else in the environment around it.
     Column(usize),
@@ -61,4 +62,105 @@ impl Conjuncts {
     {
         self.conditions.as_slice()
     }
+
+    pub fn same(&self, other: &Conjuncts) -> bool
+        ensures equal { IsTrue result ↔ (self.now ≡ other.now) }
+        ensures test { result ≡ same_conditions self.now other.now }
+    {
+        same_all(self.as_slice(), other.as_slice())
+    }
+
+    pub fn copy(&self, alloc: Global) -> Result<Conjuncts, AllocError>
+        ensures { IfOk result (λ c. c ≡ self.now) }
+    {
+        Ok(Conjuncts {
+            conditions: copy_all(alloc, self.as_slice())?,
+        })
+    }
+}
+
+impl Term {
+    pub fn same(&self, other: &Term) -> bool
+        ensures { IsTrue result ↔ (self.now ≡ other.now) }
+    {
+        match (self, other) {
+            (Term::Column(k), Term::Column(l)) => *k == *l,
+            (Term::Literal(v), Term::Literal(w)) => same(v.as_cell(), w.as_cell()),
+            _ => false,
+        }
+    }
+
+    pub fn copy(&self, alloc: Global) -> Result<Term, AllocError>
+        ensures { IfOk result (λ t. t ≡ self.now) }
+    {
+        match self {
+            Term::Column(k) => Ok(Term::Column(*k)),
+            Term::Literal(v) => Ok(Term::Literal(v.copy(alloc)?)),
+        }
+    }
+}
+
+impl Condition {
+    #[cycle(same)]
+    pub fn same(&self, other: &Condition) -> bool
+        ensures { IsTrue result ↔ (self.now ≡ other.now) }
+    {
+        match (self, other) {
+            (Condition::Compare(c, a, b), Condition::Compare(d, s, t)) => *c == *d
+                && a.same(s)
+                && b.same(t),
+            (Condition::IsNull(a), Condition::IsNull(s)) => a.same(s),
+            (Condition::Not(c), Condition::Not(d)) => c.get().same(d.get()),
+            (Condition::And(cs), Condition::And(ds)) => same_all(cs.as_slice(), ds.as_slice()),
+            (Condition::Or(cs), Condition::Or(ds)) => same_all(cs.as_slice(), ds.as_slice()),
+            (Condition::Exists(g), Condition::Exists(h)) => *g == *h,
+            (Condition::In(a, g, k), Condition::In(s, h, l)) => a.same(s) && *g == *h && *k == *l,
+            _ => false,
+        }
+    }
+
+    #[cycle(copy)]
+    pub fn copy(&self, alloc: Global) -> Result<Condition, AllocError>
+        ensures { IfOk result (λ c. c ≡ self.now) }
+    {
+        match self {
+            Condition::Compare(c, a, b) => Ok(Condition::Compare(
+                *c,
+                a.copy(alloc)?,
+                b.copy(alloc)?,
+            )),
+            Condition::IsNull(a) => Ok(Condition::IsNull(a.copy(alloc)?)),
+            Condition::Not(c) => Ok(Condition::Not(Boxed::new(alloc, c.get().copy(alloc)?)?)),
+            Condition::And(cs) => Ok(Condition::And(copy_all(alloc, cs.as_slice())?)),
+            Condition::Or(cs) => Ok(Condition::Or(copy_all(alloc, cs.as_slice())?)),
+            Condition::Exists(g) => Ok(Condition::Exists(*g)),
+            Condition::In(a, g, k) => Ok(Condition::In(a.copy(alloc)?, *g, *k)),
+        }
+    }
+}
+
+#[cycle(same)]
+fn same_all(conditions: &[Condition], others: &[Condition]) -> bool
+    ensures { IsTrue result ↔ (conditions.now ≡ others.now) }
+{
+    if conditions.len() != others.len() {
+        return false;
+    }
+    for i in 0..conditions.len() {
+        if !conditions[i].same(&others[i]) {
+            return false;
+        }
+    }
+    true
+}
+
+#[cycle(copy)]
+fn copy_all(alloc: Global, conditions: &[Condition]) -> Result<Items<Condition>, AllocError>
+    ensures { IfOk result (λ copied. copied ≡ conditions.now) }
+{
+    let mut copied = Items::new(alloc);
+    for condition in conditions {
+        copied.push(condition.copy(alloc)?)?;
+    }
+    Ok(copied)
 }

@@ -1,5 +1,8 @@
 //! Expressions over classes.
 
+ghost use Rattle.std.specs.Prelude.{◌≡◌, ◌↔◌, IsTrue};
+ghost use Rattle.logical.specs.Equality.{same_expr, same_aggregation};
+
 use crate::columns::Columns;
 use crate::condition::Conjuncts;
 use binder::Aggregate;
@@ -35,4 +38,58 @@ pub enum Expr {
     Distinct(usize),
     /// One row for each different key, or one row where there is no key column, and the aggregates of each group.
     Group(Columns, Items<Aggregation>, usize),
+}
+
+impl Expr {
+    pub fn same(&self, other: &Expr) -> bool
+        ensures equal { IsTrue result ↔ (self.now ≡ other.now) }
+        ensures test { result ≡ same_expr self.now other.now }
+    {
+        is_same(self, other)
+    }
+}
+
+fn is_same(expr: &Expr, other: &Expr) -> bool
+    ensures { IsTrue result ↔ (expr.now ≡ other.now) }
+{
+    match (expr, other) {
+        (Expr::Get(o), Expr::Get(p)) => *o == *p,
+        (Expr::Select(c, x), Expr::Select(d, y)) => *x == *y && c.same(d),
+        (Expr::Join(c, a, b), Expr::Join(d, s, t)) => *a == *s && *b == *t && c.same(d),
+        (Expr::LeftJoin(c, a, b), Expr::LeftJoin(d, s, t)) => *a == *s && *b == *t && c.same(d),
+        (Expr::Semi(c, a, b), Expr::Semi(d, s, t)) => *a == *s && *b == *t && c.same(d),
+        (Expr::Anti(c, m, a, b), Expr::Anti(d, n, s, t)) => *a == *s
+            && *b == *t
+            && c.same(d)
+            && m.same(n),
+        (Expr::Keep(k, x), Expr::Keep(l, y)) => *x == *y && k.same(l),
+        (Expr::Distinct(x), Expr::Distinct(y)) => *x == *y,
+        (Expr::Group(k, g, x), Expr::Group(l, h, y)) => *x == *y
+            && k.same(l)
+            && same_aggregations(g.as_slice(), h.as_slice()),
+        _ => false,
+    }
+}
+
+impl Aggregation {
+    pub fn same(self, other: Aggregation) -> bool
+        ensures equal { IsTrue result ↔ (self ≡ other) }
+        ensures test { result ≡ same_aggregation self other }
+    {
+        self == other
+    }
+}
+
+fn same_aggregations(added: &[Aggregation], others: &[Aggregation]) -> bool
+    ensures { IsTrue result ↔ (added.now ≡ others.now) }
+{
+    if added.len() != others.len() {
+        return false;
+    }
+    for i in 0..added.len() {
+        if !added[i].same(others[i]) {
+            return false;
+        }
+    }
+    true
 }

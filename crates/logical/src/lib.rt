@@ -8,7 +8,10 @@
 pub mod columns;
 pub mod condition;
 pub mod expr;
+pub mod formed;
+pub mod framing;
 
 pub use columns::Columns;
 pub use condition::{Condition, Conjuncts, Term};
 pub use expr::{Aggregation, Expr};
+pub use framing::frame;

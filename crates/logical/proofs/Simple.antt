@@ -1,0 +1,28 @@
+-- The only table of a simple query.
+use Rattle.std.proofs.Common.{◌≡◌, refl, ap, sym, ◌∙◌, get_or, Some, List}
+use Rattle.std.specs.List.{slice_get}
+use Rattle.std.proofs.lemmas.Option.{get_or_from_slice_get}
+use Rattle.binder.specs.declared.query.Occurrence.{Occurrence}
+use Rattle.binder.specs.declared.query.TableUse.{TableUse}
+use Rattle.binder.specs.declared.query.From.{out-From, out-roll-From}
+use Rattle.binder.specs.declared.query.Cond.TheOpen.{From-F}
+use Rattle.binder.specs.declared.query.From.TheVariants as from
+use Rattle.binder.specs.declared.query.Query.{Query}
+use Rattle.logical.specs.Frame.{IsSimple, frame_of, frame_over}
+
+-- a FROM names its table
+pub same_occurrence : (q : Query) (s : IsSimple q) (o : Occurrence) → q.block.from ≡ from.Table o → o ≡ s.occurrence
+same_occurrence q s o is = let e : from.Table o ≡ from.Table s.occurrence = sym is ∙ s.from in cc
+
+pub same_table : (q : Query) (s : IsSimple q) (o : Occurrence) (t : TableUse) (tables : List TableUse) → q.block.from ≡ from.Table o → tables ≡ q.tables → ((d : TableUse) → t ≡ get_or tables o.number d) → t ≡ s.table
+same_table q s o t tables is same at =
+    let e : o ≡ s.occurrence = same_occurrence q s o is in
+    at t ∙ rw (same, e) (get_or_from_slice_get q.tables s.occurrence.number s.table t s.found)
+
+table-layer : (o : Occurrence) → out-From (from.Table o) ≡ From-F.Table o
+table-layer o = ap out-From (sym (from.rolls-Table o)) ∙ out-roll-From (From-F.Table o)
+
+-- the frame of a FROM of one table
+pub frame_is : (q : Query) (o : Occurrence) (t : TableUse) → q.block.from ≡ from.Table o → slice_get q.tables o.number ≡ Some t → frame_of q ≡ frame_over o.number (Some t) q.block.filter q.block.items
+unfolding frame_of
+frame_is q o t is at = rw (is, table-layer, at) refl

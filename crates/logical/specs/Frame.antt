@@ -1,0 +1,90 @@
+-- The frame of a query: the expressions that found its classes, the last of which is the query's own.
+use Rattle.std.specs.Prelude.{◌≡◌, ℕ, ◌+◌, ◌<◌, false, List, [], ◌∷◌, length, map, slice_get, Option, Some, None}
+use Rattle.std.specs.List.{AllByRecursion}
+use Rattle.binder.specs.declared.query.Term.{Term}
+use Rattle.binder.specs.declared.query.Term.TheVariants as term
+use Rattle.binder.specs.declared.query.Item.{Item}
+use Rattle.binder.specs.declared.query.Item.TheVariants as item
+use Rattle.binder.specs.declared.query.Occurrence.{Occurrence}
+use Rattle.binder.specs.declared.query.TableUse.{TableUse}
+use Rattle.binder.specs.declared.query.Cond.{Cond, out-Cond}
+use Rattle.binder.specs.declared.query.From.{From, out-From}
+use Rattle.binder.specs.declared.query.From.TheVariants as from
+use Rattle.binder.specs.declared.query.Block.{Block}
+use Rattle.binder.specs.declared.query.Cond.TheOpen.{Cond-F, From-F}
+use Rattle.binder.specs.declared.query.Query.{Query}
+use Rattle.logical.specs.declared.condition.Condition.{Condition}
+use Rattle.logical.specs.declared.condition.Condition.TheVariants.{Compare}
+use Rattle.logical.specs.declared.condition.Term as own
+use Rattle.logical.specs.declared.condition.Term.TheVariants as number
+use Rattle.logical.specs.declared.expr.Expr.{Expr}
+use Rattle.logical.specs.declared.expr.Expr.TheVariants.{Get, Select, Keep}
+use Rattle.logical.specs.Columns.{rising}
+use Rattle.logical.specs.Expressions.{NumbersFit}
+
+-- ---- queries of one table with at most a comparison
+
+-- the term reads the row of the only table, which has so many columns
+abbrev pub TermWithin : ℕ → Term → Type 0
+TermWithin width (term.Column c) = (c.level ≡ 0) × (c.place < width)
+TermWithin width (term.Literal v) = Unit {0}
+
+abbrev pub IsComparison : ℕ → Cond-F Cond From Block → Type 0
+IsComparison width (Cond-F.Compare c a b) = TermWithin width a × TermWithin width b
+IsComparison width _ = ⊥
+
+abbrev pub IsSimpleFilter : ℕ → Option Cond → Type 0
+IsSimpleFilter width None = Unit {0}
+IsSimpleFilter width (Some c) = IsComparison width (out-Cond c)
+
+abbrev pub IsSimpleItem : ℕ → Item → Type 0
+IsSimpleItem width (item.Column c) = (c.level ≡ 0) × (c.place < width)
+IsSimpleItem width (item.Aggregate n a) = ⊥
+
+-- the query shows columns of one table, of all its rows or of those at which a comparison is true
+pub record IsSimple (q : Query) : Type 0 where
+  pub occurrence : Occurrence
+  pub table : TableUse
+  pub from : q.block.from ≡ from.Table occurrence
+  pub found : slice_get q.tables occurrence.number ≡ Some table
+  pub same_table : table.table ≡ occurrence.table
+  pub numbers_fit : NumbersFit q.tables
+  pub filter : IsSimpleFilter (length table.entry.columns) q.block.filter
+  pub ungrouped : q.block.grouped ≡ false
+  pub keeps_all : q.block.distinct ≡ false
+  pub items : AllByRecursion (IsSimpleItem (length table.entry.columns)) q.block.items
+
+-- ---- the frame
+
+-- a term with its column's number in place of its place in the table
+abbrev pub term_of : TableUse → Term → own.Term
+term_of t (term.Column c) = number.Column (t.first_column + c.place)
+term_of t (term.Literal v) = number.Literal v
+
+-- the conjuncts of a WHERE
+abbrev pub conjuncts_of : TableUse → Cond-F Cond From Block → List Condition
+conjuncts_of t (Cond-F.Compare c a b) = Compare c (term_of t a) (term_of t b) ∷ []
+conjuncts_of t _ = []
+
+-- the column of an item
+abbrev pub item_column : TableUse → Item → ℕ
+item_column t (item.Column c) = t.first_column + c.place
+item_column t (item.Aggregate n a) = n
+
+-- the columns that a block shows
+abbrev pub output_columns : TableUse → List Item → List ℕ
+output_columns t items = rising (map (item_column t) items)
+
+-- the table; the rows at which the WHERE is true, if there is one; and these cut to the output columns
+abbrev pub frame_over : ℕ → Option TableUse → Option Cond → List Item → List Expr
+frame_over o None filter items = []
+frame_over o (Some t) None items = Get o ∷ Keep (output_columns t items) 0 ∷ []
+frame_over o (Some t) (Some c) items = Get o ∷ Select (conjuncts_of t (out-Cond c)) 0 ∷ Keep (output_columns t items) 1 ∷ []
+
+abbrev pub frame_from : List TableUse → Option Cond → List Item → From-F Cond From Block → List Expr
+frame_from uses filter items (From-F.Table o) = frame_over o.number (slice_get uses o.number) filter items
+frame_from uses filter items _ = []
+
+-- the frame of a simple query
+unfoldable pub frame_of : Query → List Expr
+frame_of q = frame_from q.tables q.block.filter q.block.items (out-From q.block.from)
