@@ -1,0 +1,6 @@
+pub mod StoreFaults
+pub mod StoreInput
+pub mod StoreRows
+pub mod StoreTables
+pub mod StoreTells
+pub mod StoreNumbers

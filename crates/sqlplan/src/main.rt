@@ -1,0 +1,6 @@
+//! The program.
+#![tactic(auto)]
+
+mod store;
+
+fn main() {}
