@@ -5,4 +5,8 @@ pub mod Grammar
 pub mod Refusals
 pub mod StoreFaults
 pub mod StoreInput
+pub mod StoreNumbers
+pub mod StoreRows
+pub mod StoreTables
+pub mod StoreTells
 pub mod Tokens

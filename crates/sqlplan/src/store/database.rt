@@ -46,11 +46,6 @@ impl<'s> Database<'s> {
         Ok(Database { schema, tables })
     }
 
-    /// The tables, in the order of the schema.
-    pub fn tables(&self) -> &[Table] {
-        self.tables.as_slice()
-    }
-
     pub fn table(&self, number: usize) -> &Table {
         &self.tables[number]
     }
@@ -67,7 +62,11 @@ impl<'s> Database<'s> {
             Err(InputFault::Memory) => return Err(TableFault::Memory),
             Err(InputFault::Device) => return Err(TableFault::Device),
         };
-        let loaded = table_of(alloc, &self.schema.tables.as_slice()[table], bytes.as_slice())?;
+        let loaded = table_of(
+            alloc,
+            &self.schema.tables.as_slice()[table],
+            bytes.as_slice(),
+        )?;
         self.tables[table] = loaded;
         Ok(())
     }

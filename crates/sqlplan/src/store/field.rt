@@ -1,6 +1,11 @@
 //! The value that a field of a table's file stands for.
 
-ghost use Rattle.std.specs.Prelude.{◌≡◌};
+ghost use Rattle.std.specs.Prelude.{◌≡◌, ◌∷◌, MatchOption, FitsSigned};
+ghost use Rattle.std.specs.Int.{w64};
+ghost use Rattle.std.specs.Fmt.{signed_decimal};
+ghost use Rattle.sqlplan.specs.StoreNumbers as numbers;
+ghost use Rattle.sqlplan.specs.StoreTables.{IsNumber, IsPlain, PlainFails, Stands, FieldFails};
+ghost use Rattle.sqlplan.specs.StoreTells.{Tells};
 
 use crate::store::fault::FieldFault;
 use schema::{Column, Kind};
@@ -8,36 +13,53 @@ use std::alloc::Global;
 use std::str;
 use values::{Fault, Text, Value};
 
-/// Whether the bytes are `0`, or an optional `-` and digits without a leading zero.
-fn is_numeral(bytes: &[u8]) -> bool {
+/// Whether the bytes begin with a digit that isn't `0`.
+fn begins_count(bytes: &[u8]) -> bool
+    ensures { result ≡ numbers.begins_count bytes.now }
+{
     match bytes {
-        [b'0'] => true,
-        [b'-', digits @ ..] => is_count(digits),
-        digits => is_count(digits),
+        [] => false,
+        [first, ..] => 49 <= *first && *first <= 57,
     }
 }
 
-/// Whether the bytes are digits, the first of them not `0`.
-fn is_count(digits: &[u8]) -> bool {
-    match digits {
+/// Whether the bytes begin as the decimal of a number does: no `+`, and no `0` before another digit.
+fn begins_number(bytes: &[u8]) -> bool
+    ensures { result ≡ numbers.begins_number bytes.now }
+{
+    match bytes {
         [] => false,
-        [first, ..] => *first != b'0' && digits.iter().all(u8::is_ascii_digit),
+        [only] => *only == b'0' || begins_count(bytes),
+        [first, rest @ ..] => {
+            if *first == b'-' {
+                begins_count(rest)
+            } else {
+                begins_count(bytes)
+            }
+        }
     }
 }
 
 /// The whole number of 64 bits that the bytes are in decimal.
-fn number_of(bytes: &[u8]) -> Option<i64> {
-    if !is_numeral(bytes) {
+fn number_of(bytes: &[u8]) -> Option<i64>
+    ensures { MatchOption result (¬ (IsNumber bytes.now)) (λ n. (bytes.now ≡ signed_decimal n) × FitsSigned w64 n) }
+{
+    if !begins_number(bytes) {
         return None;
     }
     let Ok(text) = str::from_utf8(bytes) else {
         return None;
     };
-    text.parse::<i64>().ok()
+    match text.parse::<i64>() {
+        Ok(number) => Some(number),
+        Err(_) => None,
+    }
 }
 
 /// The value of a field that isn't Null, after its escape is taken off.
-fn plain_value_of(alloc: Global, kind: Kind, bytes: &[u8]) -> Result<Value, Fault<FieldFault>> {
+fn plain_value_of(alloc: Global, kind: Kind, bytes: &[u8]) -> Result<Value, Fault<FieldFault>>
+    ensures { Tells (IsPlain kind bytes.now) (PlainFails kind bytes.now) result }
+{
     match kind {
         Kind::Int => match number_of(bytes) {
             Some(number) => Ok(Value::Int(i128::from(number))),
@@ -50,24 +72,47 @@ fn plain_value_of(alloc: Global, kind: Kind, bytes: &[u8]) -> Result<Value, Faul
     }
 }
 
+/// The value of a field that begins with a backslash, after which `rest` stands.
+fn escaped_value_of(
+    alloc: Global,
+    column: &Column,
+    rest: &[u8],
+) -> Result<Value, Fault<FieldFault>>
+    ensures { Tells (Stands column.now (92 ∷ rest.now)) (FieldFails column.now (92 ∷ rest.now)) result }
+{
+    match rest {
+        [] => Err(Fault::Refused(FieldFault::BadEscape)),
+        [first, more @ ..] => {
+            if *first == b'\\' {
+                return plain_value_of(alloc, column.kind, rest);
+            }
+            if *first != b'N' || more.len() > 0 {
+                return Err(Fault::Refused(FieldFault::BadEscape));
+            }
+            if column.not_null {
+                return Err(Fault::Refused(FieldFault::NullValue));
+            }
+            Ok(Value::Null)
+        }
+    }
+}
+
 /// The value that a field of the column stands for.
 pub fn value_of(
     alloc: Global,
     column: &Column,
     field: &[u8],
-) -> Result<Value, Fault<FieldFault>> {
+) -> Result<Value, Fault<FieldFault>>
+    ensures { Tells (Stands column.now field.now) (FieldFails column.now field.now) result }
+{
     match field {
-        [b'\\', b'N'] => {
-            if column.not_null {
-                Err(Fault::Refused(FieldFault::NullValue))
+        [] => plain_value_of(alloc, column.kind, field),
+        [first, rest @ ..] => {
+            if *first == b'\\' {
+                escaped_value_of(alloc, column, rest)
             } else {
-                Ok(Value::Null)
+                plain_value_of(alloc, column.kind, field)
             }
         }
-        [b'\\', rest @ ..] => match rest {
-            [b'\\', ..] => plain_value_of(alloc, column.kind, rest),
-            _ => Err(Fault::Refused(FieldFault::BadEscape)),
-        },
-        _ => plain_value_of(alloc, column.kind, field),
     }
 }
