@@ -1,8 +1,8 @@
 -- The query that a tree is over a schema (this project's profile of SQL's scopes).
-use Rattle.std.specs.Prelude.{◌+◌, ℕ, Bool, true, false, if◌then◌else◌, List, [], ◌∷◌, map, Option, Some, None, Result, Ok, Err, bytes_eq}
+use Rattle.std.specs.Prelude.{◌+◌, ℕ, Bool, true, false, if◌then◌else◌, List, [], ◌∷◌, length, map, nat_le, Option, Some, None, Result, Ok, Err, bytes_eq}
 use Rattle.values.specs.declared.value.Value.{Value}
 use Rattle.values.specs.declared.value.Value.TheVariants as value
-use Rattle.values.specs.Faults.{◌>>=◌, wanted}
+use Rattle.values.specs.Faults.{◌>>=◌, wanted, wanted_if}
 use Rattle.schema.specs.declared.schema.Kind.{Kind}
 use Rattle.schema.specs.declared.schema.Kind.TheVariants as kind
 use Rattle.schema.specs.declared.schema.Column as entries
@@ -24,8 +24,9 @@ use Rattle.sqlplan.specs.declared.syntax.ast.Name.{Name}
 use Rattle.sqlplan.specs.declared.syntax.ast.Filter.{Filter}
 use Rattle.sqlplan.specs.declared.syntax.ast.Ast.{Ast}
 use Rattle.sqlplan.specs.declared.binding.fault.BindReason.{BindReason}
-use Rattle.sqlplan.specs.declared.binding.fault.BindReason.TheVariants.{UnknownTable, UnknownColumn, MixedKinds}
+use Rattle.sqlplan.specs.declared.binding.fault.BindReason.TheVariants.{UnknownTable, UnknownColumn, MixedKinds, TooLarge}
 use Rattle.sqlplan.specs.declared.binding.fault.BindRefusal.{BindRefusal}
+use Rattle.sqlplan.specs.declared.binding.bind.TheConstants.{MAX_COLUMNS}
 
 -- ---- what a name means
 
@@ -94,10 +95,10 @@ query_over (place, t) filter items names = record {
   order = [];
 }
 
--- the query that the tree is, or its first fault: of FROM, then of WHERE, then of SELECT
+-- the query that the tree is, or its first fault: of FROM, then of WHERE, then of SELECT, and then too many columns
 unfoldable pub bound : Schema → Ast → Result Query BindRefusal
 bound S tree = do
   found ← table_in S tree.table
   filter ← filter_in found.1 tree.filter
   items ← items_in found.1 tree.columns
-  Ok (query_over found filter items tree.columns)
+  wanted_if (refusal TooLarge 0) (nat_le (length found.1.columns) MAX_COLUMNS) (query_over found filter items tree.columns)

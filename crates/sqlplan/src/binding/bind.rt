@@ -1,7 +1,8 @@
 //! Names become the tables and columns that they mean.
 
-ghost use Rattle.std.specs.Prelude.{◌≡◌, map, option_map, IfOk};
+ghost use Rattle.std.specs.Prelude.{◌≡◌, map, IfOk};
 ghost use Rattle.values.specs.Faults.{Gives};
+ghost use Rattle.logical.specs.Frame.{IsSimple};
 ghost use Rattle.sqlplan.specs.Binding as spec;
 
 use crate::binding::fault::{BindFault, BindReason, refused};
@@ -10,6 +11,9 @@ use binder::{Block, Column, Cond, From, Item, Occurrence, Query, TableUse, Term}
 use schema::{Kind, Schema, Table};
 use std::alloc::{AllocError, Global};
 use values::{Boxed, Items, Text, Value};
+
+/// The most columns that the table occurrences and aggregates of a query may have together.
+pub const MAX_COLUMNS: usize = 512;
 
 /// The table that a name means, and its place in the schema.
 fn table_of<'s>(schema: &'s Schema, name: &Name) -> Result<(usize, &'s Table), BindFault>
@@ -132,14 +136,19 @@ fn query_over(
     })
 }
 
-/// The query that a tree is over a schema, or the first fault: of FROM, then of WHERE, then of SELECT.
+/// The query that a tree is over a schema, or the first fault: of FROM, then of WHERE, then of SELECT, and then too many
+/// columns.
 #[tactic(auto, unfolding(crate::specs::Binding::bound))]
 pub fn bind(alloc: Global, schema: &Schema, ast: &Ast) -> Result<Query, BindFault>
-    ensures { Gives (λ query. query) result (spec.bound schema.now ast.now) }
+    ensures exact { Gives (λ query. query) result (spec.bound schema.now ast.now) }
+    ensures simple { IfOk result IsSimple }
 {
     let (place, table) = table_of(schema, &ast.table)?;
     let filter = bound_filter(alloc, table, &ast.filter)?;
     let items = bound_items(alloc, table, ast.columns.as_slice())?;
+    if table.columns.len() > MAX_COLUMNS {
+        return Err(refused(BindReason::TooLarge, 0));
+    }
     let query = query_over(alloc, place, table, filter, items, ast.columns.as_slice())?;
     Ok(query)
 }

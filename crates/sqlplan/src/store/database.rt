@@ -46,6 +46,11 @@ impl<'s> Database<'s> {
         Ok(Database { schema, tables })
     }
 
+    /// The tables, in the order of the schema.
+    pub fn tables(&self) -> &[Table] {
+        self.tables.as_slice()
+    }
+
     pub fn table(&self, number: usize) -> &Table {
         &self.tables[number]
     }
