@@ -1,5 +1,6 @@
 pub mod AnswerText
 pub mod Binding
+pub mod Canonical
 pub mod Devices
 pub mod Grammar
 pub mod Refusals

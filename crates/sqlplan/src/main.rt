@@ -3,6 +3,7 @@
 
 mod answer;
 mod binding;
+mod canonical;
 mod execution;
 mod refusal;
 mod store;
