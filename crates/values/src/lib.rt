@@ -7,6 +7,8 @@
 
 pub mod cell;
 pub mod fault;
+#[cfg(test)]
+mod tests;
 pub mod text;
 pub mod truth;
 pub mod value;
