@@ -1,5 +1,5 @@
 -- What an answer of a query is, and that the laws determine it (this project's profile of SQL).
-use Rattle.std.specs.Prelude.{◌≡◌, ℕ, false, if◌then◌else◌, List, [], ◌∷◌}
+use Rattle.std.specs.Prelude.{◌≡◌, ◌↔◌, ℕ, false, if◌then◌else◌, List, [], ◌∷◌}
 use Rattle.std.specs.declared.cmp.Ordering.{Ordering}
 use Rattle.std.specs.declared.cmp.Ordering.TheVariants.{Equal}
 use Rattle.std.specs.Ordering.{is_gt, on, then_cmp, flip_args}
@@ -14,7 +14,7 @@ use Rattle.binder.specs.declared.query.SortKey.{SortKey}
 use Rattle.binder.specs.declared.query.Query.{Query}
 use Rattle.binder.specs.Rows.{Env, Tables, IsFitting, tables_of, value_at, count}
 use Rattle.binder.specs.Meaning.{truth, src, often}
-use Rattle.binder.specs.Laws.{IsMeaning, IsMeaningOn}
+use Rattle.binder.specs.Laws.{IsMeaningOn}
 
 -- ---- ORDER BY
 
@@ -48,10 +48,6 @@ pub record Agree (truth' : Cond → Tables → Env → Truth) (src' : From → T
   pub src : (f : From) (e : Env) (s : Row) → src' f D e s ≡ Rattle.binder.specs.Meaning.src f D e s
   pub often : (q : Block) (e : Env) (r : Row) → often' q D e r ≡ Rattle.binder.specs.Meaning.often q D e r
 
--- the computing form obeys the laws
-abbrev pub MeaningObeysLaws : Type 0
-MeaningObeysLaws = IsMeaning truth src often
-
 -- whatever obeys the laws at a database agrees there with the computing form
 abbrev pub LawsDetermineMeaning : Type 0
 LawsDetermineMeaning = (truth' : Cond → Tables → Env → Truth) (src' : From → Tables → Env → Row → ℕ) (often' : Block → Tables → Env → Row → ℕ) (D : Tables)
@@ -60,3 +56,13 @@ LawsDetermineMeaning = (truth' : Cond → Tables → Env → Truth) (src' : From
 -- a database that satisfies its schema is one of those
 abbrev pub SatisfyingFits : Type 0
 SatisfyingFits = (S : Schema) (D : Database) → Satisfies S D → IsFitting (tables_of S D)
+
+-- each row stands in the list as often as it answers the query by whatever obeys the laws, in an order that its ORDER BY allows
+pub record IsAnswerByLaws (q : Query) (D : Tables) (A : List Row) : Type 0 where
+  pub spread : (truth' : Cond → Tables → Env → Truth) (src' : From → Tables → Env → Row → ℕ) (often' : Block → Tables → Env → Row → ℕ)
+      → IsMeaningOn truth' src' often' D → (r : Row) → count r A ≡ often' q.block D [] r
+  pub ordered : IsAllowed q.order A
+
+-- an answer is one by the laws alone
+abbrev pub AnswersAreByLaws : Type 0
+AnswersAreByLaws = (q : Query) (D : Tables) (A : List Row) → IsFitting D → IsAnswer q D A ↔ IsAnswerByLaws q D A

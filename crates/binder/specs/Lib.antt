@@ -1,5 +1,6 @@
 pub mod Aggregates
 pub mod Answer
+pub mod Examples
 pub mod Laws
 pub mod Meaning
 pub mod Rows
