@@ -3,6 +3,10 @@
 
 pub mod certificate;
 pub mod checked;
+mod fit;
+mod replay;
+#[cfg(test)]
+mod tests;
 
 pub use certificate::{Certificate, CheckCode, CheckFault, CheckRefusal, Line, Node, Plan};
-pub use checked::Checked;
+pub use checked::{Checked, check};

@@ -1,5 +1,5 @@
 -- The only table of a simple query.
-use Rattle.std.proofs.Common.{◌≡◌, refl, ap, sym, ◌∙◌, get_or, Some, List}
+use Rattle.std.proofs.Common.{◌≡◌, length, Option, None, ◌<◌, ℕ, arith, refl, ap, sym, ◌∙◌, get_or, Some, List}
 use Rattle.std.specs.List.{slice_get}
 use Rattle.std.proofs.lemmas.Option.{get_or_from_slice_get}
 use Rattle.binder.specs.declared.query.Occurrence.{Occurrence}
@@ -7,6 +7,8 @@ use Rattle.binder.specs.declared.query.TableUse.{TableUse}
 use Rattle.binder.specs.declared.query.From.{out-From, out-roll-From}
 use Rattle.binder.specs.declared.query.Cond.TheOpen.{From-F}
 use Rattle.binder.specs.declared.query.From.TheVariants as from
+use Rattle.binder.specs.declared.query.Cond.{Cond}
+use Rattle.binder.specs.declared.query.Item.{Item}
 use Rattle.binder.specs.declared.query.Query.{Query}
 use Rattle.logical.specs.Frame.{IsSimple, frame_of, frame_over}
 
@@ -26,3 +28,11 @@ table-layer o = ap out-From (sym (from.rolls-Table o)) ∙ out-roll-From (From-F
 pub frame_is : (q : Query) (o : Occurrence) (t : TableUse) → q.block.from ≡ from.Table o → slice_get q.tables o.number ≡ Some t → frame_of q ≡ frame_over o.number (Some t) q.block.filter q.block.items
 unfolding frame_of
 frame_is q o t is at = rw (is, table-layer, at) refl
+
+over-has-lines : (n : ℕ) (t : TableUse) (filter : Option Cond) (items : List Item) → 0 < length (frame_over n (Some t) filter items)
+over-has-lines n t None items = omega arith
+over-has-lines n t (Some c) items = omega arith
+
+-- a simple query has a frame
+pub frame_has_lines : (q : Query) (s : IsSimple q) → 0 < length (frame_of q)
+frame_has_lines q s = rw (frame_is q s.occurrence s.table s.from s.found) (over-has-lines s.occurrence.number s.table q.block.filter q.block.items)

@@ -71,9 +71,22 @@ abbrev pub item_column : TableUse → Item → ℕ
 item_column t (item.Column c) = t.first_column + c.place
 item_column t (item.Aggregate n a) = n
 
--- the columns that a block shows
+-- the columns of the items, in their order
+abbrev pub item_columns : Option TableUse → List Item → List ℕ
+item_columns None items = []
+item_columns (Some t) items = map (item_column t) items
+
+abbrev pub columns_from : List TableUse → List Item → From-F Cond From Block → List ℕ
+columns_from uses items (From-F.Table o) = item_columns (slice_get uses o.number) items
+columns_from uses items _ = []
+
+-- the columns that a simple query shows
+unfoldable pub shown_columns : Query → List ℕ
+shown_columns q = columns_from q.tables q.block.items (out-From q.block.from)
+
+-- the same as a set
 abbrev pub output_columns : TableUse → List Item → List ℕ
-output_columns t items = rising (map (item_column t) items)
+output_columns t items = rising (item_columns (Some t) items)
 
 -- the table; the rows at which the WHERE is true, if there is one; and these cut to the output columns
 abbrev pub frame_over : ℕ → Option TableUse → Option Cond → List Item → List Expr

@@ -198,16 +198,18 @@ fn joins_formed(
     ensures { result ≡ spec.joins_formed uses.now own.now conjuncts.now left.now right.now }
 {
     all_name_own(conjuncts.as_slice(), uses, own)
-        && are_plain(conjuncts.as_slice())
+        && conjuncts.is_plain()
         && are_apart(left.as_slice(), right)
 }
 
-/// Whether the conditions name no class.
-#[tactic(auto, using(crate::proofs::Equations::plain_below))]
-fn are_plain(conditions: &[Condition]) -> bool
-    ensures { result ≡ spec.is_plain conditions.now }
-{
-    all_name_below(conditions, 0)
+impl Conjuncts {
+    /// Whether the conditions have no subquery.
+    #[tactic(auto, using(crate::proofs::Equations::plain_below))]
+    pub fn is_plain(&self) -> bool
+        ensures { result ≡ spec.is_plain self.now }
+    {
+        all_name_below(self.as_slice(), 0)
+    }
 }
 
 /// Whether the column that an aggregate reads, if it reads one, is in the set.

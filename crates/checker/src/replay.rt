@@ -1,0 +1,91 @@
+//! The lines of a certificate, one after the other.
+
+ghost use Rattle.std.specs.Prelude.{◌≡◌, ◌+◌, ◌<◌, [], List, ℕ, length, map, take, reverse, slice_get, option_map};
+ghost use Rattle.binder.specs.declared.query.Query.{Query};
+ghost use Rattle.values.specs.Faults.{Gives};
+ghost use Rattle.values.specs.declared.fault.Fault.TheVariants.{Refused};
+ghost use Rattle.logical.specs.Classes.{class_columns};
+ghost use Rattle.logical.specs.Columns.{columns_at};
+ghost use Rattle.logical.specs.Expressions.{NumbersFit};
+ghost use Rattle.logical.specs.Frame.{frame_of};
+ghost use Rattle.checker.specs.Replay as spec;
+
+use crate::certificate::{CheckCode, CheckFault, CheckRefusal, Line};
+use binder::Query;
+use logical::{Columns, Expr};
+use std::alloc::Global;
+use values::Fault;
+
+impl Line {
+    /// The expression that the line founds its class with.
+    pub fn founding(&self) -> &Expr
+        ensures { result.now ≡ spec.founding self.now }
+    {
+        match self {
+            Line::Founds(expr) => expr,
+        }
+    }
+}
+
+/// What a fault of a line or node is.
+pub fn refused(line: usize, code: CheckCode) -> CheckFault
+    ensures { result ≡ Refused (spec.refusal line code) }
+{
+    Fault::Refused(CheckRefusal { line, code })
+}
+
+/// Whether the line is the frame's, where the frame has one.
+fn is_frame_line(line: Option<&Expr>, expr: &Expr) -> bool
+    ensures { result ≡ spec.is_frame_line (option_map (λ x. x.now) line.entry) expr.now }
+{
+    match line {
+        Some(own) => expr.same(own),
+        None => true,
+    }
+}
+
+/// Whether a line may stand after earlier ones, whose classes have these columns.
+fn line_replays(
+    query: &Query,
+    frame: &[Expr],
+    columns: &[Columns],
+    expr: &Expr,
+) -> Result<(), CheckFault>
+    requires { frame.now ≡ frame_of query.now }
+    ensures { Gives (λ _. expr.now) result (spec.line_replays query.now (length columns.now) (columns_at columns.now) expr.now) }
+{
+    let number = columns.len();
+    if !expr.names_below(number) {
+        return Err(refused(number, CheckCode::UnknownLine));
+    }
+    if !expr.is_formed(query.tables.as_slice(), &[], columns) {
+        return Err(refused(number, CheckCode::IllFormed));
+    }
+    if !is_frame_line(frame.get(number), expr) {
+        return Err(refused(number, CheckCode::OtherLine));
+    }
+    Ok(())
+}
+
+/// Replays the lines against the query's frame.
+pub fn replay(
+    alloc: Global,
+    query: &Query,
+    frame: &[Expr],
+    lines: &[Line],
+) -> Result<(), CheckFault>
+    requires frame { frame.now ≡ frame_of query.now }
+    requires room { NumbersFit query.now.tables }
+    ensures { Gives (λ _. reverse (map spec.founding lines.now)) result (spec.lines_replay query.now [] (map spec.founding lines.now)) }
+{
+    let mut columns = Vec::new(alloc);
+    for line in lines {
+        let expr = line.founding();
+        line_replays(query, frame, &columns, expr)?;
+        columns.push(expr.columns(alloc, query.tables.as_slice(), &columns)?)?;
+    }
+    if lines.len() < frame.len() {
+        return Err(refused(lines.len(), CheckCode::OtherLine));
+    }
+    Ok(())
+}
