@@ -1,5 +1,6 @@
 pub mod StoreFaults
 pub mod StoreInput
+pub mod StoreReading
 pub mod StoreRows
 pub mod StoreTables
 pub mod StoreTells
