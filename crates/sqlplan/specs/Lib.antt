@@ -7,6 +7,7 @@ pub mod Refusals
 pub mod StoreFaults
 pub mod StoreInput
 pub mod StoreNumbers
+pub mod StoreReading
 pub mod StoreRows
 pub mod StoreTables
 pub mod StoreTells

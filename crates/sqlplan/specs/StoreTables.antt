@@ -1,11 +1,13 @@
 -- What the records of a table's file stand for (this project's profile: Null is `\N`, and a text that begins with a backslash has one more).
-use Rattle.std.specs.Prelude.{◌≡◌, ◌≢◌, ◌<◌, ◌+◌, ◌==◌, ℕ, ℤ, zero, suc, Bool, true, false, List, [], ◌∷◌, ◌++◌, length, map, take, Option, Some, None, if◌then◌else◌, FitsSigned, codes, ◌⊎◌, slice_index_or}
+use Rattle.std.specs.Prelude.{◌≡◌, ◌≢◌, ◌<◌, ◌≤◌, ◌+◌, ◌==◌, ℕ, ℤ, zero, suc, Bool, true, false, List, [], ◌∷◌, ◌++◌, length, map, take, Option, Some, None, if◌then◌else◌, FitsSigned, codes, ◌⊎◌, slice_index_or}
 use Rattle.std.specs.Int.{w64}
 use Rattle.std.specs.Fmt.{signed_decimal}
 use Rattle.std.specs.List.{AllByRecursion, list_any}
 use Rattle.std.specs.Str.{IsUtf8}
 use Rattle.values.specs.declared.value.Value.{Value}
 use Rattle.values.specs.declared.value.Value.TheVariants as value
+use Rattle.values.specs.declared.fault.Fault.{Fault}
+use Rattle.values.specs.declared.fault.Fault.TheVariants as fault
 use Rattle.values.specs.Truth.{is_null}
 use Rattle.schema.specs.declared.schema.Kind.{Kind}
 use Rattle.schema.specs.declared.schema.Kind.TheVariants as kind
@@ -17,6 +19,7 @@ use Rattle.sqlplan.specs.declared.store.fault.FieldFault.TheVariants.{BadEscape,
 use Rattle.sqlplan.specs.declared.store.fault.TableCause.{TableCause}
 use Rattle.sqlplan.specs.declared.store.fault.TableCause.TheVariants.{OtherHeader, OtherLength, Field, Repeated, TooMany}
 use Rattle.sqlplan.specs.declared.store.fault.TableRefusal.{TableRefusal}
+use Rattle.sqlplan.specs.declared.store.records.Parsed.{Parsed}
 
 -- the fields of a record
 abbrev pub Record : Type 0
@@ -80,7 +83,56 @@ StandFor (c ∷ cs) (f ∷ fs) (v ∷ vs) = Stands c f v × StandFor cs fs vs
 
 -- the fields before this place stand for values, and the one there fails
 abbrev pub FieldsFail : List Column → Record → ℕ → FieldFault → Type 0
-FieldsFail [] fs place fault = ⊥
-FieldsFail (c ∷ cs) [] place fault = ⊥
-FieldsFail (c ∷ cs) (f ∷ fs) zero fault = FieldFails c f fault
-FieldsFail (c ∷ cs) (f ∷ fs) (suc place) fault = ((v : Value) × Stands c f v) × FieldsFail cs fs place fault
+FieldsFail [] fs place wrong = ⊥
+FieldsFail (c ∷ cs) [] place wrong = ⊥
+FieldsFail (c ∷ cs) (f ∷ fs) zero wrong = FieldFails c f wrong
+FieldsFail (c ∷ cs) (f ∷ fs) (suc place) wrong = ((v : Value) × Stands c f v) × FieldsFail cs fs place wrong
+
+-- the names of the columns
+abbrev pub names_of : List Column → Record
+names_of cs = map (λ c. c.name) cs
+
+-- what is wrong with a record that stands for no row
+abbrev pub RowFails : List Column → Record → TableCause → Type 0
+RowFails cs fs OtherLength = length fs ≢ length cs
+RowFails cs fs (Field place wrong) = (length fs ≡ length cs) × FieldsFail cs fs place wrong
+RowFails cs fs OtherHeader = ⊥
+RowFails cs fs (Repeated earlier) = ⊥
+RowFails cs fs TooMany = ⊥
+
+-- the fault of a record whose field at this place has one
+abbrev pub in_field : ℕ → Fault FieldFault → Fault TableCause
+in_field place fault.Memory = fault.Memory
+in_field place (fault.Refused f) = fault.Refused (Field place f)
+
+-- the records are those of the rows, and then the rest
+pub record Written (cs : List Column) (records : List Record) (rows : List Row) (rest : List Record) : Type 0 where
+  pub records_are : records ≡ map (map field_of) rows ++ rest
+  pub fit : AllByRecursion (FitsColumns cs) rows
+  pub text : AllByRecursion (AllByRecursion IsText) rows
+
+-- why the record after so many rows stands for none
+abbrev pub RecordFails : List Column → ℕ → Record → TableCause → Type 0
+RecordFails cs n fs OtherLength = (n < most_rows) × RowFails cs fs OtherLength
+RecordFails cs n fs (Field place wrong) = (n < most_rows) × RowFails cs fs (Field place wrong)
+RecordFails cs n fs TooMany = n ≡ most_rows
+RecordFails cs n fs OtherHeader = ⊥
+RecordFails cs n fs (Repeated earlier) = ⊥
+
+-- where the rows end: at the end of the records, or at one that stands for no row
+abbrev pub EndsAt : List Column → ℕ → List Record → Option TableRefusal → Type 0
+EndsAt cs n rest None = rest ≡ []
+EndsAt cs n [] (Some refusal) = ⊥
+EndsAt cs n (fs ∷ more) (Some refusal) = (refusal.row ≡ n + 1) × RecordFails cs n fs refusal.cause
+
+-- the rows that the records stand for, up to the first that stands for none
+pub record Parses (cs : List Column) (records : List Record) (p : Parsed) : Type 0 where
+  pub rest : List Record
+  pub written : Written cs records p.rows rest
+  pub few : length p.rows ≤ most_rows
+  pub ends : EndsAt cs (length p.rows) rest p.fault
+
+-- the same of a file's records, of which the first are the names
+abbrev pub ParsesFile : List Column → List Record → Parsed → Type 0
+ParsesFile cs records p = ((rest : List Record) × (records ≡ names_of cs ∷ rest) × Parses cs rest p)
+    ⊎ (((rest : List Record) → records ≢ names_of cs ∷ rest) × (p.rows ≡ []) × (p.fault ≡ Some (record { row = 0; cause = OtherHeader })))

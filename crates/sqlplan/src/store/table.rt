@@ -13,7 +13,7 @@ use values::{Cell, Items, Value};
 #[derive(Drop)]
 pub struct Table {
     width: usize,
-    rows: Vec<Items<Value>>,
+    rows: Items<Items<Value>>,
 }
 
 impl Model for Table {
@@ -23,16 +23,16 @@ impl Model for Table {
 
     ghost Value = { List Row };
 
-    ghost view = { λ t. t.rows.items };
+    ghost view = { λ t. t.rows };
 
-    ghost invariant = { λ t. HaveWidth t.width t.rows.items };
+    ghost invariant = { λ t. HaveWidth t.width t.rows };
 }
 
 impl Table {
     /// A table with these rows, each of them as wide.
-    pub fn new(width: usize, rows: Vec<Items<Value>>) -> Table
-        requires { HaveWidth width rows.items }
-        ensures { result ≡ rows.items }
+    pub fn new(width: usize, rows: Items<Items<Value>>) -> Table
+        requires { HaveWidth width rows }
+        ensures { result ≡ rows }
     {
         Table { width, rows }
     }
@@ -41,7 +41,7 @@ impl Table {
     pub fn empty(alloc: Global, width: usize) -> Table
         ensures { result ≡ [] }
     {
-        Table::new(width, Vec::new(alloc))
+        Table::new(width, Items::new(alloc))
     }
 }
 
@@ -57,7 +57,7 @@ impl RowSource for Table {
     }
 
     fn cell(&self, row: usize, column: usize) -> Cell<'_> {
-        let values = self.rows[row].as_slice();
+        let values = self.rows.as_slice()[row].as_slice();
         values[column].as_cell()
     }
 }
