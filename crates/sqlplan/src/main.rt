@@ -4,12 +4,116 @@
 mod answer;
 mod binding;
 mod canonical;
+mod command;
+mod end_to_end;
 mod execution;
 mod refusal;
+mod stop;
 mod store;
 mod syntax;
+#[cfg(test)]
+mod tests;
 
-mod command;
-mod stop;
+use answer::CountedOutput;
+use clap::ArgMatches;
+use clap::error::ErrorKind;
+use command::command;
+use end_to_end::query;
+use refusal::Refusal;
+use schema::Schema;
+use std::alloc::Global;
+use std::fs::File;
+use std::io::BufWriter;
+use std::process::ExitCode;
+use std::{env, fs, io};
+use stop::Stop;
+use store::CountedInput;
 
-fn main() {}
+/// How many lines a search may derive, where the user says nothing. No search uses it yet.
+const LIMIT: u32 = 20_000;
+
+/// The bytes of a file.
+fn bytes_of(rt: &HostRuntime, path: &str) -> Result<Vec<u8>, Stop> {
+    match fs::read(rt, path) {
+        Ok(bytes) => Ok(bytes),
+        Err(error) => Err(Stop::of_file(rt.alloc(), path, &error)),
+    }
+}
+
+/// The tables' files, opened in the order of the schema.
+fn open_tables(
+    rt: &HostRuntime,
+    schema: &Schema,
+    folder: &str,
+) -> Result<Vec<CountedInput<File>>, Stop> {
+    let alloc = rt.alloc();
+    let mut tables = Vec::new(alloc);
+    for table in schema.tables.as_slice() {
+        let name = table.name.as_str();
+        let path = format!(in alloc; "{folder}/{name}.csv")?;
+        match fs::open(rt, path.as_str()) {
+            Ok(file) => tables.push(CountedInput::new(file))?,
+            Err(error) => return Err(Stop::of_file(alloc, path.as_str(), &error)),
+        }
+    }
+    Ok(tables)
+}
+
+/// The command `query`. The schema is read and tested before any other file is opened.
+fn answer_query(rt: &HostRuntime, arguments: &ArgMatches<'_>) -> Result<(), Stop> {
+    let alloc = rt.alloc();
+    let (Some(schema_path), Some(query_path), Some(folder)) = (
+        arguments.get_str("SCHEMA"),
+        arguments.get_str("QUERY"),
+        arguments.get_str("DIR"),
+    ) else {
+        return Err(Stop::Usage);
+    };
+    let schema_bytes = bytes_of(rt, schema_path)?;
+    let schema = match Schema::read(alloc, schema_bytes.as_slice()) {
+        Ok(schema) => schema,
+        Err(fault) => return Err(Stop::of_refusal(alloc, &Refusal::from(fault), None)),
+    };
+    let text = bytes_of(rt, query_path)?;
+    let mut tables = open_tables(rt, &schema, folder)?;
+    let mut out = CountedOutput::new(BufWriter::new(alloc, io::writer(rt))?);
+    match query(
+        alloc,
+        schema_bytes.as_slice(),
+        text.as_slice(),
+        tables.as_mut_slice(),
+        LIMIT,
+        &mut out,
+    ) {
+        Ok(()) => Ok(()),
+        Err(refusal) => Err(Stop::of_refusal(alloc, &refusal, Some(&schema))),
+    }
+}
+
+fn run(rt: &HostRuntime) -> Result<(), Stop> {
+    let alloc = rt.alloc();
+    let words: Vec<String> = env::args(rt)?.collect(alloc)?;
+    match command(alloc)?.try_get_matches_from(words.as_slice()) {
+        Ok(matches) => match matches.subcommand() {
+            Some(("query", arguments)) => answer_query(rt, arguments),
+            _ => Err(Stop::Usage),
+        },
+        Err(error) => {
+            if error.kind() == ErrorKind::OutOfMemory {
+                return Err(Stop::Memory);
+            }
+            let _ = rt.eprint(&error);
+            Err(Stop::Usage)
+        }
+    }
+}
+
+fn main(rt: HostRuntime) -> ExitCode {
+    match run(&rt) {
+        Ok(()) => ExitCode::SUCCESS,
+        Err(stop) => {
+            stop.tell(&rt);
+            ExitCode::from(stop.status())
+        }
+    }
+}

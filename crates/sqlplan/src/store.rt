@@ -13,6 +13,6 @@ pub mod unique;
 
 pub use database::Database;
 pub use fault::{FieldFault, TableCause, TableFault, TableRefusal};
-pub use input::{Counted, DeviceFailed, TableInput};
+pub use input::{CountedInput, DeviceFailed, TableInput};
 pub use source::RowSource;
 pub use table::Table;

@@ -29,20 +29,20 @@ pub trait TableInput {
 
 /// A reader with a count of its failed calls.
 #[derive(Drop)]
-pub struct Counted<R> {
+pub struct CountedInput<R> {
     inner: R,
     failures: u64,
 }
 
-impl<R: Read> Counted<R> {
-    pub fn new(inner: R) -> Counted<R>
+impl<R: Read> CountedInput<R> {
+    pub fn new(inner: R) -> CountedInput<R>
         ensures { result ≡ record { inner = inner; failures = 0 } }
     {
-        Counted { inner, failures: 0 }
+        CountedInput { inner, failures: 0 }
     }
 }
 
-impl<R: Read> TableInput for Counted<R> {
+impl<R: Read> TableInput for CountedInput<R> {
     ghost remaining = { λ c. R.remaining c.inner };
 
     ghost failures = { λ c. c.failures };

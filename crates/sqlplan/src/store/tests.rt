@@ -2,7 +2,7 @@
 
 use crate::store::database::Database;
 use crate::store::fault::TableFault;
-use crate::store::input::Counted;
+use crate::store::input::CountedInput;
 use crate::store::source::RowSource;
 use schema::Schema;
 use std::alloc::Global;
@@ -56,7 +56,7 @@ fn told(
     bytes: &[u8],
 ) -> Result<String, Fail> {
     let mut text = String::new(alloc);
-    match database.load(alloc, table, &mut Counted::new(bytes)) {
+    match database.load(alloc, table, &mut CountedInput::new(bytes)) {
         Ok(()) => text.push_str("loaded")?,
         Err(TableFault::Memory) => text.push_str("memory")?,
         Err(TableFault::Device) => text.push_str("device")?,
@@ -216,7 +216,7 @@ fn a_device_fails(rt: HostRuntime) -> Result<(), Fail> {
             calls: 0,
             fails_at,
         };
-        let result = database.load(alloc, 0, &mut Counted::new(input));
+        let result = database.load(alloc, 0, &mut CountedInput::new(input));
         assert!(rt; matches!(result, Err(TableFault::Device)), "{fails_at}");
         assert_eq!(rt; shown(alloc, &database, 0)?.as_str(), "1 <ops> 10 /");
     }
@@ -226,7 +226,7 @@ fn a_device_fails(rt: HostRuntime) -> Result<(), Fail> {
         calls: 0,
         fails_at: 1,
     };
-    let result = database.load(alloc, 0, &mut Counted::new(input));
+    let result = database.load(alloc, 0, &mut CountedInput::new(input));
     assert!(rt; matches!(result, Err(TableFault::Device)));
     assert_eq!(rt; told(alloc, &mut database, 0, b"id\n")?.as_str(), "T02 0");
     assert_eq!(rt; shown(alloc, &database, 0)?.as_str(), "1 <ops> 10 /");
@@ -235,7 +235,7 @@ fn a_device_fails(rt: HostRuntime) -> Result<(), Fail> {
         calls: 0,
         fails_at: 6,
     };
-    let result = database.load(alloc, 0, &mut Counted::new(input));
+    let result = database.load(alloc, 0, &mut CountedInput::new(input));
     assert!(rt; result.is_ok());
     assert_eq!(rt; shown(alloc, &database, 0)?.as_str(), "");
     Ok(())

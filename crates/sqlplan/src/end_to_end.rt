@@ -1,0 +1,61 @@
+//! From the bytes of files to the bytes of an answer.
+
+use crate::answer::{AnswerFault, AnswerOutput, write_rows};
+use crate::binding::bind;
+use crate::canonical::canonical;
+use crate::execution::run;
+use crate::refusal::Refusal;
+use crate::store::{Database, TableInput};
+use crate::syntax::parse_bytes;
+use checker::{Checked, check};
+use schema::Schema;
+use std::alloc::Global;
+
+/// Loads the tables, one input each in the order of the schema.
+fn load_all<R: TableInput>(
+    alloc: Global,
+    database: &mut Database<'_>,
+    tables: &mut [R],
+) -> Result<(), Refusal> {
+    for number in 0..tables.len() {
+        if let Err(fault) = database.load(alloc, number, &mut tables[number]) {
+            return Err(Refusal::of_table(number, fault));
+        }
+    }
+    Ok(())
+}
+
+/// Writes the answer that a checked plan gives.
+pub fn write_answer<W: AnswerOutput>(
+    alloc: Global,
+    checked: &Checked<'_>,
+    database: &Database<'_>,
+    out: &mut W,
+) -> Result<(), AnswerFault> {
+    let rows = run(alloc, checked, database)?;
+    write_rows(alloc, checked.query(), rows.as_slice(), out)
+}
+
+/// Answers a query: reads the schema, the text and the tables' files, checks a plan and writes what it gives. The tables
+/// are one input each, in the order of the schema.
+///
+/// The first fault is told, in the order schema, text, scope, tables, and `out` is then as it was. During the answer
+/// memory or the output may fail, and then a beginning of the answer has been written. No search uses `_limit` yet.
+pub fn query<R: TableInput, W: AnswerOutput>(
+    alloc: Global,
+    schema: &[u8],
+    text: &[u8],
+    tables: &mut [R],
+    _limit: u32,
+    out: &mut W,
+) -> Result<(), Refusal> {
+    let schema = Schema::read(alloc, schema)?;
+    let ast = parse_bytes(alloc, text)?;
+    let query = bind(alloc, &schema, &ast)?;
+    let mut database = Database::new(alloc, &schema)?;
+    load_all(alloc, &mut database, tables)?;
+    let certificate = canonical(alloc, &query)?;
+    let checked = check(alloc, &schema, &query, &certificate)?;
+    write_answer(alloc, &checked, &database, out)?;
+    Ok(())
+}
