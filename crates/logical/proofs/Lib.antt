@@ -1,4 +1,5 @@
 pub mod Equations
+pub mod Meaning
 pub mod Same
 pub mod Sets
 pub mod Simple

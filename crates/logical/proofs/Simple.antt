@@ -10,7 +10,7 @@ use Rattle.binder.specs.declared.query.From.TheVariants as from
 use Rattle.binder.specs.declared.query.Cond.{Cond}
 use Rattle.binder.specs.declared.query.Item.{Item}
 use Rattle.binder.specs.declared.query.Query.{Query}
-use Rattle.logical.specs.Frame.{IsSimple, frame_of, frame_over}
+use Rattle.logical.specs.Frame.{IsSimple, frame_of, frame_over, shown_columns, item_columns}
 
 -- a FROM names its table
 pub same_occurrence : (q : Query) (s : IsSimple q) (o : Occurrence) → q.block.from ≡ from.Table o → o ≡ s.occurrence
@@ -36,3 +36,8 @@ over-has-lines n t (Some c) items = omega arith
 -- a simple query has a frame
 pub frame_has_lines : (q : Query) (s : IsSimple q) → 0 < length (frame_of q)
 frame_has_lines q s = rw (frame_is q s.occurrence s.table s.from s.found) (over-has-lines s.occurrence.number s.table q.block.filter q.block.items)
+
+-- the columns that it shows
+pub shown_is : (q : Query) (s : IsSimple q) → shown_columns q ≡ item_columns (Some s.table) q.block.items
+unfolding shown_columns
+shown_is q s = rw (s.from, table-layer, s.found) refl

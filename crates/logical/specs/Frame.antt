@@ -19,7 +19,12 @@ use Rattle.logical.specs.declared.condition.Term as own
 use Rattle.logical.specs.declared.condition.Term.TheVariants as number
 use Rattle.logical.specs.declared.expr.Expr.{Expr}
 use Rattle.logical.specs.declared.expr.Expr.TheVariants.{Get, Select, Keep}
+use Rattle.schema.specs.Databases.{Row}
+use Rattle.binder.specs.Rows.{Tables, IsFitting, count}
+use Rattle.binder.specs.Meaning.{often}
 use Rattle.logical.specs.Columns.{rising}
+use Rattle.logical.specs.Bags.{Env}
+use Rattle.logical.specs.Classes.{root_rows}
 use Rattle.logical.specs.Expressions.{NumbersFit}
 
 -- ---- queries of one table with at most a comparison
@@ -53,6 +58,7 @@ pub record IsSimple (q : Query) : Type 0 where
   pub ungrouped : q.block.grouped ≡ false
   pub keeps_all : q.block.distinct ≡ false
   pub items : AllByRecursion (IsSimpleItem (length table.entry.columns)) q.block.items
+  pub unordered : q.order ≡ []
 
 -- ---- the frame
 
@@ -101,3 +107,14 @@ frame_from uses filter items _ = []
 -- the frame of a simple query
 unfoldable pub frame_of : Query → List Expr
 frame_of q = frame_from q.tables q.block.filter q.block.items (out-From q.block.from)
+
+-- ---- what it means
+
+-- the query's columns of rows
+abbrev pub shown : Query → List Env → List Row
+shown q rows = map (λ r. map r (shown_columns q)) rows
+
+-- the rows of the class that the last line founds, cut to the query's columns, are those that answer the query: in every
+-- database and every environment, each as often
+abbrev pub MeansQuery : Query → List Expr → Type 0
+MeansQuery q lines = (D : Tables) → IsFitting D → (e : Env) (r : Row) → count r (shown q (root_rows q.tables D lines e)) ≡ often q.block D [] r

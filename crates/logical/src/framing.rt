@@ -16,7 +16,8 @@ use values::{Boxed, Items};
 /// The expressions that found the query's classes, each naming earlier ones. The last is the query's own.
 pub fn frame(alloc: Global, query: &Query) -> Result<Items<Expr>, AllocError>
     requires { spec.IsSimple query.now }
-    ensures { IfOk result (λ lines. lines ≡ spec.frame_of query.now) }
+    ensures lines { IfOk result (λ lines. lines ≡ spec.frame_of query.now) }
+    ensures meaning { IfOk result (spec.MeansQuery query.now) }
 {
     let block = &query.block;
     match &block.from {
