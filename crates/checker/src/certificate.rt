@@ -1,5 +1,8 @@
 //! What a certificate is, and why one is refused.
 
+ghost use Rattle.std.specs.Prelude.{◌≡◌};
+ghost use Rattle.checker.specs.Codes.{name_of};
+
 use logical::{Columns, Conjuncts, Expr};
 use thiserror::Error;
 use values::{Fault, Items};
@@ -35,38 +38,48 @@ pub struct Certificate {
     pub plan: Plan,
 }
 
-/// What is wrong with a line or a node. Displayed by its code, `K01` to `K08`.
-#[derive(Clone, Copy, Debug, PartialEq, Eq, Error)]
+/// What is wrong with a line or a node.
+#[derive(Clone, Copy, Debug, PartialEq, Eq)]
 pub enum CheckCode {
     /// A number names no earlier line, or as a class a line that founds none.
-    #[error("K01")]
     UnknownLine,
     /// What the line cites isn't of the form that it needs.
-    #[error("K02")]
     OtherForm,
     /// The line gives another result, or is another line than the query's own, or the query's own is missing.
-    #[error("K03")]
     OtherLine,
     /// The expression isn't well formed, or the columns aren't its class's.
-    #[error("K04")]
     IllFormed,
     /// The condition under which the line may stand fails.
-    #[error("K05")]
     FailedCondition,
     /// The node implements no cited member of its class.
-    #[error("K06")]
     OtherOperator,
     /// An input doesn't deliver the order that the node needs.
-    #[error("K07")]
     UnsortedInput,
     /// The plan doesn't deliver the query's ORDER BY.
-    #[error("K08")]
     UnsortedAnswer,
+}
+
+impl CheckCode {
+    /// The name by which the program tells it.
+    pub fn name(self) -> &'static str
+        ensures { result.now ≡ name_of self }
+    {
+        match self {
+            CheckCode::UnknownLine => "K01",
+            CheckCode::OtherForm => "K02",
+            CheckCode::OtherLine => "K03",
+            CheckCode::IllFormed => "K04",
+            CheckCode::FailedCondition => "K05",
+            CheckCode::OtherOperator => "K06",
+            CheckCode::UnsortedInput => "K07",
+            CheckCode::UnsortedAnswer => "K08",
+        }
+    }
 }
 
 /// The first fault of a certificate.
 #[derive(Clone, Copy, Debug, PartialEq, Eq, Error)]
-#[error("{code} line {line}")]
+#[error("{} line {line}", .code.name())]
 pub struct CheckRefusal {
     /// The number of the faulty line, or of the faulty node: nodes are numbered on from the lines, each before its inputs.
     pub line: usize,

@@ -3,6 +3,7 @@ pub mod Binding
 pub mod Canonical
 pub mod Devices
 pub mod Grammar
+pub mod Lines
 pub mod Refusals
 pub mod StoreFaults
 pub mod StoreInput

@@ -1,7 +1,10 @@
 //! Why a query has no answer, and the line that tells it.
 
-ghost use Rattle.std.specs.Prelude.{◌≡◌};
+ghost use Rattle.std.specs.Prelude.{◌≡◌, ◌++◌, codes, decimal, string_bytes, IfOk};
+ghost use Rattle.std.specs.Option.{option_copied};
 ghost use Rattle.sqlplan.specs.Refusals as spec;
+ghost use Rattle.sqlplan.specs.Lines as lines;
+ghost use Rattle.sqlplan.specs.StoreFaults.{code_of, earlier_of};
 
 use crate::answer::AnswerFault;
 use crate::binding::{BindFault, BindRefusal};
@@ -143,7 +146,9 @@ impl Refusal {
     }
 }
 
-fn name_of(schema: Option<&Schema>, table: usize) -> &str {
+fn name_of(schema: Option<&Schema>, table: usize) -> &str
+    ensures { result.now ≡ lines.table_name (option_copied schema.entry) table }
+{
     match schema {
         Some(schema) => match schema.tables.get(table) {
             Some(entry) => entry.name.as_str(),
@@ -157,7 +162,9 @@ fn table_line(
     alloc: Global,
     name: &str,
     refusal: TableRefusal,
-) -> Result<String, AllocError> {
+) -> Result<String, AllocError>
+    ensures { IfOk result (λ line. string_bytes line ≡ codes "refused " ++ (code_of refusal.cause ++ (codes " " ++ (name.now ++ (codes " row " ++ (decimal refusal.row ++ lines.earlier_text (earlier_of refusal.cause))))))) }
+{
     let code = refusal.code();
     let row = refusal.row;
     match refusal.earlier() {
@@ -171,7 +178,9 @@ pub fn fault_line(
     alloc: Global,
     refusal: &Refusal,
     schema: Option<&Schema>,
-) -> Result<String, AllocError> {
+) -> Result<String, AllocError>
+    ensures { IfOk result (λ line. string_bytes line ≡ lines.line_of (option_copied schema.entry) refusal.now) }
+{
     match refusal {
         Refusal::Memory => String::from_str(alloc, "memory"),
         Refusal::Schema(refusal) => {
@@ -189,7 +198,7 @@ pub fn fault_line(
             format!(in alloc; "refused {code} at {at}")
         }
         Refusal::Check(refusal) => {
-            let code = refusal.code;
+            let code = refusal.code.name();
             let line = refusal.line;
             format!(in alloc; "refused {code} line {line}")
         }

@@ -1,6 +1,7 @@
 //! Why a tree is no query over a schema.
 
 ghost use Rattle.std.specs.Prelude.{◌≡◌};
+ghost use Rattle.sqlplan.specs.Lines.{bind_code};
 
 use thiserror::Error;
 use values::Fault;
@@ -34,7 +35,9 @@ pub enum BindReason {
 
 impl BindReason {
     /// The code by which the program tells it.
-    pub fn code(self) -> &'static str {
+    pub fn code(self) -> &'static str
+        ensures { result.now ≡ bind_code self }
+    {
         match self {
             BindReason::UnknownTable => "B01",
             BindReason::UnknownColumn => "B02",

@@ -1,6 +1,7 @@
 //! Why a text is no query.
 
 ghost use Rattle.std.specs.Prelude.{◌≡◌};
+ghost use Rattle.sqlplan.specs.Lines.{parse_code};
 
 use thiserror::Error;
 use values::Fault;
@@ -24,7 +25,9 @@ pub enum ParseReason {
 
 impl ParseReason {
     /// The code by which the program tells it.
-    pub fn code(self) -> &'static str {
+    pub fn code(self) -> &'static str
+        ensures { result.now ≡ parse_code self }
+    {
         match self {
             ParseReason::NoToken => "P01",
             ParseReason::OpenText => "P02",
