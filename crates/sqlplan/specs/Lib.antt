@@ -2,6 +2,7 @@ pub mod AnswerText
 pub mod Binding
 pub mod Canonical
 pub mod Devices
+pub mod Execution
 pub mod Grammar
 pub mod Lines
 pub mod Refusals
