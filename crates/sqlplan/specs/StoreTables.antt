@@ -20,6 +20,7 @@ use Rattle.sqlplan.specs.declared.store.fault.TableCause.{TableCause}
 use Rattle.sqlplan.specs.declared.store.fault.TableCause.TheVariants.{OtherHeader, OtherLength, Field, Repeated, TooMany}
 use Rattle.sqlplan.specs.declared.store.fault.TableRefusal.{TableRefusal}
 use Rattle.sqlplan.specs.declared.store.records.Parsed.{Parsed}
+use Rattle.sqlplan.specs.declared.store.unique.Repeat.{Repeat}
 
 -- the fields of a record
 abbrev pub Record : Type 0
@@ -136,3 +137,26 @@ pub record Parses (cs : List Column) (records : List Record) (p : Parsed) : Type
 abbrev pub ParsesFile : List Column → List Record → Parsed → Type 0
 ParsesFile cs records p = ((rest : List Record) × (records ≡ names_of cs ∷ rest) × Parses cs rest p)
     ⊎ (((rest : List Record) → records ≢ names_of cs ∷ rest) × (p.rows ≡ []) × (p.fault ≡ Some (record { row = 0; cause = OtherHeader })))
+
+-- of the first n rows no two have the same values at the places, those with a Null among them apart
+abbrev pub UniqueTo : ℕ → List Row → List ℕ → Type 0
+UniqueTo n rows places = (i j : ℕ) → i < j → j < n
+    → list_any is_null (values_at places (slice_index_or rows i [])) ≡ false
+    → values_at places (slice_index_or rows i []) ≢ values_at places (slice_index_or rows j [])
+
+-- the row has the values of an earlier one at the places, with no Null among them
+pub record RepeatsAt (rows : List Row) (row earlier : ℕ) (places : List ℕ) : Type 0 where
+  pub below : earlier < row
+  pub whole : list_any is_null (values_at places (slice_index_or rows earlier [])) ≡ false
+  pub same : values_at places (slice_index_or rows earlier []) ≡ values_at places (slice_index_or rows row [])
+
+-- it does so on one of the lists, and on those before that one it repeats no row
+abbrev pub RepeatsFirst : List Row → ℕ → ℕ → List (List ℕ) → Type 0
+RepeatsFirst rows row earlier [] = ⊥
+RepeatsFirst rows row earlier (places ∷ lists) = RepeatsAt rows row earlier places ⊎ (UniqueTo (row + 1) rows places × RepeatsFirst rows row earlier lists)
+
+-- the first row that repeats an earlier one on some list
+pub record EarliestRepeat (rows : List Row) (lists : List (List ℕ)) (r : Repeat) : Type 0 where
+  pub within : r.row < length rows
+  pub before : AllByRecursion (UniqueTo r.row rows) lists
+  pub there : RepeatsFirst rows r.row r.earlier lists
