@@ -1,3 +1,4 @@
+pub mod StoreDatabases
 pub mod StoreFaults
 pub mod StoreInput
 pub mod StoreReading
