@@ -6,6 +6,7 @@ pub mod Execution
 pub mod Grammar
 pub mod Lines
 pub mod Refusals
+pub mod StoreDatabases
 pub mod StoreFaults
 pub mod StoreInput
 pub mod StoreNumbers

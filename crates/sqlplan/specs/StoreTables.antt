@@ -1,5 +1,5 @@
 -- What the records of a table's file stand for (this project's profile: Null is `\N`, and a text that begins with a backslash has one more).
-use Rattle.std.specs.Prelude.{◌≡◌, ◌≢◌, ◌<◌, ◌≤◌, ◌+◌, ◌==◌, ℕ, ℤ, zero, suc, Bool, true, false, List, [], ◌∷◌, ◌++◌, length, map, take, Option, Some, None, if◌then◌else◌, FitsSigned, codes, ◌⊎◌, slice_index_or}
+use Rattle.std.specs.Prelude.{◌≡◌, ◌≢◌, ◌<◌, ◌≤◌, ◌+◌, ◌==◌, ℕ, ℤ, zero, suc, Bool, true, false, List, [], ◌∷◌, ◌++◌, length, map, take, Option, Some, None, Result, Ok, Err, if◌then◌else◌, FitsSigned, codes, ◌⊎◌, slice_index_or}
 use Rattle.std.specs.Int.{w64}
 use Rattle.std.specs.Fmt.{signed_decimal}
 use Rattle.std.specs.List.{AllByRecursion, list_any}
@@ -19,7 +19,10 @@ use Rattle.sqlplan.specs.declared.store.fault.FieldFault.TheVariants.{BadEscape,
 use Rattle.sqlplan.specs.declared.store.fault.TableCause.{TableCause}
 use Rattle.sqlplan.specs.declared.store.fault.TableCause.TheVariants.{OtherHeader, OtherLength, Field, Repeated, TooMany}
 use Rattle.sqlplan.specs.declared.store.fault.TableRefusal.{TableRefusal}
+use Rattle.sqlplan.specs.declared.store.fault.TableFault.{TableFault}
+use Rattle.sqlplan.specs.declared.store.fault.TableFault.TheVariants as faults
 use Rattle.sqlplan.specs.declared.store.records.Parsed.{Parsed}
+use Rattle.sqlplan.specs.declared.store.unique.Repeat.{Repeat}
 
 -- the fields of a record
 abbrev pub Record : Type 0
@@ -136,3 +139,64 @@ pub record Parses (cs : List Column) (records : List Record) (p : Parsed) : Type
 abbrev pub ParsesFile : List Column → List Record → Parsed → Type 0
 ParsesFile cs records p = ((rest : List Record) × (records ≡ names_of cs ∷ rest) × Parses cs rest p)
     ⊎ (((rest : List Record) → records ≢ names_of cs ∷ rest) × (p.rows ≡ []) × (p.fault ≡ Some (record { row = 0; cause = OtherHeader })))
+
+-- of the first n rows no two have the same values at the places, those with a Null among them apart
+abbrev pub UniqueTo : ℕ → List Row → List ℕ → Type 0
+UniqueTo n rows places = (i j : ℕ) → i < j → j < n
+    → list_any is_null (values_at places (slice_index_or rows i [])) ≡ false
+    → values_at places (slice_index_or rows i []) ≢ values_at places (slice_index_or rows j [])
+
+-- the row has the values of an earlier one at the places, with no Null among them
+pub record RepeatsAt (rows : List Row) (row earlier : ℕ) (places : List ℕ) : Type 0 where
+  pub below : earlier < row
+  pub whole : list_any is_null (values_at places (slice_index_or rows earlier [])) ≡ false
+  pub same : values_at places (slice_index_or rows earlier []) ≡ values_at places (slice_index_or rows row [])
+
+-- it does so on one of the lists, and on those before that one it repeats no row
+abbrev pub RepeatsFirst : List Row → ℕ → ℕ → List (List ℕ) → Type 0
+RepeatsFirst rows row earlier [] = ⊥
+RepeatsFirst rows row earlier (places ∷ lists) = RepeatsAt rows row earlier places ⊎ (UniqueTo (row + 1) rows places × RepeatsFirst rows row earlier lists)
+
+-- the first row that repeats an earlier one on some list
+pub record EarliestRepeat (rows : List Row) (lists : List (List ℕ)) (r : Repeat) : Type 0 where
+  pub within : r.row < length rows
+  pub before : AllByRecursion (UniqueTo r.row rows) lists
+  pub there : RepeatsFirst rows r.row r.earlier lists
+
+-- the records are the names of the columns and then the rows, which are such as the table's entry allows
+pub record IsTable (t : Table) (records : List Record) (rows : List Row) : Type 0 where
+  pub records_are : records ≡ names_of t.columns ∷ map (map field_of) rows
+  pub text : AllByRecursion (AllByRecursion IsText) rows
+  pub satisfies : SatisfiesTable t rows
+
+-- what is wrong with the record after the rows: it stands for none, or for one that repeats an earlier one
+abbrev pub FaultAfter : Table → List Row → Record → TableCause → Type 0
+FaultAfter t rows fs OtherHeader = ⊥
+FaultAfter t rows fs OtherLength = RecordFails t.columns (length rows) fs OtherLength
+FaultAfter t rows fs (Field place wrong) = RecordFails t.columns (length rows) fs (Field place wrong)
+FaultAfter t rows fs TooMany = RecordFails t.columns (length rows) fs TooMany
+FaultAfter t rows fs (Repeated earlier) = (length rows < most_rows)
+    × ((row : Row) × StandFor t.columns fs row × ((e : ℕ) × (earlier ≡ e + 1) × RepeatsFirst (rows ++ row ∷ []) (length rows) e t.unique))
+
+-- the rows before the first faulty record, and its fault
+pub record IsFaulty (t : Table) (records : List Record) (refusal : TableRefusal) : Type 0 where
+  pub rows : List Row
+  pub faulty : Record
+  pub more : List Record
+  pub records_are : records ≡ names_of t.columns ∷ (map (map field_of) rows ++ faulty ∷ more)
+  pub text : AllByRecursion (AllByRecursion IsText) rows
+  pub satisfies : SatisfiesTable t rows
+  pub row_is : refusal.row ≡ length rows + 1
+  pub fault : FaultAfter t rows faulty refusal.cause
+
+-- the first fault of a table's file
+abbrev pub IsFirstFault : Table → List Record → TableRefusal → Type 0
+IsFirstFault t records refusal = (((rest : List Record) → records ≢ names_of t.columns ∷ rest) × (refusal ≡ record { row = 0; cause = OtherHeader }))
+    ⊎ IsFaulty t records refusal
+
+-- a table's records are read: they are the rows, or their first fault is told
+abbrev pub ReadsTable : Table → List Record → Result (List Row) TableFault → Type 0
+ReadsTable t records (Ok rows) = IsTable t records rows
+ReadsTable t records (Err faults.Memory) = Unit {0}
+ReadsTable t records (Err faults.Device) = ⊥
+ReadsTable t records (Err (faults.Refused refusal)) = IsFirstFault t records refusal

@@ -1,5 +1,13 @@
 //! The tables of a schema.
 
+ghost use Rattle.std.specs.Prelude.{◌≡◌, ◌<◌, [], List, length, map, slice_get, slice_index_or, Some, IfOk, IfErr, OnOk, OnErr, IfSome};
+ghost use Rattle.csv.specs.Reading.{default_config, records, strip_bom};
+ghost use Rattle.schema.specs.Databases.{Satisfies};
+ghost use Rattle.sqlplan.specs.declared.store.fault.TableFault.TheVariants as faults;
+ghost use Rattle.sqlplan.specs.StoreInput.{Rose};
+ghost use Rattle.sqlplan.specs.StoreTables.{ReadsTable};
+ghost use Rattle.sqlplan.specs.StoreDatabases.{Loads};
+
 use crate::store::fault::{TableCause, TableFault, TableRefusal};
 use crate::store::input::{InputFault, TableInput, read_all};
 use crate::store::records::parse;
@@ -7,16 +15,30 @@ use crate::store::table::Table;
 use crate::store::unique::earliest_repeat;
 use schema::Schema;
 use std::alloc::{AllocError, Global};
+use std::marker::Model;
 
-/// A schema's tables, in its order.
+/// A schema's tables, in its order. They satisfy it.
 #[derive(Drop)]
 pub struct Database<'s> {
     schema: &'s Schema,
     tables: Vec<Table>,
 }
 
-/// The table that the bytes of its file are.
-fn table_of(alloc: Global, entry: &schema::Table, bytes: &[u8]) -> Result<Table, TableFault> {
+impl<'s> Model for Database<'s> {
+    ghost use Rattle.schema.specs.Databases.{Satisfies};
+    ghost use Rattle.sqlplan.specs.StoreDatabases.{Stored};
+
+    ghost Value = { Stored };
+
+    ghost view = { λ d. record { schema = d.schema.now; tables = d.tables.items } };
+
+    ghost invariant = { λ d. Satisfies d.schema.now d.tables.items };
+}
+
+/// The table whose file the bytes are.
+fn table_of(alloc: Global, entry: &schema::Table, bytes: &[u8]) -> Result<Table, TableFault>
+    ensures { ReadsTable entry.now (records default_config (strip_bom bytes.now)) result }
+{
     let columns = entry.columns.as_slice();
     let Ok(parsed) = parse(alloc, columns, bytes) else {
         return Err(TableFault::Memory);
@@ -36,9 +58,19 @@ fn table_of(alloc: Global, entry: &schema::Table, bytes: &[u8]) -> Result<Table,
     }
 }
 
+/// The entry of the table with this number.
+fn entry_of(schema: &Schema, number: usize) -> &schema::Table
+    requires { number < length schema.now.tables }
+    ensures { slice_get schema.now.tables number ≡ Some result.now }
+{
+    &schema.tables.as_slice()[number]
+}
+
 impl<'s> Database<'s> {
     /// The schema's tables, all of them empty.
-    pub fn new(alloc: Global, schema: &'s Schema) -> Result<Database<'s>, AllocError> {
+    pub fn new(alloc: Global, schema: &'s Schema) -> Result<Database<'s>, AllocError>
+        ensures { IfOk result (λ d. d ≡ record { schema = schema.now; tables = map (λ t. []) schema.now.tables }) }
+    {
         let mut tables = Vec::new(alloc);
         for entry in schema.tables.as_slice() {
             tables.push(Table::empty(alloc, entry.columns.len()))?;
@@ -46,12 +78,26 @@ impl<'s> Database<'s> {
         Ok(Database { schema, tables })
     }
 
+    pub fn schema(&self) -> &'s Schema
+        ensures { result.now ≡ self.now.schema }
+    {
+        self.schema
+    }
+
     /// The tables, in the order of the schema.
-    pub fn tables(&self) -> &[Table] {
+    pub fn tables(&self) -> &[Table]
+        ensures tables { result.now ≡ self.now.tables }
+        ensures satisfies { Satisfies self.now.schema self.now.tables }
+    {
         self.tables.as_slice()
     }
 
-    pub fn table(&self, number: usize) -> &Table {
+    /// The table with this number in the schema.
+    pub fn table(&self, number: usize) -> &Table
+        requires { number < length self.now.tables }
+        ensures table { result.now ≡ slice_index_or self.now.tables number [] }
+        ensures satisfies { Satisfies self.now.schema self.now.tables }
+    {
         &self.tables[number]
     }
 
@@ -61,17 +107,21 @@ impl<'s> Database<'s> {
         alloc: Global,
         table: usize,
         input: &mut R,
-    ) -> Result<(), TableFault> {
+    ) -> Result<(), TableFault>
+        requires { table < length self.old.tables }
+        ensures exact { IfSome (R.remaining input.old) (λ bytes. Loads self.old self.new table (records default_config (strip_bom bytes)) result) }
+        ensures schema { self.new.schema ≡ self.old.schema }
+        ensures err { OnErr result (self.new ≡ self.old) }
+        ensures quiet { OnOk result (R.failures input.new ≡ R.failures input.old) }
+        ensures device { IfErr result (λ e. e ≡ faults.Device → Rose (R.failures input.old) (R.failures input.new)) }
+    {
         let bytes = match read_all(alloc, input) {
             Ok(bytes) => bytes,
             Err(InputFault::Memory) => return Err(TableFault::Memory),
             Err(InputFault::Device) => return Err(TableFault::Device),
         };
-        let loaded = table_of(
-            alloc,
-            &self.schema.tables.as_slice()[table],
-            bytes.as_slice(),
-        )?;
+        let entry = entry_of(self.schema, table);
+        let loaded = table_of(alloc, entry, bytes.as_slice())?;
         self.tables[table] = loaded;
         Ok(())
     }

@@ -42,7 +42,8 @@ impl Read for Trickle<'_> {
             return Err(io::Error::from(ErrorKind::Other));
         }
         let mut rest = self.left;
-        let count = rest.read(&mut buffer[..3])?;
+        let few = buffer.len().min(3);
+        let count = rest.read(&mut buffer[..few])?;
         self.left = rest;
         Ok(count)
     }

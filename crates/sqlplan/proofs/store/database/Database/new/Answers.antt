@@ -1,0 +1,20 @@
+use Rattle.std.proofs.Common.{◌≡◌, ◌∙◌, ◌∷◌, [], List, map, take, sym, ap, subst, arith}
+use Rattle.std.proofs.lemmas.List.{map_push, take_all}
+use Rattle.schema.specs.declared.schema.Table.{Table}
+use Rattle.schema.specs.Databases.{Row, Database, Satisfies}
+use Rattle.sqlplan.proofs.StoreRepeats.{take_next}
+use Rattle.sqlplan.proofs.StoreSatisfies.{satisfy_empty}
+use Rattle.sqlplan.proofs.store.database.Database.new.Goals as goal
+
+empty_of : Table → List Row
+empty_of t = []
+
+pub loop-entry-preserved : goal.loop-entry-preserved
+loop-entry-preserved c =
+    let next = take_next c.as_slice-entry-items.result.now c.loop-entry.entry-index c.entry-item.result (omega arith) c.entry-item.is in
+    rw (c.in_ok-push.ensures.items, c.empty.ensures, c.loop-entry.invariant, next) (sym (map_push (λ (t : Table). []) (take c.loop-entry.entry-index c.as_slice-entry-items.result.now) c.entry-item.result))
+
+pub invariant_of-result : goal.invariant_of-result
+invariant_of-result c =
+    let all = take_all c.loop-entry.entry-index c.as_slice-entry-items.result.now (omega arith) in
+    rw (c.loop-entry.invariant, all, c.as_slice-entry-items.ensures) (satisfy_empty c.args.schema.now.tables)
