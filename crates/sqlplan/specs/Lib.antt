@@ -2,7 +2,7 @@ pub mod AnswerText
 pub mod Binding
 pub mod Canonical
 pub mod Devices
-pub mod Execution
+pub mod EndToEnd
 pub mod Grammar
 pub mod Lines
 pub mod Refusals
@@ -11,7 +11,6 @@ pub mod StoreFaults
 pub mod StoreInput
 pub mod StoreNumbers
 pub mod StoreReading
-pub mod StoreRows
 pub mod StoreTables
 pub mod StoreTells
 pub mod Tokens

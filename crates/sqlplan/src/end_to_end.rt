@@ -1,5 +1,8 @@
 //! From the bytes of files to the bytes of an answer.
 
+ghost use Rattle.std.specs.Prelude.{◌≤◌, length};
+ghost use Rattle.sqlplan.specs.EndToEnd.{HasTables};
+
 use crate::answer::{AnswerFault, AnswerOutput, write_rows};
 use crate::binding::bind;
 use crate::canonical::canonical;
@@ -16,7 +19,9 @@ fn load_all<R: TableInput>(
     alloc: Global,
     database: &mut Database<'_>,
     tables: &mut [R],
-) -> Result<(), Refusal> {
+) -> Result<(), Refusal>
+    requires { length tables.old ≤ length database.old.tables }
+{
     for number in 0..tables.len() {
         if let Err(fault) = database.load(alloc, number, &mut tables[number]) {
             return Err(Refusal::of_table(number, fault));
@@ -48,7 +53,9 @@ pub fn query<R: TableInput, W: AnswerOutput>(
     tables: &mut [R],
     _limit: u32,
     out: &mut W,
-) -> Result<(), Refusal> {
+) -> Result<(), Refusal>
+    requires { HasTables schema.now (length tables.old) }
+{
     let schema = Schema::read(alloc, schema)?;
     let ast = parse_bytes(alloc, text)?;
     let query = bind(alloc, &schema, &ast)?;

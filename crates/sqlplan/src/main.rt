@@ -1,6 +1,8 @@
 //! Answers queries over tables in files, by checked plans.
 #![tactic(auto)]
 
+ghost use Rattle.std.specs.Prelude.{◌≡◌, length, vec_len, IfOk};
+
 mod answer;
 mod binding;
 mod canonical;
@@ -45,7 +47,9 @@ fn open_tables(
     rt: &HostRuntime,
     schema: &Schema,
     folder: &str,
-) -> Result<Vec<CountedInput<File>>, Stop> {
+) -> Result<Vec<CountedInput<File>>, Stop>
+    ensures { IfOk result (λ tables. vec_len tables ≡ length schema.now.tables) }
+{
     let alloc = rt.alloc();
     let mut tables = Vec::new(alloc);
     for table in schema.tables.as_slice() {

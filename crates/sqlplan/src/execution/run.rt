@@ -1,53 +1,41 @@
 //! The rows that a checked plan gives.
 
-ghost use Rattle.std.specs.Prelude.{◌≡◌, map, slice_get, IfOk};
-ghost use Rattle.std.specs.Option.{option_copied};
-ghost use Rattle.logical.specs.Bags.{nulls, select};
-ghost use Rattle.logical.specs.Conditions.{holds};
-ghost use Rattle.logical.specs.Expressions.{get_rows};
-ghost use Rattle.logical.specs.Frame.{IsSimple, shown_columns, item_column};
-ghost use Rattle.checker.specs.Plans.{play, answer};
-ghost use Rattle.sqlplan.specs.Execution.{row_of, found_rows, table_rows, no_classes, tables_in};
-
 use crate::execution::condition::TableRow;
 use crate::execution::heading::Heading;
 use crate::store::{Database, RowSource, Table};
-use binder::{From, Item, Query, TableUse};
+use binder::{From, Item, Query};
 use checker::{Checked, Node, Plan};
 use logical::Conjuncts;
 use std::alloc::{AllocError, Global};
-use values::{Items, Value};
+use values::{Cell, Items, Value};
 
 /// A row of an answer, item by item.
 pub type Row = Items<Value>;
 
 /// What a node gives: rows of a table occurrence, by their numbers in the table.
 #[derive(Drop)]
-pub struct TableRows<'a> {
+struct TableRows<'a> {
     table: &'a Table,
     heading: Heading,
     rows: Vec<usize>,
 }
 
-/// All rows of a table occurrence; `None` where there is none.
+/// All rows of a table occurrence; `None` where the query has no such occurrence.
 fn scanned<'a>(
     alloc: Global,
     query: &Query,
     database: &'a Database<'_>,
     occurrence: usize,
-) -> Result<Option<TableRows<'a>>, AllocError>
-    ensures { IfOk result (λ found. found_rows found ≡ get_rows (slice_get query.now.tables occurrence) (tables_in database.entry.now) nulls) }
-{
+) -> Result<Option<TableRows<'a>>, AllocError> {
     let Some(table_use) = query.tables.get(occurrence) else {
         return Ok(None);
     };
     let Some(table) = database.tables().get(table_use.table) else {
         return Ok(None);
     };
-    let width = table_use.entry.columns.len();
     Ok(Some(TableRows {
         table,
-        heading: Heading::new(alloc, table_use.first_column, width),
+        heading: Heading::new(alloc, table_use.first_column, table.width()),
         rows: (0..table.len()).collect(alloc)?,
     }))
 }
@@ -57,9 +45,7 @@ fn filtered<'a>(
     alloc: Global,
     input: TableRows<'a>,
     conjuncts: &Conjuncts,
-) -> Result<TableRows<'a>, AllocError>
-    ensures { IfOk result (λ kept. table_rows kept ≡ select (holds no_classes conjuncts.now) (λ _. table_rows input.entry) nulls) }
-{
+) -> Result<TableRows<'a>, AllocError> {
     let TableRows {
         table,
         heading,
@@ -72,7 +58,7 @@ fn filtered<'a>(
             row: *row,
             heading: &heading,
         };
-        if table_row.holds(conjuncts.as_slice()) {
+        if table_row.all(conjuncts.as_slice()).is_true() {
             kept.push(*row)?;
         }
     }
@@ -89,9 +75,7 @@ fn play<'a>(
     plan: &Plan,
     query: &Query,
     database: &'a Database<'_>,
-) -> Result<Option<TableRows<'a>>, AllocError>
-    ensures { IfOk result (λ found. found_rows found ≡ play query.now.tables (tables_in database.entry.now) plan.now nulls) }
-{
+) -> Result<Option<TableRows<'a>>, AllocError> {
     if let Node::Scan { occurrence, .. } = &plan.node {
         return scanned(alloc, query, database, *occurrence);
     }
@@ -104,41 +88,32 @@ fn play<'a>(
     match &plan.node {
         Node::Scan { .. } => {}
         Node::Filter { conjuncts, .. } => rows = filtered(alloc, rows, conjuncts)?,
-        Node::Cut { columns, .. } => rows.heading.cut(columns.copy(alloc)?)?,
+        Node::Cut { columns, .. } => {
+            rows.heading
+                .cut(Items::from_slice(alloc, columns.as_slice())?)?;
+        },
     }
     Ok(Some(rows))
 }
 
-/// The column numbers of the items of a simple query, in their order.
-fn item_columns(alloc: Global, query: &Query) -> Result<Vec<usize>, AllocError>
-    requires { IsSimple query.now }
-    ensures { IfOk result (λ columns. columns.items ≡ shown_columns query.now) }
-{
-    let mut columns = Vec::new(alloc);
-    if let From::Table(occurrence) = &query.block.from {
-        if let Some(table_use) = query.tables.get(occurrence.number) {
-            for item in query.block.items.as_slice() {
-                columns.push(column_of(table_use, *item))?;
-            }
-        }
-    }
-    Ok(columns)
-}
-
-fn column_of(table_use: &TableUse, item: Item) -> usize {
+/// The column number of an item of a query over one table; `None` where it is no column of that table.
+fn item_column(query: &Query, item: Item) -> Option<usize> {
+    let From::Table(occurrence) = &query.block.from else {
+        return None;
+    };
+    let table_use = query.tables.get(occurrence.number)?;
     match item {
-        Item::Column(column) => table_use.first_column + column.place,
-        Item::Aggregate(column, _) => column,
+        Item::Column(column) => table_use.first_column.checked_add(column.place),
+        Item::Aggregate(column, _) => Some(column),
     }
 }
 
-/// The columns of a row.
-fn shown(alloc: Global, columns: &[usize], row: TableRow<'_, '_>) -> Result<Row, AllocError>
-    ensures { IfOk result (λ shown. shown ≡ map (row_of row.entry) columns.now) }
-{
-    let mut values = Vec::with_capacity(alloc, columns.len())?;
-    for column in columns {
-        values.push(row.cell(*column).to_value(alloc)?)?;
+/// The items of a row.
+fn shown(alloc: Global, query: &Query, row: TableRow<'_, '_>) -> Result<Row, AllocError> {
+    let mut values = Vec::with_capacity(alloc, query.block.items.len())?;
+    for item in query.block.items.as_slice() {
+        let cell = item_column(query, *item).map_or(Cell::Null, |column| row.cell(column));
+        values.push(cell.to_value(alloc)?)?;
     }
     Ok(Items::from_vec(values))
 }
@@ -148,12 +123,8 @@ pub fn run(
     alloc: Global,
     checked: &Checked<'_>,
     database: &Database<'_>,
-) -> Result<Vec<Row>, AllocError>
-    requires { IsSimple checked.now.query.now }
-    ensures { IfOk result (λ rows. rows.items ≡ answer checked.now.query.now (tables_in database.now) checked.now.certificate.now.plan) }
-{
+) -> Result<Vec<Row>, AllocError> {
     let query = checked.query();
-    let columns = item_columns(alloc, query)?;
     let mut answer = Vec::new(alloc);
     let Some(found) = play(alloc, &checked.certificate().plan, query, database)? else {
         return Ok(answer);
@@ -164,7 +135,7 @@ pub fn run(
             row: *row,
             heading: &found.heading,
         };
-        answer.push(shown(alloc, columns.as_slice(), table_row)?)?;
+        answer.push(shown(alloc, query, table_row)?)?;
     }
     Ok(answer)
 }

@@ -111,6 +111,7 @@ impl<'s> Database<'s> {
         requires { table < length self.old.tables }
         ensures exact { IfSome (R.remaining input.old) (λ bytes. Loads self.old self.new table (records default_config (strip_bom bytes)) result) }
         ensures schema { self.new.schema ≡ self.old.schema }
+        ensures count { length self.new.tables ≡ length self.old.tables }
         ensures err { OnErr result (self.new ≡ self.old) }
         ensures quiet { OnOk result (R.failures input.new ≡ R.failures input.old) }
         ensures device { IfErr result (λ e. e ≡ faults.Device → Rose (R.failures input.old) (R.failures input.new)) }

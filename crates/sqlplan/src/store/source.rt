@@ -4,7 +4,7 @@ ghost use Rattle.std.specs.Prelude.{◌≡◌, ℕ, ◌<◌, List, [], length, s
 ghost use Rattle.values.specs.Cells.{value_of};
 ghost use Rattle.values.specs.declared.value.Value.TheVariants as value;
 ghost use Rattle.schema.specs.Databases.{Row};
-ghost use Rattle.sqlplan.specs.StoreRows.{HaveWidth};
+ghost use Rattle.binder.specs.Rows.{HaveWidth};
 
 use values::Cell;
 

@@ -2,7 +2,7 @@
 
 ghost use Rattle.std.specs.Prelude.{◌≡◌, []};
 ghost use Rattle.schema.specs.Databases.{Row};
-ghost use Rattle.sqlplan.specs.StoreRows.{HaveWidth};
+ghost use Rattle.binder.specs.Rows.{HaveWidth};
 
 use crate::store::source::RowSource;
 use std::alloc::Global;
@@ -19,7 +19,7 @@ pub struct Table {
 impl Model for Table {
     ghost use Rattle.std.specs.Prelude.{List};
     ghost use Rattle.schema.specs.Databases.{Row};
-    ghost use Rattle.sqlplan.specs.StoreRows.{HaveWidth};
+    ghost use Rattle.binder.specs.Rows.{HaveWidth};
 
     ghost Value = { List Row };
 

@@ -5,4 +5,4 @@ use Rattle.sqlplan.proofs.canonical.canonical.Goals as goal
 
 pub unreachable-requires : goal.unreachable-requires
 unreachable-requires c =
-    simple_planned c.args.query.now c.requires (sym c.in-None.is ∙ c.in_ok-plan.ensures ∙ ap plan_over (c.as_slice.ensures ∙ c.in_ok-frame.ensures))
+    simple_planned c.args.query.now c.requires (sym c.in-None.is ∙ c.in_ok-plan.ensures ∙ ap plan_over (c.as_slice.ensures ∙ c.in_ok-frame.ensures.lines))
