@@ -15,8 +15,8 @@ use Rattle.logical.specs.Frame.{IsSimple, frame_of, shown}
 use Rattle.logical.proofs.Meaning.{means_query}
 use Rattle.logical.proofs.Simple.{frame_has_lines}
 use Rattle.checker.specs.declared.certificate.Certificate.{Certificate}
-use Rattle.checker.specs.Plans.{play, answer, IsRight}
-use Rattle.checker.specs.Replay.{founding, lines_replay, plan_fits, root, replayed}
+use Rattle.checker.specs.Plans.{play, answer}
+use Rattle.checker.specs.Replay.{founding, lines_replay, plan_fits, root, replayed, IsChecked}
 use Rattle.checker.proofs.Chains.{both_ok}
 use Rattle.checker.proofs.Founded.{begins, later}
 use Rattle.checker.proofs.Plays.{plays}
@@ -44,10 +44,13 @@ plays-root q s c d D e ok =
     let begin = begins q lines [] first.0 first.1 in
     plays q D lines first.0 first.1 c.plan (root q) (length first.0) second.0 second.1 e ∙ root-is q s D lines begin.0 e begin.1
 
-pub right : (S : Schema) (q : Query) (s : IsSimple q) (c d : Certificate) → replayed q c ≡ Ok d → IsRight S q c.plan
-right S q s c d ok D satisfies =
+pub checked : (S : Schema) (q : Query) (s : IsSimple q) (c : Certificate) → replayed q c ≡ Ok c → IsChecked S q c
+checked S q s c ok = record {
+  replays = ok;
+  answers = λ D satisfies.
     let T : Tables = tables_of S D in
     record {
-      spread = λ r. ap (λ rows. count r (shown q rows)) (plays-root q s c d T nulls ok) ∙ means_query q s T (satisfying_fits S D satisfies) nulls r;
+      spread = λ r. ap (λ rows. count r (shown q rows)) (plays-root q s c c T nulls ok) ∙ means_query q s T (satisfying_fits S D satisfies) nulls r;
       ordered = subst (λ keys. IsAllowed keys (answer q T c.plan)) (sym s.unordered) (any-order (answer q T c.plan));
-    }
+    };
+}

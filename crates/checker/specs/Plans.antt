@@ -1,11 +1,9 @@
 -- What a plan plays, and the answer that it gives.
 use Rattle.std.specs.Prelude.{List, [], ◌∷◌, map, slice_get}
-use Rattle.schema.specs.declared.schema.Schema.{Schema}
-use Rattle.schema.specs.Databases.{Row, Database, Satisfies}
+use Rattle.schema.specs.Databases.{Row}
 use Rattle.binder.specs.declared.query.TableUse.{TableUse}
 use Rattle.binder.specs.declared.query.Query.{Query}
-use Rattle.binder.specs.Rows.{Tables, tables_of}
-use Rattle.binder.specs.Answer.{IsAnswer}
+use Rattle.binder.specs.Rows.{Tables}
 use Rattle.logical.specs.Columns.{has}
 use Rattle.logical.specs.Bags.{Bag, nulls, select, keep}
 use Rattle.logical.specs.Conditions.{holds}
@@ -40,7 +38,3 @@ play uses D = fold-Plan Bag (play_layer uses D)
 -- the query's columns of the rows that a plan plays where no column has a value
 abbrev pub answer : Query → Tables → Plan → List Row
 answer q D plan = map (λ r. map r (shown_columns q)) (play q.tables D plan nulls)
-
--- in each database that satisfies the schema, the plan gives an answer of the query
-abbrev pub IsRight : Schema → Query → Plan → Type 0
-IsRight S q plan = (D : Database) → Satisfies S D → IsAnswer q (tables_of S D) (answer q (tables_of S D) plan)

@@ -3,8 +3,7 @@
 ghost use Rattle.std.specs.Prelude.{◌≡◌, IfOk};
 ghost use Rattle.values.specs.Faults.{Gives};
 ghost use Rattle.logical.specs.Frame.{IsSimple};
-ghost use Rattle.checker.specs.Plans.{IsRight};
-ghost use Rattle.checker.specs.Replay.{replayed};
+ghost use Rattle.checker.specs.Replay.{replayed, IsChecked};
 
 use crate::certificate::{Certificate, CheckFault};
 use crate::fit::plan_fits;
@@ -61,7 +60,7 @@ impl<'a> Model for Checked<'a> {
     ghost use Rattle.binder.specs.contracts.query.Query as q;
     ghost use Rattle.checker.specs.declared.certificate.Certificate.{Certificate};
     ghost use Rattle.checker.specs.contracts.certificate.Certificate as c;
-    ghost use Rattle.checker.specs.Plans.{IsRight};
+    ghost use Rattle.checker.specs.Replay.{IsChecked};
 
     ghost Value = { Schema × Query × Certificate };
 
@@ -69,7 +68,7 @@ impl<'a> Model for Checked<'a> {
 
     ghost view = { λ c. (c.schema.now, c.query.now, c.certificate.now) };
 
-    ghost invariant = { λ c. IsRight c.schema.now c.query.now c.certificate.now.plan };
+    ghost invariant = { λ c. IsChecked c.schema.now c.query.now c.certificate.now };
 }
 
 impl<'a> Checked<'a> {
@@ -85,10 +84,10 @@ impl<'a> Checked<'a> {
         self.query
     }
 
-    /// The certificate. In each database that satisfies the schema its plan gives an answer of the query.
+    /// The certificate. It replays, and in each database that satisfies the schema its plan gives an answer of the query.
     pub fn certificate(&self) -> &'a Certificate
         ensures certificate { result.now ≡ self.now.2 }
-        ensures right { IsRight self.now.0 self.now.1 self.now.2.plan }
+        ensures checked { IsChecked self.now.0 self.now.1 self.now.2 }
     {
         self.certificate
     }

@@ -3,7 +3,7 @@ use Rattle.std.proofs.lemmas.Grind.{common_steps}
 use Rattle.logical.specs.Frame.{frame_of}
 use Rattle.logical.proofs.Simple.{frame_has_lines}
 use Rattle.checker.specs.Replay.{replayed}
-use Rattle.checker.proofs.Right.{right}
+use Rattle.checker.proofs.Right.{checked}
 use Rattle.checker.proofs.checked.check.Goals as goal
 
 pub overflow_sub-len : goal.overflow_sub-len
@@ -15,4 +15,4 @@ pub invariant_of-result : goal.invariant_of-result
 unfolding replayed
 invariant_of-result c =
     let replays : replayed c.args.query.now c.args.certificate.now ≡ Ok c.args.certificate.now = grind (arith, common_steps) in
-    right c.args.schema.now c.args.query.now c.requires c.args.certificate.now c.args.certificate.now replays
+    checked c.args.schema.now c.args.query.now c.requires c.args.certificate.now replays
