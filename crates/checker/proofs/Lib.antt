@@ -1,2 +1,6 @@
+pub mod Chains
 pub mod Fits
+pub mod Founded
 pub mod Lines
+pub mod Plays
+pub mod Right

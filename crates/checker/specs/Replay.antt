@@ -1,7 +1,11 @@
 -- When a certificate replays, and its first fault: lines go before nodes, and what stands first here goes first in a line.
-use Rattle.std.specs.Prelude.{ℕ, ◌+◌, ◌-◌, Bool, true, ◌&&◌, ◌==◌, nat_lt, nat_le, if◌then◌else◌, List, [], ◌∷◌, map, length, slice_get, Option, Some, None, Result, Ok}
+use Rattle.std.specs.Prelude.{◌≡◌, ℕ, ◌+◌, ◌-◌, Bool, true, ◌&&◌, ◌==◌, nat_lt, nat_le, if◌then◌else◌, List, [], ◌∷◌, map, length, slice_get, Option, Some, None, Result, Ok}
 use Rattle.values.specs.Faults.{◌>>=◌, wanted, wanted_if}
+use Rattle.schema.specs.declared.schema.Schema.{Schema}
+use Rattle.schema.specs.Databases.{Database, Satisfies}
 use Rattle.binder.specs.declared.query.Query.{Query}
+use Rattle.binder.specs.Rows.{tables_of}
+use Rattle.binder.specs.Answer.{IsAnswer}
 use Rattle.logical.specs.declared.expr.Expr.{Expr}
 use Rattle.logical.specs.declared.expr.Expr.TheVariants.{Get, Select, Keep}
 use Rattle.logical.specs.Equality.{same_conditions, same_columns, same_expr}
@@ -18,6 +22,7 @@ use Rattle.checker.specs.declared.certificate.Certificate.{Certificate}
 use Rattle.checker.specs.declared.certificate.CheckCode.{CheckCode}
 use Rattle.checker.specs.declared.certificate.CheckCode.TheVariants.{UnknownLine, OtherLine, IllFormed, OtherOperator}
 use Rattle.checker.specs.declared.certificate.CheckRefusal.{CheckRefusal}
+use Rattle.checker.specs.Plans.{answer}
 
 abbrev pub refusal : ℕ → CheckCode → CheckRefusal
 refusal n code = record { line = n; code = code }
@@ -92,3 +97,8 @@ root q = length (frame_of q) - 1
 -- the certificate, if it replays: its lines do, and its plan computes the query's class
 unfoldable pub replayed : Query → Certificate → Result Certificate CheckRefusal
 replayed q c = lines_replay q [] (map founding c.lines) >>= λ E. plan_fits (map founding c.lines) c.plan (root q) (length E) >>= λ n. Ok c
+
+-- the certificate replays, and in each database that satisfies the schema its plan gives an answer of the query
+pub record IsChecked (S : Schema) (q : Query) (c : Certificate) : Type 0 where
+  pub replays : replayed q c ≡ Ok c
+  pub answers : (D : Database) → Satisfies S D → IsAnswer q (tables_of S D) (answer q (tables_of S D) c.plan)

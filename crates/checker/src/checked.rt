@@ -3,7 +3,7 @@
 ghost use Rattle.std.specs.Prelude.{◌≡◌, IfOk};
 ghost use Rattle.values.specs.Faults.{Gives};
 ghost use Rattle.logical.specs.Frame.{IsSimple};
-ghost use Rattle.checker.specs.Replay.{replayed};
+ghost use Rattle.checker.specs.Replay.{replayed, IsChecked};
 
 use crate::certificate::{Certificate, CheckFault};
 use crate::fit::plan_fits;
@@ -12,6 +12,7 @@ use binder::Query;
 use logical::frame;
 use schema::Schema;
 use std::alloc::Global;
+use std::marker::Model;
 
 /// Checks a certificate against the query, as the reader of the certificate would by hand: each line may stand where it
 /// does, and each node computes the class that is wanted of it.
@@ -23,8 +24,8 @@ pub fn check<'a>(
     certificate: &'a Certificate,
 ) -> Result<Checked<'a>, CheckFault>
     requires { IsSimple query.now }
-    ensures verdict { Gives (λ c. c.certificate.now) result (replayed query.now certificate.now) }
-    ensures of { IfOk result (λ c. (c.schema.now ≡ schema.now) × (c.query.now ≡ query.now)) }
+    ensures verdict { Gives (λ c. c.2) result (replayed query.now certificate.now) }
+    ensures of { IfOk result (λ c. (c.0 ≡ schema.now) × (c.1 ≡ query.now)) }
 {
     let frame = frame(alloc, query)?;
     let lines = certificate.lines.as_slice();
@@ -43,7 +44,7 @@ pub fn check<'a>(
     })
 }
 
-/// A certificate that was checked against its query.
+/// A certificate that was checked against its query: its plan gives answers of the query.
 #[derive(Debug, Drop)]
 pub struct Checked<'a> {
     schema: &'a Schema,
@@ -51,21 +52,42 @@ pub struct Checked<'a> {
     certificate: &'a Certificate,
 }
 
+impl<'a> Model for Checked<'a> {
+    ghost use Rattle.std.specs.Coded.{codes};
+    ghost use Rattle.schema.specs.declared.schema.Schema.{Schema};
+    ghost use Rattle.schema.specs.contracts.schema.Schema as s;
+    ghost use Rattle.binder.specs.declared.query.Query.{Query};
+    ghost use Rattle.binder.specs.contracts.query.Query as q;
+    ghost use Rattle.checker.specs.declared.certificate.Certificate.{Certificate};
+    ghost use Rattle.checker.specs.contracts.certificate.Certificate as c;
+    ghost use Rattle.checker.specs.Replay.{IsChecked};
+
+    ghost Value = { Schema × Query × Certificate };
+
+    ghost coded = { Prim.hlevel (codes, s.the_row.coded, q.the_row.coded, c.the_row.coded) };
+
+    ghost view = { λ c. (c.schema.now, c.query.now, c.certificate.now) };
+
+    ghost invariant = { λ c. IsChecked c.schema.now c.query.now c.certificate.now };
+}
+
 impl<'a> Checked<'a> {
     pub fn schema(&self) -> &'a Schema
-        ensures { result.now ≡ self.now.schema.now }
+        ensures { result.now ≡ self.now.0 }
     {
         self.schema
     }
 
     pub fn query(&self) -> &'a Query
-        ensures { result.now ≡ self.now.query.now }
+        ensures { result.now ≡ self.now.1 }
     {
         self.query
     }
 
+    /// The certificate. It replays, and in each database that satisfies the schema its plan gives an answer of the query.
     pub fn certificate(&self) -> &'a Certificate
-        ensures { result.now ≡ self.now.certificate.now }
+        ensures certificate { result.now ≡ self.now.2 }
+        ensures checked { IsChecked self.now.0 self.now.1 self.now.2 }
     {
         self.certificate
     }

@@ -1,5 +1,6 @@
 pub mod Equations
 pub mod Meaning
+pub mod Plain
 pub mod Same
 pub mod Sets
 pub mod Simple

@@ -58,3 +58,15 @@ tested_expr = tested expr.the_row.coded
 pub tested_aggregation : (b : Bool) (x y : Aggregation) → IsTrue b ↔ (x ≡ y) → b ≡ same_aggregation x y
 unfolding same_aggregation
 tested_aggregation = tested aggregation.the_row.coded
+
+pub equal_conditions : (x y : List Condition) → same_conditions x y ≡ true → x ≡ y
+unfolding same_conditions
+equal_conditions = same_by-equal (coded_list condition.the_row.coded)
+
+pub equal_columns : (x y : List ℕ) → same_columns x y ≡ true → x ≡ y
+unfolding same_columns
+equal_columns = same_by-equal (coded_list coded_ℕ)
+
+pub equal_expr : (x y : Expr) → same_expr x y ≡ true → x ≡ y
+unfolding same_expr
+equal_expr = same_by-equal expr.the_row.coded
