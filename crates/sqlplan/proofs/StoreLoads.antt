@@ -24,10 +24,6 @@ fits_length [] (v ∷ vs) h = absurd h
 fits_length (c ∷ cs) [] h = absurd h
 fits_length (c ∷ cs) (v ∷ vs) h = ap suc (fits_length cs vs h.1)
 
-pub fits_width : (cs : List Column) (rows : List Row) → AllByRecursion (FitsColumns cs) rows → HaveWidth (length cs) rows
-fits_width cs [] h = tt
-fits_width cs (r ∷ rs) h = (fits_length cs r h.0, fits_width cs rs h.1)
-
 pub few_rows : (cs : List Column) (records : List Record) (p : Parsed) → ParsesFile cs records p → length p.rows ≤ most_rows
 few_rows cs records p (inl h) = h.2.few
 few_rows cs records p (inr h) = rw h.1 (omega arith)
@@ -96,8 +92,8 @@ parted : (rows : List Row) (j : ℕ) (rest : List Record) → j < length rows
 parted rows j rest lt =
     let parts : take j rows ++ get_or rows j [] ∷ drop (suc j) rows ≡ rows = ap (λ (x : List Row). take j rows ++ x) (sym (drop-cons rows j [] lt)) ∙ take-append-drop j rows in
     ap (λ (x : List Row). map (map field_of) x ++ rest) (sym parts)
-      ∙ ap (λ (x : List Record). x ++ rest) (map-append (map field_of) (take j rows) (get_or rows j [] ∷ drop (suc j) rows))
-      ∙ append_assoc (map (map field_of) (take j rows)) (map field_of (get_or rows j []) ∷ map (map field_of) (drop (suc j) rows)) rest
+    ∙ ap (λ (x : List Record). x ++ rest) (map-append (map field_of) (take j rows) (get_or rows j [] ∷ drop (suc j) rows))
+    ∙ append_assoc (map (map field_of) (take j rows)) (map field_of (get_or rows j []) ∷ map (map field_of) (drop (suc j) rows)) rest
 
 -- ---- what the file is
 
@@ -107,7 +103,7 @@ repeated_there t rows r h =
     let is : r.row ≡ length (take r.row rows) = sym (length-take-le r.row rows (omega arith)) in
     let next : take (suc r.row) rows ≡ take r.row rows ++ get_or rows r.row [] ∷ [] = take-suc rows r.row [] low in
     subst (λ (n : ℕ). RepeatsFirst (take r.row rows ++ get_or rows r.row [] ∷ []) n r.earlier t.unique) is
-      (subst (λ (xs : List Row). RepeatsFirst xs r.row r.earlier t.unique) next (agree_first (suc r.row) r.row r.earlier rows (take (suc r.row) rows) t.unique (agree_take (suc r.row) rows) (omega arith) h.there))
+    (subst (λ (xs : List Row). RepeatsFirst xs r.row r.earlier t.unique) next (agree_first (suc r.row) r.row r.earlier rows (take (suc r.row) rows) t.unique (agree_take (suc r.row) rows) (omega arith) h.there))
 
 pub repeat_told : (t : Table) (records : List Record) (p : Parsed) (r : Repeat) → ParsesFile t.columns records p → EarliestRepeat p.rows t.unique r
     → IsFirstFault t records (record { row = r.row + 1; cause = Repeated (r.earlier + 1) })
@@ -171,5 +167,5 @@ table_told t records p (inl h) is u =
     }
 
 pub file_width : (cs : List Column) (records : List Record) (p : Parsed) → ParsesFile cs records p → HaveWidth (length cs) p.rows
-file_width cs records p (inl h) = fits_width cs p.rows h.2.written.fit
-file_width cs records p (inr h) = rw h.1 tt
+file_width cs records p (inl h) i lt = fits_length cs (get_or p.rows i []) (all_at (FitsColumns cs) p.rows i [] lt h.2.written.fit)
+file_width cs records p (inr h) i lt = let none : i < 0 = rw (← ap length h.1) lt in absurd (omega arith)

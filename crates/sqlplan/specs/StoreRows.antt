@@ -1,7 +1,6 @@
 -- Rows of one width.
-use Rattle.std.specs.Prelude.{◌≡◌, ℕ, List, [], ◌∷◌, length}
+use Rattle.std.specs.Prelude.{◌≡◌, ◌<◌, ℕ, List, [], length, slice_index_or}
 use Rattle.schema.specs.Databases.{Row}
 
 abbrev pub HaveWidth : ℕ → List Row → Type 0
-HaveWidth w [] = Unit {0}
-HaveWidth w (r ∷ rs) = (length r ≡ w) × HaveWidth w rs
+HaveWidth w rows = (i : ℕ) → i < length rows → length (slice_index_or rows i []) ≡ w
