@@ -1,5 +1,5 @@
 -- Bytes as a whole number's decimal.
-use Rattle.std.proofs.Common.{◌≡◌, ◌≢◌, ℕ, zero, suc, ◌+◌, ◌-◌, ◌<◌, ◌≤◌, ◌^◌, ◌==◌, ◌&&◌, List, [], ◌∷◌, length, get_or, drop, Bool, true, false, cond, nat_le, Result, Ok, Err, ℤ, pos, negsuc, FitsSigned, neg_ℤ, refl, sym, ap, ◌∙◌, subst, arith, rules}
+use Rattle.std.proofs.Common.{◌≡◌, ◌≢◌, ℕ, zero, suc, ◌<◌, ◌≤◌, ◌^◌, ◌==◌, List, [], ◌∷◌, length, get_or, Bool, true, false, cond, Ok, Err, ℤ, pos, negsuc, FitsSigned, neg_ℤ, refl, sym, ap, arith}
 use Rattle.std.proofs.lemmas.Bool.Decides.{nat_tests}
 use Rattle.std.specs.Int.{w64}
 use Rattle.std.specs.Result.{OkIff}

@@ -10,8 +10,8 @@ use Rattle.sqlplan.specs.declared.store.fault.FieldFault.{FieldFault}
 use Rattle.sqlplan.specs.declared.store.fault.FieldFault.TheVariants.{BadEscape, NotNumber, NotText, NullValue}
 use Rattle.sqlplan.specs.StoreNumbers.{begins_number}
 use Rattle.sqlplan.specs.StoreTells.{Tells}
-use Rattle.sqlplan.specs.StoreTables.{escaped, field_of, IsNumber, IsPlain, PlainFails, Stands, FieldFails}
-use Rattle.sqlplan.proofs.StoreDecimals.{other_front, signed_begins}
+use Rattle.sqlplan.specs.StoreTables.{escaped, IsPlain, PlainFails, Stands, FieldFails}
+use Rattle.sqlplan.proofs.StoreDecimals.{other_front}
 
 -- the bytes of a field that doesn't begin with a backslash
 pub as_it_is : (c : Column) (f : List ℕ) (r : Result Value (Fault FieldFault)) → escaped f ≡ f → Tells (IsPlain c.kind f) (PlainFails c.kind f) r → Tells (Stands c f) (FieldFails c f) r

@@ -1,20 +1,18 @@
 -- What the records of a file are, from the rows parsed and the first repeat among them.
-use Rattle.std.proofs.Common.{◌≡◌, ◌≢◌, ℕ, zero, suc, ◌+◌, ◌<◌, ◌≤◌, List, [], ◌∷◌, ◌++◌, length, take, drop, get_or, slice_index_or, map, Bool, false, Option, Some, None, refl, sym, ap, ◌∙◌, subst, arith, append_assoc, add-one, ◌⊎◌, inl, inr}
-use Rattle.std.specs.List.{AllByRecursion, list_any}
+use Rattle.std.proofs.Common.{◌≡◌, ℕ, zero, suc, ◌+◌, ◌<◌, ◌≤◌, List, [], ◌∷◌, ◌++◌, length, take, drop, get_or, slice_index_or, map, Option, Some, None, refl, sym, ap, ◌∙◌, subst, arith, append_assoc, inl, inr}
+use Rattle.std.specs.List.{AllByRecursion}
 use Rattle.std.proofs.lemmas.List.{map-append, append-nil, get_or-take, length-take-le, take-append-drop}
 use Rattle.std.proofs.Math.Seq.{take-suc, drop-cons}
-use Rattle.values.specs.declared.value.Value.{Value}
-use Rattle.values.specs.Truth.{is_null}
 use Rattle.schema.specs.declared.schema.Column.{Column}
 use Rattle.schema.specs.declared.schema.Table.{Table}
-use Rattle.schema.specs.Databases.{Row, FitsColumns, IsUnique, values_at, most_rows, SatisfiesTable}
+use Rattle.schema.specs.Databases.{Row, FitsColumns, IsUnique, most_rows, SatisfiesTable}
 use Rattle.sqlplan.specs.declared.store.fault.TableCause.{TableCause}
 use Rattle.sqlplan.specs.declared.store.fault.TableCause.TheVariants.{OtherHeader, OtherLength, Field, Repeated, TooMany}
 use Rattle.sqlplan.specs.declared.store.fault.TableRefusal.{TableRefusal}
 use Rattle.sqlplan.specs.declared.store.records.Parsed.{Parsed}
 use Rattle.sqlplan.specs.declared.store.unique.Repeat.{Repeat}
 use Rattle.binder.specs.Rows.{HaveWidth}
-use Rattle.sqlplan.specs.StoreTables.{Record, field_of, IsText, Stands, StandFor, names_of, RecordFails, EndsAt, Parses, ParsesFile, UniqueTo, RepeatsAt, RepeatsFirst, EarliestRepeat, IsTable, FaultAfter, IsFaulty, IsFirstFault}
+use Rattle.sqlplan.specs.StoreTables.{Record, field_of, IsText, StandFor, names_of, RecordFails, EndsAt, ParsesFile, UniqueTo, RepeatsAt, RepeatsFirst, EarliestRepeat, IsTable, FaultAfter, IsFaulty, IsFirstFault}
 
 -- ---- widths and bounds
 

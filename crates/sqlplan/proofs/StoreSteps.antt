@@ -1,11 +1,10 @@
 -- One more record of a CSV reader.
-use Rattle.std.proofs.Common.{◌≡◌, ℕ, zero, suc, ◌<◌, ◌≤◌, List, [], ◌∷◌, ◌++◌, length, Bool, true, false, cond, Option, Some, None, refl, sym, ap, subst, ◌∙◌, arith, rules, inl, inr, ◌==◌, ◌||◌, ◌&&◌}
-use Rattle.csv.specs.Machine.{Read, ends_at_end, is_end, fields_after, field_after, next_record, step, ends_with, after_end, in_field, start_field, start_record}
-use Rattle.csv.specs.Reading.{NextIs, ReadsNext, ReadRecord, Ready, default_config, has_failed, pending_of, source_of, records_from, records_next, is_flexible, took_first}
+use Rattle.std.proofs.Common.{◌≡◌, ℕ, zero, suc, ◌<◌, ◌≤◌, List, [], ◌∷◌, length, Bool, true, false, cond, Option, Some, None, refl, ap, subst, ◌∙◌, arith, inl, ◌==◌}
+use Rattle.csv.specs.Machine.{Read, ends_at_end, is_end, next_record, step, ends_with, in_field, start_field, start_record}
+use Rattle.csv.specs.Reading.{NextIs, ReadsNext, ReadRecord, default_config, pending_of, records_from, records_next, is_flexible, took_first}
 use Rattle.csv.specs.declared.parser.State.{State}
 use Rattle.csv.specs.declared.parser.State.TheVariants as st
 use Rattle.csv.specs.declared.parser.Action.{Action}
-use Rattle.csv.specs.declared.parser.Action.TheVariants as act
 use Rattle.csv.specs.declared.parser.Terminator.TheVariants as term
 use Rattle.csv.specs.declared.reader.Reader.{Reader}
 use Rattle.sqlplan.specs.StoreReading.{Remains, NextOf}

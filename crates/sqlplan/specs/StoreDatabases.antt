@@ -2,7 +2,7 @@
 use Rattle.std.specs.Prelude.{◌≡◌, ℕ, List, Result, Ok, Err, IfSome, slice_get, slice_set}
 use Rattle.schema.specs.declared.schema.Schema.{Schema}
 use Rattle.schema.specs.declared.schema.Table.{Table}
-use Rattle.schema.specs.Databases.{Row, Database, Satisfies}
+use Rattle.schema.specs.Databases.{Row, Database}
 use Rattle.sqlplan.specs.declared.store.fault.TableFault.{TableFault}
 use Rattle.sqlplan.specs.declared.store.fault.TableFault.TheVariants as faults
 use Rattle.sqlplan.specs.StoreTables.{Record, IsTable, IsFirstFault}

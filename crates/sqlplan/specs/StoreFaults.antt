@@ -1,6 +1,5 @@
 -- What a fault of a table tells.
 use Rattle.std.specs.Prelude.{ℕ, List, Option, Some, None, codes}
-use Rattle.sqlplan.specs.declared.store.fault.FieldFault.{FieldFault}
 use Rattle.sqlplan.specs.declared.store.fault.FieldFault.TheVariants.{BadEscape, NotNumber, NotText, NullValue}
 use Rattle.sqlplan.specs.declared.store.fault.TableCause.{TableCause}
 use Rattle.sqlplan.specs.declared.store.fault.TableCause.TheVariants.{OtherHeader, OtherLength, Field, Repeated, TooMany}

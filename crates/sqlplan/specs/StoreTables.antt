@@ -1,5 +1,5 @@
 -- What the records of a table's file stand for (this project's profile: Null is `\N`, and a text that begins with a backslash has one more).
-use Rattle.std.specs.Prelude.{◌≡◌, ◌≢◌, ◌<◌, ◌≤◌, ◌+◌, ◌==◌, ℕ, ℤ, zero, suc, Bool, true, false, List, [], ◌∷◌, ◌++◌, length, map, take, Option, Some, None, Result, Ok, Err, if◌then◌else◌, FitsSigned, codes, ◌⊎◌, slice_index_or}
+use Rattle.std.specs.Prelude.{◌≡◌, ◌≢◌, ◌<◌, ◌≤◌, ◌+◌, ◌==◌, ℕ, ℤ, zero, suc, true, false, List, [], ◌∷◌, ◌++◌, length, map, Option, Some, None, Result, Ok, Err, if◌then◌else◌, FitsSigned, codes, ◌⊎◌, slice_index_or}
 use Rattle.std.specs.Int.{w64}
 use Rattle.std.specs.Fmt.{signed_decimal}
 use Rattle.std.specs.List.{AllByRecursion, list_any}
@@ -13,7 +13,7 @@ use Rattle.schema.specs.declared.schema.Kind.{Kind}
 use Rattle.schema.specs.declared.schema.Kind.TheVariants as kind
 use Rattle.schema.specs.declared.schema.Column.{Column}
 use Rattle.schema.specs.declared.schema.Table.{Table}
-use Rattle.schema.specs.Databases.{Row, FitsColumn, FitsColumns, values_at, IsUnique, SatisfiesTable, most_rows}
+use Rattle.schema.specs.Databases.{Row, FitsColumn, FitsColumns, values_at, SatisfiesTable, most_rows}
 use Rattle.sqlplan.specs.declared.store.fault.FieldFault.{FieldFault}
 use Rattle.sqlplan.specs.declared.store.fault.FieldFault.TheVariants.{BadEscape, NotNumber, NotText, NullValue}
 use Rattle.sqlplan.specs.declared.store.fault.TableCause.{TableCause}

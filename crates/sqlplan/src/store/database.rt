@@ -1,6 +1,6 @@
 //! The tables of a schema.
 
-ghost use Rattle.std.specs.Prelude.{◌≡◌, ◌<◌, [], List, length, map, slice_get, slice_index_or, Some, IfOk, IfErr, OnOk, OnErr, IfSome};
+ghost use Rattle.std.specs.Prelude.{◌≡◌, ◌≢◌, ◌<◌, [], List, length, map, slice_get, slice_index_or, Some, IfOk, IfErr, OnOk, OnErr, IfSome};
 ghost use Rattle.csv.specs.Reading.{default_config, records, strip_bom};
 ghost use Rattle.schema.specs.Databases.{Satisfies};
 ghost use Rattle.sqlplan.specs.declared.store.fault.TableFault.TheVariants as faults;
@@ -111,9 +111,11 @@ impl<'s> Database<'s> {
         requires { table < length self.old.tables }
         ensures exact { IfSome (R.remaining input.old) (λ bytes. Loads self.old self.new table (records default_config (strip_bom bytes)) result) }
         ensures schema { self.new.schema ≡ self.old.schema }
-        ensures count { length self.new.tables ≡ length self.old.tables }
+        ensures size { length self.new.tables ≡ length self.old.tables }
         ensures err { OnErr result (self.new ≡ self.old) }
         ensures quiet { OnOk result (R.failures input.new ≡ R.failures input.old) }
+        // The device is told of exactly where a call of it failed.
+        ensures refused { IfErr result (λ e. e ≢ faults.Device → R.failures input.new ≡ R.failures input.old) }
         ensures device { IfErr result (λ e. e ≡ faults.Device → Rose (R.failures input.old) (R.failures input.new)) }
     {
         let bytes = match read_all(alloc, input) {

@@ -69,6 +69,7 @@ pub enum InputFault {
 pub fn read_all<R: TableInput>(alloc: Global, input: &mut R) -> Result<Vec<u8>, InputFault>
     ensures bytes { IfOk result (λ v. IfSome (R.remaining input.old) (λ xs. v.items ≡ xs)) }
     ensures quiet { IfOk result (λ v. R.failures input.new ≡ R.failures input.old) }
+    ensures memory { IfErr result (λ e. e ≡ InputFault.Memory → R.failures input.new ≡ R.failures input.old) }
     ensures device { IfErr result (λ e. e ≡ InputFault.Device → Rose (R.failures input.old) (R.failures input.new)) }
 {
     let mut bytes = Vec::new(alloc);

@@ -1,8 +1,6 @@
-use Rattle.std.proofs.Common.{◌≡◌, ◌<◌, ◌≤◌, ◌+◌, ◌^◌, ℕ, List, length, sym, ◌∙◌, ap, subst, Some, None, arith, rules}
+use Rattle.std.proofs.Common.{◌<◌, ◌+◌, ◌^◌, arith, rules}
 use Rattle.csv.specs.Reading.{default_config, records, strip_bom}
-use Rattle.schema.specs.Databases.{most_rows}
-use Rattle.binder.specs.Rows.{HaveWidth}
-use Rattle.sqlplan.proofs.StoreLoads.{few_rows, repeat_below, repeat_told, fault_told, table_told, file_width}
+use Rattle.sqlplan.proofs.StoreLoads.{few_rows, repeat_below, repeat_told, fault_told, file_width}
 use Rattle.sqlplan.proofs.store.database.table_of.Goals as goal
 
 pub overflow_add-result-in-Some : goal.overflow_add-result-in-Some

@@ -1,4 +1,4 @@
-use Rattle.std.proofs.Common.{◌≡◌, Bool, true, false, ℤ, FitsSigned, rules, sym, subst}
+use Rattle.std.proofs.Common.{◌≡◌, true, false, ℤ, FitsSigned, rules, sym, subst}
 use Rattle.std.specs.Int.{w64}
 use Rattle.std.specs.Fmt.{signed_decimal}
 use Rattle.std.proofs.lemmas.Int.{to_z-of_z}

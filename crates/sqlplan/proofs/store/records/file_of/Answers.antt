@@ -1,4 +1,4 @@
-use Rattle.std.proofs.Common.{◌≡◌, List, ℕ, Bool, true, false, refl, sym, ◌∙◌, inr, rules}
+use Rattle.std.proofs.Common.{◌≡◌, Bool, true, false, refl, inr, rules}
 use Rattle.csv.specs.Records.{fields_of}
 use Rattle.sqlplan.specs.StoreReading.{Remains}
 use Rattle.sqlplan.specs.StoreTables.{names_of}

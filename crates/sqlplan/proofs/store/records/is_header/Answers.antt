@@ -1,4 +1,4 @@
-use Rattle.std.proofs.Common.{◌≡◌, ◌<◌, ◌∙◌, Bool, true, false, not, List, ℕ, bytes_eq, get_or, length, sym, ap, arith, rules}
+use Rattle.std.proofs.Common.{◌≡◌, ◌∙◌, Bool, true, false, not, List, ℕ, bytes_eq, get_or, sym, ap, arith}
 use Rattle.csv.specs.Records.{fields_of}
 use Rattle.schema.specs.declared.schema.Column.{Column}
 use Rattle.sqlplan.proofs.StoreRecords.{field_past, other_name, same_name}

@@ -1,4 +1,4 @@
-use Rattle.std.proofs.Common.{◌≡◌, ◌∙◌, length, ◌+◌, arith, refl, inr}
+use Rattle.std.proofs.Common.{◌∙◌, length, ◌+◌, arith, refl, inr}
 use Rattle.csv.specs.Reading.{records, default_config, strip_bom}
 use Rattle.sqlplan.proofs.store.records.parse.Goals as goal
 

@@ -1,4 +1,4 @@
-use Rattle.std.proofs.Common.{◌≡◌, length, sym, ◌∙◌, arith}
+use Rattle.std.proofs.Common.{arith}
 use Rattle.csv.specs.Records.{fields_of}
 use Rattle.sqlplan.proofs.StoreRecords.{field_past, value_fails, stands_next}
 use Rattle.sqlplan.proofs.store.records.row_of.Goals as goal

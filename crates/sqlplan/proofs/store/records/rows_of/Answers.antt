@@ -1,5 +1,4 @@
-use Rattle.std.proofs.Common.{◌≡◌, ◌≤◌, ◌<◌, ◌++◌, ◌∷◌, [], length, true, false, sym, ap, ◌∙◌, arith, rules, length-append}
-use Rattle.csv.specs.Records.{fields_of}
+use Rattle.std.proofs.Common.{◌≡◌, ◌<◌, ◌∷◌, [], length, arith, rules, length-append}
 use Rattle.schema.specs.Databases.{most_rows}
 use Rattle.sqlplan.specs.declared.store.fault.TableCause.TheVariants.{TooMany}
 use Rattle.sqlplan.specs.StoreReading.{Remains}

@@ -1,4 +1,4 @@
-use Rattle.std.proofs.Common.{◌≡◌, ◌≤◌, ◌∙◌, ℕ, List, take, length, sym, ap, subst, arith, rules}
+use Rattle.std.proofs.Common.{ℕ, List, take, subst, arith}
 use Rattle.std.proofs.lemmas.List.{take_all}
 use Rattle.sqlplan.proofs.StoreRepeats.{IsFound, found_none, found_one, found_all, take_next}
 use Rattle.sqlplan.proofs.store.unique.earliest_repeat.Goals as goal

@@ -1,7 +1,6 @@
-use Rattle.std.proofs.Common.{◌≡◌, ◌<◌, ◌∙◌, ℕ, List, [], Some, None, length, slice_index_or, sym, ap, arith, rules}
+use Rattle.std.proofs.Common.{◌∙◌, [], sym, arith}
 use Rattle.std.proofs.lemmas.List.{get_or_default}
-use Rattle.std.specs.HashMap as hash
-use Rattle.sqlplan.proofs.StoreKeys.{key_eq, null_seen, again_seen, new_seen}
+use Rattle.sqlplan.proofs.StoreKeys.{null_seen, again_seen, new_seen}
 use Rattle.sqlplan.proofs.store.unique.first_repeat.Goals as goal
 
 pub loop-row-preserved-in_default : goal.loop-row-preserved-in_default

@@ -1,4 +1,4 @@
-use Rattle.std.proofs.Common.{◌≡◌, ◌∙◌, Bor, Bool, true, false, ℕ, List, take, get_or, map, sym, ap, arith, rules}
+use Rattle.std.proofs.Common.{◌≡◌, ◌∙◌, Bor, get_or, map, sym, ap, arith}
 use Rattle.std.proofs.lemmas.List.{map_push, get_or_default}
 use Rattle.values.specs.declared.value.Value.{Value}
 use Rattle.values.specs.declared.value.Value.TheVariants as value

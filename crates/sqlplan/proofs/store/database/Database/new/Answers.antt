@@ -1,7 +1,7 @@
-use Rattle.std.proofs.Common.{◌≡◌, ◌∙◌, ◌∷◌, [], List, map, take, sym, ap, subst, arith}
+use Rattle.std.proofs.Common.{[], List, take, sym, arith}
 use Rattle.std.proofs.lemmas.List.{map_push, take_all}
 use Rattle.schema.specs.declared.schema.Table.{Table}
-use Rattle.schema.specs.Databases.{Row, Database, Satisfies}
+use Rattle.schema.specs.Databases.{Row}
 use Rattle.sqlplan.proofs.StoreRepeats.{take_next}
 use Rattle.sqlplan.proofs.StoreSatisfies.{satisfy_empty}
 use Rattle.sqlplan.proofs.store.database.Database.new.Goals as goal
