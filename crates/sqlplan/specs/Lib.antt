@@ -1,6 +1,7 @@
 pub mod StoreDatabases
 pub mod StoreFaults
 pub mod StoreInput
+pub mod StoreParsing
 pub mod StoreReading
 pub mod StoreRows
 pub mod StoreTables

@@ -5,7 +5,8 @@ ghost use Rattle.schema.specs.Databases.{most_rows};
 ghost use Rattle.csv.specs.Reading.{default_config, records, strip_bom};
 ghost use Rattle.csv.specs.Records.{fields_of};
 ghost use Rattle.sqlplan.specs.StoreReading.{Remains, NextOf};
-ghost use Rattle.sqlplan.specs.StoreTables.{StandFor, RowFails, Parses, ParsesFile, names_of, in_field};
+ghost use Rattle.sqlplan.specs.StoreTables.{StandFor, names_of};
+ghost use Rattle.sqlplan.specs.StoreParsing.{RowFails, Parses, ParsesFile, in_field};
 ghost use Rattle.sqlplan.specs.StoreTells.{Tells};
 
 use crate::store::fault::{FieldFault, TableCause, TableRefusal};

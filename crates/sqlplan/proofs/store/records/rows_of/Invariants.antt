@@ -1,7 +1,7 @@
 use Rattle.std.proofs.Common.{◌≤◌, ◌-◌, ℕ, List, length}
 use Rattle.schema.specs.Databases.{most_rows}
 use Rattle.sqlplan.specs.StoreReading.{Remains}
-use Rattle.sqlplan.specs.StoreTables.{Written}
+use Rattle.sqlplan.specs.StoreParsing.{Written}
 use Rattle.sqlplan.proofs.store.records.rows_of.Given as goal
 
 abbrev pub invariant-loop-alloc : goal.invariant-loop-alloc
