@@ -1,8 +1,8 @@
 -- What is bound is a query of one table.
-use Rattle.std.proofs.Common.{◌≡◌, ℕ, ◌+◌, ◌<◌, ◌≤◌, ◌^◌, Bool, true, false, if◌then◌else◌, nat_le, List, [], ◌∷◌, length, Option, Some, None, Result, Ok, Err, refl, subst, sym, ap, ◌∙◌, arith, bytes_eq}
+use Rattle.std.proofs.Common.{◌≡◌, ℕ, ◌+◌, ◌<◌, ◌≤◌, ◌^◌, Bool, true, false, if◌then◌else◌, List, [], ◌∷◌, length, Option, Some, None, Result, Ok, Err, refl, subst, sym, ap, ◌∙◌, arith, bytes_eq}
 use Rattle.std.proofs.lemmas.List.Elements.{All-from_recursion}
 use Rattle.std.specs.List.{AllByRecursion}
-use Rattle.values.specs.Faults.{◌>>=◌, wanted, wanted_if}
+use Rattle.values.specs.Faults.{◌>>=◌, wanted}
 use Rattle.schema.specs.declared.schema.Column as entries
 use Rattle.schema.specs.declared.schema.Table.{Table}
 use Rattle.schema.specs.Each.{each}
@@ -18,9 +18,8 @@ use Rattle.binder.specs.declared.query.Item.TheVariants as item
 use Rattle.logical.specs.Frame.{IsSimple, IsSimpleItem, IsSimpleFilter, IsComparison}
 use Rattle.sqlplan.specs.declared.syntax.ast.Name.{Name}
 use Rattle.sqlplan.specs.declared.syntax.ast.Filter.{Filter}
-use Rattle.sqlplan.specs.declared.binding.fault.BindRefusal.{BindRefusal}
 use Rattle.sqlplan.specs.declared.binding.fault.BindReason.TheVariants.{MixedKinds}
-use Rattle.sqlplan.specs.Binding.{own, find_column, column_in, item_in, items_in, comparison_over, filter_in, query_over, is_of_kind, refusal}
+use Rattle.sqlplan.specs.Binding.{own, find_column, column_in, item_in, items_in, filter_in, query_over, is_of_kind, refusal}
 
 -- what was read first, where all was read
 bind_ok : {A B R : Type 0} (r : Result A R) (f : A → Result B R) (y : B) → (r >>= f) ≡ Ok y → (x : A) × (r ≡ Ok x) × (f x ≡ Ok y)

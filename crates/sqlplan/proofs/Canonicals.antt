@@ -1,7 +1,7 @@
 -- The frame of a simple query has a plan.
-use Rattle.std.proofs.Common.{◌≡◌, List, Option, Some, None, slice_get, sym, ap, ◌∙◌}
-use Rattle.binder.specs.declared.query.Cond.{Cond, out-Cond}
-use Rattle.binder.specs.declared.query.From.{From, out-From, out-roll-From}
+use Rattle.std.proofs.Common.{◌≡◌, List, Option, Some, None, sym, ap, ◌∙◌}
+use Rattle.binder.specs.declared.query.Cond.{Cond}
+use Rattle.binder.specs.declared.query.From.{out-From, out-roll-From}
 use Rattle.binder.specs.declared.query.From.TheVariants as from
 use Rattle.binder.specs.declared.query.From.TheVariants.{rolls-Table}
 use Rattle.binder.specs.declared.query.Cond.TheOpen.{From-F}

@@ -10,7 +10,8 @@ use Rattle.sqlplan.specs.declared.store.fault.FieldFault.{FieldFault}
 use Rattle.sqlplan.specs.declared.store.fault.FieldFault.TheVariants.{BadEscape, NotNumber, NotText, NullValue}
 use Rattle.sqlplan.specs.StoreNumbers.{begins_number}
 use Rattle.sqlplan.specs.StoreTells.{Tells}
-use Rattle.sqlplan.specs.StoreTables.{escaped, IsPlain, PlainFails, Stands, FieldFails}
+use Rattle.sqlplan.specs.StoreTables.{escaped, Stands, FieldFails}
+use Rattle.sqlplan.specs.StoreParsing.{IsPlain, PlainFails}
 use Rattle.sqlplan.proofs.StoreDecimals.{other_front}
 
 -- the bytes of a field that doesn't begin with a backslash
@@ -24,7 +25,7 @@ as_it_is c f (Err (fault.Refused NullValue)) e h = absurd h
 as_it_is c f (Err (fault.Refused NotNumber)) e h = (h.0, (f, sym e), h.1)
 as_it_is c f (Err (fault.Refused NotText)) e h = (h.0, (f, sym e, h.1))
 
-no_digit : (rest : List ℕ) → begins_number (92 ∷ rest) ≡ false
+pub no_digit : (rest : List ℕ) → begins_number (92 ∷ rest) ≡ false
 no_digit [] = refl
 no_digit (b ∷ bs) = refl
 
@@ -48,7 +49,7 @@ escaped_as b bs rest false q e =
     cc (bad, q)
 
 -- a backslash that no second one follows begins no text
-no_escape : (rest : List ℕ) → ((more : List ℕ) → rest ≢ 92 ∷ more) → (t : List ℕ) → 92 ∷ rest ≢ escaped t
+pub no_escape : (rest : List ℕ) → ((more : List ℕ) → rest ≢ 92 ∷ more) → (t : List ℕ) → 92 ∷ rest ≢ escaped t
 no_escape rest h [] e = cc e
 no_escape rest h (b ∷ bs) e = h bs (escaped_as b bs rest (b == 92) refl e)
 

@@ -12,11 +12,12 @@ use Rattle.sqlplan.specs.declared.store.fault.TableRefusal.{TableRefusal}
 use Rattle.sqlplan.specs.declared.store.records.Parsed.{Parsed}
 use Rattle.sqlplan.specs.declared.store.unique.Repeat.{Repeat}
 use Rattle.binder.specs.Rows.{HaveWidth}
-use Rattle.sqlplan.specs.StoreTables.{Record, field_of, IsText, StandFor, names_of, RecordFails, EndsAt, ParsesFile, UniqueTo, RepeatsAt, RepeatsFirst, EarliestRepeat, IsTable, FaultAfter, IsFaulty, IsFirstFault}
+use Rattle.sqlplan.specs.StoreTables.{Record, field_of, IsText, StandFor, names_of, UniqueTo, RepeatsAt, RepeatsFirst, IsTable, FaultAfter, IsFaulty, IsFirstFault}
+use Rattle.sqlplan.specs.StoreParsing.{RecordFails, EndsAt, ParsesFile, EarliestRepeat}
 
 -- ---- widths and bounds
 
-fits_length : (cs : List Column) (row : Row) → FitsColumns cs row → length row ≡ length cs
+pub fits_length : (cs : List Column) (row : Row) → FitsColumns cs row → length row ≡ length cs
 fits_length [] [] h = refl
 fits_length [] (v ∷ vs) h = absurd h
 fits_length (c ∷ cs) [] h = absurd h
@@ -83,7 +84,7 @@ all_at P [] i d lt h = absurd (omega arith)
 all_at P (x ∷ xs) zero d lt h = h.0
 all_at P (x ∷ xs) (suc i) d lt h = all_at P xs i d (omega arith) h.1
 
-row_stands : (cs : List Column) (row : Row) → FitsColumns cs row → AllByRecursion IsText row → StandFor cs (map field_of row) row
+pub row_stands : (cs : List Column) (row : Row) → FitsColumns cs row → AllByRecursion IsText row → StandFor cs (map field_of row) row
 row_stands [] [] h t = tt
 row_stands [] (v ∷ vs) h t = absurd h
 row_stands (c ∷ cs) [] h t = absurd h
@@ -133,7 +134,7 @@ repeat_told t records p r (inl h) e =
 fault_after : (t : Table) (rows : List Row) (fs : Record) (cause : TableCause) → RecordFails t.columns (length rows) fs cause → FaultAfter t rows fs cause
 fault_after t rows fs OtherHeader h = h
 fault_after t rows fs OtherLength h = h
-fault_after t rows fs (Field place wrong) h = h
+fault_after t rows fs (Field place wrong) h = (h.0, h.1.0, h.1.1)
 fault_after t rows fs (Repeated earlier) h = absurd h
 fault_after t rows fs TooMany h = h
 

@@ -15,7 +15,8 @@ use Rattle.values.specs.declared.fault.Fault.{Fault}
 use Rattle.values.specs.declared.fault.Fault.TheVariants as fault
 use Rattle.sqlplan.specs.declared.store.records.Parsed.{Parsed}
 use Rattle.sqlplan.specs.StoreTells.{Tells}
-use Rattle.sqlplan.specs.StoreTables.{Record, field_of, in_field, Parses, ParsesFile, IsText, Stands, StandFor, FieldFails, FieldsFail, RowFails, Written, RecordFails, names_of}
+use Rattle.sqlplan.specs.StoreTables.{Record, field_of, IsText, Stands, StandFor, FieldFails, FieldsFail, names_of}
+use Rattle.sqlplan.specs.StoreParsing.{in_field, Parses, ParsesFile, RowFails, Written, RecordFails}
 
 -- ---- the fields of a record, one after the other
 

@@ -4,7 +4,8 @@ use Rattle.std.specs.List.{AllByRecursion}
 use Rattle.std.proofs.Math.Seq.{take-suc}
 use Rattle.schema.specs.Databases.{Row, IsUnique}
 use Rattle.sqlplan.specs.declared.store.unique.Repeat.{Repeat}
-use Rattle.sqlplan.specs.StoreTables.{UniqueTo, RepeatsAt, RepeatsFirst, EarliestRepeat}
+use Rattle.sqlplan.specs.StoreTables.{UniqueTo, RepeatsAt, RepeatsFirst}
+use Rattle.sqlplan.specs.StoreParsing.{EarliestRepeat}
 
 unique_below : (n m : ℕ) (rows : List Row) (places : List ℕ) → m ≤ n → UniqueTo n rows places → UniqueTo m rows places
 unique_below n m rows places le h = λ i j lt low whole same. h i j lt (omega arith) whole same

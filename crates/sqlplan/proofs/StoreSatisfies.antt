@@ -5,7 +5,8 @@ use Rattle.std.specs.List.{AllByRecursion}
 use Rattle.schema.specs.declared.schema.Table.{Table}
 use Rattle.sqlplan.specs.declared.store.fault.TableFault.{TableFault}
 use Rattle.sqlplan.specs.declared.store.fault.TableFault.TheVariants as faults
-use Rattle.sqlplan.specs.StoreTables.{Record, IsTable, ReadsTable}
+use Rattle.sqlplan.specs.StoreTables.{Record, IsTold}
+use Rattle.sqlplan.specs.StoreParsing.{ReadsTable}
 use Rattle.sqlplan.specs.StoreDatabases.{Stored, LoadsTable, Loads}
 use Rattle.schema.specs.Databases.{Row, Database, IsUnique, SatisfiesTable, SatisfyTables}
 
@@ -47,7 +48,7 @@ loads_fault (Some xs) bytes read old new n t e r is same at h =
     rw (← same, is) (at_some (slice_get old.schema.tables n) t (λ k. LoadsTable old new n k (read bytes) (Err e)) at (read_fault old new n t (read bytes) e h))
 
 pub loads_rows : (known : Option (List ℕ)) (bytes : List ℕ) (read : List ℕ → List Record) (old new : Stored) (n : ℕ) (t : Table) (rows : List Row)
-    → IfSome known (λ xs. bytes ≡ xs) → slice_get old.schema.tables n ≡ Some t → IsTable t (read bytes) rows → new ≡ record { schema = old.schema; tables = set old.tables n rows }
+    → IfSome known (λ xs. bytes ≡ xs) → slice_get old.schema.tables n ≡ Some t → IsTold t (read bytes) (Ok rows) → new ≡ record { schema = old.schema; tables = set old.tables n rows }
     → IfSome known (λ xs. Loads old new n (read xs) (Ok (tt {0})))
 loads_rows None bytes read old new n t rows same at h e = tt
 loads_rows (Some xs) bytes read old new n t rows same at h e =

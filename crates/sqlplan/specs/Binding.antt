@@ -16,9 +16,7 @@ use Rattle.binder.specs.declared.query.Cond.TheVariants.{Compare}
 use Rattle.binder.specs.declared.query.From.TheVariants as from
 use Rattle.binder.specs.declared.query.Item.{Item}
 use Rattle.binder.specs.declared.query.Item.TheVariants as item
-use Rattle.binder.specs.declared.query.Occurrence.{Occurrence}
-use Rattle.binder.specs.declared.query.TableUse.{TableUse}
-use Rattle.binder.specs.declared.query.Block.{Block, roll-Block}
+use Rattle.binder.specs.declared.query.Block.{roll-Block}
 use Rattle.binder.specs.declared.query.Query.{Query}
 use Rattle.sqlplan.specs.declared.syntax.ast.Name.{Name}
 use Rattle.sqlplan.specs.declared.syntax.ast.Filter.{Filter}

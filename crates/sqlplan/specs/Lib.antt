@@ -10,6 +10,7 @@ pub mod StoreDatabases
 pub mod StoreFaults
 pub mod StoreInput
 pub mod StoreNumbers
+pub mod StoreParsing
 pub mod StoreReading
 pub mod StoreTables
 pub mod StoreTells

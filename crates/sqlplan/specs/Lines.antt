@@ -8,7 +8,6 @@ use Rattle.sqlplan.specs.declared.syntax.fault.ParseReason.{ParseReason}
 use Rattle.sqlplan.specs.declared.syntax.fault.ParseReason.TheVariants as p
 use Rattle.sqlplan.specs.declared.binding.fault.BindReason.{BindReason}
 use Rattle.sqlplan.specs.declared.binding.fault.BindReason.TheVariants as b
-use Rattle.sqlplan.specs.declared.store.fault.TableRefusal.{TableRefusal}
 use Rattle.sqlplan.specs.declared.refusal.Refusal.{Refusal}
 use Rattle.sqlplan.specs.declared.refusal.Refusal.TheVariants.{Memory, Schema, Text, Scope, Check, Table, TableDevice, Output}
 use Rattle.sqlplan.specs.StoreFaults as store

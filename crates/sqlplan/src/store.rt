@@ -1,15 +1,15 @@
 //! Tables loaded from CSV, and the database that they make up.
 
-pub mod database;
-pub mod fault;
-pub mod field;
-pub mod input;
-pub mod records;
-pub mod source;
-pub mod table;
+mod database;
+mod fault;
+mod field;
+mod input;
+mod records;
+mod source;
+mod table;
 #[cfg(test)]
 mod tests;
-pub mod unique;
+mod unique;
 
 pub use database::Database;
 pub use fault::{FieldFault, TableCause, TableFault, TableRefusal};

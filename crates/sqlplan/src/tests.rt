@@ -5,9 +5,10 @@ use crate::end_to_end::query;
 use crate::refusal::fault_line;
 use crate::store::CountedInput;
 use schema::Schema;
-use std::alloc::Global;
+use std::alloc::{AllocError, Global};
 use std::process::Abort;
 use std::test::Fail;
+use values::Fault;
 
 const SCHEMA: &[u8] = br#"{"tables":[
     {"name":"dept","columns":[{"name":"id","kind":"INT","not_null":true},{"name":"name","kind":"TEXT","not_null":true},
@@ -30,6 +31,14 @@ fn told(
     emp: &[u8],
 ) -> Result<String, Fail> {
     let mut tables = vec![in alloc; CountedInput::new(dept), CountedInput::new(emp)]?;
+    let read = match Schema::read(alloc, schema) {
+        Ok(read) => {
+            assert_eq!(rt; read.tables.len(), tables.len());
+            Some(read)
+        }
+        Err(Fault::Refused(_)) => None,
+        Err(Fault::Memory) => return Err(Fail::from(AllocError)),
+    };
     let mut out = CountedOutput::new(Vec::new(alloc));
     let outcome = query(alloc, schema, text, tables.as_mut_slice(), 20000, &mut out);
     let written = out.into_inner();
@@ -37,7 +46,6 @@ fn told(
         Ok(()) => Ok(String::from_utf8(written)?),
         Err(refusal) => {
             assert!(rt; written.is_empty());
-            let read = Schema::read(alloc, schema).ok();
             Ok(fault_line(alloc, &refusal, read.as_ref())?)
         }
     }

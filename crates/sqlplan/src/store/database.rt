@@ -5,7 +5,7 @@ ghost use Rattle.csv.specs.Reading.{default_config, records, strip_bom};
 ghost use Rattle.schema.specs.Databases.{Satisfies};
 ghost use Rattle.sqlplan.specs.declared.store.fault.TableFault.TheVariants as faults;
 ghost use Rattle.sqlplan.specs.StoreInput.{Rose};
-ghost use Rattle.sqlplan.specs.StoreTables.{ReadsTable};
+ghost use Rattle.sqlplan.specs.StoreParsing.{ReadsTable};
 ghost use Rattle.sqlplan.specs.StoreDatabases.{Loads};
 
 use crate::store::fault::{TableCause, TableFault, TableRefusal};

@@ -4,7 +4,8 @@ ghost use Rattle.std.specs.Prelude.{◌≡◌, ◌∷◌, MatchOption, FitsSigne
 ghost use Rattle.std.specs.Int.{w64};
 ghost use Rattle.std.specs.Fmt.{signed_decimal};
 ghost use Rattle.sqlplan.specs.StoreNumbers as numbers;
-ghost use Rattle.sqlplan.specs.StoreTables.{IsNumber, IsPlain, PlainFails, Stands, FieldFails};
+ghost use Rattle.sqlplan.specs.StoreTables.{IsNumber, Stands, FieldFails};
+ghost use Rattle.sqlplan.specs.StoreParsing.{IsPlain, PlainFails};
 ghost use Rattle.sqlplan.specs.StoreTells.{Tells};
 
 use crate::store::fault::FieldFault;

@@ -5,7 +5,8 @@ ghost use Rattle.schema.specs.Databases.{most_rows};
 ghost use Rattle.csv.specs.Reading.{default_config, records, strip_bom};
 ghost use Rattle.csv.specs.Records.{fields_of};
 ghost use Rattle.sqlplan.specs.StoreReading.{Remains, NextOf};
-ghost use Rattle.sqlplan.specs.StoreTables.{StandFor, RowFails, Parses, ParsesFile, names_of, in_field};
+ghost use Rattle.sqlplan.specs.StoreTables.{Record, StandFor, names_of};
+ghost use Rattle.sqlplan.specs.StoreParsing.{RowFails, Parses, ParsesFile, in_field};
 ghost use Rattle.sqlplan.specs.StoreTells.{Tells};
 
 use crate::store::fault::{FieldFault, TableCause, TableRefusal};
@@ -28,7 +29,7 @@ pub struct Parsed {
 
 /// Whether there is a next record, which is then in `fields`. Over bytes in memory only a want of memory fails.
 fn next_of<R: Read>(reader: &mut Reader<R>, fields: &mut ByteRecord) -> Result<bool, AllocError>
-    ensures { (rest : List (List (List ℕ))) → Remains R.remaining reader.old rest
+    ensures { (rest : List Record) → Remains R.remaining reader.old rest
         → IfOk result (λ found. NextOf rest found (fields_of fields.new) (λ more. Remains R.remaining reader.new more)) }
 {
     if let Ok(found) = reader.read_byte_record(fields) {
@@ -108,7 +109,7 @@ fn rows_of<R: Read>(
     columns: &[Column],
     reader: &mut Reader<R>,
 ) -> Result<Parsed, AllocError>
-    ensures { (rest : List (List (List ℕ))) → Remains R.remaining reader.old rest → IfOk result (Parses columns.now rest) }
+    ensures { (rest : List Record) → Remains R.remaining reader.old rest → IfOk result (Parses columns.now rest) }
 {
     let mut fields = ByteRecord::new(alloc);
     let mut rows = Items::new(alloc);
@@ -147,7 +148,7 @@ fn file_of<R: Read>(
     columns: &[Column],
     reader: &mut Reader<R>,
 ) -> Result<Parsed, AllocError>
-    ensures { (all : List (List (List ℕ))) → Remains R.remaining reader.old all → IfOk result (ParsesFile columns.now all) }
+    ensures { (all : List Record) → Remains R.remaining reader.old all → IfOk result (ParsesFile columns.now all) }
 {
     let mut fields = ByteRecord::new(alloc);
     if !next_of(reader, &mut fields)? {

@@ -57,7 +57,7 @@ fn told(
     bytes: &[u8],
 ) -> Result<String, Fail> {
     let mut text = String::new(alloc);
-    if table >= database.len() {
+    if table >= database.tables().len() {
         return Ok(text);
     }
     match database.load(alloc, table, &mut CountedInput::new(bytes)) {
@@ -82,7 +82,7 @@ fn told(
 /// A table's cells, those of a row after one another.
 fn shown(alloc: Global, database: &Database, table: usize) -> Result<String, Fail> {
     let mut text = String::new(alloc);
-    if table >= database.len() {
+    if table >= database.tables().len() {
         return Ok(text);
     }
     let table = database.table(table);
@@ -223,7 +223,7 @@ fn a_device_fails(rt: HostRuntime) -> Result<(), Fail> {
             calls: 0,
             fails_at,
         };
-        assert!(rt; 0 < database.len());
+        assert!(rt; 0 < database.tables().len());
         let result = database.load(alloc, 0, &mut CountedInput::new(input));
         assert!(rt; matches!(result, Err(TableFault::Device)), "{fails_at}");
         assert_eq!(rt; shown(alloc, &database, 0)?.as_str(), "1 <ops> 10 /");
@@ -234,7 +234,7 @@ fn a_device_fails(rt: HostRuntime) -> Result<(), Fail> {
         calls: 0,
         fails_at: 1,
     };
-    assert!(rt; 0 < database.len());
+    assert!(rt; 0 < database.tables().len());
     let result = database.load(alloc, 0, &mut CountedInput::new(input));
     assert!(rt; matches!(result, Err(TableFault::Device)));
     assert_eq!(rt; told(alloc, &mut database, 0, b"id\n")?.as_str(), "T02 0");
@@ -244,7 +244,7 @@ fn a_device_fails(rt: HostRuntime) -> Result<(), Fail> {
         calls: 0,
         fails_at: 6,
     };
-    assert!(rt; 0 < database.len());
+    assert!(rt; 0 < database.tables().len());
     let result = database.load(alloc, 0, &mut CountedInput::new(input));
     assert!(rt; result.is_ok());
     assert_eq!(rt; shown(alloc, &database, 0)?.as_str(), "");
@@ -271,7 +271,7 @@ fn a_table_is_bounded(rt: HostRuntime) -> Result<(), Fail> {
         told(alloc, &mut database, 0, file.as_bytes())?.as_str(),
         "T07 1000001"
     );
-    assert!(rt; 0 < database.len());
+    assert!(rt; 0 < database.tables().len());
     assert_eq!(rt; database.table(0).len(), 1_000_000);
     Ok(())
 }

@@ -4,7 +4,8 @@ ghost use Rattle.std.specs.Prelude.{◌≡◌, ◌≤◌, ◌<◌, true, false, 
 ghost use Rattle.std.specs.List.{list_any, AllByRecursion};
 ghost use Rattle.values.specs.Truth as logic;
 ghost use Rattle.schema.specs.Databases.{values_at, IsUnique};
-ghost use Rattle.sqlplan.specs.StoreTables.{UniqueTo, RepeatsAt, EarliestRepeat};
+ghost use Rattle.sqlplan.specs.StoreTables.{UniqueTo, RepeatsAt};
+ghost use Rattle.sqlplan.specs.StoreParsing.{EarliestRepeat};
 
 use std::alloc::{AllocError, Global};
 use std::collections::HashMap;

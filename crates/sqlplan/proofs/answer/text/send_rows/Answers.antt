@@ -1,8 +1,7 @@
-use Rattle.std.proofs.Common.{◌≡◌, ◌∙◌, ◌++◌, ◌+◌, ap, map, drop, sym, arith, append_assoc}
+use Rattle.std.proofs.Common.{◌∙◌, ◌++◌, ◌+◌, ap, map, drop, sym, arith, append_assoc}
 use Rattle.csv.specs.Writing.{default_writer, row_text}
-use Rattle.csv.specs.Records.{fields_of}
 use Rattle.sqlplan.specs.AnswerText.{field_of, rows_text}
-use Rattle.sqlplan.proofs.Sent.{appends_more, front_more, front_of_kept, front_of_nothing, on_err, rest_text, no_rest}
+use Rattle.sqlplan.proofs.Sent.{appends_more, front_more, front_of_kept, on_err, rest_text}
 use Rattle.sqlplan.proofs.answer.text.send_rows.Goals as goal
 
 pub returns-in_err-send_record-clause-front : goal.returns-in_err-send_record-clause-front

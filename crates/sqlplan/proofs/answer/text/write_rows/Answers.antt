@@ -1,6 +1,5 @@
-use Rattle.std.proofs.Common.{◌≡◌, ◌∙◌, ◌++◌, ap, sym, refl}
+use Rattle.std.proofs.Common.{◌++◌, ap, refl}
 use Rattle.csv.specs.Writing.{default_writer, row_text}
-use Rattle.csv.specs.Records.{fields_of}
 use Rattle.sqlplan.specs.AnswerText.{rows_text}
 use Rattle.sqlplan.proofs.Sent.{appends_more, appends_kept, front_more, front_of_kept, front_of_nothing, front_of_all, on_err}
 use Rattle.sqlplan.proofs.answer.text.write_rows.Goals as goal

@@ -1,13 +1,14 @@
-use Rattle.std.proofs.Common.{◌≤◌, ◌-◌, ℕ, List, length}
+use Rattle.std.proofs.Common.{◌≤◌, ◌-◌, List, length}
 use Rattle.schema.specs.Databases.{most_rows}
+use Rattle.sqlplan.specs.StoreTables.{Record}
 use Rattle.sqlplan.specs.StoreReading.{Remains}
-use Rattle.sqlplan.specs.StoreTables.{Written}
+use Rattle.sqlplan.specs.StoreParsing.{Written}
 use Rattle.sqlplan.proofs.store.records.rows_of.Given as goal
 
 abbrev pub invariant-loop-alloc : goal.invariant-loop-alloc
 invariant-loop-alloc g l = record {
   few : length l.rows ≤ most_rows;
-  written : (rest : List (List (List ℕ))) → Remains g.R.Read.remaining l.fn.reader rest → (more : List (List (List ℕ))) × Remains g.R.Read.remaining l.reader more × Written l.columns rest l.rows more;
+  written : (rest : List Record) → Remains g.R.Read.remaining l.fn.reader rest → (more : List Record) × Remains g.R.Read.remaining l.reader more × Written l.columns rest l.rows more;
 }
 
 abbrev pub decreases-loop-alloc : goal.decreases-loop-alloc

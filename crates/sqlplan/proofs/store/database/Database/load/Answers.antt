@@ -2,7 +2,7 @@ use Rattle.std.proofs.Common.{◌≡◌, ◌∙◌, ℕ, List, length, Err, ap, 
 use Rattle.std.proofs.Math.ListN.{set}
 use Rattle.std.proofs.lemmas.Result.{err_from_is_err_and}
 use Rattle.csv.specs.Reading.{default_config, records, strip_bom}
-use Rattle.sqlplan.specs.StoreTables.{ReadsTable}
+use Rattle.sqlplan.specs.StoreParsing.{ReadsTable}
 use Rattle.sqlplan.specs.StoreDatabases.{Stored}
 use Rattle.sqlplan.proofs.StoreSatisfies.{satisfy_length, satisfy_set, loads_fault, loads_rows}
 use Rattle.sqlplan.proofs.store.database.Database.load.Goals as goal
@@ -21,7 +21,7 @@ returns-in_err-loaded-clause-exact g c =
     (p.1 ∙ ap Err p.2) c.in-Ok.ensures.bytes at (subst (λ (bytes : List ℕ). ReadsTable c.entry_of-entry.result.now (records default_config (strip_bom bytes)) (Err c.in_err-loaded.field-0.0)) c.as_slice.ensures.value c.in_err-loaded.ensures)
 
 pub invariant_of-self : goal.invariant_of-self
-invariant_of-self g c = satisfy_set c.self.inside.schema.now.tables c.self.inside.tables.items c.args.table c.entry_of-entry.result.now c.in_ok-loaded.loaded c.self.invariant c.entry_of-entry.ensures c.in_ok-loaded.ensures.satisfies
+invariant_of-self g c = satisfy_set c.self.inside.schema.now.tables c.self.inside.tables.items c.args.table c.entry_of-entry.result.now c.in_ok-loaded.loaded c.self.invariant c.entry_of-entry.ensures c.in_ok-loaded.ensures.told.satisfies
 
 pub returns-clause-exact : goal.returns-clause-exact
 returns-clause-exact g c =

@@ -1,0 +1,1 @@
+SELECT id FROM emp WHERE pay <> 500
