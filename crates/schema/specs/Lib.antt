@@ -6,3 +6,4 @@ pub mod Names
 pub mod Places
 pub mod Reading
 pub mod Refusals
+pub mod Schemas

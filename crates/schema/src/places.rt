@@ -1,6 +1,6 @@
 //! Lists of columns by their places.
 
-ghost use Rattle.std.specs.Prelude.{◌≡◌, Ok};
+ghost use Rattle.std.specs.Prelude.{Ok};
 ghost use Rattle.values.specs.Faults.{Gives};
 ghost use Rattle.schema.specs.Places as spec;
 

@@ -1,7 +1,9 @@
 //! Reading a schema.
 
+ghost use Rattle.std.specs.Prelude.{IfOk};
 ghost use Rattle.values.specs.Faults.{Gives};
 ghost use Rattle.schema.specs.Reading.{schema_of};
+ghost use Rattle.schema.specs.Schemas.{IsSchema};
 
 use crate::each::each;
 use crate::entries::entries_of;
@@ -16,6 +18,7 @@ impl Schema {
     #[tactic(auto, unfolding(crate::specs::Reading::schema_of))]
     pub fn read(alloc: Global, bytes: &[u8]) -> Result<Schema, SchemaFault>
         ensures exact { Gives (λ x. x) result (schema_of bytes.now) }
+        ensures schema { IfOk result IsSchema }
     {
         let entries = entries_of(alloc, bytes)?;
         if !are_few(entries.as_slice()) {

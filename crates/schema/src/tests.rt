@@ -1,7 +1,7 @@
 //! Schemas read from JSON.
 
 use crate::schema::{Kind, Schema};
-use std::alloc::{AllocError, Global};
+use std::alloc::Global;
 use std::fmt::Write;
 use std::test::Fail;
 use values::Fault;

@@ -1,12 +1,9 @@
 //! Why a table could not be loaded.
 
 ghost use Rattle.std.specs.Prelude.{◌≡◌};
-ghost use Rattle.values.specs.declared.fault.Fault.TheVariants as fault;
 ghost use Rattle.sqlplan.specs.StoreFaults.{code_of, column_of, earlier_of};
 
-use std::alloc::{AllocError, AllocFailed};
 use thiserror::Error;
-use values::Fault;
 
 /// What is wrong with a field. A bad escape is tested first.
 #[derive(Clone, Copy, Debug, PartialEq, Eq, Error)]
