@@ -92,14 +92,14 @@ impl Columns {
 }
 
 /// Whether each column of a list is in the set.
-pub fn are_within(columns: &[usize], set: &Columns) -> bool
+pub(crate) fn are_within(columns: &[usize], set: &Columns) -> bool
     ensures { result ≡ within columns.now set.now }
 {
     columns.iter().all(|c| set.contains(*c))
 }
 
 /// Whether no column of a list is in the set.
-pub fn are_apart(columns: &[usize], set: &Columns) -> bool
+pub(crate) fn are_apart(columns: &[usize], set: &Columns) -> bool
     ensures { result ≡ apart columns.now set.now }
 {
     columns.iter().all(|c| !set.contains(*c))
