@@ -72,7 +72,7 @@ impl Columns {
     pub fn contains(&self, column: usize) -> bool
         ensures { result ≡ has self.now column }
     {
-        self.columns.as_slice().binary_search(&column).is_ok()
+        self.as_slice().binary_search(&column).is_ok()
     }
 
     pub fn same(&self, other: &Columns) -> bool

@@ -134,6 +134,7 @@ impl Expr {
             Expr::Group(_, _, x) => *x < bound,
         }
     }
+
     /// Whether the expression is well formed, in a query with these table occurrences and aggregates. The columns are
     /// those of the classes, by their numbers.
     pub fn is_formed(&self, uses: &[TableUse], own: &[Aggregation], columns: &[Columns]) -> bool
