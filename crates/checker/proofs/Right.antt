@@ -48,9 +48,9 @@ pub checked : (S : Schema) (q : Query) (s : IsSimple q) (c : Certificate) → re
 checked S q s c ok = record {
   replays = ok;
   answers = λ D satisfies.
-    let T : Tables = tables_of S D in
-    record {
-      spread = λ r. ap (λ rows. count r (shown q rows)) (plays-root q s c c T nulls ok) ∙ means_query q s T (satisfying_fits S D satisfies) nulls r;
-      ordered = subst (λ keys. IsAllowed keys (answer q T c.plan)) (sym s.unordered) (any-order (answer q T c.plan));
-    };
+      let T : Tables = tables_of S D in
+      record {
+        spread = λ r. ap (λ rows. count r (shown q rows)) (plays-root q s c c T nulls ok) ∙ means_query q s T (satisfying_fits S D satisfies) nulls r;
+        ordered = subst (λ keys. IsAllowed keys (answer q T c.plan)) (sym s.unordered) (any-order (answer q T c.plan));
+      };
 }

@@ -39,7 +39,7 @@ is_frame_line None x = true
 is_frame_line (Some y) x = same_expr x y
 
 -- line n, after lines whose classes have these columns: it names earlier lines, is well formed, and is the frame's line, if
--- the frame has one there
+-- the frame has one there. A simple query has no aggregates of its own.
 abbrev pub line_replays : Query → ℕ → (ℕ → List ℕ) → Expr → Result Expr CheckRefusal
 line_replays q n cols x =
     wanted_if (refusal n UnknownLine) (classes_pass (λ g. nat_lt g n) x) x
@@ -97,6 +97,12 @@ root q = length (frame_of q) - 1
 -- the certificate, if it replays: its lines do, and its plan computes the query's class
 unfoldable pub replayed : Query → Certificate → Result Certificate CheckRefusal
 replayed q c = lines_replay q [] (map founding c.lines) >>= λ E. plan_fits (map founding c.lines) c.plan (root q) (length E) >>= λ n. Ok c
+
+-- what a check accepts
+pub record Accepted : Type 0 where
+  pub schema : Schema
+  pub query : Query
+  pub certificate : Certificate
 
 -- the certificate replays, and in each database that satisfies the schema its plan gives an answer of the query
 pub record IsChecked (S : Schema) (q : Query) (c : Certificate) : Type 0 where

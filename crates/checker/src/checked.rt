@@ -14,8 +14,9 @@ use schema::Schema;
 use std::alloc::Global;
 use std::marker::Model;
 
-/// Checks a certificate against the query, as the reader of the certificate would by hand: each line may stand where it
-/// does, and each node computes the class that is wanted of it.
+/// Checks that each line of a certificate may stand where it does, and that each node of its plan computes the class that
+/// is wanted of it. Else the first fault is told; lines go before nodes. A plan with more nodes than there are numbers has
+/// no room in memory, and is told so.
 #[tactic(auto, unfolding(crate::specs::Replay::replayed))]
 pub fn check<'a>(
     alloc: Global,
@@ -24,8 +25,8 @@ pub fn check<'a>(
     certificate: &'a Certificate,
 ) -> Result<Checked<'a>, CheckFault>
     requires { IsSimple query.now }
-    ensures verdict { Gives (λ c. c.2) result (replayed query.now certificate.now) }
-    ensures of { IfOk result (λ c. (c.0 ≡ schema.now) × (c.1 ≡ query.now)) }
+    ensures verdict { Gives (λ c. c.certificate) result (replayed query.now certificate.now) }
+    ensures of { IfOk result (λ c. (c.schema ≡ schema.now) × (c.query ≡ query.now)) }
 {
     let frame = frame(alloc, query)?;
     let lines = certificate.lines.as_slice();
@@ -53,41 +54,42 @@ pub struct Checked<'a> {
 }
 
 impl<'a> Model for Checked<'a> {
-    ghost use Rattle.std.specs.Coded.{codes};
+    ghost use Rattle.std.specs.Prelude.{refl};
+    ghost use Rattle.std.specs.Coded.{codes, code_by};
     ghost use Rattle.schema.specs.declared.schema.Schema.{Schema};
     ghost use Rattle.schema.specs.contracts.schema.Schema as s;
     ghost use Rattle.binder.specs.declared.query.Query.{Query};
     ghost use Rattle.binder.specs.contracts.query.Query as q;
     ghost use Rattle.checker.specs.declared.certificate.Certificate.{Certificate};
     ghost use Rattle.checker.specs.contracts.certificate.Certificate as c;
-    ghost use Rattle.checker.specs.Replay.{IsChecked};
+    ghost use Rattle.checker.specs.Replay.{Accepted, IsChecked};
 
-    ghost Value = { Schema × Query × Certificate };
+    ghost Value = { Accepted };
 
-    ghost coded = { Prim.hlevel (codes, s.the_row.coded, q.the_row.coded, c.the_row.coded) };
+    ghost coded = { code_by (Schema × Query × Certificate) (Prim.hlevel (codes, s.the_row.coded, q.the_row.coded, c.the_row.coded)) (λ a. (a.schema, a.query, a.certificate)) (λ t. record { schema = t.0; query = t.1; certificate = t.2 }) (λ _. refl) };
 
-    ghost view = { λ c. (c.schema.now, c.query.now, c.certificate.now) };
+    ghost view = { λ c. record { schema = c.schema.now; query = c.query.now; certificate = c.certificate.now } };
 
     ghost invariant = { λ c. IsChecked c.schema.now c.query.now c.certificate.now };
 }
 
 impl<'a> Checked<'a> {
     pub fn schema(&self) -> &'a Schema
-        ensures { result.now ≡ self.now.0 }
+        ensures { result.now ≡ self.now.schema }
     {
         self.schema
     }
 
     pub fn query(&self) -> &'a Query
-        ensures { result.now ≡ self.now.1 }
+        ensures { result.now ≡ self.now.query }
     {
         self.query
     }
 
     /// The certificate. It replays, and in each database that satisfies the schema its plan gives an answer of the query.
     pub fn certificate(&self) -> &'a Certificate
-        ensures certificate { result.now ≡ self.now.2 }
-        ensures checked { IsChecked self.now.0 self.now.1 self.now.2 }
+        ensures certificate { result.now ≡ self.now.certificate }
+        ensures checked { IsChecked self.now.schema self.now.query self.now.certificate }
     {
         self.certificate
     }

@@ -72,7 +72,7 @@ impl Columns {
     pub fn contains(&self, column: usize) -> bool
         ensures { result ≡ has self.now column }
     {
-        self.columns.as_slice().binary_search(&column).is_ok()
+        self.as_slice().binary_search(&column).is_ok()
     }
 
     pub fn same(&self, other: &Columns) -> bool
@@ -92,14 +92,14 @@ impl Columns {
 }
 
 /// Whether each column of a list is in the set.
-pub fn are_within(columns: &[usize], set: &Columns) -> bool
+pub(crate) fn are_within(columns: &[usize], set: &Columns) -> bool
     ensures { result ≡ within columns.now set.now }
 {
     columns.iter().all(|c| set.contains(*c))
 }
 
 /// Whether no column of a list is in the set.
-pub fn are_apart(columns: &[usize], set: &Columns) -> bool
+pub(crate) fn are_apart(columns: &[usize], set: &Columns) -> bool
     ensures { result ≡ apart columns.now set.now }
 {
     columns.iter().all(|c| !set.contains(*c))

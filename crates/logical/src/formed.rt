@@ -22,7 +22,7 @@ fn is_in_table(table: &TableUse, column: usize) -> bool
 }
 
 /// Whether the column is one of the query's: of a table occurrence, or of an aggregate of its own.
-pub fn is_own(uses: &[TableUse], own: &[Aggregation], column: usize) -> bool
+fn is_own(uses: &[TableUse], own: &[Aggregation], column: usize) -> bool
     ensures { result ≡ spec.is_own uses.now own.now column }
 {
     is_in_tables(uses, column) || is_added(own, column)
@@ -134,6 +134,7 @@ impl Expr {
             Expr::Group(_, _, x) => *x < bound,
         }
     }
+
     /// Whether the expression is well formed, in a query with these table occurrences and aggregates. The columns are
     /// those of the classes, by their numbers.
     pub fn is_formed(&self, uses: &[TableUse], own: &[Aggregation], columns: &[Columns]) -> bool

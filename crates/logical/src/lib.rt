@@ -10,6 +10,8 @@ pub mod condition;
 pub mod expr;
 pub mod formed;
 pub mod framing;
+#[cfg(test)]
+mod tests;
 
 pub use columns::Columns;
 pub use condition::{Condition, Conjuncts, Term};

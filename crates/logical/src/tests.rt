@@ -1,0 +1,216 @@
+//! Each call with ample memory.
+
+ghost use Rattle.std.specs.Prelude.{◌≡◌, ◌+◌, IfOk, length};
+ghost use Rattle.binder.specs.declared.query.Cond.{out-Cond};
+ghost use Rattle.logical.specs.Frame.{IsSimple, IsComparison};
+ghost use Rattle.logical.specs.Expressions.{NumbersFit};
+
+use super::*;
+use binder::{Aggregate, Block, Column as Place, Cond, From, Item, Occurrence, Query, TableUse};
+use schema::{Column, Kind, Table};
+use std::alloc::{AllocError, Global};
+use values::{Boxed, Comparison, Items, Text, Value};
+
+fn push_column(alloc: Global, columns: &mut Items<Column>, name: &str) -> Result<(), AllocError>
+    ensures { IfOk result (λ _. length columns.new ≡ length columns.old + 1) }
+{
+    let name = Text::from_str(alloc, name)?;
+    columns.push(Column {
+        name,
+        kind: Kind::Int,
+        not_null: false,
+    })
+}
+
+/// dept(id, boss), whose columns are 4 and 5
+fn dept(alloc: Global) -> Result<TableUse, AllocError>
+    ensures numbers { IfOk result (λ t. (t.first_column ≡ 4) × (t.table ≡ 0)) }
+    ensures width { IfOk result (λ t. length t.entry.columns ≡ 2) }
+{
+    let mut columns = Items::new(alloc);
+    push_column(alloc, &mut columns, "id")?;
+    push_column(alloc, &mut columns, "boss")?;
+    Ok(TableUse {
+        table: 0,
+        entry: Table {
+            name: Text::from_str(alloc, "dept")?,
+            columns,
+            unique: Items::new(alloc),
+            indexes: Items::new(alloc),
+        },
+        name: Text::from_str(alloc, "dept")?,
+        first_column: 4,
+    })
+}
+
+fn is_known(alloc: Global) -> Result<Boxed<Cond>, AllocError>
+    ensures { IfOk result (λ c. IsComparison 2 (out-Cond c)) }
+{
+    let boss = binder::Term::Column(Place { level: 0, place: 1 });
+    Boxed::new(
+        alloc,
+        Cond::Compare(Comparison::Less, boss, binder::Term::Literal(Value::Int(7))),
+    )
+}
+
+/// `SELECT boss, id FROM dept WHERE boss < 7`
+fn bosses(alloc: Global) -> Result<Query, AllocError>
+    ensures { IfOk result IsSimple }
+{
+    let mut tables = Items::new(alloc);
+    tables.push(dept(alloc)?)?;
+    let mut items = Items::new(alloc);
+    items.push(Item::Column(Place { level: 0, place: 1 }))?;
+    items.push(Item::Column(Place { level: 0, place: 0 }))?;
+    let mut names = Items::new(alloc);
+    names.push(Text::from_str(alloc, "boss")?)?;
+    names.push(Text::from_str(alloc, "id")?)?;
+    let filter = Some(is_known(alloc)?);
+    Ok(Query {
+        tables,
+        block: Block {
+            from: From::Table(Occurrence {
+                number: 0,
+                table: 0,
+            }),
+            filter,
+            grouped: false,
+            keys: Items::new(alloc),
+            items,
+            distinct: false,
+        },
+        names,
+        order: Items::new(alloc),
+    })
+}
+
+fn compare(comparison: Comparison, column: usize, number: i128) -> Condition {
+    Condition::Compare(
+        comparison,
+        Term::Column(column),
+        Term::Literal(Value::Int(number)),
+    )
+}
+
+fn columns(alloc: Global, first: usize, second: usize) -> Result<Columns, AllocError> {
+    let mut columns = Vec::new(alloc);
+    columns.push(first)?;
+    columns.push(second)?;
+    Ok(Columns::from_vec(columns))
+}
+
+/// Whether the frame is `get 0`, `select [<(c5,i7)] 0`, `keep 4,5 1`.
+fn frames(alloc: Global) -> Result<bool, AllocError> {
+    let lines = frame(alloc, &bosses(alloc)?)?;
+    let conjuncts = Conjuncts::one(alloc, compare(Comparison::Less, 5, 7))?;
+    let select = Expr::Select(conjuncts, 0);
+    let keep = Expr::Keep(columns(alloc, 5, 4)?, 1);
+    match lines.as_slice() {
+        [first, second, third] => Ok(
+            first.same(&Expr::Get(0)) && second.same(&select) && third.same(&keep),
+        ),
+        _ => Ok(false),
+    }
+}
+
+#[test]
+fn a_frame_has_three_lines(rt: HostRuntime) {
+    assert_eq!(rt; frames(rt.alloc()), Ok(true));
+}
+
+/// `or(not(<(c5,i7)),exists(3))`, `null(c4)` and `in(c4,3,c9)` under an AND
+fn conditions(alloc: Global) -> Result<Condition, AllocError> {
+    let mut choices = Items::new(alloc);
+    choices.push(Condition::Not(Boxed::new(alloc, compare(Comparison::Less, 5, 7))?))?;
+    choices.push(Condition::Exists(3))?;
+    let mut all = Items::new(alloc);
+    all.push(Condition::Or(choices))?;
+    all.push(Condition::IsNull(Term::Column(4)))?;
+    all.push(Condition::In(Term::Column(4), 3, 9))?;
+    Ok(Condition::And(all))
+}
+
+fn copies(alloc: Global) -> Result<bool, AllocError> {
+    let condition = conditions(alloc)?;
+    let other = condition.copy(alloc)?;
+    let conjuncts = Conjuncts::one(alloc, condition)?;
+    let copied = conjuncts.copy(alloc)?;
+    let set = columns(alloc, 5, 4)?;
+    let read = Term::Column(4).copy(alloc)?;
+    let alike = copied.same(&conjuncts) && copied.as_slice()[0].same(&other);
+    Ok(alike && set.copy(alloc)?.same(&set) && read.same(&Term::Column(4)) && !conjuncts.is_plain())
+}
+
+#[test]
+fn a_copy_is_the_same(rt: HostRuntime) {
+    assert_eq!(rt; copies(rt.alloc()), Ok(true));
+}
+
+fn sets(alloc: Global) -> Result<bool, AllocError> {
+    let two = columns(alloc, 5, 4)?;
+    let three = Columns::run(alloc, 4, 2)?.union(alloc, &columns(alloc, 9, 5)?)?;
+    Ok(
+        two.as_slice() == [4, 5].as_slice()
+            && three.as_slice() == [4, 5, 9].as_slice()
+            && three.contains(9)
+            && !three.contains(6),
+    )
+}
+
+#[test]
+fn sets_rise(rt: HostRuntime) {
+    assert_eq!(rt; sets(rt.alloc()), Ok(true));
+}
+
+/// The columns of the classes of `get 0` and of a `keep 9`.
+fn classes(alloc: Global, uses: &[TableUse]) -> Result<Vec<Columns>, AllocError>
+    requires { NumbersFit uses.now }
+    ensures { IfOk result (λ v. length v.items ≡ 2) }
+{
+    let mut classes = Vec::new(alloc);
+    classes.push(Expr::Get(0).columns(alloc, uses, &[])?)?;
+    classes.push(columns(alloc, 9, 9)?)?;
+    Ok(classes)
+}
+
+fn uses(alloc: Global) -> Result<Vec<TableUse>, AllocError>
+    ensures { IfOk result (λ v. NumbersFit v.items) }
+{
+    let mut uses = Vec::new(alloc);
+    uses.push(dept(alloc)?)?;
+    Ok(uses)
+}
+
+/// Whether it is well formed, in a query with the aggregate `9=sum:5`.
+fn is_formed(alloc: Global, expr: &Expr) -> Result<bool, AllocError> {
+    let uses = uses(alloc)?;
+    let classes = classes(alloc, &uses)?;
+    let own = Aggregation {
+        column: 9,
+        aggregate: Aggregate::Sum(5),
+    };
+    Ok(expr.names_below(2) && expr.is_formed(&uses, &[own], &classes))
+}
+
+fn keep(alloc: Global, column: usize, class: usize) -> Result<bool, AllocError> {
+    is_formed(alloc, &Expr::Keep(columns(alloc, 4, column)?, class))
+}
+
+#[test]
+fn a_keep_is_of_columns_that_are_there(rt: HostRuntime) {
+    assert_eq!(rt; keep(rt.alloc(), 5, 0), Ok(true));
+    assert_eq!(rt; keep(rt.alloc(), 6, 0), Ok(false));
+    assert_eq!(rt; keep(rt.alloc(), 5, 1), Ok(false));
+}
+
+fn join(alloc: Global, right: usize) -> Result<bool, AllocError> {
+    let conjuncts = Conjuncts::one(alloc, compare(Comparison::Less, 9, 7))?;
+    is_formed(alloc, &Expr::Join(conjuncts, 0, right))
+}
+
+#[test]
+fn the_sides_of_a_join_share_no_column(rt: HostRuntime) {
+    assert_eq!(rt; join(rt.alloc(), 1), Ok(true));
+    assert_eq!(rt; join(rt.alloc(), 0), Ok(false));
+    assert_eq!(rt; join(rt.alloc(), 2), Ok(false));
+}
