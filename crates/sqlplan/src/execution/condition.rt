@@ -27,14 +27,15 @@ impl<'t> TableRow<'t, '_> {
     pub fn cell(self, column: usize) -> Cell<'t>
         ensures { value_of result ≡ row_of self.entry column }
     {
+        if self.row >= self.table.len() {
+            return Cell::Null;
+        }
         match self.heading.place_of(column) {
-            Some(place) => {
-                if place < self.table.width() && self.row < self.table.len() {
-                    self.table.cell(self.row, place)
-                } else {
-                    Cell::Null
-                }
-            }
+            Some(place) => if place < self.table.width() {
+                self.table.cell(self.row, place)
+            } else {
+                Cell::Null
+            },
             None => Cell::Null,
         }
     }

@@ -1,6 +1,8 @@
 //! Where the columns of a table occurrence stand in its table.
 
 ghost use Rattle.std.specs.Prelude.{◌≡◌, ◌++◌, ◌∷◌, [], ◌-◌, Some, None, OnOk, if◌then◌else◌};
+ghost use Rattle.std.specs.List.{list_all};
+ghost use Rattle.logical.specs.Columns.{has};
 ghost use Rattle.sqlplan.specs.Execution.{is_visible};
 
 use logical::Columns;
@@ -45,10 +47,17 @@ impl Heading {
         if column < self.first || column - self.first >= self.width {
             return None;
         }
-        if self.cuts.iter().all(|columns| columns.contains(column)) {
+        if self.is_kept(column) {
             Some(column - self.first)
         } else {
             None
         }
+    }
+
+    /// Whether each cut kept the column.
+    fn is_kept(&self, column: usize) -> bool
+        ensures { result ≡ list_all (λ kept. has kept column) self.now.cuts.items }
+    {
+        self.cuts.iter().all(|columns| columns.contains(column))
     }
 }

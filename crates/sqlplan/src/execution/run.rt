@@ -1,12 +1,13 @@
 //! The rows that a checked plan gives.
 
-ghost use Rattle.std.specs.Prelude.{◌≡◌, map, slice_get, IfOk};
+ghost use Rattle.std.specs.Prelude.{◌≡◌, ◌+◌, ◌<◌, ◌^◌, length, map, slice_get, IfOk};
 ghost use Rattle.std.specs.Option.{option_copied};
-ghost use Rattle.logical.specs.Bags.{nulls, select};
+ghost use Rattle.logical.specs.Bags.{nulls, select, keep};
+ghost use Rattle.logical.specs.Columns.{has};
 ghost use Rattle.logical.specs.Conditions.{holds};
 ghost use Rattle.logical.specs.Expressions.{get_rows};
-ghost use Rattle.logical.specs.Frame.{IsSimple, shown_columns, item_column};
-ghost use Rattle.checker.specs.Plans.{play, answer};
+ghost use Rattle.logical.specs.Frame.{IsSimple, IsSimpleItem, shown_columns, item_column};
+ghost use Rattle.checker.specs.Plans.{first_input, play, answer};
 ghost use Rattle.sqlplan.specs.Execution.{row_of, found_rows, table_rows, no_classes, tables_in};
 
 use crate::execution::condition::TableRow;
@@ -14,7 +15,7 @@ use crate::execution::heading::Heading;
 use crate::store::{Database, RowSource, Table};
 use binder::{From, Item, Query, TableUse};
 use checker::{Checked, Node, Plan};
-use logical::Conjuncts;
+use logical::{Columns, Conjuncts};
 use std::alloc::{AllocError, Global};
 use values::{Items, Value};
 
@@ -83,7 +84,29 @@ fn filtered<'a>(
     })
 }
 
+/// The rows cut to the columns.
+fn cut<'a>(
+    alloc: Global,
+    input: TableRows<'a>,
+    columns: &Columns,
+) -> Result<TableRows<'a>, AllocError>
+    ensures { IfOk result (λ cut. table_rows cut ≡ keep (has columns.now) (λ _. table_rows input.entry) nulls) }
+{
+    let TableRows {
+        table,
+        mut heading,
+        rows,
+    } = input;
+    heading.cut(columns.copy(alloc)?)?;
+    Ok(TableRows {
+        table,
+        heading,
+        rows,
+    })
+}
+
 /// The rows of a plan; `None` where there are none, since a node lacks what it reads.
+#[cycle(play)]
 fn play<'a>(
     alloc: Global,
     plan: &Plan,
@@ -92,21 +115,34 @@ fn play<'a>(
 ) -> Result<Option<TableRows<'a>>, AllocError>
     ensures { IfOk result (λ found. found_rows found ≡ play query.now.tables (tables_in database.entry.now) plan.now nulls) }
 {
-    if let Node::Scan { occurrence, .. } = &plan.node {
-        return scanned(alloc, query, database, *occurrence);
-    }
-    let Some(input) = plan.inputs.as_slice().first() else {
-        return Ok(None);
-    };
-    let Some(mut rows) = play(alloc, input, query, database)? else {
-        return Ok(None);
-    };
+    let inputs = plan.inputs.as_slice();
     match &plan.node {
-        Node::Scan { .. } => {}
-        Node::Filter { conjuncts, .. } => rows = filtered(alloc, rows, conjuncts)?,
-        Node::Cut { columns, .. } => rows.heading.cut(columns.copy(alloc)?)?,
+        Node::Scan { occurrence, .. } => scanned(alloc, query, database, *occurrence),
+        Node::Filter { conjuncts, .. } => match play_first(alloc, inputs, query, database)? {
+            Some(rows) => Ok(Some(filtered(alloc, rows, conjuncts)?)),
+            None => Ok(None),
+        },
+        Node::Cut { columns, .. } => match play_first(alloc, inputs, query, database)? {
+            Some(rows) => Ok(Some(cut(alloc, rows, columns)?)),
+            None => Ok(None),
+        },
     }
-    Ok(Some(rows))
+}
+
+/// The rows of a node's first input.
+#[cycle(play)]
+fn play_first<'a>(
+    alloc: Global,
+    inputs: &[Plan],
+    query: &Query,
+    database: &'a Database<'_>,
+) -> Result<Option<TableRows<'a>>, AllocError>
+    ensures { IfOk result (λ found. found_rows found ≡ first_input (map (play query.now.tables (tables_in database.entry.now)) inputs.now) nulls) }
+{
+    match inputs.first() {
+        Some(plan) => play(alloc, plan, query, database),
+        None => Ok(None),
+    }
 }
 
 /// The column numbers of the items of a simple query, in their order.
@@ -125,7 +161,11 @@ fn item_columns(alloc: Global, query: &Query) -> Result<Vec<usize>, AllocError>
     Ok(columns)
 }
 
-fn column_of(table_use: &TableUse, item: Item) -> usize {
+fn column_of(table_use: &TableUse, item: Item) -> usize
+    requires room { table_use.now.first_column + length table_use.now.entry.columns < 2 ^ 64 }
+    requires shown { IsSimpleItem (length table_use.now.entry.columns) item }
+    ensures { result ≡ item_column table_use.now item }
+{
     match item {
         Item::Column(column) => table_use.first_column + column.place,
         Item::Aggregate(column, _) => column,
