@@ -1,21 +1,23 @@
 //! The rows that a checked plan gives.
 
-ghost use Rattle.std.specs.Prelude.{◌≡◌, ◌+◌, ◌<◌, ◌^◌, length, map, slice_get, IfOk};
+ghost use Rattle.std.specs.Prelude.{◌≡◌, ◌+◌, ◌<◌, ◌^◌, length, map, filter, [], slice_get, slice_index_or, Some, IfOk};
+ghost use Rattle.std.specs.List.{AllByRecursion, range_with_len};
 ghost use Rattle.std.specs.Option.{option_copied};
 ghost use Rattle.logical.specs.Bags.{nulls, select, keep};
 ghost use Rattle.logical.specs.Columns.{has};
 ghost use Rattle.logical.specs.Conditions.{holds};
 ghost use Rattle.logical.specs.Expressions.{get_rows};
 ghost use Rattle.logical.specs.Frame.{IsSimple, IsSimpleItem, shown_columns, item_column};
+ghost use Rattle.logical.specs.Frame as spec;
 ghost use Rattle.checker.specs.Plans.{first_input, play, answer};
-ghost use Rattle.sqlplan.specs.Execution.{row_of, found_rows, table_rows, no_classes, tables_in};
+ghost use Rattle.sqlplan.specs.Execution.{row_of, row_env, found_rows, table_rows, no_classes, tables_in};
 
 use crate::execution::condition::TableRow;
 use crate::execution::heading::Heading;
 use crate::store::{Database, RowSource, Table};
 use binder::{From, Item, Query, TableUse};
 use checker::{Checked, Node, Plan};
-use logical::{Columns, Conjuncts};
+use logical::{Columns, Condition, Conjuncts};
 use std::alloc::{AllocError, Global};
 use values::{Items, Value};
 
@@ -28,6 +30,13 @@ pub struct TableRows<'a> {
     table: &'a Table,
     heading: Heading,
     rows: Vec<usize>,
+}
+
+/// The numbers of so many rows.
+fn all_rows(alloc: Global, count: usize) -> Result<Vec<usize>, AllocError>
+    ensures { IfOk result (λ rows. rows.items ≡ range_with_len 0 count) }
+{
+    (0..count).collect(alloc)
 }
 
 /// All rows of a table occurrence; `None` where there is none.
@@ -49,8 +58,31 @@ fn scanned<'a>(
     Ok(Some(TableRows {
         table,
         heading: Heading::new(alloc, table_use.first_column, width),
-        rows: (0..table.len()).collect(alloc)?,
+        rows: all_rows(alloc, table.len())?,
     }))
+}
+
+/// The rows, by their numbers, at which all conditions are true.
+fn passing(
+    alloc: Global,
+    table: &Table,
+    heading: &Heading,
+    rows: &[usize],
+    conditions: &[Condition],
+) -> Result<Vec<usize>, AllocError>
+    ensures { IfOk result (λ kept. kept.items ≡ filter (λ i. holds no_classes conditions.now (row_env heading.now (slice_index_or table.now i []))) rows.now) }
+{
+    rows.iter()
+        .copied()
+        .filter(|row| {
+            let table_row = TableRow {
+                table,
+                row: *row,
+                heading,
+            };
+            table_row.holds(conditions)
+        })
+        .collect(alloc)
 }
 
 /// The rows at which all conjuncts are true.
@@ -66,17 +98,13 @@ fn filtered<'a>(
         heading,
         rows,
     } = input;
-    let mut kept = Vec::new(alloc);
-    for row in rows.as_slice() {
-        let table_row = TableRow {
-            table,
-            row: *row,
-            heading: &heading,
-        };
-        if table_row.holds(conjuncts.as_slice()) {
-            kept.push(*row)?;
-        }
-    }
+    let kept = passing(
+        alloc,
+        table,
+        &heading,
+        rows.as_slice(),
+        conjuncts.as_slice(),
+    )?;
     Ok(TableRows {
         table,
         heading,
@@ -150,13 +178,29 @@ fn item_columns(alloc: Global, query: &Query) -> Result<Vec<usize>, AllocError>
     requires { IsSimple query.now }
     ensures { IfOk result (λ columns. columns.items ≡ shown_columns query.now) }
 {
+    match &query.block.from {
+        From::Table(occurrence) => match query.tables.as_slice().get(occurrence.number) {
+            Some(table_use) => columns_of(alloc, table_use, query.block.items.as_slice()),
+            None => unreachable!(),
+        },
+        From::Join(_, _, _) => unreachable!(),
+        From::LeftJoin(_, _, _) => unreachable!(),
+        From::Comma(_, _) => unreachable!(),
+    }
+}
+
+fn columns_of(
+    alloc: Global,
+    table_use: &TableUse,
+    items: &[Item],
+) -> Result<Vec<usize>, AllocError>
+    requires room { table_use.now.first_column + length table_use.now.entry.columns < 2 ^ 64 }
+    requires shown { AllByRecursion (IsSimpleItem (length table_use.now.entry.columns)) items.now }
+    ensures { IfOk result (λ columns. columns.items ≡ spec.item_columns (Some table_use.now) items.now) }
+{
     let mut columns = Vec::new(alloc);
-    if let From::Table(occurrence) = &query.block.from {
-        if let Some(table_use) = query.tables.get(occurrence.number) {
-            for item in query.block.items.as_slice() {
-                columns.push(column_of(table_use, *item))?;
-            }
-        }
+    for item in items {
+        columns.push(column_of(table_use, *item))?;
     }
     Ok(columns)
 }

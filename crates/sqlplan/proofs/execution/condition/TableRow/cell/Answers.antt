@@ -1,5 +1,5 @@
 use Rattle.std.proofs.Common.{◌≡◌, ◌≤◌, length, slice_index_or, [], sym, ◌∙◌, arith}
-use Rattle.sqlplan.proofs.ExecutionRows.{no_row, at_place, past_place}
+use Rattle.sqlplan.proofs.ExecutionRows.{at_place, past_place}
 use Rattle.sqlplan.proofs.Widths.{row_width}
 use Rattle.sqlplan.proofs.execution.condition.TableRow.cell.Goals as goal
 
