@@ -83,14 +83,14 @@ bound_simple place t f c names items filtered shown few =
     let one_use : TableUse = record { table = place; entry = t; name = t.name; first_column = 0 } in
     let room : TableUse → Type 0 = λ u. u.first_column + length u.entry.columns < 2 ^ 64 in
     record {
-  occurrence = record { number = 0; table = place };
-  table = one_use;
-  from = refl;
-  found = refl;
-  same_table = refl;
-  numbers_fit = All-from_recursion room (one_use ∷ []) (omega arith, tt);
-  filter = simple_filter t f c filtered;
-  ungrouped = refl;
-  keeps_all = refl;
-  items = simple_items t names items shown;
-}
+      occurrence = record { number = 0; table = place };
+      table = one_use;
+      from = refl;
+      found = refl;
+      same_table = refl;
+      numbers_fit = All-from_recursion room (one_use ∷ []) (omega arith, tt);
+      filter = simple_filter t f c filtered;
+      ungrouped = refl;
+      keeps_all = refl;
+      items = simple_items t names items shown;
+    }

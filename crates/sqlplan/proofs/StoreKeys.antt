@@ -54,9 +54,10 @@ lists_decide (x ∷ xs) (y ∷ ys) =
     let one = value_decides x.now y.now in
     let more = lists_decide xs ys in
     let heads = (value_eq.ghosts).eq x.now y.now in
-    let tails = pointwise (λ a b. (value_eq.ghosts).eq a.now b.now) xs ys in
-    ((λ t. let p = and_true heads tails t in ap (λ (v : Value). v ∷ map (λ v. v.now) xs) (one.0 p.0) ∙ ap (λ (vs : List Value). y.now ∷ vs) (more.0 p.1)),
-     (λ e. both_true heads tails (one.1 (cc e)) (more.1 (cc e))))
+    let tails = pointwise (λ a b. (value_eq.ghosts).eq a.now b.now) xs ys in (
+      (λ t. let p = and_true heads tails t in ap (λ (v : Value). v ∷ map (λ v. v.now) xs) (one.0 p.0) ∙ ap (λ (vs : List Value). y.now ∷ vs) (more.0 p.1)),
+      (λ e. both_true heads tails (one.1 (cc e)) (more.1 (cc e))),
+    )
 
 pub keys_decide : (x y : Key) → Decides (key_eq x y) (shown x ≡ shown y)
 keys_decide x y = lists_decide x.items y.items
@@ -65,9 +66,9 @@ keys_decide x y = lists_decide x.items y.items
 pub record IsSeen {S : Type 0} (rows : List Row) (places : List ℕ) (i : ℕ) (seen : HashMap Key ℕ S) : Type 0 where
   pub unique : UniqueTo i rows places
   pub known : (k : Key) (e : ℕ) → hash.get key_eq seen k ≡ Some e
-    → (e < i) × (list_any is_null (values_at places (slice_index_or rows e [])) ≡ false) × (values_at places (slice_index_or rows e []) ≡ shown k)
+      → (e < i) × (list_any is_null (values_at places (slice_index_or rows e [])) ≡ false) × (values_at places (slice_index_or rows e []) ≡ shown k)
   pub kept : (k : Key) (e : ℕ) → e < i → list_any is_null (values_at places (slice_index_or rows e [])) ≡ false
-    → values_at places (slice_index_or rows e []) ≡ shown k → hash.get key_eq seen k ≡ None → ⊥
+      → values_at places (slice_index_or rows e []) ≡ shown k → hash.get key_eq seen k ≡ None → ⊥
 
 pub none_seen : {S : Type 0} (rows : List Row) (places : List ℕ) (m : HashMap Key ℕ S) → hash.IsEmpty m → IsSeen rows places 0 m
 none_seen rows places m e = record {
@@ -84,16 +85,16 @@ pub null_seen : {S : Type 0} (rows : List Row) (places : List ℕ) (i : ℕ) (m 
     → list_any is_null (values_at places (slice_index_or rows i [])) ≡ true → IsSeen rows places (i + 1) m
 null_seen rows places i m h null = record {
   unique = λ a b lt low whole same.
-    elim (below_or_last b i low) [
-      | inl below ↦ h.unique a b lt below whole same
-      | inr is ↦ let bad : list_any is_null (values_at places (slice_index_or rows a [])) ≡ true = ap (list_any is_null) (same ∙ ap (λ (j : ℕ). values_at places (slice_index_or rows j [])) is) ∙ null in cc (bad, whole)
-    ];
+      elim (below_or_last b i low) [
+        | inl below ↦ h.unique a b lt below whole same
+        | inr is ↦ let bad : list_any is_null (values_at places (slice_index_or rows a [])) ≡ true = ap (list_any is_null) (same ∙ ap (λ (j : ℕ). values_at places (slice_index_or rows j [])) is) ∙ null in cc (bad, whole)
+      ];
   known = λ k e at. let r = h.known k e at in (omega (arith, r.0), r.1, r.2);
   kept = λ k e low whole same at.
-    elim (below_or_last e i low) [
-      | inl below ↦ h.kept k e below whole same at
-      | inr is ↦ let bad : list_any is_null (values_at places (slice_index_or rows e [])) ≡ true = ap (λ (j : ℕ). list_any is_null (values_at places (slice_index_or rows j []))) is ∙ null in cc (bad, whole)
-    ];
+      elim (below_or_last e i low) [
+        | inl below ↦ h.kept k e below whole same at
+        | inr is ↦ let bad : list_any is_null (values_at places (slice_index_or rows e [])) ≡ true = ap (λ (j : ℕ). list_any is_null (values_at places (slice_index_or rows j []))) is ∙ null in cc (bad, whole)
+      ];
 }
 
 -- a row whose key was seen
@@ -121,19 +122,19 @@ pub new_seen : {S : Type 0} (rows : List Row) (places : List ℕ) (i : ℕ) (m n
     → hash.Updates key_eq m n k (Some i) → IsSeen rows places (i + 1) n
 new_seen rows places i m n k h fresh is whole up = record {
   unique = λ a b lt low clean same.
-    elim (below_or_last b i low) [
-      | inl below ↦ h.unique a b lt below clean same
-      | inr last ↦ h.kept k a (omega arith) clean (same ∙ ap (λ (j : ℕ). values_at places (slice_index_or rows j [])) last ∙ sym is) fresh
-    ];
+      elim (below_or_last b i low) [
+        | inl below ↦ h.unique a b lt below clean same
+        | inr last ↦ h.kept k a (omega arith) clean (same ∙ ap (λ (j : ℕ). values_at places (slice_index_or rows j [])) last ∙ sym is) fresh
+      ];
   known = λ q e at. known_more rows places i e k q (hash.get key_eq m q) (hash.get key_eq n q) (key_eq k q) refl (h.known q e) (up.0 q) at is whole;
   kept = λ q e low clean same at.
-    elim (below_or_last e i low) [
-      | inl below ↦ kept_below i (hash.get key_eq m q) (hash.get key_eq n q) (key_eq k q) (h.kept q e below clean same) (up.0 q) at
-      | inr last ↦
-        let eq : key_eq k q ≡ true = (keys_decide k q).1 (is ∙ ap (λ (j : ℕ). values_at places (slice_index_or rows j [])) (sym last) ∙ same) in
-        let now : hash.get key_eq n q ≡ Some i = rw eq at (up.0 q) in
-        cc (now, at)
-    ];
+      elim (below_or_last e i low) [
+        | inl below ↦ kept_below i (hash.get key_eq m q) (hash.get key_eq n q) (key_eq k q) (h.kept q e below clean same) (up.0 q) at
+        | inr last ↦
+            let eq : key_eq k q ≡ true = (keys_decide k q).1 (is ∙ ap (λ (j : ℕ). values_at places (slice_index_or rows j [])) (sym last) ∙ same) in
+            let now : hash.get key_eq n q ≡ Some i = rw eq at (up.0 q) in
+            cc (now, at)
+      ];
 }
 
 -- ---- the values of one row
@@ -157,6 +158,6 @@ pub values_more : (places : List ℕ) (row : Row) (i : ℕ) (v : Value) (vs : Li
 values_more places row i v vs lt at whole is clean =
     let next : take (i + 1) places ≡ take i places ++ get_or places i 0 ∷ [] = rw add-one (take-suc places i 0 lt) in
     let values : values_at (take (i + 1) places) row ≡ vs ++ v ∷ [] =
-        ap (λ (ps : List ℕ). values_at ps row) next ∙ map-append (λ p. slice_index_or row p value.Null) (take i places) (get_or places i 0 ∷ []) ∙ ap (λ (xs : List Value). xs ++ slice_index_or row (get_or places i 0) value.Null ∷ []) (sym is) ∙ ap (λ (x : Value). vs ++ x ∷ []) at in
+    ap (λ (ps : List ℕ). values_at ps row) next ∙ map-append (λ p. slice_index_or row p value.Null) (take i places) (get_or places i 0 ∷ []) ∙ ap (λ (xs : List Value). xs ++ slice_index_or row (get_or places i 0) value.Null ∷ []) (sym is) ∙ ap (λ (x : Value). vs ++ x ∷ []) at in
     let before : list_any is_null vs ≡ false = rw is clean in
     (sym values, rw (values, list_any-append is_null vs (v ∷ []), before, whole) refl)

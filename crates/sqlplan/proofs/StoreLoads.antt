@@ -96,8 +96,8 @@ parted : (rows : List Row) (j : ℕ) (rest : List Record) → j < length rows
 parted rows j rest lt =
     let parts : take j rows ++ get_or rows j [] ∷ drop (suc j) rows ≡ rows = ap (λ (x : List Row). take j rows ++ x) (sym (drop-cons rows j [] lt)) ∙ take-append-drop j rows in
     ap (λ (x : List Row). map (map field_of) x ++ rest) (sym parts)
-      ∙ ap (λ (x : List Record). x ++ rest) (map-append (map field_of) (take j rows) (get_or rows j [] ∷ drop (suc j) rows))
-      ∙ append_assoc (map (map field_of) (take j rows)) (map field_of (get_or rows j []) ∷ map (map field_of) (drop (suc j) rows)) rest
+    ∙ ap (λ (x : List Record). x ++ rest) (map-append (map field_of) (take j rows) (get_or rows j [] ∷ drop (suc j) rows))
+    ∙ append_assoc (map (map field_of) (take j rows)) (map field_of (get_or rows j []) ∷ map (map field_of) (drop (suc j) rows)) rest
 
 -- ---- what the file is
 
@@ -107,7 +107,7 @@ repeated_there t rows r h =
     let is : r.row ≡ length (take r.row rows) = sym (length-take-le r.row rows (omega arith)) in
     let next : take (suc r.row) rows ≡ take r.row rows ++ get_or rows r.row [] ∷ [] = take-suc rows r.row [] low in
     subst (λ (n : ℕ). RepeatsFirst (take r.row rows ++ get_or rows r.row [] ∷ []) n r.earlier t.unique) is
-      (subst (λ (xs : List Row). RepeatsFirst xs r.row r.earlier t.unique) next (agree_first (suc r.row) r.row r.earlier rows (take (suc r.row) rows) t.unique (agree_take (suc r.row) rows) (omega arith) h.there))
+    (subst (λ (xs : List Row). RepeatsFirst xs r.row r.earlier t.unique) next (agree_first (suc r.row) r.row r.earlier rows (take (suc r.row) rows) t.unique (agree_take (suc r.row) rows) (omega arith) h.there))
 
 pub repeat_told : (t : Table) (records : List Record) (p : Parsed) (r : Repeat) → ParsesFile t.columns records p → EarliestRepeat p.rows t.unique r
     → IsFirstFault t records (record { row = r.row + 1; cause = Repeated (r.earlier + 1) })

@@ -88,7 +88,7 @@ written_more cs records rows fs more row h s =
     let r = row_is cs fs row s in
     record {
       records_are = h.records_are ∙ ap (λ (x : Record). map (map field_of) rows ++ x ∷ more) r.0
-        ∙ sym (ap (λ (x : List Record). x ++ more) (map-append (map field_of) rows (row ∷ [])) ∙ append_assoc (map (map field_of) rows) (map field_of row ∷ []) more);
+          ∙ sym (ap (λ (x : List Record). x ++ more) (map-append (map field_of) rows (row ∷ [])) ∙ append_assoc (map (map field_of) rows) (map field_of row ∷ []) more);
       fit = all_more (FitsColumns cs) rows row h.fit r.1;
       text = all_more (AllByRecursion IsText) rows row h.text r.2;
     }

@@ -4,4 +4,4 @@ pub mod bind;
 pub mod fault;
 
 pub use bind::bind;
-pub use fault::{BindReason, BindFault, BindRefusal};
+pub use fault::{BindFault, BindReason, BindRefusal};

@@ -58,7 +58,11 @@ fn plan_over(alloc: Global, frame: &[Expr]) -> Result<Option<Plan>, AllocError>
             let table = scan(alloc, *occurrence);
             Ok(Some(cut(alloc, 1, columns, table)?))
         }
-        [Expr::Get(occurrence), Expr::Select(conjuncts, _), Expr::Keep(columns, _)] => {
+        [
+            Expr::Get(occurrence),
+            Expr::Select(conjuncts, _),
+            Expr::Keep(columns, _),
+        ] => {
             let table = scan(alloc, *occurrence);
             let rows = filter(alloc, 1, conjuncts, table)?;
             Ok(Some(cut(alloc, 2, columns, rows)?))

@@ -158,11 +158,7 @@ fn name_of(schema: Option<&Schema>, table: usize) -> &str
     }
 }
 
-fn table_line(
-    alloc: Global,
-    name: &str,
-    refusal: TableRefusal,
-) -> Result<String, AllocError>
+fn table_line(alloc: Global, name: &str, refusal: TableRefusal) -> Result<String, AllocError>
     ensures { IfOk result (λ line. string_bytes line ≡ codes "refused " ++ (code_of refusal.cause ++ (codes " " ++ (name.now ++ (codes " row " ++ (decimal refusal.row ++ lines.earlier_text (earlier_of refusal.cause))))))) }
 {
     let code = refusal.code();

@@ -7,5 +7,5 @@ pub mod parser;
 pub mod token;
 
 pub use ast::{Ast, Filter, Name};
-pub use fault::{ParseReason, ParseFault, ParseRefusal};
+pub use fault::{ParseFault, ParseReason, ParseRefusal};
 pub use parser::{parse, parse_bytes};

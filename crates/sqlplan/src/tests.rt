@@ -17,6 +17,7 @@ const SCHEMA: &[u8] = br#"{"tables":[
         "unique":[["id"],["badge"]],"indexes":[]}]}"#;
 
 const DEPT: &[u8] = b"id,name,boss\n1,ops,10\n2,lab,\\N\n3,dev,12\n";
+
 const EMP: &[u8] = b"id,dept,pay,badge\n10,1,500,7\n11,1,\\N,\\N\n12,3,400,\\N\n13,\\N,500,9\n";
 
 /// What the program writes, or the line that it says; nothing is written before a refusal.
@@ -55,14 +56,27 @@ fn queries_are_answered(rt: HostRuntime) -> Result<(), Fail> {
         // A comparison with NULL is unknown, and so is its opposite.
         ("SELECT id FROM emp WHERE pay = NULL", "id\n"),
         ("SELECT id FROM emp WHERE pay <> NULL", "id\n"),
-        ("SELECT pay, id, pay FROM emp WHERE id < 12", "pay,id,pay\n500,10,500\n\\N,11,\\N\n"),
-        ("\tselect\r\nNAME from DEPT where Name > 'lab' ;\n", "name\nops\n"),
+        (
+            "SELECT pay, id, pay FROM emp WHERE id < 12",
+            "pay,id,pay\n500,10,500\n\\N,11,\\N\n",
+        ),
+        (
+            "\tselect\r\nNAME from DEPT where Name > 'lab' ;\n",
+            "name\nops\n",
+        ),
         ("SELECT name FROM dept WHERE name = 'it''s'", "name\n"),
         ("SELECT boss FROM dept", "boss\n10\n\\N\n12\n"),
-        ("SELECT id FROM emp WHERE id >= -9223372036854775808", "id\n10\n11\n12\n13\n"),
+        (
+            "SELECT id FROM emp WHERE id >= -9223372036854775808",
+            "id\n10\n11\n12\n13\n",
+        ),
     ];
     for (text, answer) in answers {
-        assert_eq!(rt; told(&rt, rt.alloc(), SCHEMA, text.as_bytes(), DEPT, EMP)?.as_str(), answer, "at {text}");
+        assert_eq!(rt;
+            told(&rt, rt.alloc(), SCHEMA, text.as_bytes(), DEPT, EMP)?.as_str(),
+            answer,
+            "at {text}"
+        );
     }
     Ok(())
 }
@@ -75,7 +89,10 @@ fn texts_are_refused(rt: HostRuntime) -> Result<(), Fail> {
         ("SELECT id FROM emp, emp", "refused P04 at 18"),
         ("SELECT id FROM", "refused P04 at 14"),
         ("SELECT 'a", "refused P02 at 7"),
-        ("SELECT id FROM emp WHERE id = 9223372036854775808", "refused P03 at 30"),
+        (
+            "SELECT id FROM emp WHERE id = 9223372036854775808",
+            "refused P03 at 30",
+        ),
         ("SELECT id FROM emp WHERE id ! 1", "refused P01 at 28"),
         ("SELECT id FROM emps", "refused B01 at 15"),
         ("SELECT id, nam FROM dept", "refused B02 at 11"),
@@ -84,15 +101,25 @@ fn texts_are_refused(rt: HostRuntime) -> Result<(), Fail> {
         ("SELECT id FROM dept WHERE name <> 1", "refused B05 at 31"),
     ];
     for (text, line) in lines {
-        assert_eq!(rt; told(&rt, rt.alloc(), SCHEMA, text.as_bytes(), DEPT, EMP)?.as_str(), line, "at {text}");
+        assert_eq!(rt;
+            told(&rt, rt.alloc(), SCHEMA, text.as_bytes(), DEPT, EMP)?.as_str(),
+            line,
+            "at {text}"
+        );
     }
     let bytes = [
         // No UTF-8, and a byte order mark, which no token begins with.
         (b"SELECT \xff".as_slice(), "refused P01 at 7"),
-        (b"\xef\xbb\xbfSELECT id FROM emp".as_slice(), "refused P01 at 0"),
+        (
+            b"\xef\xbb\xbfSELECT id FROM emp".as_slice(),
+            "refused P01 at 0",
+        ),
     ];
     for (text, line) in bytes {
-        assert_eq!(rt; told(&rt, rt.alloc(), SCHEMA, text, DEPT, EMP)?.as_str(), line);
+        assert_eq!(rt;
+            told(&rt, rt.alloc(), SCHEMA, text, DEPT, EMP)?.as_str(),
+            line
+        );
     }
     Ok(())
 }
@@ -114,7 +141,10 @@ fn schemas_are_refused(rt: HostRuntime) -> Result<(), Fail> {
     ];
     for (schema, line) in lines {
         // A text that is no query is told after the schema.
-        assert_eq!(rt; told(&rt, rt.alloc(), schema, b"?", DEPT, EMP)?.as_str(), line);
+        assert_eq!(rt;
+            told(&rt, rt.alloc(), schema, b"?", DEPT, EMP)?.as_str(),
+            line
+        );
     }
     Ok(())
 }
@@ -124,22 +154,49 @@ fn tables_are_refused(rt: HostRuntime) -> Result<(), Fail> {
     let lines = [
         (DEPT, b"".as_slice(), "refused T02 emp row 0"),
         (DEPT, b"id,dept,pay\n".as_slice(), "refused T02 emp row 0"),
-        (DEPT, b"id,dept,pay,badge\n10,1,500\n".as_slice(), "refused T01 emp row 1"),
-        (DEPT, b"id,dept,pay,badge\n\\N,1,500,7\n".as_slice(), "refused T05 emp row 1"),
-        (DEPT, b"id,dept,pay,badge\n\\x,1,+5,7\n".as_slice(), "refused T04 emp row 1"),
-        (DEPT, b"id,dept,pay,badge\n10,1,500,7\n11,1,+5,\\N\n".as_slice(), "refused T03 emp row 2"),
+        (
+            DEPT,
+            b"id,dept,pay,badge\n10,1,500\n".as_slice(),
+            "refused T01 emp row 1",
+        ),
+        (
+            DEPT,
+            b"id,dept,pay,badge\n\\N,1,500,7\n".as_slice(),
+            "refused T05 emp row 1",
+        ),
+        (
+            DEPT,
+            b"id,dept,pay,badge\n\\x,1,+5,7\n".as_slice(),
+            "refused T04 emp row 1",
+        ),
+        (
+            DEPT,
+            b"id,dept,pay,badge\n10,1,500,7\n11,1,+5,\\N\n".as_slice(),
+            "refused T03 emp row 2",
+        ),
         (
             DEPT,
             b"id,dept,pay,badge\n10,1,500,7\n11,1,\\N,\\N\n12,3,400,\\N\n13,\\N,500,7\n".as_slice(),
             "refused T06 emp row 4 and 1",
         ),
-        (b"id,name,boss\n1,\\a,10\n".as_slice(), EMP, "refused T04 dept row 1"),
-        (b"id,name,boss\n1,\xff,10\n".as_slice(), EMP, "refused T01 dept row 1"),
+        (
+            b"id,name,boss\n1,\\a,10\n".as_slice(),
+            EMP,
+            "refused T04 dept row 1",
+        ),
+        (
+            b"id,name,boss\n1,\xff,10\n".as_slice(),
+            EMP,
+            "refused T01 dept row 1",
+        ),
         // The tables are told in the order of the schema.
         (b"".as_slice(), b"".as_slice(), "refused T02 dept row 0"),
     ];
     for (dept, emp, line) in lines {
-        assert_eq!(rt; told(&rt, rt.alloc(), SCHEMA, b"SELECT id FROM emp", dept, emp)?.as_str(), line);
+        assert_eq!(rt;
+            told(&rt, rt.alloc(), SCHEMA, b"SELECT id FROM emp", dept, emp)?.as_str(),
+            line
+        );
     }
     Ok(())
 }
@@ -150,15 +207,30 @@ fn tables_are_read_as_csv(rt: HostRuntime) -> Result<(), Fail> {
     let answers = [
         (b"id,name,boss\n1,\\\\a,10\n".as_slice(), "name\n\\\\a\n"),
         (b"id,name,boss\r\n1,ops,10\r\n".as_slice(), "name\nops\n"),
-        (b"\xef\xbb\xbfid,name,boss\n1,ops,10\n".as_slice(), "name\nops\n"),
-        (b"id,name,boss\n1,\"a \"\"b\"\", c\nd\",10\n".as_slice(), "name\n\"a \"\"b\"\", c\nd\"\n"),
-        (b"\"id\",\"name\",\"boss\"\n\"1\",\"\",\"10\"\n".as_slice(), "name\n\"\"\n"),
+        (
+            b"\xef\xbb\xbfid,name,boss\n1,ops,10\n".as_slice(),
+            "name\nops\n",
+        ),
+        (
+            b"id,name,boss\n1,\"a \"\"b\"\", c\nd\",10\n".as_slice(),
+            "name\n\"a \"\"b\"\", c\nd\"\n",
+        ),
+        (
+            b"\"id\",\"name\",\"boss\"\n\"1\",\"\",\"10\"\n".as_slice(),
+            "name\n\"\"\n",
+        ),
         (b"id,name,boss\n1,ops,10".as_slice(), "name\nops\n"),
     ];
     for (dept, answer) in answers {
-        assert_eq!(rt; told(&rt, rt.alloc(), SCHEMA, names, dept, EMP)?.as_str(), answer);
+        assert_eq!(rt;
+            told(&rt, rt.alloc(), SCHEMA, names, dept, EMP)?.as_str(),
+            answer
+        );
     }
     let header = b"id,dept,pay,badge\n";
-    assert_eq!(rt; told(&rt, rt.alloc(), SCHEMA, b"SELECT id FROM emp", DEPT, header)?.as_str(), "id\n");
+    assert_eq!(rt;
+        told(&rt, rt.alloc(), SCHEMA, b"SELECT id FROM emp", DEPT, header)?.as_str(),
+        "id\n"
+    );
     Ok(())
 }

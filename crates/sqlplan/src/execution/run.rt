@@ -36,7 +36,11 @@ pub struct TableRows<'a> {
 fn all_rows(alloc: Global, count: usize) -> Result<Vec<usize>, AllocError>
     ensures { IfOk result (λ rows. rows.items ≡ range_with_len 0 count) }
 {
-    (0..count).collect(alloc)
+    let mut rows = Vec::with_capacity(alloc, count)?;
+    for row in 0..count {
+        rows.push(row)?;
+    }
+    Ok(rows)
 }
 
 /// All rows of a table occurrence; `None` where there is none.
@@ -189,11 +193,7 @@ fn item_columns(alloc: Global, query: &Query) -> Result<Vec<usize>, AllocError>
     }
 }
 
-fn columns_of(
-    alloc: Global,
-    table_use: &TableUse,
-    items: &[Item],
-) -> Result<Vec<usize>, AllocError>
+fn columns_of(alloc: Global, table_use: &TableUse, items: &[Item]) -> Result<Vec<usize>, AllocError>
     requires room { table_use.now.first_column + length table_use.now.entry.columns < 2 ^ 64 }
     requires shown { AllByRecursion (IsSimpleItem (length table_use.now.entry.columns)) items.now }
     ensures { IfOk result (λ columns. columns.items ≡ spec.item_columns (Some table_use.now) items.now) }
@@ -227,6 +227,26 @@ fn shown(alloc: Global, columns: &[usize], row: TableRow<'_, '_>) -> Result<Row,
     Ok(Items::from_vec(values))
 }
 
+/// The columns of each row.
+fn shown_rows(
+    alloc: Global,
+    columns: &[usize],
+    found: &TableRows<'_>,
+) -> Result<Vec<Row>, AllocError>
+    ensures { IfOk result (λ shown. shown.items ≡ map (λ r. map r columns.now) (table_rows found.now)) }
+{
+    let mut all = Vec::with_capacity(alloc, found.rows.len())?;
+    for row in found.rows.as_slice() {
+        let table_row = TableRow {
+            table: found.table,
+            row: *row,
+            heading: &found.heading,
+        };
+        all.push(shown(alloc, columns, table_row)?)?;
+    }
+    Ok(all)
+}
+
 /// The rows that a checked plan gives, item by item. The database is one of the schema that the plan was checked with.
 pub fn run(
     alloc: Global,
@@ -238,17 +258,8 @@ pub fn run(
 {
     let query = checked.query();
     let columns = item_columns(alloc, query)?;
-    let mut answer = Vec::new(alloc);
-    let Some(found) = play(alloc, &checked.certificate().plan, query, database)? else {
-        return Ok(answer);
-    };
-    for row in found.rows.as_slice() {
-        let table_row = TableRow {
-            table: found.table,
-            row: *row,
-            heading: &found.heading,
-        };
-        answer.push(shown(alloc, columns.as_slice(), table_row)?)?;
+    match play(alloc, &checked.certificate().plan, query, database)? {
+        Some(found) => shown_rows(alloc, columns.as_slice(), &found),
+        None => Ok(Vec::new(alloc)),
     }
-    Ok(answer)
 }

@@ -73,11 +73,7 @@ fn plain_value_of(alloc: Global, kind: Kind, bytes: &[u8]) -> Result<Value, Faul
 }
 
 /// The value of a field that begins with a backslash, after which `rest` stands.
-fn escaped_value_of(
-    alloc: Global,
-    column: &Column,
-    rest: &[u8],
-) -> Result<Value, Fault<FieldFault>>
+fn escaped_value_of(alloc: Global, column: &Column, rest: &[u8]) -> Result<Value, Fault<FieldFault>>
     ensures { Tells (Stands column.now (92 ∷ rest.now)) (FieldFails column.now (92 ∷ rest.now)) result }
 {
     match rest {
@@ -98,11 +94,7 @@ fn escaped_value_of(
 }
 
 /// The value that a field of the column stands for.
-pub fn value_of(
-    alloc: Global,
-    column: &Column,
-    field: &[u8],
-) -> Result<Value, Fault<FieldFault>>
+pub fn value_of(alloc: Global, column: &Column, field: &[u8]) -> Result<Value, Fault<FieldFault>>
     ensures { Tells (Stands column.now field.now) (FieldFails column.now field.now) result }
 {
     match field {

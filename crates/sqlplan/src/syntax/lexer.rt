@@ -2,7 +2,7 @@
 
 ghost use Rattle.std.specs.Prelude.{◌<◌, ◌≤◌, length, IfOk, IfSome};
 
-use crate::syntax::fault::{ParseReason, ParseFault, refused};
+use crate::syntax::fault::{ParseFault, ParseReason, refused};
 use crate::syntax::token::{Symbol, Token, TokenKind, keyword_of};
 use std::alloc::{AllocError, Global};
 use values::{Comparison, Text};
@@ -68,7 +68,11 @@ fn value_of(negative: bool, digits: &str) -> Option<i64> {
         let digit = i64::from(c.to_digit(10)?);
         value = value.checked_mul(10)?.checked_sub(digit)?;
     }
-    if negative { Some(value) } else { value.checked_neg() }
+    if negative {
+        Some(value)
+    } else {
+        value.checked_neg()
+    }
 }
 
 /// A number at `at`. `behind` is the text behind its first character.
@@ -81,7 +85,10 @@ fn number<'t>(
     ensures { IfOk result (λ lexed. length lexed.1.now ≤ length behind.entry.now) }
 {
     match value_of(negative, digits) {
-        Some(value) => Ok((TokenKind::Number(value), behind.trim_start_matches(is_digit))),
+        Some(value) => Ok((
+            TokenKind::Number(value),
+            behind.trim_start_matches(is_digit),
+        )),
         None => Err(refused(ParseReason::NumberRange, at)),
     }
 }

@@ -3,7 +3,7 @@
 ghost use Rattle.std.specs.Prelude.{◌<◌, ◌≤◌, length, IfOk, IfSome};
 
 use crate::syntax::ast::{Ast, Filter, Name};
-use crate::syntax::fault::{ParseReason, ParseFault, refused};
+use crate::syntax::fault::{ParseFault, ParseReason, refused};
 use crate::syntax::lexer::tokens;
 use crate::syntax::token::{Keyword, Symbol, Token, TokenKind};
 use std::alloc::Global;

@@ -17,8 +17,8 @@ loop-alloc-preserved g c =
     record {
       few = rw c.in_ok-push-in-Ok.ensures.ok (omega (arith, length-append c.loop-alloc.rows (c.in-Ok.row ∷ [])));
       written = λ rest h.
-        let (more, held, w) = c.loop-alloc.invariant.written rest h in
-        rw c.in_ok-push-in-Ok.ensures.ok (goes_on c.args.columns.now rest c.loop-alloc.rows more c.in_ok-next_of.field-0 _ (λ m. Remains g.R.Read.remaining c.next_of.new.reader m) c.in-Ok.row (c.in_ok-next_of.ensures more held) (search rules) w c.in-Ok.ensures);
+          let (more, held, w) = c.loop-alloc.invariant.written rest h in
+          rw c.in_ok-push-in-Ok.ensures.ok (goes_on c.args.columns.now rest c.loop-alloc.rows more c.in_ok-next_of.field-0 _ (λ m. Remains g.R.Read.remaining c.next_of.new.reader m) c.in-Ok.row (c.in_ok-next_of.ensures more held) (search rules) w c.in-Ok.ensures);
     }
 
 pub returns-in-Err-Refused : goal.returns-in-Err-Refused
@@ -27,7 +27,7 @@ returns-in-Err-Refused g c = λ rest h.
     let (more, held, w) = c.loop-alloc.invariant.written rest h in
     let bad = rw c.in-Err-Refused.field-0-is at c.in-Err-Refused.ensures in
     rw (c.stopped.ensures, c.in-Err-Refused.cause-is) (stops_there c.args.columns.now rest c.loop-alloc.rows more c.in_ok-next_of.field-0 _ (λ m. Remains g.R.Read.remaining c.next_of.new.reader m) c.in-Err-Refused.cause (c.in_ok-next_of.ensures more held) (search rules) c.loop-alloc.invariant.few w
-      (row_fails c.args.columns.now (length c.loop-alloc.rows) _ c.in-Err-Refused.cause few bad))
+    (row_fails c.args.columns.now (length c.loop-alloc.rows) _ c.in-Err-Refused.cause few bad))
 
 pub returns-then-not-branch-2 : goal.returns-then-not-branch-2
 returns-then-not-branch-2 g c = λ rest h.
