@@ -1,5 +1,5 @@
 -- The rows that a plan plays, by its root's node.
-use Rattle.std.proofs.Common.{◌≡◌, ap, sym, ◌∙◌, refl, ℕ, List, map, filter, slice_get}
+use Rattle.std.proofs.Common.{◌≡◌, ap, sym, ◌∙◌, ℕ, List, map, filter}
 use Rattle.binder.specs.declared.query.TableUse.{TableUse}
 use Rattle.binder.specs.declared.query.Query.{Query}
 use Rattle.binder.specs.Rows.{Tables}
@@ -15,6 +15,7 @@ use Rattle.logical.specs.Frame.{shown_columns}
 use Rattle.checker.specs.Plans.{first_input, play, answer, play_layer, play_node}
 use Rattle.sqlplan.specs.Execution.{no_classes}
 
+-- a node, of what its inputs give
 pub play_out : (uses : List TableUse) (D : Tables) (p : Plan) (node : Node) (e : Env) → (out-Plan p).node ≡ node → play uses D p e ≡ play_node uses D node (map (play uses D) (out-Plan p).inputs) e
 unfolding play
 play_out uses D p node e is = ap (λ b. b e) (fold_out-Plan Bag (play_layer uses D) p) ∙ ap (λ n. play_node uses D n (map (play uses D) (out-Plan p).inputs) e) is

@@ -1,5 +1,5 @@
 -- The truth of conditions at a row, where no class has a row.
-use Rattle.std.proofs.Common.{◌≡◌, refl, ap, sym, ◌∙◌, ℕ, List, [], map}
+use Rattle.std.proofs.Common.{◌≡◌, ap, sym, ◌∙◌, ℕ, List, map}
 use Rattle.std.proofs.lemmas.Simd.{map-map}
 use Rattle.values.specs.declared.truth.Truth.{Truth}
 use Rattle.values.specs.declared.truth.Truth.TheVariants.{False}
@@ -18,8 +18,7 @@ use Rattle.sqlplan.specs.Execution.{no_classes}
 abbrev pub true_at : Env → Condition → Truth
 true_at r c = truth c no_classes r
 
-abbrev layer_at : Condition-F Meaning → Env → Truth
-layer_at x r = truth_layer x no_classes r
+-- ---- one equation for each form of condition
 
 pub truth-Compare : (c : Comparison) (a b : Term) (r : Env) → true_at r (Compare c a b) ≡ compare c (term_value a r) (term_value b r)
 unfolding truth

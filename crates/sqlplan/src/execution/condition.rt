@@ -1,13 +1,10 @@
 //! The truth of a condition at a row.
 
-ghost use Rattle.std.specs.Prelude.{◌≡◌, map, slice_index_or, [], IsTrue, ◌↔◌};
-ghost use Rattle.std.specs.List.{list_all};
+ghost use Rattle.std.specs.Prelude.{◌≡◌, map};
 ghost use Rattle.values.specs.Cells.{value_of};
-ghost use Rattle.values.specs.declared.truth.Truth.TheVariants as truths;
-ghost use Rattle.values.specs.Truth.{is_true};
 ghost use Rattle.binder.specs.Meaning.{all_of, any_of};
 ghost use Rattle.logical.specs.Conditions.{term_value, truth, holds};
-ghost use Rattle.sqlplan.specs.Execution.{row_env, row_of, no_classes};
+ghost use Rattle.sqlplan.specs.Execution.{row_of, no_classes};
 
 use crate::execution::heading::Heading;
 use crate::store::{RowSource, Table};

@@ -2,7 +2,6 @@
 
 ghost use Rattle.std.specs.Prelude.{◌≡◌, ◌+◌, ◌<◌, ◌^◌, length, map, filter, [], slice_get, slice_index_or, Some, IfOk};
 ghost use Rattle.std.specs.List.{AllByRecursion, range_with_len};
-ghost use Rattle.std.specs.Option.{option_copied};
 ghost use Rattle.logical.specs.Bags.{nulls, select, keep};
 ghost use Rattle.logical.specs.Columns.{has};
 ghost use Rattle.logical.specs.Conditions.{holds};

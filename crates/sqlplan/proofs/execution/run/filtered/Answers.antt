@@ -1,4 +1,4 @@
-use Rattle.std.proofs.Common.{◌≡◌, ap, ◌∙◌, sym, slice_index_or, [], map, filter, ℕ, List}
+use Rattle.std.proofs.Common.{ap, ◌∙◌, sym, slice_index_or, [], map, filter, ℕ, List}
 use Rattle.logical.specs.declared.condition.Condition.{Condition}
 use Rattle.logical.specs.Bags.{Env}
 use Rattle.logical.specs.Conditions.{holds}

@@ -1,5 +1,5 @@
-use Rattle.std.proofs.Common.{◌≡◌, ◌<◌, ◌≤◌, ap, sym, ◌∙◌, subst, length, arith, IfOk, Some, List, ℕ}
-use Rattle.std.specs.List.{slice_get, AllByRecursion}
+use Rattle.std.proofs.Common.{◌≡◌, ◌<◌, ◌≤◌, ap, sym, subst, length, arith, IfOk, Some, List, ℕ}
+use Rattle.std.specs.List.{AllByRecursion}
 use Rattle.std.proofs.lemmas.Option.{slice_get_within}
 use Rattle.logical.specs.Frame.{IsSimpleItem, shown_columns, item_columns}
 use Rattle.logical.proofs.Simple.{same_table, same_occurrence, shown_is}

@@ -1,4 +1,4 @@
-use Rattle.std.proofs.Common.{◌≡◌, ap, ◌∙◌, sym, length, map, slice_get, slice_index_or, [], Some}
+use Rattle.std.proofs.Common.{◌≡◌, ap, ◌∙◌, sym, map, slice_get, slice_index_or, [], Some}
 use Rattle.std.specs.List.{range_with_len}
 use Rattle.logical.specs.Bags.{nulls}
 use Rattle.logical.specs.Expressions.{get_rows, use_row}

@@ -1,4 +1,4 @@
-use Rattle.std.proofs.Common.{◌≡◌, ℕ, List, [], sym, ◌∙◌, ap, map, slice_index_or, arith}
+use Rattle.std.proofs.Common.{ℕ, [], sym, ◌∙◌, ap, map, slice_index_or, arith}
 use Rattle.std.proofs.lemmas.List.{take_all}
 use Rattle.std.proofs.lemmas.Simd.{map-map}
 use Rattle.schema.specs.Databases.{Row}

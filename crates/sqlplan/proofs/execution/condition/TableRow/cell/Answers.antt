@@ -1,4 +1,4 @@
-use Rattle.std.proofs.Common.{◌≡◌, ◌≤◌, length, slice_index_or, [], sym, ◌∙◌, arith}
+use Rattle.std.proofs.Common.{◌≡◌, length, slice_index_or, [], sym, ◌∙◌, arith}
 use Rattle.sqlplan.proofs.ExecutionRows.{at_place, past_place}
 use Rattle.sqlplan.proofs.Widths.{row_width}
 use Rattle.sqlplan.proofs.execution.condition.TableRow.cell.Goals as goal
