@@ -3,5 +3,7 @@
 pub mod condition;
 pub mod heading;
 pub mod run;
+#[cfg(test)]
+mod tests;
 
 pub use run::{Row, run};

@@ -1,43 +1,91 @@
 //! The rows that a checked plan gives.
 
+ghost use Rattle.std.specs.Prelude.{◌≡◌, ◌+◌, ◌<◌, ◌^◌, length, map, filter, [], slice_get, slice_index_or, Some, IfOk};
+ghost use Rattle.std.specs.List.{AllByRecursion, range_with_len};
+ghost use Rattle.logical.specs.Bags.{nulls, select, keep};
+ghost use Rattle.logical.specs.Columns.{has};
+ghost use Rattle.logical.specs.Conditions.{holds};
+ghost use Rattle.logical.specs.Expressions.{get_rows};
+ghost use Rattle.logical.specs.Frame.{IsSimple, IsSimpleItem, shown_columns, item_column};
+ghost use Rattle.logical.specs.Frame as spec;
+ghost use Rattle.checker.specs.Plans.{first_input, play, answer};
+ghost use Rattle.sqlplan.specs.Execution.{row_of, row_env, found_rows, table_rows, no_classes, tables_in};
+
 use crate::execution::condition::TableRow;
 use crate::execution::heading::Heading;
 use crate::store::{Database, RowSource, Table};
-use binder::{From, Item, Query};
+use binder::{From, Item, Query, TableUse};
 use checker::{Checked, Node, Plan};
-use logical::Conjuncts;
+use logical::{Columns, Condition, Conjuncts};
 use std::alloc::{AllocError, Global};
-use values::{Cell, Items, Value};
+use values::{Items, Value};
 
 /// A row of an answer, item by item.
 pub type Row = Items<Value>;
 
 /// What a node gives: rows of a table occurrence, by their numbers in the table.
 #[derive(Drop)]
-struct TableRows<'a> {
+pub struct TableRows<'a> {
     table: &'a Table,
     heading: Heading,
     rows: Vec<usize>,
 }
 
-/// All rows of a table occurrence; `None` where the query has no such occurrence.
+/// The numbers of so many rows.
+fn all_rows(alloc: Global, count: usize) -> Result<Vec<usize>, AllocError>
+    ensures { IfOk result (λ rows. rows.items ≡ range_with_len 0 count) }
+{
+    let mut rows = Vec::with_capacity(alloc, count)?;
+    for row in 0..count {
+        rows.push(row)?;
+    }
+    Ok(rows)
+}
+
+/// All rows of a table occurrence; `None` where there is none.
 fn scanned<'a>(
     alloc: Global,
     query: &Query,
     database: &'a Database<'_>,
     occurrence: usize,
-) -> Result<Option<TableRows<'a>>, AllocError> {
+) -> Result<Option<TableRows<'a>>, AllocError>
+    ensures { IfOk result (λ found. found_rows found ≡ get_rows (slice_get query.now.tables occurrence) (tables_in database.entry.now) nulls) }
+{
     let Some(table_use) = query.tables.get(occurrence) else {
         return Ok(None);
     };
     let Some(table) = database.tables().get(table_use.table) else {
         return Ok(None);
     };
+    let width = table_use.entry.columns.len();
     Ok(Some(TableRows {
         table,
-        heading: Heading::new(alloc, table_use.first_column, table.width()),
-        rows: (0..table.len()).collect(alloc)?,
+        heading: Heading::new(alloc, table_use.first_column, width),
+        rows: all_rows(alloc, table.len())?,
     }))
+}
+
+/// The rows, by their numbers, at which all conditions are true.
+fn passing(
+    alloc: Global,
+    table: &Table,
+    heading: &Heading,
+    rows: &[usize],
+    conditions: &[Condition],
+) -> Result<Vec<usize>, AllocError>
+    ensures { IfOk result (λ kept. kept.items ≡ filter (λ i. holds no_classes conditions.now (row_env heading.now (slice_index_or table.now i []))) rows.now) }
+{
+    rows.iter()
+        .copied()
+        .filter(|row| {
+            let table_row = TableRow {
+                table,
+                row: *row,
+                heading,
+            };
+            table_row.holds(conditions)
+        })
+        .collect(alloc)
 }
 
 /// The rows at which all conjuncts are true.
@@ -45,23 +93,21 @@ fn filtered<'a>(
     alloc: Global,
     input: TableRows<'a>,
     conjuncts: &Conjuncts,
-) -> Result<TableRows<'a>, AllocError> {
+) -> Result<TableRows<'a>, AllocError>
+    ensures { IfOk result (λ kept. table_rows kept ≡ select (holds no_classes conjuncts.now) (λ _. table_rows input.entry) nulls) }
+{
     let TableRows {
         table,
         heading,
         rows,
     } = input;
-    let mut kept = Vec::new(alloc);
-    for row in rows.as_slice() {
-        let table_row = TableRow {
-            table,
-            row: *row,
-            heading: &heading,
-        };
-        if table_row.all(conjuncts.as_slice()).is_true() {
-            kept.push(*row)?;
-        }
-    }
+    let kept = passing(
+        alloc,
+        table,
+        &heading,
+        rows.as_slice(),
+        conjuncts.as_slice(),
+    )?;
     Ok(TableRows {
         table,
         heading,
@@ -69,53 +115,135 @@ fn filtered<'a>(
     })
 }
 
+/// The rows cut to the columns.
+fn cut<'a>(
+    alloc: Global,
+    input: TableRows<'a>,
+    columns: &Columns,
+) -> Result<TableRows<'a>, AllocError>
+    ensures { IfOk result (λ cut. table_rows cut ≡ keep (has columns.now) (λ _. table_rows input.entry) nulls) }
+{
+    let TableRows {
+        table,
+        mut heading,
+        rows,
+    } = input;
+    heading.cut(columns.copy(alloc)?)?;
+    Ok(TableRows {
+        table,
+        heading,
+        rows,
+    })
+}
+
 /// The rows of a plan; `None` where there are none, since a node lacks what it reads.
+#[cycle(play)]
 fn play<'a>(
     alloc: Global,
     plan: &Plan,
     query: &Query,
     database: &'a Database<'_>,
-) -> Result<Option<TableRows<'a>>, AllocError> {
-    if let Node::Scan { occurrence, .. } = &plan.node {
-        return scanned(alloc, query, database, *occurrence);
-    }
-    let Some(input) = plan.inputs.as_slice().first() else {
-        return Ok(None);
-    };
-    let Some(mut rows) = play(alloc, input, query, database)? else {
-        return Ok(None);
-    };
+) -> Result<Option<TableRows<'a>>, AllocError>
+    ensures { IfOk result (λ found. found_rows found ≡ play query.now.tables (tables_in database.entry.now) plan.now nulls) }
+{
+    let inputs = plan.inputs.as_slice();
     match &plan.node {
-        Node::Scan { .. } => {}
-        Node::Filter { conjuncts, .. } => rows = filtered(alloc, rows, conjuncts)?,
-        Node::Cut { columns, .. } => {
-            rows.heading
-                .cut(Items::from_slice(alloc, columns.as_slice())?)?;
+        Node::Scan { occurrence, .. } => scanned(alloc, query, database, *occurrence),
+        Node::Filter { conjuncts, .. } => match play_first(alloc, inputs, query, database)? {
+            Some(rows) => Ok(Some(filtered(alloc, rows, conjuncts)?)),
+            None => Ok(None),
+        },
+        Node::Cut { columns, .. } => match play_first(alloc, inputs, query, database)? {
+            Some(rows) => Ok(Some(cut(alloc, rows, columns)?)),
+            None => Ok(None),
         },
     }
-    Ok(Some(rows))
 }
 
-/// The column number of an item of a query over one table; `None` where it is no column of that table.
-fn item_column(query: &Query, item: Item) -> Option<usize> {
-    let From::Table(occurrence) = &query.block.from else {
-        return None;
-    };
-    let table_use = query.tables.get(occurrence.number)?;
-    match item {
-        Item::Column(column) => table_use.first_column.checked_add(column.place),
-        Item::Aggregate(column, _) => Some(column),
+/// The rows of a node's first input.
+#[cycle(play)]
+fn play_first<'a>(
+    alloc: Global,
+    inputs: &[Plan],
+    query: &Query,
+    database: &'a Database<'_>,
+) -> Result<Option<TableRows<'a>>, AllocError>
+    ensures { IfOk result (λ found. found_rows found ≡ first_input (map (play query.now.tables (tables_in database.entry.now)) inputs.now) nulls) }
+{
+    match inputs.first() {
+        Some(plan) => play(alloc, plan, query, database),
+        None => Ok(None),
     }
 }
 
-/// The items of a row.
-fn shown(alloc: Global, query: &Query, row: TableRow<'_, '_>) -> Result<Row, AllocError> {
-    let mut values = Vec::with_capacity(alloc, query.block.items.len())?;
-    for item in query.block.items.as_slice() {
-        let cell = item_column(query, *item).map_or(Cell::Null, |column| row.cell(column));
-        values.push(cell.to_value(alloc)?)?;
+/// The column numbers of the items of a simple query, in their order.
+fn item_columns(alloc: Global, query: &Query) -> Result<Vec<usize>, AllocError>
+    requires { IsSimple query.now }
+    ensures { IfOk result (λ columns. columns.items ≡ shown_columns query.now) }
+{
+    match &query.block.from {
+        From::Table(occurrence) => match query.tables.as_slice().get(occurrence.number) {
+            Some(table_use) => columns_of(alloc, table_use, query.block.items.as_slice()),
+            None => unreachable!(),
+        },
+        From::Join(_, _, _) => unreachable!(),
+        From::LeftJoin(_, _, _) => unreachable!(),
+        From::Comma(_, _) => unreachable!(),
+    }
+}
+
+fn columns_of(alloc: Global, table_use: &TableUse, items: &[Item]) -> Result<Vec<usize>, AllocError>
+    requires room { table_use.now.first_column + length table_use.now.entry.columns < 2 ^ 64 }
+    requires shown { AllByRecursion (IsSimpleItem (length table_use.now.entry.columns)) items.now }
+    ensures { IfOk result (λ columns. columns.items ≡ spec.item_columns (Some table_use.now) items.now) }
+{
+    let mut columns = Vec::new(alloc);
+    for item in items {
+        columns.push(column_of(table_use, *item))?;
+    }
+    Ok(columns)
+}
+
+fn column_of(table_use: &TableUse, item: Item) -> usize
+    requires room { table_use.now.first_column + length table_use.now.entry.columns < 2 ^ 64 }
+    requires shown { IsSimpleItem (length table_use.now.entry.columns) item }
+    ensures { result ≡ item_column table_use.now item }
+{
+    match item {
+        Item::Column(column) => table_use.first_column + column.place,
+        Item::Aggregate(column, _) => column,
+    }
+}
+
+/// The columns of a row.
+fn shown(alloc: Global, columns: &[usize], row: TableRow<'_, '_>) -> Result<Row, AllocError>
+    ensures { IfOk result (λ shown. shown ≡ map (row_of row.entry) columns.now) }
+{
+    let mut values = Vec::with_capacity(alloc, columns.len())?;
+    for column in columns {
+        values.push(row.cell(*column).to_value(alloc)?)?;
     }
     Ok(Items::from_vec(values))
+}
+
+/// The columns of each row.
+fn shown_rows(
+    alloc: Global,
+    columns: &[usize],
+    found: &TableRows<'_>,
+) -> Result<Vec<Row>, AllocError>
+    ensures { IfOk result (λ shown. shown.items ≡ map (λ r. map r columns.now) (table_rows found.now)) }
+{
+    let mut all = Vec::with_capacity(alloc, found.rows.len())?;
+    for row in found.rows.as_slice() {
+        let table_row = TableRow {
+            table: found.table,
+            row: *row,
+            heading: &found.heading,
+        };
+        all.push(shown(alloc, columns, table_row)?)?;
+    }
+    Ok(all)
 }
 
 /// The rows that a checked plan gives, item by item. The database is one of the schema that the plan was checked with.
@@ -123,19 +251,14 @@ pub fn run(
     alloc: Global,
     checked: &Checked<'_>,
     database: &Database<'_>,
-) -> Result<Vec<Row>, AllocError> {
+) -> Result<Vec<Row>, AllocError>
+    requires { IsSimple checked.now.query.now }
+    ensures { IfOk result (λ rows. rows.items ≡ answer checked.now.query.now (tables_in database.now) checked.now.certificate.now.plan) }
+{
     let query = checked.query();
-    let mut answer = Vec::new(alloc);
-    let Some(found) = play(alloc, &checked.certificate().plan, query, database)? else {
-        return Ok(answer);
-    };
-    for row in found.rows.as_slice() {
-        let table_row = TableRow {
-            table: found.table,
-            row: *row,
-            heading: &found.heading,
-        };
-        answer.push(shown(alloc, query, table_row)?)?;
+    let columns = item_columns(alloc, query)?;
+    match play(alloc, &checked.certificate().plan, query, database)? {
+        Some(found) => shown_rows(alloc, columns.as_slice(), &found),
+        None => Ok(Vec::new(alloc)),
     }
-    Ok(answer)
 }

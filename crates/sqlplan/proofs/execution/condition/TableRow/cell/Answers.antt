@@ -1,6 +1,15 @@
-use Rattle.std.proofs.Common.{arith}
+use Rattle.std.proofs.Common.{◌≡◌, length, slice_index_or, [], sym, ◌∙◌, arith}
+use Rattle.sqlplan.proofs.ExecutionRows.{at_place, past_place}
 use Rattle.sqlplan.proofs.Widths.{row_width}
 use Rattle.sqlplan.proofs.execution.condition.TableRow.cell.Goals as goal
 
 pub cell-requires-clause-column : goal.cell-requires-clause-column
-cell-requires-clause-column c = let wide = row_width _ _ c.args.self.row c.width.ensures (omega arith) in omega (arith, wide)
+cell-requires-clause-column c =
+    let width = row_width c.width.result c.args.self.table.now c.args.self.row c.width.ensures (omega arith) in
+    omega arith
+
+pub returns-else-place-width : goal.returns-else-place-width
+returns-else-place-width c =
+    let row = slice_index_or c.args.self.table.now c.args.self.row [] in
+    let width : length row ≡ c.width.result = row_width c.width.result c.args.self.table.now c.args.self.row c.width.ensures (omega arith) in
+    sym (at_place c.args.self.heading.now c.args.column c.in-Some.place c.in-Some.ensures row ∙ past_place c.in-Some.place row (omega arith))
