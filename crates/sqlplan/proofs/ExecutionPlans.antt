@@ -1,8 +1,11 @@
 -- The rows that a plan plays, by its root's node.
-use Rattle.std.proofs.Common.{◌≡◌, ap, sym, ◌∙◌, ℕ, List, map, filter}
+use Rattle.std.proofs.Common.{◌≡◌, ap, sym, subst, ◌∙◌, ℕ, List, map, filter}
+use Rattle.schema.specs.declared.schema.Schema.{Schema}
+use Rattle.schema.specs.Databases.{Database, Satisfies}
 use Rattle.binder.specs.declared.query.TableUse.{TableUse}
 use Rattle.binder.specs.declared.query.Query.{Query}
-use Rattle.binder.specs.Rows.{Tables}
+use Rattle.binder.specs.Answer.{IsAnswer}
+use Rattle.binder.specs.Rows.{Tables, tables_of}
 use Rattle.checker.specs.declared.certificate.Certificate.{Certificate}
 use Rattle.checker.specs.declared.certificate.Node.{Node}
 use Rattle.checker.specs.declared.certificate.Node.TheVariants.{Filter, Cut}
@@ -13,6 +16,7 @@ use Rattle.logical.specs.Columns.{has}
 use Rattle.logical.specs.Conditions.{holds}
 use Rattle.logical.specs.Frame.{shown_columns}
 use Rattle.checker.specs.Plans.{first_input, play, answer, play_layer, play_node}
+use Rattle.checker.specs.Replay.{IsChecked}
 use Rattle.sqlplan.specs.Execution.{no_classes}
 
 -- a node, of what its inputs give
@@ -33,7 +37,14 @@ play_cut uses D p inputs line K e rows is given input =
     ap (map (λ r. lay (has K) r e)) (input ∙ ap (λ ps. first_input (map (play uses D) ps) e) given) ∙ sym (play_out uses D p (Cut line K) e is)
 
 -- the rows that a plan plays, cut to the query's columns, are its answer
-pub answer_of : (q r : Query) (U V : Certificate) (D : Tables) (columns : List ℕ) (rows : List Env) → columns ≡ shown_columns q → rows ≡ play q.tables D U.plan nulls → q ≡ r → U ≡ V
-    → map (λ e. map e columns) rows ≡ answer r D V.plan
-answer_of q r U V D columns rows shows plays same proof =
-    ap (λ cs. map (λ e. map e cs) rows) shows ∙ ap (map (λ e. map e (shown_columns q))) plays ∙ ap (λ p. answer p D U.plan) same ∙ ap (λ (W : Certificate). answer r D W.plan) proof
+pub answer_of : (q r : Query) (U V : Certificate) (S : Schema) (tables D : Database) (columns : List ℕ) (rows : List Env) → columns ≡ shown_columns q → rows ≡ play q.tables (tables_of S tables) U.plan nulls → q ≡ r → U ≡ V
+    → tables ≡ D → map (λ e. map e columns) rows ≡ answer r (tables_of S D) V.plan
+answer_of q r U V S tables D columns rows shows plays same proof given =
+    ap (λ cs. map (λ e. map e cs) rows) shows ∙ ap (map (λ e. map e (shown_columns q))) plays ∙ ap (λ p. answer p (tables_of S tables) U.plan) same
+    ∙ ap (λ (W : Certificate). answer r (tables_of S tables) W.plan) proof ∙ ap (λ ts. answer r (tables_of S ts) V.plan) given
+
+-- in a database of the schema that it was checked with it answers the query
+pub answers_of : (S T : Schema) (q : Query) (V : Certificate) (D : Database) → IsChecked S q V → Satisfies T D → S ≡ T → IsAnswer q (tables_of T D) (answer q (tables_of T D) V.plan)
+answers_of S T q V D checked satisfies same =
+    let Answers : Schema → Type 0 = λ U. Satisfies U D → IsAnswer q (tables_of U D) (answer q (tables_of U D) V.plan) in
+    subst Answers same (checked.answers D) satisfies

@@ -1,9 +1,12 @@
 -- The grammar of queries, as a relation on lists of tokens (this project's cut of SQL):
 --   SELECT column {, column} FROM name [WHERE column comparison literal] [;]
-use Rattle.std.specs.Prelude.{◌≡◌, ◌≤◌, List, [], ◌∷◌, ◌++◌, length, Option, Some, None, ◌⊎◌}
-use Rattle.std.specs.Str.{IsUtf8}
+use Rattle.std.specs.Prelude.{◌≡◌, ℕ, ◌<◌, ◌≤◌, List, [], ◌∷◌, ◌++◌, length, Option, Some, None, ◌⊎◌}
+use Rattle.std.specs.Str.{IsUtf8, IsValidUpTo}
 use Rattle.values.specs.declared.value.Value.{Value}
 use Rattle.values.specs.declared.value.Value.TheVariants as value
+use Rattle.sqlplan.specs.declared.syntax.fault.ParseReason.{ParseReason}
+use Rattle.sqlplan.specs.declared.syntax.fault.ParseReason.TheVariants.{NoToken, Unexpected, TooDeep, TooLong}
+use Rattle.sqlplan.specs.declared.syntax.fault.ParseRefusal.{ParseRefusal}
 use Rattle.sqlplan.specs.declared.syntax.token.Keyword.TheVariants as k
 use Rattle.sqlplan.specs.declared.syntax.token.Symbol.TheVariants as s
 use Rattle.sqlplan.specs.declared.syntax.token.TokenKind.TheVariants as token
@@ -12,18 +15,22 @@ use Rattle.sqlplan.specs.declared.syntax.ast.Name.{Name}
 use Rattle.sqlplan.specs.declared.syntax.ast.Filter.{Filter}
 use Rattle.sqlplan.specs.declared.syntax.ast.Ast.{Ast}
 use Rattle.sqlplan.specs.declared.syntax.parser.TheConstants.{MAX_TEXT}
-use Rattle.sqlplan.specs.Tokens.{Bytes, AreTokens}
+use Rattle.sqlplan.specs.Tokens.{Bytes, AreTokens, IsLexicalFault}
 
 -- the token is this name
 abbrev pub IsName : Token → Name → Type 0
 IsName t name = (t.kind ≡ token.Name name.text) × (t.at ≡ name.at)
 
+-- `{, name}`
+abbrev pub AreMoreNames : List Token → List Name → Type 0
+AreMoreNames w [] = w ≡ []
+AreMoreNames w (name ∷ names) = (comma t : Token) × (rest : List Token) × (w ≡ comma ∷ t ∷ rest)
+    × (comma.kind ≡ token.Symbol s.Comma) × IsName t name × AreMoreNames rest names
+
 -- `name {, name}`
 abbrev pub AreNames : List Token → List Name → Type 0
 AreNames w [] = ⊥
-AreNames w (name ∷ []) = (t : Token) × (w ≡ t ∷ []) × IsName t name
-AreNames w (name ∷ next ∷ names) = (t comma : Token) × (rest : List Token) × (w ≡ t ∷ comma ∷ rest)
-    × IsName t name × (comma.kind ≡ token.Symbol s.Comma) × AreNames rest (next ∷ names)
+AreNames w (name ∷ names) = (t : Token) × (rest : List Token) × (w ≡ t ∷ rest) × IsName t name × AreMoreNames rest names
 
 -- a number, a text or NULL
 abbrev pub IsLiteral : Token → Value → Type 0
@@ -72,5 +79,36 @@ pub record ReadsText (bytes : Bytes) (tree : Ast) : Type 0 where
   pub short : length bytes ≤ MAX_TEXT
   pub utf8 : IsUtf8 bytes
   pub tokens : List Token
-  pub are_tokens : AreTokens 0 bytes tokens
+  pub are_tokens : AreTokens bytes tokens
   pub reads : Reads tokens tree
+
+-- the tokens begin a statement
+abbrev pub BeginsStatement : List Token → Type 0
+BeginsStatement w = (more : List Token) × (tree : Ast) × Reads (w ++ more) tree
+
+-- there stands the first token that no statement has behind those before it
+pub record IsFirstUnexpected (tokens : List Token) (at : ℕ) : Type 0 where
+  pub before : List Token
+  pub next : Token
+  pub after : List Token
+  pub split : tokens ≡ before ++ next ∷ after
+  pub place : at ≡ next.at
+  pub begins : BeginsStatement before
+  pub none : BeginsStatement (before ++ next ∷ []) → ⊥
+
+-- there stands the end, behind tokens that begin a statement but are none
+pub record IsUnfinished (tokens : List Token) (end at : ℕ) : Type 0 where
+  pub place : at ≡ end
+  pub begins : BeginsStatement tokens
+  pub none : (tree : Ast) → Reads tokens tree → ⊥
+
+-- the first of these that holds: the bytes are too many, are no text, have a place where no token begins, or are tokens that are no statement
+abbrev pub IsRefusedFor : ParseReason → ℕ → Bytes → Type 0
+IsRefusedFor TooLong at bytes = (MAX_TEXT < length bytes) × (at ≡ MAX_TEXT)
+IsRefusedFor TooDeep at bytes = ⊥
+IsRefusedFor Unexpected at bytes = (length bytes ≤ MAX_TEXT) × IsUtf8 bytes × (tokens : List Token) × AreTokens bytes tokens × (IsFirstUnexpected tokens at ⊎ IsUnfinished tokens (length bytes) at)
+IsRefusedFor NoToken at bytes = (length bytes ≤ MAX_TEXT) × ((IsUtf8 bytes × IsLexicalFault bytes (record { reason = NoToken; at = at })) ⊎ ((IsUtf8 bytes → ⊥) × IsValidUpTo bytes at))
+IsRefusedFor reason at bytes = (length bytes ≤ MAX_TEXT) × IsUtf8 bytes × IsLexicalFault bytes (record { reason = reason; at = at })
+
+abbrev pub IsRefusal : Bytes → ParseRefusal → Type 0
+IsRefusal bytes r = IsRefusedFor r.reason r.at bytes

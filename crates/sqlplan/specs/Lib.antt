@@ -3,8 +3,12 @@ pub mod Binding
 pub mod Canonical
 pub mod Devices
 pub mod EndToEnd
+pub mod Execution
 pub mod Grammar
 pub mod Lines
+pub mod Reading
+pub mod ReadingFaults
+pub mod ReadingTrees
 pub mod Refusals
 pub mod StoreDatabases
 pub mod StoreFaults

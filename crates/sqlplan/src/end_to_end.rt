@@ -1,7 +1,13 @@
 //! From the bytes of files to the bytes of an answer.
 
-ghost use Rattle.std.specs.Prelude.{◌≤◌, length};
-ghost use Rattle.sqlplan.specs.EndToEnd.{HasTables};
+ghost use Rattle.std.specs.Prelude.{◌≡◌, ◌≢◌, ◌≤◌, length, IsErrAnd, OnOk, OnErr};
+ghost use Rattle.std.specs.Io.KnownBytes.{Appends};
+ghost use Rattle.binder.specs.Answer.{IsAnswer};
+ghost use Rattle.logical.specs.Frame.{IsSimple};
+ghost use Rattle.sqlplan.specs.AnswerText.{HasFront};
+ghost use Rattle.sqlplan.specs.Devices.{Rose};
+ghost use Rattle.sqlplan.specs.EndToEnd.{HasTables, plan_rows, plan_text};
+ghost use Rattle.sqlplan.specs.Execution.{tables_in};
 
 use crate::answer::{AnswerFault, AnswerOutput, write_rows};
 use crate::binding::bind;
@@ -13,6 +19,7 @@ use crate::syntax::parse_bytes;
 use checker::{Checked, check};
 use schema::Schema;
 use std::alloc::Global;
+use values::Fault;
 
 /// Loads the tables, one input each in the order of the schema.
 fn load_all<R: TableInput>(
@@ -21,6 +28,7 @@ fn load_all<R: TableInput>(
     tables: &mut [R],
 ) -> Result<(), Refusal>
     requires { length tables.old ≤ length database.old.tables }
+    ensures schema { database.new.schema ≡ database.old.schema }
 {
     for number in 0..tables.len() {
         if let Err(fault) = database.load(alloc, number, &mut tables[number]) {
@@ -36,7 +44,16 @@ pub fn write_answer<W: AnswerOutput>(
     checked: &Checked<'_>,
     database: &Database<'_>,
     out: &mut W,
-) -> Result<(), AnswerFault> {
+) -> Result<(), AnswerFault>
+    requires simple { IsSimple checked.now.query }
+    requires schema { database.now.schema ≡ checked.now.schema }
+    ensures ok { OnOk result (Appends (W.contents out.old) (W.contents out.new) (plan_text checked.now database.now)) }
+    // After a fault a beginning of the text has been written.
+    ensures front { OnErr result (HasFront (W.contents out.old) (W.contents out.new) (plan_text checked.now database.now)) }
+    // These rows are an answer of the query.
+    ensures answer { OnOk result (IsAnswer checked.now.query (tables_in database.now) (plan_rows checked.now database.now)) }
+    ensures device { IsErrAnd result (λ e. e ≢ Fault.Memory) → Rose (W.failures out.old) (W.failures out.new) }
+{
     let rows = run(alloc, checked, database)?;
     write_rows(alloc, checked.query(), rows.as_slice(), out)
 }

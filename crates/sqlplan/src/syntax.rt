@@ -9,3 +9,6 @@ pub mod token;
 pub use ast::{Ast, Filter, Name};
 pub use fault::{ParseFault, ParseReason, ParseRefusal};
 pub use parser::{parse, parse_bytes};
+
+#[cfg(test)]
+mod tests;

@@ -2,6 +2,9 @@
 
 ghost use Rattle.std.specs.Prelude.{◌≡◌, ◌+◌, ◌<◌, ◌^◌, length, map, filter, [], slice_get, slice_index_or, Some, IfOk};
 ghost use Rattle.std.specs.List.{AllByRecursion, range_with_len};
+ghost use Rattle.schema.specs.declared.schema.Schema.{Schema};
+ghost use Rattle.binder.specs.Answer.{IsAnswer};
+ghost use Rattle.binder.specs.Rows.{tables_of};
 ghost use Rattle.logical.specs.Bags.{nulls, select, keep};
 ghost use Rattle.logical.specs.Columns.{has};
 ghost use Rattle.logical.specs.Conditions.{holds};
@@ -46,15 +49,15 @@ fn all_rows(alloc: Global, count: usize) -> Result<Vec<usize>, AllocError>
 fn scanned<'a>(
     alloc: Global,
     query: &Query,
-    database: &'a Database<'_>,
+    tables: &'a [Table],
     occurrence: usize,
 ) -> Result<Option<TableRows<'a>>, AllocError>
-    ensures { IfOk result (λ found. found_rows found ≡ get_rows (slice_get query.now.tables occurrence) (tables_in database.entry.now) nulls) }
+    ensures { (S : Schema) → IfOk result (λ found. found_rows found ≡ get_rows (slice_get query.now.tables occurrence) (tables_of S tables.entry.now) nulls) }
 {
     let Some(table_use) = query.tables.get(occurrence) else {
         return Ok(None);
     };
-    let Some(table) = database.tables().get(table_use.table) else {
+    let Some(table) = tables.get(table_use.table) else {
         return Ok(None);
     };
     let width = table_use.entry.columns.len();
@@ -136,24 +139,24 @@ fn cut<'a>(
     })
 }
 
-/// The rows of a plan; `None` where there are none, since a node lacks what it reads.
+/// The rows of a plan over the tables of a database, whatever else its schema says; `None` where there are none, since a node lacks what it reads.
 #[cycle(play)]
 fn play<'a>(
     alloc: Global,
     plan: &Plan,
     query: &Query,
-    database: &'a Database<'_>,
+    tables: &'a [Table],
 ) -> Result<Option<TableRows<'a>>, AllocError>
-    ensures { IfOk result (λ found. found_rows found ≡ play query.now.tables (tables_in database.entry.now) plan.now nulls) }
+    ensures { (S : Schema) → IfOk result (λ found. found_rows found ≡ play query.now.tables (tables_of S tables.entry.now) plan.now nulls) }
 {
     let inputs = plan.inputs.as_slice();
     match &plan.node {
-        Node::Scan { occurrence, .. } => scanned(alloc, query, database, *occurrence),
-        Node::Filter { conjuncts, .. } => match play_first(alloc, inputs, query, database)? {
+        Node::Scan { occurrence, .. } => scanned(alloc, query, tables, *occurrence),
+        Node::Filter { conjuncts, .. } => match play_first(alloc, inputs, query, tables)? {
             Some(rows) => Ok(Some(filtered(alloc, rows, conjuncts)?)),
             None => Ok(None),
         },
-        Node::Cut { columns, .. } => match play_first(alloc, inputs, query, database)? {
+        Node::Cut { columns, .. } => match play_first(alloc, inputs, query, tables)? {
             Some(rows) => Ok(Some(cut(alloc, rows, columns)?)),
             None => Ok(None),
         },
@@ -166,12 +169,12 @@ fn play_first<'a>(
     alloc: Global,
     inputs: &[Plan],
     query: &Query,
-    database: &'a Database<'_>,
+    tables: &'a [Table],
 ) -> Result<Option<TableRows<'a>>, AllocError>
-    ensures { IfOk result (λ found. found_rows found ≡ first_input (map (play query.now.tables (tables_in database.entry.now)) inputs.now) nulls) }
+    ensures { (S : Schema) → IfOk result (λ found. found_rows found ≡ first_input (map (play query.now.tables (tables_of S tables.entry.now)) inputs.now) nulls) }
 {
     match inputs.first() {
-        Some(plan) => play(alloc, plan, query, database),
+        Some(plan) => play(alloc, plan, query, tables),
         None => Ok(None),
     }
 }
@@ -246,18 +249,21 @@ fn shown_rows(
     Ok(all)
 }
 
-/// The rows that a checked plan gives, item by item. The database is one of the schema that the plan was checked with.
+/// The rows that a checked plan gives, item by item. They answer its query, where the database is one of the schema that
+/// the plan was checked with.
 pub fn run(
     alloc: Global,
     checked: &Checked<'_>,
     database: &Database<'_>,
 ) -> Result<Vec<Row>, AllocError>
-    requires { IsSimple checked.now.query.now }
-    ensures { IfOk result (λ rows. rows.items ≡ answer checked.now.query.now (tables_in database.now) checked.now.certificate.now.plan) }
+    requires { IsSimple checked.now.query }
+    ensures rows { IfOk result (λ rows. rows.items ≡ answer checked.now.query (tables_in database.now) checked.now.certificate.plan) }
+    ensures answers { checked.now.schema ≡ database.now.schema → IfOk result (λ rows. IsAnswer checked.now.query (tables_in database.now) rows.items) }
 {
     let query = checked.query();
+    let plan = &checked.certificate().plan;
     let columns = item_columns(alloc, query)?;
-    match play(alloc, &checked.certificate().plan, query, database)? {
+    match play(alloc, plan, query, database.tables())? {
         Some(found) => shown_rows(alloc, columns.as_slice(), &found),
         None => Ok(Vec::new(alloc)),
     }

@@ -1,49 +1,128 @@
 //! From a text to its tokens, each the longest that fits.
 
-ghost use Rattle.std.specs.Prelude.{◌<◌, ◌≤◌, length, IfOk, IfSome};
+ghost use Rattle.std.specs.Prelude.{◌≡◌, ◌<◌, ◌≤◌, length, take, drop, slice_index, option_map, IfOk, IfErr, IsTrue, List};
+ghost use Rattle.std.specs.Str.{IsAscii};
+ghost use Rattle.std.specs.List.{prefix_len};
+ghost use Rattle.values.specs.Faults.{Gives};
+ghost use Rattle.sqlplan.specs.Reading as spec;
+ghost use Rattle.sqlplan.specs.Tokens as definition;
+ghost use Rattle.sqlplan.specs.ReadingFaults.{IfRefused};
 
 use crate::syntax::fault::{ParseFault, ParseReason, refused};
 use crate::syntax::token::{Symbol, Token, TokenKind, keyword_of};
 use std::alloc::{AllocError, Global};
 use values::{Comparison, Text};
 
-fn is_space(c: char) -> bool {
-    matches!(c, ' ' | '\t' | '\r' | '\n')
+fn is_space(byte: u8) -> bool
+    ensures { result ≡ definition.is_space byte }
+{
+    byte == b' ' || byte == b'\t' || byte == b'\r' || byte == b'\n'
 }
 
-fn is_digit(c: char) -> bool {
-    matches!(c, '0'..='9')
+fn is_word_start(byte: u8) -> bool
+    ensures { result ≡ definition.is_word_start byte }
+{
+    byte.is_ascii_alphabetic() || byte == b'_'
 }
 
-fn is_word_start(c: char) -> bool {
-    matches!(c, 'a'..='z' | 'A'..='Z' | '_')
+fn is_word_character(byte: u8) -> bool
+    ensures { result ≡ definition.is_word_character byte }
+{
+    is_word_start(byte) || byte.is_ascii_digit()
 }
 
-fn is_word_character(c: char) -> bool {
-    is_word_start(c) || is_digit(c)
+/// What a run of bytes is made of.
+#[derive(Clone, Copy)]
+enum Class {
+    Space,
+    Word,
+    Digit,
+}
+
+impl Class {
+    fn has(self, byte: u8) -> bool
+        ensures { result ≡ spec.has self byte }
+    {
+        match self {
+            Class::Space => is_space(byte),
+            Class::Word => is_word_character(byte),
+            Class::Digit => byte.is_ascii_digit(),
+        }
+    }
+}
+
+/// How many of the first bytes are of the class.
+fn run_len(class: Class, bytes: &[u8]) -> usize
+    ensures { result ≡ prefix_len (spec.has class) bytes.now }
+{
+    for (i, byte) in bytes.iter().enumerate() {
+        if !class.has(*byte) {
+            return i;
+        }
+    }
+    bytes.len()
+}
+
+/// The byte at a place of the text, 0 past its end.
+fn byte_at(text: &str, place: usize) -> u8
+    ensures { result ≡ slice_index text.now place }
+{
+    text.as_bytes().get(place).copied().unwrap_or(0)
+}
+
+/// The text in two: its first bytes, which are ASCII, and what is behind them.
+fn cut(text: &str, len: usize) -> (&str, &str)
+    requires { spec.IsCut text.now len }
+    ensures front { result.0.now ≡ take len text.now }
+    ensures behind { result.1.now ≡ drop len text.now }
+{
+    text.split_at(len)
 }
 
 /// A token, and the text behind it.
 type Lexed<'t> = (TokenKind, &'t str);
 
-/// A reserved word or a name. `behind` is the text behind its first character.
-fn word<'t>(alloc: Global, text: &str, behind: &'t str) -> Result<Lexed<'t>, ParseFault>
-    ensures { IfOk result (λ lexed. length lexed.1.now ≤ length behind.entry.now) }
+/// The reserved word or the name at the front of the text.
+#[tactic(auto, unfolding(crate::specs::Reading::word_at))]
+fn word(alloc: Global, text: &str) -> Result<Lexed<'_>, AllocError>
+    ensures { IfOk result (λ x. (x.0, x.1.now) ≡ spec.word_at text.now) }
 {
-    let mut lower = String::new(alloc);
-    for c in text.chars().take_while(|c| is_word_character(*c)) {
-        lower.push(c.to_ascii_lowercase())?;
-    }
+    let (word, behind) = cut(text, run_len(Class::Word, text.as_bytes()));
+    let mut lower = String::from_str(alloc, word)?;
+    lower.make_ascii_lowercase();
     let kind = match keyword_of(lower.as_str()) {
         Some(keyword) => TokenKind::Keyword(keyword),
         None => TokenKind::Name(Text::new(lower)),
     };
-    Ok((kind, behind.trim_start_matches(is_word_character)))
+    Ok((kind, behind))
+}
+
+#[tactic(auto, unfolding(crate::specs::Reading::number_len))]
+fn number_len(bytes: &[u8]) -> usize
+    ensures { result ≡ spec.number_len bytes.now }
+{
+    match bytes {
+        [b'-', digits @ ..] => 1 + run_len(Class::Digit, digits),
+        _ => run_len(Class::Digit, bytes),
+    }
+}
+
+/// The number at the front of the text, which stands at `at`.
+#[tactic(auto, unfolding(crate::specs::Reading::number_at))]
+fn number(at: usize, text: &str) -> Result<Lexed<'_>, ParseFault>
+    requires { IsTrue (spec.starts_number text.now) }
+    ensures { Gives (λ x. (x.0, x.1.now)) result (spec.number_at at text.now) }
+{
+    let (word, behind) = cut(text, number_len(text.as_bytes()));
+    match word.parse::<i64>() {
+        Ok(value) => Ok((TokenKind::Number(value), behind)),
+        Err(_) => Err(refused(ParseReason::NumberRange, at)),
+    }
 }
 
 /// A text, from behind its opening quote; `None` where no quote closes it.
-fn quoted(alloc: Global, behind: &str) -> Result<Option<Lexed<'_>>, AllocError>
-    ensures { IfOk result (λ found. IfSome found (λ lexed. length lexed.1.now ≤ length behind.entry.now)) }
+fn quoted(alloc: Global, behind: &str) -> Result<Option<(Text, &str)>, AllocError>
+    ensures { IfOk result (λ found. option_map (λ x. (x.0, x.1.now)) found ≡ spec.quoted_at behind.now) }
 {
     let mut value = String::new(alloc);
     let mut rest = behind;
@@ -54,131 +133,118 @@ fn quoted(alloc: Global, behind: &str) -> Result<Option<Lexed<'_>>, AllocError>
                 value.push('\'')?;
                 rest = more;
             }
-            None => return Ok(Some((TokenKind::Text(Text::new(value)), after))),
+            None => return Ok(Some((Text::new(value), after))),
         }
     }
     Ok(None)
 }
 
-/// The number with these digits at the front; `None` where it is past 64 bits.
-fn value_of(negative: bool, digits: &str) -> Option<i64> {
-    // The least number has no positive counterpart, so it is built below zero.
-    let mut value: i64 = 0;
-    for c in digits.chars().take_while(|c| is_digit(*c)) {
-        let digit = i64::from(c.to_digit(10)?);
-        value = value.checked_mul(10)?.checked_sub(digit)?;
-    }
-    if negative {
-        Some(value)
-    } else {
-        value.checked_neg()
+/// The text token at the front of the text, which stands at `at`.
+#[tactic(auto, unfolding(crate::specs::Reading::text_at))]
+fn text_token(alloc: Global, at: usize, text: &str) -> Result<Lexed<'_>, ParseFault>
+    requires { slice_index text.now 0 ≡ 39 }
+    ensures { Gives (λ x. (x.0, x.1.now)) result (spec.text_at at text.now) }
+{
+    let (_, behind) = cut(text, 1);
+    match quoted(alloc, behind)? {
+        Some((value, behind)) => Ok((TokenKind::Text(value), behind)),
+        None => Err(refused(ParseReason::OpenText, at)),
     }
 }
 
-/// A number at `at`. `behind` is the text behind its first character.
-fn number<'t>(
-    at: usize,
-    negative: bool,
-    digits: &str,
-    behind: &'t str,
-) -> Result<Lexed<'t>, ParseFault>
-    ensures { IfOk result (λ lexed. length lexed.1.now ≤ length behind.entry.now) }
+#[tactic(auto, unfolding(crate::specs::Reading::symbol_of))]
+fn symbol_of(first: u8) -> Option<Symbol>
+    ensures { result ≡ spec.symbol_of first }
 {
-    match value_of(negative, digits) {
-        Some(value) => Ok((
-            TokenKind::Number(value),
-            behind.trim_start_matches(is_digit),
-        )),
-        None => Err(refused(ParseReason::NumberRange, at)),
-    }
-}
-
-/// A comparison that one `=` or one other character may follow.
-fn comparison<'t>(first: char, behind: &'t str) -> Option<(Comparison, &'t str)>
-    ensures { IfSome result (λ found. length found.1.now ≤ length behind.entry.now) }
-{
-    if let Some(rest) = behind.strip_prefix('=') {
-        match first {
-            '<' => return Some((Comparison::LessOrEqual, rest)),
-            '>' => return Some((Comparison::GreaterOrEqual, rest)),
-            '!' => return Some((Comparison::NotEqual, rest)),
-            _ => {}
-        }
-    }
-    if let Some(rest) = behind.strip_prefix('>') {
-        if first == '<' {
-            return Some((Comparison::NotEqual, rest));
-        }
-    }
     match first {
-        '=' => Some((Comparison::Equal, behind)),
-        '<' => Some((Comparison::Less, behind)),
-        '>' => Some((Comparison::Greater, behind)),
+        b'(' => Some(Symbol::OpenParenthesis),
+        b')' => Some(Symbol::CloseParenthesis),
+        b',' => Some(Symbol::Comma),
+        b'.' => Some(Symbol::Dot),
+        b'*' => Some(Symbol::Star),
+        b';' => Some(Symbol::Semicolon),
         _ => None,
     }
 }
 
-fn symbol_of(first: char) -> Option<Symbol> {
-    match first {
-        '(' => Some(Symbol::OpenParenthesis),
-        ')' => Some(Symbol::CloseParenthesis),
-        ',' => Some(Symbol::Comma),
-        '.' => Some(Symbol::Dot),
-        '*' => Some(Symbol::Star),
-        ';' => Some(Symbol::Semicolon),
+/// The comparison that begins with these two bytes, and how many of them it takes.
+#[tactic(auto, unfolding(crate::specs::Reading::comparison_of))]
+fn comparison_of(first: u8, second: u8) -> Option<(Comparison, usize)>
+    ensures { result ≡ spec.comparison_of first second }
+{
+    match (first, second) {
+        (b'=', _) => Some((Comparison::Equal, 1)),
+        (b'<', b'=') => Some((Comparison::LessOrEqual, 2)),
+        (b'<', b'>') => Some((Comparison::NotEqual, 2)),
+        (b'<', _) => Some((Comparison::Less, 1)),
+        (b'>', b'=') => Some((Comparison::GreaterOrEqual, 2)),
+        (b'>', _) => Some((Comparison::Greater, 1)),
+        (b'!', b'=') => Some((Comparison::NotEqual, 2)),
         _ => None,
     }
 }
 
-/// A comparison or another symbol, at `at`.
-fn symbol<'t>(at: usize, first: char, behind: &'t str) -> Result<Lexed<'t>, ParseFault>
-    ensures { IfOk result (λ lexed. length lexed.1.now ≤ length behind.entry.now) }
+/// The symbol or comparison that begins with these two bytes, and how many of them it takes.
+#[tactic(auto, unfolding(crate::specs::Reading::sign_of))]
+fn sign_of(first: u8, second: u8) -> Option<(TokenKind, usize)>
+    ensures { result ≡ spec.sign_of first second }
 {
     if let Some(symbol) = symbol_of(first) {
-        return Ok((TokenKind::Symbol(symbol), behind));
+        return Some((TokenKind::Symbol(symbol), 1));
     }
-    match comparison(first, behind) {
-        Some((comparison, rest)) => Ok((TokenKind::Comparison(comparison), rest)),
+    let (comparison, len) = comparison_of(first, second)?;
+    Some((TokenKind::Comparison(comparison), len))
+}
+
+/// The symbol or comparison at the front of the text, which stands at `at`.
+#[tactic(auto, unfolding(crate::specs::Reading::sign_at))]
+fn sign(at: usize, text: &str) -> Result<Lexed<'_>, ParseFault>
+    ensures { Gives (λ x. (x.0, x.1.now)) result (spec.sign_at at text.now) }
+{
+    match sign_of(byte_at(text, 0), byte_at(text, 1)) {
+        Some((kind, len)) => Ok((kind, cut(text, len).1)),
         None => Err(refused(ParseReason::NoToken, at)),
     }
 }
 
 /// The token at the front of the text, which stands at `at`.
+#[tactic(auto, unfolding(crate::specs::Reading::token_at))]
 fn token(alloc: Global, at: usize, text: &str) -> Result<Lexed<'_>, ParseFault>
-    ensures { IfOk result (λ lexed. length lexed.1.now < length text.entry.now) }
+    ensures { Gives (λ x. (x.0, x.1.now)) result (spec.token_at at text.now) }
 {
-    let mut characters = text.chars();
-    let Some(first) = characters.next() else {
-        return Err(refused(ParseReason::NoToken, at));
-    };
-    let behind = characters.as_str();
+    let first = byte_at(text, 0);
     if is_word_start(first) {
-        return word(alloc, text, behind);
+        return Ok(word(alloc, text)?);
     }
-    if is_digit(first) {
-        return number(at, false, text, behind);
+    if first.is_ascii_digit() || first == b'-' && byte_at(text, 1).is_ascii_digit() {
+        return number(at, text);
     }
-    if first == '-' && behind.starts_with(is_digit) {
-        return number(at, true, behind, behind);
+    if first == b'\'' {
+        return text_token(alloc, at, text);
     }
-    if first != '\'' {
-        return symbol(at, first, behind);
-    }
-    match quoted(alloc, behind)? {
-        Some(lexed) => Ok(lexed),
-        None => Err(refused(ParseReason::OpenText, at)),
-    }
+    sign(at, text)
+}
+
+/// What is behind the white space at the front.
+fn trimmed(text: &str) -> &str
+    ensures { result.now ≡ drop (prefix_len definition.is_space text.now) text.now }
+{
+    cut(text, run_len(Class::Space, text.as_bytes())).1
 }
 
 /// All tokens of a text, or the first place where there is none.
-pub fn tokens(alloc: Global, text: &str) -> Result<Vec<Token>, ParseFault> {
+pub fn tokens(alloc: Global, text: &str) -> Result<Vec<Token>, ParseFault>
+    ensures found { IfOk result (λ tokens. definition.AreTokens text.now tokens.items) }
+    ensures only { (tokens : List Token) → definition.AreTokens text.now tokens → Gives (λ v. v.items) result (Ok tokens) }
+    ensures fault { IfErr result (λ fault. IfRefused fault (definition.IsLexicalFault text.now)) }
+{
     let mut tokens = Vec::new(alloc);
-    let mut rest = text.trim_start_matches(is_space);
+    let mut rest = trimmed(text);
     while !rest.is_empty() {
         let at = text.len() - rest.len();
         let (kind, behind) = token(alloc, at, rest)?;
         tokens.push(Token { kind, at })?;
-        rest = behind.trim_start_matches(is_space);
+        rest = trimmed(behind);
     }
     Ok(tokens)
 }

@@ -1,6 +1,11 @@
-//! From tokens to the tree.
+//! From tokens to the tree. The readers take the tokens that are left and `end`, the place of the text's end.
 
-ghost use Rattle.std.specs.Prelude.{◌<◌, ◌≤◌, length, IfOk, IfSome};
+ghost use Rattle.std.specs.Prelude.{◌≡◌, IfOk, IfErr, length};
+ghost use Rattle.values.specs.Faults.{Gives};
+ghost use Rattle.values.specs.declared.fault.Fault.TheVariants.{Refused};
+ghost use Rattle.sqlplan.specs.Grammar.{ReadsText, IsRefusal};
+ghost use Rattle.sqlplan.specs.ReadingFaults.{IfRefused};
+ghost use Rattle.sqlplan.specs.ReadingTrees as spec;
 
 use crate::syntax::ast::{Ast, Filter, Name};
 use crate::syntax::fault::{ParseFault, ParseReason, refused};
@@ -13,132 +18,191 @@ use values::{Comparison, Items, Value};
 /// The most bytes that a query's text may have.
 pub const MAX_TEXT: usize = 65536;
 
-/// The tokens that are left, and the length of the text, at which its end stands.
+/// A token that stands in a place of its own.
 #[derive(Clone, Copy)]
-struct Rest<'t> {
-    tokens: &'t [Token],
-    end: usize,
+enum Fixed {
+    Select,
+    From,
+    Where,
+    Comma,
+    Semicolon,
 }
 
-impl<'t> Rest<'t> {
-    /// The fault of what stands next.
-    fn unexpected(self) -> ParseFault {
-        match self.tokens {
-            [] => refused(ParseReason::Unexpected, self.end),
-            [token, ..] => refused(ParseReason::Unexpected, token.at),
+impl Fixed {
+    fn fits(self, kind: &TokenKind) -> bool
+        ensures { result ≡ spec.fits self kind.now }
+    {
+        match self {
+            Fixed::Select => matches!(kind, TokenKind::Keyword(Keyword::Select)),
+            Fixed::From => matches!(kind, TokenKind::Keyword(Keyword::From)),
+            Fixed::Where => matches!(kind, TokenKind::Keyword(Keyword::Where)),
+            Fixed::Comma => matches!(kind, TokenKind::Symbol(Symbol::Comma)),
+            Fixed::Semicolon => matches!(kind, TokenKind::Symbol(Symbol::Semicolon)),
         }
     }
-
-    /// The token that is next, and what follows it.
-    fn next(self) -> Result<(&'t Token, Rest<'t>), ParseFault>
-        ensures { IfOk result (λ found. length found.1.tokens.now < length self.entry.tokens.now) }
-    {
-        let Some((token, tokens)) = self.tokens.split_first() else {
-            return Err(self.unexpected());
-        };
-        let end = self.end;
-        Ok((token, Rest { tokens, end }))
-    }
 }
 
-fn keyword(rest: Rest<'_>, wanted: Keyword) -> Result<Rest<'_>, ParseFault> {
-    let (token, behind) = rest.next()?;
-    match token.kind {
-        TokenKind::Keyword(found) if found == wanted => Ok(behind),
-        _ => Err(rest.unexpected()),
-    }
-}
-
-fn has_keyword(rest: Rest<'_>, wanted: Keyword) -> bool {
-    keyword(rest, wanted).is_ok()
-}
-
-fn symbol(rest: Rest<'_>, wanted: Symbol) -> Option<Rest<'_>>
-    ensures { IfSome result (λ behind. length behind.tokens.now < length rest.entry.tokens.now) }
+/// The fault of what stands next.
+fn unexpected(tokens: &[Token], end: usize) -> ParseFault
+    ensures { result ≡ Refused (spec.unexpected end tokens.now) }
 {
-    let (token, behind) = rest.next().ok()?;
-    match token.kind {
-        TokenKind::Symbol(found) if found == wanted => Some(behind),
-        _ => None,
+    match tokens {
+        [] => refused(ParseReason::Unexpected, end),
+        [token, ..] => refused(ParseReason::Unexpected, token.at),
     }
 }
 
-fn name(alloc: Global, rest: Rest<'_>) -> Result<(Name, Rest<'_>), ParseFault>
-    ensures { IfOk result (λ found. length found.1.tokens.now < length rest.entry.tokens.now) }
+fn sees(tokens: &[Token], wanted: Fixed) -> bool
+    ensures { result ≡ spec.sees wanted tokens.now }
 {
-    let (token, behind) = rest.next()?;
+    match tokens {
+        [] => false,
+        [token, ..] => wanted.fits(&token.kind),
+    }
+}
+
+/// What is behind a fixed token.
+fn expect(tokens: &[Token], end: usize, wanted: Fixed) -> Result<&[Token], ParseFault>
+    ensures { Gives (λ x. x.now) result (spec.expect_at wanted end tokens.now) }
+{
+    match tokens {
+        [token, behind @ ..] if wanted.fits(&token.kind) => Ok(behind),
+        _ => Err(unexpected(tokens, end)),
+    }
+}
+
+/// What is behind a fixed token that may stand there.
+fn skip(tokens: &[Token], wanted: Fixed) -> &[Token]
+    ensures { result.now ≡ spec.skip_at wanted tokens.now }
+{
+    match tokens {
+        [token, behind @ ..] if wanted.fits(&token.kind) => behind,
+        _ => tokens,
+    }
+}
+
+#[tactic(auto, unfolding(crate::specs::ReadingTrees::name_at))]
+fn name(alloc: Global, tokens: &[Token], end: usize) -> Result<(Name, &[Token]), ParseFault>
+    ensures { Gives (λ x. (x.0, x.1.now)) result (spec.name_at end tokens.now) }
+{
+    let [token, behind @ ..] = tokens else {
+        return Err(unexpected(tokens, end));
+    };
     match &token.kind {
-        TokenKind::Name(text) => Ok((
-            Name {
-                text: text.copy(alloc)?,
-                at: token.at,
-            },
-            behind,
-        )),
-        _ => Err(rest.unexpected()),
+        TokenKind::Name(text) => {
+            let text = text.copy(alloc)?;
+            Ok((Name { text, at: token.at }, behind))
+        }
+        _ => Err(unexpected(tokens, end)),
     }
 }
 
-/// `column {, column}`
-fn columns(alloc: Global, rest: Rest<'_>) -> Result<(Items<Name>, Rest<'_>), ParseFault> {
-    let (first, mut rest) = name(alloc, rest)?;
-    let mut columns = Items::new(alloc);
-    columns.push(first)?;
-    while let Some(behind) = symbol(rest, Symbol::Comma) {
-        let (column, more) = name(alloc, behind)?;
-        columns.push(column)?;
-        rest = more;
-    }
-    Ok((columns, rest))
-}
-
-fn comparison(rest: Rest<'_>) -> Result<((Comparison, usize), Rest<'_>), ParseFault> {
-    let (token, behind) = rest.next()?;
+/// A comparison, and where it stands.
+#[tactic(auto, unfolding(crate::specs::ReadingTrees::operator_at))]
+fn operator(tokens: &[Token], end: usize) -> Result<((Comparison, usize), &[Token]), ParseFault>
+    ensures { Gives (λ x. (x.0, x.1.now)) result (spec.operator_at end tokens.now) }
+{
+    let [token, behind @ ..] = tokens else {
+        return Err(unexpected(tokens, end));
+    };
     match token.kind {
         TokenKind::Comparison(comparison) => Ok(((comparison, token.at), behind)),
-        _ => Err(rest.unexpected()),
+        _ => Err(unexpected(tokens, end)),
     }
 }
 
-fn literal(alloc: Global, rest: Rest<'_>) -> Result<(Value, Rest<'_>), ParseFault> {
-    let (token, behind) = rest.next()?;
+/// A number, a text or NULL.
+#[tactic(auto, unfolding(crate::specs::ReadingTrees::literal_at))]
+fn literal(alloc: Global, tokens: &[Token], end: usize) -> Result<(Value, &[Token]), ParseFault>
+    ensures { Gives (λ x. (x.0, x.1.now)) result (spec.literal_at end tokens.now) }
+{
+    let [token, behind @ ..] = tokens else {
+        return Err(unexpected(tokens, end));
+    };
     match &token.kind {
         TokenKind::Number(number) => Ok((Value::Int(i128::from(*number)), behind)),
         TokenKind::Text(text) => Ok((Value::Text(text.copy(alloc)?), behind)),
         TokenKind::Keyword(Keyword::Null) => Ok((Value::Null, behind)),
-        _ => Err(rest.unexpected()),
+        _ => Err(unexpected(tokens, end)),
     }
 }
 
-/// `[WHERE column comparison literal]`
-fn filter(alloc: Global, rest: Rest<'_>) -> Result<(Option<Filter>, Rest<'_>), ParseFault> {
-    if !has_keyword(rest, Keyword::Where) {
-        return Ok((None, rest));
+/// `column {, column}`
+#[tactic(auto, unfolding(crate::specs::ReadingTrees::columns_at))]
+fn columns(
+    alloc: Global,
+    tokens: &[Token],
+    end: usize,
+) -> Result<(Items<Name>, &[Token]), ParseFault>
+    ensures { Gives (λ x. (x.0, x.1.now)) result (spec.columns_at end tokens.now) }
+{
+    let (first, mut rest) = name(alloc, tokens, end)?;
+    let mut columns = Items::new(alloc);
+    columns.push(first)?;
+    'names: while sees(rest, Fixed::Comma) {
+        let (column, behind) = name(alloc, expect(rest, end, Fixed::Comma)?, end)?;
+        columns.push(column)?;
+        rest = behind;
     }
-    let rest = keyword(rest, Keyword::Where)?;
-    let (column, rest) = name(alloc, rest)?;
-    let ((comparison, comparison_at), rest) = comparison(rest)?;
-    let (literal, rest) = literal(alloc, rest)?;
+    Ok((columns, rest))
+}
+
+/// `column comparison literal`
+#[tactic(auto, unfolding(crate::specs::ReadingTrees::condition_at))]
+fn condition(alloc: Global, tokens: &[Token], end: usize) -> Result<(Filter, &[Token]), ParseFault>
+    ensures { Gives (λ x. (x.0, x.1.now)) result (spec.condition_at end tokens.now) }
+{
+    let (column, rest) = name(alloc, tokens, end)?;
+    let ((comparison, comparison_at), rest) = operator(rest, end)?;
+    let (literal, rest) = literal(alloc, rest, end)?;
     let filter = Filter {
         column,
         comparison,
         comparison_at,
         literal,
     };
+    Ok((filter, rest))
+}
+
+/// `[WHERE condition]`
+#[tactic(auto, unfolding(crate::specs::ReadingTrees::filter_at))]
+fn filter(
+    alloc: Global,
+    tokens: &[Token],
+    end: usize,
+) -> Result<(Option<Filter>, &[Token]), ParseFault>
+    ensures { Gives (λ x. (x.0, x.1.now)) result (spec.filter_at end tokens.now) }
+{
+    if !sees(tokens, Fixed::Where) {
+        return Ok((None, tokens));
+    }
+    let rest = expect(tokens, end, Fixed::Where)?;
+    let (filter, rest) = condition(alloc, rest, end)?;
     Ok((Some(filter), rest))
 }
 
-/// `SELECT columns FROM table [WHERE ..] [;]`, and nothing more.
-fn statement(alloc: Global, rest: Rest<'_>) -> Result<Ast, ParseFault> {
-    let rest = keyword(rest, Keyword::Select)?;
-    let (columns, rest) = columns(alloc, rest)?;
-    let rest = keyword(rest, Keyword::From)?;
-    let (table, rest) = name(alloc, rest)?;
-    let (filter, rest) = filter(alloc, rest)?;
-    let rest = symbol(rest, Symbol::Semicolon).unwrap_or(rest);
-    if !rest.tokens.is_empty() {
-        return Err(rest.unexpected());
+/// `[;]`, and nothing more.
+#[tactic(auto, unfolding(crate::specs::ReadingTrees::finish_at))]
+fn finish(tokens: &[Token], end: usize) -> Result<(), ParseFault>
+    ensures { Gives (λ _. tt) result (spec.finish_at end tokens.now) }
+{
+    match skip(tokens, Fixed::Semicolon) {
+        [] => Ok(()),
+        rest => Err(unexpected(rest, end)),
     }
+}
+
+/// `SELECT columns FROM table [WHERE ..] [;]`, and nothing more.
+#[tactic(auto, unfolding(crate::specs::ReadingTrees::statement_at))]
+fn statement(alloc: Global, tokens: &[Token], end: usize) -> Result<Ast, ParseFault>
+    ensures { Gives (λ tree. tree) result (spec.statement_at end tokens.now) }
+{
+    let rest = expect(tokens, end, Fixed::Select)?;
+    let (columns, rest) = columns(alloc, rest, end)?;
+    let rest = expect(rest, end, Fixed::From)?;
+    let (table, rest) = name(alloc, rest, end)?;
+    let (filter, rest) = filter(alloc, rest, end)?;
+    finish(rest, end)?;
     Ok(Ast {
         columns,
         table,
@@ -147,22 +211,25 @@ fn statement(alloc: Global, rest: Rest<'_>) -> Result<Ast, ParseFault> {
 }
 
 /// The tree of a query's text.
-pub fn parse(alloc: Global, text: &str) -> Result<Ast, ParseFault> {
+pub fn parse(alloc: Global, text: &str) -> Result<Ast, ParseFault>
+    ensures found { IfOk result (λ tree. ReadsText text.now tree) }
+    // So no text has two trees, and a refusal comes only where there is none.
+    ensures only { (tree : Ast) → ReadsText text.now tree → Gives (λ t. t) result (Ok tree) }
+    ensures refused { IfErr result (λ fault. IfRefused fault (IsRefusal text.now)) }
+{
     if text.len() > MAX_TEXT {
         return Err(refused(ParseReason::TooLong, MAX_TEXT));
     }
     let tokens = tokens(alloc, text)?;
-    statement(
-        alloc,
-        Rest {
-            tokens: tokens.as_slice(),
-            end: text.len(),
-        },
-    )
+    statement(alloc, tokens.as_slice(), text.len())
 }
 
 /// The tree of the bytes of a query's text. Bytes that are no text are refused at the first bad one.
-pub fn parse_bytes(alloc: Global, bytes: &[u8]) -> Result<Ast, ParseFault> {
+pub fn parse_bytes(alloc: Global, bytes: &[u8]) -> Result<Ast, ParseFault>
+    ensures found { IfOk result (λ tree. ReadsText bytes.now tree) }
+    ensures only { (tree : Ast) → ReadsText bytes.now tree → Gives (λ t. t) result (Ok tree) }
+    ensures refused { IfErr result (λ fault. IfRefused fault (IsRefusal bytes.now)) }
+{
     if bytes.len() > MAX_TEXT {
         return Err(refused(ParseReason::TooLong, MAX_TEXT));
     }

@@ -1,5 +1,8 @@
 //! The tokens of a query's text.
 
+ghost use Rattle.std.specs.Prelude.{◌≡◌};
+ghost use Rattle.sqlplan.specs.Tokens as definition;
+
 use values::{Comparison, Text};
 
 /// A reserved word.
@@ -68,7 +71,10 @@ pub struct Token {
 }
 
 /// The reserved word that a word in lower case is.
-pub fn keyword_of(word: &str) -> Option<Keyword> {
+#[tactic(auto, unfolding(crate::specs::Tokens::keyword_of))]
+pub fn keyword_of(word: &str) -> Option<Keyword>
+    ensures { result ≡ definition.keyword_of word.now }
+{
     let keyword = match word {
         "and" => Keyword::And,
         "as" => Keyword::As,

@@ -1,5 +1,9 @@
-use Rattle.std.proofs.Common.{length}
+use Rattle.std.proofs.Common.{◌≡◌, length}
+use Rattle.sqlplan.specs.ReadingTrees.{with_front, more_at, columns_at}
 use Rattle.sqlplan.proofs.syntax.parser.columns.Given as goal
 
-abbrev pub decreases-loop-behind : goal.decreases-loop-behind
-decreases-loop-behind l = length l.rest.tokens.now
+abbrev pub invariant-names : goal.invariant-names
+invariant-names l = with_front l.columns (more_at l.end l.rest) ≡ columns_at l.end l.fn.tokens
+
+abbrev pub decreases-names : goal.decreases-names
+decreases-names l = length l.rest
