@@ -1,3 +1,5 @@
+pub mod Bindings
+pub mod Company
 pub mod Counting
 pub mod Equations
 pub mod Groups
@@ -8,4 +10,3 @@ pub mod Truths
 pub mod Unique
 pub mod Widths
 pub mod Worked
-pub mod Company

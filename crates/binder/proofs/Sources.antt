@@ -2,8 +2,8 @@
 use Rattle.std.proofs.Common.{◌≡◌, refl, ℕ, ◌+◌, ◌*◌, ◌-◌, Bool, true, false, ◌&&◌, if◌then◌else◌, List, [], ◌∷◌, ◌++◌, length, filter, flat_map, ap, sym, ◌∙◌, arith, rules, length-append}
 use Rattle.std.proofs.lemmas.Bool.{and_parts, and_from}
 use Rattle.std.proofs.lemmas.List.{take-append-drop, take_at, drop_at}
-use Rattle.schema.specs.Databases.{Row}
-use Rattle.binder.specs.Rows.{Env, Tables, same_rows, count, nulls, HaveWidth}
+use Rattle.schema.specs.Databases.{Row, HaveWidth}
+use Rattle.binder.specs.Rows.{Env, Tables, same_rows, count, nulls}
 use Rattle.binder.specs.Meaning.{CondMeaning, passes, pairs_of, matches, padded, or_else_row, is_empty}
 use Rattle.binder.specs.Laws.{left_part, right_part}
 use Rattle.binder.proofs.Counting.{same_rows-equal, same_rows-from, count-append, count-filter}

@@ -6,14 +6,14 @@ use Rattle.std.specs.List.{AllByRecursion}
 use Rattle.values.specs.declared.value.Value.TheVariants.{Null}
 use Rattle.schema.specs.declared.schema.Column.{Column}
 use Rattle.schema.specs.declared.schema.Table.{Table}
-use Rattle.schema.specs.Databases.{Row, Database, FitsColumns, SatisfyTables}
+use Rattle.schema.specs.Databases.{Row, Database, FitsColumns, SatisfyTables, HaveWidth}
 use Rattle.binder.specs.declared.query.Cond.{Cond}
 use Rattle.binder.specs.declared.query.From.{From, roll-From}
 use Rattle.binder.specs.declared.query.Block.{Block}
 use Rattle.binder.specs.declared.query.From.TheVariants.{rolls-Table, rolls-Join, rolls-LeftJoin, rolls-Comma}
 use Rattle.binder.specs.declared.query.Cond.TheOpen.{From-F}
 use Rattle.binder.specs.declared.query.Cond.TheFolds.{ind-From, map-From}
-use Rattle.binder.specs.Rows.{Env, Tables, HaveWidth, IsFitting, nulls}
+use Rattle.binder.specs.Rows.{Env, Tables, IsFitting, nulls}
 use Rattle.binder.specs.Meaning.{CondMeaning, source, from_width, truth, or_else_row, pairs_of, matches, padded}
 use Rattle.binder.specs.Answer.{SatisfyingFits}
 use Rattle.binder.proofs.Equations.{source-Table, source-Join, source-LeftJoin, source-Comma, width-Table, width-Join, width-LeftJoin, width-Comma}

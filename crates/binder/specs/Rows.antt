@@ -4,12 +4,11 @@
 use Rattle.std.specs.Prelude.{◌≡◌, ℕ, ◌+◌, Bool, not, if◌then◌else◌, List, [], ◌∷◌, length, map, filter, replicate, slice_index_or}
 use Rattle.std.specs.Ordering.{is_eq}
 use Rattle.std.specs.Cmp.Lexicographic.{slice_cmp}
-use Rattle.std.specs.List.{AllByRecursion}
 use Rattle.values.specs.declared.value.Value.{Value}
 use Rattle.values.specs.declared.value.Value.TheVariants as value
 use Rattle.values.specs.Order.{order}
 use Rattle.schema.specs.declared.schema.Schema.{Schema}
-use Rattle.schema.specs.Databases.{Row, Database}
+use Rattle.schema.specs.Databases.{Row, Database, HaveWidth}
 use Rattle.binder.specs.declared.query.Column.{Column}
 use Rattle.binder.specs.declared.query.Term.{Term}
 use Rattle.binder.specs.declared.query.Term.TheVariants as term
@@ -27,10 +26,6 @@ tables_of S D = record {
   rows = λ t. slice_index_or D t [];
   width = λ t. slice_index_or (map (λ entry. length entry.columns) S.tables) t 0;
 }
-
--- each row has so many values
-abbrev pub HaveWidth : ℕ → List Row → Type 0
-HaveWidth width rows = AllByRecursion (λ r. length r ≡ width) rows
 
 -- each row of a table has a value for each of its columns
 abbrev pub IsFitting : Tables → Type 0

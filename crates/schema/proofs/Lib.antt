@@ -1,5 +1,5 @@
-pub mod Loops
 pub mod Json
 pub mod Keys
-pub mod Steps
+pub mod Loops
 pub mod Schemas
+pub mod Steps

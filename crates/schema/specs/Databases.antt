@@ -15,6 +15,10 @@ use Rattle.schema.specs.declared.schema.Schema.{Schema}
 abbrev pub Row : Type 0
 Row = List Value
 
+-- each row has so many values
+abbrev pub HaveWidth : ℕ → List Row → Type 0
+HaveWidth width rows = AllByRecursion (λ r. length r ≡ width) rows
+
 -- the rows of each table, in the order of the schema
 abbrev pub Database : Type 0
 Database = List (List Row)

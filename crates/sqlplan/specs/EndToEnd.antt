@@ -5,9 +5,9 @@ use Rattle.schema.specs.Databases.{Row}
 use Rattle.schema.specs.Reading.{schema_of}
 use Rattle.checker.specs.Plans.{answer}
 use Rattle.checker.specs.Replay.{Accepted}
-use Rattle.sqlplan.specs.AnswerText.{answer_text}
-use Rattle.sqlplan.specs.Execution.{tables_in}
-use Rattle.sqlplan.specs.StoreDatabases.{Stored}
+use Rattle.executor.specs.AnswerText.{answer_text}
+use Rattle.executor.specs.Execution.{tables_in}
+use Rattle.store.specs.Databases.{Stored}
 
 -- where the bytes are a schema, it has so many tables
 abbrev pub HasTables : List ℕ → ℕ → Type 0

@@ -4,34 +4,11 @@ use Rattle.schema.specs.declared.schema.Table as entries
 use Rattle.schema.specs.declared.schema.Schema as schemas
 use Rattle.schema.specs.Refusals as schema
 use Rattle.checker.specs.Codes as check
-use Rattle.sqlplan.specs.declared.syntax.fault.ParseReason.{ParseReason}
-use Rattle.sqlplan.specs.declared.syntax.fault.ParseReason.TheVariants as p
-use Rattle.sqlplan.specs.declared.binding.fault.BindReason.{BindReason}
-use Rattle.sqlplan.specs.declared.binding.fault.BindReason.TheVariants as b
+use Rattle.sql_parse.specs.Codes as text
+use Rattle.binder.specs.Codes as scope
 use Rattle.sqlplan.specs.declared.refusal.Refusal.{Refusal}
 use Rattle.sqlplan.specs.declared.refusal.Refusal.TheVariants.{Memory, Schema, Text, Scope, Check, Table, TableDevice, Output}
-use Rattle.sqlplan.specs.StoreFaults as store
-
-abbrev pub parse_code : ParseReason → List ℕ
-parse_code p.NoToken = codes "P01"
-parse_code p.OpenText = codes "P02"
-parse_code p.NumberRange = codes "P03"
-parse_code p.Unexpected = codes "P04"
-parse_code p.TooDeep = codes "P05"
-parse_code p.TooLong = codes "P06"
-
-abbrev pub bind_code : BindReason → List ℕ
-bind_code b.UnknownTable = codes "B01"
-bind_code b.UnknownColumn = codes "B02"
-bind_code b.AmbiguousName = codes "B03"
-bind_code b.RepeatedName = codes "B04"
-bind_code b.MixedKinds = codes "B05"
-bind_code b.UngroupedColumn = codes "B06"
-bind_code b.SumOfText = codes "B07"
-bind_code b.NotOneColumn = codes "B08"
-bind_code b.NoOutputColumn = codes "B09"
-bind_code b.TooLarge = codes "B10"
-bind_code b.OuterAggregate = codes "B11"
+use Rattle.store.specs.Faults as store
 
 -- the name of a table of a schema; nothing where there is none
 abbrev pub entry_name : Option entries.Table → List ℕ
@@ -50,8 +27,8 @@ earlier_text (Some n) = codes " and " ++ decimal n
 abbrev pub line_of : Option schemas.Schema → Refusal → List ℕ
 line_of S Memory = codes "memory"
 line_of S (Schema r) = codes "refused " ++ schema.code_of r
-line_of S (Text r) = codes "refused " ++ (parse_code r.reason ++ (codes " at " ++ decimal r.at))
-line_of S (Scope r) = codes "refused " ++ (bind_code r.reason ++ (codes " at " ++ decimal r.at))
+line_of S (Text r) = codes "refused " ++ (text.code_of r.reason ++ (codes " at " ++ decimal r.at))
+line_of S (Scope r) = codes "refused " ++ (scope.code_of r.reason ++ (codes " at " ++ decimal r.at))
 line_of S (Check r) = codes "refused " ++ (check.name_of r.code ++ (codes " line " ++ decimal r.line))
 line_of S (Table t r) = codes "refused " ++ (store.code_of r.cause ++ (codes " " ++ (table_name S t ++ (codes " row " ++ (decimal r.row ++ earlier_text (store.earlier_of r.cause))))))
 line_of S (TableDevice t) = codes "device T08 " ++ table_name S t

@@ -4,11 +4,11 @@ use Rattle.values.specs.declared.fault.Fault.{Fault}
 use Rattle.values.specs.declared.fault.Fault.TheVariants as fault
 use Rattle.schema.specs.declared.fault.SchemaRefusal.{SchemaRefusal}
 use Rattle.checker.specs.declared.certificate.CheckRefusal.{CheckRefusal}
-use Rattle.sqlplan.specs.declared.syntax.fault.ParseRefusal.{ParseRefusal}
-use Rattle.sqlplan.specs.declared.binding.fault.BindRefusal.{BindRefusal}
-use Rattle.sqlplan.specs.declared.answer.output.OutputFailed.{OutputFailed}
-use Rattle.sqlplan.specs.declared.store.fault.TableFault.{TableFault}
-use Rattle.sqlplan.specs.declared.store.fault.TableFault.TheVariants as table
+use Rattle.sql_parse.specs.declared.fault.ParseRefusal.{ParseRefusal}
+use Rattle.binder.specs.declared.fault.BindRefusal.{BindRefusal}
+use Rattle.executor.specs.declared.output.OutputFailed.{OutputFailed}
+use Rattle.store.specs.declared.fault.TableFault.{TableFault}
+use Rattle.store.specs.declared.fault.TableFault.TheVariants as table
 use Rattle.sqlplan.specs.declared.refusal.Refusal.{Refusal}
 use Rattle.sqlplan.specs.declared.refusal.Refusal.TheVariants.{Memory, Schema, Text, Scope, Check, Table, TableDevice, Output}
 

@@ -4,18 +4,18 @@ ghost use Rattle.std.specs.Prelude.{◌≡◌, ◌≢◌, ◌≤◌, length, IsE
 ghost use Rattle.std.specs.Io.KnownBytes.{Appends};
 ghost use Rattle.binder.specs.Answer.{IsAnswer};
 ghost use Rattle.logical.specs.Frame.{IsSimple};
-ghost use Rattle.sqlplan.specs.AnswerText.{HasFront};
-ghost use Rattle.sqlplan.specs.Devices.{Rose};
+ghost use Rattle.executor.specs.AnswerText.{HasFront};
+ghost use Rattle.store.specs.Devices.{Rose};
 ghost use Rattle.sqlplan.specs.EndToEnd.{HasTables, plan_rows, plan_text};
-ghost use Rattle.sqlplan.specs.Execution.{tables_in};
+ghost use Rattle.executor.specs.Execution.{tables_in};
 
-use crate::answer::{AnswerFault, AnswerOutput, write_rows};
-use crate::binding::bind;
+use executor::{AnswerFault, AnswerOutput, write_rows};
+use binder::bind;
 use crate::canonical::canonical;
-use crate::execution::run;
+use executor::run;
 use crate::refusal::Refusal;
-use crate::store::{Database, TableInput};
-use crate::syntax::parse_bytes;
+use store::{Database, TableInput};
+use sql_parse::parse_bytes;
 use checker::{Checked, check};
 use schema::Schema;
 use std::alloc::Global;

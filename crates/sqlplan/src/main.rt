@@ -3,20 +3,15 @@
 
 ghost use Rattle.std.specs.Prelude.{◌≡◌, length, vec_len, IfOk};
 
-mod answer;
-mod binding;
 mod canonical;
 mod command;
 mod end_to_end;
-mod execution;
 mod refusal;
 mod stop;
-mod store;
-mod syntax;
 #[cfg(test)]
 mod tests;
 
-use answer::CountedOutput;
+use executor::CountedOutput;
 use clap::ArgMatches;
 use clap::error::ErrorKind;
 use command::command;

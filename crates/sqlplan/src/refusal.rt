@@ -4,12 +4,12 @@ ghost use Rattle.std.specs.Prelude.{◌≡◌, ◌++◌, codes, decimal, string_
 ghost use Rattle.std.specs.Option.{option_copied};
 ghost use Rattle.sqlplan.specs.Refusals as spec;
 ghost use Rattle.sqlplan.specs.Lines as lines;
-ghost use Rattle.sqlplan.specs.StoreFaults.{code_of, earlier_of};
+ghost use Rattle.store.specs.Faults.{code_of, earlier_of};
 
-use crate::answer::AnswerFault;
-use crate::binding::{BindFault, BindRefusal};
-use crate::store::{TableFault, TableRefusal};
-use crate::syntax::{ParseFault, ParseRefusal};
+use executor::AnswerFault;
+use binder::{BindFault, BindRefusal};
+use store::{TableFault, TableRefusal};
+use sql_parse::{ParseFault, ParseRefusal};
 use checker::{CheckFault, CheckRefusal};
 use schema::{Schema, SchemaFault, SchemaRefusal};
 use std::alloc::{AllocError, AllocFailed, Global};

@@ -1,9 +1,9 @@
 //! Whole queries, from bytes to bytes, over the tables of `examples/hr`.
 
-use crate::answer::CountedOutput;
+use executor::CountedOutput;
 use crate::end_to_end::query;
 use crate::refusal::fault_line;
-use crate::store::CountedInput;
+use store::CountedInput;
 use schema::Schema;
 use std::alloc::{AllocError, Global};
 use std::process::Abort;

@@ -1,0 +1,5 @@
+pub mod Plans
+pub mod Rows
+pub mod Sent
+pub mod Truth
+pub mod Widths

@@ -1,0 +1,61 @@
+-- Bytes that a device took, piece after piece.
+use Rattle.std.proofs.Common.{◌≡◌, ℕ, suc, ◌+◌, ◌<◌, ◌≤◌, List, [], ◌∷◌, ◌++◌, length, take, drop, get_or, map, Option, Some, None, Result, Ok, Err, OnErr, refl, sym, ap, ◌∙◌, append_assoc, arith}
+use Rattle.std.proofs.lemmas.List.{append-nil, drop_all, take-append-drop}
+use Rattle.std.proofs.Math.Seq.{drop-cons}
+use Rattle.std.specs.Io.KnownBytes.{Appends, Keeps}
+use Rattle.csv.specs.Writing.{default_writer, row_text}
+use Rattle.schema.specs.Databases.{Row}
+use Rattle.executor.specs.AnswerText.{field_of, rows_text, HasFront}
+
+pub appends_more : (a b c : Option (List ℕ)) (x y : List ℕ) → Appends a b x → Appends b c y → Appends a c (x ++ y)
+appends_more None b c x y h k = tt
+appends_more (Some xs) None c x y h k = absurd h
+appends_more (Some xs) (Some ys) None x y h k = absurd k
+appends_more (Some xs) (Some ys) (Some zs) x y h k = k ∙ ap (λ (t : List ℕ). t ++ y) h ∙ append_assoc xs x y
+
+pub appends_none : (a : Option (List ℕ)) → Appends a a []
+appends_none None = tt
+appends_none (Some xs) = sym (append-nil xs)
+
+pub appends_kept : (a b c : Option (List ℕ)) (x : List ℕ) → Appends a b x → Keeps b c → Appends a c x
+appends_kept None b c x h k = tt
+appends_kept (Some xs) None c x h k = absurd h
+appends_kept (Some xs) (Some ys) None x h k = absurd k
+appends_kept (Some xs) (Some ys) (Some zs) x h k = k ∙ h
+
+pub on_err : {A E : Type 0} (r : Result A E) {P : Type 0} → P → OnErr r P
+on_err (Ok x) p = tt
+on_err (Err e) p = p
+
+-- nothing is a beginning of any text
+pub front_of_nothing : (a : Option (List ℕ)) (total : List ℕ) → HasFront a a total
+front_of_nothing a total = ([], total, refl, appends_none a)
+
+pub front_of_all : (a c : Option (List ℕ)) (total : List ℕ) → Appends a c total → HasFront a c total
+front_of_all a c total added = (total, [], sym (append-nil total), added)
+
+-- a beginning of a beginning
+pub front_of_kept : (a c : Option (List ℕ)) (x : List ℕ) → HasFront a c x → (y total : List ℕ) → x ++ y ≡ total → HasFront a c total
+front_of_kept a c x (front, rest, is, added) y total e = (front, rest ++ y, sym e ∙ ap (λ (t : List ℕ). t ++ y) is ∙ append_assoc front rest y, added)
+
+pub front_of_taken : (a c : Option (List ℕ)) (n : ℕ) (x total : List ℕ) → x ≡ total → Appends a c (take n x) → HasFront a c total
+front_of_taken a c n x total e added = (take n x, drop n x, sym e ∙ sym (take-append-drop n x), added)
+
+-- what was taken before, and a beginning of what comes next
+pub front_more : (a b c : Option (List ℕ)) (done x total : List ℕ) → Appends a b done → HasFront b c x → done ++ x ≡ total → HasFront a c total
+front_more a b c done x total before (front, rest, is, added) e =
+    (done ++ front, rest, sym e ∙ ap (λ (t : List ℕ). done ++ t) is ∙ sym (append_assoc done front rest), appends_more a b c done front before added)
+
+-- the text of the rows that are left begins with that of the next row
+pub rest_text : (rows : List Row) (i : ℕ) (r : Row) → i < length rows → r ≡ get_or rows i r
+    → rows_text (drop i rows) ≡ row_text default_writer (map field_of r) ++ rows_text (drop (i + 1) rows)
+rest_text rows i r lt at =
+    let k : suc i ≡ i + 1 = omega arith in
+    let h : drop i rows ≡ r ∷ drop (i + 1) rows = drop-cons rows i r lt ∙ ap (λ x. x ∷ drop (suc i) rows) (sym at) ∙ ap (λ j. r ∷ drop j rows) k in
+    ap rows_text h
+
+pub no_rest : (rows : List Row) (i : ℕ) (done total : List ℕ) → length rows ≤ i → done ++ rows_text (drop i rows) ≡ total → done ≡ total
+no_rest rows i done total le e =
+    let h : drop i rows ≡ [] = drop_all i rows le in
+    let one : done ++ rows_text (drop i rows) ≡ done = ap (λ (t : List Row). done ++ rows_text t) h ∙ append-nil done in
+    sym one ∙ e

@@ -1,0 +1,11 @@
+use Rattle.std.proofs.Common.{◌≡◌, ◌++◌, drop, List, ℕ}
+use Rattle.std.specs.Io.KnownBytes.{Appends}
+use Rattle.executor.specs.AnswerText.{rows_text}
+use Rattle.executor.proofs.text.send_rows.Given as goal
+
+-- the text of the rows so far was taken
+abbrev pub invariant-loop-row : goal.invariant-loop-row
+invariant-loop-row g l = record {
+  quiet : g.W.AnswerOutput.failures l.out ≡ g.W.AnswerOutput.failures l.fn.out;
+  written : (done : List ℕ) × (done ++ rows_text (drop l.row-index l.rows) ≡ rows_text l.rows) × Appends (g.W.AnswerOutput.contents l.fn.out) (g.W.AnswerOutput.contents l.out) done;
+}

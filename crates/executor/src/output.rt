@@ -1,0 +1,105 @@
+//! Where an answer goes.
+
+ghost use Rattle.std.specs.Prelude.{◌≡◌, ◌≤◌, ◌<◌, ◌+◌, ◌-◌, ◌^◌, ℕ, List, Option, None, min, take, length, IfOk, OnOk, OnErr, MatchResult};
+ghost use Rattle.std.specs.Io.KnownBytes.{Appends, Keeps, WriteAppends};
+ghost use Rattle.store.specs.Devices.{Rose};
+
+use std::io::Write;
+use thiserror::Error;
+
+/// A write to the output failed.
+#[derive(Clone, Copy, Debug, PartialEq, Eq, Drop, Error)]
+#[error("the output failed")]
+pub struct OutputFailed;
+
+/// A writer that counts its calls that failed. A count of 2^64 - 1 stays.
+pub trait AnswerOutput {
+    /// The bytes that it holds, where they are known.
+    ghost contents: { Self → Option (List ℕ) } = { λ _. None };
+
+    /// How many calls failed.
+    ghost failures: { Self → ℕ };
+
+    /// Writes some of the bytes from the front, and tells how many. To take none of them is to fail.
+    fn write_some(&mut self, bytes: &[u8]) -> Result<usize, OutputFailed>
+        requires { 0 < length bytes.now }
+        ensures some { IfOk result (λ n. (0 < n) × (n ≤ length bytes.now)) }
+        ensures bytes { WriteAppends (contents self.old) (contents self.new) result bytes.now }
+        ensures counts { MatchResult result (λ _. failures self.new ≡ failures self.old)
+            (λ _. failures self.new ≡ min (failures self.old + 1) (2 ^ 64 - 1)) };
+
+    /// Hands on what it may hold back.
+    fn flush_all(&mut self) -> Result<(), OutputFailed>
+        ensures bytes { Keeps (contents self.old) (contents self.new) }
+        ensures counts { MatchResult result (λ _. failures self.new ≡ failures self.old)
+            (λ _. failures self.new ≡ min (failures self.old + 1) (2 ^ 64 - 1)) };
+}
+
+/// A writer of std, with a count of its failures.
+#[derive(Drop)]
+pub struct CountedOutput<W> {
+    writer: W,
+    failures: u64,
+}
+
+impl<W: Write> CountedOutput<W> {
+    pub fn new(writer: W) -> CountedOutput<W>
+        ensures writer { result.writer ≡ writer }
+        ensures failures { result.failures ≡ 0 }
+    {
+        CountedOutput {
+            writer,
+            failures: 0,
+        }
+    }
+
+    pub fn into_inner(self) -> W
+        ensures { result ≡ self.writer }
+    {
+        self.writer
+    }
+
+    fn fail(&mut self) -> OutputFailed
+        ensures failures { self.new.failures ≡ min (self.old.failures + 1) (2 ^ 64 - 1) }
+        ensures writer { self.new.writer ≡ self.old.writer }
+    {
+        self.failures = self.failures.saturating_add(1);
+        OutputFailed
+    }
+}
+
+impl<W: Write> AnswerOutput for CountedOutput<W> {
+    ghost contents = { λ c. W.contents c.writer };
+
+    ghost failures = { λ c. c.failures };
+
+    fn write_some(&mut self, bytes: &[u8]) -> Result<usize, OutputFailed> {
+        if let Ok(n) = self.writer.write(bytes) {
+            if n > 0 {
+                return Ok(n);
+            }
+        }
+        Err(self.fail())
+    }
+
+    fn flush_all(&mut self) -> Result<(), OutputFailed> {
+        if self.writer.flush().is_ok() {
+            return Ok(());
+        }
+        Err(self.fail())
+    }
+}
+
+/// Writes all bytes.
+pub fn send<W: AnswerOutput>(out: &mut W, bytes: &[u8]) -> Result<(), OutputFailed>
+    ensures ok { OnOk result (Appends (W.contents out.old) (W.contents out.new) bytes.now) }
+    ensures quiet { OnOk result (W.failures out.new ≡ W.failures out.old) }
+    ensures front { OnErr result ((n : ℕ) × Appends (W.contents out.old) (W.contents out.new) (take n bytes.now)) }
+    ensures device { OnErr result (Rose (W.failures out.old) (W.failures out.new)) }
+{
+    let mut sent = 0;
+    while sent < bytes.len() {
+        sent += out.write_some(&bytes[sent..])?;
+    }
+    Ok(())
+}

@@ -1,0 +1,13 @@
+pub mod GrammarFaults
+pub mod GrammarLoops
+pub mod GrammarTexts
+pub mod GrammarTrees
+pub mod TextQuotes
+pub mod TextRuns
+pub mod TextSpelled
+pub mod TokenLists
+pub mod TokenNumbers
+pub mod TokenOnly
+pub mod TokenReach
+pub mod TokenSigns
+pub mod TokenSound

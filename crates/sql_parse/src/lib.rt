@@ -1,0 +1,15 @@
+//! The text of a query: tokens, and the tree that they are.
+#![tactic(auto)]
+
+pub mod ast;
+pub mod fault;
+mod lexer;
+mod parser;
+mod token;
+
+pub use ast::{Ast, Filter, Name};
+pub use fault::{ParseFault, ParseReason, ParseRefusal};
+pub use parser::{parse, parse_bytes};
+
+#[cfg(test)]
+mod tests;

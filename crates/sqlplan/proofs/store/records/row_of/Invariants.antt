@@ -1,7 +1,0 @@
-use Rattle.std.proofs.Common.{take}
-use Rattle.csv.specs.Records.{fields_of}
-use Rattle.sqlplan.specs.StoreTables.{StandFor}
-use Rattle.sqlplan.proofs.store.records.row_of.Given as goal
-
-abbrev pub invariant-loop-place : goal.invariant-loop-place
-invariant-loop-place l = StandFor (take l.place l.columns) (take l.place (fields_of l.fields)) l.values.items

@@ -1,5 +1,0 @@
-use Rattle.sqlplan.proofs.TextRuns.{boundary}
-use Rattle.sqlplan.proofs.syntax.lexer.cut.Goals as goal
-
-pub split_at-requires : goal.split_at-requires
-split_at-requires c = boundary c.args.text.now c.args.len c.utf8.text c.requires

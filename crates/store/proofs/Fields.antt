@@ -1,0 +1,69 @@
+-- Fields and the values that they stand for.
+use Rattle.std.proofs.Common.{◌≡◌, ◌≢◌, ℕ, List, [], ◌∷◌, ◌==◌, ◌≤◌, length, get_or, Bool, true, false, cond, Result, Ok, Err, refl, sym, ap, ◌∙◌, arith}
+use Rattle.std.proofs.lemmas.Bool.Decides.{nat_tests}
+use Rattle.values.specs.declared.value.Value.{Value}
+use Rattle.values.specs.declared.value.Value.TheVariants as value
+use Rattle.values.specs.declared.fault.Fault.{Fault}
+use Rattle.values.specs.declared.fault.Fault.TheVariants as fault
+use Rattle.schema.specs.declared.schema.Column.{Column}
+use Rattle.store.specs.declared.fault.FieldFault.{FieldFault}
+use Rattle.store.specs.declared.fault.FieldFault.TheVariants.{BadEscape, NotNumber, NotText, NullValue}
+use Rattle.store.specs.Numbers.{begins_number}
+use Rattle.store.specs.Tells.{Tells}
+use Rattle.store.specs.Tables.{escaped, Stands, FieldFails}
+use Rattle.store.specs.Parsing.{IsPlain, PlainFails}
+use Rattle.store.proofs.Decimals.{other_front}
+
+-- the bytes of a field that doesn't begin with a backslash
+pub as_it_is : (c : Column) (f : List ℕ) (r : Result Value (Fault FieldFault)) → escaped f ≡ f → Tells (IsPlain c.kind f) (PlainFails c.kind f) r → Tells (Stands c f) (FieldFails c f) r
+as_it_is c f (Ok value.Null) e h = absurd h
+as_it_is c f (Ok (value.Int n)) e h = record { written = h.2; fits = (h.0, h.1); text = tt }
+as_it_is c f (Ok (value.Text t)) e h = record { written = sym e ∙ ap escaped h.2; fits = h.0; text = h.1 }
+as_it_is c f (Err fault.Memory) e h = tt
+as_it_is c f (Err (fault.Refused BadEscape)) e h = absurd h
+as_it_is c f (Err (fault.Refused NullValue)) e h = absurd h
+as_it_is c f (Err (fault.Refused NotNumber)) e h = (h.0, (f, sym e), h.1)
+as_it_is c f (Err (fault.Refused NotText)) e h = (h.0, (f, sym e, h.1))
+
+pub no_digit : (rest : List ℕ) → begins_number (92 ∷ rest) ≡ false
+no_digit [] = refl
+no_digit (b ∷ bs) = refl
+
+-- the bytes after the first of two backslashes
+without_escape : (c : Column) (more : List ℕ) (r : Result Value (Fault FieldFault)) → Tells (IsPlain c.kind (92 ∷ more)) (PlainFails c.kind (92 ∷ more)) r
+    → Tells (Stands c (92 ∷ 92 ∷ more)) (FieldFails c (92 ∷ 92 ∷ more)) r
+without_escape c more (Ok value.Null) h = absurd h
+without_escape c more (Ok (value.Int n)) h = absurd (other_front (92 ∷ more) (no_digit more) (n, h.1, h.2))
+without_escape c more (Ok (value.Text t)) h = record { written = ap escaped h.2; fits = h.0; text = h.1 }
+without_escape c more (Err fault.Memory) h = tt
+without_escape c more (Err (fault.Refused BadEscape)) h = absurd h
+without_escape c more (Err (fault.Refused NullValue)) h = absurd h
+without_escape c more (Err (fault.Refused NotNumber)) h = (h.0, (92 ∷ more, refl), other_front (92 ∷ 92 ∷ more) (no_digit (92 ∷ more)))
+without_escape c more (Err (fault.Refused NotText)) h = (h.0, (92 ∷ more, refl, h.1))
+
+escaped_as : (b : ℕ) (bs rest : List ℕ) (slash : Bool) → (b == 92) ≡ slash → 92 ∷ rest ≡ cond slash (92 ∷ b ∷ bs) (b ∷ bs) → rest ≡ 92 ∷ bs
+escaped_as b bs rest true q e = let is : b ≡ 92 = grind (arith, nat_tests) in rw (← is) (cc e)
+escaped_as b bs rest false q e =
+    let is : 92 ≡ b = cc e in
+    let bad : (b == 92) ≡ true = rw (← is) refl in
+    cc (bad, q)
+
+-- a backslash that no second one follows begins no text
+pub no_escape : (rest : List ℕ) → ((more : List ℕ) → rest ≢ 92 ∷ more) → (t : List ℕ) → 92 ∷ rest ≢ escaped t
+no_escape rest h [] e = cc e
+no_escape rest h (b ∷ bs) e = h bs (escaped_as b bs rest (b == 92) refl e)
+
+pub bad_escape : (c : Column) (rest : List ℕ) → ((more : List ℕ) → rest ≢ 92 ∷ more) → rest ≢ 78 ∷ [] → FieldFails c (92 ∷ rest) BadEscape
+bad_escape c rest slash other = ((rest, refl), (λ e. other (cc e)), no_escape rest slash)
+
+other_first : (b : ℕ) (bs : List ℕ) → (b ≡ 92 → ⊥) → escaped (b ∷ bs) ≡ b ∷ bs
+other_first b bs h = let e : (b == 92) ≡ false = grind (arith, nat_tests) in rw e refl
+
+pub not_escaped : (f : List ℕ) → 1 ≤ length f → (get_or f 0 0 ≡ 92 → ⊥) → escaped f ≡ f
+not_escaped [] few h = absurd (omega arith)
+not_escaped (b ∷ bs) few h = other_first b bs h
+
+pub second_backslash : (c : Column) (rest : List ℕ) (r : Result Value (Fault FieldFault)) → 1 ≤ length rest → get_or rest 0 0 ≡ 92 → Tells (IsPlain c.kind rest) (PlainFails c.kind rest) r
+    → Tells (Stands c (92 ∷ rest)) (FieldFails c (92 ∷ rest)) r
+second_backslash c [] r few is h = absurd (omega arith)
+second_backslash c (b ∷ more) r few is h = rw is (without_escape c more r (rw is at h))

@@ -1,0 +1,163 @@
+-- Keys of a unique list: when two are equal, and the map of those that were seen.
+use Rattle.std.proofs.Common.{◌≡◌, ℕ, zero, suc, ◌+◌, ◌<◌, ◌≤◌, List, [], ◌∷◌, ◌++◌, length, take, get_or, ◌&&◌, add-one, Bool, true, false, cond, Bor, Vec, Global, Option, Some, None, map, slice_index_or, refl, sym, ap, ◌∙◌, arith, ◌⊎◌, inl, inr}
+use Rattle.std.specs.List.{list_any}
+use Rattle.std.specs.HashMap as hash
+use Rattle.std.specs.HashMap.{HashMap}
+use Rattle.std.proofs.lemmas.List.{map-append}
+use Rattle.std.proofs.lemmas.List.Folds.{list_any-append}
+use Rattle.std.proofs.Math.Bool.{or-true}
+use Rattle.std.proofs.Math.Seq.{take-suc}
+use lib.Pointwise.{pointwise}
+use Rattle.std.specs.Bool.{Decides}
+use Rattle.std.proofs.lemmas.Bool.Decides.{Decides-int_eq}
+use Rattle.std.proofs.lemmas.Slice.Eq.{bytes_eq-Decides}
+use Rattle.values.specs.declared.value.Value.{Value}
+use Rattle.values.specs.declared.value.Value.TheVariants as value
+use Rattle.values.specs.Truth.{is_null}
+use Rattle.schema.specs.Databases.{Row, values_at}
+use Rattle.store.specs.Tables.{UniqueTo, RepeatsAt}
+use Rattle.values.specs.contracts.value.ValuePartialEq.TheImpl as value_eq
+
+pub value_decides : (a b : Value) → Decides (value_eq.ghosts.eq a b) (a ≡ b)
+value_decides value.Null value.Null = ((λ t. refl), (λ e. refl))
+value_decides value.Null (value.Int n) = ((λ t. cc t), (λ e. cc e))
+value_decides value.Null (value.Text t) = ((λ q. cc q), (λ e. cc e))
+value_decides (value.Int m) value.Null = ((λ q. cc q), (λ e. cc e))
+value_decides (value.Int m) (value.Int n) = ((λ q. ap value.Int ((Decides-int_eq m n).0 q)), (λ e. (Decides-int_eq m n).1 (cc e)))
+value_decides (value.Int m) (value.Text t) = ((λ q. cc q), (λ e. cc e))
+value_decides (value.Text s) value.Null = ((λ q. cc q), (λ e. cc e))
+value_decides (value.Text s) (value.Int n) = ((λ q. cc q), (λ e. cc e))
+value_decides (value.Text s) (value.Text t) = ((λ q. ap value.Text ((bytes_eq-Decides s t).0 q)), (λ e. (bytes_eq-Decides s t).1 (cc e)))
+
+-- values that are lent
+abbrev pub Key : Type 0
+Key = Vec (Bor Value) Global
+
+abbrev pub shown : Key → List Value
+shown k = map (λ v. v.now) k.items
+
+abbrev pub key_eq : Key → Key → Bool
+key_eq x y = pointwise (λ a b. (value_eq.ghosts).eq a.now b.now) x.items y.items
+
+and_true : (a b : Bool) → (a && b) ≡ true → (a ≡ true) × (b ≡ true)
+and_true true b e = (refl, e)
+and_true false b e = cc e
+
+both_true : (a b : Bool) → a ≡ true → b ≡ true → (a && b) ≡ true
+both_true a b p q = rw (p, q) refl
+
+lists_decide : (xs ys : List (Bor Value)) → Decides (pointwise (λ a b. (value_eq.ghosts).eq a.now b.now) xs ys) (map (λ v. v.now) xs ≡ map (λ v. v.now) ys)
+lists_decide [] [] = ((λ t. refl), (λ e. refl))
+lists_decide [] (y ∷ ys) = ((λ t. cc t), (λ e. cc e))
+lists_decide (x ∷ xs) [] = ((λ t. cc t), (λ e. cc e))
+lists_decide (x ∷ xs) (y ∷ ys) =
+    let one = value_decides x.now y.now in
+    let more = lists_decide xs ys in
+    let heads = (value_eq.ghosts).eq x.now y.now in
+    let tails = pointwise (λ a b. (value_eq.ghosts).eq a.now b.now) xs ys in (
+      (λ t. let p = and_true heads tails t in ap (λ (v : Value). v ∷ map (λ v. v.now) xs) (one.0 p.0) ∙ ap (λ (vs : List Value). y.now ∷ vs) (more.0 p.1)),
+      (λ e. both_true heads tails (one.1 (cc e)) (more.1 (cc e))),
+    )
+
+pub keys_decide : (x y : Key) → Decides (key_eq x y) (shown x ≡ shown y)
+keys_decide x y = lists_decide x.items y.items
+
+-- the map has the keys of the first i rows, those with a Null apart, each with its row's number, and no two are the same
+pub record IsSeen {S : Type 0} (rows : List Row) (places : List ℕ) (i : ℕ) (seen : HashMap Key ℕ S) : Type 0 where
+  pub unique : UniqueTo i rows places
+  pub known : (k : Key) (e : ℕ) → hash.get key_eq seen k ≡ Some e
+      → (e < i) × (list_any is_null (values_at places (slice_index_or rows e [])) ≡ false) × (values_at places (slice_index_or rows e []) ≡ shown k)
+  pub kept : (k : Key) (e : ℕ) → e < i → list_any is_null (values_at places (slice_index_or rows e [])) ≡ false
+      → values_at places (slice_index_or rows e []) ≡ shown k → hash.get key_eq seen k ≡ None → ⊥
+
+pub none_seen : {S : Type 0} (rows : List Row) (places : List ℕ) (m : HashMap Key ℕ S) → hash.IsEmpty m → IsSeen rows places 0 m
+none_seen rows places m e = record {
+  unique = λ i j lt low whole same. omega arith;
+  known = λ k e' at. let none : hash.get key_eq m k ≡ None = rw e refl in cc (none, at);
+  kept = λ k e' lt whole same at. omega arith;
+}
+
+below_or_last : (e i : ℕ) → e < i + 1 → (e < i) ⊎ (e ≡ i)
+below_or_last e i h = grind arith
+
+-- a row with a Null in its key
+pub null_seen : {S : Type 0} (rows : List Row) (places : List ℕ) (i : ℕ) (m : HashMap Key ℕ S) → IsSeen rows places i m
+    → list_any is_null (values_at places (slice_index_or rows i [])) ≡ true → IsSeen rows places (i + 1) m
+null_seen rows places i m h null = record {
+  unique = λ a b lt low whole same.
+      elim (below_or_last b i low) [
+        | inl below ↦ h.unique a b lt below whole same
+        | inr is ↦ let bad : list_any is_null (values_at places (slice_index_or rows a [])) ≡ true = ap (list_any is_null) (same ∙ ap (λ (j : ℕ). values_at places (slice_index_or rows j [])) is) ∙ null in cc (bad, whole)
+      ];
+  known = λ k e at. let r = h.known k e at in (omega (arith, r.0), r.1, r.2);
+  kept = λ k e low whole same at.
+      elim (below_or_last e i low) [
+        | inl below ↦ h.kept k e below whole same at
+        | inr is ↦ let bad : list_any is_null (values_at places (slice_index_or rows e [])) ≡ true = ap (λ (j : ℕ). list_any is_null (values_at places (slice_index_or rows j []))) is ∙ null in cc (bad, whole)
+      ];
+}
+
+-- a row whose key was seen
+pub again_seen : {S : Type 0} (rows : List Row) (places : List ℕ) (i e : ℕ) (m : HashMap Key ℕ S) (k : Key) → IsSeen rows places i m
+    → hash.get key_eq m k ≡ Some e → shown k ≡ values_at places (slice_index_or rows i []) → RepeatsAt rows i e places
+again_seen rows places i e m k h at is = let r = h.known k e at in record { below = r.0; whole = r.1; same = r.2 ∙ is }
+
+known_more : (rows : List Row) (places : List ℕ) (i e : ℕ) (k q : Key) (old now : Option ℕ) (same : Bool) → key_eq k q ≡ same
+    → (old ≡ Some e → (e < i) × (list_any is_null (values_at places (slice_index_or rows e [])) ≡ false) × (values_at places (slice_index_or rows e []) ≡ shown q))
+    → now ≡ cond same (Some i) old → now ≡ Some e → shown k ≡ values_at places (slice_index_or rows i []) → list_any is_null (values_at places (slice_index_or rows i [])) ≡ false
+    → (e < i + 1) × (list_any is_null (values_at places (slice_index_or rows e [])) ≡ false) × (values_at places (slice_index_or rows e []) ≡ shown q)
+known_more rows places i e k q old now true t before step at is whole =
+    let here : i ≡ e = cc (step, at) in
+    let shows : values_at places (slice_index_or rows i []) ≡ shown q = sym is ∙ (keys_decide k q).0 t in
+    (omega arith, ap (λ (j : ℕ). list_any is_null (values_at places (slice_index_or rows j []))) (sym here) ∙ whole, ap (λ (j : ℕ). values_at places (slice_index_or rows j [])) (sym here) ∙ shows)
+known_more rows places i e k q old now false t before step at is whole = let r = before (sym step ∙ at) in (omega (arith, r.0), r.1, r.2)
+
+kept_below : (i : ℕ) (old now : Option ℕ) (same : Bool) → (old ≡ None → ⊥) → now ≡ cond same (Some i) old → now ≡ None → ⊥
+kept_below i old now true before step at = cc (step, at)
+kept_below i old now false before step at = before (sym step ∙ at)
+
+-- a row whose key is new
+pub new_seen : {S : Type 0} (rows : List Row) (places : List ℕ) (i : ℕ) (m n : HashMap Key ℕ S) (k : Key) → IsSeen rows places i m
+    → hash.get key_eq m k ≡ None → shown k ≡ values_at places (slice_index_or rows i []) → list_any is_null (values_at places (slice_index_or rows i [])) ≡ false
+    → hash.Updates key_eq m n k (Some i) → IsSeen rows places (i + 1) n
+new_seen rows places i m n k h fresh is whole up = record {
+  unique = λ a b lt low clean same.
+      elim (below_or_last b i low) [
+        | inl below ↦ h.unique a b lt below clean same
+        | inr last ↦ h.kept k a (omega arith) clean (same ∙ ap (λ (j : ℕ). values_at places (slice_index_or rows j [])) last ∙ sym is) fresh
+      ];
+  known = λ q e at. known_more rows places i e k q (hash.get key_eq m q) (hash.get key_eq n q) (key_eq k q) refl (h.known q e) (up.0 q) at is whole;
+  kept = λ q e low clean same at.
+      elim (below_or_last e i low) [
+        | inl below ↦ kept_below i (hash.get key_eq m q) (hash.get key_eq n q) (key_eq k q) (h.kept q e below clean same) (up.0 q) at
+        | inr last ↦
+            let eq : key_eq k q ≡ true = (keys_decide k q).1 (is ∙ ap (λ (j : ℕ). values_at places (slice_index_or rows j [])) (sym last) ∙ same) in
+            let now : hash.get key_eq n q ≡ Some i = rw eq at (up.0 q) in
+            cc (now, at)
+      ];
+}
+
+-- ---- the values of one row
+
+pub null_there : (places : List ℕ) (row : Row) (i : ℕ) → i < length places → is_null (slice_index_or row (get_or places i 0) value.Null) ≡ true → list_any is_null (values_at places row) ≡ true
+null_there [] row i lt e = absurd (omega arith)
+null_there (p ∷ ps) row zero lt e = rw e refl
+null_there (p ∷ ps) row (suc i) lt e = rw (null_there ps row i (omega arith) e) (or-true _)
+
+outside : (row : Row) (p : ℕ) → length row ≤ p → is_null (slice_index_or row p value.Null) ≡ true
+outside [] p h = refl
+outside (v ∷ row) zero h = absurd (omega arith)
+outside (v ∷ row) (suc p) h = outside row p (omega arith)
+
+pub nothing_there : (places : List ℕ) (row : Row) (i : ℕ) → i < length places → length row ≤ get_or places i 0 → list_any is_null (values_at places row) ≡ true
+nothing_there places row i lt out = null_there places row i lt (outside row (get_or places i 0) out)
+
+pub values_more : (places : List ℕ) (row : Row) (i : ℕ) (v : Value) (vs : List Value) → i < length places → slice_index_or row (get_or places i 0) value.Null ≡ v → is_null v ≡ false
+    → vs ≡ values_at (take i places) row → list_any is_null (values_at (take i places) row) ≡ false
+    → (vs ++ v ∷ [] ≡ values_at (take (i + 1) places) row) × (list_any is_null (values_at (take (i + 1) places) row) ≡ false)
+values_more places row i v vs lt at whole is clean =
+    let next : take (i + 1) places ≡ take i places ++ get_or places i 0 ∷ [] = rw add-one (take-suc places i 0 lt) in
+    let values : values_at (take (i + 1) places) row ≡ vs ++ v ∷ [] =
+    ap (λ (ps : List ℕ). values_at ps row) next ∙ map-append (λ p. slice_index_or row p value.Null) (take i places) (get_or places i 0 ∷ []) ∙ ap (λ (xs : List Value). xs ++ slice_index_or row (get_or places i 0) value.Null ∷ []) (sym is) ∙ ap (λ (x : Value). vs ++ x ∷ []) at in
+    let before : list_any is_null vs ≡ false = rw is clean in
+    (sym values, rw (values, list_any-append is_null vs (v ∷ []), before, whole) refl)

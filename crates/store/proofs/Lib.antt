@@ -1,0 +1,10 @@
+pub mod Bytes
+pub mod Decimals
+pub mod Fields
+pub mod Keys
+pub mod Loads
+pub mod ReadRecords
+pub mod Repeats
+pub mod Satisfies
+pub mod Steps
+pub mod TableAnswers

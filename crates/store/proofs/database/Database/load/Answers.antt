@@ -1,0 +1,30 @@
+use Rattle.std.proofs.Common.{◌≡◌, ◌∙◌, ℕ, List, length, Err, ap, subst, arith}
+use Rattle.std.proofs.Math.ListN.{set}
+use Rattle.std.proofs.lemmas.Result.{err_from_is_err_and}
+use Rattle.csv.specs.Reading.{default_config, records, strip_bom}
+use Rattle.store.specs.Parsing.{ReadsTable}
+use Rattle.store.specs.Databases.{Stored}
+use Rattle.store.proofs.Satisfies.{satisfy_length, satisfy_set, loads_fault, loads_rows}
+use Rattle.store.proofs.database.Database.load.Goals as goal
+
+pub entry_of-entry-requires : goal.entry_of-entry-requires
+entry_of-entry-requires g c =
+    let at : length c.self.inside.tables.items ≡ length c.args.self.now.tables = ap (λ (s : Stored). length s.tables) c.self.view_is in
+    let same = satisfy_length c.self.inside.schema.now.tables c.self.inside.tables.items c.self.invariant in
+    omega arith
+
+pub returns-in_err-loaded-clause-exact : goal.returns-in_err-loaded-clause-exact
+returns-in_err-loaded-clause-exact g c =
+    let p = err_from_is_err_and c.from_residual.result c.from_residual.ensures.1 in
+    let at = rw (ap (λ (s : Stored). s.schema) c.self.view_is) at c.entry_of-entry.ensures in
+    loads_fault (g.R.TableInput.remaining c.args.input.now) c.in-Ok.bytes.items (λ (bytes : List ℕ). records default_config (strip_bom bytes)) c.args.self.now c.args.self.now c.args.table c.entry_of-entry.result.now c.in_err-loaded.field-0.0 c.from_residual.result
+    (p.1 ∙ ap Err p.2) c.in-Ok.ensures.bytes at (subst (λ (bytes : List ℕ). ReadsTable c.entry_of-entry.result.now (records default_config (strip_bom bytes)) (Err c.in_err-loaded.field-0.0)) c.as_slice.ensures.value c.in_err-loaded.ensures)
+
+pub invariant_of-self : goal.invariant_of-self
+invariant_of-self g c = satisfy_set c.self.inside.schema.now.tables c.self.inside.tables.items c.args.table c.entry_of-entry.result.now c.in_ok-loaded.loaded c.self.invariant c.entry_of-entry.ensures c.in_ok-loaded.ensures.told.satisfies
+
+pub returns-clause-exact : goal.returns-clause-exact
+returns-clause-exact g c =
+    let at = rw (ap (λ (s : Stored). s.schema) c.self.view_is) at c.entry_of-entry.ensures in
+    loads_rows (g.R.TableInput.remaining c.args.input.now) c.in-Ok.bytes.items (λ (bytes : List ℕ). records default_config (strip_bom bytes)) c.args.self.now _ c.args.table c.entry_of-entry.result.now c.in_ok-loaded.loaded
+    c.in-Ok.ensures.bytes at (rw c.as_slice.ensures.value at c.in_ok-loaded.ensures) (ap (λ (s : Stored). let n : Stored = record { schema = s.schema; tables = set s.tables c.args.table c.in_ok-loaded.loaded } in n) c.self.view_is)

@@ -1,0 +1,96 @@
+-- What the steps of the loader give.
+use Rattle.std.specs.Prelude.{◌≡◌, ◌≢◌, ◌<◌, ◌≤◌, ◌+◌, ℕ, List, [], ◌∷◌, ◌++◌, length, map, Option, Some, None, Result, Ok, Err, FitsSigned, ◌⊎◌}
+use Rattle.std.specs.Int.{w64}
+use Rattle.std.specs.Fmt.{signed_decimal}
+use Rattle.std.specs.List.{AllByRecursion}
+use Rattle.std.specs.Str.{IsUtf8}
+use Rattle.values.specs.declared.value.Value.{Value}
+use Rattle.values.specs.declared.value.Value.TheVariants as value
+use Rattle.values.specs.declared.fault.Fault.{Fault}
+use Rattle.values.specs.declared.fault.Fault.TheVariants as fault
+use Rattle.schema.specs.declared.schema.Kind.{Kind}
+use Rattle.schema.specs.declared.schema.Kind.TheVariants as kind
+use Rattle.schema.specs.declared.schema.Column.{Column}
+use Rattle.schema.specs.declared.schema.Table.{Table}
+use Rattle.schema.specs.Databases.{Row, FitsColumns, most_rows}
+use Rattle.store.specs.declared.fault.FieldFault.{FieldFault}
+use Rattle.store.specs.declared.fault.FieldFault.TheVariants.{BadEscape, NotNumber, NotText, NullValue}
+use Rattle.store.specs.declared.fault.TableCause.{TableCause}
+use Rattle.store.specs.declared.fault.TableCause.TheVariants.{OtherHeader, OtherLength, Field, Repeated, TooMany}
+use Rattle.store.specs.declared.fault.TableRefusal.{TableRefusal}
+use Rattle.store.specs.declared.fault.TableFault.{TableFault}
+use Rattle.store.specs.declared.fault.TableFault.TheVariants as faults
+use Rattle.store.specs.declared.records.Parsed.{Parsed}
+use Rattle.store.specs.declared.unique.Repeat.{Repeat}
+use Rattle.store.specs.Tables.{Record, field_of, names_of, IsText, IsNumber, FieldsFail, UniqueTo, RepeatsFirst, IsTold}
+
+-- the bytes are a value of the kind that isn't Null
+abbrev pub IsPlain : Kind → List ℕ → Value → Type 0
+IsPlain k f value.Null = ⊥
+IsPlain k f (value.Int n) = (k ≡ kind.Int) × FitsSigned w64 n × (f ≡ signed_decimal n)
+IsPlain k f (value.Text t) = (k ≡ kind.Text) × IsUtf8 t × (f ≡ t)
+
+-- why they are none
+abbrev pub PlainFails : Kind → List ℕ → FieldFault → Type 0
+PlainFails k f BadEscape = ⊥
+PlainFails k f NullValue = ⊥
+PlainFails k f NotNumber = (k ≡ kind.Int) × ¬ (IsNumber f)
+PlainFails k f NotText = (k ≡ kind.Text) × ¬ (IsUtf8 f)
+
+-- what is wrong with a record that stands for no row
+abbrev pub RowFails : List Column → Record → TableCause → Type 0
+RowFails cs fs OtherLength = length fs ≢ length cs
+RowFails cs fs (Field place wrong) = (length fs ≡ length cs) × FieldsFail cs fs place wrong
+RowFails cs fs OtherHeader = ⊥
+RowFails cs fs (Repeated earlier) = ⊥
+RowFails cs fs TooMany = ⊥
+
+-- the fault of a record whose field at this place has one
+abbrev pub in_field : ℕ → Fault FieldFault → Fault TableCause
+in_field place fault.Memory = fault.Memory
+in_field place (fault.Refused f) = fault.Refused (Field place f)
+
+-- the records are those of the rows, and then the rest
+pub record Written (cs : List Column) (records : List Record) (rows : List Row) (rest : List Record) : Type 0 where
+  pub records_are : records ≡ map (map field_of) rows ++ rest
+  pub fit : AllByRecursion (FitsColumns cs) rows
+  pub text : AllByRecursion (AllByRecursion IsText) rows
+
+-- why the record after so many rows stands for none
+abbrev pub RecordFails : List Column → ℕ → Record → TableCause → Type 0
+RecordFails cs n fs OtherLength = (n < most_rows) × RowFails cs fs OtherLength
+RecordFails cs n fs (Field place wrong) = (n < most_rows) × RowFails cs fs (Field place wrong)
+RecordFails cs n fs TooMany = n ≡ most_rows
+RecordFails cs n fs OtherHeader = ⊥
+RecordFails cs n fs (Repeated earlier) = ⊥
+
+-- where the rows end: at the end of the records, or at one that stands for no row
+abbrev pub EndsAt : List Column → ℕ → List Record → Option TableRefusal → Type 0
+EndsAt cs n rest None = rest ≡ []
+EndsAt cs n [] (Some refusal) = ⊥
+EndsAt cs n (fs ∷ more) (Some refusal) = (refusal.row ≡ n + 1) × RecordFails cs n fs refusal.cause
+
+-- the rows that the records stand for, up to the first that stands for none
+pub record Parses (cs : List Column) (records : List Record) (p : Parsed) : Type 0 where
+  pub rest : List Record
+  pub written : Written cs records p.rows rest
+  pub few : length p.rows ≤ most_rows
+  pub ends : EndsAt cs (length p.rows) rest p.fault
+
+-- the same of a file's records, of which the first are the names
+abbrev pub ParsesFile : List Column → List Record → Parsed → Type 0
+ParsesFile cs records p = ((rest : List Record) × (records ≡ names_of cs ∷ rest) × Parses cs rest p)
+    ⊎ (((rest : List Record) → records ≢ names_of cs ∷ rest) × (p.rows ≡ []) × (p.fault ≡ Some (record { row = 0; cause = OtherHeader })))
+
+-- the first row that repeats an earlier one on some list
+pub record EarliestRepeat (rows : List Row) (lists : List (List ℕ)) (r : Repeat) : Type 0 where
+  pub within : r.row < length rows
+  pub before : AllByRecursion (UniqueTo r.row rows) lists
+  pub there : RepeatsFirst rows r.row r.earlier lists
+
+-- a table's records are read: they tell the rows, or a refusal; no device is touched
+abbrev pub ReadsTable : Table → List Record → Result (List Row) TableFault → Type 0
+ReadsTable t records (Ok rows) = IsTold t records (Ok rows)
+ReadsTable t records (Err faults.Memory) = Unit {0}
+ReadsTable t records (Err faults.Device) = ⊥
+ReadsTable t records (Err (faults.Refused refusal)) = IsTold t records (Err refusal)

@@ -1,0 +1,89 @@
+//! Where a table's bytes come from.
+
+ghost use Rattle.std.specs.Prelude.{◌≡◌, ◌≤◌, ◌+◌, ◌-◌, ◌^◌, ℕ, List, Option, None, min, IfOk, IfErr, IfSome, MatchResult, length};
+ghost use Rattle.std.specs.Io.KnownBytes.{ReadConsumes};
+ghost use Rattle.store.specs.Devices.{Rose};
+
+use std::alloc::Global;
+use std::io::Read;
+
+/// A call of the device failed.
+#[derive(Clone, Copy, Debug)]
+pub struct DeviceFailed;
+
+/// A reader that counts the calls that failed.
+pub trait TableInput {
+    // The bytes that reads will give from here on, where they are known.
+    ghost remaining: { Self → Option (List ℕ) } = { λ _. None };
+
+    // How many calls failed, up to the largest count.
+    ghost failures: { Self → ℕ };
+
+    fn read_some(&mut self, buffer: &mut [u8]) -> Result<usize, DeviceFailed>
+        ensures bound { IfOk result (λ n. n ≤ length buffer.new) }
+        ensures bytes { ReadConsumes (remaining self.old) (remaining self.new) result buffer.new }
+        ensures counts { MatchResult result (λ _. failures self.new ≡ failures self.old)
+            (λ _. failures self.new ≡ min (failures self.old + 1) (2 ^ 64 - 1)) };
+}
+
+/// A reader with a count of its failed calls.
+#[derive(Drop)]
+pub struct CountedInput<R> {
+    inner: R,
+    failures: u64,
+}
+
+impl<R: Read> CountedInput<R> {
+    pub fn new(inner: R) -> CountedInput<R>
+        ensures { result ≡ record { inner = inner; failures = 0 } }
+    {
+        CountedInput { inner, failures: 0 }
+    }
+}
+
+impl<R: Read> TableInput for CountedInput<R> {
+    ghost remaining = { λ c. R.remaining c.inner };
+
+    ghost failures = { λ c. c.failures };
+
+    fn read_some(&mut self, buffer: &mut [u8]) -> Result<usize, DeviceFailed> {
+        match self.inner.read(buffer) {
+            Ok(count) => Ok(count),
+            Err(_) => {
+                self.failures = self.failures.saturating_add(1);
+                Err(DeviceFailed)
+            }
+        }
+    }
+}
+
+/// Why an input was not read to its end.
+#[derive(Clone, Copy, Debug, PartialEq, Eq)]
+pub enum InputFault {
+    Memory,
+    Device,
+}
+
+/// All bytes of an input, up to its end.
+pub fn read_all<R: TableInput>(alloc: Global, input: &mut R) -> Result<Vec<u8>, InputFault>
+    ensures bytes { IfOk result (λ v. IfSome (R.remaining input.old) (λ xs. v.items ≡ xs)) }
+    ensures quiet { IfOk result (λ v. R.failures input.new ≡ R.failures input.old) }
+    ensures memory { IfErr result (λ e. e ≡ InputFault.Memory → R.failures input.new ≡ R.failures input.old) }
+    ensures device { IfErr result (λ e. e ≡ InputFault.Device → Rose (R.failures input.old) (R.failures input.new)) }
+{
+    let mut bytes = Vec::new(alloc);
+    let mut buffer = [0u8; 4096];
+    for _ in 0..u64::MAX {
+        match input.read_some(&mut buffer) {
+            Ok(0) => return Ok(bytes),
+            Ok(count) => {
+                if bytes.extend_from_slice(&buffer[..count]).is_err() {
+                    return Err(InputFault::Memory);
+                }
+            }
+            Err(DeviceFailed) => return Err(InputFault::Device),
+        }
+    }
+    // An input of 2^64 reads fits no memory.
+    Err(InputFault::Memory)
+}

@@ -1,0 +1,19 @@
+//! Tables loaded from CSV, and the database that they make up.
+#![tactic(auto)]
+
+pub mod database;
+pub mod fault;
+mod field;
+pub mod input;
+mod records;
+pub mod source;
+pub mod table;
+#[cfg(test)]
+mod tests;
+mod unique;
+
+pub use database::Database;
+pub use fault::{FieldFault, TableCause, TableFault, TableRefusal};
+pub use input::{CountedInput, DeviceFailed, TableInput};
+pub use source::RowSource;
+pub use table::Table;

@@ -1,0 +1,172 @@
+//! Rows read from the records of a table's file.
+
+ghost use Rattle.std.specs.Prelude.{◌≡◌, ◌≤◌, ◌+◌, ◌↔◌, List, [], length, IfOk, IsTrue};
+ghost use Rattle.schema.specs.Databases.{most_rows};
+ghost use Rattle.csv.specs.Reading.{default_config, records, strip_bom};
+ghost use Rattle.csv.specs.Records.{fields_of};
+ghost use Rattle.store.specs.Reading.{Remains, NextOf};
+ghost use Rattle.store.specs.Tables.{Record, StandFor, names_of};
+ghost use Rattle.store.specs.Parsing.{RowFails, Parses, ParsesFile, in_field};
+ghost use Rattle.store.specs.Tells.{Tells};
+
+use crate::fault::{FieldFault, TableCause, TableRefusal};
+use crate::field::value_of;
+use csv::{ByteRecord, Reader, ReaderBuilder};
+use schema::Column;
+use std::alloc::{AllocError, Global};
+use std::io::Read;
+use values::{Fault, Items, Value};
+
+/// The most rows that a table may have.
+pub const MOST_ROWS: usize = 1_000_000;
+
+/// The rows before the first record that is none, and what is wrong with that one.
+#[derive(Drop)]
+pub struct Parsed {
+    pub rows: Items<Items<Value>>,
+    pub fault: Option<TableRefusal>,
+}
+
+/// Whether there is a next record, which is then in `fields`. Over bytes in memory only a want of memory fails.
+fn next_of<R: Read>(reader: &mut Reader<R>, fields: &mut ByteRecord) -> Result<bool, AllocError>
+    ensures { (rest : List Record) → Remains R.remaining reader.old rest
+        → IfOk result (λ found. NextOf rest found (fields_of fields.new) (λ more. Remains R.remaining reader.new more)) }
+{
+    if let Ok(found) = reader.read_byte_record(fields) {
+        return Ok(found);
+    }
+    Err(AllocError)
+}
+
+/// Whether the record's fields are the names of the columns, in order.
+fn is_header(columns: &[Column], fields: &ByteRecord) -> bool
+    ensures { IsTrue result ↔ (fields_of fields.now ≡ names_of columns.now) }
+{
+    if fields.len() != columns.len() {
+        return false;
+    }
+    for place in 0..columns.len() {
+        let Some(field) = fields.get(place) else {
+            return false;
+        };
+        let name = columns[place].name.as_str();
+        if field != name.as_bytes() {
+            return false;
+        }
+    }
+    true
+}
+
+/// The fault of a record whose field at this place has one.
+fn in_column(place: usize, fault: Fault<FieldFault>) -> Fault<TableCause>
+    ensures { result ≡ in_field place fault }
+{
+    match fault {
+        Fault::Memory => Fault::Memory,
+        Fault::Refused(fault) => Fault::Refused(TableCause::Field(place, fault)),
+    }
+}
+
+/// The row that a record stands for.
+fn row_of(
+    alloc: Global,
+    columns: &[Column],
+    fields: &ByteRecord,
+) -> Result<Items<Value>, Fault<TableCause>>
+    ensures { Tells (StandFor columns.now (fields_of fields.now)) (RowFails columns.now (fields_of fields.now)) result }
+{
+    if fields.len() != columns.len() {
+        return Err(Fault::Refused(TableCause::OtherLength));
+    }
+    let mut values = Vec::with_capacity(alloc, columns.len())?;
+    for place in 0..columns.len() {
+        let Some(field) = fields.get(place) else {
+            return Err(Fault::Refused(TableCause::OtherLength));
+        };
+        match value_of(alloc, &columns[place], field) {
+            Ok(value) => values.push(value)?,
+            Err(fault) => return Err(in_column(place, fault)),
+        }
+    }
+    Ok(Items::from_vec(values))
+}
+
+/// What is parsed where the record after these rows is at fault.
+fn stopped(rows: Items<Items<Value>>, cause: TableCause) -> Parsed
+    requires { length rows ≤ most_rows }
+    ensures { result ≡ record { rows = rows; fault = Some (record { row = length rows + 1; cause = cause }) } }
+{
+    let row = rows.len() + 1;
+    Parsed {
+        rows,
+        fault: Some(TableRefusal { row, cause }),
+    }
+}
+
+/// The rows of the records that are left.
+fn rows_of<R: Read>(
+    alloc: Global,
+    columns: &[Column],
+    reader: &mut Reader<R>,
+) -> Result<Parsed, AllocError>
+    ensures { (rest : List Record) → Remains R.remaining reader.old rest → IfOk result (Parses columns.now rest) }
+{
+    let mut fields = ByteRecord::new(alloc);
+    let mut rows = Items::new(alloc);
+    while rows.len() < MOST_ROWS {
+        if !next_of(reader, &mut fields)? {
+            return Ok(Parsed { rows, fault: None });
+        }
+        match row_of(alloc, columns, &fields) {
+            Ok(row) => rows.push(row)?,
+            Err(Fault::Memory) => return Err(AllocError),
+            Err(Fault::Refused(cause)) => return Ok(stopped(rows, cause)),
+        }
+    }
+    if !next_of(reader, &mut fields)? {
+        return Ok(Parsed { rows, fault: None });
+    }
+    Ok(stopped(rows, TableCause::TooMany))
+}
+
+/// What is parsed of a file that doesn't begin with the names of the columns.
+fn no_header(alloc: Global) -> Parsed
+    ensures { result ≡ record { rows = []; fault = Some (record { row = 0; cause = TableCause.OtherHeader }) } }
+{
+    Parsed {
+        rows: Items::new(alloc),
+        fault: Some(TableRefusal {
+            row: 0,
+            cause: TableCause::OtherHeader,
+        }),
+    }
+}
+
+/// The rows of the records after the header.
+fn file_of<R: Read>(
+    alloc: Global,
+    columns: &[Column],
+    reader: &mut Reader<R>,
+) -> Result<Parsed, AllocError>
+    ensures { (all : List Record) → Remains R.remaining reader.old all → IfOk result (ParsesFile columns.now all) }
+{
+    let mut fields = ByteRecord::new(alloc);
+    if !next_of(reader, &mut fields)? {
+        return Ok(no_header(alloc));
+    }
+    if !is_header(columns, &fields) {
+        return Ok(no_header(alloc));
+    }
+    rows_of(alloc, columns, reader)
+}
+
+/// The rows of a table's file, up to the first record that is at fault for itself alone.
+pub fn parse(alloc: Global, columns: &[Column], bytes: &[u8]) -> Result<Parsed, AllocError>
+    ensures exact { IfOk result (ParsesFile columns.now (records default_config (strip_bom bytes.now))) }
+{
+    let mut reader = ReaderBuilder::new()
+        .has_headers(false)
+        .flexible(true)
+        .from_reader(alloc, bytes);
+    file_of(alloc, columns, &mut reader)
+}
