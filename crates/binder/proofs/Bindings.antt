@@ -15,7 +15,7 @@ use Rattle.binder.specs.declared.query.TableUse.{TableUse}
 use Rattle.binder.specs.declared.query.Term.TheVariants as term
 use Rattle.binder.specs.declared.query.Item.{Item}
 use Rattle.binder.specs.declared.query.Item.TheVariants as item
-use Rattle.logical.specs.Frame.{IsSimple, IsSimpleItem, IsSimpleFilter, IsComparison}
+use Rattle.binder.specs.Simple.{IsSimple, IsSimpleItem, IsSimpleFilter, IsComparison}
 use Rattle.sql_parse.specs.declared.ast.Name.{Name}
 use Rattle.sql_parse.specs.declared.ast.Filter.{Filter}
 use Rattle.binder.specs.declared.fault.BindReason.TheVariants.{MixedKinds}

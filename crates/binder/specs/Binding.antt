@@ -24,7 +24,7 @@ use Rattle.sql_parse.specs.declared.ast.Ast.{Ast}
 use Rattle.binder.specs.declared.fault.BindReason.{BindReason}
 use Rattle.binder.specs.declared.fault.BindReason.TheVariants.{UnknownTable, UnknownColumn, MixedKinds, TooLarge}
 use Rattle.binder.specs.declared.fault.BindRefusal.{BindRefusal}
-use Rattle.binder.specs.declared.bind.TheConstants.{MAX_COLUMNS}
+use Rattle.binder.specs.declared.binding.TheConstants.{MAX_COLUMNS}
 
 -- ---- what a name means
 

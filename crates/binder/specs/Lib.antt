@@ -6,3 +6,4 @@ pub mod Examples
 pub mod Laws
 pub mod Meaning
 pub mod Rows
+pub mod Simple

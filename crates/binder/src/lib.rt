@@ -1,12 +1,12 @@
 //! Bound queries, what they mean, and how the tree of a text becomes one.
 #![tactic(auto)]
 
-pub mod bind;
+pub mod binding;
 pub mod fault;
 pub mod laws;
 pub mod query;
 
-pub use bind::bind;
+pub use binding::bind;
 pub use fault::{BindFault, BindReason, BindRefusal};
 pub use laws::{
     answers_are_by_laws, laws_determine_meaning, meaning_obeys_laws, satisfying_databases_fit,

@@ -11,7 +11,8 @@ use Rattle.binder.proofs.Widths.{satisfying_fits}
 use Rattle.logical.specs.declared.expr.Expr.{Expr}
 use Rattle.logical.specs.Bags.{Env, nulls}
 use Rattle.logical.specs.Classes.{class_rows, root_rows}
-use Rattle.logical.specs.Frame.{IsSimple, frame_of, shown}
+use Rattle.logical.specs.Frame.{frame_of, shown}
+use Rattle.binder.specs.Simple.{IsSimple}
 use Rattle.logical.proofs.Meaning.{means_query}
 use Rattle.logical.proofs.Simple.{frame_has_lines}
 use Rattle.checker.specs.declared.certificate.Certificate.{Certificate}

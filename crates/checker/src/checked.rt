@@ -2,7 +2,7 @@
 
 ghost use Rattle.std.specs.Prelude.{◌≡◌, IfOk};
 ghost use Rattle.values.specs.Faults.{Gives};
-ghost use Rattle.logical.specs.Frame.{IsSimple};
+ghost use Rattle.binder.specs.Simple.{IsSimple};
 ghost use Rattle.checker.specs.Replay.{replayed, IsChecked};
 
 use crate::certificate::{Certificate, CheckFault};

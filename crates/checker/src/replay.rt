@@ -6,7 +6,7 @@ ghost use Rattle.values.specs.Faults.{Gives};
 ghost use Rattle.values.specs.declared.fault.Fault.TheVariants.{Refused};
 ghost use Rattle.logical.specs.Classes.{class_columns};
 ghost use Rattle.logical.specs.Columns.{columns_at};
-ghost use Rattle.logical.specs.Expressions.{NumbersFit};
+ghost use Rattle.binder.specs.Simple.{NumbersFit};
 ghost use Rattle.logical.specs.Frame.{frame_of};
 ghost use Rattle.checker.specs.Replay as spec;
 

@@ -2,7 +2,7 @@
 
 ghost use Rattle.std.specs.Prelude.{◌≡◌, ◌+◌, IfOk, length};
 ghost use Rattle.binder.specs.declared.query.Cond.{out-Cond};
-ghost use Rattle.logical.specs.Frame.{IsSimple, IsComparison};
+ghost use Rattle.binder.specs.Simple.{IsSimple, IsComparison};
 
 use crate::certificate::{Certificate, CheckCode, CheckFault, CheckRefusal, Line, Node, Plan};
 use crate::checked::check;

@@ -8,7 +8,7 @@ use Rattle.logical.specs.Columns.{ColumnSet, has}
 use Rattle.logical.specs.Bags.{Env, Bag}
 use Rattle.executor.specs.declared.heading.Heading.{Heading}
 use Rattle.executor.specs.declared.condition.TableRow.{TableRow}
-use Rattle.executor.specs.declared.run.TableRows.{TableRows}
+use Rattle.executor.specs.declared.execution.TableRows.{TableRows}
 use Rattle.store.specs.Databases.{Stored}
 
 -- the rows have this column

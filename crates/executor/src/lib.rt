@@ -4,11 +4,11 @@
 mod condition;
 mod heading;
 pub mod output;
-pub mod run;
+pub mod execution;
 #[cfg(test)]
 mod tests;
 pub mod text;
 
 pub use output::{AnswerOutput, CountedOutput, OutputFailed};
-pub use run::{Row, run};
+pub use execution::{Row, run};
 pub use text::{AnswerFault, write_rows};

@@ -32,7 +32,8 @@ use Rattle.logical.specs.Bags.{Env, Bag, lay}
 use Rattle.logical.specs.Conditions.{Meaning, truth_layer, truth, term_value, holds}
 use Rattle.logical.specs.Expressions.{use_columns, use_row, get_rows}
 use Rattle.logical.specs.Classes.{class_rows, root_rows}
-use Rattle.logical.specs.Frame.{IsSimple, IsSimpleItem, IsSimpleFilter, IsComparison, TermWithin, term_of, conjuncts_of, item_columns, output_columns, shown, frame_of, frame_over, MeansQuery}
+use Rattle.logical.specs.Frame.{term_of, conjuncts_of, item_columns, output_columns, shown, frame_of, frame_over, MeansQuery}
+use Rattle.binder.specs.Simple.{IsSimple, IsSimpleItem, IsSimpleFilter, IsComparison, TermWithin}
 use Rattle.logical.proofs.Sets.{has-rising, range_has}
 use Rattle.logical.proofs.Simple.{frame_is, shown_is}
 

@@ -10,7 +10,8 @@ use Rattle.binder.specs.declared.query.From.TheVariants as from
 use Rattle.binder.specs.declared.query.Cond.{Cond}
 use Rattle.binder.specs.declared.query.Item.{Item}
 use Rattle.binder.specs.declared.query.Query.{Query}
-use Rattle.logical.specs.Frame.{IsSimple, frame_of, frame_over, shown_columns, item_columns}
+use Rattle.logical.specs.Frame.{frame_of, frame_over, shown_columns, item_columns}
+use Rattle.binder.specs.Simple.{IsSimple}
 
 -- a FROM names its table
 pub same_occurrence : (q : Query) (s : IsSimple q) (o : Occurrence) → q.block.from ≡ from.Table o → o ≡ s.occurrence

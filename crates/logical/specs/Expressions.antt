@@ -44,10 +44,6 @@ abbrev pub get_columns : Option TableUse → List ℕ
 get_columns None = []
 get_columns (Some t) = use_columns t
 
--- the numbers of the occurrences' columns fit a word
-abbrev pub NumbersFit : List TableUse → Type 0
-NumbersFit uses = All (λ t. t.first_column + length t.entry.columns < 2 ^ 64) uses
-
 -- ---- aggregates
 
 -- the row with each aggregate of the rows in its column

@@ -25,40 +25,6 @@ use Rattle.binder.specs.Meaning.{often}
 use Rattle.logical.specs.Columns.{rising}
 use Rattle.logical.specs.Bags.{Env}
 use Rattle.logical.specs.Classes.{root_rows}
-use Rattle.logical.specs.Expressions.{NumbersFit}
-
--- ---- queries of one table with at most a comparison
-
--- the term reads the row of the only table, which has so many columns
-abbrev pub TermWithin : ℕ → Term → Type 0
-TermWithin width (term.Column c) = (c.level ≡ 0) × (c.place < width)
-TermWithin width (term.Literal v) = Unit {0}
-
-abbrev pub IsComparison : ℕ → Cond-F Cond From Block → Type 0
-IsComparison width (Cond-F.Compare c a b) = TermWithin width a × TermWithin width b
-IsComparison width _ = ⊥
-
-abbrev pub IsSimpleFilter : ℕ → Option Cond → Type 0
-IsSimpleFilter width None = Unit {0}
-IsSimpleFilter width (Some c) = IsComparison width (out-Cond c)
-
-abbrev pub IsSimpleItem : ℕ → Item → Type 0
-IsSimpleItem width (item.Column c) = (c.level ≡ 0) × (c.place < width)
-IsSimpleItem width (item.Aggregate n a) = ⊥
-
--- the query shows columns of one table, of all its rows or of those at which a comparison is true
-pub record IsSimple (q : Query) : Type 0 where
-  pub occurrence : Occurrence
-  pub table : TableUse
-  pub from : q.block.from ≡ from.Table occurrence
-  pub found : slice_get q.tables occurrence.number ≡ Some table
-  pub same_table : table.table ≡ occurrence.table
-  pub numbers_fit : NumbersFit q.tables
-  pub filter : IsSimpleFilter (length table.entry.columns) q.block.filter
-  pub ungrouped : q.block.grouped ≡ false
-  pub keeps_all : q.block.distinct ≡ false
-  pub items : AllByRecursion (IsSimpleItem (length table.entry.columns)) q.block.items
-  pub unordered : q.order ≡ []
 
 -- ---- the frame
 

@@ -3,7 +3,7 @@
 ghost use Rattle.std.specs.Prelude.{◌≡◌, ◌∷◌, [], ◌<◌, ◌+◌, ◌^◌, IfOk, length, map, Some};
 ghost use Rattle.std.specs.List.{AllByRecursion};
 ghost use Rattle.binder.specs.declared.query.Cond.{out-Cond};
-ghost use Rattle.logical.specs.Expressions.{NumbersFit};
+ghost use Rattle.binder.specs.Simple.{NumbersFit};
 ghost use Rattle.logical.specs.Frame as spec;
 
 use crate::columns::Columns;

@@ -2,8 +2,8 @@
 
 ghost use Rattle.std.specs.Prelude.{◌≡◌, ◌+◌, IfOk, length};
 ghost use Rattle.binder.specs.declared.query.Cond.{out-Cond};
-ghost use Rattle.logical.specs.Frame.{IsSimple, IsComparison};
-ghost use Rattle.logical.specs.Expressions.{NumbersFit};
+ghost use Rattle.binder.specs.Simple.{IsSimple, IsComparison};
+ghost use Rattle.binder.specs.Simple.{NumbersFit};
 
 use super::*;
 use binder::{Aggregate, Block, Column as Place, Cond, From, Item, Occurrence, Query, TableUse};

@@ -9,7 +9,8 @@ use Rattle.binder.specs.declared.query.Item.{Item}
 use Rattle.binder.specs.declared.query.Occurrence.{Occurrence}
 use Rattle.binder.specs.declared.query.TableUse.{TableUse}
 use Rattle.binder.specs.declared.query.Query.{Query}
-use Rattle.logical.specs.Frame.{IsSimple, frame_of, frame_from, frame_over}
+use Rattle.logical.specs.Frame.{frame_of, frame_from, frame_over}
+use Rattle.binder.specs.Simple.{IsSimple}
 use Rattle.sqlplan.specs.Canonical.{plan_over}
 
 -- one level of a table

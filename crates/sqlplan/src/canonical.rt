@@ -2,7 +2,8 @@
 
 ghost use Rattle.std.specs.Prelude.{◌≡◌, IfOk, map, Some};
 ghost use Rattle.checker.specs.declared.certificate.Line.TheVariants.{Founds};
-ghost use Rattle.logical.specs.Frame.{IsSimple, frame_of};
+ghost use Rattle.logical.specs.Frame.{frame_of};
+ghost use Rattle.binder.specs.Simple.{IsSimple};
 ghost use Rattle.sqlplan.specs.Canonical as spec;
 
 use binder::Query;

@@ -3,7 +3,7 @@
 ghost use Rattle.std.specs.Prelude.{◌≡◌, ◌≢◌, ◌≤◌, length, IsErrAnd, OnOk, OnErr};
 ghost use Rattle.std.specs.Io.KnownBytes.{Appends};
 ghost use Rattle.binder.specs.Answer.{IsAnswer};
-ghost use Rattle.logical.specs.Frame.{IsSimple};
+ghost use Rattle.binder.specs.Simple.{IsSimple};
 ghost use Rattle.executor.specs.AnswerText.{HasFront};
 ghost use Rattle.store.specs.Devices.{Rose};
 ghost use Rattle.sqlplan.specs.EndToEnd.{HasTables, plan_rows, plan_text};

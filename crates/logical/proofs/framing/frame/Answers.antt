@@ -3,7 +3,8 @@ use Rattle.std.specs.List.{slice_get, AllByRecursion}
 use Rattle.std.proofs.lemmas.Result.{IfOk-weaker}
 use Rattle.std.proofs.lemmas.Option.{slice_get-get_or, slice_get_within}
 use Rattle.logical.specs.declared.expr.Expr.{Expr}
-use Rattle.logical.specs.Frame.{IsSimpleFilter, IsSimpleItem, frame_of, frame_over, MeansQuery}
+use Rattle.logical.specs.Frame.{frame_of, frame_over, MeansQuery}
+use Rattle.binder.specs.Simple.{IsSimpleFilter, IsSimpleItem}
 use Rattle.logical.proofs.Meaning.{means_query}
 use Rattle.logical.proofs.Simple.{same_table, same_occurrence, frame_is}
 use Rattle.logical.proofs.framing.frame.Goals as goal
