@@ -1,22 +1,116 @@
 -- From bytes to bytes.
-use Rattle.std.specs.Prelude.{◌≡◌, ℕ, List, length, Ok}
+use Rattle.std.specs.Prelude.{◌≡◌, ◌<◌, ℕ, List, [], length, slice_get, slice_index_or, Option, Some, None, Result, Ok, Err}
+use Rattle.csv.specs.Reading.{default_config, records, strip_bom}
 use Rattle.schema.specs.declared.schema.Schema.{Schema}
-use Rattle.schema.specs.Databases.{Row}
+use Rattle.schema.specs.declared.schema.Table.{Table}
+use Rattle.schema.specs.Databases.{Row, Database, Satisfies}
 use Rattle.schema.specs.Reading.{schema_of}
+use Rattle.sql_parse.specs.declared.ast.Ast.{Ast}
+use Rattle.sql_parse.specs.Grammar.{ReadsText, IsRefusal}
+use Rattle.store.specs.declared.fault.TableRefusal.{TableRefusal}
+use Rattle.store.specs.Devices.{Rose}
+use Rattle.store.specs.Tables.{IsTold}
+use Rattle.binder.specs.declared.query.Query.{Query}
+use Rattle.binder.specs.Binding.{bound}
+use Rattle.binder.specs.Rows.{tables_of}
+use Rattle.binder.specs.Answer.{IsAnswer}
+use Rattle.checker.specs.declared.certificate.Certificate.{Certificate}
 use Rattle.checker.specs.Plans.{answer}
-use Rattle.checker.specs.Replay.{Accepted}
+use Rattle.checker.specs.Replay.{IsChecked}
 use Rattle.executor.specs.AnswerText.{answer_text}
-use Rattle.executor.specs.Execution.{tables_in}
-use Rattle.store.specs.Databases.{Stored}
+use Rattle.sqlplan.specs.declared.refusal.Refusal.{Refusal}
+use Rattle.sqlplan.specs.declared.refusal.Refusal.TheVariants as refusal
+
+-- ---- what is asked
 
 -- where the bytes are a schema, it has so many tables
 abbrev pub HasTables : List ℕ → ℕ → Type 0
 HasTables bytes n = (S : Schema) → schema_of bytes ≡ Ok S → n ≡ length S.tables
 
--- the rows that an accepted plan gives
-abbrev pub plan_rows : Accepted → Stored → List Row
-plan_rows a d = answer a.query (tables_in d) a.certificate.plan
+-- the bytes are a schema, and the text is a query over it
+pub record Asks (schema text : List ℕ) (S : Schema) (q : Query) : Type 0 where
+  pub is_schema : schema_of schema ≡ Ok S
+  pub tree : Ast
+  pub reads : ReadsText text tree
+  pub binds : bound S tree ≡ Ok q
 
--- their text
-abbrev pub plan_text : Accepted → Stored → List ℕ
-plan_text a d = answer_text a.query.names (plan_rows a d)
+-- ---- the tables' files
+
+-- the bytes that an input has still to give, where they are known
+abbrev pub Input : Type 0
+Input = Option (List ℕ)
+
+-- as the file of the table with this number, the input tells its rows or its first fault
+abbrev pub FileTells : Schema → List Input → ℕ → Result (List Row) TableRefusal → Type 0
+FileTells S inputs n told = (t : Table) (bytes : List ℕ) → slice_get S.tables n ≡ Some t → slice_index_or inputs n None ≡ Some bytes
+    → IsTold t (records default_config (strip_bom bytes)) told
+
+-- the inputs tell the rows of the first so many tables of the database
+abbrev pub TablesTold : Schema → List Input → ℕ → Database → Type 0
+TablesTold S inputs count D = (n : ℕ) → n < count → FileTells S inputs n (Ok (slice_index_or D n []))
+
+-- the fault is the first of the table's file, and the files of the tables before it tell rows
+pub record IsTableRefused (S : Schema) (inputs : List Input) (n : ℕ) (r : TableRefusal) : Type 0 where
+  pub earlier : Database
+  pub told : TablesTold S inputs n earlier
+  pub fault : FileTells S inputs n (Err r)
+
+-- why the tables were not loaded
+abbrev pub IsLoadFault : Schema → List Input → Refusal → Type 0
+IsLoadFault S inputs refusal.Memory = Unit {0}
+IsLoadFault S inputs (refusal.TableDevice n) = Unit {0}
+IsLoadFault S inputs (refusal.Table n r) = IsTableRefused S inputs n r
+IsLoadFault S inputs _ = ⊥
+
+-- ---- the answer
+
+-- the text of an answer, which a checked plan gives of the query that is asked over the rows that the files tell
+pub record IsAnswerText (schema text : List ℕ) (inputs : List Input) (written : List ℕ) : Type 0 where
+  pub S : Schema
+  pub query : Query
+  pub asks : Asks schema text S query
+  pub database : Database
+  pub told : TablesTold S inputs (length S.tables) database
+  pub satisfies : Satisfies S database
+  pub certificate : Certificate
+  pub checked : IsChecked S query certificate
+  pub answers : IsAnswer query (tables_of S database) (answer query (tables_of S database) certificate.plan)
+  pub written_is : written ≡ answer_text query.names (answer query (tables_of S database) certificate.plan)
+
+-- some such text is as said
+abbrev pub WithAnswer : List ℕ → List ℕ → List Input → (List ℕ → Type 0) → Type 0
+WithAnswer schema text inputs P = (written : List ℕ) × IsAnswerText schema text inputs written × P written
+
+-- ---- refusals
+
+-- some query is asked, over a schema that is as said
+abbrev pub WithQuery : List ℕ → List ℕ → (Schema → Type 0) → Type 0
+WithQuery schema text P = (S : Schema) × (q : Query) × Asks schema text S q × P S
+
+-- the first fault, in the order schema, text, scope, tables; no query is refused for its certificate
+abbrev pub IsRefusedBy : List ℕ → List ℕ → List Input → Refusal → Type 0
+IsRefusedBy schema text inputs refusal.Memory = Unit {0}
+IsRefusedBy schema text inputs (refusal.Schema r) = schema_of schema ≡ Err r
+IsRefusedBy schema text inputs (refusal.Text r) = (S : Schema) × (schema_of schema ≡ Ok S) × IsRefusal text r
+IsRefusedBy schema text inputs (refusal.Scope r) = (S : Schema) × (schema_of schema ≡ Ok S) × (tree : Ast) × ReadsText text tree × (bound S tree ≡ Err r)
+IsRefusedBy schema text inputs (refusal.Check r) = ⊥
+IsRefusedBy schema text inputs (refusal.Table n r) = WithQuery schema text (λ S. IsTableRefused S inputs n r)
+IsRefusedBy schema text inputs (refusal.TableDevice n) = WithQuery schema text (λ S. Unit {0})
+IsRefusedBy schema text inputs refusal.Output = WithQuery schema text (λ S. Unit {0})
+
+-- the refusal comes before anything is written
+abbrev pub IsBefore : Refusal → Type 0
+IsBefore refusal.Memory = ⊥
+IsBefore refusal.Output = ⊥
+IsBefore (refusal.Schema r) = Unit {0}
+IsBefore (refusal.Text r) = Unit {0}
+IsBefore (refusal.Scope r) = Unit {0}
+IsBefore (refusal.Check r) = Unit {0}
+IsBefore (refusal.Table n r) = Unit {0}
+IsBefore (refusal.TableDevice n) = Unit {0}
+
+-- the device whose fault is told failed: its count of failures rose between these
+abbrev pub IsDeviceFault : List ℕ → List ℕ → ℕ → ℕ → Refusal → Type 0
+IsDeviceFault old new out out' (refusal.TableDevice n) = Rose (slice_index_or old n 0) (slice_index_or new n 0)
+IsDeviceFault old new out out' refusal.Output = Rose out out'
+IsDeviceFault old new out out' _ = Unit {0}

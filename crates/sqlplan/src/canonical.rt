@@ -1,6 +1,7 @@
 //! The plan that follows a query's frame, operator by operator.
 
-ghost use Rattle.std.specs.Prelude.{◌≡◌, IfOk, map, Some};
+ghost use Rattle.std.specs.Prelude.{◌≡◌, IfOk, Ok, map, Some};
+ghost use Rattle.checker.specs.Replay.{replayed};
 ghost use Rattle.checker.specs.declared.certificate.Line.TheVariants.{Founds};
 ghost use Rattle.logical.specs.Frame.{frame_of};
 ghost use Rattle.binder.specs.Simple.{IsSimple};
@@ -87,7 +88,8 @@ fn lines_of(alloc: Global, frame: Items<Expr>) -> Result<Items<Line>, AllocError
 /// The certificate whose lines are the query's frame and whose plan follows it.
 pub fn canonical(alloc: Global, query: &Query) -> Result<Certificate, AllocError>
     requires { IsSimple query.now }
-    ensures { IfOk result (λ certificate. spec.IsCanonical query.now certificate) }
+    ensures canonical { IfOk result (spec.IsCanonical query.now) }
+    ensures replays { IfOk result (λ certificate. replayed query.now certificate ≡ Ok certificate) }
 {
     let frame = frame(alloc, query)?;
     match plan_over(alloc, frame.as_slice())? {

@@ -1,25 +1,19 @@
 //! From the bytes of files to the bytes of an answer.
 
-ghost use Rattle.std.specs.Prelude.{◌≡◌, ◌≢◌, ◌≤◌, length, IsErrAnd, OnOk, OnErr};
+ghost use Rattle.std.specs.Prelude.{◌≡◌, ◌≤◌, ◌⊎◌, length, map, IfErr, OnOk, OnErr};
 ghost use Rattle.std.specs.Io.KnownBytes.{Appends};
-ghost use Rattle.binder.specs.Answer.{IsAnswer};
-ghost use Rattle.binder.specs.Simple.{IsSimple};
 ghost use Rattle.executor.specs.AnswerText.{HasFront};
-ghost use Rattle.store.specs.Devices.{Rose};
-ghost use Rattle.sqlplan.specs.EndToEnd.{HasTables, plan_rows, plan_text};
-ghost use Rattle.executor.specs.Execution.{tables_in};
+ghost use Rattle.sqlplan.specs.EndToEnd.{HasTables, TablesTold, IsLoadFault, WithAnswer, IsRefusedBy, IsBefore, IsDeviceFault};
 
-use executor::{AnswerFault, AnswerOutput, write_rows};
-use binder::bind;
 use crate::canonical::canonical;
-use executor::run;
 use crate::refusal::Refusal;
-use store::{Database, TableInput};
-use sql_parse::parse_bytes;
-use checker::{Checked, check};
+use binder::bind;
+use checker::check;
+use executor::{AnswerOutput, write_answer};
 use schema::Schema;
+use sql_parse::parse_bytes;
 use std::alloc::Global;
-use values::Fault;
+use store::{Database, TableInput};
 
 /// Loads the tables, one input each in the order of the schema.
 fn load_all<R: TableInput>(
@@ -29,6 +23,9 @@ fn load_all<R: TableInput>(
 ) -> Result<(), Refusal>
     requires { length tables.old ≤ length database.old.tables }
     ensures schema { database.new.schema ≡ database.old.schema }
+    ensures told { OnOk result (TablesTold database.old.schema (map R.remaining tables.old) (length tables.old) database.new.tables) }
+    ensures fails { IfErr result (IsLoadFault database.old.schema (map R.remaining tables.old)) }
+    ensures device { IfErr result (IsDeviceFault (map R.failures tables.old) (map R.failures tables.new) 0 0) }
 {
     for number in 0..tables.len() {
         if let Err(fault) = database.load(alloc, number, &mut tables[number]) {
@@ -36,26 +33,6 @@ fn load_all<R: TableInput>(
         }
     }
     Ok(())
-}
-
-/// Writes the answer that a checked plan gives.
-pub fn write_answer<W: AnswerOutput>(
-    alloc: Global,
-    checked: &Checked<'_>,
-    database: &Database<'_>,
-    out: &mut W,
-) -> Result<(), AnswerFault>
-    requires simple { IsSimple checked.now.query }
-    requires schema { database.now.schema ≡ checked.now.schema }
-    ensures ok { OnOk result (Appends (W.contents out.old) (W.contents out.new) (plan_text checked.now database.now)) }
-    // After a fault a beginning of the text has been written.
-    ensures front { OnErr result (HasFront (W.contents out.old) (W.contents out.new) (plan_text checked.now database.now)) }
-    // These rows are an answer of the query.
-    ensures answer { OnOk result (IsAnswer checked.now.query (tables_in database.now) (plan_rows checked.now database.now)) }
-    ensures device { IsErrAnd result (λ e. e ≢ Fault.Memory) → Rose (W.failures out.old) (W.failures out.new) }
-{
-    let rows = run(alloc, checked, database)?;
-    write_rows(alloc, checked.query(), rows.as_slice(), out)
 }
 
 /// Answers a query: reads the schema, the text and the tables' files, checks a plan and writes what it gives. The tables
@@ -72,6 +49,13 @@ pub fn query<R: TableInput, W: AnswerOutput>(
     out: &mut W,
 ) -> Result<(), Refusal>
     requires { HasTables schema.now (length tables.old) }
+    // What is added to the output is the text of an answer.
+    ensures answered { OnOk result (WithAnswer schema.now text.now (map R.remaining tables.old) (Appends (W.contents out.old) (W.contents out.new))) }
+    ensures refused { IfErr result (IsRefusedBy schema.now text.now (map R.remaining tables.old)) }
+    ensures untouched { IfErr result (λ r. IsBefore r → out.new ≡ out.old) }
+    // A fault that comes later leaves a beginning of such a text.
+    ensures front { OnErr result ((out.new ≡ out.old) ⊎ WithAnswer schema.now text.now (map R.remaining tables.old) (HasFront (W.contents out.old) (W.contents out.new))) }
+    ensures device { IfErr result (IsDeviceFault (map R.failures tables.old) (map R.failures tables.new) (W.failures out.old) (W.failures out.new)) }
 {
     let schema = Schema::read(alloc, schema)?;
     let ast = parse_bytes(alloc, text)?;

@@ -1,0 +1,106 @@
+-- A query from its first step to its last.
+use Rattle.std.proofs.Common.{◌≡◌, ◌≢◌, refl, ap, sym, ◌∙◌, ℕ, List, length, Result, Ok, Err, IfErr, OnErr}
+use Rattle.values.specs.declared.fault.Fault.{Fault}
+use Rattle.values.specs.declared.fault.Fault.TheVariants as fault
+use Rattle.values.specs.Faults.{Fails}
+use Rattle.schema.specs.declared.schema.Schema.{Schema}
+use Rattle.schema.specs.Databases.{Database, Satisfies}
+use Rattle.store.specs.Databases.{Stored}
+use Rattle.store.specs.Devices.{Rose}
+use Rattle.binder.specs.declared.query.Query.{Query}
+use Rattle.binder.specs.Rows.{tables_of}
+use Rattle.binder.specs.Simple.{IsSimple}
+use Rattle.checker.specs.declared.certificate.Certificate.{Certificate}
+use Rattle.checker.specs.declared.certificate.CheckRefusal.{CheckRefusal}
+use Rattle.checker.specs.Plans.{answer}
+use Rattle.checker.specs.Replay.{Accepted, IsChecked, replayed}
+use Rattle.checker.proofs.Right.{checked}
+use Rattle.executor.specs.declared.output.OutputFailed.{OutputFailed}
+use Rattle.executor.specs.AnswerText.{answer_text}
+use Rattle.executor.specs.Execution.{plan_rows, plan_text}
+use Rattle.sqlplan.specs.declared.refusal.Refusal.{Refusal}
+use Rattle.sqlplan.specs.declared.refusal.Refusal.TheVariants as refusal
+use Rattle.sqlplan.specs.Refusals.{of_check, of_answer}
+use Rattle.sqlplan.specs.EndToEnd.{Input, Asks, TablesTold, IsLoadFault, IsAnswerText, WithAnswer, WithQuery, IsRefusedBy, IsBefore, IsDeviceFault}
+
+-- what holds of the fault that a call ends with
+pub of_fault : {A : Type 0} (r : Result A Refusal) (e : Refusal) (P : Refusal → Type 0) → r ≡ Err e → P e → IfErr r P
+of_fault r e P is h = rw is h
+
+pub on_fault : {A : Type 0} (r : Result A Refusal) (e : Refusal) (P : Type 0) → r ≡ Err e → P → OnErr r P
+on_fault r e P is h = rw is h
+
+-- ---- the check
+
+-- the certificate that was checked is the one that replays
+pub same_certificate : (q : Query) (V W : Certificate) → replayed q V ≡ Ok V → replayed q V ≡ Ok W → W ≡ V
+same_certificate q V W one other = let e : Ok V ≡ Ok W = sym one ∙ other in cc
+
+-- the check of a certificate that replays fails for want of memory alone
+pub only_memory : (f : Fault CheckRefusal) (q : Query) (V : Certificate) → Fails f (replayed q V) → replayed q V ≡ Ok V → of_check f ≡ refusal.Memory
+only_memory fault.Memory q V fails ok = refl
+only_memory (fault.Refused r) q V fails ok = let e : Ok V ≡ Err r = sym ok ∙ fails in cc
+
+-- ---- the tables
+
+pub load_refused : (schema text : List ℕ) (S : Schema) (q : Query) (inputs : List Input) (r : Refusal) → Asks schema text S q → IsLoadFault S inputs r → IsRefusedBy schema text inputs r
+load_refused schema text S q inputs refusal.Memory asks h = tt
+load_refused schema text S q inputs (refusal.TableDevice n) asks h = (S, q, asks, tt)
+load_refused schema text S q inputs (refusal.Table n r) asks h = (S, q, asks, h)
+load_refused schema text S q inputs refusal.Output asks h = absurd h
+load_refused schema text S q inputs (refusal.Schema r) asks h = absurd h
+load_refused schema text S q inputs (refusal.Text r) asks h = absurd h
+load_refused schema text S q inputs (refusal.Scope r) asks h = absurd h
+load_refused schema text S q inputs (refusal.Check r) asks h = absurd h
+
+pub load_device_fault : (S : Schema) (inputs : List Input) (old new : List ℕ) (o p : ℕ) (r : Refusal) → IsLoadFault S inputs r → IsDeviceFault old new 0 0 r → IsDeviceFault old new o p r
+load_device_fault S inputs old new o p refusal.Memory h d = tt
+load_device_fault S inputs old new o p (refusal.TableDevice n) h d = d
+load_device_fault S inputs old new o p (refusal.Table n r) h d = tt
+load_device_fault S inputs old new o p refusal.Output h d = absurd h
+load_device_fault S inputs old new o p (refusal.Schema r) h d = tt
+load_device_fault S inputs old new o p (refusal.Text r) h d = tt
+load_device_fault S inputs old new o p (refusal.Scope r) h d = tt
+load_device_fault S inputs old new o p (refusal.Check r) h d = tt
+
+-- the tables of the schema are all told
+pub told_all : (S T : Schema) (inputs : List Input) (m n : ℕ) (D : Database) → S ≡ T → m ≡ n → TablesTold S inputs m D → TablesTold T inputs n D
+told_all S T inputs m n D same all h = rw (← same, ← all) h
+
+-- a database satisfies its schema
+pub satisfied_by : (S : Schema) (D : Database) (d : Stored) → record { schema = S; tables = D } ≡ d → Satisfies S D → Satisfies d.schema d.tables
+satisfied_by S D d is h = rw (← is) h
+
+-- ---- the answer
+
+pub answer_refused : (schema text : List ℕ) (S : Schema) (q : Query) (inputs : List Input) (f : Fault OutputFailed) → Asks schema text S q → IsRefusedBy schema text inputs (of_answer f)
+answer_refused schema text S q inputs fault.Memory asks = tt
+answer_refused schema text S q inputs (fault.Refused r) asks = (S, q, asks, tt)
+
+pub answer_device : (old new : List ℕ) (o p : ℕ) (f : Fault OutputFailed) → (f ≢ fault.Memory → Rose o p) → IsDeviceFault old new o p (of_answer f)
+answer_device old new o p fault.Memory rose = tt
+answer_device old new o p (fault.Refused r) rose = rose (λ e. cc e)
+
+-- a fault of the answer comes after its beginning
+pub answer_after : (f : Fault OutputFailed) → IsBefore (of_answer f) → ⊥
+answer_after fault.Memory h = h
+answer_after (fault.Refused r) h = h
+
+pub with_answer : (schema text : List ℕ) (inputs : List Input) (S : Schema) (q : Query) (d : Stored) (V : Certificate) (a : Accepted) (P : List ℕ → Type 0) → Asks schema text S q
+    → TablesTold S inputs (length S.tables) d.tables → d.schema ≡ S → Satisfies d.schema d.tables → IsSimple q → replayed q V ≡ Ok V → a.query ≡ q → a.certificate ≡ V
+    → P (plan_text a d) → WithAnswer schema text inputs P
+with_answer schema text inputs S q d V a P asks told same satisfies simple replays query certificate p =
+    let right : IsChecked S q V = checked S q simple V replays in
+    let satisfied : Satisfies S d.tables = rw (← same) satisfies in
+    (plan_text a d, record {
+      S = S;
+      query = q;
+      asks = asks;
+      database = d.tables;
+      told = told;
+      satisfies = satisfied;
+      certificate = V;
+      checked = right;
+      answers = right.answers d.tables satisfied;
+      written_is = rw (same, query, certificate) refl;
+    }, p)
