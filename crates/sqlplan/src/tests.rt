@@ -1,14 +1,19 @@
 //! Whole queries, from bytes to bytes, over the tables of `examples/hr`.
 
-use executor::CountedOutput;
+use crate::canonical::canonical;
 use crate::end_to_end::query;
 use crate::refusal::fault_line;
-use store::CountedInput;
+use binder::bind;
+use checker::{Certificate, Line, Node, Plan};
+use executor::CountedOutput;
+use logical::{Columns, Condition, Conjuncts, Expr, Term};
 use schema::Schema;
+use sql_parse::parse_bytes;
 use std::alloc::{AllocError, Global};
 use std::process::Abort;
 use std::test::Fail;
-use values::Fault;
+use store::CountedInput;
+use values::{Comparison, Fault, Items, Value};
 
 const SCHEMA: &[u8] = br#"{"tables":[
     {"name":"dept","columns":[{"name":"id","kind":"INT","not_null":true},{"name":"name","kind":"TEXT","not_null":true},
@@ -239,6 +244,57 @@ fn tables_are_read_as_csv(rt: HostRuntime) -> Result<(), Fail> {
     assert_eq!(rt;
         told(&rt, rt.alloc(), SCHEMA, b"SELECT id FROM emp", DEPT, header)?.as_str(),
         "id\n"
+    );
+    Ok(())
+}
+
+/// `[<>(c2,i500)]`
+fn pay_is_not_500(alloc: Global) -> Result<Conjuncts, AllocError> {
+    let (pay, number) = (Term::Column(2), Term::Literal(Value::Int(500)));
+    Conjuncts::one(alloc, Condition::Compare(Comparison::NotEqual, pay, number))
+}
+
+fn id_alone(alloc: Global) -> Result<Columns, AllocError> {
+    Ok(Columns::from_vec(vec![in alloc; 0]?))
+}
+
+fn over(alloc: Global, node: Node, input: Plan) -> Result<Plan, AllocError> {
+    let mut inputs = Items::new(alloc);
+    inputs.push(input)?;
+    Ok(Plan { node, inputs })
+}
+
+/// The lines `get 0`, `select [<>(c2,i500)] 0` and `keep 0 1`; the plan `cut 2 0` over `filter 1 [<>(c2,i500)]` over
+/// `scan 0 0`.
+fn first_certificate(alloc: Global) -> Result<Certificate, AllocError> {
+    let mut lines = Items::new(alloc);
+    lines.push(Line::Founds(Expr::Get(0)))?;
+    lines.push(Line::Founds(Expr::Select(pay_is_not_500(alloc)?, 0)))?;
+    lines.push(Line::Founds(Expr::Keep(id_alone(alloc)?, 1)))?;
+    let (line, occurrence) = (0, 0);
+    let scan = Plan {
+        node: Node::Scan { line, occurrence },
+        inputs: Items::new(alloc),
+    };
+    let (line, conjuncts) = (1, pay_is_not_500(alloc)?);
+    let filter = over(alloc, Node::Filter { line, conjuncts }, scan)?;
+    let (line, columns) = (2, id_alone(alloc)?);
+    let plan = over(alloc, Node::Cut { line, columns }, filter)?;
+    Ok(Certificate { lines, plan })
+}
+
+#[test]
+fn the_first_query_has_its_certificate(rt: HostRuntime) -> Result<(), Fail> {
+    let alloc = rt.alloc();
+    let schema = Schema::read(alloc, SCHEMA).expect(&rt, "a schema");
+    let text = b"SELECT id FROM emp WHERE pay <> 500";
+    let ast = parse_bytes(alloc, text).expect(&rt, "a tree");
+    let query = bind(alloc, &schema, &ast).expect(&rt, "a query");
+    let certificate = canonical(alloc, &query)?;
+    let wanted = first_certificate(alloc)?;
+    assert_eq!(rt;
+        format!(in alloc; "{certificate:?}")?.as_str(),
+        format!(in alloc; "{wanted:?}")?.as_str()
     );
     Ok(())
 }
