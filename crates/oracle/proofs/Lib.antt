@@ -1,0 +1,4 @@
+mod Distinct
+mod Grouping
+mod Lists
+mod Sorting
