@@ -18,7 +18,11 @@ fn key_order(key: &SortKey, a: &[Value], b: &[Value]) -> Ordering
     ensures { result ≡ spec.key_order key.now a.now b.now }
 {
     let (a, b) = (value_at(a, key.item), value_at(b, key.item));
-    if key.descending { order(b, a) } else { order(a, b) }
+    if key.descending {
+        order(b, a)
+    } else {
+        order(a, b)
+    }
 }
 
 /// The order of two rows at the keys: a later key decides where the earlier ones don't.

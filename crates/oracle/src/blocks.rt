@@ -16,12 +16,7 @@ use std::alloc::{AllocError, Global};
 use values::{Cell, Items, Value};
 
 /// An item of a row; an aggregate stands in grouped blocks alone.
-fn item_of_row(
-    alloc: Global,
-    env: &Env<'_>,
-    row: &[Value],
-    item: Item,
-) -> Result<Value, AllocError>
+fn item_of_row(alloc: Global, env: &Env<'_>, row: &[Value], item: Item) -> Result<Value, AllocError>
     ensures { IfOk result (λ v. v ≡ spec.item_of_row (env_of env.now) row.now item) }
 {
     match item {
