@@ -1,10 +1,11 @@
 //! The aggregates of a group's rows.
 
 ghost use Rattle.std.specs.Prelude.{◌≡◌, map, pos, IfOk};
+ghost use Rattle.std.specs.List.{AllByRecursion};
 ghost use Rattle.values.specs.Cells.{value_of};
 ghost use Rattle.binder.specs.Aggregates as spec;
 ghost use Rattle.binder.specs.Rows.{value_at};
-ghost use Rattle.oracle.specs.Given.{rows_at, values_of};
+ghost use Rattle.oracle.specs.Given.{AreShort, IsHeld, IsShort, rows_at, values_of};
 
 use crate::environment::{is_null, value_at};
 use crate::rows::Row;
@@ -79,30 +80,29 @@ fn greatest<'r>(rows: &[&'r Row], place: usize) -> Cell<'r>
 }
 
 /// The sum of two numbers; what is no number adds nothing.
-fn plus(v: Cell<'_>, w: Value) -> Result<Value, AllocError>
-    ensures { IfOk result (λ sum. sum ≡ spec.plus (value_of v.entry) w) }
+fn plus(v: Cell<'_>, w: Value) -> Value
+    requires { IsHeld (spec.plus (value_of v) w) }
+    ensures { result ≡ spec.plus (value_of v.entry) w }
 {
     match (v, w) {
-        (Cell::Int(m), Value::Int(n)) => match m.checked_add(n) {
-            Some(sum) => Ok(Value::Int(sum)),
-            None => Err(AllocError),
-        },
-        (Cell::Int(m), _) => Ok(Value::Int(m)),
-        (_, w) => Ok(w),
+        (Cell::Int(m), Value::Int(n)) => Value::Int(m + n),
+        (Cell::Int(m), _) => Value::Int(m),
+        (_, w) => w,
     }
 }
 
-/// The sum of the column's numbers.
-fn sum(rows: &[&Row], place: usize) -> Result<Value, AllocError>
-    ensures { IfOk result (λ total. total ≡ spec.together spec.plus (values_of place rows.now)) }
+/// The sum of the column's numbers. It fits, since no more rows are in memory than there are numbers of 64 bits.
+fn sum(rows: &[&Row], place: usize) -> Value
+    requires { AllByRecursion IsShort (values_of place rows.now) }
+    ensures { result ≡ spec.together spec.plus (values_of place rows.now) }
 {
     let mut total = Value::Null;
     let mut left = rows.len();
     while left > 0 {
         left -= 1;
-        total = plus(value_at(rows[left].as_slice(), place), total)?;
+        total = plus(value_at(rows[left].as_slice(), place), total);
     }
-    Ok(total)
+    total
 }
 
 /// A number of rows.
@@ -114,12 +114,13 @@ fn number(count: usize) -> Value
 
 /// An aggregate of a group's rows.
 pub fn aggregate(alloc: Global, of: Aggregate, rows: &[&Row]) -> Result<Value, AllocError>
+    requires { AreShort (rows_at rows.now) }
     ensures { IfOk result (λ v. v ≡ spec.aggregate of (rows_at rows.now)) }
 {
     match of {
         Aggregate::CountRows => Ok(number(rows.len())),
         Aggregate::Count(place) => Ok(number(known(rows, place))),
-        Aggregate::Sum(place) => sum(rows, place),
+        Aggregate::Sum(place) => Ok(sum(rows, place)),
         Aggregate::Min(place) => least(rows, place).to_value(alloc),
         Aggregate::Max(place) => greatest(rows, place).to_value(alloc),
     }

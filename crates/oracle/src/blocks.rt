@@ -6,7 +6,7 @@ ghost use Rattle.schema.specs.Databases as databases;
 ghost use Rattle.binder.specs.Aggregates as groups;
 ghost use Rattle.binder.specs.Meaning as spec;
 ghost use Rattle.binder.specs.Rows as rows;
-ghost use Rattle.oracle.specs.Given.{env_of, rows_at};
+ghost use Rattle.oracle.specs.Given.{AreShort, env_of, rows_at};
 
 use crate::aggregates::aggregate;
 use crate::environment::{Env, value_at};
@@ -138,6 +138,7 @@ fn item_of_group(
     members: &[&Row],
     item: Item,
 ) -> Result<Value, AllocError>
+    requires { AreShort (rows_at members.now) }
     ensures { IfOk result (λ v. v ≡ spec.item_of_group keys.now (env_of env.now) (record { key = key.now; rows = rows_at members.now }) item) }
 {
     match item {
@@ -159,6 +160,7 @@ fn items_of_group(
     key: &[Value],
     members: &[&Row],
 ) -> Result<Row, AllocError>
+    requires { AreShort (rows_at members.now) }
     ensures { IfOk result (λ values. values ≡ map (spec.item_of_group keys.now (env_of env.now) (record { key = key.now; rows = rows_at members.now })) items.now) }
 {
     let mut values = Items::new(alloc);
@@ -176,6 +178,7 @@ fn items_of_groups(
     env: &Env<'_>,
     source: &[Row],
 ) -> Result<Vec<Row>, AllocError>
+    requires { AreShort source.now }
     ensures { IfOk result (λ all. all.items ≡ map (λ g. map (spec.item_of_group keys.now (env_of env.now) g) items.now) (groups.groups keys.now source.now)) }
 {
     let group_keys = group_keys(alloc, keys, source)?;
@@ -195,6 +198,7 @@ fn all_shown(
     env: &Env<'_>,
     source: &[Row],
 ) -> Result<Vec<Row>, AllocError>
+    requires { AreShort source.now }
     ensures { IfOk result (λ all. all.items ≡ spec.all_shown block.now.grouped block.now.keys block.now.items (env_of env.now) source.now) }
 {
     let items = block.items.as_slice();
@@ -212,6 +216,7 @@ pub fn shown(
     env: &Env<'_>,
     source: &[Row],
 ) -> Result<Vec<Row>, AllocError>
+    requires { AreShort source.now }
     ensures { IfOk result (λ all. all.items ≡ spec.shown block.now.distinct block.now.grouped block.now.keys block.now.items (env_of env.now) source.now) }
 {
     let all = all_shown(alloc, block, env, source)?;

@@ -1,10 +1,11 @@
-use Rattle.std.proofs.Common.{◌≡◌, ◌∙◌, ap, sym, List, [], ◌∷◌, ◌++◌, map, filter, take, arith}
+use Rattle.std.proofs.Common.{◌≡◌, ◌∙◌, ap, sym, subst, List, [], ◌∷◌, ◌++◌, map, filter, take, arith}
 use Rattle.schema.specs.Databases.{Row, values_at}
 use Rattle.binder.specs.Rows.{same_rows}
 use Rattle.binder.specs.Aggregates.{Group, group_of}
 use Rattle.binder.specs.Meaning.{item_of_group}
-use Rattle.oracle.specs.Given.{env_of, rows_at}
+use Rattle.oracle.specs.Given.{AreShort, env_of, rows_at}
 use Rattle.oracle.proofs.Lists.{map-more, map-last}
+use Rattle.oracle.proofs.Sums.{short-filter}
 use Rattle.oracle.proofs.blocks.items_of_groups.Goals as goal
 
 pub loop-key-preserved : goal.loop-key-preserved
@@ -23,3 +24,8 @@ loop-key-preserved c =
     ∙ ap (λ (l : List Row). l ++ c.in_ok-row.row ∷ []) c.loop-key.invariant
     ∙ ap (λ (v : Row). map shown (map group done) ++ v ∷ []) is
     ∙ sym (ap (map shown) (map-more group c.as_slice-key-items.result.now c.loop-key.key-index key (omega arith) c.key-item.is) ∙ map-last shown (map group done) (group key))
+
+pub items_of_group-requires : goal.items_of_group-requires
+items_of_group-requires c =
+    let is = ap rows_at c.as_slice-in-loop-key-2.ensures.value ∙ c.in_ok-members.ensures in
+    subst AreShort (sym is) (short-filter (λ r. same_rows c.as_slice.result.now (values_at c.args.keys.now r)) c.args.source.now c.requires)
