@@ -1,5 +1,5 @@
 -- A sum of 64-bit numbers, one for each row of a list in memory, fits 128 bits.
-use Rattle.std.proofs.Common.{◌≡◌, ℕ, zero, suc, ◌+◌, ◌*◌, ◌^◌, ◌<◌, ◌≤◌, ℤ, pos, negsuc, ◌+ℤ◌, unsigned_abs, List, [], ◌∷◌, length, get_or, slice_index_or, map, drop, filter, Bool, true, false, cond, ltb, ◌-◌, if◌then◌else◌, FitsSigned, Bor, ap, sym, ◌∙◌, subst, arith}
+use Rattle.std.proofs.Common.{◌≡◌, ℕ, zero, suc, ◌+◌, ◌*◌, ◌^◌, ◌<◌, ◌≤◌, ℤ, pos, negsuc, ◌+ℤ◌, unsigned_abs, List, [], ◌∷◌, length, get_or, map, drop, filter, Bool, true, false, cond, ltb, ◌-◌, if◌then◌else◌, FitsSigned, Bor, ap, sym, ◌∙◌, subst, arith}
 use Rattle.std.specs.Int.{w64, w128}
 use Rattle.std.specs.List.{AllByRecursion}
 use Rattle.std.proofs.lemmas.Int.{fits_signed_from_abs}

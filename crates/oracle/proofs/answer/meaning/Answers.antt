@@ -1,9 +1,6 @@
-use Rattle.std.proofs.Common.{◌≡◌, ◌∙◌, ap, [], List, rules}
-use Rattle.schema.specs.Databases.{Row}
-use Rattle.binder.specs.Rows.{Tables, count}
+use Rattle.std.proofs.Common.{◌∙◌, ap, rules}
+use Rattle.binder.specs.Rows.{count}
 use Rattle.binder.specs.Answer.{keys_order}
-use Rattle.binder.specs.Meaning.{rows}
-use Rattle.oracle.specs.Given.{tables_in}
 use Rattle.oracle.proofs.Sorting.{keys_total, sorted_by, allowed, count-sorted}
 use Rattle.oracle.proofs.answer.meaning.Goals as goal
 

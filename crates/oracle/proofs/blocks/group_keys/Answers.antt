@@ -1,5 +1,4 @@
-use Rattle.std.proofs.Common.{◌≡◌, ◌∙◌, ap, List, [], ◌∷◌, length, map, rules}
-use Rattle.schema.specs.Databases.{Row}
+use Rattle.std.proofs.Common.{◌≡◌, ◌∙◌, ap, [], ◌∷◌, length, map, rules}
 use Rattle.binder.specs.Aggregates.{group_of}
 use Rattle.oracle.proofs.Grouping.{one-group}
 use Rattle.oracle.proofs.blocks.group_keys.Goals as goal

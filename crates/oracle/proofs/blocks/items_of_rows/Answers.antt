@@ -1,4 +1,4 @@
-use Rattle.std.proofs.Common.{◌≡◌, ◌∙◌, ap, sym, List, [], ◌∷◌, ◌++◌, map, take, arith}
+use Rattle.std.proofs.Common.{◌∙◌, ap, sym, List, [], ◌∷◌, ◌++◌, map, take, arith}
 use Rattle.schema.specs.Databases.{Row}
 use Rattle.binder.specs.Meaning.{item_of_row}
 use Rattle.oracle.specs.Given.{env_of}
