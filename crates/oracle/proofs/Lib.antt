@@ -1,0 +1,6 @@
+mod Distinct
+mod Grouping
+mod Lists
+mod Short
+mod Sorting
+mod Sums

@@ -1,0 +1,11 @@
+use Rattle.std.proofs.Common.{◌≡◌, ◌≤◌, length, drop}
+use Rattle.values.specs.Cells.{value_of}
+use Rattle.binder.specs.Aggregates.{together, lesser}
+use Rattle.oracle.specs.Given.{values_of}
+use Rattle.oracle.proofs.aggregates.least.Given as goal
+
+abbrev pub invariant-loop-left : goal.invariant-loop-left
+invariant-loop-left l = (l.left ≤ length l.rows) × (value_of l.least ≡ together lesser (values_of l.place (drop l.left l.rows)))
+
+abbrev pub decreases-loop-left : goal.decreases-loop-left
+decreases-loop-left l = l.left

@@ -1,0 +1,31 @@
+use Rattle.std.proofs.Common.{◌≡◌, ◌∙◌, ap, sym, subst, List, [], ◌∷◌, ◌++◌, map, filter, take, arith}
+use Rattle.schema.specs.Databases.{Row, values_at}
+use Rattle.binder.specs.Rows.{same_rows}
+use Rattle.binder.specs.Aggregates.{Group, group_of}
+use Rattle.binder.specs.Meaning.{item_of_group}
+use Rattle.oracle.specs.Given.{AreShort, env_of, rows_at}
+use Rattle.oracle.proofs.Lists.{map-more, map-last}
+use Rattle.oracle.proofs.Sums.{short-filter}
+use Rattle.oracle.proofs.blocks.items_of_groups.Goals as goal
+
+pub loop-key-preserved : goal.loop-key-preserved
+loop-key-preserved c =
+    let group : Row → Group = group_of c.args.keys.now c.args.source.now in
+    let shown : Group → Row = λ g. map (item_of_group c.args.keys.now (env_of c.args.env.now) g) c.args.items.now in
+    let done : List Row = take c.loop-key.key-index c.as_slice-key-items.result.now in
+    let key : Row = c.key-item.result in
+    let same : rows_at c.as_slice-in-loop-key-2.result.now ≡ filter (λ r. same_rows key (values_at c.args.keys.now r)) c.args.source.now =
+    ap rows_at c.as_slice-in-loop-key-2.ensures.value ∙ c.in_ok-members.ensures ∙ ap (λ k. filter (λ r. same_rows k (values_at c.args.keys.now r)) c.args.source.now) c.as_slice.ensures in
+    let is : c.in_ok-row.row ≡ shown (group key) =
+    c.in_ok-row.ensures
+    ∙ ap (λ k. shown (record { key = k; rows = rows_at c.as_slice-in-loop-key-2.result.now })) c.as_slice-in-loop-key.ensures
+    ∙ ap (λ (rows : List Row). shown (record { key = key; rows = rows })) same in
+    c.in_ok-push.ensures.items
+    ∙ ap (λ (l : List Row). l ++ c.in_ok-row.row ∷ []) c.loop-key.invariant
+    ∙ ap (λ (v : Row). map shown (map group done) ++ v ∷ []) is
+    ∙ sym (ap (map shown) (map-more group c.as_slice-key-items.result.now c.loop-key.key-index key (omega arith) c.key-item.is) ∙ map-last shown (map group done) (group key))
+
+pub items_of_group-requires : goal.items_of_group-requires
+items_of_group-requires c =
+    let is = ap rows_at c.as_slice-in-loop-key-2.ensures.value ∙ c.in_ok-members.ensures in
+    subst AreShort (sym is) (short-filter (λ r. same_rows c.as_slice.result.now (values_at c.args.keys.now r)) c.args.source.now c.requires)

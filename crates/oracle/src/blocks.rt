@@ -1,0 +1,228 @@
+//! What a block shows of the rows of its FROM at which its WHERE holds.
+
+ghost use Rattle.std.specs.Prelude.{◌≡◌, ◌∷◌, [], map, filter, IfOk};
+ghost use Rattle.values.specs.Cells.{value_of};
+ghost use Rattle.schema.specs.Databases as databases;
+ghost use Rattle.binder.specs.Aggregates as groups;
+ghost use Rattle.binder.specs.Meaning as spec;
+ghost use Rattle.binder.specs.Rows as rows;
+ghost use Rattle.oracle.specs.Given.{AreShort, env_of, rows_at};
+
+use crate::aggregates::aggregate;
+use crate::environment::{Env, value_at};
+use crate::rows::{Row, distinct, same_rows};
+use binder::{Block, Item};
+use std::alloc::{AllocError, Global};
+use values::{Cell, Items, Value};
+
+/// An item of a row; an aggregate stands in grouped blocks alone.
+fn item_of_row(alloc: Global, env: &Env<'_>, row: &[Value], item: Item) -> Result<Value, AllocError>
+    ensures { IfOk result (λ v. v ≡ spec.item_of_row (env_of env.now) row.now item) }
+{
+    match item {
+        Item::Column(column) => {
+            let inner = Env::Inner(row, env);
+            inner.column(column).to_value(alloc)
+        }
+        Item::Aggregate(_, _) => Ok(Value::Null),
+    }
+}
+
+fn items_of_row(
+    alloc: Global,
+    items: &[Item],
+    env: &Env<'_>,
+    row: &[Value],
+) -> Result<Row, AllocError>
+    ensures { IfOk result (λ values. values ≡ map (spec.item_of_row (env_of env.now) row.now) items.now) }
+{
+    let mut values = Items::new(alloc);
+    for item in items {
+        values.push(item_of_row(alloc, env, row, *item)?)?;
+    }
+    Ok(values)
+}
+
+/// The items of each row.
+fn items_of_rows(
+    alloc: Global,
+    items: &[Item],
+    env: &Env<'_>,
+    source: &[Row],
+) -> Result<Vec<Row>, AllocError>
+    ensures { IfOk result (λ all. all.items ≡ map (λ s. map (spec.item_of_row (env_of env.now) s) items.now) source.now) }
+{
+    let mut all = Vec::new(alloc);
+    for row in source {
+        all.push(items_of_row(alloc, items, env, row.as_slice())?)?;
+    }
+    Ok(all)
+}
+
+/// A row's values at the places.
+fn values_at(alloc: Global, places: &[usize], row: &[Value]) -> Result<Row, AllocError>
+    ensures { IfOk result (λ values. values ≡ databases.values_at places.now row.now) }
+{
+    let mut values = Items::new(alloc);
+    for place in places {
+        values.push(value_at(row, *place).to_value(alloc)?)?;
+    }
+    Ok(values)
+}
+
+/// The key of each row.
+fn row_keys(alloc: Global, keys: &[usize], source: &[Row]) -> Result<Vec<Row>, AllocError>
+    ensures { IfOk result (λ all. all.items ≡ map (databases.values_at keys.now) source.now) }
+{
+    let mut all = Vec::new(alloc);
+    for row in source {
+        all.push(values_at(alloc, keys, row.as_slice())?)?;
+    }
+    Ok(all)
+}
+
+/// The keys of the groups; without GROUP BY all rows are one group, also where there are none.
+fn group_keys(alloc: Global, keys: &[usize], source: &[Row]) -> Result<Vec<Row>, AllocError>
+    ensures { IfOk result (λ found. map (groups.group_of keys.now source.now) found.items ≡ groups.groups keys.now source.now) }
+{
+    if keys.is_empty() {
+        let mut one = Vec::new(alloc);
+        one.push(Items::new(alloc))?;
+        return Ok(one);
+    }
+    distinct(alloc, row_keys(alloc, keys, source)?)
+}
+
+/// The rows with this key.
+fn members<'s>(
+    alloc: Global,
+    keys: &[usize],
+    source: &'s [Row],
+    key: &[Value],
+) -> Result<Vec<&'s Row>, AllocError>
+    ensures { IfOk result (λ found. rows_at found.items ≡ filter (λ r. rows.same_rows key.now (databases.values_at keys.now r)) source.entry.now) }
+{
+    let mut found = Vec::new(alloc);
+    for row in source {
+        let own = values_at(alloc, keys, row.as_slice())?;
+        if same_rows(key, own.as_slice()) {
+            found.push(row)?;
+        }
+    }
+    Ok(found)
+}
+
+/// A key's value, by the place of its column.
+fn key_value<'k>(keys: &[usize], key: &'k [Value], place: usize) -> Cell<'k>
+    ensures { value_of result ≡ spec.key_value keys.now key.entry.now place }
+{
+    let [own, keys @ ..] = keys else {
+        return Cell::Null;
+    };
+    let [value, key @ ..] = key else {
+        return Cell::Null;
+    };
+    if *own == place {
+        value.as_cell()
+    } else {
+        key_value(keys, key, place)
+    }
+}
+
+/// An item of a group: a column of the own FROM is a key.
+fn item_of_group(
+    alloc: Global,
+    keys: &[usize],
+    env: &Env<'_>,
+    key: &[Value],
+    members: &[&Row],
+    item: Item,
+) -> Result<Value, AllocError>
+    requires { AreShort (rows_at members.now) }
+    ensures { IfOk result (λ v. v ≡ spec.item_of_group keys.now (env_of env.now) (record { key = key.now; rows = rows_at members.now }) item) }
+{
+    match item {
+        Item::Column(column) => if column.level == 0 {
+            key_value(keys, key, column.place).to_value(alloc)
+        } else {
+            let inner = Env::Inner(&[], env);
+            inner.column(column).to_value(alloc)
+        },
+        Item::Aggregate(_, of) => aggregate(alloc, of, members),
+    }
+}
+
+fn items_of_group(
+    alloc: Global,
+    keys: &[usize],
+    items: &[Item],
+    env: &Env<'_>,
+    key: &[Value],
+    members: &[&Row],
+) -> Result<Row, AllocError>
+    requires { AreShort (rows_at members.now) }
+    ensures { IfOk result (λ values. values ≡ map (spec.item_of_group keys.now (env_of env.now) (record { key = key.now; rows = rows_at members.now })) items.now) }
+{
+    let mut values = Items::new(alloc);
+    for item in items {
+        values.push(item_of_group(alloc, keys, env, key, members, *item)?)?;
+    }
+    Ok(values)
+}
+
+/// The items of each group.
+fn items_of_groups(
+    alloc: Global,
+    keys: &[usize],
+    items: &[Item],
+    env: &Env<'_>,
+    source: &[Row],
+) -> Result<Vec<Row>, AllocError>
+    requires { AreShort source.now }
+    ensures { IfOk result (λ all. all.items ≡ map (λ g. map (spec.item_of_group keys.now (env_of env.now) g) items.now) (groups.groups keys.now source.now)) }
+{
+    let group_keys = group_keys(alloc, keys, source)?;
+    let mut all = Vec::new(alloc);
+    for key in group_keys.as_slice() {
+        let members = members(alloc, keys, source, key.as_slice())?;
+        let row = items_of_group(alloc, keys, items, env, key.as_slice(), members.as_slice())?;
+        all.push(row)?;
+    }
+    Ok(all)
+}
+
+/// What the items show of these rows.
+fn all_shown(
+    alloc: Global,
+    block: &Block,
+    env: &Env<'_>,
+    source: &[Row],
+) -> Result<Vec<Row>, AllocError>
+    requires { AreShort source.now }
+    ensures { IfOk result (λ all. all.items ≡ spec.all_shown block.now.grouped block.now.keys block.now.items (env_of env.now) source.now) }
+{
+    let items = block.items.as_slice();
+    if block.grouped {
+        items_of_groups(alloc, block.keys.as_slice(), items, env, source)
+    } else {
+        items_of_rows(alloc, items, env, source)
+    }
+}
+
+/// What a block shows of these rows: the same, each row once with DISTINCT.
+pub fn shown(
+    alloc: Global,
+    block: &Block,
+    env: &Env<'_>,
+    source: &[Row],
+) -> Result<Vec<Row>, AllocError>
+    requires { AreShort source.now }
+    ensures { IfOk result (λ all. all.items ≡ spec.shown block.now.distinct block.now.grouped block.now.keys block.now.items (env_of env.now) source.now) }
+{
+    let all = all_shown(alloc, block, env, source)?;
+    if block.distinct {
+        distinct(alloc, all)
+    } else {
+        Ok(all)
+    }
+}
