@@ -14,30 +14,33 @@ use Rattle.std.proofs.lemmas.Slice.Eq.{bytes_eq-Decides}
 use Rattle.values.specs.declared.value.Value.{Value}
 use Rattle.values.specs.declared.value.Value.TheVariants as value
 use Rattle.values.specs.Truth.{is_null}
-use Rattle.schema.specs.Databases.{Row, values_at}
+use Rattle.schema.specs.Databases.{Row, HaveWidth, values_at}
 use Rattle.store.specs.Tables.{UniqueTo, RepeatsAt}
-use Rattle.values.specs.contracts.value.ValuePartialEq.TheImpl as value_eq
+use Rattle.values.specs.declared.cell.Cell.{Cell}
+use Rattle.values.specs.declared.cell.Cell.TheVariants as cell
+use Rattle.values.specs.Cells.{value_of}
+use Rattle.values.specs.contracts.cell.CellPartialEq.TheImpl as cell_eq
 
-pub value_decides : (a b : Value) → Decides (value_eq.ghosts.eq a b) (a ≡ b)
-value_decides value.Null value.Null = ((λ t. refl), (λ e. refl))
-value_decides value.Null (value.Int n) = ((λ t. cc t), (λ e. cc e))
-value_decides value.Null (value.Text t) = ((λ q. cc q), (λ e. cc e))
-value_decides (value.Int m) value.Null = ((λ q. cc q), (λ e. cc e))
-value_decides (value.Int m) (value.Int n) = ((λ q. ap value.Int ((Decides-int_eq m n).0 q)), (λ e. (Decides-int_eq m n).1 (cc e)))
-value_decides (value.Int m) (value.Text t) = ((λ q. cc q), (λ e. cc e))
-value_decides (value.Text s) value.Null = ((λ q. cc q), (λ e. cc e))
-value_decides (value.Text s) (value.Int n) = ((λ q. cc q), (λ e. cc e))
-value_decides (value.Text s) (value.Text t) = ((λ q. ap value.Text ((bytes_eq-Decides s t).0 q)), (λ e. (bytes_eq-Decides s t).1 (cc e)))
+pub cell_decides : (a b : Cell) → Decides (cell_eq.ghosts.eq a b) (value_of a ≡ value_of b)
+cell_decides cell.Null cell.Null = ((λ t. refl), (λ e. refl))
+cell_decides cell.Null (cell.Int n) = ((λ t. cc t), (λ e. cc e))
+cell_decides cell.Null (cell.Text t) = ((λ q. cc q), (λ e. cc e))
+cell_decides (cell.Int m) cell.Null = ((λ q. cc q), (λ e. cc e))
+cell_decides (cell.Int m) (cell.Int n) = ((λ q. ap value.Int ((Decides-int_eq m n).0 q)), (λ e. (Decides-int_eq m n).1 (cc e)))
+cell_decides (cell.Int m) (cell.Text t) = ((λ q. cc q), (λ e. cc e))
+cell_decides (cell.Text s) cell.Null = ((λ q. cc q), (λ e. cc e))
+cell_decides (cell.Text s) (cell.Int n) = ((λ q. cc q), (λ e. cc e))
+cell_decides (cell.Text s) (cell.Text t) = ((λ q. ap value.Text ((bytes_eq-Decides s.now t.now).0 q)), (λ e. (bytes_eq-Decides s.now t.now).1 (cc e)))
 
 -- values that are lent
 abbrev pub Key : Type 0
-Key = Vec (Bor Value) Global
+Key = Vec Cell Global
 
 abbrev pub shown : Key → List Value
-shown k = map (λ v. v.now) k.items
+shown k = map value_of k.items
 
 abbrev pub key_eq : Key → Key → Bool
-key_eq x y = pointwise (λ a b. (value_eq.ghosts).eq a.now b.now) x.items y.items
+key_eq x y = pointwise cell_eq.ghosts.eq x.items y.items
 
 and_true : (a b : Bool) → (a && b) ≡ true → (a ≡ true) × (b ≡ true)
 and_true true b e = (refl, e)
@@ -46,16 +49,16 @@ and_true false b e = cc e
 both_true : (a b : Bool) → a ≡ true → b ≡ true → (a && b) ≡ true
 both_true a b p q = rw (p, q) refl
 
-lists_decide : (xs ys : List (Bor Value)) → Decides (pointwise (λ a b. (value_eq.ghosts).eq a.now b.now) xs ys) (map (λ v. v.now) xs ≡ map (λ v. v.now) ys)
+lists_decide : (xs ys : List Cell) → Decides (pointwise cell_eq.ghosts.eq xs ys) (map value_of xs ≡ map value_of ys)
 lists_decide [] [] = ((λ t. refl), (λ e. refl))
 lists_decide [] (y ∷ ys) = ((λ t. cc t), (λ e. cc e))
 lists_decide (x ∷ xs) [] = ((λ t. cc t), (λ e. cc e))
 lists_decide (x ∷ xs) (y ∷ ys) =
-    let one = value_decides x.now y.now in
+    let one = cell_decides x y in
     let more = lists_decide xs ys in
-    let heads = (value_eq.ghosts).eq x.now y.now in
-    let tails = pointwise (λ a b. (value_eq.ghosts).eq a.now b.now) xs ys in (
-      (λ t. let p = and_true heads tails t in ap (λ (v : Value). v ∷ map (λ v. v.now) xs) (one.0 p.0) ∙ ap (λ (vs : List Value). y.now ∷ vs) (more.0 p.1)),
+    let heads = cell_eq.ghosts.eq x y in
+    let tails = pointwise cell_eq.ghosts.eq xs ys in (
+      (λ t. let p = and_true heads tails t in ap (λ (v : Value). v ∷ map value_of xs) (one.0 p.0) ∙ ap (λ (vs : List Value). value_of y ∷ vs) (more.0 p.1)),
       (λ e. both_true heads tails (one.1 (cc e)) (more.1 (cc e))),
     )
 
@@ -161,3 +164,9 @@ values_more places row i v vs lt at whole is clean =
     ap (λ (ps : List ℕ). values_at ps row) next ∙ map-append (λ p. slice_index_or row p value.Null) (take i places) (get_or places i 0 ∷ []) ∙ ap (λ (xs : List Value). xs ++ slice_index_or row (get_or places i 0) value.Null ∷ []) (sym is) ∙ ap (λ (x : Value). vs ++ x ∷ []) at in
     let before : list_any is_null vs ≡ false = rw is clean in
     (sym values, rw (values, list_any-append is_null vs (v ∷ []), before, whole) refl)
+
+-- a row is as wide as its table
+pub width_there : (width : ℕ) (rows : List Row) (i : ℕ) → HaveWidth width rows → i < length rows → length (slice_index_or rows i []) ≡ width
+width_there width [] i h lt = absurd (omega arith)
+width_there width (r ∷ rows) zero h lt = h.0
+width_there width (r ∷ rows) (suc i) h lt = width_there width rows i h.1 (omega arith)

@@ -1,4 +1,5 @@
 pub mod Bytes
+pub mod ColumnRows
 pub mod Decimals
 pub mod Fields
 pub mod Keys
@@ -8,3 +9,4 @@ pub mod Repeats
 pub mod Satisfies
 pub mod Steps
 pub mod TableAnswers
+pub mod TextPlaces

@@ -1,3 +1,4 @@
+pub mod Columns
 pub mod Databases
 pub mod Devices
 pub mod Faults
@@ -6,3 +7,4 @@ pub mod Parsing
 pub mod Reading
 pub mod Tables
 pub mod Tells
+pub mod Texts

@@ -1,6 +1,8 @@
 //! Tables loaded from CSV, and the database that they make up.
 #![tactic(auto)]
 
+mod cells;
+mod columns;
 pub mod database;
 pub mod fault;
 mod field;
@@ -10,6 +12,7 @@ pub mod source;
 pub mod table;
 #[cfg(test)]
 mod tests;
+mod texts;
 mod unique;
 
 pub use database::Database;

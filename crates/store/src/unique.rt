@@ -1,15 +1,18 @@
 //! Rows that repeat a unique list of an earlier row.
 
-ghost use Rattle.std.specs.Prelude.{◌≡◌, ◌≤◌, ◌<◌, true, false, map, length, IfOk, MatchOption};
+ghost use Rattle.std.specs.Prelude.{◌≡◌, ◌≤◌, ◌<◌, true, false, [], map, length, slice_index_or, IfOk, MatchOption};
 ghost use Rattle.std.specs.List.{list_any, AllByRecursion};
+ghost use Rattle.values.specs.Cells.{value_of};
 ghost use Rattle.values.specs.Truth as logic;
 ghost use Rattle.schema.specs.Databases.{values_at, IsUnique};
 ghost use Rattle.store.specs.Tables.{UniqueTo, RepeatsAt};
 ghost use Rattle.store.specs.Parsing.{EarliestRepeat};
 
+use crate::source::RowSource;
+use crate::table::Table;
 use std::alloc::{AllocError, Global};
 use std::collections::HashMap;
-use values::{Items, Value};
+use values::{Cell, Items};
 
 /// A row and the earlier one that it repeats, both from 0.
 #[derive(Clone, Copy, Debug, PartialEq, Eq)]
@@ -18,30 +21,34 @@ pub struct Repeat {
     pub earlier: usize,
 }
 
-fn is_null(value: &Value) -> bool
-    ensures { result ≡ logic.is_null value.now }
+fn is_null(cell: Cell<'_>) -> bool
+    ensures { result ≡ logic.is_null (value_of cell.entry) }
 {
-    matches!(value, Value::Null)
+    matches!(cell, Cell::Null)
 }
 
-/// The values at the places; none where one of them is Null.
-fn key_of<'r>(
+/// The values of a row at the places; none where one of them is Null.
+fn key_of<'t>(
     alloc: Global,
-    row: &'r [Value],
+    rows: &'t Table,
+    row: usize,
     places: &[usize],
-) -> Result<Option<Vec<&'r Value>>, AllocError>
-    ensures { IfOk result (λ o. MatchOption o (list_any logic.is_null (values_at places.now row.now) ≡ true)
-        (λ key. (map (λ v. v.now) key.items ≡ values_at places.now row.now) × (list_any logic.is_null (values_at places.now row.now) ≡ false))) }
+) -> Result<Option<Vec<Cell<'t>>>, AllocError>
+    requires { row < length rows.now }
+    ensures { IfOk result (λ o. MatchOption o (list_any logic.is_null (values_at places.now (slice_index_or rows.now row [])) ≡ true)
+        (λ key. (map value_of key.items ≡ values_at places.now (slice_index_or rows.now row [])) × (list_any logic.is_null (values_at places.now (slice_index_or rows.now row [])) ≡ false))) }
 {
     let mut key = Vec::with_capacity(alloc, places.len())?;
+    let width = rows.width();
     for place in places {
-        let Some(value) = row.get(*place) else {
-            return Ok(None);
-        };
-        if is_null(value) {
+        if width <= *place {
             return Ok(None);
         }
-        key.push(value)?;
+        let cell = rows.cell(row, *place);
+        if is_null(cell) {
+            return Ok(None);
+        }
+        key.push(cell)?;
     }
     Ok(Some(key))
 }
@@ -49,7 +56,7 @@ fn key_of<'r>(
 /// Of the first rows, as many as `limit`, the first that repeats an earlier one at the places.
 fn first_repeat(
     alloc: Global,
-    rows: &[Items<Value>],
+    rows: &Table,
     limit: usize,
     places: &[usize],
 ) -> Result<Option<Repeat>, AllocError>
@@ -59,7 +66,7 @@ fn first_repeat(
 {
     let mut seen = HashMap::new(alloc);
     for row in 0..limit {
-        let Some(key) = key_of(alloc, rows[row].as_slice(), places)? else {
+        let Some(key) = key_of(alloc, rows, row, places)? else {
             continue;
         };
         if let Some(earlier) = seen.insert(key, row)? {
@@ -72,7 +79,7 @@ fn first_repeat(
 /// The first row that repeats an earlier one on a unique list; of several lists it tells of the first.
 pub fn earliest_repeat(
     alloc: Global,
-    rows: &[Items<Value>],
+    rows: &Table,
     unique: &[Items<usize>],
 ) -> Result<Option<Repeat>, AllocError>
     ensures { IfOk result (λ o. MatchOption o (AllByRecursion (IsUnique rows.now) unique.now) (EarliestRepeat rows.now unique.now)) }
