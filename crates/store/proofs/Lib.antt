@@ -6,6 +6,7 @@ pub mod Keys
 pub mod Loads
 pub mod ReadRecords
 pub mod Repeats
+pub mod RowKeys
 pub mod Satisfies
 pub mod Steps
 pub mod TableAnswers

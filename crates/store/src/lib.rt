@@ -7,6 +7,7 @@ pub mod database;
 pub mod fault;
 mod field;
 pub mod input;
+mod key;
 mod records;
 pub mod source;
 pub mod table;

@@ -8,11 +8,12 @@ ghost use Rattle.schema.specs.Databases.{values_at, IsUnique};
 ghost use Rattle.store.specs.Tables.{UniqueTo, RepeatsAt};
 ghost use Rattle.store.specs.Parsing.{EarliestRepeat};
 
+use crate::key::key_of;
 use crate::source::RowSource;
 use crate::table::Table;
 use std::alloc::{AllocError, Global};
 use std::collections::HashMap;
-use values::{Cell, Items};
+use values::Items;
 
 /// A row and the earlier one that it repeats, both from 0.
 #[derive(Clone, Copy, Debug, PartialEq, Eq)]
@@ -21,44 +22,12 @@ pub struct Repeat {
     pub earlier: usize,
 }
 
-fn is_null(cell: Cell<'_>) -> bool
-    ensures { result ≡ logic.is_null (value_of cell.entry) }
-{
-    matches!(cell, Cell::Null)
-}
-
-/// The values of a row at the places; none where one of them is Null.
-fn key_of<'t>(
-    alloc: Global,
-    rows: &'t Table,
-    row: usize,
-    places: &[usize],
-) -> Result<Option<Vec<Cell<'t>>>, AllocError>
-    requires { row < length rows.now }
-    ensures { IfOk result (λ o. MatchOption o (list_any logic.is_null (values_at places.now (slice_index_or rows.now row [])) ≡ true)
-        (λ key. (map value_of key.items ≡ values_at places.now (slice_index_or rows.now row [])) × (list_any logic.is_null (values_at places.now (slice_index_or rows.now row [])) ≡ false))) }
-{
-    let mut key = Vec::with_capacity(alloc, places.len())?;
-    let width = rows.width();
-    for place in places {
-        if width <= *place {
-            return Ok(None);
-        }
-        let cell = rows.cell(row, *place);
-        if is_null(cell) {
-            return Ok(None);
-        }
-        key.push(cell)?;
-    }
-    Ok(Some(key))
-}
-
 /// Of the first rows, as many as `limit`, the first that repeats an earlier one at the places.
 fn first_repeat(
     alloc: Global,
     rows: &Table,
     limit: usize,
-    places: &[usize],
+    places: &Items<usize>,
 ) -> Result<Option<Repeat>, AllocError>
     requires { limit ≤ length rows.now }
     ensures { IfOk result (λ o. MatchOption o (UniqueTo limit rows.now places.now)
@@ -66,7 +35,7 @@ fn first_repeat(
 {
     let mut seen = HashMap::new(alloc);
     for row in 0..limit {
-        let Some(key) = key_of(alloc, rows, row, places)? else {
+        let Some(key) = key_of(rows, row, places) else {
             continue;
         };
         if let Some(earlier) = seen.insert(key, row)? {
@@ -87,7 +56,7 @@ pub fn earliest_repeat(
     let mut found = None;
     let mut limit = rows.len();
     for places in unique {
-        let Some(repeat) = first_repeat(alloc, rows, limit, places.as_slice())? else {
+        let Some(repeat) = first_repeat(alloc, rows, limit, places)? else {
             continue;
         };
         limit = repeat.row;
