@@ -6,6 +6,9 @@ use Rattle.schema.specs.Databases.{Row}
 use Rattle.binder.specs.Rows.{Tables, tables_of, value_at}
 use Rattle.logical.specs.Columns.{ColumnSet, has}
 use Rattle.logical.specs.Bags.{Env, Bag}
+use Rattle.checker.specs.Plans.{answer}
+use Rattle.checker.specs.Replay.{Accepted}
+use Rattle.executor.specs.AnswerText.{answer_text}
 use Rattle.executor.specs.declared.heading.Heading.{Heading}
 use Rattle.executor.specs.declared.condition.TableRow.{TableRow}
 use Rattle.executor.specs.declared.execution.TableRows.{TableRows}
@@ -36,6 +39,14 @@ found_rows (Some t) = table_rows t
 -- the tables of a database, as the meaning of queries sees them
 abbrev pub tables_in : Stored → Tables
 tables_in d = tables_of d.schema d.tables
+
+-- the rows that an accepted plan gives
+abbrev pub plan_rows : Accepted → Stored → List Row
+plan_rows a d = answer a.query (tables_in d) a.certificate.plan
+
+-- their text
+abbrev pub plan_text : Accepted → Stored → List ℕ
+plan_text a d = answer_text a.query.names (plan_rows a d)
 
 -- no class has a row
 abbrev pub no_classes : ℕ → Bag

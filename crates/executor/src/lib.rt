@@ -1,14 +1,16 @@
 //! Checked plans at work, and the text of the answer that they give.
 #![tactic(auto)]
 
+pub mod answer;
 mod condition;
+pub mod execution;
 mod heading;
 pub mod output;
-pub mod execution;
 #[cfg(test)]
 mod tests;
 pub mod text;
 
-pub use output::{AnswerOutput, CountedOutput, OutputFailed};
+pub use answer::write_answer;
 pub use execution::{Row, run};
+pub use output::{AnswerOutput, CountedOutput, OutputFailed};
 pub use text::{AnswerFault, write_rows};

@@ -3,7 +3,7 @@
 ghost use Rattle.std.specs.Prelude.{◌≡◌, ◌∷◌, [], ◌<◌, ◌+◌, ◌^◌, IfOk, length, map, Some};
 ghost use Rattle.std.specs.List.{AllByRecursion};
 ghost use Rattle.binder.specs.declared.query.Cond.{out-Cond};
-ghost use Rattle.binder.specs.Simple.{NumbersFit};
+ghost use Rattle.binder.specs.Simple as simple;
 ghost use Rattle.logical.specs.Frame as spec;
 
 use crate::columns::Columns;
@@ -15,7 +15,7 @@ use values::{Boxed, Items};
 
 /// The expressions that found the query's classes, each naming earlier ones. The last is the query's own.
 pub fn frame(alloc: Global, query: &Query) -> Result<Items<Expr>, AllocError>
-    requires { spec.IsSimple query.now }
+    requires { simple.IsSimple query.now }
     ensures lines { IfOk result (λ lines. lines ≡ spec.frame_of query.now) }
     ensures meaning { IfOk result (spec.MeansQuery query.now) }
 {
@@ -46,8 +46,8 @@ fn over_table(
     items: &[Item],
 ) -> Result<Items<Expr>, AllocError>
     requires room { table.now.first_column + length table.now.entry.columns < 2 ^ 64 }
-    requires simple { spec.IsSimpleFilter (length table.now.entry.columns) filter.now }
-    requires shown { AllByRecursion (spec.IsSimpleItem (length table.now.entry.columns)) items.now }
+    requires simple { simple.IsSimpleFilter (length table.now.entry.columns) filter.now }
+    requires shown { AllByRecursion (simple.IsSimpleItem (length table.now.entry.columns)) items.now }
     ensures { IfOk result (λ lines. lines ≡ spec.frame_over occurrence (Some table.now) filter.now items.now) }
 {
     let mut lines = Items::new(alloc);
@@ -66,7 +66,7 @@ fn over_table(
 /// The columns that the items show.
 fn output_columns(alloc: Global, table: &TableUse, items: &[Item]) -> Result<Columns, AllocError>
     requires room { table.now.first_column + length table.now.entry.columns < 2 ^ 64 }
-    requires shown { AllByRecursion (spec.IsSimpleItem (length table.now.entry.columns)) items.now }
+    requires shown { AllByRecursion (simple.IsSimpleItem (length table.now.entry.columns)) items.now }
     ensures { IfOk result (λ columns. columns ≡ spec.output_columns table.now items.now) }
 {
     let mut columns = Vec::new(alloc);
@@ -78,7 +78,7 @@ fn output_columns(alloc: Global, table: &TableUse, items: &[Item]) -> Result<Col
 
 fn item_column(table: &TableUse, item: Item) -> usize
     requires room { table.now.first_column + length table.now.entry.columns < 2 ^ 64 }
-    requires shown { spec.IsSimpleItem (length table.now.entry.columns) item }
+    requires shown { simple.IsSimpleItem (length table.now.entry.columns) item }
     ensures { result ≡ spec.item_column table.now item }
 {
     match item {
@@ -90,7 +90,7 @@ fn item_column(table: &TableUse, item: Item) -> usize
 /// The conjuncts of a WHERE.
 fn conjuncts_of(alloc: Global, table: &TableUse, condition: &Cond) -> Result<Conjuncts, AllocError>
     requires room { table.now.first_column + length table.now.entry.columns < 2 ^ 64 }
-    requires simple { spec.IsComparison (length table.now.entry.columns) (out-Cond condition.now) }
+    requires simple { simple.IsComparison (length table.now.entry.columns) (out-Cond condition.now) }
     ensures { IfOk result (λ conjuncts. conjuncts ≡ spec.conjuncts_of table.now (out-Cond condition.now)) }
 {
     match condition {
@@ -106,7 +106,7 @@ fn conjuncts_of(alloc: Global, table: &TableUse, condition: &Cond) -> Result<Con
 /// The term with its column's number in place of its place in the table.
 fn term_of(alloc: Global, table: &TableUse, term: &binder::Term) -> Result<Term, AllocError>
     requires room { table.now.first_column + length table.now.entry.columns < 2 ^ 64 }
-    requires simple { spec.TermWithin (length table.now.entry.columns) term.now }
+    requires simple { simple.TermWithin (length table.now.entry.columns) term.now }
     ensures { IfOk result (λ t. t ≡ spec.term_of table.now term.now) }
 {
     match term {

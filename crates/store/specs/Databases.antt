@@ -11,6 +11,10 @@ pub record Stored : Type 0 where
   pub schema : Schema
   pub tables : Database
 
+-- some rows take the place of those of the table with this number
+abbrev pub ReplacesTable : Stored → Stored → ℕ → Type 0
+ReplacesTable old new n = (rows : List Row) × (new ≡ record { schema = old.schema; tables = slice_set old.tables n rows })
+
 -- the records of a table's file are loaded: the rows that they tell take the place of the old ones, or their first fault is told
 abbrev pub LoadsTable : Stored → Stored → ℕ → Table → List Record → Result (Unit {0}) TableFault → Type 0
 LoadsTable old new n t records (Ok x) = (rows : List Row) × IsTold t records (Ok rows) × (new ≡ record { schema = old.schema; tables = slice_set old.tables n rows })

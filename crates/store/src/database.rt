@@ -6,7 +6,7 @@ ghost use Rattle.schema.specs.Databases.{Satisfies};
 ghost use Rattle.store.specs.declared.fault.TableFault.TheVariants as faults;
 ghost use Rattle.store.specs.Devices.{Rose};
 ghost use Rattle.store.specs.Parsing.{ReadsTable};
-ghost use Rattle.store.specs.Databases.{Loads};
+ghost use Rattle.store.specs.Databases.{Loads, ReplacesTable};
 
 use crate::columns::Columns;
 use crate::fault::{TableCause, TableFault, TableRefusal};
@@ -114,6 +114,7 @@ impl<'s> Database<'s> {
     ) -> Result<(), TableFault>
         requires { table < length self.old.tables }
         ensures exact { IfSome (R.remaining input.old) (λ bytes. Loads self.old self.new table (records default_config (strip_bom bytes)) result) }
+        ensures replaced { OnOk result (ReplacesTable self.old self.new table) }
         ensures schema { self.new.schema ≡ self.old.schema }
         ensures size { length self.new.tables ≡ length self.old.tables }
         ensures err { OnErr result (self.new ≡ self.old) }

@@ -28,3 +28,6 @@ returns-clause-exact g c =
     let at = rw (ap (λ (s : Stored). s.schema) c.self.view_is) at c.entry_of-entry.ensures in
     loads_rows (g.R.TableInput.remaining c.args.input.now) c.in-Ok.bytes.items (λ (bytes : List ℕ). records default_config (strip_bom bytes)) c.args.self.now _ c.args.table c.entry_of-entry.result.now c.in_ok-loaded.loaded
     c.in-Ok.ensures.bytes at c.in_ok-loaded.ensures (ap (λ (s : Stored). let n : Stored = record { schema = s.schema; tables = set s.tables c.args.table c.in_ok-loaded.loaded } in n) c.self.view_is)
+
+pub returns-clause-replaced : goal.returns-clause-replaced
+returns-clause-replaced g c = (c.in_ok-loaded.loaded, ap (λ (s : Stored). let n : Stored = record { schema = s.schema; tables = set s.tables c.args.table c.in_ok-loaded.loaded } in n) c.self.view_is)

@@ -1,0 +1,37 @@
+//! The answer of a checked plan, from its tables to its text.
+
+ghost use Rattle.std.specs.Prelude.{◌≡◌, ◌≢◌, IsErrAnd, OnOk, OnErr};
+ghost use Rattle.std.specs.Io.KnownBytes.{Appends};
+ghost use Rattle.binder.specs.Answer.{IsAnswer};
+ghost use Rattle.binder.specs.Simple.{IsSimple};
+ghost use Rattle.store.specs.Devices.{Rose};
+ghost use Rattle.executor.specs.AnswerText.{HasFront};
+ghost use Rattle.executor.specs.Execution.{tables_in, plan_rows, plan_text};
+
+use crate::execution::run;
+use crate::output::AnswerOutput;
+use crate::text::{AnswerFault, write_rows};
+use checker::Checked;
+use std::alloc::Global;
+use store::Database;
+use values::Fault;
+
+/// Writes the answer that a checked plan gives.
+pub fn write_answer<W: AnswerOutput>(
+    alloc: Global,
+    checked: &Checked<'_>,
+    database: &Database<'_>,
+    out: &mut W,
+) -> Result<(), AnswerFault>
+    requires simple { IsSimple checked.now.query }
+    requires schema { database.now.schema ≡ checked.now.schema }
+    ensures ok { OnOk result (Appends (W.contents out.old) (W.contents out.new) (plan_text checked.now database.now)) }
+    // After a fault a beginning of the text has been written.
+    ensures front { OnErr result (HasFront (W.contents out.old) (W.contents out.new) (plan_text checked.now database.now)) }
+    // These rows are an answer of the query.
+    ensures answer { OnOk result (IsAnswer checked.now.query (tables_in database.now) (plan_rows checked.now database.now)) }
+    ensures device { IsErrAnd result (λ e. e ≢ Fault.Memory) → Rose (W.failures out.old) (W.failures out.new) }
+{
+    let rows = run(alloc, checked, database)?;
+    write_rows(alloc, checked.query(), rows.as_slice(), out)
+}
