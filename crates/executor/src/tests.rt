@@ -2,20 +2,30 @@
 
 use crate::condition::TableRow;
 use crate::heading::Heading;
-use store::Table;
+use schema::{Schema, SchemaFault};
+use store::{CountedInput, Database};
 use logical::{Columns, Condition, Term};
 use std::alloc::{AllocError, Global};
 use std::test::Fail;
 use values::{Boxed, Cell, Comparison, Items, Truth, Value};
 
-/// A table with the one row `1, NULL`.
-fn table(alloc: Global) -> Result<Table, AllocError> {
-    let mut row = Items::new(alloc);
-    row.push(Value::Int(1))?;
-    row.push(Value::Null)?;
-    let mut rows = Items::new(alloc);
-    rows.push(row)?;
-    Ok(Table::new(2, rows))
+/// The schema of a table with two columns.
+fn schema(alloc: Global) -> Result<Schema, SchemaFault> {
+    let text = r#"{"tables":[{"name":"t","columns":[{"name":"a","kind":"INT","not_null":true},{"name":"b","kind":"INT","not_null":false}],"unique":[],"indexes":[]}]}"#;
+    Schema::read(alloc, text.as_bytes())
+}
+
+/// Its table with the one row `1, NULL`.
+fn database<'s>(alloc: Global, schema: &'s Schema) -> Result<Option<Database<'s>>, AllocError> {
+    let mut database = Database::new(alloc, schema)?;
+    if database.tables().len() == 0 {
+        return Ok(None);
+    }
+    let mut input = CountedInput::new(b"a,b\n1,\\N\n".as_slice());
+    match database.load(alloc, 0, &mut input) {
+        Ok(()) => Ok(Some(database)),
+        Err(_) => Ok(None),
+    }
 }
 
 /// True at the row.
@@ -78,10 +88,12 @@ fn cases(alloc: Global) -> Result<Vec<(Condition, Truth)>, AllocError> {
 #[test]
 fn conditions_have_three_truths(rt: HostRuntime) -> Result<(), Fail> {
     let alloc = rt.alloc();
-    let table = table(alloc)?;
+    let schema = schema(alloc).expect(&rt, "a schema");
+    let database = database(alloc, &schema)?.expect(&rt, "a table");
+    let table = database.tables().get(0).expect(&rt, "a table");
     let heading = Heading::new(alloc, 3, 2);
     let row = TableRow {
-        table: &table,
+        table,
         row: 0,
         heading: &heading,
     };
@@ -98,7 +110,9 @@ fn conditions_have_three_truths(rt: HostRuntime) -> Result<(), Fail> {
 #[test]
 fn a_cut_leaves_columns_out(rt: HostRuntime) -> Result<(), Fail> {
     let alloc = rt.alloc();
-    let table = table(alloc)?;
+    let schema = schema(alloc).expect(&rt, "a schema");
+    let database = database(alloc, &schema)?.expect(&rt, "a table");
+    let table = database.tables().get(0).expect(&rt, "a table");
     let mut heading = Heading::new(alloc, 3, 2);
     for (column, place) in [(2, None), (3, Some(0)), (4, Some(1)), (5, None)] {
         assert_eq!(rt; heading.place_of(column), place, "at {column}");
@@ -112,7 +126,7 @@ fn a_cut_leaves_columns_out(rt: HostRuntime) -> Result<(), Fail> {
         );
     }
     let row = TableRow {
-        table: &table,
+        table,
         row: 0,
         heading: &heading,
     };

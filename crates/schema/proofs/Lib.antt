@@ -2,4 +2,5 @@ pub mod Json
 pub mod Keys
 pub mod Loops
 pub mod Schemas
+pub mod Spelled
 pub mod Steps

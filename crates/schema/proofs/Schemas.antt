@@ -11,17 +11,17 @@ use Rattle.schema.specs.declared.fault.SchemaRefusal.TheVariants.{Shape, Unknown
 use Rattle.schema.specs.declared.schema.Column.{Column}
 use Rattle.schema.specs.declared.schema.Table.{Table}
 use Rattle.schema.specs.declared.entries.TableEntry.{TableEntry}
-use Rattle.schema.specs.Each.{each}
+use Rattle.schema.specs.Each.{each, Pairs}
 use Rattle.schema.specs.Names.{Name, is_name, are_different}
 use Rattle.schema.specs.Entries.{wanted, json_in, keys_in, field_in, flag_in, kind_in, name_in, names_in, column_in, columns_in, lists_in, table_in, entries_in, some_of, items_in}
 use Rattle.schema.specs.Limits.{is_short, lists_are_few, parts_are_few, are_few, lists_differ, parts_differ, names_differ}
 use Rattle.schema.specs.Places.{place_in, places_in, placed}
 use Rattle.schema.specs.Schemas.{AreDifferent, IsColumnList, AreLists, IsTable, IsSchema}
-use Rattle.schema.proofs.Steps.{bind_ok, wanted_ok, wanted_if_ok, both, Pairs, each_ok, pairs_length, pairs_at, pairs_right, place_ok, name_at, different_ok}
+use Rattle.schema.proofs.Steps.{bind_ok, wanted_ok, wanted_if_ok, both, each_ok, pairs_length, pairs_at, pairs_right, place_ok, name_at, different_ok}
 
 -- ---- entries
 
-some_ok : {A : Type 0} (xs ys : List A) → some_of xs ≡ Ok ys → (0 < length xs) × (xs ≡ ys)
+pub some_ok : {A : Type 0} (xs ys : List A) → some_of xs ≡ Ok ys → (0 < length xs) × (xs ≡ ys)
 some_ok [] ys e = cc e
 some_ok (x ∷ xs) ys e = let z : (suc (length xs) == 0) ≡ false = grind (arith, nat_tests) in (omega arith, cc (rw z at e))
 
@@ -141,13 +141,13 @@ are_lists columns lists places e some few differ =
 
 -- ---- tables
 
-record IsPlaced (t : TableEntry) (u : Table) : Type 0 where
-  name_is : t.name ≡ u.name
-  columns_are : t.columns ≡ u.columns
-  unique_is : each (places_in t.columns) t.unique ≡ Ok u.unique
-  indexes_are : each (places_in t.columns) t.indexes ≡ Ok u.indexes
+pub record IsPlaced (t : TableEntry) (u : Table) : Type 0 where
+  pub name_is : t.name ≡ u.name
+  pub columns_are : t.columns ≡ u.columns
+  pub unique_is : each (places_in t.columns) t.unique ≡ Ok u.unique
+  pub indexes_are : each (places_in t.columns) t.indexes ≡ Ok u.indexes
 
-placed_ok : (t : TableEntry) (u : Table) → placed t ≡ Ok u → IsPlaced t u
+pub placed_ok : (t : TableEntry) (u : Table) → placed t ≡ Ok u → IsPlaced t u
 unfolding placed
 placed_ok t u e =
     let (unique, p0, q0) = bind_ok (each (places_in t.columns) t.unique) _ u e in

@@ -7,7 +7,7 @@ use Rattle.std.proofs.lemmas.List.Sums.{fails_before_first, passes_at_first}
 use Rattle.std.specs.List.{AllByRecursion, list_all, position, position_or_len}
 use Rattle.std.specs.Option.{is_none}
 use Rattle.values.specs.Faults.{◌>>=◌, wanted, wanted_if}
-use Rattle.schema.specs.Each.{each}
+use Rattle.schema.specs.Each.{each, Pairs}
 use Rattle.schema.specs.Names.{Name, place_of, are_different}
 use Rattle.schema.specs.Schemas.{AreDifferent}
 
@@ -36,13 +36,6 @@ all_map f [] h = tt
 all_map f (x ∷ xs) h = (f x h.0, all_map f xs h.1)
 
 -- ---- items that were read one after the other
-
--- R holds of the items of two lists, place by place
-abbrev pub Pairs : {A B : Type 0} → (A → B → Type 0) → List A → List B → Type 0
-Pairs R [] [] = Unit {0}
-Pairs R [] (y ∷ ys) = ⊥
-Pairs R (x ∷ xs) [] = ⊥
-Pairs R (x ∷ xs) (y ∷ ys) = R x y × Pairs R xs ys
 
 pub each_ok : {A B R : Type 0} (f : A → Result B R) (xs : List A) (ys : List B) → each f xs ≡ Ok ys → Pairs (λ x y. f x ≡ Ok y) xs ys
 unfolding each

@@ -7,3 +7,4 @@ pub mod Places
 pub mod Reading
 pub mod Refusals
 pub mod Schemas
+pub mod Spelling

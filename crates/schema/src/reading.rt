@@ -4,6 +4,7 @@ ghost use Rattle.std.specs.Prelude.{IfOk};
 ghost use Rattle.values.specs.Faults.{Gives};
 ghost use Rattle.schema.specs.Reading.{schema_of};
 ghost use Rattle.schema.specs.Schemas.{IsSchema};
+ghost use Rattle.schema.specs.Spelling.{IsSchemaText};
 
 use crate::each::each;
 use crate::entries::entries_of;
@@ -19,6 +20,7 @@ impl Schema {
     pub fn read(alloc: Global, bytes: &[u8]) -> Result<Schema, SchemaFault>
         ensures exact { Gives (λ x. x) result (schema_of bytes.now) }
         ensures schema { IfOk result IsSchema }
+        ensures spelt { IfOk result (IsSchemaText bytes.now) }
     {
         let entries = entries_of(alloc, bytes)?;
         if !are_few(entries.as_slice()) {

@@ -252,3 +252,26 @@ fn sizes_are_bounded(rt: HostRuntime) -> Result<(), Fail> {
     assert_eq!(rt; told(alloc, twice.as_bytes()), "S03");
     Ok(())
 }
+
+/// Each text has two faults, of which the first code in the order S01, S02, S05, S03, S04 is told.
+#[test]
+fn the_first_code_is_told(rt: HostRuntime) -> Result<(), Fail> {
+    let alloc = rt.alloc();
+    let long = r#"["a","b","a","b","a","b","a","b","a"]"#;
+    let cases = [
+        (r#"[["A"]]"#, "[}", "S01"),
+        (r#"[["A"]]"#, long, "S02"),
+        (r#"[["a","a"]]"#, r#"[["A"]]"#, "S02"),
+        (r#"[["c"]]"#, r#"[["A"]]"#, "S02"),
+        (r#"[["a","a"]]"#, r#"[["b","a","b","a","b","a","b","a","b"]]"#, "S05"),
+        (r#"[["c","b","c","b","c","b","c","b","c"]]"#, "[]", "S05"),
+        (r#"[["c"]]"#, r#"[["a","a"]]"#, "S03"),
+        (r#"[["c","c"]]"#, "[]", "S03"),
+        (r#"[["c"]]"#, r#"[["a"]]"#, "S04"),
+    ];
+    for (unique, indexes, code) in cases {
+        let text = with_lists(alloc, unique, indexes)?;
+        assert_eq!(rt; told(alloc, text.as_bytes()), code, "{unique} {indexes}");
+    }
+    Ok(())
+}

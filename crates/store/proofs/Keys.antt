@@ -7,70 +7,22 @@ use Rattle.std.proofs.lemmas.List.{map-append}
 use Rattle.std.proofs.lemmas.List.Folds.{list_any-append}
 use Rattle.std.proofs.Math.Bool.{or-true}
 use Rattle.std.proofs.Math.Seq.{take-suc}
-use lib.Pointwise.{pointwise}
-use Rattle.std.specs.Bool.{Decides}
-use Rattle.std.proofs.lemmas.Bool.Decides.{Decides-int_eq}
-use Rattle.std.proofs.lemmas.Slice.Eq.{bytes_eq-Decides}
 use Rattle.values.specs.declared.value.Value.{Value}
 use Rattle.values.specs.declared.value.Value.TheVariants as value
 use Rattle.values.specs.Truth.{is_null}
-use Rattle.schema.specs.Databases.{Row, values_at}
+use Rattle.schema.specs.Databases.{Row, HaveWidth, values_at}
+use Rattle.store.specs.Keys.{key_eq, key_decides}
 use Rattle.store.specs.Tables.{UniqueTo, RepeatsAt}
-use Rattle.values.specs.contracts.value.ValuePartialEq.TheImpl as value_eq
-
-pub value_decides : (a b : Value) → Decides (value_eq.ghosts.eq a b) (a ≡ b)
-value_decides value.Null value.Null = ((λ t. refl), (λ e. refl))
-value_decides value.Null (value.Int n) = ((λ t. cc t), (λ e. cc e))
-value_decides value.Null (value.Text t) = ((λ q. cc q), (λ e. cc e))
-value_decides (value.Int m) value.Null = ((λ q. cc q), (λ e. cc e))
-value_decides (value.Int m) (value.Int n) = ((λ q. ap value.Int ((Decides-int_eq m n).0 q)), (λ e. (Decides-int_eq m n).1 (cc e)))
-value_decides (value.Int m) (value.Text t) = ((λ q. cc q), (λ e. cc e))
-value_decides (value.Text s) value.Null = ((λ q. cc q), (λ e. cc e))
-value_decides (value.Text s) (value.Int n) = ((λ q. cc q), (λ e. cc e))
-value_decides (value.Text s) (value.Text t) = ((λ q. ap value.Text ((bytes_eq-Decides s t).0 q)), (λ e. (bytes_eq-Decides s t).1 (cc e)))
-
--- values that are lent
-abbrev pub Key : Type 0
-Key = Vec (Bor Value) Global
-
-abbrev pub shown : Key → List Value
-shown k = map (λ v. v.now) k.items
-
-abbrev pub key_eq : Key → Key → Bool
-key_eq x y = pointwise (λ a b. (value_eq.ghosts).eq a.now b.now) x.items y.items
-
-and_true : (a b : Bool) → (a && b) ≡ true → (a ≡ true) × (b ≡ true)
-and_true true b e = (refl, e)
-and_true false b e = cc e
-
-both_true : (a b : Bool) → a ≡ true → b ≡ true → (a && b) ≡ true
-both_true a b p q = rw (p, q) refl
-
-lists_decide : (xs ys : List (Bor Value)) → Decides (pointwise (λ a b. (value_eq.ghosts).eq a.now b.now) xs ys) (map (λ v. v.now) xs ≡ map (λ v. v.now) ys)
-lists_decide [] [] = ((λ t. refl), (λ e. refl))
-lists_decide [] (y ∷ ys) = ((λ t. cc t), (λ e. cc e))
-lists_decide (x ∷ xs) [] = ((λ t. cc t), (λ e. cc e))
-lists_decide (x ∷ xs) (y ∷ ys) =
-    let one = value_decides x.now y.now in
-    let more = lists_decide xs ys in
-    let heads = (value_eq.ghosts).eq x.now y.now in
-    let tails = pointwise (λ a b. (value_eq.ghosts).eq a.now b.now) xs ys in (
-      (λ t. let p = and_true heads tails t in ap (λ (v : Value). v ∷ map (λ v. v.now) xs) (one.0 p.0) ∙ ap (λ (vs : List Value). y.now ∷ vs) (more.0 p.1)),
-      (λ e. both_true heads tails (one.1 (cc e)) (more.1 (cc e))),
-    )
-
-pub keys_decide : (x y : Key) → Decides (key_eq x y) (shown x ≡ shown y)
-keys_decide x y = lists_decide x.items y.items
 
 -- the map has the keys of the first i rows, those with a Null apart, each with its row's number, and no two are the same
-pub record IsSeen {S : Type 0} (rows : List Row) (places : List ℕ) (i : ℕ) (seen : HashMap Key ℕ S) : Type 0 where
+pub record IsSeen {S : Type 0} (rows : List Row) (places : List ℕ) (i : ℕ) (seen : HashMap Row ℕ S) : Type 0 where
   pub unique : UniqueTo i rows places
-  pub known : (k : Key) (e : ℕ) → hash.get key_eq seen k ≡ Some e
-      → (e < i) × (list_any is_null (values_at places (slice_index_or rows e [])) ≡ false) × (values_at places (slice_index_or rows e []) ≡ shown k)
-  pub kept : (k : Key) (e : ℕ) → e < i → list_any is_null (values_at places (slice_index_or rows e [])) ≡ false
-      → values_at places (slice_index_or rows e []) ≡ shown k → hash.get key_eq seen k ≡ None → ⊥
+  pub known : (k : Row) (e : ℕ) → hash.get key_eq seen k ≡ Some e
+      → (e < i) × (list_any is_null (values_at places (slice_index_or rows e [])) ≡ false) × (values_at places (slice_index_or rows e []) ≡ k)
+  pub kept : (k : Row) (e : ℕ) → e < i → list_any is_null (values_at places (slice_index_or rows e [])) ≡ false
+      → values_at places (slice_index_or rows e []) ≡ k → hash.get key_eq seen k ≡ None → ⊥
 
-pub none_seen : {S : Type 0} (rows : List Row) (places : List ℕ) (m : HashMap Key ℕ S) → hash.IsEmpty m → IsSeen rows places 0 m
+pub none_seen : {S : Type 0} (rows : List Row) (places : List ℕ) (m : HashMap Row ℕ S) → hash.IsEmpty m → IsSeen rows places 0 m
 none_seen rows places m e = record {
   unique = λ i j lt low whole same. omega arith;
   known = λ k e' at. let none : hash.get key_eq m k ≡ None = rw e refl in cc (none, at);
@@ -81,7 +33,7 @@ below_or_last : (e i : ℕ) → e < i + 1 → (e < i) ⊎ (e ≡ i)
 below_or_last e i h = grind arith
 
 -- a row with a Null in its key
-pub null_seen : {S : Type 0} (rows : List Row) (places : List ℕ) (i : ℕ) (m : HashMap Key ℕ S) → IsSeen rows places i m
+pub null_seen : {S : Type 0} (rows : List Row) (places : List ℕ) (i : ℕ) (m : HashMap Row ℕ S) → IsSeen rows places i m
     → list_any is_null (values_at places (slice_index_or rows i [])) ≡ true → IsSeen rows places (i + 1) m
 null_seen rows places i m h null = record {
   unique = λ a b lt low whole same.
@@ -98,17 +50,17 @@ null_seen rows places i m h null = record {
 }
 
 -- a row whose key was seen
-pub again_seen : {S : Type 0} (rows : List Row) (places : List ℕ) (i e : ℕ) (m : HashMap Key ℕ S) (k : Key) → IsSeen rows places i m
-    → hash.get key_eq m k ≡ Some e → shown k ≡ values_at places (slice_index_or rows i []) → RepeatsAt rows i e places
+pub again_seen : {S : Type 0} (rows : List Row) (places : List ℕ) (i e : ℕ) (m : HashMap Row ℕ S) (k : Row) → IsSeen rows places i m
+    → hash.get key_eq m k ≡ Some e → k ≡ values_at places (slice_index_or rows i []) → RepeatsAt rows i e places
 again_seen rows places i e m k h at is = let r = h.known k e at in record { below = r.0; whole = r.1; same = r.2 ∙ is }
 
-known_more : (rows : List Row) (places : List ℕ) (i e : ℕ) (k q : Key) (old now : Option ℕ) (same : Bool) → key_eq k q ≡ same
-    → (old ≡ Some e → (e < i) × (list_any is_null (values_at places (slice_index_or rows e [])) ≡ false) × (values_at places (slice_index_or rows e []) ≡ shown q))
-    → now ≡ cond same (Some i) old → now ≡ Some e → shown k ≡ values_at places (slice_index_or rows i []) → list_any is_null (values_at places (slice_index_or rows i [])) ≡ false
-    → (e < i + 1) × (list_any is_null (values_at places (slice_index_or rows e [])) ≡ false) × (values_at places (slice_index_or rows e []) ≡ shown q)
+known_more : (rows : List Row) (places : List ℕ) (i e : ℕ) (k q : Row) (old now : Option ℕ) (same : Bool) → key_eq k q ≡ same
+    → (old ≡ Some e → (e < i) × (list_any is_null (values_at places (slice_index_or rows e [])) ≡ false) × (values_at places (slice_index_or rows e []) ≡ q))
+    → now ≡ cond same (Some i) old → now ≡ Some e → k ≡ values_at places (slice_index_or rows i []) → list_any is_null (values_at places (slice_index_or rows i [])) ≡ false
+    → (e < i + 1) × (list_any is_null (values_at places (slice_index_or rows e [])) ≡ false) × (values_at places (slice_index_or rows e []) ≡ q)
 known_more rows places i e k q old now true t before step at is whole =
     let here : i ≡ e = cc (step, at) in
-    let shows : values_at places (slice_index_or rows i []) ≡ shown q = sym is ∙ (keys_decide k q).0 t in
+    let shows : values_at places (slice_index_or rows i []) ≡ q = sym is ∙ (key_decides k q).0 t in
     (omega arith, ap (λ (j : ℕ). list_any is_null (values_at places (slice_index_or rows j []))) (sym here) ∙ whole, ap (λ (j : ℕ). values_at places (slice_index_or rows j [])) (sym here) ∙ shows)
 known_more rows places i e k q old now false t before step at is whole = let r = before (sym step ∙ at) in (omega (arith, r.0), r.1, r.2)
 
@@ -117,8 +69,8 @@ kept_below i old now true before step at = cc (step, at)
 kept_below i old now false before step at = before (sym step ∙ at)
 
 -- a row whose key is new
-pub new_seen : {S : Type 0} (rows : List Row) (places : List ℕ) (i : ℕ) (m n : HashMap Key ℕ S) (k : Key) → IsSeen rows places i m
-    → hash.get key_eq m k ≡ None → shown k ≡ values_at places (slice_index_or rows i []) → list_any is_null (values_at places (slice_index_or rows i [])) ≡ false
+pub new_seen : {S : Type 0} (rows : List Row) (places : List ℕ) (i : ℕ) (m n : HashMap Row ℕ S) (k : Row) → IsSeen rows places i m
+    → hash.get key_eq m k ≡ None → k ≡ values_at places (slice_index_or rows i []) → list_any is_null (values_at places (slice_index_or rows i [])) ≡ false
     → hash.Updates key_eq m n k (Some i) → IsSeen rows places (i + 1) n
 new_seen rows places i m n k h fresh is whole up = record {
   unique = λ a b lt low clean same.
@@ -131,7 +83,7 @@ new_seen rows places i m n k h fresh is whole up = record {
       elim (below_or_last e i low) [
         | inl below ↦ kept_below i (hash.get key_eq m q) (hash.get key_eq n q) (key_eq k q) (h.kept q e below clean same) (up.0 q) at
         | inr last ↦
-            let eq : key_eq k q ≡ true = (keys_decide k q).1 (is ∙ ap (λ (j : ℕ). values_at places (slice_index_or rows j [])) (sym last) ∙ same) in
+            let eq : key_eq k q ≡ true = (key_decides k q).1 (is ∙ ap (λ (j : ℕ). values_at places (slice_index_or rows j [])) (sym last) ∙ same) in
             let now : hash.get key_eq n q ≡ Some i = rw eq at (up.0 q) in
             cc (now, at)
       ];
@@ -161,3 +113,9 @@ values_more places row i v vs lt at whole is clean =
     ap (λ (ps : List ℕ). values_at ps row) next ∙ map-append (λ p. slice_index_or row p value.Null) (take i places) (get_or places i 0 ∷ []) ∙ ap (λ (xs : List Value). xs ++ slice_index_or row (get_or places i 0) value.Null ∷ []) (sym is) ∙ ap (λ (x : Value). vs ++ x ∷ []) at in
     let before : list_any is_null vs ≡ false = rw is clean in
     (sym values, rw (values, list_any-append is_null vs (v ∷ []), before, whole) refl)
+
+-- a row is as wide as its table
+pub width_there : (width : ℕ) (rows : List Row) (i : ℕ) → HaveWidth width rows → i < length rows → length (slice_index_or rows i []) ≡ width
+width_there width [] i h lt = absurd (omega arith)
+width_there width (r ∷ rows) zero h lt = h.0
+width_there width (r ∷ rows) (suc i) h lt = width_there width rows i h.1 (omega arith)

@@ -1,10 +1,13 @@
 pub mod Bytes
+pub mod ColumnRows
 pub mod Decimals
 pub mod Fields
 pub mod Keys
 pub mod Loads
 pub mod ReadRecords
 pub mod Repeats
+pub mod RowKeys
 pub mod Satisfies
 pub mod Steps
 pub mod TableAnswers
+pub mod TextPlaces

@@ -5,7 +5,9 @@ use Rattle.std.proofs.lemmas.List.{map-append}
 use Rattle.csv.specs.Records.{field_at}
 use Rattle.values.specs.declared.value.Value.{Value}
 use Rattle.schema.specs.declared.schema.Column.{Column}
-use Rattle.schema.specs.Databases.{Row, FitsColumns, most_rows}
+use Rattle.values.specs.declared.value.Value.TheVariants as value
+use Rattle.schema.specs.Databases.{Row, FitsColumn, FitsColumns, most_rows}
+use Rattle.store.specs.Columns.{Takes, TakeRow}
 use Rattle.store.specs.declared.fault.FieldFault.{FieldFault}
 use Rattle.store.specs.declared.fault.TableCause.{TableCause}
 use Rattle.store.specs.declared.fault.TableCause.TheVariants.{OtherHeader, OtherLength, Field, Repeated, TooMany}
@@ -162,3 +164,17 @@ stands_next cs fs i vs c v f lt at here so_far more =
 pub after_header : {E : Type 0} (cs : List Column) (all rest : List Record) (r : Result Parsed E) → all ≡ names_of cs ∷ rest → IfOk r (Parses cs rest) → IfOk r (ParsesFile cs all)
 after_header cs all rest (Ok p) e h = inl (rest, e, h)
 after_header cs all rest (Err x) e h = tt
+
+takes : (c : Column) (v : Value) → FitsColumn c v → Takes c.kind v
+takes c value.Null h = tt
+takes c (value.Int n) h = h
+takes c (value.Text t) h = h
+
+-- a row that stands for a record can be kept
+pub take_row : (cs : List Column) (fs : Record) (vs : Row) → StandFor cs fs vs → TakeRow (map (λ c. c.kind) cs) vs
+take_row [] [] [] h = tt
+take_row [] [] (v ∷ vs) h = absurd h
+take_row [] (f ∷ fs) vs h = absurd h
+take_row (c ∷ cs) [] vs h = absurd h
+take_row (c ∷ cs) (f ∷ fs) [] h = absurd h
+take_row (c ∷ cs) (f ∷ fs) (v ∷ vs) h = (takes c v h.0.fits, take_row cs fs vs h.1)

@@ -1,8 +1,11 @@
+pub mod Columns
 pub mod Databases
 pub mod Devices
 pub mod Faults
+pub mod Keys
 pub mod Numbers
 pub mod Parsing
 pub mod Reading
 pub mod Tables
 pub mod Tells
+pub mod Texts

@@ -8,6 +8,7 @@ ghost use Rattle.store.specs.Devices.{Rose};
 ghost use Rattle.store.specs.Parsing.{ReadsTable};
 ghost use Rattle.store.specs.Databases.{Loads, ReplacesTable};
 
+use crate::columns::Columns;
 use crate::fault::{TableCause, TableFault, TableRefusal};
 use crate::input::{InputFault, TableInput, read_all};
 use crate::records::parse;
@@ -36,14 +37,16 @@ impl<'s> Model for Database<'s> {
 }
 
 /// The table whose file the bytes are.
-fn table_of(alloc: Global, entry: &schema::Table, bytes: &[u8]) -> Result<Table, TableFault>
-    ensures { ReadsTable entry.now (records default_config (strip_bom bytes.now)) result }
+fn table_of(alloc: Global, entry: &schema::Table, bytes: Vec<u8>) -> Result<Table, TableFault>
+    ensures { ReadsTable entry.now (records default_config (strip_bom bytes.items)) result }
 {
     let columns = entry.columns.as_slice();
-    let Ok(parsed) = parse(alloc, columns, bytes) else {
+    let Ok(parsed) = parse(alloc, columns, bytes.as_slice()) else {
         return Err(TableFault::Memory);
     };
-    let Ok(found) = earliest_repeat(alloc, parsed.rows.as_slice(), entry.unique.as_slice()) else {
+    // The table has what it needs of the file, and the keys of the unique lists take its room.
+    drop(bytes);
+    let Ok(found) = earliest_repeat(alloc, &parsed.rows, entry.unique.as_slice()) else {
         return Err(TableFault::Memory);
     };
     if let Some(repeat) = found {
@@ -54,7 +57,7 @@ fn table_of(alloc: Global, entry: &schema::Table, bytes: &[u8]) -> Result<Table,
     }
     match parsed.fault {
         Some(refusal) => Err(TableFault::Refused(refusal)),
-        None => Ok(Table::new(columns.len(), parsed.rows)),
+        None => Ok(parsed.rows),
     }
 }
 
@@ -73,7 +76,8 @@ impl<'s> Database<'s> {
     {
         let mut tables = Vec::new(alloc);
         for entry in schema.tables.as_slice() {
-            tables.push(Table::empty(alloc, entry.columns.len()))?;
+            let columns = Columns::new(alloc, entry.columns.as_slice())?;
+            tables.push(Table::new(columns))?;
         }
         Ok(Database { schema, tables })
     }
@@ -125,7 +129,7 @@ impl<'s> Database<'s> {
             Err(InputFault::Device) => return Err(TableFault::Device),
         };
         let entry = entry_of(self.schema, table);
-        let loaded = table_of(alloc, entry, bytes.as_slice())?;
+        let loaded = table_of(alloc, entry, bytes)?;
         self.tables[table] = loaded;
         Ok(())
     }

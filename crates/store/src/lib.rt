@@ -1,15 +1,19 @@
 //! Tables loaded from CSV, and the database that they make up.
 #![tactic(auto)]
 
+mod cells;
+mod columns;
 pub mod database;
 pub mod fault;
 mod field;
 pub mod input;
+mod key;
 mod records;
 pub mod source;
 pub mod table;
 #[cfg(test)]
 mod tests;
+mod texts;
 mod unique;
 
 pub use database::Database;

@@ -1,6 +1,6 @@
 //! Rows read from the records of a table's file.
 
-ghost use Rattle.std.specs.Prelude.{◌≡◌, ◌≤◌, ◌+◌, ◌↔◌, List, [], length, IfOk, IsTrue};
+ghost use Rattle.std.specs.Prelude.{◌≡◌, ◌≤◌, ◌+◌, ◌↔◌, List, [], None, length, IfOk, IsTrue};
 ghost use Rattle.schema.specs.Databases.{most_rows};
 ghost use Rattle.csv.specs.Reading.{default_config, records, strip_bom};
 ghost use Rattle.csv.specs.Records.{fields_of};
@@ -9,8 +9,11 @@ ghost use Rattle.store.specs.Tables.{Record, StandFor, names_of};
 ghost use Rattle.store.specs.Parsing.{RowFails, Parses, ParsesFile, in_field};
 ghost use Rattle.store.specs.Tells.{Tells};
 
+use crate::columns::Columns;
 use crate::fault::{FieldFault, TableCause, TableRefusal};
 use crate::field::value_of;
+use crate::source::RowSource;
+use crate::table::Table;
 use csv::{ByteRecord, Reader, ReaderBuilder};
 use schema::Column;
 use std::alloc::{AllocError, Global};
@@ -23,7 +26,7 @@ pub const MOST_ROWS: usize = 1_000_000;
 /// The rows before the first record that is none, and what is wrong with that one.
 #[derive(Drop)]
 pub struct Parsed {
-    pub rows: Items<Items<Value>>,
+    pub rows: Table,
     pub fault: Option<TableRefusal>,
 }
 
@@ -92,14 +95,24 @@ fn row_of(
 }
 
 /// What is parsed where the record after these rows is at fault.
-fn stopped(rows: Items<Items<Value>>, cause: TableCause) -> Parsed
-    requires { length rows ≤ most_rows }
-    ensures { result ≡ record { rows = rows; fault = Some (record { row = length rows + 1; cause = cause }) } }
+fn stopped(rows: Columns, cause: TableCause) -> Parsed
+    requires { length rows.rows ≤ most_rows }
+    ensures { result ≡ record { rows = rows.rows; fault = Some (record { row = length rows.rows + 1; cause = cause }) } }
 {
     let row = rows.len() + 1;
     Parsed {
-        rows,
+        rows: Table::new(rows),
         fault: Some(TableRefusal { row, cause }),
+    }
+}
+
+/// What is parsed where the records end with these rows.
+fn whole(rows: Columns) -> Parsed
+    ensures { result ≡ record { rows = rows.rows; fault = None } }
+{
+    Parsed {
+        rows: Table::new(rows),
+        fault: None,
     }
 }
 
@@ -112,29 +125,29 @@ fn rows_of<R: Read>(
     ensures { (rest : List Record) → Remains R.remaining reader.old rest → IfOk result (Parses columns.now rest) }
 {
     let mut fields = ByteRecord::new(alloc);
-    let mut rows = Items::new(alloc);
+    let mut rows = Columns::new(alloc, columns)?;
     while rows.len() < MOST_ROWS {
         if !next_of(reader, &mut fields)? {
-            return Ok(Parsed { rows, fault: None });
+            return Ok(whole(rows));
         }
         match row_of(alloc, columns, &fields) {
-            Ok(row) => rows.push(row)?,
+            Ok(row) => rows = rows.with_row(row.as_slice())?,
             Err(Fault::Memory) => return Err(AllocError),
             Err(Fault::Refused(cause)) => return Ok(stopped(rows, cause)),
         }
     }
     if !next_of(reader, &mut fields)? {
-        return Ok(Parsed { rows, fault: None });
+        return Ok(whole(rows));
     }
     Ok(stopped(rows, TableCause::TooMany))
 }
 
-/// What is parsed of a file that doesn't begin with the names of the columns.
-fn no_header(alloc: Global) -> Parsed
-    ensures { result ≡ record { rows = []; fault = Some (record { row = 0; cause = TableCause.OtherHeader }) } }
+/// What is parsed of a file that doesn't begin with the names of the columns: no row.
+fn no_header(none: Columns) -> Parsed
+    ensures { result ≡ record { rows = none.rows; fault = Some (record { row = 0; cause = TableCause.OtherHeader }) } }
 {
     Parsed {
-        rows: Items::new(alloc),
+        rows: Table::new(none),
         fault: Some(TableRefusal {
             row: 0,
             cause: TableCause::OtherHeader,
@@ -152,10 +165,10 @@ fn file_of<R: Read>(
 {
     let mut fields = ByteRecord::new(alloc);
     if !next_of(reader, &mut fields)? {
-        return Ok(no_header(alloc));
+        return Ok(no_header(Columns::new(alloc, columns)?));
     }
     if !is_header(columns, &fields) {
-        return Ok(no_header(alloc));
+        return Ok(no_header(Columns::new(alloc, columns)?));
     }
     rows_of(alloc, columns, reader)
 }

@@ -1,47 +1,32 @@
-//! A table that is kept by rows.
+//! A table of a database.
 
-ghost use Rattle.std.specs.Prelude.{◌≡◌, []};
-ghost use Rattle.schema.specs.Databases.{Row};
-ghost use Rattle.schema.specs.Databases.{HaveWidth};
+ghost use Rattle.std.specs.Prelude.{◌≡◌};
 
+use crate::columns::Columns;
 use crate::source::RowSource;
-use std::alloc::Global;
 use std::marker::Model;
-use values::{Cell, Items, Value};
+use values::Cell;
 
-/// A table, seen as its list of rows.
+/// A table, kept by columns and seen as its list of rows.
 #[derive(Drop)]
 pub struct Table {
-    width: usize,
-    rows: Items<Items<Value>>,
+    columns: Columns,
 }
 
 impl Model for Table {
     ghost use Rattle.std.specs.Prelude.{List};
     ghost use Rattle.schema.specs.Databases.{Row};
-    ghost use Rattle.schema.specs.Databases.{HaveWidth};
 
     ghost Value = { List Row };
 
-    ghost view = { λ t. t.rows };
-
-    ghost invariant = { λ t. HaveWidth t.width t.rows };
+    ghost view = { λ t. t.columns.rows };
 }
 
 impl Table {
-    /// A table with these rows, each of them as wide.
-    pub fn new(width: usize, rows: Items<Items<Value>>) -> Table
-        requires { HaveWidth width rows }
-        ensures { result ≡ rows }
+    pub(crate) fn new(columns: Columns) -> Table
+        ensures { result ≡ columns.rows }
     {
-        Table { width, rows }
-    }
-
-    /// A table with no row.
-    pub fn empty(alloc: Global, width: usize) -> Table
-        ensures { result ≡ [] }
-    {
-        Table::new(width, Items::new(alloc))
+        Table { columns }
     }
 }
 
@@ -49,15 +34,14 @@ impl RowSource for Table {
     ghost rows = { λ t. t };
 
     fn len(&self) -> usize {
-        self.rows.len()
+        self.columns.len()
     }
 
     fn width(&self) -> usize {
-        self.width
+        self.columns.width()
     }
 
     fn cell(&self, row: usize, column: usize) -> Cell<'_> {
-        let values = self.rows.as_slice()[row].as_slice();
-        values[column].as_cell()
+        self.columns.cell(row, column)
     }
 }

@@ -208,6 +208,40 @@ fn tables_of_dept(rt: HostRuntime) -> Result<(), Fail> {
     Ok(())
 }
 
+/// What `emp` is by a file that ends after so many of its bytes.
+#[test]
+fn a_file_is_cut(rt: HostRuntime) -> Result<(), Fail> {
+    let alloc = rt.alloc();
+    let schema = Schema::read(alloc, COMPANY.as_bytes()).expect(&rt, "a schema");
+    let file = b"id,dept,pay,badge\n10,1,500,7\n11,1,\\N,\\N\n";
+    // Up to which cut, from the one before on, what is told.
+    let cases = [
+        (16, "T02 0"),
+        (18, "loaded"),
+        (26, "T01 1"),
+        (27, "T03 1 in 3"),
+        (29, "loaded"),
+        (36, "T01 2"),
+        (37, "T03 2 in 3"),
+        (38, "T04 2 in 3"),
+        (40, "loaded"),
+    ];
+    let mut cut = 0;
+    for (last, wanted) in cases {
+        for _ in 0..file.len() {
+            if last < cut || file.len() < cut {
+                break;
+            }
+            let mut database = Database::new(alloc, &schema).expect(&rt, "a database");
+            let text = told(alloc, &mut database, 1, &file[..cut])?;
+            assert_eq!(rt; text.as_str(), wanted, "after {cut} bytes");
+            cut += 1;
+        }
+    }
+    assert_eq!(rt; cut, file.len() + 1);
+    Ok(())
+}
+
 #[test]
 fn a_device_fails(rt: HostRuntime) -> Result<(), Fail> {
     let alloc = rt.alloc();

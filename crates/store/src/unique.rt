@@ -1,15 +1,19 @@
 //! Rows that repeat a unique list of an earlier row.
 
-ghost use Rattle.std.specs.Prelude.{◌≡◌, ◌≤◌, ◌<◌, true, false, map, length, IfOk, MatchOption};
+ghost use Rattle.std.specs.Prelude.{◌≡◌, ◌≤◌, ◌<◌, true, false, [], map, length, slice_index_or, IfOk, MatchOption};
 ghost use Rattle.std.specs.List.{list_any, AllByRecursion};
+ghost use Rattle.values.specs.Cells.{value_of};
 ghost use Rattle.values.specs.Truth as logic;
 ghost use Rattle.schema.specs.Databases.{values_at, IsUnique};
 ghost use Rattle.store.specs.Tables.{UniqueTo, RepeatsAt};
 ghost use Rattle.store.specs.Parsing.{EarliestRepeat};
 
+use crate::key::key_of;
+use crate::source::RowSource;
+use crate::table::Table;
 use std::alloc::{AllocError, Global};
 use std::collections::HashMap;
-use values::{Items, Value};
+use values::Items;
 
 /// A row and the earlier one that it repeats, both from 0.
 #[derive(Clone, Copy, Debug, PartialEq, Eq)]
@@ -18,40 +22,12 @@ pub struct Repeat {
     pub earlier: usize,
 }
 
-fn is_null(value: &Value) -> bool
-    ensures { result ≡ logic.is_null value.now }
-{
-    matches!(value, Value::Null)
-}
-
-/// The values at the places; none where one of them is Null.
-fn key_of<'r>(
-    alloc: Global,
-    row: &'r [Value],
-    places: &[usize],
-) -> Result<Option<Vec<&'r Value>>, AllocError>
-    ensures { IfOk result (λ o. MatchOption o (list_any logic.is_null (values_at places.now row.now) ≡ true)
-        (λ key. (map (λ v. v.now) key.items ≡ values_at places.now row.now) × (list_any logic.is_null (values_at places.now row.now) ≡ false))) }
-{
-    let mut key = Vec::with_capacity(alloc, places.len())?;
-    for place in places {
-        let Some(value) = row.get(*place) else {
-            return Ok(None);
-        };
-        if is_null(value) {
-            return Ok(None);
-        }
-        key.push(value)?;
-    }
-    Ok(Some(key))
-}
-
 /// Of the first rows, as many as `limit`, the first that repeats an earlier one at the places.
 fn first_repeat(
     alloc: Global,
-    rows: &[Items<Value>],
+    rows: &Table,
     limit: usize,
-    places: &[usize],
+    places: &Items<usize>,
 ) -> Result<Option<Repeat>, AllocError>
     requires { limit ≤ length rows.now }
     ensures { IfOk result (λ o. MatchOption o (UniqueTo limit rows.now places.now)
@@ -59,7 +35,7 @@ fn first_repeat(
 {
     let mut seen = HashMap::new(alloc);
     for row in 0..limit {
-        let Some(key) = key_of(alloc, rows[row].as_slice(), places)? else {
+        let Some(key) = key_of(rows, row, places) else {
             continue;
         };
         if let Some(earlier) = seen.insert(key, row)? {
@@ -72,7 +48,7 @@ fn first_repeat(
 /// The first row that repeats an earlier one on a unique list; of several lists it tells of the first.
 pub fn earliest_repeat(
     alloc: Global,
-    rows: &[Items<Value>],
+    rows: &Table,
     unique: &[Items<usize>],
 ) -> Result<Option<Repeat>, AllocError>
     ensures { IfOk result (λ o. MatchOption o (AllByRecursion (IsUnique rows.now) unique.now) (EarliestRepeat rows.now unique.now)) }
@@ -80,7 +56,7 @@ pub fn earliest_repeat(
     let mut found = None;
     let mut limit = rows.len();
     for places in unique {
-        let Some(repeat) = first_repeat(alloc, rows, limit, places.as_slice())? else {
+        let Some(repeat) = first_repeat(alloc, rows, limit, places)? else {
             continue;
         };
         limit = repeat.row;

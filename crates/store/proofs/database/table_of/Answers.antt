@@ -2,14 +2,14 @@ use Rattle.std.proofs.Common.{Ok, Err, ◌<◌, ◌+◌, ◌^◌, arith, rules}
 use Rattle.csv.specs.Reading.{default_config, records, strip_bom}
 use Rattle.store.specs.declared.fault.TableCause.TheVariants.{Repeated}
 use Rattle.store.proofs.TableAnswers.{is_told}
-use Rattle.store.proofs.Loads.{few_rows, repeat_below, repeat_told, fault_told, table_told, file_width}
+use Rattle.store.proofs.Loads.{few_rows, repeat_below, repeat_told, fault_told, table_told}
 use Rattle.store.proofs.database.table_of.Goals as goal
 
 pub overflow_add-result-in-Some : goal.overflow_add-result-in-Some
 overflow_add-result-in-Some c =
-    let file = rw c.as_slice-columns.ensures at c.in-Ok.ensures.exact in
-    let few = few_rows c.args.entry.now.columns (records default_config (strip_bom c.args.bytes.now)) c.in-Ok.parsed file in
-    let found = rw (c.in-Some.is, c.as_slice.ensures, c.as_slice-2.ensures) at c.in-Ok-earliest_repeat.ensures in
+    let file = rw (c.as_slice-columns.ensures, c.as_slice.ensures.value) at c.in-Ok.ensures.exact in
+    let few = few_rows c.args.entry.now.columns (records default_config (strip_bom c.args.bytes.items)) c.in-Ok.parsed file in
+    let found = rw (c.in-Some.is, c.as_slice-2.ensures) at c.in-Ok-earliest_repeat.ensures in
     let low = found.within in
     let below = repeat_below c.in-Ok.parsed.rows c.in-Some.repeat.row c.in-Some.repeat.earlier c.args.entry.now.unique found.there in
     let fits : c.in-Some.repeat.earlier + 1 < 2 ^ 64 = omega arith in
@@ -17,22 +17,18 @@ overflow_add-result-in-Some c =
 
 pub returns-in-Some : goal.returns-in-Some
 returns-in-Some c =
-    let file = rw c.as_slice-columns.ensures at c.in-Ok.ensures.exact in
-    let found = rw (c.in-Some.is, c.as_slice.ensures, c.as_slice-2.ensures) at c.in-Ok-earliest_repeat.ensures in
-    is_told c.args.entry.now (records default_config (strip_bom c.args.bytes.now)) (Err (record { row = c.in-Some.repeat.row + 1; cause = Repeated (c.in-Some.repeat.earlier + 1) })) (repeat_told c.args.entry.now (records default_config (strip_bom c.args.bytes.now)) c.in-Ok.parsed c.in-Some.repeat file found)
-
-pub new-requires : goal.new-requires
-new-requires c =
-    file_width c.as_slice-columns.result.now (records default_config (strip_bom c.args.bytes.now)) c.in-Ok.parsed c.in-Ok.ensures.exact
+    let file = rw (c.as_slice-columns.ensures, c.as_slice.ensures.value) at c.in-Ok.ensures.exact in
+    let found = rw (c.in-Some.is, c.as_slice-2.ensures) at c.in-Ok-earliest_repeat.ensures in
+    is_told c.args.entry.now (records default_config (strip_bom c.args.bytes.items)) (Err (record { row = c.in-Some.repeat.row + 1; cause = Repeated (c.in-Some.repeat.earlier + 1) })) (repeat_told c.args.entry.now (records default_config (strip_bom c.args.bytes.items)) c.in-Ok.parsed c.in-Some.repeat file found)
 
 pub returns-in-Some-fault : goal.returns-in-Some-fault
 returns-in-Some-fault c =
-    let file = rw c.as_slice-columns.ensures at c.in-Ok.ensures.exact in
-    let unique = rw (c.in_default-found.is, c.as_slice.ensures, c.as_slice-2.ensures) at c.in-Ok-earliest_repeat.ensures in
-    is_told c.args.entry.now (records default_config (strip_bom c.args.bytes.now)) (Err c.in-Some-fault.refusal) (fault_told c.args.entry.now (records default_config (strip_bom c.args.bytes.now)) c.in-Ok.parsed c.in-Some-fault.refusal file c.in-Some-fault.is unique)
+    let file = rw (c.as_slice-columns.ensures, c.as_slice.ensures.value) at c.in-Ok.ensures.exact in
+    let unique = rw (c.in_default-found.is, c.as_slice-2.ensures) at c.in-Ok-earliest_repeat.ensures in
+    is_told c.args.entry.now (records default_config (strip_bom c.args.bytes.items)) (Err c.in-Some-fault.refusal) (fault_told c.args.entry.now (records default_config (strip_bom c.args.bytes.items)) c.in-Ok.parsed c.in-Some-fault.refusal file c.in-Some-fault.is unique)
 
 pub returns-in-None : goal.returns-in-None
 returns-in-None c =
-    let file = rw c.as_slice-columns.ensures at c.in-Ok.ensures.exact in
-    let unique = rw (c.in_default-found.is, c.as_slice.ensures, c.as_slice-2.ensures) at c.in-Ok-earliest_repeat.ensures in
-    rw c.new.ensures (is_told c.args.entry.now (records default_config (strip_bom c.args.bytes.now)) (Ok c.in-Ok.parsed.rows) (table_told c.args.entry.now (records default_config (strip_bom c.args.bytes.now)) c.in-Ok.parsed file c.in-None.is unique))
+    let file = rw (c.as_slice-columns.ensures, c.as_slice.ensures.value) at c.in-Ok.ensures.exact in
+    let unique = rw (c.in_default-found.is, c.as_slice-2.ensures) at c.in-Ok-earliest_repeat.ensures in
+    (is_told c.args.entry.now (records default_config (strip_bom c.args.bytes.items)) (Ok c.in-Ok.parsed.rows) (table_told c.args.entry.now (records default_config (strip_bom c.args.bytes.items)) c.in-Ok.parsed file c.in-None.is unique))

@@ -10,12 +10,12 @@ not_both b t f = cc (t, f)
 
 pub returns-then-not-branch : goal.returns-then-not-branch
 returns-then-not-branch g c = λ all h.
-    rw c.no_header.ensures (inr (nothing_there c.args.columns.now all c.in_ok-next_of.field-0 _ (λ m. Remains g.R.Read.remaining c.next_of.new.reader m) (c.in_ok-next_of.ensures all h) (search rules), refl, refl))
+    rw (c.no_header.ensures, c.in_ok-new.ensures) (inr (nothing_there c.args.columns.now all c.in_ok-next_of.field-0 _ (λ m. Remains g.R.Read.remaining c.next_of.new.reader m) (c.in_ok-next_of.ensures all h) (search rules), refl, refl))
 
 pub returns-then-not-is_header : goal.returns-then-not-is_header
 returns-then-not-is_header g c = λ all h.
     let f : c.is_header.result ≡ false = search rules in
-    rw c.no_header-then-not-is_header.ensures
+    rw (c.no_header-then-not-is_header.ensures, c.in_ok-new-2.ensures)
     (inr (other_names c.args.columns.now all c.in_ok-next_of.field-0 _ (λ m. Remains g.R.Read.remaining c.next_of.new.reader m) (c.in_ok-next_of.ensures all h) (search rules) (λ e. not_both c.is_header.result (c.is_header.ensures.1 e) f), refl, refl))
 
 pub returns : goal.returns

@@ -1,4 +1,4 @@
-use Rattle.std.proofs.Common.{◌≤◌, ◌-◌, List, length}
+use Rattle.std.proofs.Common.{◌≡◌, ◌≤◌, ◌-◌, List, length, map}
 use Rattle.schema.specs.Databases.{most_rows}
 use Rattle.store.specs.Tables.{Record}
 use Rattle.store.specs.Reading.{Remains}
@@ -7,9 +7,10 @@ use Rattle.store.proofs.records.rows_of.Given as goal
 
 abbrev pub invariant-loop-alloc : goal.invariant-loop-alloc
 invariant-loop-alloc g l = record {
-  few : length l.rows ≤ most_rows;
-  written : (rest : List Record) → Remains g.R.Read.remaining l.fn.reader rest → (more : List Record) × Remains g.R.Read.remaining l.reader more × Written l.columns rest l.rows more;
+  kinds : l.rows.kinds ≡ map (λ c. c.kind) l.columns;
+  few : length l.rows.rows ≤ most_rows;
+  written : (rest : List Record) → Remains g.R.Read.remaining l.fn.reader rest → (more : List Record) × Remains g.R.Read.remaining l.reader more × Written l.columns rest l.rows.rows more;
 }
 
 abbrev pub decreases-loop-alloc : goal.decreases-loop-alloc
-decreases-loop-alloc g l = most_rows - length l.rows
+decreases-loop-alloc g l = most_rows - length l.rows.rows

@@ -6,13 +6,13 @@ use Rattle.store.proofs.unique.earliest_repeat.Goals as goal
 pub loop-places-preserved-in_default : goal.loop-places-preserved-in_default
 loop-places-preserved-in_default c =
     let next = take_next c.args.unique.now c.loop-places.places-index c.places-item.result (omega arith) c.places-item.is in
-    let h = rw (c.in_default.is, c.as_slice.ensures) at c.in_ok-repeat.ensures in
+    let h = rw c.in_default.is at c.in_ok-repeat.ensures in
     rw next (found_none c.args.rows.now (take c.loop-places.places-index c.args.unique.now) c.places-item.result c.loop-places.limit c.loop-places.found c.loop-places.invariant h)
 
 pub loop-places-preserved : goal.loop-places-preserved
 loop-places-preserved c =
     let next = take_next c.args.unique.now c.loop-places.places-index c.places-item.result (omega arith) c.places-item.is in
-    let h = rw (c.in-Some.is, c.as_slice.ensures) at c.in_ok-repeat.ensures in
+    let h = rw c.in-Some.is at c.in_ok-repeat.ensures in
     rw next (found_one c.args.rows.now (take c.loop-places.places-index c.args.unique.now) c.places-item.result c.loop-places.limit c.loop-places.found c.in-Some.repeat c.loop-places.invariant h.0 h.1 h.2)
 
 pub returns : goal.returns

@@ -18,7 +18,7 @@ returns-in_err-loaded-clause-exact g c =
     let p = err_from_is_err_and c.from_residual.result c.from_residual.ensures.1 in
     let at = rw (ap (λ (s : Stored). s.schema) c.self.view_is) at c.entry_of-entry.ensures in
     loads_fault (g.R.TableInput.remaining c.args.input.now) c.in-Ok.bytes.items (λ (bytes : List ℕ). records default_config (strip_bom bytes)) c.args.self.now c.args.self.now c.args.table c.entry_of-entry.result.now c.in_err-loaded.field-0.0 c.from_residual.result
-    (p.1 ∙ ap Err p.2) c.in-Ok.ensures.bytes at (subst (λ (bytes : List ℕ). ReadsTable c.entry_of-entry.result.now (records default_config (strip_bom bytes)) (Err c.in_err-loaded.field-0.0)) c.as_slice.ensures.value c.in_err-loaded.ensures)
+    (p.1 ∙ ap Err p.2) c.in-Ok.ensures.bytes at c.in_err-loaded.ensures
 
 pub invariant_of-self : goal.invariant_of-self
 invariant_of-self g c = satisfy_set c.self.inside.schema.now.tables c.self.inside.tables.items c.args.table c.entry_of-entry.result.now c.in_ok-loaded.loaded c.self.invariant c.entry_of-entry.ensures c.in_ok-loaded.ensures.told.satisfies
@@ -27,7 +27,7 @@ pub returns-clause-exact : goal.returns-clause-exact
 returns-clause-exact g c =
     let at = rw (ap (λ (s : Stored). s.schema) c.self.view_is) at c.entry_of-entry.ensures in
     loads_rows (g.R.TableInput.remaining c.args.input.now) c.in-Ok.bytes.items (λ (bytes : List ℕ). records default_config (strip_bom bytes)) c.args.self.now _ c.args.table c.entry_of-entry.result.now c.in_ok-loaded.loaded
-    c.in-Ok.ensures.bytes at (rw c.as_slice.ensures.value at c.in_ok-loaded.ensures) (ap (λ (s : Stored). let n : Stored = record { schema = s.schema; tables = set s.tables c.args.table c.in_ok-loaded.loaded } in n) c.self.view_is)
+    c.in-Ok.ensures.bytes at c.in_ok-loaded.ensures (ap (λ (s : Stored). let n : Stored = record { schema = s.schema; tables = set s.tables c.args.table c.in_ok-loaded.loaded } in n) c.self.view_is)
 
 pub returns-clause-replaced : goal.returns-clause-replaced
 returns-clause-replaced g c = (c.in_ok-loaded.loaded, ap (λ (s : Stored). let n : Stored = record { schema = s.schema; tables = set s.tables c.args.table c.in_ok-loaded.loaded } in n) c.self.view_is)

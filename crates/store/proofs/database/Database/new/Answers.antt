@@ -12,7 +12,7 @@ empty_of t = []
 pub loop-entry-preserved : goal.loop-entry-preserved
 loop-entry-preserved c =
     let next = take_next c.as_slice-entry-items.result.now c.loop-entry.entry-index c.entry-item.result (omega arith) c.entry-item.is in
-    rw (c.in_ok-push.ensures.items, c.empty.ensures, c.loop-entry.invariant, next) (sym (map_push (λ (t : Table). []) (take c.loop-entry.entry-index c.as_slice-entry-items.result.now) c.entry-item.result))
+    rw (c.in_ok-push.ensures.items, c.new-in-loop-entry.ensures, c.in_ok-columns.ensures, c.loop-entry.invariant, next) (sym (map_push (λ (t : Table). []) (take c.loop-entry.entry-index c.as_slice-entry-items.result.now) c.entry-item.result))
 
 pub invariant_of-result : goal.invariant_of-result
 invariant_of-result c =

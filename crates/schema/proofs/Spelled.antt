@@ -1,0 +1,181 @@
+-- What is read is spelt by the bytes.
+use Rattle.std.proofs.Common.{◌≡◌, ℕ, ◌<◌, List, [], ◌∷◌, length, map, Bool, true, false, cond, Option, Some, None, Result, Ok, Err, slice_index_or, refl, sym, ap, ◌∙◌, subst, arith, bytes_eq, codes, ◌==◌}
+use Rattle.std.proofs.lemmas.Bool.Decides.{nat_tests}
+use Rattle.std.proofs.lemmas.Slice.Eq.{bytes_eq-Decides}
+use Rattle.std.specs.Str.{IsUtf8, is_utf8}
+use Rattle.std.proofs.lemmas.Str.{IsUtf8-from_is_utf8}
+use Rattle.serde_json.specs.Data.{Data, Items, Members}
+use Rattle.serde_json.specs.Events.{members_len}
+use Rattle.serde_json.specs.Read as json
+use Rattle.serde_json.specs.Find.{get, as_str, as_bool, as_array, as_object}
+use Rattle.values.specs.Faults as faults
+use Rattle.schema.specs.declared.fault.SchemaRefusal.{SchemaRefusal}
+use Rattle.schema.specs.declared.fault.SchemaRefusal.TheVariants.{NotJson, Shape, UnknownColumn}
+use Rattle.schema.specs.declared.schema.Kind.{Kind}
+use Rattle.schema.specs.declared.schema.Kind.TheVariants.{Int, Text}
+use Rattle.schema.specs.declared.schema.Column.{Column}
+use Rattle.schema.specs.declared.schema.Table.{Table}
+use Rattle.schema.specs.declared.schema.Schema.{Schema}
+use Rattle.schema.specs.declared.entries.TableEntry.{TableEntry}
+use Rattle.schema.specs.Each.{each, Pairs}
+use Rattle.schema.specs.Names.{Name, is_name}
+use Rattle.schema.specs.Entries.{wanted, json_in, keys_in, field_in, flag_in, kind_in, name_in, names_in, column_in, columns_in, lists_in, table_in, entries_in, some_of, items_in, list_of}
+use Rattle.schema.specs.Places.{place_in, places_in, placed}
+use Rattle.schema.specs.Schemas.{IsSchema}
+use Rattle.schema.specs.Spelling.{HasKeys, HasMember, IsText, IsArray, word_of, IsColumnText, name_in_place, IsListText, IsTableText, IsSchemaText}
+use Rattle.schema.proofs.Steps.{bind_ok, wanted_ok, wanted_if_ok, each_ok, place_ok}
+use Rattle.schema.proofs.Schemas.{IsPlaced, placed_ok, some_ok}
+
+same_count : (m n : ℕ) → (m == n) ≡ true → m ≡ n
+same_count m n e = grind (arith, nat_tests)
+
+ok_same : {A R : Type 0} (x y : A) → ◌≡◌ {A = Result A R} (Ok x) (Ok y) → x ≡ y
+ok_same x y e = cc e
+
+pairs_map : {A B : Type 0} {R S : A → B → Type 0} (f : (x : A) (y : B) → R x y → S x y) (xs : List A) (ys : List B) → Pairs R xs ys → Pairs S xs ys
+pairs_map f [] [] h = tt
+pairs_map f [] (y ∷ ys) h = absurd h
+pairs_map f (x ∷ xs) [] h = absurd h
+pairs_map f (x ∷ xs) (y ∷ ys) h = (f x y h.0, pairs_map f xs ys h.1)
+
+pairs_through : {A B C : Type 0} {R : A → B → Type 0} {S : B → C → Type 0} {T : A → C → Type 0} (f : (x : A) (y : B) (z : C) → R x y → S y z → T x z) (xs : List A) (ys : List B) (zs : List C) → Pairs R xs ys → Pairs S ys zs → Pairs T xs zs
+pairs_through f [] [] [] h k = tt
+pairs_through f [] [] (z ∷ zs) h k = absurd k
+pairs_through f [] (y ∷ ys) zs h k = absurd h
+pairs_through f (x ∷ xs) [] zs h k = absurd h
+pairs_through f (x ∷ xs) (y ∷ ys) [] h k = absurd k
+pairs_through f (x ∷ xs) (y ∷ ys) (z ∷ zs) h k = (f x y z h.0 k.0, pairs_through f xs ys zs h.1 k.1)
+
+keys_spelt : (n : ℕ) (d : Data) (u : Unit {0}) → keys_in n d ≡ Ok u → HasKeys n d
+unfolding keys_in
+keys_spelt n d u e =
+    let (ms, p, q) = bind_ok (wanted (as_object d)) _ u e in
+    (ms, wanted_ok Shape (as_object d) ms p, same_count (members_len ms) n (wanted_if_ok Shape (members_len ms == n) tt u q).0)
+
+name_spelt : (d : Data) (name : Name) → name_in d ≡ Ok name → IsText d name
+unfolding name_in
+name_spelt d name e =
+    let (text, p, q) = bind_ok (wanted (as_str d)) _ name e in
+    wanted_ok Shape (as_str d) text p ∙ ap Some (wanted_if_ok Shape (is_name text) text name q).1
+
+by_word : (is_int is_text : Bool) (text : List ℕ) (k : Kind) → bytes_eq text (codes "INT") ≡ is_int → bytes_eq text (codes "TEXT") ≡ is_text → cond is_int (Ok Int) (cond is_text (Ok Text) (Err Shape)) ≡ Ok k → text ≡ word_of k
+by_word true is_text text Int p q e = (bytes_eq-Decides text (codes "INT")).0 p
+by_word true is_text text Text p q e = cc e
+by_word false true text Int p q e = cc e
+by_word false true text Text p q e = (bytes_eq-Decides text (codes "TEXT")).0 q
+by_word false false text k p q e = cc e
+
+kind_spelt : (d : Data) (k : Kind) → kind_in d ≡ Ok k → IsText d (word_of k)
+unfolding kind_in
+kind_spelt d k e =
+    let (text, p, q) = bind_ok (wanted (as_str d)) _ k e in
+    wanted_ok Shape (as_str d) text p ∙ ap Some (by_word (bytes_eq text (codes "INT")) (bytes_eq text (codes "TEXT")) text k refl refl q)
+
+items_spelt : (d : Data) (ds : List Data) → items_in d ≡ Ok ds → (items : Items) × (as_array d ≡ Some items) × (list_of items ≡ ds)
+unfolding items_in
+items_spelt d ds e =
+    let (items, p, q) = bind_ok (wanted (as_array d)) _ ds e in
+    (items, wanted_ok Shape (as_array d) items p, cc q)
+
+array_spelt : {A : Type 0} (P : Data → A → Type 0) (d : Data) (ds : List Data) (xs : List A) → items_in d ≡ Ok ds → Pairs P ds xs → IsArray P d xs
+array_spelt P d ds xs e h =
+    let (items, is, same) = items_spelt d ds e in
+    (items, is, rw same h)
+
+column_spelt : (d : Data) (c : Column) → column_in d ≡ Ok c → IsColumnText d c
+unfolding column_in
+column_spelt d c e =
+    let (keys, p0, q0) = bind_ok (keys_in 3 d) _ c e in
+    let (n, p1, q1) = bind_ok (field_in (codes "name") d) _ c q0 in
+    let (name, p2, q2) = bind_ok (name_in n) _ c q1 in
+    let (k, p3, q3) = bind_ok (field_in (codes "kind") d) _ c q2 in
+    let (kind, p4, q4) = bind_ok (kind_in k) _ c q3 in
+    let (b, p5, q5) = bind_ok (field_in (codes "not_null") d) _ c q4 in
+    let (flag, p6, q6) = bind_ok (flag_in b) _ c q5 in
+    let made : IsColumnText d (record { name = name; kind = kind; not_null = flag }) = record {
+      keys = keys_spelt 3 d keys p0;
+      name = (n, wanted_ok Shape _ n p1, name_spelt n name p2);
+      kind = (k, wanted_ok Shape _ k p3, kind_spelt k kind p4);
+      not_null = (b, wanted_ok Shape _ b p5, wanted_ok Shape _ flag p6);
+    } in
+    subst (IsColumnText d) (ok_same _ c q6) made
+
+columns_spelt : (d : Data) (columns : List Column) → columns_in d ≡ Ok columns → IsArray IsColumnText d columns
+unfolding columns_in
+columns_spelt d columns e =
+    let (ds, p, q) = bind_ok (items_in d) _ columns e in
+    let (read, u, v) = bind_ok (each column_in ds) _ columns q in
+    array_spelt IsColumnText d ds columns p (subst (Pairs IsColumnText ds) (some_ok read columns v).1 (pairs_map column_spelt ds read (each_ok column_in ds read u)))
+
+place_spelt : (columns : List Column) (d : Data) (name : Name) (place : ℕ) → name_in d ≡ Ok name → place_in columns name ≡ Ok place → IsText d (name_in_place columns place)
+place_spelt columns d name place e is =
+    name_spelt d name e ∙ ap Some (sym (place_ok (λ (c : Column). c.name) columns name place (wanted_ok UnknownColumn _ _ is)).1)
+
+list_spelt : (columns : List Column) (d : Data) (names : List Name) (places : List ℕ) → names_in d ≡ Ok names → places_in columns names ≡ Ok places → IsListText columns d places
+unfolding names_in
+list_spelt columns d names places e is =
+    let (ds, p, q) = bind_ok (items_in d) _ names e in
+    let (read, u, v) = bind_ok (each name_in ds) _ names q in
+    let named : Pairs (λ x y. name_in x ≡ Ok y) ds names = subst (Pairs (λ x y. name_in x ≡ Ok y) ds) (some_ok read names v).1 (each_ok name_in ds read u) in
+    array_spelt (λ x place. IsText x (name_in_place columns place)) d ds places p
+    (pairs_through (place_spelt columns) ds names places named (each_ok (place_in columns) names places is))
+
+lists_spelt : (columns : List Column) (d : Data) (lists : List (List Name)) (places : List (List ℕ)) → lists_in d ≡ Ok lists → each (places_in columns) lists ≡ Ok places → IsArray (IsListText columns) d places
+unfolding lists_in
+lists_spelt columns d lists places e is =
+    let (ds, p, q) = bind_ok (items_in d) _ lists e in
+    array_spelt (IsListText columns) d ds places p
+    (pairs_through (list_spelt columns) ds lists places (each_ok names_in ds lists q) (each_ok (places_in columns) lists places is))
+
+table_spelt : (d : Data) (t : TableEntry) (u : Table) → table_in d ≡ Ok t → placed t ≡ Ok u → IsTableText d u
+unfolding table_in placed
+table_spelt d t u e is =
+    let (keys, p0, q0) = bind_ok (keys_in 4 d) _ t e in
+    let (n, p1, q1) = bind_ok (field_in (codes "name") d) _ t q0 in
+    let (name, p2, q2) = bind_ok (name_in n) _ t q1 in
+    let (cs, p3, q3) = bind_ok (field_in (codes "columns") d) _ t q2 in
+    let (columns, p4, q4) = bind_ok (columns_in cs) _ t q3 in
+    let (us, p5, q5) = bind_ok (field_in (codes "unique") d) _ t q4 in
+    let (unique, p6, q6) = bind_ok (lists_in us) _ t q5 in
+    let (is', p7, q7) = bind_ok (field_in (codes "indexes") d) _ t q6 in
+    let (indexes, p8, q8) = bind_ok (lists_in is') _ t q7 in
+    let entry : TableEntry = record { name = name; columns = columns; unique = unique; indexes = indexes } in
+    let same : t ≡ entry = sym (ok_same entry t q8) in
+    let at : placed entry ≡ Ok u = rw same at is in
+    let (us2, r0, s0) = bind_ok (each (places_in columns) unique) _ u at in
+    let (is2, r1, s1) = bind_ok (each (places_in columns) indexes) _ u s0 in
+    let made : IsTableText d (record { name = name; columns = columns; unique = us2; indexes = is2 }) = record {
+      keys = keys_spelt 4 d keys p0;
+      name = (n, wanted_ok Shape _ n p1, name_spelt n name p2);
+      columns = (cs, wanted_ok Shape _ cs p3, columns_spelt cs columns p4);
+      unique = (us, wanted_ok Shape _ us p5, lists_spelt columns us unique us2 p6 r0);
+      indexes = (is', wanted_ok Shape _ is' p7, lists_spelt columns is' indexes is2 p8 r1);
+    } in
+    subst (IsTableText d) (ok_same _ u s1) made
+
+by_utf8 : (b : Bool) (bytes : List ℕ) (x : Result Data SchemaRefusal) (d : Data) → is_utf8 bytes ≡ b → cond b x (Err NotJson) ≡ Ok d → IsUtf8 bytes × (x ≡ Ok d)
+by_utf8 true bytes x d p e = (IsUtf8-from_is_utf8 bytes p, e)
+by_utf8 false bytes x d p e = cc e
+
+json_spelt : (bytes : List ℕ) (d : Data) → json_in bytes ≡ Ok d → IsUtf8 bytes × (json.read bytes ≡ Some d)
+unfolding json_in
+json_spelt bytes d e =
+    let r = by_utf8 (is_utf8 bytes) bytes (faults.wanted NotJson (json.read bytes)) d refl e in
+    (r.0, wanted_ok NotJson (json.read bytes) d r.1)
+
+pub schema_spelt : (bytes : List ℕ) (ts : List TableEntry) (us : List Table) → entries_in bytes ≡ Ok ts → each placed ts ≡ Ok us → IsSchema (record { tables = us }) → IsSchemaText bytes (record { tables = us })
+unfolding entries_in
+schema_spelt bytes ts us e is whole =
+    let (d, p0, q0) = bind_ok (json_in bytes) _ ts e in
+    let (keys, p1, q1) = bind_ok (keys_in 1 d) _ ts q0 in
+    let (m, p2, q2) = bind_ok (field_in (codes "tables") d) _ ts q1 in
+    let (ds, p3, q3) = bind_ok (items_in m) _ ts q2 in
+    let text = json_spelt bytes d p0 in
+    record {
+      text = text.0;
+      value = d;
+      json = text.1;
+      keys = keys_spelt 1 d keys p1;
+      tables = (m, wanted_ok Shape _ m p2, array_spelt IsTableText m ds us p3 (pairs_through table_spelt ds ts us (each_ok table_in ds ts q3) (each_ok placed ts us is)));
+      whole = whole;
+    }

@@ -1,0 +1,8 @@
+use Rattle.std.proofs.Common.{length}
+use Rattle.schema.specs.Databases.{HaveWidth}
+use Rattle.store.specs.Columns.{rows_of}
+use Rattle.store.proofs.ColumnRows.{have_width}
+use Rattle.store.proofs.columns.Columns.width.Goals as goal
+
+pub returns : goal.returns
+returns c = rw (c.as_slice.ensures.value, ← c.self.view_is) (have_width c.self.inside.columns.items c.self.inside.count)

@@ -1,0 +1,68 @@
+//! Texts one after another in one string.
+
+ghost use Rattle.std.specs.Prelude.{◌≡◌, ◌∷◌, ◌++◌, ◌<◌, ◌≤◌, [], length, slice_index_or, OnOk};
+ghost use Rattle.store.specs.Texts as spec;
+
+use std::alloc::{AllocError, Global};
+use std::marker::Model;
+use values::Items;
+
+/// A list of texts, kept as their bytes in a row and the place where each of them ends.
+#[derive(Drop)]
+pub struct Texts {
+    joined: String,
+    ends: Items<usize>,
+}
+
+impl Model for Texts {
+    ghost use Rattle.std.specs.Prelude.{List, ℕ, string_bytes};
+    ghost use Rattle.store.specs.Texts.{texts_of, AreEnds};
+
+    ghost Value = { List (List ℕ) };
+
+    ghost view = { λ t. texts_of (string_bytes t.joined) t.ends };
+
+    ghost invariant = { λ t. AreEnds (string_bytes t.joined) t.ends };
+}
+
+/// Where the text with this number begins.
+fn start_of(ends: &[usize], number: usize) -> usize
+    requires { number ≤ length ends.now }
+    ensures { result ≡ spec.start_of ends.now number }
+{
+    if number == 0 { 0 } else { ends[number - 1] }
+}
+
+impl Texts {
+    pub fn new(alloc: Global) -> Texts
+        ensures { result ≡ [] }
+    {
+        Texts {
+            joined: String::new(alloc),
+            ends: Items::new(alloc),
+        }
+    }
+
+    pub fn push(&mut self, text: &str) -> Result<(), AllocError>
+        ensures { OnOk result (self.new ≡ self.old ++ text.now ∷ []) }
+    {
+        let Some(end) = self.joined.len().checked_add(text.len()) else {
+            return Err(AllocError);
+        };
+        self.ends.push(end)?;
+        if self.joined.push_str(text).is_err() {
+            self.ends.pop();
+            return Err(AllocError);
+        }
+        Ok(())
+    }
+
+    /// The text with this number.
+    pub fn text(&self, number: usize) -> &str
+        requires { number < length self.now }
+        ensures { result.now ≡ slice_index_or self.now number [] }
+    {
+        let ends = self.ends.as_slice();
+        &self.joined[start_of(ends, number)..ends[number]]
+    }
+}
