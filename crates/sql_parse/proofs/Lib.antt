@@ -2,6 +2,8 @@ pub mod GrammarFaults
 pub mod GrammarLoops
 pub mod GrammarTexts
 pub mod GrammarTrees
+pub mod SqlDecided
+pub mod SqlLoops
 pub mod TextQuotes
 pub mod TextRuns
 pub mod TextSpelled

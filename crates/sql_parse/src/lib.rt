@@ -2,9 +2,13 @@
 #![tactic(auto)]
 
 pub mod ast;
+mod class;
+mod clauses;
 pub mod fault;
 mod lexer;
 mod parser;
+mod reading;
+pub mod statement;
 mod token;
 
 pub use ast::{Ast, Filter, Name};
