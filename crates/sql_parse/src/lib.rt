@@ -4,6 +4,7 @@
 pub mod ast;
 mod class;
 mod clauses;
+mod conditions;
 pub mod fault;
 mod lexer;
 mod parser;
