@@ -4,6 +4,7 @@ pub mod GrammarTexts
 pub mod GrammarTrees
 pub mod SqlDecided
 pub mod SqlLoops
+pub mod SqlTexts
 pub mod TextQuotes
 pub mod TextRuns
 pub mod TextSpelled

@@ -6,4 +6,5 @@ pub mod ReadingFaults
 pub mod ReadingTrees
 pub mod Sql
 pub mod StatementReading
+pub mod Statements
 pub mod Tokens
