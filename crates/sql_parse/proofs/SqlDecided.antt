@@ -1,16 +1,15 @@
 -- One token of look-ahead decides the grammar of statements.
-use Rattle.std.specs.Prelude.{pos}
-use Rattle.std.proofs.Common.{◌≡◌, ℕ, Bool, true, false, List, [], ◌∷◌, ◌++◌, Option, Some, None, inl, inr, refl}
+use Rattle.std.proofs.Common.{◌≡◌, true, false, List, [], ◌∷◌, None, inl, inr, refl}
 use Rattle.values.specs.declared.value.Value.TheVariants as value
-use Rattle.grammar.specs.Grammars.{Grammar, tok, seq, map, many, after, separated}
-use Rattle.grammar.specs.Words.{In, Nested, Within}
+use Rattle.grammar.specs.Grammars.{seq}
+use Rattle.grammar.specs.Words.{Within}
 use Rattle.grammar.specs.Readers.{decides, paired, Sample, IsDecided}
 use Rattle.sql_parse.specs.declared.ast.Name.{Name}
 use Rattle.sql_parse.specs.declared.class.Clause.{Clause}
 use Rattle.sql_parse.specs.declared.class.Clause.TheVariants as clauses
 use Rattle.sql_parse.specs.declared.statement.Condition.{Condition}
 use Rattle.sql_parse.specs.declared.statement.Condition.TheVariants as c
-use Rattle.sql_parse.specs.declared.statement.Select.{Select, roll-Select}
+use Rattle.sql_parse.specs.declared.statement.Select.{roll-Select}
 use Rattle.sql_parse.specs.declared.statement.SelectList.TheVariants as list
 use Rattle.sql_parse.specs.declared.statement.Chain.{Chain, roll-Chain}
 use Rattle.sql_parse.specs.declared.statement.Term.TheVariants as term
@@ -18,7 +17,7 @@ use Rattle.sql_parse.specs.declared.token.Keyword.TheVariants as k
 use Rattle.sql_parse.specs.declared.token.Symbol.TheVariants as s
 use Rattle.sql_parse.specs.declared.token.Token.{Token}
 use Rattle.sql_parse.specs.declared.token.TokenKind.TheVariants as token
-use Rattle.sql_parse.specs.Sql.{Place, of_condition, of_select, of_count, of_column, Sql, sample, a_name, a_literal, an_operator, a_column, an_alias, a_table, a_term, a_comparison, null_test, a_null_test, a_membership, a_missing, a_test, a_tested, an_existence, a_primary, a_negation, a_conjunction, a_condition, a_join_kind, a_join, a_chain, an_aggregate, a_count, an_item_value, an_item, a_list, the_columns, a_filter, a_group, a_from, a_head, a_select, a_direction, a_key, an_order, a_statement, body, sql}
+use Rattle.sql_parse.specs.Sql.{Place, of_condition, of_select, of_count, of_column, sample, a_name, a_literal, an_operator, a_column, an_alias, a_table, a_term, a_comparison, null_test, a_null_test, a_membership, a_missing, a_test, a_tested, an_existence, a_primary, a_negation, a_conjunction, a_condition, a_join_kind, a_join, a_chain, an_aggregate, a_count, an_item_value, an_item, a_list, the_columns, a_filter, a_group, a_from, a_head, a_select, a_direction, a_key, an_order, a_statement, body, sql}
 
 pub body_decided : (A : Type 0) (p : Place A) → decides sql (32 ∷ []) (body A p) ≡ true
 unfolding a_name a_literal an_operator a_column an_alias a_table a_term a_comparison a_null_test a_membership a_missing a_test a_tested an_existence a_primary a_negation a_conjunction a_condition a_join_kind a_join a_chain an_aggregate a_count an_item_value an_item a_list the_columns a_filter a_group a_from a_head a_select
@@ -135,7 +134,7 @@ unfolding a_select
 select_word =
     let rest : Within sql 0 (seq a_from (seq a_filter a_group)) (from_token ∷ named ∷ []) (some_chain ∷ [], (None, [])) = (from_token ∷ named ∷ [], [], refl, from_word, tail_word) in
     let behind : Within sql 0 (seq a_list (seq a_from (seq a_filter a_group))) (star ∷ from_token ∷ named ∷ []) (list.Star 0, (some_chain ∷ [], (None, []))) =
-        (star ∷ [], from_token ∷ named ∷ [], refl, list_word, rest) in
+    (star ∷ [], from_token ∷ named ∷ [], refl, list_word, rest) in
     ((false, (list.Star 0, (some_chain ∷ [], (None, [])))), refl, (select_token ∷ [], star ∷ from_token ∷ named ∷ [], refl, head_word, behind))
 
 count_word : Within sql 0 a_count (star ∷ []) None

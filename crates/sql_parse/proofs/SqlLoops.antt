@@ -1,15 +1,15 @@
 -- The lists of the grammar, item by item, and parentheses that are opened.
-use Rattle.std.proofs.Common.{◌≡◌, ℕ, ◌-◌, ◌<◌, Bool, true, false, List, [], ◌∷◌, ◌++◌, length, Result, Ok, Err, refl}
-use Rattle.grammar.specs.Grammars.{Grammar, tok, many, after, closed}
+use Rattle.std.proofs.Common.{◌≡◌, ℕ, ◌-◌, ◌<◌, true, List, [], ◌∷◌, ◌++◌, length, Result, Ok, refl}
+use Rattle.grammar.specs.Grammars.{many, after, closed}
 use Rattle.grammar.specs.Readers.{decides, paired, sees, first, parse, inside, with_front}
-use Rattle.grammar.proofs.Turns.{inside_opened, takes, turn_ok as turn_ok_of, less as less_of}
+use Rattle.grammar.proofs.Turns.{inside_opened, turn_ok as turn_ok_of, less as less_of}
 use Rattle.sql_parse.specs.declared.class.Clause.{Clause}
 use Rattle.sql_parse.specs.declared.class.Clause.TheVariants as clauses
 use Rattle.sql_parse.specs.declared.fault.ParseRefusal.{ParseRefusal}
 use Rattle.sql_parse.specs.declared.token.Keyword.TheVariants as k
 use Rattle.sql_parse.specs.declared.token.Symbol.TheVariants as s
 use Rattle.sql_parse.specs.declared.token.Token.{Token}
-use Rattle.sql_parse.specs.Sql.{Place, Sql, symbol, keyword, a_name, a_literal, an_operator, a_column, an_alias, a_table, a_term, a_comparison, a_null_test, a_membership, a_missing, a_test, a_tested, an_existence, a_primary, a_negation, a_conjunction, a_condition, a_join_kind, a_join, a_chain, an_aggregate, a_count, an_item_value, an_item, a_direction, a_key, sql}
+use Rattle.sql_parse.specs.Sql.{Place, Sql, symbol, keyword, a_name, a_literal, an_operator, a_column, an_alias, a_table, a_term, a_comparison, a_null_test, a_membership, a_missing, a_test, a_tested, an_existence, a_primary, a_negation, a_conjunction, a_condition, a_join_kind, a_join, a_chain, an_aggregate, an_item_value, an_item, a_direction, a_key, sql}
 use Rattle.sql_parse.specs.StatementReading.{told, reads}
 use Rattle.sql_parse.proofs.SqlDecided.{is_decided}
 

@@ -1,5 +1,5 @@
 -- From the tokens of a text to its statement, or to why there is none.
-use Rattle.std.proofs.Common.{◌≡◌, ℕ, ◌≤◌, List, length, Result, Ok, Err, refl, sym, ◌∙◌, ap, subst}
+use Rattle.std.proofs.Common.{◌≡◌, ◌≤◌, List, length, Result, Ok, Err, refl, sym, subst}
 use Rattle.std.specs.Prelude.{IfOk, IfErr}
 use Rattle.std.specs.Str.{IsUtf8}
 use Rattle.values.specs.declared.fault.Fault.{Fault as Refusing}
@@ -9,14 +9,13 @@ use Rattle.grammar.specs.Readers.{whole}
 use Rattle.grammar.specs.Faults.{Fault, Unexpected, TooDeep, IsFirstFault}
 use Rattle.grammar.proofs.Telling.{tell}
 use Rattle.grammar.proofs.Verdicts.{found, only, refused}
-use Rattle.sql_parse.specs.declared.fault.ParseReason.TheVariants as reason
 use Rattle.sql_parse.specs.declared.fault.ParseRefusal.{ParseRefusal}
 use Rattle.sql_parse.specs.declared.parser.TheConstants.{MAX_TEXT}
 use Rattle.sql_parse.specs.declared.statement.Statement.{Statement}
 use Rattle.sql_parse.specs.declared.token.Token.{Token}
 use Rattle.sql_parse.specs.Sql.{sql, a_statement}
 use Rattle.sql_parse.specs.StatementReading.{told}
-use Rattle.sql_parse.specs.Statements.{ReadsStatement, IsFaultFor, IsStatementFault, limit}
+use Rattle.sql_parse.specs.Statements.{ReadsStatement, IsStatementFault, limit}
 use Rattle.sql_parse.specs.ReadingFaults.{IfRefused}
 use Rattle.sql_parse.specs.Tokens.{Bytes, AreTokens}
 use Rattle.sql_parse.proofs.SqlDecided.{is_decided, statement_decided, statement_paired}

@@ -1,5 +1,5 @@
 -- The grammar of SELECT statements (this project's profile of SQL), production by production.
-use Rattle.std.specs.Prelude.{◌≡◌, ℕ, pos, Bool, true, false, is_some, List, [], ◌∷◌, Option, Some, None}
+use Rattle.std.specs.Prelude.{ℕ, pos, Bool, true, false, is_some, List, [], ◌∷◌, Option, Some, None}
 use Rattle.values.specs.declared.truth.Comparison.{Comparison}
 use Rattle.values.specs.declared.truth.Comparison.TheVariants as by
 use Rattle.values.specs.declared.value.Value.{Value}

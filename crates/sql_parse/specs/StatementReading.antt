@@ -1,9 +1,8 @@
 -- How a statement's tokens are read. `end` is where the end of the text stands.
 use Rattle.std.specs.Prelude.{ℕ, List, [], ◌∷◌}
-use Rattle.grammar.specs.Readers.{Reader, Told, parse, inside, whole}
+use Rattle.grammar.specs.Readers.{Reader, Told, parse, inside}
 use Rattle.sql_parse.specs.declared.fault.ParseReason.TheVariants.{Unexpected, TooDeep}
 use Rattle.sql_parse.specs.declared.fault.ParseRefusal.{ParseRefusal}
-use Rattle.sql_parse.specs.declared.statement.Statement.{Statement}
 use Rattle.sql_parse.specs.declared.token.Token.{Token}
 use Rattle.sql_parse.specs.Reading.{refusal}
 use Rattle.sql_parse.specs.Sql.{Sql, sql}

@@ -97,12 +97,7 @@ fn aggregate_by(
 }
 
 #[tactic(auto, unfolding(crate::specs::Sql::an_aggregate))]
-fn aggregate(
-    alloc: Global,
-    tokens: &[Token],
-    end: usize,
-    depth: usize,
-) -> Parsed<'_, AggregateCall>
+fn aggregate(alloc: Global, tokens: &[Token], end: usize, depth: usize) -> Parsed<'_, AggregateCall>
     ensures { Gives (λ x. (x.0, x.1.now)) result (reads end depth grammar.an_aggregate tokens.now) }
 {
     if sees(tokens, Class::Keyword(Keyword::Count)) {
@@ -115,11 +110,32 @@ fn aggregate(
         };
         Ok((call, rest))
     } else if sees(tokens, Class::Keyword(Keyword::Sum)) {
-        aggregate_by(alloc, tokens, end, depth, Keyword::Sum, AggregateFunction::Sum)
+        aggregate_by(
+            alloc,
+            tokens,
+            end,
+            depth,
+            Keyword::Sum,
+            AggregateFunction::Sum,
+        )
     } else if sees(tokens, Class::Keyword(Keyword::Min)) {
-        aggregate_by(alloc, tokens, end, depth, Keyword::Min, AggregateFunction::Min)
+        aggregate_by(
+            alloc,
+            tokens,
+            end,
+            depth,
+            Keyword::Min,
+            AggregateFunction::Min,
+        )
     } else {
-        aggregate_by(alloc, tokens, end, depth, Keyword::Max, AggregateFunction::Max)
+        aggregate_by(
+            alloc,
+            tokens,
+            end,
+            depth,
+            Keyword::Max,
+            AggregateFunction::Max,
+        )
     }
 }
 

@@ -19,4 +19,6 @@ pub use parser::{parse, parse_bytes};
 pub use statement_parser::{parse_statement, parse_statement_bytes};
 
 #[cfg(test)]
+mod statement_tests;
+#[cfg(test)]
 mod tests;

@@ -147,12 +147,7 @@ pub fn column(alloc: Global, tokens: &[Token], end: usize, depth: usize) -> Pars
 
 /// `[[AS] name]`
 #[tactic(auto, unfolding(crate::specs::Sql::an_alias, crate::specs::Sql::a_name))]
-pub fn alias(
-    alloc: Global,
-    tokens: &[Token],
-    end: usize,
-    depth: usize,
-) -> Parsed<'_, Option<Name>>
+pub fn alias(alloc: Global, tokens: &[Token], end: usize, depth: usize) -> Parsed<'_, Option<Name>>
     ensures { Gives (λ x. (x.0, x.1.now)) result (reads end depth grammar.an_alias tokens.now) }
 {
     if sees(tokens, Class::Keyword(Keyword::As)) {
@@ -191,12 +186,7 @@ pub fn term(alloc: Global, tokens: &[Token], end: usize, depth: usize) -> Parsed
     }
 }
 
-fn next_column(
-    alloc: Global,
-    tokens: &[Token],
-    end: usize,
-    depth: usize,
-) -> Parsed<'_, ColumnName>
+fn next_column(alloc: Global, tokens: &[Token], end: usize, depth: usize) -> Parsed<'_, ColumnName>
     ensures { Gives (λ x. (x.0, x.1.now)) result (reads end depth (after (grammar.symbol Symbol.Comma) grammar.a_column) tokens.now) }
 {
     let (_, rest) = expect(tokens, end, Class::Symbol(Symbol::Comma))?;

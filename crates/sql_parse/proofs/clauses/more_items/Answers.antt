@@ -1,4 +1,4 @@
-use Rattle.std.proofs.Common.{◌≡◌, sym, ◌∙◌}
+use Rattle.std.proofs.Common.{sym, ◌∙◌}
 use Rattle.sql_parse.specs.declared.token.Symbol.TheVariants as s
 use Rattle.grammar.specs.Grammars.{after}
 use Rattle.sql_parse.specs.Sql.{symbol, an_item}
