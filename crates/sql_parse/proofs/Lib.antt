@@ -2,6 +2,9 @@ pub mod GrammarFaults
 pub mod GrammarLoops
 pub mod GrammarTexts
 pub mod GrammarTrees
+pub mod SqlDecided
+pub mod SqlLoops
+pub mod SqlTexts
 pub mod TextQuotes
 pub mod TextRuns
 pub mod TextSpelled

@@ -2,14 +2,23 @@
 #![tactic(auto)]
 
 pub mod ast;
+mod class;
+mod clauses;
+mod conditions;
 pub mod fault;
 mod lexer;
 mod parser;
+mod reading;
+pub mod statement;
+mod statement_parser;
 mod token;
 
 pub use ast::{Ast, Filter, Name};
 pub use fault::{ParseFault, ParseReason, ParseRefusal};
 pub use parser::{parse, parse_bytes};
+pub use statement_parser::{parse_statement, parse_statement_bytes};
 
+#[cfg(test)]
+mod statement_tests;
 #[cfg(test)]
 mod tests;

@@ -1,0 +1,9 @@
+pub mod Complete
+pub mod Laws
+pub mod Outcomes
+pub mod Rooms
+pub mod Samples
+pub mod Telling
+pub mod Tests
+pub mod Turns
+pub mod Verdicts

@@ -1,0 +1,4 @@
+pub mod Faults
+pub mod Grammars
+pub mod Readers
+pub mod Words

@@ -1,0 +1,230 @@
+//! From tokens to the parts of a statement that hold no condition. The readers take the tokens that are left, `end`, the
+//! place of the text's end, and `depth`, how many parentheses may still be opened.
+
+ghost use Rattle.std.specs.Prelude.{◌≡◌, ◌∷◌, [], IfOk};
+ghost use Rattle.grammar.specs.Grammars.{after, many, nested, tok};
+ghost use Rattle.grammar.specs.Readers.{one, sees as sees_next, with_front};
+ghost use Rattle.values.specs.Faults.{Gives};
+ghost use Rattle.values.specs.declared.fault.Fault.TheVariants.{Refused};
+ghost use Rattle.sql_parse.specs.Classes.{class_number};
+ghost use Rattle.sql_parse.specs.Sql as grammar;
+ghost use Rattle.sql_parse.specs.Sql.{sql, of_count, of_column};
+ghost use Rattle.sql_parse.specs.StatementReading as spec;
+ghost use Rattle.sql_parse.specs.StatementReading.{told, reads};
+
+use crate::ast::Name;
+use crate::class::{Class, number_of};
+use crate::fault::{ParseFault, ParseReason, refused};
+use crate::statement::{ColumnName, Operator, TableName, Term};
+use crate::token::{Keyword, Symbol, Token, TokenKind};
+use std::alloc::{AllocError, Global};
+use values::{Comparison, Items, Text, Value};
+
+/// What is read, and the tokens behind it.
+pub type Parsed<'t, A> = Result<(A, &'t [Token]), ParseFault>;
+
+/// The fault of what stands next.
+pub fn fault(reason: ParseReason, tokens: &[Token], end: usize) -> ParseFault
+    ensures { result ≡ Refused (record { reason = reason; at = spec.place end tokens.now }) }
+{
+    match tokens {
+        [] => refused(reason, end),
+        [token, ..] => refused(reason, token.at),
+    }
+}
+
+/// Whether the next token is of the class.
+pub fn sees(tokens: &[Token], class: Class) -> bool
+    ensures { result ≡ sees_next sql (class_number class ∷ []) tokens.now }
+{
+    match tokens {
+        [] => false,
+        [token, ..] => number_of(&token.kind) == class.number(),
+    }
+}
+
+/// The next token, which has to be of the class.
+pub fn expect(tokens: &[Token], end: usize, class: Class) -> Parsed<'_, &Token>
+    ensures { Gives (λ x. (x.0.now, x.1.now)) result (one sql (told end) (class_number class) tokens.now) }
+{
+    match tokens {
+        [token, behind @ ..] if number_of(&token.kind) == class.number() => Ok((token, behind)),
+        _ => Err(fault(ParseReason::Unexpected, tokens, end)),
+    }
+}
+
+/// The name that a name token is.
+fn name_of(alloc: Global, token: &Token) -> Result<Name, AllocError>
+    ensures { IfOk result (λ name. name ≡ grammar.name_of token.now) }
+{
+    let text = match &token.kind {
+        TokenKind::Name(text) => text.copy(alloc)?,
+        _ => Text::new(String::new(alloc)),
+    };
+    Ok(Name { text, at: token.at })
+}
+
+/// The value that a literal token is.
+fn value_in(alloc: Global, kind: &TokenKind) -> Result<Value, AllocError>
+    ensures { IfOk result (λ value. value ≡ grammar.value_in kind.now) }
+{
+    match kind {
+        TokenKind::Number(number) => Ok(Value::Int(i128::from(*number))),
+        TokenKind::Text(text) => Ok(Value::Text(text.copy(alloc)?)),
+        _ => Ok(Value::Null),
+    }
+}
+
+/// The comparison that a comparison token is.
+fn comparison_in(kind: &TokenKind) -> Comparison
+    ensures { result ≡ grammar.comparison_in kind.now }
+{
+    match kind {
+        TokenKind::Comparison(comparison) => *comparison,
+        _ => Comparison::Equal,
+    }
+}
+
+#[tactic(auto, unfolding(crate::specs::Sql::a_name))]
+pub fn name(alloc: Global, tokens: &[Token], end: usize, depth: usize) -> Parsed<'_, Name>
+    ensures { Gives (λ x. (x.0, x.1.now)) result (reads end depth grammar.a_name tokens.now) }
+{
+    let (token, rest) = expect(tokens, end, Class::Name)?;
+    Ok((name_of(alloc, token)?, rest))
+}
+
+/// `number | text | NULL`
+#[tactic(auto, unfolding(crate::specs::Sql::a_literal))]
+fn literal(alloc: Global, tokens: &[Token], end: usize, depth: usize) -> Parsed<'_, Value>
+    ensures { Gives (λ x. (x.0, x.1.now)) result (reads end depth grammar.a_literal tokens.now) }
+{
+    if sees(tokens, Class::Number) {
+        let (token, rest) = expect(tokens, end, Class::Number)?;
+        Ok((value_in(alloc, &token.kind)?, rest))
+    } else if sees(tokens, Class::Text) {
+        let (token, rest) = expect(tokens, end, Class::Text)?;
+        Ok((value_in(alloc, &token.kind)?, rest))
+    } else {
+        let (_, rest) = expect(tokens, end, Class::Keyword(Keyword::Null))?;
+        Ok((Value::Null, rest))
+    }
+}
+
+#[tactic(auto, unfolding(crate::specs::Sql::an_operator))]
+pub fn operator(tokens: &[Token], end: usize, depth: usize) -> Parsed<'_, Operator>
+    ensures { Gives (λ x. (x.0, x.1.now)) result (reads end depth grammar.an_operator tokens.now) }
+{
+    let (token, rest) = expect(tokens, end, Class::Comparison)?;
+    let operator = Operator {
+        comparison: comparison_in(&token.kind),
+        at: token.at,
+    };
+    Ok((operator, rest))
+}
+
+/// `name [. name]`
+#[tactic(auto, unfolding(crate::specs::Sql::a_column))]
+pub fn column(alloc: Global, tokens: &[Token], end: usize, depth: usize) -> Parsed<'_, ColumnName>
+    ensures { Gives (λ x. (x.0, x.1.now)) result (reads end depth grammar.a_column tokens.now) }
+{
+    let (first, rest) = name(alloc, tokens, end, depth)?;
+    if sees(rest, Class::Symbol(Symbol::Dot)) {
+        let (_, rest) = expect(rest, end, Class::Symbol(Symbol::Dot))?;
+        let (second, rest) = name(alloc, rest, end, depth)?;
+        let column = ColumnName {
+            table: Some(first),
+            name: second,
+        };
+        Ok((column, rest))
+    } else {
+        let column = ColumnName {
+            table: None,
+            name: first,
+        };
+        Ok((column, rest))
+    }
+}
+
+/// `[[AS] name]`
+#[tactic(auto, unfolding(crate::specs::Sql::an_alias, crate::specs::Sql::a_name))]
+pub fn alias(alloc: Global, tokens: &[Token], end: usize, depth: usize) -> Parsed<'_, Option<Name>>
+    ensures { Gives (λ x. (x.0, x.1.now)) result (reads end depth grammar.an_alias tokens.now) }
+{
+    if sees(tokens, Class::Keyword(Keyword::As)) {
+        let (_, rest) = expect(tokens, end, Class::Keyword(Keyword::As))?;
+        let (found, rest) = name(alloc, rest, end, depth)?;
+        Ok((Some(found), rest))
+    } else if sees(tokens, Class::Name) {
+        let (found, rest) = name(alloc, tokens, end, depth)?;
+        Ok((Some(found), rest))
+    } else {
+        Ok((None, tokens))
+    }
+}
+
+/// `name [[AS] name]`
+#[tactic(auto, unfolding(crate::specs::Sql::a_table))]
+pub fn table(alloc: Global, tokens: &[Token], end: usize, depth: usize) -> Parsed<'_, TableName>
+    ensures { Gives (λ x. (x.0, x.1.now)) result (reads end depth grammar.a_table tokens.now) }
+{
+    let (name, rest) = name(alloc, tokens, end, depth)?;
+    let (alias, rest) = alias(alloc, rest, end, depth)?;
+    Ok((TableName { name, alias }, rest))
+}
+
+/// `column | number | text | NULL`
+#[tactic(auto, unfolding(crate::specs::Sql::a_term, crate::specs::Sql::a_column, crate::specs::Sql::a_name))]
+pub fn term(alloc: Global, tokens: &[Token], end: usize, depth: usize) -> Parsed<'_, Term>
+    ensures { Gives (λ x. (x.0, x.1.now)) result (reads end depth grammar.a_term tokens.now) }
+{
+    if sees(tokens, Class::Name) {
+        let (column, rest) = column(alloc, tokens, end, depth)?;
+        Ok((Term::Column(column), rest))
+    } else {
+        let (value, rest) = literal(alloc, tokens, end, depth)?;
+        Ok((Term::Literal(value), rest))
+    }
+}
+
+fn next_column(alloc: Global, tokens: &[Token], end: usize, depth: usize) -> Parsed<'_, ColumnName>
+    ensures { Gives (λ x. (x.0, x.1.now)) result (reads end depth (after (grammar.symbol Symbol.Comma) grammar.a_column) tokens.now) }
+{
+    let (_, rest) = expect(tokens, end, Class::Symbol(Symbol::Comma))?;
+    column(alloc, rest, end, depth)
+}
+
+/// `{, column}`
+fn more_columns(
+    alloc: Global,
+    first: Items<ColumnName>,
+    tokens: &[Token],
+    end: usize,
+    depth: usize,
+) -> Parsed<'_, Items<ColumnName>>
+    ensures { Gives (λ x. (x.0, x.1.now)) result (with_front first (reads end depth (many (after (grammar.symbol Symbol.Comma) grammar.a_column)) tokens.now)) }
+{
+    let mut all = first;
+    let mut rest = tokens;
+    'columns: while sees(rest, Class::Symbol(Symbol::Comma)) {
+        let (found, behind) = next_column(alloc, rest, end, depth)?;
+        all.push(found)?;
+        rest = behind;
+    }
+    Ok((all, rest))
+}
+
+/// `column {, column}`
+#[tactic(auto, unfolding(crate::specs::Sql::the_columns))]
+pub fn columns(
+    alloc: Global,
+    tokens: &[Token],
+    end: usize,
+    depth: usize,
+) -> Parsed<'_, Items<ColumnName>>
+    ensures { Gives (λ x. (x.0, x.1.now)) result (reads end depth grammar.the_columns tokens.now) }
+{
+    let (found, rest) = column(alloc, tokens, end, depth)?;
+    let mut first = Items::new(alloc);
+    first.push(found)?;
+    more_columns(alloc, first, rest, end, depth)
+}

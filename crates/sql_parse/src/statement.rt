@@ -1,0 +1,131 @@
+//! The tree of a statement of the whole language.
+
+use crate::ast::Name;
+use values::{Boxed, Comparison, Items, Value};
+
+/// `name` or `table.name`
+#[derive(Debug, Drop)]
+pub struct ColumnName {
+    pub table: Option<Name>,
+    pub name: Name,
+}
+
+#[derive(Debug, Drop)]
+pub enum Term {
+    Column(ColumnName),
+    Literal(Value),
+}
+
+#[derive(Clone, Copy, Debug, PartialEq, Eq)]
+pub struct Operator {
+    pub comparison: Comparison,
+    /// Its first byte in the text.
+    pub at: usize,
+}
+
+/// A condition. `x IS NOT NULL` is `Not` of `IsNull`, and `x NOT IN Q` is `Not` of `In`. AND and OR have at least two
+/// sides.
+#[cycle(tree)]
+#[derive(Debug, Drop)]
+pub enum Condition {
+    Compare(Term, Operator, Term),
+    IsNull(Term),
+    Not(Boxed<Condition>),
+    And(Items<Condition>),
+    Or(Items<Condition>),
+    Exists(Boxed<Select>),
+    /// The term, the first byte of IN in the text, and the subquery.
+    In(Term, usize, Boxed<Select>),
+}
+
+#[derive(Clone, Copy, Debug, PartialEq, Eq)]
+pub enum AggregateFunction {
+    Count,
+    Sum,
+    Min,
+    Max,
+}
+
+#[derive(Debug, Drop)]
+pub struct AggregateCall {
+    pub function: AggregateFunction,
+    /// Its first byte in the text.
+    pub at: usize,
+    /// `None` in `COUNT(*)`.
+    pub column: Option<ColumnName>,
+}
+
+#[derive(Debug, Drop)]
+pub enum ItemValue {
+    Column(ColumnName),
+    Aggregate(AggregateCall),
+}
+
+/// `value [[AS] alias]`
+#[derive(Debug, Drop)]
+pub struct SelectItem {
+    pub value: ItemValue,
+    pub alias: Option<Name>,
+}
+
+/// What stands behind SELECT.
+#[derive(Debug, Drop)]
+pub enum SelectList {
+    /// `*`, and its byte in the text.
+    Star(usize),
+    Items(Items<SelectItem>),
+}
+
+/// `table [[AS] alias]`
+#[derive(Debug, Drop)]
+pub struct TableName {
+    pub name: Name,
+    pub alias: Option<Name>,
+}
+
+#[derive(Clone, Copy, Debug, PartialEq, Eq)]
+pub enum JoinKind {
+    Inner,
+    Left,
+}
+
+/// `JOIN table ON condition`
+#[cycle(tree)]
+#[derive(Debug, Drop)]
+pub struct Join {
+    pub kind: JoinKind,
+    pub table: TableName,
+    pub condition: Boxed<Condition>,
+}
+
+/// A table and what is joined to it, from the left.
+#[cycle(tree)]
+#[derive(Debug, Drop)]
+pub struct Chain {
+    pub table: TableName,
+    pub joins: Items<Join>,
+}
+
+/// `SELECT .. FROM .. WHERE .. GROUP BY ..`, which may also stand as a subquery.
+#[cycle(tree)]
+#[derive(Debug, Drop)]
+pub struct Select {
+    pub distinct: bool,
+    pub list: SelectList,
+    pub from: Items<Chain>,
+    pub filter: Option<Boxed<Condition>>,
+    pub group: Items<ColumnName>,
+}
+
+/// A key of ORDER BY.
+#[derive(Debug, Drop)]
+pub struct OrderKey {
+    pub column: ColumnName,
+    pub descending: bool,
+}
+
+#[derive(Debug, Drop)]
+pub struct Statement {
+    pub select: Select,
+    pub order: Items<OrderKey>,
+}
