@@ -5,7 +5,8 @@ use Rattle.std.proofs.Math.Seq.{drop-cons}
 use Rattle.std.specs.Io.KnownBytes.{Appends, Keeps}
 use Rattle.csv.specs.Writing.{default_writer, row_text}
 use Rattle.schema.specs.Databases.{Row}
-use Rattle.executor.specs.AnswerText.{field_of, rows_text, HasFront}
+use Rattle.executor.specs.AnswerText.{rows_text, HasFront}
+use Rattle.store.specs.Fields.{field_of}
 
 pub appends_more : (a b c : Option (List ℕ)) (x y : List ℕ) → Appends a b x → Appends b c y → Appends a c (x ++ y)
 appends_more None b c x y h k = tt

@@ -6,17 +6,7 @@ use Rattle.csv.specs.Writing.{default_writer, row_text}
 use Rattle.values.specs.declared.value.Value.{Value}
 use Rattle.values.specs.declared.value.Value.TheVariants as value
 use Rattle.schema.specs.Databases.{Row}
-
--- a text that begins with `\` gets one more, so that none looks like Null
-abbrev pub escaped : List ℕ → List ℕ
-escaped [] = []
-escaped (b ∷ bs) = if b == 92 then 92 ∷ b ∷ bs else b ∷ bs
-
--- Null is `\N`, and a number stands in decimal
-abbrev pub field_of : Value → List ℕ
-field_of value.Null = codes "\\N"
-field_of (value.Int n) = signed_decimal n
-field_of (value.Text t) = escaped t
+use Rattle.store.specs.Fields.{field_of}
 
 -- a record a row
 abbrev pub rows_text : List Row → List ℕ

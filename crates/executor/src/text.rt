@@ -5,7 +5,8 @@ ghost use Rattle.std.specs.Io.KnownBytes.{Appends};
 ghost use Rattle.csv.specs.Writing.{default_writer, row_text};
 ghost use Rattle.csv.specs.Records.{fields_of};
 ghost use Rattle.store.specs.Devices.{Rose};
-ghost use Rattle.executor.specs.AnswerText.{escaped, field_of, rows_text, answer_text, HasFront};
+ghost use Rattle.executor.specs.AnswerText.{rows_text, answer_text, HasFront};
+ghost use Rattle.store.specs.Fields.{escaped, field_of};
 
 use crate::output::{AnswerOutput, OutputFailed, send};
 use binder::Query;

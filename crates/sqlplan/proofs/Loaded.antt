@@ -4,13 +4,13 @@ use Rattle.std.proofs.Math.ListN.{set}
 use Rattle.std.specs.List.{slice_get}
 use Rattle.std.proofs.lemmas.Bool.{cases_eq}
 use Rattle.std.proofs.lemmas.List.{get_or-map, get_or-set_same, get_or-set_other, length-set}
-use Rattle.csv.specs.Reading.{default_config, records, strip_bom}
 use Rattle.schema.specs.declared.schema.Schema.{Schema}
 use Rattle.schema.specs.declared.schema.Table.{Table}
 use Rattle.schema.specs.Databases.{Row, Database}
 use Rattle.store.specs.declared.fault.TableFault.{TableFault}
 use Rattle.store.specs.declared.fault.TableFault.TheVariants as faults
 use Rattle.store.specs.Devices.{Rose}
+use Rattle.store.specs.Tables.{records_of}
 use Rattle.store.specs.Databases.{Stored, ReplacesTable, LoadsTable, Loads}
 use Rattle.sqlplan.specs.declared.refusal.Refusal.{Refusal}
 use Rattle.sqlplan.specs.Refusals.{of_table}
@@ -37,13 +37,13 @@ said_there remaining tables d n P lt said bytes known =
 
 -- what a load told of its table's file
 told_there : (S : Schema) (old new : Stored) (n : ℕ) (t : Table) (bytes : List ℕ) (r : Result (Unit {0}) TableFault) → old.schema ≡ S → slice_get S.tables n ≡ Some t
-    → Loads old new n (records default_config (strip_bom bytes)) r → LoadsTable old new n t (records default_config (strip_bom bytes)) r
+    → Loads old new n (records_of bytes) r → LoadsTable old new n t (records_of bytes) r
 told_there S old new n t bytes r same at loads =
-    said_of (slice_get old.schema.tables n) t (λ t. LoadsTable old new n t (records default_config (strip_bom bytes)) r) (ap (λ (s : Schema). slice_get s.tables n) same ∙ at) loads
+    said_of (slice_get old.schema.tables n) t (λ t. LoadsTable old new n t (records_of bytes) r) (ap (λ (s : Schema). slice_get s.tables n) same ∙ at) loads
 
 pub loaded_more : (S : Schema) (inputs now : List Input) (counts later : List ℕ) (old new : Stored) (n : ℕ) (i : Input) (c : ℕ)
     → n < length old.tables → old.schema ≡ S → ReplacesTable old new n
-    → ((bytes : List ℕ) → get_or now n None ≡ Some bytes → Loads old new n (records default_config (strip_bom bytes)) (Ok tt))
+    → ((bytes : List ℕ) → get_or now n None ≡ Some bytes → Loads old new n (records_of bytes) (Ok tt))
     → IsLoaded S inputs now counts later n old.tables → IsLoaded S inputs (set now n i) counts (set later n c) (n + 1) new.tables
 loaded_more S inputs now counts later old new n i c lt same replaced loads before = record {
   told = told;
@@ -66,7 +66,7 @@ loaded_more S inputs now counts later old new n i c lt same replaced loads befor
 
 -- a load that fails after these
 pub load_fails : (S : Schema) (inputs now : List Input) (counts later : List ℕ) (old new : Stored) (n : ℕ) (fault : TableFault) (refusal : Refusal) → old.schema ≡ S
-    → ((bytes : List ℕ) → get_or now n None ≡ Some bytes → Loads old new n (records default_config (strip_bom bytes)) (Err fault))
+    → ((bytes : List ℕ) → get_or now n None ≡ Some bytes → Loads old new n (records_of bytes) (Err fault))
     → IsLoaded S inputs now counts later n old.tables → refusal ≡ of_table n fault → IsLoadFault S inputs refusal
 load_fails S inputs now counts later old new n faults.Memory refusal same loads before is = rw is tt
 load_fails S inputs now counts later old new n faults.Device refusal same loads before is = rw is tt

@@ -1,6 +1,5 @@
 -- From bytes to bytes.
 use Rattle.std.specs.Prelude.{◌≡◌, ◌<◌, ℕ, List, [], length, slice_get, slice_index_or, Option, Some, None, Result, Ok, Err}
-use Rattle.csv.specs.Reading.{default_config, records, strip_bom}
 use Rattle.schema.specs.declared.schema.Schema.{Schema}
 use Rattle.schema.specs.declared.schema.Table.{Table}
 use Rattle.schema.specs.Databases.{Row, Database, Satisfies}
@@ -9,7 +8,7 @@ use Rattle.sql_parse.specs.declared.ast.Ast.{Ast}
 use Rattle.sql_parse.specs.Grammar.{ReadsText, IsRefusal}
 use Rattle.store.specs.declared.fault.TableRefusal.{TableRefusal}
 use Rattle.store.specs.Devices.{Rose}
-use Rattle.store.specs.Tables.{IsTold}
+use Rattle.store.specs.Tables.{records_of, IsTold}
 use Rattle.binder.specs.declared.query.Query.{Query}
 use Rattle.binder.specs.Binding.{bound}
 use Rattle.binder.specs.Rows.{tables_of}
@@ -43,7 +42,7 @@ Input = Option (List ℕ)
 -- as the file of the table with this number, the input tells its rows or its first fault
 abbrev pub FileTells : Schema → List Input → ℕ → Result (List Row) TableRefusal → Type 0
 FileTells S inputs n told = (t : Table) (bytes : List ℕ) → slice_get S.tables n ≡ Some t → slice_index_or inputs n None ≡ Some bytes
-    → IsTold t (records default_config (strip_bom bytes)) told
+    → IsTold t (records_of bytes) told
 
 -- the inputs tell the rows of the first so many tables of the database
 abbrev pub TablesTold : Schema → List Input → ℕ → Database → Type 0

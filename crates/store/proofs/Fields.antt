@@ -10,7 +10,8 @@ use Rattle.store.specs.declared.fault.FieldFault.{FieldFault}
 use Rattle.store.specs.declared.fault.FieldFault.TheVariants.{BadEscape, NotNumber, NotText, NullValue}
 use Rattle.store.specs.Numbers.{begins_number}
 use Rattle.store.specs.Tells.{Tells}
-use Rattle.store.specs.Tables.{escaped, Stands, FieldFails}
+use Rattle.store.specs.Tables.{Stands, FieldFails}
+use Rattle.store.specs.Fields.{escaped}
 use Rattle.store.specs.Parsing.{IsPlain, PlainFails}
 use Rattle.store.proofs.Decimals.{other_front}
 

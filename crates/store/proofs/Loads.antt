@@ -12,7 +12,8 @@ use Rattle.store.specs.declared.fault.TableRefusal.{TableRefusal}
 use Rattle.store.specs.declared.records.Parsed.{Parsed}
 use Rattle.store.specs.declared.unique.Repeat.{Repeat}
 use Rattle.schema.specs.Databases.{HaveWidth}
-use Rattle.store.specs.Tables.{Record, field_of, IsText, StandFor, names_of, UniqueTo, RepeatsAt, RepeatsFirst, IsTable, FaultAfter, IsFaulty, IsFirstFault}
+use Rattle.store.specs.Tables.{Record, IsText, StandFor, names_of, UniqueTo, RepeatsAt, RepeatsFirst, IsTable, FaultAfter, IsFaulty, IsFirstFault}
+use Rattle.store.specs.Fields.{field_of}
 use Rattle.store.specs.Parsing.{RecordFails, EndsAt, ParsesFile, EarliestRepeat}
 
 -- ---- widths and bounds

@@ -17,7 +17,8 @@ use Rattle.values.specs.declared.fault.Fault.{Fault}
 use Rattle.values.specs.declared.fault.Fault.TheVariants as fault
 use Rattle.store.specs.declared.records.Parsed.{Parsed}
 use Rattle.store.specs.Tells.{Tells}
-use Rattle.store.specs.Tables.{Record, field_of, IsText, Stands, StandFor, FieldFails, FieldsFail, names_of}
+use Rattle.store.specs.Tables.{Record, IsText, Stands, StandFor, FieldFails, FieldsFail, names_of}
+use Rattle.store.specs.Fields.{field_of}
 use Rattle.store.specs.Parsing.{in_field, Parses, ParsesFile, RowFails, Written, RecordFails}
 
 -- ---- the fields of a record, one after the other

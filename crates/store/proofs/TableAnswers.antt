@@ -16,7 +16,8 @@ use Rattle.store.specs.declared.fault.TableCause.{TableCause}
 use Rattle.store.specs.declared.fault.TableCause.TheVariants.{OtherHeader, OtherLength, Field, Repeated, TooMany}
 use Rattle.store.specs.declared.fault.TableRefusal.{TableRefusal}
 use Rattle.store.specs.Numbers.{begins_number}
-use Rattle.store.specs.Tables.{Record, escaped, field_of, IsText, Stands, StandFor, IsTable, FieldFails, FieldsFail, UniqueTo, RepeatsAt, RepeatsFirst, FaultAfter, IsFirstFault, Told, IsTold}
+use Rattle.store.specs.Tables.{Record, IsText, Stands, StandFor, IsTable, FieldFails, FieldsFail, UniqueTo, RepeatsAt, RepeatsFirst, FaultAfter, IsFirstFault, Told, IsTold}
+use Rattle.store.specs.Fields.{escaped, field_of}
 use Rattle.store.proofs.Decimals.{signed_begins}
 use Rattle.store.proofs.Fields.{no_digit, no_escape}
 use Rattle.store.proofs.ReadRecords.{row_is}

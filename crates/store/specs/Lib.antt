@@ -2,6 +2,7 @@ pub mod Columns
 pub mod Databases
 pub mod Devices
 pub mod Faults
+pub mod Fields
 pub mod Keys
 pub mod Numbers
 pub mod Parsing

@@ -22,7 +22,8 @@ use Rattle.store.specs.declared.fault.TableFault.{TableFault}
 use Rattle.store.specs.declared.fault.TableFault.TheVariants as faults
 use Rattle.store.specs.declared.records.Parsed.{Parsed}
 use Rattle.store.specs.declared.unique.Repeat.{Repeat}
-use Rattle.store.specs.Tables.{Record, field_of, names_of, IsText, IsNumber, FieldsFail, UniqueTo, RepeatsFirst, IsTold}
+use Rattle.store.specs.Tables.{Record, names_of, IsText, IsNumber, FieldsFail, UniqueTo, RepeatsFirst, IsTold}
+use Rattle.store.specs.Fields.{field_of}
 
 -- the bytes are a value of the kind that isn't Null
 abbrev pub IsPlain : Kind → List ℕ → Value → Type 0

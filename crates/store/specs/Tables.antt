@@ -4,6 +4,7 @@ use Rattle.std.specs.Int.{w64}
 use Rattle.std.specs.Fmt.{signed_decimal}
 use Rattle.std.specs.List.{AllByRecursion, list_any}
 use Rattle.std.specs.Str.{IsUtf8}
+use Rattle.csv.specs.Reading.{default_config, records, strip_bom}
 use Rattle.values.specs.declared.value.Value.{Value}
 use Rattle.values.specs.declared.value.Value.TheVariants as value
 use Rattle.values.specs.Truth.{is_null}
@@ -11,6 +12,7 @@ use Rattle.schema.specs.declared.schema.Kind.TheVariants as kind
 use Rattle.schema.specs.declared.schema.Column.{Column}
 use Rattle.schema.specs.declared.schema.Table.{Table}
 use Rattle.schema.specs.Databases.{Row, FitsColumn, values_at, SatisfiesTable, most_rows}
+use Rattle.store.specs.Fields.{escaped, field_of}
 use Rattle.store.specs.declared.fault.FieldFault.{FieldFault}
 use Rattle.store.specs.declared.fault.FieldFault.TheVariants.{BadEscape, NotNumber, NotText, NullValue}
 use Rattle.store.specs.declared.fault.TableCause.{TableCause}
@@ -21,16 +23,9 @@ use Rattle.store.specs.declared.fault.TableRefusal.{TableRefusal}
 abbrev pub Record : Type 0
 Record = List (List ℕ)
 
--- a text as its field
-abbrev pub escaped : List ℕ → List ℕ
-escaped [] = []
-escaped (b ∷ bs) = if b == 92 then 92 ∷ b ∷ bs else b ∷ bs
-
--- a value as its field
-abbrev pub field_of : Value → List ℕ
-field_of value.Null = codes "\\N"
-field_of (value.Int n) = signed_decimal n
-field_of (value.Text t) = escaped t
+-- the records of a file's bytes, as csv reads them by default; a byte order mark before them is none of them
+abbrev pub records_of : List ℕ → List Record
+records_of bytes = records default_config (strip_bom bytes)
 
 -- the names of the columns
 abbrev pub names_of : List Column → Record

@@ -1,7 +1,7 @@
 //! The tables of a schema.
 
 ghost use Rattle.std.specs.Prelude.{◌≡◌, ◌≢◌, ◌<◌, [], length, map, slice_get, slice_index_or, Some, IfOk, IfErr, OnOk, OnErr, IfSome};
-ghost use Rattle.csv.specs.Reading.{default_config, records, strip_bom};
+ghost use Rattle.store.specs.Tables.{records_of};
 ghost use Rattle.schema.specs.Databases.{Satisfies};
 ghost use Rattle.store.specs.declared.fault.TableFault.TheVariants as faults;
 ghost use Rattle.store.specs.Devices.{Rose};
@@ -38,7 +38,7 @@ impl<'s> Model for Database<'s> {
 
 /// The table whose file the bytes are.
 fn table_of(alloc: Global, entry: &schema::Table, bytes: Vec<u8>) -> Result<Table, TableFault>
-    ensures { ReadsTable entry.now (records default_config (strip_bom bytes.items)) result }
+    ensures { ReadsTable entry.now (records_of bytes.items) result }
 {
     let columns = entry.columns.as_slice();
     let Ok(parsed) = parse(alloc, columns, bytes.as_slice()) else {
@@ -113,7 +113,7 @@ impl<'s> Database<'s> {
         input: &mut R,
     ) -> Result<(), TableFault>
         requires { table < length self.old.tables }
-        ensures exact { IfSome (R.remaining input.old) (λ bytes. Loads self.old self.new table (records default_config (strip_bom bytes)) result) }
+        ensures exact { IfSome (R.remaining input.old) (λ bytes. Loads self.old self.new table (records_of bytes) result) }
         ensures replaced { OnOk result (ReplacesTable self.old self.new table) }
         ensures schema { self.new.schema ≡ self.old.schema }
         ensures size { length self.new.tables ≡ length self.old.tables }

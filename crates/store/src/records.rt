@@ -2,7 +2,7 @@
 
 ghost use Rattle.std.specs.Prelude.{◌≡◌, ◌≤◌, ◌+◌, ◌↔◌, List, [], None, length, IfOk, IsTrue};
 ghost use Rattle.schema.specs.Databases.{most_rows};
-ghost use Rattle.csv.specs.Reading.{default_config, records, strip_bom};
+ghost use Rattle.store.specs.Tables.{records_of};
 ghost use Rattle.csv.specs.Records.{fields_of};
 ghost use Rattle.store.specs.Reading.{Remains, NextOf};
 ghost use Rattle.store.specs.Tables.{Record, StandFor, names_of};
@@ -175,7 +175,7 @@ fn file_of<R: Read>(
 
 /// The rows of a table's file, up to the first record that is at fault for itself alone.
 pub fn parse(alloc: Global, columns: &[Column], bytes: &[u8]) -> Result<Parsed, AllocError>
-    ensures exact { IfOk result (ParsesFile columns.now (records default_config (strip_bom bytes.now))) }
+    ensures exact { IfOk result (ParsesFile columns.now (records_of bytes.now)) }
 {
     let mut reader = ReaderBuilder::new()
         .has_headers(false)

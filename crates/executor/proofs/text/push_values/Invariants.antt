@@ -1,6 +1,6 @@
 use Rattle.std.proofs.Common.{◌≡◌, ◌++◌, take, map}
 use Rattle.csv.specs.Records.{fields_of}
-use Rattle.executor.specs.AnswerText.{field_of}
+use Rattle.store.specs.Fields.{field_of}
 use Rattle.executor.proofs.text.push_values.Given as goal
 
 abbrev pub invariant-loop-value : goal.invariant-loop-value

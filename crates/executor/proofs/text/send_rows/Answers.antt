@@ -1,6 +1,7 @@
 use Rattle.std.proofs.Common.{◌∙◌, ◌++◌, ◌+◌, ap, map, drop, sym, arith, append_assoc}
 use Rattle.csv.specs.Writing.{default_writer, row_text}
-use Rattle.executor.specs.AnswerText.{field_of, rows_text}
+use Rattle.executor.specs.AnswerText.{rows_text}
+use Rattle.store.specs.Fields.{field_of}
 use Rattle.executor.proofs.Sent.{appends_more, front_more, front_of_kept, on_err, rest_text}
 use Rattle.executor.proofs.text.send_rows.Goals as goal
 

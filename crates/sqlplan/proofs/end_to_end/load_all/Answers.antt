@@ -1,7 +1,6 @@
 use Rattle.std.proofs.Common.{◌≡◌, ◌∙◌, sym, ap, List, ℕ, length, map, arith}
 use Rattle.std.proofs.Math.ListN.{set}
 use Rattle.std.proofs.lemmas.List.{map-set, length-set}
-use Rattle.csv.specs.Reading.{default_config, records, strip_bom}
 use Rattle.sqlplan.proofs.Loaded.{loaded_more, said_there, load_fails, load_device, device_rose}
 use Rattle.sqlplan.proofs.end_to_end.load_all.Goals as goal
 
