@@ -1,6 +1,7 @@
 pub mod Json
 pub mod Keys
 pub mod Loops
+pub mod ReadBack
 pub mod Schemas
 pub mod Spelled
 pub mod Steps

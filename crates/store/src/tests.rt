@@ -214,7 +214,7 @@ fn a_file_is_cut(rt: HostRuntime) -> Result<(), Fail> {
     let alloc = rt.alloc();
     let schema = Schema::read(alloc, COMPANY.as_bytes()).expect(&rt, "a schema");
     let file = b"id,dept,pay,badge\n10,1,500,7\n11,1,\\N,\\N\n";
-    // Up to which cut, from the one before on, what is told.
+    // What is told up to which cut.
     let cases = [
         (16, "T02 0"),
         (18, "loaded"),
@@ -226,19 +226,18 @@ fn a_file_is_cut(rt: HostRuntime) -> Result<(), Fail> {
         (38, "T04 2 in 3"),
         (40, "loaded"),
     ];
-    let mut cut = 0;
-    for (last, wanted) in cases {
-        for _ in 0..file.len() {
-            if last < cut || file.len() < cut {
-                break;
+    for cut in 0..=file.len() {
+        let bytes = file.get(..cut).expect(&rt, "a cut");
+        let mut database = Database::new(alloc, &schema).expect(&rt, "a database");
+        let text = told(alloc, &mut database, 1, bytes)?;
+        let mut wanted = "";
+        for (last, code) in cases {
+            if cut <= last && wanted.is_empty() {
+                wanted = code;
             }
-            let mut database = Database::new(alloc, &schema).expect(&rt, "a database");
-            let text = told(alloc, &mut database, 1, &file[..cut])?;
-            assert_eq!(rt; text.as_str(), wanted, "after {cut} bytes");
-            cut += 1;
         }
+        assert_eq!(rt; text.as_str(), wanted, "after {cut} bytes");
     }
-    assert_eq!(rt; cut, file.len() + 1);
     Ok(())
 }
 
