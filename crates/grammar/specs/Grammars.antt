@@ -1,4 +1,4 @@
--- Grammars as values: the constructs of a grammar in extended Backus-Naur form.
+-- Grammars as values, by the constructs of extended Backus-Naur form (ISO/IEC 14977).
 use Rattle.std.specs.Prelude.{ℕ, List, ◌∷◌, Option, Some, None}
 
 -- A grammar over the tokens T, whose words have trees of the index type. P A names what may stand between parentheses

@@ -1,4 +1,5 @@
--- Reading a word from the left with one token of look-ahead, and when one token is enough.
+-- Reading a word from the left with one token of look-ahead, and when one token is enough: first sets and LL(1) grammars (Aho,
+-- Lam, Sethi and Ullman, Compilers, section 4.4).
 use Rattle.std.specs.Prelude.{◌≡◌, ℕ, zero, suc, Bool, true, false, not, ◌&&◌, ◌||◌, ◌==◌, if◌then◌else◌, List, [], ◌∷◌, ◌++◌, length, Result, Ok, Err}
 use Rattle.grammar.specs.Grammars.{Grammar, tok, pure, seq, map, alt, many, nested, Language, closed}
 use Rattle.grammar.specs.Words.{Within}

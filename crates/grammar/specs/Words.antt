@@ -1,4 +1,5 @@
--- Which lists of tokens are words of a grammar, and with which tree.
+-- Which lists of tokens are words of a grammar, and with which tree: the language that a grammar generates (N. Chomsky,
+-- Three Models for the Description of Language, 1956).
 use Rattle.std.specs.Prelude.{◌≡◌, ℕ, zero, suc, List, [], ◌∷◌, ◌++◌, ◌⊎◌}
 use Rattle.grammar.specs.Grammars.{Grammar, tok, pure, seq, map, alt, many, nested, Language, closed}
 
