@@ -6,9 +6,9 @@ ghost use Rattle.binder.specs.Simple.{IsSimple};
 ghost use Rattle.binder.specs.Binding as spec;
 
 use crate::fault::{BindFault, BindReason, refused};
-use sql_parse::{Ast, Filter, Name};
 use crate::query::{Block, Column, Cond, From, Item, Occurrence, Query, TableUse, Term};
 use schema::{Kind, Schema, Table};
+use sql_parse::{Ast, Filter, Name};
 use std::alloc::{AllocError, Global};
 use values::{Boxed, Items, Text, Value};
 

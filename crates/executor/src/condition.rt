@@ -7,8 +7,8 @@ ghost use Rattle.logical.specs.Conditions.{term_value, truth, holds};
 ghost use Rattle.executor.specs.Execution.{row_of, no_classes};
 
 use crate::heading::Heading;
-use store::{RowSource, Table};
 use logical::{Condition, Term};
+use store::{RowSource, Table};
 use values::{Cell, Truth, compare};
 
 /// A row of a table occurrence, whose cells are found by their columns' numbers.

@@ -17,11 +17,11 @@ ghost use Rattle.executor.specs.Execution.{row_of, row_env, found_rows, table_ro
 
 use crate::condition::TableRow;
 use crate::heading::Heading;
-use store::{Database, RowSource, Table};
 use binder::{From, Item, Query, TableUse};
 use checker::{Checked, Node, Plan};
 use logical::{Columns, Condition, Conjuncts};
 use std::alloc::{AllocError, Global};
+use store::{Database, RowSource, Table};
 use values::{Items, Value};
 
 /// A row of an answer, item by item.

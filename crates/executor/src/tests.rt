@@ -2,16 +2,17 @@
 
 use crate::condition::TableRow;
 use crate::heading::Heading;
-use schema::{Schema, SchemaFault};
-use store::{CountedInput, Database};
 use logical::{Columns, Condition, Term};
+use schema::{Schema, SchemaFault};
 use std::alloc::{AllocError, Global};
 use std::test::Fail;
+use store::{CountedInput, Database};
 use values::{Boxed, Cell, Comparison, Items, Truth, Value};
 
 /// The schema of a table with two columns.
 fn schema(alloc: Global) -> Result<Schema, SchemaFault> {
-    let text = r#"{"tables":[{"name":"t","columns":[{"name":"a","kind":"INT","not_null":true},{"name":"b","kind":"INT","not_null":false}],"unique":[],"indexes":[]}]}"#;
+    let text =
+        r#"{"tables":[{"name":"t","columns":[{"name":"a","kind":"INT","not_null":true},{"name":"b","kind":"INT","not_null":false}],"unique":[],"indexes":[]}]}"#;
     Schema::read(alloc, text.as_bytes())
 }
 

@@ -128,9 +128,9 @@ table-lines : (q : Query) (o : ℕ) (t : TableUse) (K : List ℕ) → slice_get 
     → frame_of q ≡ Get o ∷ Keep K 0 ∷ [] → lines_replay q [] (Get o ∷ Keep K 0 ∷ []) ≡ Ok (Keep K 0 ∷ Get o ∷ [])
 table-lines q o t K found inside is =
     let first : line_replays q 0 (class_columns q.tables []) (Get o) ≡ Ok (Get o)
-        = line-stands q 0 (class_columns q.tables []) (Get o) refl (lt-ltb o (length q.tables) (slice_get_within q.tables o t found)) (ap (λ f. slice_get f 0) is) in
+    = line-stands q 0 (class_columns q.tables []) (Get o) refl (lt-ltb o (length q.tables) (slice_get_within q.tables o t found)) (ap (λ f. slice_get f 0) is) in
     let second : line_replays q 1 (class_columns q.tables (Get o ∷ [])) (Keep K 0) ≡ Ok (Keep K 0)
-        = line-stands q 1 (class_columns q.tables (Get o ∷ [])) (Keep K 0) refl (ap (λ u. within K (get_columns u)) found ∙ inside) (ap (λ f. slice_get f 1) is) in
+    = line-stands q 1 (class_columns q.tables (Get o ∷ [])) (Keep K 0) refl (ap (λ u. within K (get_columns u)) found ∙ inside) (ap (λ f. slice_get f 1) is) in
     rw (first, second, is) refl
 
 -- those of a frame with one
@@ -139,11 +139,11 @@ filtered-lines : (q : Query) (o : ℕ) (t : TableUse) (C : List Condition) (K : 
     → frame_of q ≡ Get o ∷ Select C 0 ∷ Keep K 1 ∷ [] → lines_replay q [] (Get o ∷ Select C 0 ∷ Keep K 1 ∷ []) ≡ Ok (Keep K 1 ∷ Select C 0 ∷ Get o ∷ [])
 filtered-lines q o t C K found inside own plain is =
     let first : line_replays q 0 (class_columns q.tables []) (Get o) ≡ Ok (Get o)
-        = line-stands q 0 (class_columns q.tables []) (Get o) refl (lt-ltb o (length q.tables) (slice_get_within q.tables o t found)) (ap (λ f. slice_get f 0) is) in
+    = line-stands q 0 (class_columns q.tables []) (Get o) refl (lt-ltb o (length q.tables) (slice_get_within q.tables o t found)) (ap (λ f. slice_get f 0) is) in
     let second : line_replays q 1 (class_columns q.tables (Get o ∷ [])) (Select C 0) ≡ Ok (Select C 0)
-        = line-stands q 1 (class_columns q.tables (Get o ∷ [])) (Select C 0) plain own (ap (λ f. slice_get f 1) is) in
+    = line-stands q 1 (class_columns q.tables (Get o ∷ [])) (Select C 0) plain own (ap (λ f. slice_get f 1) is) in
     let third : line_replays q 2 (class_columns q.tables (Select C 0 ∷ Get o ∷ [])) (Keep K 1) ≡ Ok (Keep K 1)
-        = line-stands q 2 (class_columns q.tables (Select C 0 ∷ Get o ∷ [])) (Keep K 1) refl (ap (λ u. within K (get_columns u)) found ∙ inside) (ap (λ f. slice_get f 2) is) in
+    = line-stands q 2 (class_columns q.tables (Select C 0 ∷ Get o ∷ [])) (Keep K 1) refl (ap (λ u. within K (get_columns u)) found ∙ inside) (ap (λ f. slice_get f 2) is) in
     rw (first, second, third, is) refl
 
 -- ---- nodes
@@ -180,14 +180,19 @@ canonical_replays q s V canonical = by q.block.filter s.filter (frame_is q s.occ
   where
     o : ℕ
     o = s.occurrence.number
+
     K : List ℕ
     K = output_columns s.table q.block.items
+
     inside : within K (use_columns s.table) ≡ true
     inside = output-there s.table q.block.items s.items
+
     lines-are : (frame : List Expr) → frame_of q ≡ frame → map founding V.lines ≡ frame
     lines-are frame is = ap (map founding) canonical.lines ∙ founding_lines (frame_of q) ∙ is
+
     plan-is : (frame : List Expr) (plan : Plan) → frame_of q ≡ frame → plan_over frame ≡ Some plan → V.plan ≡ plan
     plan-is frame plan is e = let same : Some V.plan ≡ Some plan = sym canonical.plan ∙ ap plan_over is ∙ e in cc
+
     by : (filter' : Option Cond) → IsSimpleFilter (length s.table.entry.columns) filter' → frame_of q ≡ frame_over o (Some s.table) filter' q.block.items → replayed q V ≡ Ok V
     by None simple is =
         let frame : List Expr = Get o ∷ Keep K 0 ∷ [] in
@@ -203,5 +208,5 @@ canonical_replays q s V canonical = by q.block.filter s.filter (frame_is q s.occ
         let input : plan_fits frame below 1 4 ≡ Ok 6 = over-fits frame (Filter 1 C) (scan o) (Select C 0) 1 0 4 6 refl refl (filter-reads 1 C 0 plain) (scan-fits frame o 5 refl) in
         let fits : plan_fits frame (cut 2 K below) 2 3 ≡ Ok 6 = over-fits frame (Cut 2 K) below (Keep K 1) 2 1 3 6 refl refl (cut-reads 2 K 1) input in
         both-replay q V frame (Keep K 1 ∷ Select C 0 ∷ Get o ∷ []) 6 is (lines-are frame is)
-            (filtered-lines q o s.table C K s.found inside (conjuncts-there q.tables o s.table (out-Cond c) s.found simple) (conjuncts-plain s.table (out-Cond c) (λ g. nat_lt g 1) simple) is)
-            (ap (λ p. plan_fits frame p 2 3) plan ∙ fits)
+        (filtered-lines q o s.table C K s.found inside (conjuncts-there q.tables o s.table (out-Cond c) s.found simple) (conjuncts-plain s.table (out-Cond c) (λ g. nat_lt g 1) simple) is)
+        (ap (λ p. plan_fits frame p 2 3) plan ∙ fits)

@@ -53,11 +53,13 @@ loaded_more S inputs now counts later old new n i c lt same replaced loads befor
   where
     tables-are : new.tables ≡ set old.tables n replaced.0
     tables-are = ap (λ (s : Stored). s.tables) replaced.1
+
     here : FileTells S inputs n (Ok (get_or new.tables n []))
     here t bytes at input =
         let told = told_there S old new n t bytes (Ok tt) same at (loads bytes (before.unread n (omega arith) ∙ input)) in
         let rows : get_or new.tables n [] ≡ told.0 = ap (λ D. get_or D n []) (ap (λ (s : Stored). s.tables) told.2) ∙ get_or-set_same old.tables n told.0 [] lt in
         rw rows told.1
+
     told : TablesTold S inputs (n + 1) new.tables
     told k below = elim (cases_eq k n) [
       | inl e ↦ rw e here
@@ -83,7 +85,7 @@ pub device_rose : {R : Type 0} (failures : R → ℕ) (S : Schema) (inputs now :
 device_rose failures S inputs now counts tables d y n D lt before rose =
     let first : get_or counts n 0 ≡ failures (get_or tables n d) = sym (before.quiet n (omega arith)) ∙ get_or-map failures tables n d 0 lt in
     let last : get_or (map failures (set tables n y)) n 0 ≡ failures y
-        = get_or-map failures (set tables n y) n y 0 (rw length-set lt) ∙ ap failures (get_or-set_same tables n y y lt) in
+    = get_or-map failures (set tables n y) n y 0 (rw length-set lt) ∙ ap failures (get_or-set_same tables n y y lt) in
     rw (first, last) rose
 
 -- so what a failing load tells of its device holds

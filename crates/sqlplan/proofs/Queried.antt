@@ -91,16 +91,19 @@ pub with_answer : (schema text : List ℕ) (inputs : List Input) (S : Schema) (q
     → P (plan_text a d) → WithAnswer schema text inputs P
 with_answer schema text inputs S q d V a P asks told same satisfies simple replays query certificate p =
     let right : IsChecked S q V = checked S q simple V replays in
-    let satisfied : Satisfies S d.tables = rw (← same) satisfies in
-    (plan_text a d, record {
-      S = S;
-      query = q;
-      asks = asks;
-      database = d.tables;
-      told = told;
-      satisfies = satisfied;
-      certificate = V;
-      checked = right;
-      answers = right.answers d.tables satisfied;
-      written_is = rw (same, query, certificate) refl;
-    }, p)
+    let satisfied : Satisfies S d.tables = rw (← same) satisfies in (
+      plan_text a d,
+      record {
+        S = S;
+        query = q;
+        asks = asks;
+        database = d.tables;
+        told = told;
+        satisfies = satisfied;
+        certificate = V;
+        checked = right;
+        answers = right.answers d.tables satisfied;
+        written_is = rw (same, query, certificate) refl;
+      },
+      p,
+    )

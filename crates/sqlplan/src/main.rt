@@ -11,11 +11,11 @@ mod stop;
 #[cfg(test)]
 mod tests;
 
-use executor::CountedOutput;
 use clap::ArgMatches;
 use clap::error::ErrorKind;
 use command::command;
 use end_to_end::query;
+use executor::CountedOutput;
 use refusal::Refusal;
 use schema::Schema;
 use std::alloc::Global;

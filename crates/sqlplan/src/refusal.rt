@@ -6,13 +6,13 @@ ghost use Rattle.sqlplan.specs.Refusals as spec;
 ghost use Rattle.sqlplan.specs.Lines as lines;
 ghost use Rattle.store.specs.Faults.{code_of, earlier_of};
 
-use executor::AnswerFault;
 use binder::{BindFault, BindRefusal};
-use store::{TableFault, TableRefusal};
-use sql_parse::{ParseFault, ParseRefusal};
 use checker::{CheckFault, CheckRefusal};
+use executor::AnswerFault;
 use schema::{Schema, SchemaFault, SchemaRefusal};
+use sql_parse::{ParseFault, ParseRefusal};
 use std::alloc::{AllocError, AllocFailed, Global};
+use store::{TableFault, TableRefusal};
 use thiserror::Error;
 use values::Fault;
 
