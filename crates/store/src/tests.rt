@@ -208,6 +208,16 @@ fn tables_of_dept(rt: HostRuntime) -> Result<(), Fail> {
     Ok(())
 }
 
+/// What is told of a file that is cut there, where each case holds up to its cut.
+fn told_at(cases: &[(usize, &'static str)], cut: usize) -> &'static str {
+    for (last, code) in cases {
+        if cut <= *last {
+            return *code;
+        }
+    }
+    ""
+}
+
 /// What `emp` is by a file that ends after so many of its bytes.
 #[test]
 fn a_file_is_cut(rt: HostRuntime) -> Result<(), Fail> {
@@ -230,12 +240,7 @@ fn a_file_is_cut(rt: HostRuntime) -> Result<(), Fail> {
         let bytes = file.get(..cut).expect(&rt, "a cut");
         let mut database = Database::new(alloc, &schema).expect(&rt, "a database");
         let text = told(alloc, &mut database, 1, bytes)?;
-        let mut wanted = "";
-        for (last, code) in cases {
-            if cut <= last && wanted.is_empty() {
-                wanted = code;
-            }
-        }
+        let wanted = told_at(&cases, cut);
         assert_eq!(rt; text.as_str(), wanted, "after {cut} bytes");
     }
     Ok(())
