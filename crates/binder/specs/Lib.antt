@@ -1,6 +1,7 @@
 pub mod Aggregates
 pub mod Answer
 pub mod Binding
+pub mod Bound
 pub mod Codes
 pub mod Examples
 pub mod Laws

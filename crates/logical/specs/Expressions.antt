@@ -1,5 +1,5 @@
 -- What expressions mean, their columns and free columns, and when they are well formed.
-use Rattle.std.specs.Prelude.{ℕ, ◌+◌, ◌-◌, Bool, true, false, not, ◌&&◌, ◌||◌, ◌==◌, nat_lt, if◌then◌else◌, List, [], ◌∷◌, ◌++◌, length, map, slice_get, All, ◌<◌, ◌^◌, Option, Some, None}
+use Rattle.std.specs.Prelude.{ℕ, ◌-◌, Bool, true, false, not, ◌&&◌, ◌||◌, ◌==◌, nat_lt, if◌then◌else◌, List, [], ◌∷◌, ◌++◌, length, map, slice_get, Option, Some, None}
 use Rattle.std.specs.List.{list_any, list_all, range_with_len}
 use Rattle.schema.specs.Databases.{Row}
 use Rattle.binder.specs.declared.query.TableUse.{TableUse}

@@ -1,15 +1,12 @@
 -- The frame of a query: the expressions that found its classes, the last of which is the query's own.
-use Rattle.std.specs.Prelude.{◌≡◌, ℕ, ◌+◌, ◌<◌, false, List, [], ◌∷◌, length, map, slice_get, Option, Some, None}
-use Rattle.std.specs.List.{AllByRecursion}
+use Rattle.std.specs.Prelude.{◌≡◌, ℕ, ◌+◌, List, [], ◌∷◌, map, slice_get, Option, Some, None}
 use Rattle.binder.specs.declared.query.Term.{Term}
 use Rattle.binder.specs.declared.query.Term.TheVariants as term
 use Rattle.binder.specs.declared.query.Item.{Item}
 use Rattle.binder.specs.declared.query.Item.TheVariants as item
-use Rattle.binder.specs.declared.query.Occurrence.{Occurrence}
 use Rattle.binder.specs.declared.query.TableUse.{TableUse}
 use Rattle.binder.specs.declared.query.Cond.{Cond, out-Cond}
 use Rattle.binder.specs.declared.query.From.{From, out-From}
-use Rattle.binder.specs.declared.query.From.TheVariants as from
 use Rattle.binder.specs.declared.query.Block.{Block}
 use Rattle.binder.specs.declared.query.Cond.TheOpen.{Cond-F, From-F}
 use Rattle.binder.specs.declared.query.Query.{Query}

@@ -10,6 +10,7 @@ pub mod condition;
 pub mod expr;
 pub mod formed;
 pub mod framing;
+pub mod laws;
 #[cfg(test)]
 mod tests;
 

@@ -1,0 +1,148 @@
+-- What the frame makes of a condition means it, if it does so of the parts.
+use Rattle.std.proofs.Common.{◌≡◌, refl, ap, sym, ◌∙◌, ℕ, Bool, true, false, ◌&&◌, not, List, [], ◌∷◌, map}
+use Rattle.std.proofs.lemmas.Bool.{and_parts}
+use Rattle.values.specs.declared.truth.Truth.{Truth}
+use Rattle.values.specs.declared.truth.Comparison.{Comparison}
+use Rattle.values.specs.declared.truth.Comparison.TheVariants as by
+use Rattle.values.specs.declared.value.Value.{Value}
+use Rattle.values.specs.Truth.{negation, truth_of, is_true, is_null, compare}
+use Rattle.schema.specs.Databases.{Row}
+use Rattle.binder.specs.declared.query.Term.{Term}
+use Rattle.binder.specs.declared.query.Term.TheVariants as read
+use Rattle.binder.specs.declared.query.TableUse.{TableUse}
+use Rattle.binder.specs.declared.query.Cond.{Cond}
+use Rattle.binder.specs.declared.query.Cond.TheVariants as cond
+use Rattle.binder.specs.declared.query.Block.{Block}
+use Rattle.binder.specs.Rows as rows
+use Rattle.binder.specs.Rows.{Tables, value_at}
+use Rattle.binder.specs.Meaning as query
+use Rattle.binder.specs.Meaning.{all_of, any_of, equals_row}
+use Rattle.binder.specs.Bound.{Scope, CondScope, bound_term, cond_scope, block_scope, number_at}
+use Rattle.binder.proofs.Equations as meaning
+use Rattle.logical.specs.declared.condition.Condition.{Condition}
+use Rattle.logical.specs.declared.expr.Expr.{Expr}
+use Rattle.logical.specs.Bags.{Env}
+use Rattle.logical.specs.Conditions.{truth, term_value, is_empty}
+use Rattle.logical.specs.Classes.{class_rows}
+use Rattle.logical.specs.Frames.{CondLines, cond_frame, block_frame, all_frames, alone, numbered, last}
+use Rattle.logical.proofs.FrameEquations.{frame-Compare, frame-IsNull, frame-Not, frame-And, frame-Or, frame-Exists, frame-In, scope-Compare, scope-IsNull, scope-Not, scope-And, scope-Or, scope-Exists, scope-In}
+use Rattle.logical.proofs.FrameRight.{CondRight, AllRight, CondMeans, BlockMeans, cond-right}
+use Rattle.logical.proofs.Growth.{Grows, grows-none, grows-more, kept-rows, last-below}
+use Rattle.logical.proofs.Loops.{two}
+use Rattle.logical.proofs.Ordered.{all-append}
+use Rattle.logical.proofs.Puts.{Agrees, reads, both}
+use Rattle.logical.proofs.Truths.{truth-Compare, truth-IsNull, truth-Not, truth-And, truth-Or, truth-Exists, truth-In, true-all}
+
+and-true : (b : Bool) → (b && true) ≡ b
+and-true true = refl
+and-true false = refl
+
+-- a term reads by its number as by its level and place
+pub term-reads : (scope : Scope) (ρ : List Row) (e : Env) (a : Term) → bound_term scope a ≡ true → Agrees scope ρ e → term_value (numbered scope a) e ≡ rows.term_value a ρ
+term-reads scope ρ e (read.Column c) bound agree = reads scope ρ e c bound agree
+term-reads scope ρ e (read.Literal v) bound agree = refl
+
+is_empty-map : (f : Env → Row) (xs : List Env) → is_empty xs ≡ query.is_empty (map f xs)
+is_empty-map f [] = refl
+is_empty-map f (x ∷ xs) = refl
+
+-- IN over the rows of a class, by the one number that they show
+in-rows : (v : Value) (ks : List ℕ) (k : ℕ) → ks ≡ k ∷ [] → (xs : List Env) → map (λ s. compare by.Equal v (s (number_at ks 0))) xs ≡ map (equals_row v) (map (λ r. map r ks) xs)
+in-rows v ks k is [] = refl
+in-rows v ks k is (x ∷ xs) = two (λ t ts. t ∷ ts) (rw is refl) (in-rows v ks k is xs)
+
+module _ (uses : List TableUse) (D : Tables) where
+  -- a condition that is no AND
+  alone-right : (c : Condition) (lines : List Expr) (s : CondScope) (m : List Row → Truth) (scope : Scope) (E : List Expr) → Grows lines E → (s.plain ≡ true → lines ≡ E)
+      → ((F : List Expr) (ρ : List Row) (e : Env) → Grows F lines → s.bound scope ≡ true → Agrees scope ρ e → truth c (class_rows uses D F) e ≡ m ρ) → CondRight uses D (alone c lines) s m scope E
+  alone-right c lines s m scope E grows plain is = record {
+    grows = grows;
+    plain = plain;
+    truth = is;
+    holds = λ F ρ e more bound agree. and-true _ ∙ ap is_true (is F ρ e more bound agree);
+  }
+
+  pub means-Compare : (op : Comparison) (a b : Term) → CondMeans uses D (cond.Compare op a b)
+  means-Compare op a b scope E =
+      cond-right uses D _ _ _ _ _ _ scope E (ap (λ f. f scope E) (frame-Compare uses op a b)) (scope-Compare uses op a b) (λ ρ. meaning.truth-Compare op a b D ρ)
+      (alone-right _ E _ _ scope E (grows-none E) (λ h. refl) (λ F ρ e more bound agree.
+      let parts = and_parts (bound_term scope a) (bound_term scope b) bound in
+      truth-Compare op (numbered scope a) (numbered scope b) (class_rows uses D F) e ∙ two (compare op) (term-reads scope ρ e a parts.0 agree) (term-reads scope ρ e b parts.1 agree)))
+
+  pub means-IsNull : (a : Term) → CondMeans uses D (cond.IsNull a)
+  means-IsNull a scope E =
+      cond-right uses D _ _ _ _ _ _ scope E (ap (λ f. f scope E) (frame-IsNull uses a)) (scope-IsNull uses a) (λ ρ. meaning.truth-IsNull a D ρ)
+      (alone-right _ E _ _ scope E (grows-none E) (λ h. refl) (λ F ρ e more bound agree.
+      truth-IsNull (numbered scope a) (class_rows uses D F) e ∙ ap (λ v. truth_of (is_null v)) (term-reads scope ρ e a bound agree)))
+
+  pub means-Not : (c : Cond) → CondMeans uses D c → CondMeans uses D (cond.Not c)
+  means-Not c means scope E =
+      let part = means scope E in
+      cond-right uses D _ _ _ _ _ _ scope E (ap (λ f. f scope E) (frame-Not uses c)) (scope-Not uses c) (λ ρ. meaning.truth-Not c D ρ)
+      (alone-right _ _ _ _ scope E part.grows part.plain (λ F ρ e more bound agree.
+      truth-Not (cond_frame uses c scope E).condition (class_rows uses D F) e ∙ ap negation (part.truth F ρ e more bound agree)))
+
+  abbrev pub ProvedCond : Type 0
+  ProvedCond = (c : Cond) × CondMeans uses D c
+
+  abbrev pub conds_of : List ProvedCond → List Cond
+  conds_of = map (λ c. c.0)
+
+  all-right : (cs : List ProvedCond) (scope : Scope) (E : List Expr) → AllRight uses D (all_frames (map (cond_frame uses) (conds_of cs)) scope E) (conds_of cs) scope E
+  all-right [] scope E = record { grows = grows-none E; plain = λ h. refl; truths = λ F ρ e more bound agree. refl; holds = λ F ρ e more bound agree. refl }
+  all-right (c ∷ cs) scope E =
+      let framed : CondLines = cond_frame uses c.0 scope E in
+      let first : CondRight uses D framed (cond_scope uses c.0) (λ ρ. query.truth c.0 D ρ) scope E = c.1 scope E in
+      let rest : AllRight uses D (all_frames (map (cond_frame uses) (conds_of cs)) scope framed.lines) (conds_of cs) scope framed.lines = all-right cs scope framed.lines in
+      record {
+        grows = grows-more _ framed.lines E rest.grows first.grows;
+        plain = λ h. let parts = and_parts (cond_scope uses c.0).plain _ h in rest.plain parts.1 ∙ first.plain parts.0;
+        truths = λ F ρ e more bound agree.
+            let parts = and_parts ((cond_scope uses c.0).bound scope) _ bound in
+            both (first.truth F ρ e (grows-more F _ framed.lines more rest.grows) parts.0 agree) (rest.truths F ρ e more parts.1 agree);
+        holds = λ F ρ e more bound agree.
+            let parts = and_parts ((cond_scope uses c.0).bound scope) _ bound in
+            all-append _ framed.conjuncts _ ∙ two (λ a b. a && b) (first.holds F ρ e (grows-more F _ framed.lines more rest.grows) parts.0 agree) (rest.holds F ρ e more parts.1 agree);
+      }
+
+  pub means-And : (cs : List ProvedCond) → CondMeans uses D (cond.And (conds_of cs))
+  means-And cs scope E =
+      let all = all-right cs scope E in
+      cond-right uses D _ _ _ _ _ _ scope E (ap (λ f. f scope E) (frame-And uses (conds_of cs))) (scope-And uses (conds_of cs)) (λ ρ. meaning.truth-And (conds_of cs) D ρ)
+      (record {
+        grows = all.grows;
+        plain = all.plain;
+        truth = λ F ρ e more bound agree. truth-And _ (class_rows uses D F) e ∙ ap all_of (all.truths F ρ e more bound agree);
+        holds = λ F ρ e more bound agree. all.holds F ρ e more bound agree ∙ sym (true-all (map (λ c. query.truth c D ρ) (conds_of cs)));
+      })
+
+  pub means-Or : (cs : List ProvedCond) → CondMeans uses D (cond.Or (conds_of cs))
+  means-Or cs scope E =
+      let all = all-right cs scope E in
+      cond-right uses D _ _ _ _ _ _ scope E (ap (λ f. f scope E) (frame-Or uses (conds_of cs))) (scope-Or uses (conds_of cs)) (λ ρ. meaning.truth-Or (conds_of cs) D ρ)
+      (alone-right _ _ _ _ scope E all.grows all.plain (λ F ρ e more bound agree. truth-Or _ (class_rows uses D F) e ∙ ap any_of (all.truths F ρ e more bound agree)))
+
+  -- the rows of a block's last class, while lines are added
+  block-rows : (q : Block) (means : BlockMeans uses D q) (scope : Scope) (E F : List Expr) (ρ : List Row) (e : Env) → Grows F ((block_frame uses q).lines scope E) → (block_scope uses q).bound scope ≡ true → Agrees scope ρ e
+      → map (λ r. map r ((block_frame uses q).shown scope)) (class_rows uses D F (last ((block_frame uses q).lines scope E)) e) ≡ query.rows q D ρ
+  block-rows q means scope E F ρ e more bound agree =
+      let right = means scope E in
+      ap (map (λ r. map r ((block_frame uses q).shown scope))) (kept-rows uses D F _ _ e more (last-below _ right.some)) ∙ right.rows ρ e bound agree
+
+  pub means-Exists : (q : Block) → BlockMeans uses D q → CondMeans uses D (cond.Exists q)
+  means-Exists q means scope E =
+      cond-right uses D _ _ _ _ _ _ scope E (ap (λ f. f scope E) (frame-Exists uses q)) (scope-Exists uses q) (λ ρ. meaning.truth-Exists q D ρ)
+      (alone-right _ _ _ _ scope E (means scope E).grows (λ h. cc) (λ F ρ e more bound agree.
+      truth-Exists _ (class_rows uses D F) e ∙ ap (λ b. truth_of (not b)) (is_empty-map (λ r. map r ((block_frame uses q).shown scope)) _ ∙ ap query.is_empty (block-rows q means scope E F ρ e more bound agree))))
+
+  pub means-In : (a : Term) (q : Block) → BlockMeans uses D q → CondMeans uses D (cond.In a q)
+  means-In a q means scope E =
+      cond-right uses D _ _ _ _ _ _ scope E (ap (λ f. f scope E) (frame-In uses a q)) (scope-In uses a q) (λ ρ. meaning.truth-In a q D ρ)
+      (alone-right _ _ _ _ scope E (means scope E).grows (λ h. cc) (λ F ρ e more bound agree.
+      let parts = and_parts (bound_term scope a) _ bound in
+      let inner = and_parts (block_scope uses q).single ((block_scope uses q).bound scope) parts.1 in
+      let single = (means scope E).single inner.0 in
+      truth-In (numbered scope a) _ _ (class_rows uses D F) e
+      ∙ ap (λ v. any_of (map (λ s. compare by.Equal v (s (number_at ((block_frame uses q).shown scope) 0))) (class_rows uses D F (last ((block_frame uses q).lines scope E)) e))) (term-reads scope ρ e a parts.0 agree)
+      ∙ ap any_of (in-rows (rows.term_value a ρ) ((block_frame uses q).shown scope) single.0 single.1 (class_rows uses D F (last ((block_frame uses q).lines scope E)) e))
+      ∙ ap (λ L. any_of (map (equals_row (rows.term_value a ρ)) L)) (block-rows q means scope E F ρ e more inner.1 agree)))

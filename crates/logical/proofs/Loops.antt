@@ -1,0 +1,87 @@
+-- Lists under maps.
+use Rattle.std.proofs.Common.{◌≡◌, refl, ap, sym, ◌∙◌, Bool, true, false, not, if◌then◌else◌, List, [], ◌∷◌, ◌++◌, map, filter, flat_map}
+use Rattle.std.specs.List.{AllByRecursion}
+
+pub two : {X Y Z : Type 0} (f : X → Y → Z) {a b : X} {c d : Y} → a ≡ b → c ≡ d → f a c ≡ f b d
+two f e h = rw (e, h) refl
+
+pub map-map : {X Y Z : Type 0} (f : Y → Z) (g : X → Y) (xs : List X) → map f (map g xs) ≡ map (λ x. f (g x)) xs
+map-map f g [] = refl
+map-map f g (x ∷ xs) = ap (λ ys. f (g x) ∷ ys) (map-map f g xs)
+
+pub map-append : {X Y : Type 0} (g : X → Y) (xs ys : List X) → map g (xs ++ ys) ≡ map g xs ++ map g ys
+map-append g [] ys = refl
+map-append g (x ∷ xs) ys = ap (λ zs. g x ∷ zs) (map-append g xs ys)
+
+pub keep-all : {X : Type 0} (xs : List X) → filter (λ x. true) xs ≡ xs
+keep-all [] = refl
+keep-all (x ∷ xs) = ap (λ ys. x ∷ ys) (keep-all xs)
+
+pub map-same : {X Y : Type 0} (P : X → Type 0) (f g : X → Y) (xs : List X) → ((x : X) → P x → f x ≡ g x) → AllByRecursion P xs → map f xs ≡ map g xs
+map-same P f g [] same all = refl
+map-same P f g (x ∷ xs) same all = two (λ y ys. y ∷ ys) (same x all.0) (map-same P f g xs same all.1)
+
+-- a filter passes through a map
+pub through : {X Y : Type 0} (P : X → Type 0) (g : X → Y) (p : Y → Bool) (q : X → Bool) (xs : List X) → ((x : X) → P x → p (g x) ≡ q x) → AllByRecursion P xs → filter p (map g xs) ≡ map g (filter q xs)
+through P g p q [] same all = refl
+through P g p q (x ∷ xs) same all = rw (same x all.0, through P g p q xs same all.1) (by (q x))
+  where
+    by : (b : Bool) → (if b then g x ∷ map g (filter q xs) else map g (filter q xs)) ≡ map g (if b then x ∷ filter q xs else filter q xs)
+    by true = refl
+    by false = refl
+
+-- nested loops pass through a map
+pub loops : {X Y Z W : Type 0} (P : X → Type 0) (F : Y → List W) (g : X → Y) (G : Z → W) (H : X → List Z) (xs : List X)
+    → ((x : X) → P x → F (g x) ≡ map G (H x)) → AllByRecursion P xs → flat_map F (map g xs) ≡ map G (flat_map H xs)
+loops P F g G H [] same all = refl
+loops P F g G H (x ∷ xs) same all = rw (same x all.0, loops P F g G H xs same all.1) (sym (map-append G (H x) (flat_map H xs)))
+
+pub all-map : {X Y : Type 0} (P : X → Type 0) (Q : Y → Type 0) (g : X → Y) (xs : List X) → ((x : X) → P x → Q (g x)) → AllByRecursion P xs → AllByRecursion Q (map g xs)
+all-map P Q g [] h all = tt
+all-map P Q g (x ∷ xs) h all = (h x all.0, all-map P Q g xs h all.1)
+
+pub all-filter : {X : Type 0} (P : X → Type 0) (p : X → Bool) (xs : List X) → AllByRecursion P xs → AllByRecursion P (filter p xs)
+all-filter P p [] all = tt
+all-filter P p (x ∷ xs) all = by (p x) (all-filter P p xs all.1)
+  where
+    by : (b : Bool) → AllByRecursion P (filter p xs) → AllByRecursion P (if b then x ∷ filter p xs else filter p xs)
+    by true more = (all.0, more)
+    by false more = more
+
+pub all-any : {X : Type 0} (xs : List X) → AllByRecursion (λ x. Unit {0}) xs
+all-any [] = tt
+all-any (x ∷ xs) = (tt, all-any xs)
+
+-- ---- one of each
+
+-- one of each by a test, as first seen
+abbrev pub distinct_by : {X : Type 0} → (X → X → Bool) → List X → List X
+distinct_by same [] = []
+distinct_by same (x ∷ xs) = x ∷ filter (λ y. not (same x y)) (distinct_by same xs)
+
+filter-map : {X Y : Type 0} (g : X → Y) (p : Y → Bool) (xs : List X) → filter p (map g xs) ≡ map g (filter (λ x. p (g x)) xs)
+filter-map g p [] = refl
+filter-map g p (x ∷ xs) = rw (filter-map g p xs) (by (p (g x)))
+  where
+    by : (b : Bool) → (if b then g x ∷ map g (filter (λ z. p (g z)) xs) else map g (filter (λ z. p (g z)) xs)) ≡ map g (if b then x ∷ filter (λ z. p (g z)) xs else filter (λ z. p (g z)) xs)
+    by true = refl
+    by false = refl
+
+filter-same : {X : Type 0} (P : X → Type 0) (p q : X → Bool) (xs : List X) → ((x : X) → P x → p x ≡ q x) → AllByRecursion P xs → filter p xs ≡ filter q xs
+filter-same P p q [] same all = refl
+filter-same P p q (x ∷ xs) same all = rw (same x all.0, filter-same P p q xs same all.1) refl
+
+pub all-distinct : {X : Type 0} (P : X → Type 0) (same : X → X → Bool) (xs : List X) → AllByRecursion P xs → AllByRecursion P (distinct_by same xs)
+all-distinct P same [] all = tt
+all-distinct P same (x ∷ xs) all = (all.0, all-filter P (λ y. not (same x y)) (distinct_by same xs) (all-distinct P same xs all.1))
+
+pub distinct-map : {X Y : Type 0} (g : X → Y) (same : Y → Y → Bool) (xs : List X) → distinct_by same (map g xs) ≡ map g (distinct_by (λ x y. same (g x) (g y)) xs)
+distinct-map g same [] = refl
+distinct-map g same (x ∷ xs) =
+    ap (λ ys. g x ∷ filter (λ y. not (same (g x) y)) ys) (distinct-map g same xs) ∙ ap (λ ys. g x ∷ ys) (filter-map g (λ y. not (same (g x) y)) (distinct_by (λ x y. same (g x) (g y)) xs))
+
+pub distinct-same : {X : Type 0} (P : X → Type 0) (same other : X → X → Bool) (xs : List X) → ((x y : X) → P x → P y → same x y ≡ other x y) → AllByRecursion P xs → distinct_by same xs ≡ distinct_by other xs
+distinct-same P same other [] h all = refl
+distinct-same P same other (x ∷ xs) h all =
+    ap (λ ys. x ∷ filter (λ y. not (same x y)) ys) (distinct-same P same other xs h all.1)
+    ∙ ap (λ ys. x ∷ ys) (filter-same P (λ y. not (same x y)) (λ y. not (other x y)) (distinct_by other xs) (λ y k. ap not (h x y all.0 k)) (all-distinct P other xs all.1))

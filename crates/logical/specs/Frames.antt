@@ -1,0 +1,214 @@
+-- The frame of a query of the whole language: the expressions that found its classes, the last of which is the query's own.
+-- What stands in the frame and in which order is this project's profile.
+use Rattle.std.specs.Prelude.{◌≡◌, ℕ, ◌==◌, Bool, true, false, if◌then◌else◌, List, [], ◌∷◌, ◌++◌, length, map, reverse, Option, Some, None}
+use Rattle.std.specs.List.{AllByRecursion}
+use Rattle.schema.specs.Databases.{Row}
+use Rattle.binder.specs.declared.query.Term as named
+use Rattle.binder.specs.declared.query.Term.TheVariants as place
+use Rattle.binder.specs.declared.query.Aggregate.{Aggregate}
+use Rattle.binder.specs.declared.query.Aggregate.TheVariants as by
+use Rattle.binder.specs.declared.query.Item.{Item}
+use Rattle.binder.specs.declared.query.Item.TheVariants as item
+use Rattle.binder.specs.declared.query.Occurrence.{Occurrence}
+use Rattle.binder.specs.declared.query.TableUse.{TableUse}
+use Rattle.binder.specs.declared.query.Cond.{Cond}
+use Rattle.binder.specs.declared.query.From.{From}
+use Rattle.binder.specs.declared.query.Block.{Block}
+use Rattle.binder.specs.declared.query.Query.{Query}
+use Rattle.binder.specs.declared.query.Cond.TheOpen.{Cond-F, From-F, Block-F}
+use Rattle.binder.specs.declared.query.Cond.TheFolds.{fold-Cond, fold-From, fold-Block}
+use Rattle.binder.specs.Rows.{Tables, IsFitting, count}
+use Rattle.binder.specs.Meaning.{often}
+use Rattle.binder.specs.Bound.{is_bound, Scope, number, number_at, use_numbers}
+use Rattle.logical.specs.declared.condition.Term.{Term}
+use Rattle.logical.specs.declared.condition.Term.TheVariants as term
+use Rattle.logical.specs.declared.condition.Condition.{Condition}
+use Rattle.logical.specs.declared.condition.Condition.TheVariants.{Compare, IsNull, Not, And, Or, Exists, In}
+use Rattle.logical.specs.declared.expr.Aggregation.{Aggregation}
+use Rattle.logical.specs.declared.expr.Expr.{Expr}
+use Rattle.logical.specs.declared.expr.Expr.TheVariants.{Get, Select, Join, LeftJoin, Keep, Distinct, Group}
+use Rattle.logical.specs.Columns.{rising}
+use Rattle.logical.specs.Bags.{Env}
+use Rattle.logical.specs.Classes.{root_rows}
+use Rattle.logical.specs.ConjunctOrder.{in_order}
+
+-- ---- lines, the last first
+
+-- the class that the last line founds
+abbrev pub last : List Expr → ℕ
+last [] = 0
+last (x ∷ lines) = length lines
+
+-- what a condition becomes behind some lines: itself over classes, the parts of the ANDs at its top, and the lines with
+-- those of its subqueries
+pub record CondLines : Type 0 where
+  pub condition : Condition
+  pub conjuncts : List Condition
+  pub lines : List Expr
+
+abbrev pub CondFrame : Type 0
+CondFrame = Scope → List Expr → CondLines
+
+-- the column numbers of a FROM's rows, and its lines behind others
+pub record FromFrame : Type 0 where
+  pub numbers : List ℕ
+  pub lines : Scope → List Expr → List Expr
+
+-- the column numbers of a block's items, and its lines behind others
+pub record BlockFrame : Type 0 where
+  pub shown : Scope → List ℕ
+  pub lines : Scope → List Expr → List Expr
+
+-- ---- conditions
+
+-- a term with its column's number in place of its level and place
+abbrev pub numbered : Scope → named.Term → Term
+numbered scope (place.Column c) = term.Column (number scope c)
+numbered scope (place.Literal v) = term.Literal v
+
+-- a condition that is no AND
+abbrev pub alone : Condition → List Expr → CondLines
+alone c lines = record { condition = c; conjuncts = c ∷ []; lines = lines }
+
+-- what conditions become, one after another
+pub record AllLines : Type 0 where
+  pub conditions : List Condition
+  pub conjuncts : List Condition
+  pub lines : List Expr
+
+abbrev pub all_frames : List CondFrame → Scope → List Expr → AllLines
+all_frames [] scope lines = record { conditions = []; conjuncts = []; lines = lines }
+all_frames (c ∷ cs) scope lines =
+    let first = c scope lines in
+    let rest = all_frames cs scope first.lines in
+    record { conditions = first.condition ∷ rest.conditions; conjuncts = first.conjuncts ++ rest.conjuncts; lines = rest.lines }
+
+abbrev pub cond_frame_layer : Cond-F CondFrame FromFrame BlockFrame → CondFrame
+cond_frame_layer (Cond-F.Compare op a b) scope lines = alone (Compare op (numbered scope a) (numbered scope b)) lines
+cond_frame_layer (Cond-F.IsNull a) scope lines = alone (IsNull (numbered scope a)) lines
+cond_frame_layer (Cond-F.Not c) scope lines = let part = c scope lines in alone (Not part.condition) part.lines
+cond_frame_layer (Cond-F.And cs) scope lines = let parts = all_frames cs scope lines in record { condition = And parts.conditions; conjuncts = parts.conjuncts; lines = parts.lines }
+cond_frame_layer (Cond-F.Or cs) scope lines = let parts = all_frames cs scope lines in alone (Or parts.conditions) parts.lines
+cond_frame_layer (Cond-F.Exists q) scope lines = let more = q.lines scope lines in alone (Exists (last more)) more
+cond_frame_layer (Cond-F.In a q) scope lines = let more = q.lines scope lines in alone (In (numbered scope a) (last more) (number_at (q.shown scope) 0)) more
+
+-- ---- FROM
+
+-- the table of a join, and directly after it the join, whose ON has no subquery
+abbrev pub join_lines : (List Condition → ℕ → ℕ → Expr) → Occurrence → CondFrame → Scope → List Expr → List Expr
+join_lines join o on scope left =
+    let lines = Get o.number ∷ left in
+    join (in_order (on scope lines).conjuncts) (last left) (last lines) ∷ lines
+
+-- all that is left of a comma, the chain at its right, and their pairs
+abbrev pub comma_lines : List Expr → List Expr → List Expr
+comma_lines left lines = Join [] (last left) (last lines) ∷ lines
+
+abbrev pub join_frame : (List Condition → ℕ → ℕ → Expr) → List TableUse → FromFrame → Occurrence → CondFrame → FromFrame
+join_frame join uses f o on =
+    let numbers = f.numbers ++ use_numbers uses o in
+    record { numbers = numbers; lines = λ scope lines. join_lines join o on (numbers ∷ scope) (f.lines scope lines) }
+
+abbrev pub from_frame_layer : List TableUse → From-F CondFrame FromFrame BlockFrame → FromFrame
+from_frame_layer uses (From-F.Table o) = record { numbers = use_numbers uses o; lines = λ scope lines. Get o.number ∷ lines }
+from_frame_layer uses (From-F.Join f o on) = join_frame Join uses f o on
+from_frame_layer uses (From-F.LeftJoin f o on) = join_frame LeftJoin uses f o on
+from_frame_layer uses (From-F.Comma f g) = record {
+  numbers = f.numbers ++ g.numbers;
+  lines = λ scope lines. let left = f.lines scope lines in comma_lines left (g.lines scope left);
+}
+
+-- ---- blocks
+
+-- the lines of a WHERE's subqueries and its Select
+abbrev pub where_lines : Option CondFrame → Scope → List Expr → List Expr
+where_lines None scope lines = lines
+where_lines (Some c) scope lines = let framed = c scope lines in Select (in_order framed.conjuncts) (last lines) ∷ framed.lines
+
+-- an aggregate that names its column by its number
+abbrev pub numbered_aggregate : List ℕ → Aggregate → Aggregate
+numbered_aggregate numbers by.CountRows = by.CountRows
+numbered_aggregate numbers (by.Count k) = by.Count (number_at numbers k)
+numbered_aggregate numbers (by.Sum k) = by.Sum (number_at numbers k)
+numbered_aggregate numbers (by.Min k) = by.Min (number_at numbers k)
+numbered_aggregate numbers (by.Max k) = by.Max (number_at numbers k)
+
+-- the aggregates of the items
+abbrev pub aggregations : List ℕ → List Item → List Aggregation
+aggregations numbers [] = []
+aggregations numbers (item.Column c ∷ items) = aggregations numbers items
+aggregations numbers (item.Aggregate n a ∷ items) = record { column = n; aggregate = numbered_aggregate numbers a } ∷ aggregations numbers items
+
+abbrev pub group_lines : Bool → List ℕ → List ℕ → List Item → List Expr → List Expr
+group_lines false numbers keys items lines = lines
+group_lines true numbers keys items lines = Group (rising (map (number_at numbers) keys)) (aggregations numbers items) (last lines) ∷ lines
+
+-- the number of what an item shows
+abbrev pub item_number : Scope → Item → ℕ
+item_number scope (item.Column c) = number scope c
+item_number scope (item.Aggregate n a) = n
+
+-- whether it is of the block itself, and no column of a row around
+abbrev pub is_own : Item → Bool
+is_own (item.Column c) = c.level == 0
+is_own (item.Aggregate n a) = true
+
+-- the block's own numbers among those that it shows
+abbrev pub own_numbers : Scope → List Item → List ℕ
+own_numbers scope [] = []
+own_numbers scope (i ∷ items) = if is_own i then item_number scope i ∷ own_numbers scope items else own_numbers scope items
+
+abbrev pub keep_lines : Scope → List Item → List Expr → List Expr
+keep_lines scope items lines = Keep (rising (own_numbers scope items)) (last lines) ∷ lines
+
+abbrev pub distinct_lines : Bool → List Expr → List Expr
+distinct_lines false lines = lines
+distinct_lines true lines = Distinct (last lines) ∷ lines
+
+abbrev pub block_frame_layer : Block-F CondFrame FromFrame BlockFrame → BlockFrame
+block_frame_layer q =
+    let numbers = q.from.numbers in
+    record {
+      shown = λ scope. map (item_number (numbers ∷ scope)) q.items;
+      lines = λ scope lines.
+          distinct_lines q.distinct (keep_lines (numbers ∷ scope) q.items
+          (group_lines q.grouped numbers q.keys q.items (where_lines q.filter (numbers ∷ scope) (q.from.lines scope lines))));
+    }
+
+-- ---- the whole
+
+unfoldable pub cond_frame : List TableUse → Cond → CondFrame
+cond_frame uses = fold-Cond CondFrame FromFrame BlockFrame cond_frame_layer (from_frame_layer uses) block_frame_layer
+
+unfoldable pub from_frame : List TableUse → From → FromFrame
+from_frame uses = fold-From CondFrame FromFrame BlockFrame cond_frame_layer (from_frame_layer uses) block_frame_layer
+
+unfoldable pub block_frame : List TableUse → Block → BlockFrame
+block_frame uses = fold-Block CondFrame FromFrame BlockFrame cond_frame_layer (from_frame_layer uses) block_frame_layer
+
+-- the frame of a query
+unfoldable pub query_frame : Query → List Expr
+query_frame q = reverse ((block_frame q.tables q.block).lines [] [])
+
+-- the column numbers of a query's items
+unfoldable pub query_numbers : Query → List ℕ
+query_numbers q = (block_frame q.tables q.block).shown []
+
+-- ---- what it means
+
+-- each table occurrence has as many columns as its table
+abbrev pub AreOver : Tables → List TableUse → Type 0
+AreOver D uses = AllByRecursion (λ t. length t.entry.columns ≡ D.width t.table) uses
+
+-- the query's columns of rows
+abbrev pub query_shown : Query → List Env → List Row
+query_shown q rows = map (λ r. map r (query_numbers q)) rows
+
+-- the rows of the class that the last line founds, cut to the query's columns, are those that answer the query: in every
+-- database with the query's tables and every environment, each as often
+abbrev pub FrameMeans : Query → List Expr → Type 0
+FrameMeans q lines = (D : Tables) → IsFitting D → AreOver D q.tables → (e : Env) (r : Row) → count r (query_shown q (root_rows q.tables D lines e)) ≡ often q.block D [] r
+
+-- the frame of a query means it, whatever its form, if all that it names is there
+abbrev pub FramesMean : Type 0
+FramesMean = (q : Query) → is_bound q ≡ true → FrameMeans q (query_frame q)
