@@ -2,9 +2,15 @@ pub mod Bindings
 pub mod Company
 pub mod Counting
 pub mod Equations
+pub mod ExtentParts
 pub mod Groups
+pub mod Indexes
+pub mod KeyOrder
 pub mod Obeys
+pub mod OutputLoops
 pub mod SameCounts
+pub mod SelectLoops
+pub mod SelectParts
 pub mod Sources
 pub mod Truths
 pub mod Unique
