@@ -91,17 +91,17 @@ chain-parts S c outer before n = ap (λ m. m outer before n) (chain_roll S c)
 select_layers : (S : Schema) (x : Select-F Condition Chain Join Select) (o : Option Condition)
     → select_layer (map-Select Condition Chain Join Select CondBinding ChainBinding JoinBinding SelectBinding (condition_in S) (chain_in S) (join_in S) (select_in S) (record x { filter = o }))
     ≡ (λ outer n. from_in (map (chain_in S) x.from) outer (with_aggregates n (aggregates x.list))
-    >>= λ sources. filter_in (option_map (condition_in S) o) (sources.1 ∷ outer) sources.2
-    >>= λ filter. each (key_in (sources.1 ∷ outer)) x.group
-    >>= λ keys. outputs_in sources.1 (sources.1 ∷ outer) (is_grouped keys x.list) keys n.next_aggregate x.list
-    >>= λ outputs. Ok (record { block = block_of x.distinct sources.0 filter.0 (is_grouped keys x.list) keys outputs; outputs = outputs; scope = sources.1 }, filter.1))
+        >>= λ sources. filter_in (option_map (condition_in S) o) (sources.1 ∷ outer) sources.2
+        >>= λ filter. each (key_in (sources.1 ∷ outer)) x.group
+        >>= λ keys. outputs_in sources.1 (sources.1 ∷ outer) (is_grouped keys x.list) keys n.next_aggregate x.list
+        >>= λ outputs. Ok (record { block = block_of x.distinct sources.0 filter.0 (is_grouped keys x.list) keys outputs; outputs = outputs; scope = sources.1 }, filter.1))
 select_layers S x None = refl
 select_layers S x (Some c) = refl
 
 pub select-parts : (S : Schema) (q : Select) (outer : Scopes) (n : Numbered) → select_in S q outer n
     ≡ (from_in (map (chain_in S) q.from) outer (with_aggregates n (aggregates q.list))
-    >>= λ sources. filter_in (option_map (condition_in S) q.filter) (sources.1 ∷ outer) sources.2
-    >>= λ filter. each (key_in (sources.1 ∷ outer)) q.group
-    >>= λ keys. outputs_in sources.1 (sources.1 ∷ outer) (is_grouped keys q.list) keys n.next_aggregate q.list
-    >>= λ outputs. Ok (record { block = block_of q.distinct sources.0 filter.0 (is_grouped keys q.list) keys outputs; outputs = outputs; scope = sources.1 }, filter.1))
+        >>= λ sources. filter_in (option_map (condition_in S) q.filter) (sources.1 ∷ outer) sources.2
+        >>= λ filter. each (key_in (sources.1 ∷ outer)) q.group
+        >>= λ keys. outputs_in sources.1 (sources.1 ∷ outer) (is_grouped keys q.list) keys n.next_aggregate q.list
+        >>= λ outputs. Ok (record { block = block_of q.distinct sources.0 filter.0 (is_grouped keys q.list) keys outputs; outputs = outputs; scope = sources.1 }, filter.1))
 select-parts S q outer n = ap (λ m. m outer n) (select_roll S q ∙ select_layers S (out-Select q) (out-Select q).filter)
