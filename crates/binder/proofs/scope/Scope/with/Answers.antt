@@ -1,8 +1,8 @@
-use Rattle.std.proofs.Common.{◌≡◌, ◌+◌, ◌++◌, ◌∷◌, [], ℕ, List, ◌∙◌, ap, sym, subst, length, if◌then◌else◌, option_map, is_some, Bool, Some, None, bytes_eq}
+use Rattle.std.proofs.Common.{◌≡◌, ◌++◌, ◌∷◌, [], ℕ, List, ◌∙◌, ap, sym, if◌then◌else◌, option_map, is_some, Some, None, bytes_eq}
 use Rattle.std.proofs.lemmas.List.{map-append}
 use Rattle.std.specs.HashMap as hash
-use Rattle.binder.specs.Scopes.{Known, Scope}
-use Rattle.binder.specs.Lent.{IsIndexed, known_of, scope_of, placed_of}
+use Rattle.binder.specs.Scopes.{Known}
+use Rattle.binder.specs.Lent.{known_of, scope_of, placed_of}
 use Rattle.binder.proofs.Indexes.{indexed-push, name-new, name-kept, is_some-map, or_first}
 use Rattle.binder.proofs.scope.Scope.with.Goals as goal
 use Rattle.binder.proofs.scope.Scope.with.Goals.{then-is_none+in_ok-insert, else-is_none}
