@@ -104,7 +104,7 @@ find-shift n k (c ∷ cs) name =
 pub indexed-push : {S T : Type 0} (scope : Scope) (o : Known) (tables new_tables : HashMap (Bor (List ℕ)) Placed S) (columns new_columns : HashMap (Bor (List ℕ)) Meaning T) (w new_w : ℕ)
     → IsIndexed scope tables columns w
     → ((q : List ℕ) → option_map placed_of (hash.get_by (λ k. bytes_eq q k.now) new_tables)
-        ≡ or_first (option_map placed_of (hash.get_by (λ k. bytes_eq q k.now) tables)) (if bytes_eq q o.name then Some (w, o.entry) else None))
+    ≡ or_first (option_map placed_of (hash.get_by (λ k. bytes_eq q k.now) tables)) (if bytes_eq q o.name then Some (w, o.entry) else None))
     → ((q : List ℕ) → hash.get_by (λ k. bytes_eq q k.now) new_columns ≡ with_more (hash.get_by (λ k. bytes_eq q k.now) columns) (columns_named q w o.entry.columns))
     → new_w ≡ w + length o.entry.columns
     → IsIndexed (scope ++ o ∷ []) new_tables new_columns new_w

@@ -25,11 +25,7 @@ fn same_item(a: Item, b: Item) -> bool
 }
 
 /// The outputs of a name.
-fn named(
-    alloc: Global,
-    name: &str,
-    outputs: &[Output],
-) -> Result<Items<Item>, AllocError>
+fn named(alloc: Global, name: &str, outputs: &[Output]) -> Result<Items<Item>, AllocError>
     ensures { IfOk result (λ items. items ≡ map (λ o. o.item) (filter (λ o. bytes_eq o.name name.now) outputs.now)) }
 {
     let mut items = Items::new(alloc);
@@ -91,7 +87,9 @@ fn one_column(items: &[Item], at: usize) -> Result<Item, BindFault>
 fn place_of(item: Item, outputs: &[Output]) -> usize
     ensures { result ≡ spec.first_place item outputs.now }
 {
-    let place = outputs.iter().position(|output| same_item(output.item, item));
+    let place = outputs
+        .iter()
+        .position(|output| same_item(output.item, item));
     place.unwrap_or(0)
 }
 

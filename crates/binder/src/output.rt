@@ -59,7 +59,11 @@ pub fn aggregates(list: &SelectList) -> usize
 {
     match list {
         SelectList::Star(_) => 0,
-        SelectList::Items(items) => items.as_slice().iter().filter(|item| is_aggregate(item)).count(),
+        SelectList::Items(items) => items
+            .as_slice()
+            .iter()
+            .filter(|item| is_aggregate(item))
+            .count(),
     }
 }
 
@@ -128,10 +132,7 @@ fn aggregate_of(call: &AggregateCall, own: TypedColumn) -> Result<(Aggregate, Ki
     }
 }
 
-fn aggregate_in(
-    call: &AggregateCall,
-    scopes: &Scopes<'_>,
-) -> Result<(Aggregate, Kind), BindFault>
+fn aggregate_in(call: &AggregateCall, scopes: &Scopes<'_>) -> Result<(Aggregate, Kind), BindFault>
     ensures { Gives (λ found. found) result (spec.aggregate_in (scopes_of scopes.now) call.now.function call.now.at call.now.column) }
 {
     let Some(column) = &call.column else {

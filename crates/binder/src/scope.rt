@@ -184,10 +184,7 @@ pub fn find_table<'s>(schema: &'s Schema, name: &str) -> Option<(usize, &'s Tabl
 }
 
 /// The column of a name among a table's, and its place.
-fn find_column<'s>(
-    columns: &'s [schema::Column],
-    name: &str,
-) -> Option<(usize, &'s schema::Column)>
+fn find_column<'s>(columns: &'s [schema::Column], name: &str) -> Option<(usize, &'s schema::Column)>
     ensures { option_map (λ found. (found.0, found.1.now)) result ≡ cut.find_column 0 columns.entry.now name.now }
 {
     for (place, column) in columns.iter().enumerate() {

@@ -247,7 +247,15 @@ fn chain<'s>(
     let none = Scope::new(alloc);
     let (first, scope) = enter(alloc, schema, before, none, &part.table, numbered)?;
     let first = (From::Table(first), scope);
-    joins(alloc, schema, part.joins.as_slice(), outer, before, first, numbered)
+    joins(
+        alloc,
+        schema,
+        part.joins.as_slice(),
+        outer,
+        before,
+        first,
+        numbered,
+    )
 }
 
 /// Chains from the left.
