@@ -1,6 +1,8 @@
 -- Scopes by hash: one more table keeps the maps in step with the list.
-use Rattle.std.proofs.Common.{◌≡◌, refl, ℕ, ◌+◌, List, [], ◌∷◌, ◌++◌, length, Bool, true, false, ◌||◌, cond, Option, Some, None, option_map, is_some, bytes_eq, ap, sym, ◌∙◌, arith, append_assoc, if◌then◌else◌, Result, Ok, Err}
+use Rattle.std.proofs.Common.{◌⊎◌, inl, inr, ◌≡◌, refl, ℕ, ◌+◌, List, [], ◌∷◌, ◌++◌, length, Bool, true, false, ◌||◌, cond, Option, Some, None, option_map, is_some, bytes_eq, ap, sym, ◌∙◌, arith, append_assoc, ◌<◌, drop, get_or, if◌then◌else◌, Result, Ok, Err}
 use Rattle.std.proofs.lemmas.List.{append-nil}
+use Rattle.std.proofs.lemmas.Map.Text.{hash_map_updates_str}
+use Rattle.std.proofs.lemmas.Slice.Eq.{bytes_eq-Decides}
 use Rattle.std.specs.Borrow.{Bor}
 use Rattle.std.specs.HashMap as hash
 use Rattle.std.specs.HashMap.{HashMap}
@@ -12,14 +14,15 @@ use Rattle.binder.specs.declared.scope.TypedColumn.{TypedColumn}
 use Rattle.binder.specs.declared.scope.Placed.{Placed}
 use Rattle.binder.specs.declared.scope.Meaning.{Meaning}
 use Rattle.binder.specs.declared.scope.Meaning.TheVariants.{One, Several}
-use Rattle.binder.specs.declared.fault.BindReason.TheVariants.{AmbiguousName}
+use Rattle.binder.specs.declared.fault.BindReason.TheVariants.{AmbiguousName, UnknownColumn}
 use Rattle.binder.specs.declared.fault.BindRefusal.{BindRefusal}
 use Rattle.binder.specs.Binding.{find_column, refusal}
-use Rattle.binder.specs.Scopes.{Known, Scope, is_taken, columns_named, named_in, occurrence_named, only, at_level}
+use Rattle.binder.specs.Scopes.{Known, Scope, is_taken, columns_named, named_in, occurrence_named, only, at_level, column_of}
 use Rattle.binder.specs.Lent.{IsIndexed, width, placed_of, meaning_of, one_more, with_more}
+use Rattle.binder.proofs.Fronts.{front_of}
 
 pub width-append : (a b : Scope) → width (a ++ b) ≡ width a + width b
-width-append [] b = refl
+width-append [] b = omega arith
 width-append (o ∷ a) b = rw (width-append a b) (omega arith)
 
 -- the columns of a name in two FROMs side by side
@@ -30,7 +33,11 @@ named-append q n (o ∷ a) b =
     rw (named-append q (n + length o.entry.columns) a b, m) (simp append_assoc)
 
 pub named-push : (q : List ℕ) (a : Scope) (o : Known) → named_in q 0 (a ++ o ∷ []) ≡ named_in q 0 a ++ columns_named q (width a) o.entry.columns
-named-push q a o = named-append q 0 a (o ∷ []) ∙ ap (λ xs. named_in q 0 a ++ xs) (append-nil (columns_named q (width a) o.entry.columns))
+named-push q a o =
+    let at : 0 + width a ≡ width a = omega arith in
+    named-append q 0 a (o ∷ [])
+    ∙ ap (λ n. named_in q 0 a ++ (columns_named q n o.entry.columns ++ [])) at
+    ∙ ap (λ xs. named_in q 0 a ++ xs) (append-nil (columns_named q (width a) o.entry.columns))
 
 abbrev pub or_first : Option (ℕ × Table) → Option (ℕ × Table) → Option (ℕ × Table)
 or_first None second = second
@@ -56,6 +63,10 @@ taken-occurrence q n (o ∷ a) = step (bytes_eq q o.name) (taken-occurrence q (n
         → (same || is_taken q a) ≡ is_some (if same then Some (n, o.entry) else occurrence_named q (n + length o.entry.columns) a)
     step true h = refl
     step false h = h
+
+pub is_some-map : {A B : Type 0} (f : A → B) (o : Option A) → is_some (option_map f o) ≡ is_some o
+is_some-map f None = refl
+is_some-map f (Some x) = refl
 
 -- ---- columns by name, in short
 
@@ -99,12 +110,89 @@ find-shift n k (c ∷ cs) name =
     step true h = refl
     step false h = h
 
+find-from : (n : ℕ) (cs : List entries.Column) (name : List ℕ) → find_column n cs name ≡ option_map (λ found. (n + found.0, found.1)) (find_column 0 cs name)
+find-from n cs name =
+    let at : n + 0 ≡ n = omega arith in
+    ap (λ k. find_column k cs name) (sym at) ∙ find-shift n 0 cs name
+
+pub column-none : (table name : Name) (level n : ℕ) (entry : Table) → find_column 0 entry.columns name.text ≡ None
+    → column_of table name level (n, entry) ≡ Err (refusal UnknownColumn table.at)
+column-none table name level n entry h = rw (find-from n entry.columns name.text, h) refl
+
+pub column-some : (table name : Name) (level n place : ℕ) (entry : Table) (c : entries.Column) → find_column 0 entry.columns name.text ≡ Some (place, c)
+    → column_of table name level (n, entry) ≡ Ok (at_level level (n + place, c.kind))
+column-some table name level n place entry c h = rw (find-from n entry.columns name.text, h) refl
+
+-- ---- keys that are names
+
+-- what a map has at a name after one has got a value
+after-insert : {X S : Type 0} (name : List ℕ) (m n : HashMap (Bor (List ℕ)) X S) (x : X) → hash.UpdatesBy (λ a b. bytes_eq a.now b.now) (λ k. bytes_eq name k.now) m n (Some x)
+    → (q : List ℕ) → ((q ≡ name) × (hash.get_by (λ k. bytes_eq q k.now) n ≡ Some x) × (bytes_eq q name ≡ true))
+    ⊎ ((hash.get_by (λ k. bytes_eq q k.now) n ≡ hash.get_by (λ k. bytes_eq q k.now) m) × (bytes_eq q name ≡ false))
+after-insert name m n x up q = step (bytes_eq name q) refl (bytes_eq q name) refl
+  where
+    now : (b : Bool) → bytes_eq name q ≡ b → hash.get_by (λ k. bytes_eq q k.now) n ≡ cond b (Some x) (hash.get_by (λ k. bytes_eq q k.now) m)
+    now b e = hash_map_updates_str name m n (Some x) up q ∙ ap (λ b. cond b (Some x) (hash.get_by (λ k. bytes_eq q k.now) m)) e
+    step : (a : Bool) → bytes_eq name q ≡ a → (b : Bool) → bytes_eq q name ≡ b → ((q ≡ name) × (hash.get_by (λ k. bytes_eq q k.now) n ≡ Some x) × (bytes_eq q name ≡ true))
+        ⊎ ((hash.get_by (λ k. bytes_eq q k.now) n ≡ hash.get_by (λ k. bytes_eq q k.now) m) × (bytes_eq q name ≡ false))
+    step true e true f = inl ((bytes_eq-Decides q name).0 f, now true e, f)
+    step true e false f = let t : bytes_eq q name ≡ true = (bytes_eq-Decides q name).1 (sym ((bytes_eq-Decides name q).0 e)) in cc (t, f)
+    step false e true f = let t : bytes_eq name q ≡ true = (bytes_eq-Decides name q).1 (sym ((bytes_eq-Decides q name).0 f)) in cc (t, e)
+    step false e false f = inr (now false e, f)
+
+-- ---- one more column
+
+pub column-push : {S : Type 0} (m n : HashMap (Bor (List ℕ)) Meaning S) (cs : List entries.Column) (i : ℕ) (c : entries.Column) (place : ℕ) (meaning : Meaning)
+    → i < length cs → c ≡ get_or cs i c → hash.UpdatesBy (λ a b. bytes_eq a.now b.now) (λ k. bytes_eq c.name k.now) m n (Some meaning)
+    → Some meaning ≡ one_more (hash.get_by (λ k. bytes_eq c.name k.now) m) (place, c.kind)
+    → (q : List ℕ) → with_more (hash.get_by (λ k. bytes_eq q k.now) n) (columns_named q (place + 1) (drop (i + 1) cs)) ≡ with_more (hash.get_by (λ k. bytes_eq q k.now) m) (columns_named q place (drop i cs))
+column-push m n cs i c place meaning lt at up is q =
+    let more : List (ℕ × Kind) = columns_named q (place + 1) (drop (i + 1) cs) in
+    let old : Option Meaning = hash.get_by (λ k. bytes_eq q k.now) m in
+    elim (after-insert c.name m n meaning up q) [
+      | inl here ↦
+          let now : hash.get_by (λ k. bytes_eq q k.now) n ≡ one_more old (place, c.kind) = here.1 ∙ is ∙ ap (λ w. one_more (hash.get_by (λ k. bytes_eq w k.now) m) (place, c.kind)) (sym here.0) in
+          rw (front_of cs i c lt at, here.2) (ap (λ o. with_more o more) now)
+      | inr there ↦ rw (front_of cs i c lt at, there.1) (ap (λ o. with_more o more) there.0)
+    ]
+
 -- ---- one more table
+
+or-none : (first : Option (ℕ × Table)) → or_first first None ≡ first
+or-none None = refl
+or-none (Some p) = refl
+
+gone : {A : Type 0} (o : Option A) → is_some o ≡ false → o ≡ None
+gone None h = refl
+gone (Some x) h = cc h
+
+-- of two tables with one name the first is kept
+pub name-new : {S : Type 0} (m n : HashMap (Bor (List ℕ)) Placed S) (name : List ℕ) (placed : Placed) → hash.UpdatesBy (λ a b. bytes_eq a.now b.now) (λ k. bytes_eq name k.now) m n (Some placed)
+    → is_some (hash.get_by (λ k. bytes_eq name k.now) m) ≡ false
+    → (q : List ℕ) → option_map placed_of (hash.get_by (λ k. bytes_eq q k.now) n)
+    ≡ or_first (option_map placed_of (hash.get_by (λ k. bytes_eq q k.now) m)) (if bytes_eq q name then Some (placed.first_place, placed.entry.now) else None)
+name-new m n name placed up none q = elim (after-insert name m n placed up q) [
+  | inl here ↦ let old : hash.get_by (λ k. bytes_eq q k.now) m ≡ None = gone _ (ap (λ w. is_some (hash.get_by (λ k. bytes_eq w k.now) m)) here.0 ∙ none) in rw (here.2, here.1, old) refl
+  | inr there ↦ rw (there.1, there.0) (sym (or-none _))
+]
+
+pub name-kept : {S : Type 0} (m : HashMap (Bor (List ℕ)) Placed S) (name : List ℕ) (found : ℕ × Table) → is_some (hash.get_by (λ k. bytes_eq name k.now) m) ≡ true
+    → (q : List ℕ) → option_map placed_of (hash.get_by (λ k. bytes_eq q k.now) m)
+    ≡ or_first (option_map placed_of (hash.get_by (λ k. bytes_eq q k.now) m)) (if bytes_eq q name then Some found else None)
+name-kept m name found some q = step (bytes_eq q name) refl (hash.get_by (λ k. bytes_eq q k.now) m) refl
+  where
+    step : (b : Bool) → bytes_eq q name ≡ b → (o : Option Placed) → hash.get_by (λ k. bytes_eq q k.now) m ≡ o → option_map placed_of o ≡ or_first (option_map placed_of o) (if b then Some found else None)
+    step b e (Some p) at = refl
+    step false e None at = refl
+    step true e None at =
+        let bad : is_some (hash.get_by (λ k. bytes_eq q k.now) m) ≡ true = ap (λ w. is_some (hash.get_by (λ k. bytes_eq w k.now) m)) ((bytes_eq-Decides q name).0 e) ∙ some in
+        let none : is_some (hash.get_by (λ k. bytes_eq q k.now) m) ≡ false = ap is_some at in
+        cc (bad, none)
 
 pub indexed-push : {S T : Type 0} (scope : Scope) (o : Known) (tables new_tables : HashMap (Bor (List ℕ)) Placed S) (columns new_columns : HashMap (Bor (List ℕ)) Meaning T) (w new_w : ℕ)
     → IsIndexed scope tables columns w
     → ((q : List ℕ) → option_map placed_of (hash.get_by (λ k. bytes_eq q k.now) new_tables)
-    ≡ or_first (option_map placed_of (hash.get_by (λ k. bytes_eq q k.now) tables)) (if bytes_eq q o.name then Some (w, o.entry) else None))
+        ≡ or_first (option_map placed_of (hash.get_by (λ k. bytes_eq q k.now) tables)) (if bytes_eq q o.name then Some (w, o.entry) else None))
     → ((q : List ℕ) → hash.get_by (λ k. bytes_eq q k.now) new_columns ≡ with_more (hash.get_by (λ k. bytes_eq q k.now) columns) (columns_named q w o.entry.columns))
     → new_w ≡ w + length o.entry.columns
     → IsIndexed (scope ++ o ∷ []) new_tables new_columns new_w

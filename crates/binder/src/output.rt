@@ -152,7 +152,7 @@ fn item_and_kind(
     grouping: Grouping<'_>,
     scopes: &Scopes<'_>,
 ) -> Result<(Item, Kind), BindFault>
-    ensures { Gives (λ found. found) result (spec.item_in (scopes_of scopes.now) grouping.grouped grouping.keys.now number value.now) }
+    ensures { Gives (λ found. found) result (spec.item_in (scopes_of scopes.now) grouping.entry.grouped grouping.entry.keys.now number value.now) }
 {
     match value {
         ItemValue::Column(name) => {
@@ -176,7 +176,7 @@ fn output_of(
     grouping: Grouping<'_>,
     scopes: &Scopes<'_>,
 ) -> Result<Output, BindFault>
-    ensures { Gives (λ output. output) result (spec.output_in (scopes_of scopes.now) grouping.grouped grouping.keys.now number item.now) }
+    ensures { Gives (λ output. output) result (spec.output_in (scopes_of scopes.now) grouping.entry.grouped grouping.entry.keys.now number item.now) }
 {
     let (shown, kind) = item_and_kind(&item.value, number, grouping, scopes)?;
     Ok(Output {
@@ -194,7 +194,7 @@ fn outputs_of_items(
     grouping: Grouping<'_>,
     scopes: &Scopes<'_>,
 ) -> Result<Items<Output>, BindFault>
-    ensures { Gives (λ outputs. outputs) result (spec.items_in (scopes_of scopes.now) grouping.grouped grouping.keys.now first_number items.now) }
+    ensures { Gives (λ outputs. outputs) result (spec.items_in (scopes_of scopes.now) grouping.entry.grouped grouping.entry.keys.now first_number items.now) }
 {
     let mut outputs = Items::new(alloc);
     let mut number = first_number;
@@ -242,7 +242,7 @@ fn all_columns(alloc: Global, scope: &Scope<'_>) -> Result<Items<Output>, AllocE
 }
 
 fn is_shown(grouping: Grouping<'_>, item: Item) -> bool
-    ensures { result ≡ spec.is_shown grouping.grouped grouping.keys.now item }
+    ensures { result ≡ spec.is_shown grouping.entry.grouped grouping.entry.keys.now item }
 {
     match item {
         Item::Column(column) => grouping.shows(column),
@@ -251,7 +251,7 @@ fn is_shown(grouping: Grouping<'_>, item: Item) -> bool
 }
 
 fn are_shown(grouping: Grouping<'_>, outputs: &[Output]) -> bool
-    ensures { result ≡ list_all (λ o. spec.is_shown grouping.grouped grouping.keys.now o.item) outputs.now }
+    ensures { result ≡ list_all (λ o. spec.is_shown grouping.entry.grouped grouping.entry.keys.now o.item) outputs.now }
 {
     outputs.iter().all(|output| is_shown(grouping, output.item))
 }
@@ -265,7 +265,7 @@ pub fn outputs(
     own: &Scope<'_>,
     scopes: &Scopes<'_>,
 ) -> Result<Items<Output>, BindFault>
-    ensures { Gives (λ outputs. outputs) result (spec.outputs_in own.now (scopes_of scopes.now) grouping.grouped grouping.keys.now first_number list.now) }
+    ensures { Gives (λ outputs. outputs) result (spec.outputs_in own.now (scopes_of scopes.now) grouping.entry.grouped grouping.entry.keys.now first_number list.now) }
 {
     match list {
         SelectList::Items(items) => {

@@ -95,7 +95,7 @@ impl<'s> Scope<'s> {
 
     /// Adds a table occurrence to the right. Of two with one name the first is found.
     pub fn with(self, name: &'s str, entry: &'s Table) -> Result<Scope<'s>, AllocError>
-        ensures { IfOk result (λ scope. scope ≡ self ++ record { name = name.now; entry = entry.now } ∷ []) }
+        ensures { IfOk result (λ scope. scope ≡ self.entry ++ record { name = name.now; entry = entry.now } ∷ []) }
     {
         let Scope {
             mut tables,
@@ -119,7 +119,7 @@ impl<'s> Scope<'s> {
 
     /// Adds the tables of a scope to the right.
     pub fn append(self, right: &Scope<'s>) -> Result<Scope<'s>, AllocError>
-        ensures { IfOk result (λ scope. scope ≡ self ++ right.now) }
+        ensures { IfOk result (λ scope. scope ≡ self.entry ++ right.now) }
     {
         let mut all = self;
         for table in right.tables() {
@@ -149,7 +149,7 @@ fn with_columns<'s>(
 ) -> Result<(HashMap<&'s str, Meaning>, usize), AllocError>
     ensures place { IfOk result (λ x. x.1 ≡ first_place + length columns.entry.now) }
     ensures names { IfOk result (λ x. (q : List ℕ) → hash.get_by (λ k. bytes_eq q k.now) x.0
-        ≡ with_more (hash.get_by (λ k. bytes_eq q k.now) by_name) (spec.columns_named q first_place columns.entry.now)) }
+        ≡ with_more (hash.get_by (λ k. bytes_eq q k.now) by_name.entry) (spec.columns_named q first_place columns.entry.now)) }
 {
     let mut place = first_place;
     for column in columns {
@@ -184,7 +184,10 @@ pub fn find_table<'s>(schema: &'s Schema, name: &str) -> Option<(usize, &'s Tabl
 }
 
 /// The column of a name among a table's, and its place.
-fn find_column<'s>(columns: &'s [schema::Column], name: &str) -> Option<(usize, &'s schema::Column)>
+fn find_column<'s>(
+    columns: &'s [schema::Column],
+    name: &str,
+) -> Option<(usize, &'s schema::Column)>
     ensures { option_map (λ found. (found.0, found.1.now)) result ≡ cut.find_column 0 columns.entry.now name.now }
 {
     for (place, column) in columns.iter().enumerate() {

@@ -31,6 +31,13 @@ pub struct BoundSelect<'s> {
     pub scope: Scope<'s>,
 }
 
+/// The scopes inside one more FROM.
+fn inside<'a>(scope: &'a Scope<'a>, outer: &'a Scopes<'a>) -> Scopes<'a>
+    ensures { scopes_of result ≡ scope.entry.now ∷ scopes_of outer.entry.now }
+{
+    Scopes::Inner(scope, outer)
+}
+
 fn kind_of(literal: &Value) -> Option<Kind>
     ensures { result ≡ spec.kind_of literal.now }
 {
@@ -93,7 +100,7 @@ fn membership(
     at: usize,
     query: BoundSelect<'_>,
 ) -> Result<Cond, BindFault>
-    ensures { Gives (λ bound. bound) result (spec.membership_in left at query) }
+    ensures { Gives (λ bound. bound) result (spec.membership_in left at query.entry) }
 {
     let [output] = query.outputs.as_slice() else {
         return Err(refused(BindReason::NotOneColumn, at));
@@ -203,11 +210,11 @@ fn join<'s>(
     left: (From, Scope<'s>),
     numbered: &mut Numbered,
 ) -> Result<(From, Scope<'s>), BindFault>
-    ensures { Gives (λ x. (x.0, x.1, numbered.new)) result (spec.join_in schema.entry.now part.entry.now (scopes_of outer.now) before.now (left.0, left.1, numbered.old)) }
+    ensures { Gives (λ x. (x.0, x.1, numbered.new)) result (spec.join_in schema.entry.now part.entry.now (scopes_of outer.now) before.now (left.entry.0, left.entry.1, numbered.old)) }
 {
     let (left, chain) = left;
     let (right, chain) = enter(alloc, schema, before, chain, &part.table, numbered)?;
-    let inner = Scopes::Inner(&chain, outer);
+    let inner = inside(&chain, outer);
     let on = condition(alloc, schema, part.condition.get(), &inner, numbered)?;
     Ok((joined(alloc, part.kind, left, right, on)?, chain))
 }
@@ -223,7 +230,7 @@ fn joins<'s>(
     first: (From, Scope<'s>),
     numbered: &mut Numbered,
 ) -> Result<(From, Scope<'s>), BindFault>
-    ensures { Gives (λ x. (x.0, x.1, numbered.new)) result (spec.through (map (spec.join_in schema.entry.now) parts.entry.now) (scopes_of outer.now) before.now (first.0, first.1, numbered.old)) }
+    ensures { Gives (λ x. (x.0, x.1, numbered.new)) result (spec.through (map (spec.join_in schema.entry.now) parts.entry.now) (scopes_of outer.now) before.now (first.entry.0, first.entry.1, numbered.old)) }
 {
     let mut left = first;
     for part in parts {
@@ -268,7 +275,7 @@ fn chains<'s>(
     first: (From, Scope<'s>),
     numbered: &mut Numbered,
 ) -> Result<(From, Scope<'s>), BindFault>
-    ensures { Gives (λ x. (x.0, x.1, numbered.new)) result (spec.commas (map (spec.chain_in schema.entry.now) parts.entry.now) (scopes_of outer.now) (first.0, first.1, numbered.old)) }
+    ensures { Gives (λ x. (x.0, x.1, numbered.new)) result (spec.commas (map (spec.chain_in schema.entry.now) parts.entry.now) (scopes_of outer.now) (first.entry.0, first.entry.1, numbered.old)) }
 {
     let (mut left, mut scope) = first;
     for part in parts {
@@ -323,7 +330,7 @@ pub fn select<'s>(
     let own_aggregates = aggregates(&part.list);
     numbered.push_aggregates(own_aggregates)?;
     let (from, scope) = sources(alloc, schema, part.from.as_slice(), outer, numbered)?;
-    let scopes = Scopes::Inner(&scope, outer);
+    let scopes = inside(&scope, outer);
     let filter = filter(alloc, schema, &part.filter, &scopes, numbered)?;
     let keys = keys(alloc, part.group.as_slice(), &scopes)?;
     let grouped = keys.len() > 0 || own_aggregates > 0;

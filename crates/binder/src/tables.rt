@@ -66,7 +66,7 @@ pub fn enter<'s>(
     table: &'s TableName,
     numbered: &mut Numbered,
 ) -> Result<(Occurrence, Scope<'s>), BindFault>
-    ensures { Gives (λ x. (x.0, x.1, numbered.new)) result (spec.enter schema.entry.now before.now chain table.entry.now numbered.old) }
+    ensures { Gives (λ x. (x.0, x.1, numbered.new)) result (spec.enter schema.entry.now before.now chain.entry table.entry.now numbered.old) }
 {
     let Some((place, entry)) = find_table(schema, table.name.text.as_str()) else {
         return Err(refused(BindReason::UnknownTable, table.name.at));
