@@ -133,6 +133,7 @@ after-insert name m n x up q = step (bytes_eq name q) refl (bytes_eq q name) ref
   where
     now : (b : Bool) → bytes_eq name q ≡ b → hash.get_by (λ k. bytes_eq q k.now) n ≡ cond b (Some x) (hash.get_by (λ k. bytes_eq q k.now) m)
     now b e = hash_map_updates_str name m n (Some x) up q ∙ ap (λ b. cond b (Some x) (hash.get_by (λ k. bytes_eq q k.now) m)) e
+
     step : (a : Bool) → bytes_eq name q ≡ a → (b : Bool) → bytes_eq q name ≡ b → ((q ≡ name) × (hash.get_by (λ k. bytes_eq q k.now) n ≡ Some x) × (bytes_eq q name ≡ true))
         ⊎ ((hash.get_by (λ k. bytes_eq q k.now) n ≡ hash.get_by (λ k. bytes_eq q k.now) m) × (bytes_eq q name ≡ false))
     step true e true f = inl ((bytes_eq-Decides q name).0 f, now true e, f)
@@ -192,7 +193,7 @@ name-kept m name found some q = step (bytes_eq q name) refl (hash.get_by (λ k. 
 pub indexed-push : {S T : Type 0} (scope : Scope) (o : Known) (tables new_tables : HashMap (Bor (List ℕ)) Placed S) (columns new_columns : HashMap (Bor (List ℕ)) Meaning T) (w new_w : ℕ)
     → IsIndexed scope tables columns w
     → ((q : List ℕ) → option_map placed_of (hash.get_by (λ k. bytes_eq q k.now) new_tables)
-        ≡ or_first (option_map placed_of (hash.get_by (λ k. bytes_eq q k.now) tables)) (if bytes_eq q o.name then Some (w, o.entry) else None))
+    ≡ or_first (option_map placed_of (hash.get_by (λ k. bytes_eq q k.now) tables)) (if bytes_eq q o.name then Some (w, o.entry) else None))
     → ((q : List ℕ) → hash.get_by (λ k. bytes_eq q k.now) new_columns ≡ with_more (hash.get_by (λ k. bytes_eq q k.now) columns) (columns_named q w o.entry.columns))
     → new_w ≡ w + length o.entry.columns
     → IsIndexed (scope ++ o ∷ []) new_tables new_columns new_w

@@ -31,13 +31,6 @@ pub struct BoundSelect<'s> {
     pub scope: Scope<'s>,
 }
 
-/// The scopes inside one more FROM.
-fn inside<'a>(scope: &'a Scope<'a>, outer: &'a Scopes<'a>) -> Scopes<'a>
-    ensures { scopes_of result ≡ scope.entry.now ∷ scopes_of outer.entry.now }
-{
-    Scopes::Inner(scope, outer)
-}
-
 fn kind_of(literal: &Value) -> Option<Kind>
     ensures { result ≡ spec.kind_of literal.now }
 {
@@ -48,7 +41,7 @@ fn kind_of(literal: &Value) -> Option<Kind>
     }
 }
 
-fn term(alloc: Global, text: &tree::Term, scopes: &Scopes<'_>) -> Result<BoundTerm, BindFault>
+fn term(alloc: Global, text: &tree::Term, scopes: &Scopes<'_, '_>) -> Result<BoundTerm, BindFault>
     ensures { Gives (λ bound. bound) result (spec.term_in (scopes_of scopes.now) text.now) }
 {
     match text {
@@ -81,7 +74,7 @@ fn comparison(
     left: &tree::Term,
     by: tree::Operator,
     right: &tree::Term,
-    scopes: &Scopes<'_>,
+    scopes: &Scopes<'_, '_>,
 ) -> Result<Cond, BindFault>
     ensures { Gives (λ bound. bound) result (spec.comparison_in (scopes_of scopes.now) left.now by right.now) }
 {
@@ -112,11 +105,11 @@ fn membership(
 }
 
 #[cycle(selects)]
-fn condition(
+fn condition<'s>(
     alloc: Global,
-    schema: &Schema,
-    part: &Condition,
-    scopes: &Scopes<'_>,
+    schema: &'s Schema,
+    part: &'s Condition,
+    scopes: &Scopes<'_, 's>,
     numbered: &mut Numbered,
 ) -> Result<Cond, BindFault>
     ensures { Gives (λ bound. (bound, numbered.new)) result (spec.condition_in schema.now part.now (scopes_of scopes.now) numbered.old) }
@@ -149,11 +142,11 @@ fn condition(
 }
 
 #[cycle(selects)]
-fn conditions(
+fn conditions<'s>(
     alloc: Global,
-    schema: &Schema,
-    parts: &[Condition],
-    scopes: &Scopes<'_>,
+    schema: &'s Schema,
+    parts: &'s [Condition],
+    scopes: &Scopes<'_, 's>,
     numbered: &mut Numbered,
 ) -> Result<Items<Cond>, BindFault>
     ensures { Gives (λ bound. (bound, numbered.new)) result (spec.all_in (map (spec.condition_in schema.now) parts.now) (scopes_of scopes.now) numbered.old) }
@@ -166,11 +159,11 @@ fn conditions(
 }
 
 #[cycle(selects)]
-fn filter(
+fn filter<'s>(
     alloc: Global,
-    schema: &Schema,
-    part: &Option<Boxed<Condition>>,
-    scopes: &Scopes<'_>,
+    schema: &'s Schema,
+    part: &'s Option<Boxed<Condition>>,
+    scopes: &Scopes<'_, 's>,
     numbered: &mut Numbered,
 ) -> Result<Option<Boxed<Cond>>, BindFault>
     ensures { Gives (λ bound. (bound, numbered.new)) result (spec.filter_in (option_map (spec.condition_in schema.now) part.now) (scopes_of scopes.now) numbered.old) }
@@ -205,7 +198,7 @@ fn join<'s>(
     alloc: Global,
     schema: &'s Schema,
     part: &'s Join,
-    outer: &Scopes<'_>,
+    outer: &Scopes<'_, 's>,
     before: &Scope<'s>,
     left: (From, Scope<'s>),
     numbered: &mut Numbered,
@@ -214,7 +207,7 @@ fn join<'s>(
 {
     let (left, chain) = left;
     let (right, chain) = enter(alloc, schema, before, chain, &part.table, numbered)?;
-    let inner = inside(&chain, outer);
+    let inner = Scopes::Inner(&chain, outer);
     let on = condition(alloc, schema, part.condition.get(), &inner, numbered)?;
     Ok((joined(alloc, part.kind, left, right, on)?, chain))
 }
@@ -225,7 +218,7 @@ fn joins<'s>(
     alloc: Global,
     schema: &'s Schema,
     parts: &'s [Join],
-    outer: &Scopes<'_>,
+    outer: &Scopes<'_, 's>,
     before: &Scope<'s>,
     first: (From, Scope<'s>),
     numbered: &mut Numbered,
@@ -245,7 +238,7 @@ fn chain<'s>(
     alloc: Global,
     schema: &'s Schema,
     part: &'s Chain,
-    outer: &Scopes<'_>,
+    outer: &Scopes<'_, 's>,
     before: &Scope<'s>,
     numbered: &mut Numbered,
 ) -> Result<(From, Scope<'s>), BindFault>
@@ -271,7 +264,7 @@ fn chains<'s>(
     alloc: Global,
     schema: &'s Schema,
     parts: &'s [Chain],
-    outer: &Scopes<'_>,
+    outer: &Scopes<'_, 's>,
     first: (From, Scope<'s>),
     numbered: &mut Numbered,
 ) -> Result<(From, Scope<'s>), BindFault>
@@ -292,7 +285,7 @@ fn sources<'s>(
     alloc: Global,
     schema: &'s Schema,
     parts: &'s [Chain],
-    outer: &Scopes<'_>,
+    outer: &Scopes<'_, 's>,
     numbered: &mut Numbered,
 ) -> Result<(From, Scope<'s>), BindFault>
     ensures { Gives (λ x. (x.0, x.1, numbered.new)) result (spec.from_in (map (spec.chain_in schema.entry.now) parts.entry.now) (scopes_of outer.now) numbered.old) }
@@ -321,7 +314,7 @@ pub fn select<'s>(
     alloc: Global,
     schema: &'s Schema,
     part: &'s Select,
-    outer: &Scopes<'_>,
+    outer: &Scopes<'_, 's>,
     numbered: &mut Numbered,
 ) -> Result<BoundSelect<'s>, BindFault>
     ensures { Gives (λ bound. (bound, numbered.new)) result (spec.select_in schema.entry.now part.entry.now (scopes_of outer.now) numbered.old) }
@@ -330,7 +323,7 @@ pub fn select<'s>(
     let own_aggregates = aggregates(&part.list);
     numbered.push_aggregates(own_aggregates)?;
     let (from, scope) = sources(alloc, schema, part.from.as_slice(), outer, numbered)?;
-    let scopes = inside(&scope, outer);
+    let scopes = Scopes::Inner(&scope, outer);
     let filter = filter(alloc, schema, &part.filter, &scopes, numbered)?;
     let keys = keys(alloc, part.group.as_slice(), &scopes)?;
     let grouped = keys.len() > 0 || own_aggregates > 0;
