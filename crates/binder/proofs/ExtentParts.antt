@@ -43,11 +43,11 @@ extent-Exists S q = condition_at S (Condition-F.Exists q) _ (rolls-Exists q)
 pub extent-In : (S : Schema) (a : tree.Term) (at : ℕ) (q : Select) → of_condition S (In a at q) ≡ beside one_test (of_select S q)
 extent-In S a at q = condition_at S (Condition-F.In a at q) _ (rolls-In a at q)
 
-pub extent-join : (S : Schema) (j : Join) → of_join S j ≡ beside (one_table S j.table) (of_condition S j.condition)
+pub extent-join : (S : Schema) (j : Join) → of_join S j ≡ beside (one_table S (out-Join j).table) (of_condition S (out-Join j).condition)
 unfolding of_condition of_join of_chain of_select
 extent-join S j = fold_out-Join Extent Extent Extent Extent condition_layer (chain_layer S) (join_layer S) select_layer j
 
-pub extent-chain : (S : Schema) (c : Chain) → of_chain S c ≡ beside (one_table S c.table) (all_of (map (of_join S) c.joins))
+pub extent-chain : (S : Schema) (c : Chain) → of_chain S c ≡ beside (one_table S (out-Chain c).table) (all_of (map (of_join S) (out-Chain c).joins))
 unfolding of_condition of_join of_chain of_select
 extent-chain S c = fold_out-Chain Extent Extent Extent Extent condition_layer (chain_layer S) (join_layer S) select_layer c
 
@@ -62,5 +62,5 @@ select_layers : (S : Schema) (x : Select-F Condition Chain Join Select) (o : Opt
 select_layers S x None = refl
 select_layers S x (Some c) = refl
 
-pub extent-select : (S : Schema) (q : Select) → of_select S q ≡ one_level_more (beside (all_of (map (of_chain S) q.from)) (of_filter (option_map (of_condition S) q.filter)))
+pub extent-select : (S : Schema) (q : Select) → of_select S q ≡ one_level_more (beside (all_of (map (of_chain S) (out-Select q).from)) (of_filter (option_map (of_condition S) (out-Select q).filter)))
 extent-select S q = select_roll S q ∙ select_layers S (out-Select q) (out-Select q).filter

@@ -79,11 +79,11 @@ condition-In S a at q = condition_at S (Condition-F.In a at q) _ (rolls-In a at 
 -- ---- FROM
 
 pub join-parts : (S : Schema) (j : Join) (outer : Scopes) (before : Scope) (left : FromSoFar) → join_in S j outer before left
-    ≡ (enter S before left.1 j.table left.2 >>= λ right. condition_in S j.condition (right.1 ∷ outer) right.2 >>= λ on. Ok (joined j.kind left.0 right.0 on.0, right.1, on.1))
+    ≡ (enter S before left.1 (out-Join j).table left.2 >>= λ right. condition_in S (out-Join j).condition (right.1 ∷ outer) right.2 >>= λ on. Ok (joined (out-Join j).kind left.0 right.0 on.0, right.1, on.1))
 join-parts S j outer before left = ap (λ m. m outer before left) (join_roll S j)
 
 pub chain-parts : (S : Schema) (c : Chain) (outer : Scopes) (before : Scope) (n : Numbered) → chain_in S c outer before n
-    ≡ (enter S before [] c.table n >>= λ first. through (map (join_in S) c.joins) outer before (from.Table first.0, first.1, first.2))
+    ≡ (enter S before [] (out-Chain c).table n >>= λ first. through (map (join_in S) (out-Chain c).joins) outer before (from.Table first.0, first.1, first.2))
 chain-parts S c outer before n = ap (λ m. m outer before n) (chain_roll S c)
 
 -- ---- SELECT
@@ -91,17 +91,17 @@ chain-parts S c outer before n = ap (λ m. m outer before n) (chain_roll S c)
 select_layers : (S : Schema) (x : Select-F Condition Chain Join Select) (o : Option Condition)
     → select_layer (map-Select Condition Chain Join Select CondBinding ChainBinding JoinBinding SelectBinding (condition_in S) (chain_in S) (join_in S) (select_in S) (record x { filter = o }))
     ≡ (λ outer n. from_in (map (chain_in S) x.from) outer (with_aggregates n (aggregates x.list))
-        >>= λ sources. filter_in (option_map (condition_in S) o) (sources.1 ∷ outer) sources.2
-        >>= λ filter. each (key_in (sources.1 ∷ outer)) x.group
-        >>= λ keys. outputs_in sources.1 (sources.1 ∷ outer) (is_grouped keys x.list) keys n.next_aggregate x.list
-        >>= λ outputs. Ok (record { block = block_of x.distinct sources.0 filter.0 (is_grouped keys x.list) keys outputs; outputs = outputs; scope = sources.1 }, filter.1))
+    >>= λ sources. filter_in (option_map (condition_in S) o) (sources.1 ∷ outer) sources.2
+    >>= λ filter. each (key_in (sources.1 ∷ outer)) x.group
+    >>= λ keys. outputs_in sources.1 (sources.1 ∷ outer) (is_grouped keys x.list) keys n.next_aggregate x.list
+    >>= λ outputs. Ok (record { block = block_of x.distinct sources.0 filter.0 (is_grouped keys x.list) keys outputs; outputs = outputs; scope = sources.1 }, filter.1))
 select_layers S x None = refl
 select_layers S x (Some c) = refl
 
 pub select-parts : (S : Schema) (q : Select) (outer : Scopes) (n : Numbered) → select_in S q outer n
-    ≡ (from_in (map (chain_in S) q.from) outer (with_aggregates n (aggregates q.list))
-        >>= λ sources. filter_in (option_map (condition_in S) q.filter) (sources.1 ∷ outer) sources.2
-        >>= λ filter. each (key_in (sources.1 ∷ outer)) q.group
-        >>= λ keys. outputs_in sources.1 (sources.1 ∷ outer) (is_grouped keys q.list) keys n.next_aggregate q.list
-        >>= λ outputs. Ok (record { block = block_of q.distinct sources.0 filter.0 (is_grouped keys q.list) keys outputs; outputs = outputs; scope = sources.1 }, filter.1))
+    ≡ (from_in (map (chain_in S) (out-Select q).from) outer (with_aggregates n (aggregates (out-Select q).list))
+    >>= λ sources. filter_in (option_map (condition_in S) (out-Select q).filter) (sources.1 ∷ outer) sources.2
+    >>= λ filter. each (key_in (sources.1 ∷ outer)) (out-Select q).group
+    >>= λ keys. outputs_in sources.1 (sources.1 ∷ outer) (is_grouped keys (out-Select q).list) keys n.next_aggregate (out-Select q).list
+    >>= λ outputs. Ok (record { block = block_of (out-Select q).distinct sources.0 filter.0 (is_grouped keys (out-Select q).list) keys outputs; outputs = outputs; scope = sources.1 }, filter.1))
 select-parts S q outer n = ap (λ m. m outer n) (select_roll S q ∙ select_layers S (out-Select q) (out-Select q).filter)

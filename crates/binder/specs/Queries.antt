@@ -25,4 +25,4 @@ bound_statement S s = do
   select ← select_in S s.select [] (at_start extent)
   order ← order_in select.0.scope select.0.outputs s.order
   wanted_if (refusal TooLarge 0) (nat_le select.1.next_aggregate MAX_COLUMNS)
-    (record { tables = select.1.tables; block = select.0.block; names = map (λ o. o.name) select.0.outputs; order = order })
+      (record { tables = select.1.tables; block = select.0.block; names = map (λ o. o.name) select.0.outputs; order = order })

@@ -71,7 +71,7 @@ pub fn aggregates(list: &SelectList) -> usize
 pub fn keys(
     alloc: Global,
     group: &[ColumnName],
-    scopes: &Scopes<'_>,
+    scopes: &Scopes<'_, '_>,
 ) -> Result<Items<usize>, BindFault>
     ensures { Gives (λ keys. keys) result (each (spec.key_in (scopes_of scopes.now)) group.now) }
 {
@@ -82,7 +82,7 @@ pub fn keys(
     Ok(keys)
 }
 
-fn key(name: &ColumnName, scopes: &Scopes<'_>) -> Result<usize, BindFault>
+fn key(name: &ColumnName, scopes: &Scopes<'_, '_>) -> Result<usize, BindFault>
     ensures { Gives (λ place. place) result (spec.key_in (scopes_of scopes.now) name.now) }
 {
     let found = meant(name, scopes)?;
@@ -132,7 +132,10 @@ fn aggregate_of(call: &AggregateCall, own: TypedColumn) -> Result<(Aggregate, Ki
     }
 }
 
-fn aggregate_in(call: &AggregateCall, scopes: &Scopes<'_>) -> Result<(Aggregate, Kind), BindFault>
+fn aggregate_in(
+    call: &AggregateCall,
+    scopes: &Scopes<'_, '_>,
+) -> Result<(Aggregate, Kind), BindFault>
     ensures { Gives (λ found. found) result (spec.aggregate_in (scopes_of scopes.now) call.now.function call.now.at call.now.column) }
 {
     let Some(column) = &call.column else {
@@ -150,7 +153,7 @@ fn item_and_kind(
     value: &ItemValue,
     number: usize,
     grouping: Grouping<'_>,
-    scopes: &Scopes<'_>,
+    scopes: &Scopes<'_, '_>,
 ) -> Result<(Item, Kind), BindFault>
     ensures { Gives (λ found. found) result (spec.item_in (scopes_of scopes.now) grouping.entry.grouped grouping.entry.keys.now number value.now) }
 {
@@ -174,7 +177,7 @@ fn output_of(
     item: &SelectItem,
     number: usize,
     grouping: Grouping<'_>,
-    scopes: &Scopes<'_>,
+    scopes: &Scopes<'_, '_>,
 ) -> Result<Output, BindFault>
     ensures { Gives (λ output. output) result (spec.output_in (scopes_of scopes.now) grouping.entry.grouped grouping.entry.keys.now number item.now) }
 {
@@ -192,7 +195,7 @@ fn outputs_of_items(
     items: &[SelectItem],
     first_number: usize,
     grouping: Grouping<'_>,
-    scopes: &Scopes<'_>,
+    scopes: &Scopes<'_, '_>,
 ) -> Result<Items<Output>, BindFault>
     ensures { Gives (λ outputs. outputs) result (spec.items_in (scopes_of scopes.now) grouping.entry.grouped grouping.entry.keys.now first_number items.now) }
 {
@@ -263,7 +266,7 @@ pub fn outputs(
     first_number: usize,
     grouping: Grouping<'_>,
     own: &Scope<'_>,
-    scopes: &Scopes<'_>,
+    scopes: &Scopes<'_, '_>,
 ) -> Result<Items<Output>, BindFault>
     ensures { Gives (λ outputs. outputs) result (spec.outputs_in own.now (scopes_of scopes.now) grouping.entry.grouped grouping.entry.keys.now first_number list.now) }
 {

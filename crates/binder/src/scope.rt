@@ -166,9 +166,9 @@ fn with_columns<'s>(
 
 /// The FROMs around a place, the innermost first.
 #[derive(Clone, Copy)]
-pub enum Scopes<'a> {
+pub enum Scopes<'a, 's> {
     Outermost,
-    Inner(&'a Scope<'a>, &'a Scopes<'a>),
+    Inner(&'a Scope<'s>, &'a Scopes<'a, 's>),
 }
 
 /// The table of a name, and its place in the schema.
@@ -204,7 +204,7 @@ fn sum(a: usize, b: usize) -> Result<usize, AllocError>
 
 /// What a plain name means, where the innermost scope has this level.
 #[tactic(auto, unfolding(crate::specs::Scopes::plain))]
-fn plain(name: &Name, level: usize, scopes: &Scopes<'_>) -> Result<TypedColumn, BindFault>
+fn plain(name: &Name, level: usize, scopes: &Scopes<'_, '_>) -> Result<TypedColumn, BindFault>
     ensures { Gives (λ found. found) result (spec.plain name.now level (scopes_of scopes.now)) }
 {
     match scopes {
@@ -245,7 +245,7 @@ fn qualified(
     table: &Name,
     name: &Name,
     level: usize,
-    scopes: &Scopes<'_>,
+    scopes: &Scopes<'_, '_>,
 ) -> Result<TypedColumn, BindFault>
     ensures { Gives (λ found. found) result (spec.qualified table.now name.now level (scopes_of scopes.now)) }
 {
@@ -270,7 +270,7 @@ pub fn qualified_in(table: &Name, name: &Name, scope: &Scope<'_>) -> Result<Type
 }
 
 /// The column that a name means among the FROMs around it.
-pub fn meant(name: &ColumnName, scopes: &Scopes<'_>) -> Result<TypedColumn, BindFault>
+pub fn meant(name: &ColumnName, scopes: &Scopes<'_, '_>) -> Result<TypedColumn, BindFault>
     ensures { Gives (λ found. found) result (spec.meant name.now (scopes_of scopes.now)) }
 {
     match &name.table {

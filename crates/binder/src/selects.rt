@@ -41,7 +41,7 @@ fn kind_of(literal: &Value) -> Option<Kind>
     }
 }
 
-fn term(alloc: Global, text: &tree::Term, scopes: &Scopes<'_>) -> Result<BoundTerm, BindFault>
+fn term(alloc: Global, text: &tree::Term, scopes: &Scopes<'_, '_>) -> Result<BoundTerm, BindFault>
     ensures { Gives (λ bound. bound) result (spec.term_in (scopes_of scopes.now) text.now) }
 {
     match text {
@@ -74,7 +74,7 @@ fn comparison(
     left: &tree::Term,
     by: tree::Operator,
     right: &tree::Term,
-    scopes: &Scopes<'_>,
+    scopes: &Scopes<'_, '_>,
 ) -> Result<Cond, BindFault>
     ensures { Gives (λ bound. bound) result (spec.comparison_in (scopes_of scopes.now) left.now by right.now) }
 {
@@ -93,7 +93,7 @@ fn membership(
     at: usize,
     query: BoundSelect<'_>,
 ) -> Result<Cond, BindFault>
-    ensures { Gives (λ bound. bound) result (spec.membership_in left at query) }
+    ensures { Gives (λ bound. bound) result (spec.membership_in left at query.entry) }
 {
     let [output] = query.outputs.as_slice() else {
         return Err(refused(BindReason::NotOneColumn, at));
@@ -105,11 +105,11 @@ fn membership(
 }
 
 #[cycle(selects)]
-fn condition(
+fn condition<'s>(
     alloc: Global,
-    schema: &Schema,
-    part: &Condition,
-    scopes: &Scopes<'_>,
+    schema: &'s Schema,
+    part: &'s Condition,
+    scopes: &Scopes<'_, 's>,
     numbered: &mut Numbered,
 ) -> Result<Cond, BindFault>
     ensures { Gives (λ bound. (bound, numbered.new)) result (spec.condition_in schema.now part.now (scopes_of scopes.now) numbered.old) }
@@ -142,11 +142,11 @@ fn condition(
 }
 
 #[cycle(selects)]
-fn conditions(
+fn conditions<'s>(
     alloc: Global,
-    schema: &Schema,
-    parts: &[Condition],
-    scopes: &Scopes<'_>,
+    schema: &'s Schema,
+    parts: &'s [Condition],
+    scopes: &Scopes<'_, 's>,
     numbered: &mut Numbered,
 ) -> Result<Items<Cond>, BindFault>
     ensures { Gives (λ bound. (bound, numbered.new)) result (spec.all_in (map (spec.condition_in schema.now) parts.now) (scopes_of scopes.now) numbered.old) }
@@ -159,11 +159,11 @@ fn conditions(
 }
 
 #[cycle(selects)]
-fn filter(
+fn filter<'s>(
     alloc: Global,
-    schema: &Schema,
-    part: &Option<Boxed<Condition>>,
-    scopes: &Scopes<'_>,
+    schema: &'s Schema,
+    part: &'s Option<Boxed<Condition>>,
+    scopes: &Scopes<'_, 's>,
     numbered: &mut Numbered,
 ) -> Result<Option<Boxed<Cond>>, BindFault>
     ensures { Gives (λ bound. (bound, numbered.new)) result (spec.filter_in (option_map (spec.condition_in schema.now) part.now) (scopes_of scopes.now) numbered.old) }
@@ -198,12 +198,12 @@ fn join<'s>(
     alloc: Global,
     schema: &'s Schema,
     part: &'s Join,
-    outer: &Scopes<'_>,
+    outer: &Scopes<'_, 's>,
     before: &Scope<'s>,
     left: (From, Scope<'s>),
     numbered: &mut Numbered,
 ) -> Result<(From, Scope<'s>), BindFault>
-    ensures { Gives (λ x. (x.0, x.1, numbered.new)) result (spec.join_in schema.entry.now part.entry.now (scopes_of outer.now) before.now (left.0, left.1, numbered.old)) }
+    ensures { Gives (λ x. (x.0, x.1, numbered.new)) result (spec.join_in schema.entry.now part.entry.now (scopes_of outer.now) before.now (left.entry.0, left.entry.1, numbered.old)) }
 {
     let (left, chain) = left;
     let (right, chain) = enter(alloc, schema, before, chain, &part.table, numbered)?;
@@ -218,12 +218,12 @@ fn joins<'s>(
     alloc: Global,
     schema: &'s Schema,
     parts: &'s [Join],
-    outer: &Scopes<'_>,
+    outer: &Scopes<'_, 's>,
     before: &Scope<'s>,
     first: (From, Scope<'s>),
     numbered: &mut Numbered,
 ) -> Result<(From, Scope<'s>), BindFault>
-    ensures { Gives (λ x. (x.0, x.1, numbered.new)) result (spec.through (map (spec.join_in schema.entry.now) parts.entry.now) (scopes_of outer.now) before.now (first.0, first.1, numbered.old)) }
+    ensures { Gives (λ x. (x.0, x.1, numbered.new)) result (spec.through (map (spec.join_in schema.entry.now) parts.entry.now) (scopes_of outer.now) before.now (first.entry.0, first.entry.1, numbered.old)) }
 {
     let mut left = first;
     for part in parts {
@@ -238,7 +238,7 @@ fn chain<'s>(
     alloc: Global,
     schema: &'s Schema,
     part: &'s Chain,
-    outer: &Scopes<'_>,
+    outer: &Scopes<'_, 's>,
     before: &Scope<'s>,
     numbered: &mut Numbered,
 ) -> Result<(From, Scope<'s>), BindFault>
@@ -247,7 +247,15 @@ fn chain<'s>(
     let none = Scope::new(alloc);
     let (first, scope) = enter(alloc, schema, before, none, &part.table, numbered)?;
     let first = (From::Table(first), scope);
-    joins(alloc, schema, part.joins.as_slice(), outer, before, first, numbered)
+    joins(
+        alloc,
+        schema,
+        part.joins.as_slice(),
+        outer,
+        before,
+        first,
+        numbered,
+    )
 }
 
 /// Chains from the left.
@@ -256,11 +264,11 @@ fn chains<'s>(
     alloc: Global,
     schema: &'s Schema,
     parts: &'s [Chain],
-    outer: &Scopes<'_>,
+    outer: &Scopes<'_, 's>,
     first: (From, Scope<'s>),
     numbered: &mut Numbered,
 ) -> Result<(From, Scope<'s>), BindFault>
-    ensures { Gives (λ x. (x.0, x.1, numbered.new)) result (spec.commas (map (spec.chain_in schema.entry.now) parts.entry.now) (scopes_of outer.now) (first.0, first.1, numbered.old)) }
+    ensures { Gives (λ x. (x.0, x.1, numbered.new)) result (spec.commas (map (spec.chain_in schema.entry.now) parts.entry.now) (scopes_of outer.now) (first.entry.0, first.entry.1, numbered.old)) }
 {
     let (mut left, mut scope) = first;
     for part in parts {
@@ -277,7 +285,7 @@ fn sources<'s>(
     alloc: Global,
     schema: &'s Schema,
     parts: &'s [Chain],
-    outer: &Scopes<'_>,
+    outer: &Scopes<'_, 's>,
     numbered: &mut Numbered,
 ) -> Result<(From, Scope<'s>), BindFault>
     ensures { Gives (λ x. (x.0, x.1, numbered.new)) result (spec.from_in (map (spec.chain_in schema.entry.now) parts.entry.now) (scopes_of outer.now) numbered.old) }
@@ -306,7 +314,7 @@ pub fn select<'s>(
     alloc: Global,
     schema: &'s Schema,
     part: &'s Select,
-    outer: &Scopes<'_>,
+    outer: &Scopes<'_, 's>,
     numbered: &mut Numbered,
 ) -> Result<BoundSelect<'s>, BindFault>
     ensures { Gives (λ bound. (bound, numbered.new)) result (spec.select_in schema.entry.now part.entry.now (scopes_of outer.now) numbered.old) }
