@@ -1,5 +1,5 @@
 -- Scopes by hash: one more table keeps the maps in step with the list.
-use Rattle.std.proofs.Common.{◌⊎◌, inl, inr, ◌≡◌, refl, ℕ, ◌+◌, List, [], ◌∷◌, ◌++◌, length, Bool, true, false, ◌||◌, cond, Option, Some, None, option_map, is_some, bytes_eq, ap, sym, ◌∙◌, arith, append_assoc, ◌<◌, drop, get_or, if◌then◌else◌, Result, Ok, Err}
+use Rattle.std.proofs.Common.{inl, inr, ◌≡◌, refl, ℕ, ◌+◌, List, [], ◌∷◌, ◌++◌, length, Bool, true, false, ◌||◌, Option, Some, None, option_map, is_some, bytes_eq, ap, sym, ◌∙◌, arith, append_assoc, ◌<◌, drop, get_or, if◌then◌else◌, Result, Ok, Err}
 use Rattle.std.proofs.lemmas.List.{append-nil}
 use Rattle.std.proofs.lemmas.Slice.Eq.{bytes_eq-Decides}
 use Rattle.std.specs.Borrow.{Bor}

@@ -1,5 +1,5 @@
 -- Outputs by hash, as loops find them.
-use Rattle.std.proofs.Common.{◌≡◌, refl, ℕ, suc, ◌+◌, ◌<◌, List, [], ◌∷◌, ◌++◌, length, Bool, true, false, ◌&&◌, ltb, cond, take, drop, get_or, filter, map, position, Option, Some, None, bytes_eq, ap, sym, ◌∙◌, arith, if◌then◌else◌, not, inl, inr}
+use Rattle.std.proofs.Common.{◌≡◌, refl, ℕ, suc, ◌+◌, ◌<◌, List, [], ◌∷◌, ◌++◌, length, Bool, true, false, ◌&&◌, ltb, cond, take, drop, get_or, filter, map, position, Option, Some, None, bytes_eq, ap, sym, ◌∙◌, arith, if◌then◌else◌, Result, Ok, Err, not, inl, inr}
 use Rattle.std.specs.List.{list_all, position_or_len}
 use Rattle.std.proofs.lemmas.Bool.Decides.{nat_tests}
 use Rattle.std.proofs.lemmas.List.{append-nil, map-append, take_more}
@@ -9,14 +9,18 @@ use Rattle.std.specs.Borrow.{Bor}
 use Rattle.std.specs.HashMap as hash
 use Rattle.std.specs.HashMap.{HashMap}
 use Rattle.binder.specs.contracts.named.IdentityPartialEq.TheImpl.{eq-value}
+use Rattle.binder.specs.declared.fault.BindReason.TheVariants.{NoOutputColumn}
+use Rattle.binder.specs.declared.fault.BindRefusal.{BindRefusal}
+use Rattle.binder.specs.Binding.{refusal}
+use Rattle.binder.specs.declared.query.Column.{Column}
 use Rattle.binder.specs.declared.query.Item.{Item}
 use Rattle.binder.specs.declared.query.Item.TheVariants as item
 use Rattle.binder.specs.declared.output.Output.{Output}
 use Rattle.binder.specs.declared.named.Identity.{Identity}
 use Rattle.binder.specs.declared.named.Sense.{Sense}
 use Rattle.binder.specs.declared.named.Sense.TheVariants.{One, Several}
-use Rattle.binder.specs.Ordering.{same_item}
-use Rattle.binder.specs.Named.{identity_of, sense_of, one_more, items_named, HasSenses}
+use Rattle.binder.specs.Ordering.{same_item, one_column}
+use Rattle.binder.specs.Named.{identity_of, sense_of, one_more, items_named, items_showing, HasSenses}
 use Rattle.binder.proofs.Fronts.{front_of}
 use Rattle.binder.proofs.NameKeys.{after-insert}
 
@@ -67,6 +71,44 @@ firsts-step m n os i o lt at up h q =
     ∙ ap (λ b. cond b (Some i) (hash.get eq-value.it m (identity_of q))) (same-identity o.item q)
     ∙ ap (cond (same_item o.item q) (Some i)) (h q)
     ∙ sym (ap (first_at (λ o. same_item o.item q) i) (front_of os i o lt at))
+
+same-is : (i : Item) (c : Column) → same_item i (item.Column c) ≡ true → i ≡ item.Column c
+same-is (item.Column d) c h =
+    let level : d.level ≡ c.level = grind (arith, nat_tests) in
+    let place : d.place ≡ c.place = grind (arith, nat_tests) in
+    ap (λ l. item.Column (record { level = l; place = d.place })) level ∙ ap (λ p. item.Column (record { level = c.level; place = p })) place
+same-is (item.Aggregate n a) c h = cc h
+
+same-self : (c : Column) → same_item (item.Column c) (item.Column c) ≡ true
+same-self c = grind (arith, nat_tests)
+
+-- all outputs that are a column are the same
+all-same : (c : Column) (os : List Output) → list_all (λ j. same_item (item.Column c) j) (items_showing c os) ≡ true
+all-same c [] = refl
+all-same c (o ∷ os) = step (same_item o.item (item.Column c)) refl (all-same c os)
+  where
+    step : (same : Bool) → same_item o.item (item.Column c) ≡ same → list_all (λ j. same_item (item.Column c) j) (items_showing c os) ≡ true
+        → list_all (λ j. same_item (item.Column c) j) (map (λ o. o.item) (if same then o ∷ filter (λ o. same_item o.item (item.Column c)) os else filter (λ o. same_item o.item (item.Column c)) os)) ≡ true
+    step true h others = rw (same-is o.item c h, same-self c) others
+    step false h others = others
+
+-- a column that an output may be
+abbrev pub shown_at : ℕ → Column → Option ℕ → Result Item BindRefusal
+shown_at at c None = Err (refusal NoOutputColumn at)
+shown_at at c (Some place) = Ok (item.Column c)
+
+shown-first : (at : ℕ) (c : Column) (n : ℕ) (os : List Output) → one_column at (items_showing c os) ≡ shown_at at c (first_at (λ o. same_item o.item (item.Column c)) n os)
+shown-first at c n [] = refl
+shown-first at c n (o ∷ os) = step (same_item o.item (item.Column c)) refl (shown-first at c (n + 1) os)
+  where
+    step : (same : Bool) → same_item o.item (item.Column c) ≡ same → one_column at (items_showing c os) ≡ shown_at at c (first_at (λ o. same_item o.item (item.Column c)) (n + 1) os)
+        → one_column at (map (λ o. o.item) (if same then o ∷ filter (λ o. same_item o.item (item.Column c)) os else filter (λ o. same_item o.item (item.Column c)) os))
+        ≡ shown_at at c (if same then Some n else first_at (λ o. same_item o.item (item.Column c)) (n + 1) os)
+    step true h others = rw (same-is o.item c h, all-same c os) refl
+    step false h others = others
+
+pub shown-place : (at : ℕ) (c : Column) (os : List Output) → one_column at (items_showing c os) ≡ shown_at at c (position (λ o. same_item o.item (item.Column c)) os)
+shown-place at c os = shown-first at c 0 os ∙ ap (shown_at at c) (sym (position-first (λ o. same_item o.item (item.Column c)) os))
 
 -- ---- by name
 

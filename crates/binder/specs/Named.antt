@@ -5,19 +5,20 @@ use Rattle.std.specs.HashMap as hash
 use Rattle.std.specs.HashMap.{HashMap}
 use Rattle.std.specs.List.{list_all}
 use Rattle.binder.specs.contracts.named.IdentityPartialEq.TheImpl.{eq-value}
+use Rattle.binder.specs.declared.query.Column.{Column}
 use Rattle.binder.specs.declared.query.Item.{Item}
 use Rattle.binder.specs.declared.query.Item.TheVariants as item
 use Rattle.binder.specs.declared.output.Output.{Output}
 use Rattle.binder.specs.declared.named.Identity.{Identity}
-use Rattle.binder.specs.declared.named.Identity.TheVariants.{Column, Aggregate}
+use Rattle.binder.specs.declared.named.Identity.TheVariants as identity
 use Rattle.binder.specs.declared.named.Sense.{Sense}
 use Rattle.binder.specs.declared.named.Sense.TheVariants.{One, Several}
 use Rattle.binder.specs.Ordering.{same_item}
 
 -- what an item has in common with those that are the same column
 abbrev pub identity_of : Item → Identity
-identity_of (item.Column c) = Column c.level c.place
-identity_of (item.Aggregate n a) = Aggregate n
+identity_of (item.Column c) = identity.Column c.level c.place
+identity_of (item.Aggregate n a) = identity.Aggregate n
 
 -- what the items of a name are, in short
 abbrev pub sense_of : List Item → Option Sense
@@ -32,6 +33,9 @@ one_more (Some Several) i = Several
 
 abbrev pub items_named : List ℕ → List Output → List Item
 items_named name outputs = map (λ o. o.item) (filter (λ o. bytes_eq o.name name) outputs)
+
+abbrev pub items_showing : Column → List Output → List Item
+items_showing c outputs = map (λ o. o.item) (filter (λ o. same_item o.item (item.Column c)) outputs)
 
 -- each column's first output is in the map
 abbrev pub HasFirsts : {S : Type 0} → List Output → HashMap Identity ℕ S → Type 0
