@@ -76,6 +76,42 @@ pub condition-In : (S : Schema) (a : tree.Term) (at : ℕ) (q : Select) (scopes 
     ≡ (term_in scopes a >>= λ left. select_in S q scopes n >>= λ query. membership_in left at query.0 >>= λ bound. Ok (bound, query.1))
 condition-In S a at q = condition_at S (Condition-F.In a at q) _ (rolls-In a at q)
 
+-- ---- the same, where the parts are told by equations
+
+pub compared : (S : Schema) (c : Condition) (a : tree.Term) (op : Operator) (b : tree.Term) (scopes : Scopes) (n : Numbered) → c ≡ Compare a op b
+    → condition_in S c scopes n ≡ (comparison_in scopes a op b >>= λ bound. Ok (bound, n))
+compared S c a op b scopes n is = ap (λ y. condition_in S y scopes n) is ∙ condition-Compare S a op b scopes n
+
+pub null_tested : (S : Schema) (c : Condition) (a : tree.Term) (scopes : Scopes) (n : Numbered) → c ≡ IsNull a
+    → condition_in S c scopes n ≡ (term_in scopes a >>= λ tested. Ok (cond.IsNull tested.term, n))
+null_tested S c a scopes n is = ap (λ y. condition_in S y scopes n) is ∙ condition-IsNull S a scopes n
+
+pub negated : (S : Schema) (c d lent : Condition) (scopes : Scopes) (n : Numbered) → c ≡ Not d → lent ≡ d
+    → condition_in S c scopes n ≡ (condition_in S lent scopes n >>= λ part. Ok (cond.Not part.0, part.1))
+negated S c d lent scopes n is at =
+    ap (λ y. condition_in S y scopes n) is ∙ condition-Not S d scopes n ∙ ap (λ y. condition_in S y scopes n >>= λ part. Ok (cond.Not part.0, part.1)) (sym at)
+
+pub conjoined : (S : Schema) (c : Condition) (ds lent : List Condition) (scopes : Scopes) (n : Numbered) → c ≡ And ds → lent ≡ ds
+    → condition_in S c scopes n ≡ (all_in (map (condition_in S) lent) scopes n >>= λ parts. Ok (cond.And parts.0, parts.1))
+conjoined S c ds lent scopes n is at =
+    ap (λ y. condition_in S y scopes n) is ∙ condition-And S ds scopes n ∙ ap (λ ys. all_in (map (condition_in S) ys) scopes n >>= λ parts. Ok (cond.And parts.0, parts.1)) (sym at)
+
+pub disjoined : (S : Schema) (c : Condition) (ds lent : List Condition) (scopes : Scopes) (n : Numbered) → c ≡ Or ds → lent ≡ ds
+    → condition_in S c scopes n ≡ (all_in (map (condition_in S) lent) scopes n >>= λ parts. Ok (cond.Or parts.0, parts.1))
+disjoined S c ds lent scopes n is at =
+    ap (λ y. condition_in S y scopes n) is ∙ condition-Or S ds scopes n ∙ ap (λ ys. all_in (map (condition_in S) ys) scopes n >>= λ parts. Ok (cond.Or parts.0, parts.1)) (sym at)
+
+pub existing : (S : Schema) (c : Condition) (q lent : Select) (scopes : Scopes) (n : Numbered) → c ≡ Exists q → lent ≡ q
+    → condition_in S c scopes n ≡ (select_in S lent scopes n >>= λ query. Ok (cond.Exists query.0.block, query.1))
+existing S c q lent scopes n is at =
+    ap (λ y. condition_in S y scopes n) is ∙ condition-Exists S q scopes n ∙ ap (λ y. select_in S y scopes n >>= λ query. Ok (cond.Exists query.0.block, query.1)) (sym at)
+
+pub contained : (S : Schema) (c : Condition) (a : tree.Term) (at : ℕ) (q lent : Select) (scopes : Scopes) (n : Numbered) → c ≡ In a at q → lent ≡ q
+    → condition_in S c scopes n ≡ (term_in scopes a >>= λ left. select_in S lent scopes n >>= λ query. membership_in left at query.0 >>= λ bound. Ok (bound, query.1))
+contained S c a at q lent scopes n is same =
+    ap (λ y. condition_in S y scopes n) is ∙ condition-In S a at q scopes n
+    ∙ ap (λ y. term_in scopes a >>= λ left. select_in S y scopes n >>= λ query. membership_in left at query.0 >>= λ bound. Ok (bound, query.1)) (sym same)
+
 -- ---- FROM
 
 pub join-parts : (S : Schema) (j : Join) (outer : Scopes) (before : Scope) (left : FromSoFar) → join_in S j outer before left
