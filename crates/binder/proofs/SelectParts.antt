@@ -1,10 +1,13 @@
 -- What becomes of each form of condition, join, chain and SELECT: one equation for each.
-use Rattle.std.proofs.Common.{◌≡◌, refl, ℕ, List, [], ◌∷◌, map, Option, Some, None, Result, Ok, Err, ap, sym, ◌∙◌, option_map}
+use Rattle.std.proofs.Common.{◌≡◌, refl, ℕ, ◌<◌, ◌≤◌, Bool, true, false, ◌||◌, nat_lt, List, [], ◌∷◌, length, map, Option, Some, None, Result, Ok, Err, ap, sym, ◌∙◌, option_map, arith}
+use Rattle.std.proofs.lemmas.Bool.Decides.{nat_tests}
 use Rattle.values.specs.Faults.{◌>>=◌}
 use Rattle.schema.specs.declared.schema.Schema.{Schema}
 use Rattle.schema.specs.Each.{each}
 use Rattle.sql_parse.specs.declared.statement.Term as tree
 use Rattle.sql_parse.specs.declared.statement.Operator.{Operator}
+use Rattle.sql_parse.specs.declared.statement.SelectList.{SelectList}
+use Rattle.sql_parse.specs.declared.statement.ColumnName.{ColumnName}
 use Rattle.sql_parse.specs.declared.statement.Condition.{Condition, roll-Condition}
 use Rattle.sql_parse.specs.declared.statement.Condition.TheVariants.{Compare, IsNull, Not, And, Or, Exists, In, rolls-Compare, rolls-IsNull, rolls-Not, rolls-And, rolls-Or, rolls-Exists, rolls-In}
 use Rattle.sql_parse.specs.declared.statement.Condition.TheOpen.{Condition-F, Join-F, Chain-F, Select-F}
@@ -141,3 +144,42 @@ pub select-parts : (S : Schema) (q : Select) (outer : Scopes) (n : Numbered) →
     >>= λ keys. outputs_in sources.1 (sources.1 ∷ outer) (is_grouped keys (out-Select q).list) keys n.next_aggregate (out-Select q).list
     >>= λ outputs. Ok (record { block = block_of (out-Select q).distinct sources.0 filter.0 (is_grouped keys (out-Select q).list) keys outputs; outputs = outputs; scope = sources.1 }, filter.1))
 select-parts S q outer n = ap (λ m. m outer n) (select_roll S q ∙ select_layers S (out-Select q) (out-Select q).filter)
+
+-- ---- the same, where the parts are told by equations
+
+pub join_at : (S : Schema) (j : Join) (outer : Scopes) (before : Scope) (left : FromSoFar) (lent : Condition) → lent ≡ (out-Join j).condition → join_in S j outer before left
+    ≡ (enter S before left.1 (out-Join j).table left.2 >>= λ right. condition_in S lent (right.1 ∷ outer) right.2 >>= λ on. Ok (joined (out-Join j).kind left.0 right.0 on.0, right.1, on.1))
+join_at S j outer before left lent at = rw at (join-parts S j outer before left)
+
+pub chain_at : (S : Schema) (c : Chain) (outer : Scopes) (before : Scope) (n : Numbered) (none : Scope) (lent : List Join) → none ≡ [] → lent ≡ (out-Chain c).joins → chain_in S c outer before n
+    ≡ (enter S before none (out-Chain c).table n >>= λ first. through (map (join_in S) lent) outer before (from.Table first.0, first.1, first.2))
+chain_at S c outer before n none lent empty at = rw (empty, at) (chain-parts S c outer before n)
+
+pub select_at : (S : Schema) (q : Select) (outer : Scopes) (n m : Numbered) (chains : List Chain) (group : List ColumnName) → m ≡ with_aggregates n (aggregates (out-Select q).list) → chains ≡ (out-Select q).from → group ≡ (out-Select q).group
+    → select_in S q outer n
+    ≡ (from_in (map (chain_in S) chains) outer m
+        >>= λ sources. filter_in (option_map (condition_in S) (out-Select q).filter) (sources.1 ∷ outer) sources.2
+        >>= λ filter. each (key_in (sources.1 ∷ outer)) group
+        >>= λ keys. outputs_in sources.1 (sources.1 ∷ outer) (is_grouped keys (out-Select q).list) keys n.next_aggregate (out-Select q).list
+        >>= λ outputs. Ok (record { block = block_of (out-Select q).distinct sources.0 filter.0 (is_grouped keys (out-Select q).list) keys outputs; outputs = outputs; scope = sources.1 }, filter.1))
+select_at S q outer n m chains group counted at by = rw (counted, at, by) (select-parts S q outer n)
+
+-- ---- groups
+
+or-true : (a b : Bool) → a ≡ true → a ≡ (a || b)
+or-true true b is = refl
+or-true false b is = cc
+
+or-false : (a b : Bool) → a ≡ false → b ≡ (a || b)
+or-false true b is = cc
+or-false false b is = refl
+
+pub grouped_by_keys : (keys : List ℕ) (list : SelectList) (n : ℕ) → n ≡ length keys → 0 < n → nat_lt 0 n ≡ is_grouped keys list
+grouped_by_keys keys list n is lt =
+    let has : nat_lt 0 (length keys) ≡ true = grind (arith, nat_tests) in
+    rw is (or-true (nat_lt 0 (length keys)) (nat_lt 0 (aggregates list)) has)
+
+pub grouped_by_aggregates : (keys : List ℕ) (list : SelectList) (n m : ℕ) → n ≡ length keys → n ≤ 0 → m ≡ aggregates list → nat_lt 0 m ≡ is_grouped keys list
+grouped_by_aggregates keys list n m is none counted =
+    let has : nat_lt 0 (length keys) ≡ false = grind (arith, nat_tests) in
+    rw counted (or-false (nat_lt 0 (length keys)) (nat_lt 0 (aggregates list)) has)

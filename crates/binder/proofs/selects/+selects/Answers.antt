@@ -1,4 +1,4 @@
-use Rattle.std.proofs.Common.{◌≡◌, ◌∙◌, ap, sym, subst, List, map, option_map, Result, Ok, Err}
+use Rattle.std.proofs.Common.{◌≡◌, refl, ◌∙◌, ap, sym, subst, ℕ, ◌-◌, Bool, List, ◌∷◌, length, take, drop, map, option_map, Result, Ok, Err, arith}
 use Rattle.std.proofs.lemmas.Result.{err_from_is_err_and}
 use Rattle.values.specs.Faults.{◌>>=◌, Gives, Fails}
 use Rattle.sql_parse.specs.declared.statement.Chain.{Chain, out-Chain}
@@ -7,11 +7,19 @@ use Rattle.sql_parse.specs.declared.statement.Select.{Select, out-Select}
 use Rattle.binder.specs.declared.query.Cond.{Cond}
 use Rattle.binder.specs.declared.query.Cond.TheVariants as cond
 use Rattle.binder.specs.declared.query.Block.{Block}
+use Rattle.binder.specs.declared.query.From.{From}
+use Rattle.binder.specs.declared.output.Output.{Output}
+use Rattle.binder.specs.declared.fault.BindRefusal.{BindRefusal}
+use Rattle.binder.specs.Numbers.{with_aggregates}
+use Rattle.binder.specs.Outputs.{is_grouped, outputs_in}
+use Rattle.binder.specs.Scopes.{Scope, Scopes}
 use Rattle.binder.specs.Chained.{scopes_of}
 use Rattle.binder.specs.Selects as spec
-use Rattle.binder.proofs.SelectParts.{compared, null_tested, negated, conjoined, disjoined, existing, contained, join-parts, chain-parts, select-parts}
+use Rattle.binder.proofs.SelectParts.{compared, null_tested, negated, conjoined, disjoined, existing, contained, join_at, chain_at, select_at, grouped_by_keys, grouped_by_aggregates}
+use Rattle.binder.proofs.SelectLoops.{chains_on}
 use Rattle.binder.proofs.Steps.{told, handed, seen, same}
 use Rattle.binder.proofs.selects.+selects.Goals as goal
+use Rattle.binder.proofs.selects.+selects.Goals.{select-then-len-gt0, select-else-len-gt0}
 
 pub condition-returns-in-Compare : goal.condition-returns-in-Compare
 condition-returns-in-Compare t c = seen (λ (bound : Cond). bound) (λ (bound : Cond). (bound, c.args.numbered.now)) c.comparison.result _ _ (compared c.args.schema.now c.args.part.now c.in-Compare.left c.in-Compare.by c.in-Compare.right (scopes_of c.args.scopes.now) c.args.numbered.now c.in-Compare.is) c.comparison.ensures
@@ -59,44 +67,95 @@ condition-returns-in_ok-new-in-Exists t c = handed _ _ _ _ (existing c.args.sche
 pub condition-returns-in_err-left-in-In : goal.condition-returns-in_err-left-in-In
 condition-returns-in_err-left-in-In t c =
     let p = err_from_is_err_and c.from_residual-in_err-left-in-In.result c.from_residual-in_err-left-in-In.ensures.1 in
-    rw (p.1, p.2) (told c.in_err-left-in-In.field-0.0 _ _ _ (contained c.args.schema.now c.args.part.now c.in-In.tested c.in-In.at c.in-In.query c.get-in-In.result.now (scopes_of c.args.scopes.now) c.args.numbered.now c.in-In.is c.get-in-In.ensures) c.in_err-left-in-In.ensures)
+    rw (p.1, p.2) (told c.in_err-left-in-In.field-0.0 _ _ _ (contained c.args.schema.now c.args.part.now c.in-In.tested c.in-In.at c.in-In.query c.in-In.query (scopes_of c.args.scopes.now) c.args.numbered.now c.in-In.is refl) c.in_err-left-in-In.ensures)
 
 pub condition-returns-in_err-query-in-In : goal.condition-returns-in_err-query-in-In
-condition-returns-in_err-query-in-In t c = ?
+condition-returns-in_err-query-in-In t c =
+    let p = err_from_is_err_and c.from_residual-in_err-query-in-In.result c.from_residual-in_err-query-in-In.ensures.1 in
+    rw (p.1, p.2) (told c.in_err-query-in-In.field-0.0 _ _ _ (handed _ _ _ _ (contained c.args.schema.now c.args.part.now c.in-In.tested c.in-In.at c.in-In.query c.get-in-In.result.now (scopes_of c.args.scopes.now) c.args.numbered.now c.in-In.is c.get-in-In.ensures) c.in_ok-left-in-In.ensures) c.in_err-query-in-In.ensures)
 
 pub condition-returns-in_ok-query-in-In : goal.condition-returns-in_ok-query-in-In
-condition-returns-in_ok-query-in-In t c = ?
+condition-returns-in_ok-query-in-In t c =
+    let is = handed _ _ _ _ (handed _ _ _ _ (contained c.args.schema.now c.args.part.now c.in-In.tested c.in-In.at c.in-In.query c.get-in-In.result.now (scopes_of c.args.scopes.now) c.args.numbered.now c.in-In.is c.get-in-In.ensures) c.in_ok-left-in-In.ensures) c.in_ok-query-in-In.ensures in
+    seen (λ (bound : Cond). bound) (λ (bound : Cond). (bound, c.select-in-In.new.numbered)) c.membership.result _ _ is c.membership.ensures
 
 pub join-returns-in_err-right : goal.join-returns-in_err-right
-join-returns-in_err-right t c = ?
+join-returns-in_err-right t c =
+    let p = err_from_is_err_and c.from_residual.result c.from_residual.ensures.1 in
+    rw (p.1, p.2) (told c.in_err-right.field-0.0 _ _ _ (join_at c.args.schema.now c.args.part.now (scopes_of c.args.outer.now) c.args.before.now (c.args.left.0, c.args.left.1, c.args.numbered.now) (out-Join c.args.part.now).condition refl) c.in_err-right.ensures)
 
 pub join-returns-in_err-on : goal.join-returns-in_err-on
-join-returns-in_err-on t c = ?
+join-returns-in_err-on t c =
+    let p = err_from_is_err_and c.from_residual-in_err-on.result c.from_residual-in_err-on.ensures.1 in
+    rw (p.1, p.2) (told c.in_err-on.field-0.0 _ _ _ (handed _ _ _ _ (join_at c.args.schema.now c.args.part.now (scopes_of c.args.outer.now) c.args.before.now (c.args.left.0, c.args.left.1, c.args.numbered.now) c.get.result.now c.get.ensures) c.in_ok-right.ensures) c.in_err-on.ensures)
 
 pub join-returns : goal.join-returns
-join-returns t c = ?
+join-returns t c =
+    handed _ _ _ _ (handed _ _ _ _ (join_at c.args.schema.now c.args.part.now (scopes_of c.args.outer.now) c.args.before.now (c.args.left.0, c.args.left.1, c.args.numbered.now) c.get.result.now c.get.ensures) c.in_ok-right.ensures) c.in_ok-on.ensures
+    ∙ ap (λ (f : From). Ok (f, c.in_ok-right.chain, c.condition.new.numbered)) (sym c.in_ok-joined.ensures)
 
 pub chain-returns-in_err-first : goal.chain-returns-in_err-first
-chain-returns-in_err-first t c = ?
+chain-returns-in_err-first t c =
+    let p = err_from_is_err_and c.from_residual.result c.from_residual.ensures.1 in
+    rw (p.1, p.2) (told c.in_err-first.field-0.0 _ _ _ (chain_at c.args.schema.now c.args.part.now (scopes_of c.args.outer.now) c.args.before.now c.args.numbered.now c.new-none.result (out-Chain c.args.part.now).joins c.new-none.ensures refl) c.in_err-first.ensures)
 
 pub chain-returns : goal.chain-returns
-chain-returns t c = ?
+chain-returns t c =
+    let is = handed _ _ _ _ (chain_at c.args.schema.now c.args.part.now (scopes_of c.args.outer.now) c.args.before.now c.args.numbered.now c.new-none.result c.as_slice.result.now c.new-none.ensures c.as_slice.ensures) c.in_ok-first.ensures in
+    same (λ (x : From × Scope). (x.0, x.1, c.joins.new.numbered)) c.joins.result _ _ is c.joins.ensures
 
 pub select-returns-in_err-from : goal.select-returns-in_err-from
-select-returns-in_err-from t c = ?
+select-returns-in_err-from t c =
+    let p = err_from_is_err_and c.from_residual-in_err-from.result c.from_residual-in_err-from.ensures.1 in
+    rw (p.1, p.2) (told c.in_err-from.field-0.0 _ _ _ (select_at c.args.schema.now c.args.part.now (scopes_of c.args.outer.now) c.args.numbered.now c.push_aggregates.new.self c.as_slice.result.now (out-Select c.args.part.now).group (c.in_ok-push_aggregates.ensures ∙ ap (with_aggregates c.args.numbered.now) c.aggregates-own_aggregates.ensures) c.as_slice.ensures refl) c.in_err-from.ensures)
 
 pub select-returns-in_err-filter : goal.select-returns-in_err-filter
-select-returns-in_err-filter t c = ?
+select-returns-in_err-filter t c =
+    let p = err_from_is_err_and c.from_residual-in_err-filter.result c.from_residual-in_err-filter.ensures.1 in
+    let whole = select_at c.args.schema.now c.args.part.now (scopes_of c.args.outer.now) c.args.numbered.now c.push_aggregates.new.self c.as_slice.result.now (out-Select c.args.part.now).group (c.in_ok-push_aggregates.ensures ∙ ap (with_aggregates c.args.numbered.now) c.aggregates-own_aggregates.ensures) c.as_slice.ensures refl in
+    rw (p.1, p.2) (told c.in_err-filter.field-0.0 _ _ _ (handed _ _ _ _ whole c.in_ok-from.ensures) c.in_err-filter.ensures)
 
 pub select-returns-in_err-keys : goal.select-returns-in_err-keys
-select-returns-in_err-keys t c = ?
+select-returns-in_err-keys t c =
+    let p = err_from_is_err_and c.from_residual-in_err-keys.result c.from_residual-in_err-keys.ensures.1 in
+    let whole = select_at c.args.schema.now c.args.part.now (scopes_of c.args.outer.now) c.args.numbered.now c.push_aggregates.new.self c.as_slice.result.now c.as_slice-2.result.now (c.in_ok-push_aggregates.ensures ∙ ap (with_aggregates c.args.numbered.now) c.aggregates-own_aggregates.ensures) c.as_slice.ensures c.as_slice-2.ensures in
+    rw (p.1, p.2) (told c.in_err-keys.field-0.0 _ _ _ (handed _ _ _ _ (handed _ _ _ _ whole c.in_ok-from.ensures) c.in_ok-filter.ensures) c.in_err-keys.ensures)
 
 pub select-returns-in_err-outputs : goal.select-returns-in_err-outputs
-select-returns-in_err-outputs t c = ?
+select-returns-in_err-outputs t c =
+    let q = out-Select c.args.part.now in
+    let grouped : c.if-len-gt0.grouped ≡ is_grouped c.in_ok-keys.keys q.list = elim c.if-len-gt0.branch [
+      | select-then-len-gt0 w ↦ w.grouped-is ∙ grouped_by_keys c.in_ok-keys.keys q.list c.len.result c.len.ensures w.if-len-gt0.true
+      | select-else-len-gt0 w ↦
+          w.grouped-is ∙ grouped_by_aggregates c.in_ok-keys.keys q.list c.len.result c.aggregates-own_aggregates.result c.len.ensures w.if-len-gt0.false c.aggregates-own_aggregates.ensures
+    ] in
+    let shown : List ℕ → Bool → Result (List Output) BindRefusal = λ keys by. outputs_in c.in_ok-from.scope (c.in_ok-from.scope ∷ scopes_of c.args.outer.now) by keys c.args.numbered.now.next_aggregate q.list in
+    let outputs : shown c.as_slice-3.result.now c.if-len-gt0.grouped ≡ shown c.in_ok-keys.keys (is_grouped c.in_ok-keys.keys q.list) =
+    ap (λ (keys : List ℕ). shown keys c.if-len-gt0.grouped) c.as_slice-3.ensures ∙ ap (shown c.in_ok-keys.keys) grouped in
+    let p = err_from_is_err_and c.from_residual-in_err-outputs.result c.from_residual-in_err-outputs.ensures.1 in
+    let whole = select_at c.args.schema.now c.args.part.now (scopes_of c.args.outer.now) c.args.numbered.now c.push_aggregates.new.self c.as_slice.result.now c.as_slice-2.result.now (c.in_ok-push_aggregates.ensures ∙ ap (with_aggregates c.args.numbered.now) c.aggregates-own_aggregates.ensures) c.as_slice.ensures c.as_slice-2.ensures in
+    rw (p.1, p.2) (told c.in_err-outputs.field-0.0 _ _ _ (handed _ _ _ _ (handed _ _ _ _ (handed _ _ _ _ whole c.in_ok-from.ensures) c.in_ok-filter.ensures) c.in_ok-keys.ensures) (subst (Fails c.in_err-outputs.field-0.0) outputs c.in_err-outputs.ensures))
 
 pub select-returns : goal.select-returns
-select-returns t c = ?
+select-returns t c =
+    let q = out-Select c.args.part.now in
+    let grouped : c.if-len-gt0.grouped ≡ is_grouped c.in_ok-keys.keys q.list = elim c.if-len-gt0.branch [
+      | select-then-len-gt0 w ↦ w.grouped-is ∙ grouped_by_keys c.in_ok-keys.keys q.list c.len.result c.len.ensures w.if-len-gt0.true
+      | select-else-len-gt0 w ↦
+          w.grouped-is ∙ grouped_by_aggregates c.in_ok-keys.keys q.list c.len.result c.aggregates-own_aggregates.result c.len.ensures w.if-len-gt0.false c.aggregates-own_aggregates.ensures
+    ] in
+    let shown : List ℕ → Bool → Result (List Output) BindRefusal = λ keys by. outputs_in c.in_ok-from.scope (c.in_ok-from.scope ∷ scopes_of c.args.outer.now) by keys c.args.numbered.now.next_aggregate q.list in
+    let outputs : shown c.as_slice-3.result.now c.if-len-gt0.grouped ≡ shown c.in_ok-keys.keys (is_grouped c.in_ok-keys.keys q.list) =
+    ap (λ (keys : List ℕ). shown keys c.if-len-gt0.grouped) c.as_slice-3.ensures ∙ ap (shown c.in_ok-keys.keys) grouped in
+    let whole = select_at c.args.schema.now c.args.part.now (scopes_of c.args.outer.now) c.args.numbered.now c.push_aggregates.new.self c.as_slice.result.now c.as_slice-2.result.now (c.in_ok-push_aggregates.ensures ∙ ap (with_aggregates c.args.numbered.now) c.aggregates-own_aggregates.ensures) c.as_slice.ensures c.as_slice-2.ensures in
+    let items : c.in_ok-items.field-0 ≡ map (λ (o : Output). o.item) c.in_ok-outputs.outputs = c.in_ok-items.ensures ∙ ap (map (λ (o : Output). o.item)) c.as_slice-4.ensures in
+    let keys : c.keys-2.inside.items.items ≡ c.in_ok-keys.keys = c.keys-2.view_is in
+    rw (grouped, items, keys) (handed _ _ _ _ (handed _ _ _ _ (handed _ _ _ _ (handed _ _ _ _ whole c.in_ok-from.ensures) c.in_ok-filter.ensures) c.in_ok-keys.ensures) (sym outputs ∙ c.in_ok-outputs.ensures))
 
 pub sources-loop-part-preserved : goal.sources-loop-part-preserved
-sources-loop-part-preserved t c = ?
+sources-loop-part-preserved t c =
+    let others = take (length c.args.parts.now - 1) (drop 1 c.args.parts.now) in
+    let total = spec.from_in (map (spec.chain_in c.args.schema.now) c.args.parts.now) (scopes_of c.args.outer.now) c.args.numbered.now in
+    rw (c.in_ok-new.ensures, c.in_ok-new-2.ensures, c.in_ok-scope.ensures) (chains_on (spec.chain_in c.args.schema.now) (scopes_of c.args.outer.now) others c.loop-part.part-index c.part-item.result
+    c.loop-part.left c.in_ok-right.right c.loop-part.scope c.in_ok-right.tables c.loop-part.numbered c.chain-in-loop-part.new.numbered total (omega arith) c.part-item.is c.in_ok-right.ensures c.loop-part.invariant)
 
