@@ -1,10 +1,9 @@
 -- The keys of ORDER BY, as a loop keeps them.
-use Rattle.std.proofs.Common.{◌≡◌, refl, ℕ, suc, ◌+◌, ◌<◌, ◌≤◌, ◌==◌, Bool, true, false, not, ◌&&◌, ◌||◌, List, [], ◌∷◌, ◌++◌, length, drop, get_or, filter, Result, Ok, Err, ap, sym, subst, ◌∙◌, append_assoc, arith, rules}
+use Rattle.std.proofs.Common.{◌≡◌, refl, ℕ, ◌+◌, ◌<◌, ◌≤◌, ◌==◌, Bool, true, false, not, ◌&&◌, ◌||◌, List, [], ◌∷◌, ◌++◌, length, drop, get_or, filter, Result, Ok, Err, ap, sym, subst, ◌∙◌, append_assoc, arith, rules}
 use Rattle.std.specs.List.{list_any}
 use Rattle.std.proofs.lemmas.List.{append-nil, drop_all}
 use Rattle.std.proofs.lemmas.Bool.Decides.{nat_tests}
 use Rattle.std.proofs.lemmas.List.Folds.{list_any-append}
-use Rattle.std.proofs.Math.Seq.{drop-cons}
 use Rattle.values.specs.declared.fault.Fault.{Fault}
 use Rattle.values.specs.declared.fault.Fault.TheVariants as fault
 use Rattle.values.specs.Faults.{◌>>=◌, Fails}
@@ -12,6 +11,7 @@ use Rattle.schema.specs.Each.{each}
 use Rattle.binder.specs.declared.query.SortKey.{SortKey}
 use Rattle.binder.specs.declared.fault.BindRefusal.{BindRefusal}
 use Rattle.binder.specs.Ordering.{without_repeats}
+use Rattle.binder.proofs.Fronts.{front_of}
 
 -- whether an output is a key
 abbrev pub is_in : List SortKey → ℕ → Bool
@@ -93,11 +93,6 @@ finished-kept order k (Err e) h = refl
 finished-added : (order : List SortKey) (k : SortKey) (read : Result (List SortKey) BindRefusal) → is_in order k.item ≡ false → finished order (read >>= λ ks. Ok (k ∷ ks)) ≡ finished (order ++ k ∷ []) read
 finished-added order k (Ok ks) h = ap Ok (added order k ks h)
 finished-added order k (Err e) h = refl
-
-front_of : {A : Type 0} (xs : List A) (i : ℕ) (x : A) → i < length xs → x ≡ get_or xs i x → drop i xs ≡ x ∷ drop (i + 1) xs
-front_of xs i x lt at =
-    let k : suc i ≡ i + 1 = omega arith in
-    drop-cons xs i x lt ∙ ap (λ y. y ∷ drop (suc i) xs) (sym at) ∙ ap (λ j. x ∷ drop j xs) k
 
 pub keys_keep : {A : Type 0} (f : A → Result SortKey BindRefusal) (order : List SortKey) (xs : List A) (i : ℕ) (x : A) (k : SortKey) (total : Result (List SortKey) BindRefusal)
     → i < length xs → x ≡ get_or xs i x → f x ≡ Ok k → is_in order k.item ≡ true → finished order (each f (drop i xs)) ≡ total → finished order (each f (drop (i + 1) xs)) ≡ total

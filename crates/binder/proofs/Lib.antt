@@ -3,6 +3,7 @@ pub mod Company
 pub mod Counting
 pub mod Equations
 pub mod ExtentParts
+pub mod Fronts
 pub mod Groups
 pub mod Indexes
 pub mod KeyOrder

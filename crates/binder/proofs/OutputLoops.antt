@@ -1,7 +1,6 @@
 -- Items and columns one after the other, as a loop goes over them.
-use Rattle.std.proofs.Common.{◌≡◌, refl, ℕ, suc, ◌+◌, ◌<◌, ◌≤◌, Bool, List, [], ◌∷◌, ◌++◌, length, drop, get_or, map, Result, Ok, Err, ap, sym, ◌∙◌, append_assoc, arith, if◌then◌else◌}
+use Rattle.std.proofs.Common.{◌≡◌, refl, ℕ, ◌+◌, ◌<◌, ◌≤◌, Bool, List, [], ◌∷◌, ◌++◌, length, drop, get_or, Result, Ok, Err, ap, sym, ◌∙◌, append_assoc, if◌then◌else◌}
 use Rattle.std.proofs.lemmas.List.{append-nil, drop_all}
-use Rattle.std.proofs.Math.Seq.{drop-cons}
 use Rattle.values.specs.declared.fault.Fault.{Fault}
 use Rattle.values.specs.declared.fault.Fault.TheVariants as fault
 use Rattle.values.specs.Faults.{◌>>=◌, Fails}
@@ -11,15 +10,11 @@ use Rattle.binder.specs.declared.output.Output.{Output}
 use Rattle.binder.specs.declared.fault.BindRefusal.{BindRefusal}
 use Rattle.binder.specs.Scopes.{Scopes}
 use Rattle.binder.specs.Outputs.{is_aggregate, output_in, items_in}
+use Rattle.binder.proofs.Fronts.{front_of}
 
 regroup : {B R : Type 0} (front : List B) (b : B) (read : Result (List B) R) → after front (read >>= λ x. Ok (b ∷ x)) ≡ after (front ++ b ∷ []) read
 regroup front b (Ok x) = ap Ok (simp append_assoc)
 regroup front b (Err f) = refl
-
-front_of : {A : Type 0} (xs : List A) (i : ℕ) (x : A) → i < length xs → x ≡ get_or xs i x → drop i xs ≡ x ∷ drop (i + 1) xs
-front_of xs i x lt at =
-    let k : suc i ≡ i + 1 = omega arith in
-    drop-cons xs i x lt ∙ ap (λ y. y ∷ drop (suc i) xs) (sym at) ∙ ap (λ j. x ∷ drop j xs) k
 
 pub items_on : (scopes : Scopes) (grouped : Bool) (keys : List ℕ) (number : ℕ) (front : List Output) (xs : List SelectItem) (i : ℕ) (x : SelectItem) (b : Output) (total : Result (List Output) BindRefusal)
     → i < length xs → x ≡ get_or xs i x → output_in scopes grouped keys number x ≡ Ok b → after front (items_in scopes grouped keys number (drop i xs)) ≡ total

@@ -1,14 +1,14 @@
 //! The keys of ORDER BY, which are output columns.
 
 ghost use Rattle.std.specs.Prelude.{◌≡◌, ◌==◌, filter, map, bytes_eq, IfOk};
-ghost use Rattle.std.specs.List.{list_any};
+ghost use Rattle.std.specs.List.{list_all, list_any};
 ghost use Rattle.values.specs.Faults.{Gives};
 ghost use Rattle.binder.specs.Ordering as spec;
 
 use crate::fault::{BindFault, BindReason, refused};
 use crate::output::Output;
 use crate::query::{Item, SortKey};
-use crate::scope::{Scope, Scopes, place_in_text, qualified};
+use crate::scope::{Scope, place_in_text, qualified_in};
 use sql_parse::statement::{ColumnName, OrderKey};
 use std::alloc::{AllocError, Global};
 use values::{Fault, Items};
@@ -62,12 +62,17 @@ fn items_meant(
     let Some(table) = &name.table else {
         return named(alloc, name.name.text.as_str(), outputs);
     };
-    let outermost = Scopes::Outermost;
-    match qualified(table, &name.name, 0, &Scopes::Inner(scope, &outermost)) {
+    match qualified_in(table, &name.name, scope) {
         Ok(found) => showing(alloc, Item::Column(found.column), outputs),
         Err(Fault::Memory) => Err(AllocError),
         Err(Fault::Refused(_)) => Ok(Items::new(alloc)),
     }
+}
+
+fn are_same(first: Item, others: &[Item]) -> bool
+    ensures { result ≡ list_all (λ j. spec.same_item first j) others.now }
+{
+    others.iter().all(|other| same_item(first, *other))
 }
 
 /// The one column that all of the items are.
@@ -77,7 +82,7 @@ fn one_column(items: &[Item], at: usize) -> Result<Item, BindFault>
     let [first, others @ ..] = items else {
         return Err(refused(BindReason::NoOutputColumn, at));
     };
-    if !others.iter().all(|other| same_item(*first, *other)) {
+    if !are_same(*first, others) {
         return Err(refused(BindReason::AmbiguousName, at));
     }
     Ok(*first)

@@ -241,7 +241,7 @@ fn column_of(
 
 /// What a name with a table's name before it means, where the innermost scope has this level.
 #[tactic(auto, unfolding(crate::specs::Scopes::qualified))]
-pub fn qualified(
+fn qualified(
     table: &Name,
     name: &Name,
     level: usize,
@@ -255,6 +255,17 @@ pub fn qualified(
             None => qualified(table, name, sum(level, 1)?, outer),
             Some(placed) => column_of(table, name, level, placed),
         },
+    }
+}
+
+/// What a name with a table's name before it means in one FROM alone.
+#[tactic(auto, unfolding(crate::specs::Scopes::qualified))]
+pub fn qualified_in(table: &Name, name: &Name, scope: &Scope<'_>) -> Result<TypedColumn, BindFault>
+    ensures { Gives (λ found. found) result (spec.qualified table.now name.now 0 (scope.now ∷ [])) }
+{
+    match scope.table(table.text.as_str()) {
+        None => Err(refused(BindReason::UnknownColumn, table.at)),
+        Some(placed) => column_of(table, name, 0, placed),
     }
 }
 

@@ -1,4 +1,4 @@
-use Rattle.std.proofs.Common.{◌≡◌, drop, [], Result, Ok}
+use Rattle.std.proofs.Common.{◌≡◌, drop, Ok}
 use Rattle.values.specs.Faults.{◌>>=◌}
 use Rattle.schema.specs.Each.{each}
 use Rattle.binder.specs.Ordering.{sort_key_in, without_repeats}
