@@ -1,5 +1,5 @@
 -- What becomes of each form of condition, join, chain and SELECT: one equation for each.
-use Rattle.std.proofs.Common.{◌≡◌, refl, ℕ, ◌<◌, ◌≤◌, Bool, true, false, ◌||◌, nat_lt, List, [], ◌∷◌, length, map, Option, Some, None, Result, Ok, Err, ap, sym, ◌∙◌, option_map, arith}
+use Rattle.std.proofs.Common.{◌≡◌, refl, ℕ, ◌<◌, ◌≤◌, Bool, true, false, ◌||◌, nat_lt, List, [], ◌∷◌, length, map, Option, Some, None, Ok, ap, sym, ◌∙◌, option_map, arith}
 use Rattle.std.proofs.lemmas.Bool.Decides.{nat_tests}
 use Rattle.values.specs.Faults.{◌>>=◌}
 use Rattle.schema.specs.declared.schema.Schema.{Schema}
@@ -10,7 +10,7 @@ use Rattle.sql_parse.specs.declared.statement.SelectList.{SelectList}
 use Rattle.sql_parse.specs.declared.statement.ColumnName.{ColumnName}
 use Rattle.sql_parse.specs.declared.statement.Condition.{Condition, roll-Condition}
 use Rattle.sql_parse.specs.declared.statement.Condition.TheVariants.{Compare, IsNull, Not, And, Or, Exists, In, rolls-Compare, rolls-IsNull, rolls-Not, rolls-And, rolls-Or, rolls-Exists, rolls-In}
-use Rattle.sql_parse.specs.declared.statement.Condition.TheOpen.{Condition-F, Join-F, Chain-F, Select-F}
+use Rattle.sql_parse.specs.declared.statement.Condition.TheOpen.{Condition-F, Select-F}
 use Rattle.sql_parse.specs.declared.statement.Condition.TheFolds.{fold-roll-Condition, fold_out-Join, fold_out-Chain, fold_out-Select, map-Condition, map-Join, map-Chain, map-Select}
 use Rattle.sql_parse.specs.declared.statement.Join.{Join, out-Join}
 use Rattle.sql_parse.specs.declared.statement.Chain.{Chain, out-Chain}
@@ -18,7 +18,6 @@ use Rattle.sql_parse.specs.declared.statement.Select.{Select, out-Select}
 use Rattle.binder.specs.declared.query.Cond.TheVariants as cond
 use Rattle.binder.specs.declared.query.From.TheVariants as from
 use Rattle.binder.specs.declared.tables.Numbered.{Numbered}
-use Rattle.binder.specs.declared.fault.BindRefusal.{BindRefusal}
 use Rattle.binder.specs.Scopes.{Scope, Scopes}
 use Rattle.binder.specs.Numbers.{enter, with_aggregates}
 use Rattle.binder.specs.Outputs.{aggregates, is_grouped, key_in, outputs_in}
@@ -158,10 +157,10 @@ chain_at S c outer before n none lent empty at = rw (empty, at) (chain-parts S c
 pub select_at : (S : Schema) (q : Select) (outer : Scopes) (n m : Numbered) (chains : List Chain) (group : List ColumnName) → m ≡ with_aggregates n (aggregates (out-Select q).list) → chains ≡ (out-Select q).from → group ≡ (out-Select q).group
     → select_in S q outer n
     ≡ (from_in (map (chain_in S) chains) outer m
-        >>= λ sources. filter_in (option_map (condition_in S) (out-Select q).filter) (sources.1 ∷ outer) sources.2
-        >>= λ filter. each (key_in (sources.1 ∷ outer)) group
-        >>= λ keys. outputs_in sources.1 (sources.1 ∷ outer) (is_grouped keys (out-Select q).list) keys n.next_aggregate (out-Select q).list
-        >>= λ outputs. Ok (record { block = block_of (out-Select q).distinct sources.0 filter.0 (is_grouped keys (out-Select q).list) keys outputs; outputs = outputs; scope = sources.1 }, filter.1))
+    >>= λ sources. filter_in (option_map (condition_in S) (out-Select q).filter) (sources.1 ∷ outer) sources.2
+    >>= λ filter. each (key_in (sources.1 ∷ outer)) group
+    >>= λ keys. outputs_in sources.1 (sources.1 ∷ outer) (is_grouped keys (out-Select q).list) keys n.next_aggregate (out-Select q).list
+    >>= λ outputs. Ok (record { block = block_of (out-Select q).distinct sources.0 filter.0 (is_grouped keys (out-Select q).list) keys outputs; outputs = outputs; scope = sources.1 }, filter.1))
 select_at S q outer n m chains group counted at by = rw (counted, at, by) (select-parts S q outer n)
 
 -- ---- groups

@@ -1,9 +1,9 @@
-use Rattle.std.proofs.Common.{◌≡◌, refl, ◌∙◌, ap, sym, subst, ℕ, ◌-◌, Bool, List, ◌∷◌, length, take, drop, map, option_map, Result, Ok, Err, arith}
+use Rattle.std.proofs.Common.{◌≡◌, refl, ◌∙◌, ap, sym, subst, ℕ, ◌-◌, Bool, List, ◌∷◌, length, take, drop, map, Result, Ok, arith}
 use Rattle.std.proofs.lemmas.Result.{err_from_is_err_and}
-use Rattle.values.specs.Faults.{◌>>=◌, Gives, Fails}
-use Rattle.sql_parse.specs.declared.statement.Chain.{Chain, out-Chain}
-use Rattle.sql_parse.specs.declared.statement.Join.{Join, out-Join}
-use Rattle.sql_parse.specs.declared.statement.Select.{Select, out-Select}
+use Rattle.values.specs.Faults.{Fails}
+use Rattle.sql_parse.specs.declared.statement.Chain.{out-Chain}
+use Rattle.sql_parse.specs.declared.statement.Join.{out-Join}
+use Rattle.sql_parse.specs.declared.statement.Select.{out-Select}
 use Rattle.binder.specs.declared.query.Cond.{Cond}
 use Rattle.binder.specs.declared.query.Cond.TheVariants as cond
 use Rattle.binder.specs.declared.query.Block.{Block}
@@ -12,7 +12,7 @@ use Rattle.binder.specs.declared.output.Output.{Output}
 use Rattle.binder.specs.declared.fault.BindRefusal.{BindRefusal}
 use Rattle.binder.specs.Numbers.{with_aggregates}
 use Rattle.binder.specs.Outputs.{is_grouped, outputs_in}
-use Rattle.binder.specs.Scopes.{Scope, Scopes}
+use Rattle.binder.specs.Scopes.{Scope}
 use Rattle.binder.specs.Chained.{scopes_of}
 use Rattle.binder.specs.Selects as spec
 use Rattle.binder.proofs.SelectParts.{compared, null_tested, negated, conjoined, disjoined, existing, contained, join_at, chain_at, select_at, grouped_by_keys, grouped_by_aggregates}
@@ -158,4 +158,3 @@ sources-loop-part-preserved t c =
     let total = spec.from_in (map (spec.chain_in c.args.schema.now) c.args.parts.now) (scopes_of c.args.outer.now) c.args.numbered.now in
     rw (c.in_ok-new.ensures, c.in_ok-new-2.ensures, c.in_ok-scope.ensures) (chains_on (spec.chain_in c.args.schema.now) (scopes_of c.args.outer.now) others c.loop-part.part-index c.part-item.result
     c.loop-part.left c.in_ok-right.right c.loop-part.scope c.in_ok-right.tables c.loop-part.numbered c.chain-in-loop-part.new.numbered total (omega arith) c.part-item.is c.in_ok-right.ensures c.loop-part.invariant)
-
