@@ -1,5 +1,5 @@
 -- The keys of ORDER BY, as a loop keeps them.
-use Rattle.std.proofs.Common.{◌≡◌, refl, ℕ, ◌+◌, ◌<◌, ◌≤◌, ◌==◌, Bool, true, false, not, ◌&&◌, ◌||◌, List, [], ◌∷◌, ◌++◌, length, drop, get_or, filter, Result, Ok, Err, ap, sym, subst, ◌∙◌, append_assoc, arith, rules}
+use Rattle.std.proofs.Common.{◌≡◌, refl, ℕ, ◌+◌, ◌<◌, ◌≤◌, ◌==◌, Bool, true, false, not, ◌&&◌, ◌||◌, List, [], ◌∷◌, ◌++◌, length, drop, get_or, map, filter, Result, Ok, Err, ap, sym, subst, ◌∙◌, append_assoc, arith, rules}
 use Rattle.std.specs.List.{list_any}
 use Rattle.std.proofs.lemmas.List.{append-nil, drop_all}
 use Rattle.std.proofs.lemmas.Bool.Decides.{nat_tests}
@@ -16,6 +16,11 @@ use Rattle.binder.proofs.Fronts.{front_of}
 -- whether an output is a key
 abbrev pub is_in : List SortKey → ℕ → Bool
 is_in order i = list_any (λ k. k.item == i) order
+
+-- whether an output is among those of the keys
+pub among-in : (order : List SortKey) (i : ℕ) → list_any (λ k. k == i) (map (λ k. k.item) order) ≡ is_in order i
+among-in [] i = refl
+among-in (k ∷ order) i = ap (λ b. (k.item == i) || b) (among-in order i)
 
 -- the keys so far, and those of the rest that are not among them
 abbrev pub with_rest : List SortKey → List SortKey → List SortKey

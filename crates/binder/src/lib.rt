@@ -7,6 +7,7 @@ pub mod fault;
 pub mod laws;
 mod ordering;
 mod output;
+mod places;
 pub mod query;
 mod scope;
 mod selects;

@@ -1,12 +1,13 @@
 //! The keys of ORDER BY, which are output columns.
 
 ghost use Rattle.std.specs.Prelude.{◌≡◌, ◌==◌, filter, map, bytes_eq, IfOk};
-ghost use Rattle.std.specs.List.{list_all, list_any};
+ghost use Rattle.std.specs.List.{list_all};
 ghost use Rattle.values.specs.Faults.{Gives};
 ghost use Rattle.binder.specs.Ordering as spec;
 
 use crate::fault::{BindFault, BindReason, refused};
 use crate::output::Output;
+use crate::places::Places;
 use crate::query::{Item, SortKey};
 use crate::scope::{Scope, place_in_text, qualified_in};
 use sql_parse::statement::{ColumnName, OrderKey};
@@ -98,12 +99,6 @@ fn place_of(item: Item, outputs: &[Output]) -> usize
     place.unwrap_or(0)
 }
 
-fn is_key(keys: &[SortKey], item: usize) -> bool
-    ensures { result ≡ list_any (λ k. k.item == item) keys.now }
-{
-    keys.iter().any(|key| key.item == item)
-}
-
 fn sort_key(
     alloc: Global,
     key: &OrderKey,
@@ -131,9 +126,11 @@ pub fn order(
     ensures { Gives (λ order. order) result (spec.order_in scope.now outputs.now keys.now) }
 {
     let mut order = Items::new(alloc);
+    let mut known = Places::new(alloc);
     for key in keys {
         let next = sort_key(alloc, key, scope, outputs)?;
-        if !is_key(order.as_slice(), next.item) {
+        if !known.has(next.item) {
+            known = known.with(next.item)?;
             order.push(next)?;
         }
     }

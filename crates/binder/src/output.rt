@@ -8,6 +8,7 @@ ghost use Rattle.binder.specs.Outputs as spec;
 ghost use Rattle.binder.specs.Chained.{scopes_of};
 
 use crate::fault::{BindFault, BindReason, refused};
+use crate::places::Places;
 use crate::query::{Aggregate, Column, Item};
 use crate::scope::{Scope, Scopes, TypedColumn, meant, place_in_text};
 use schema::Kind;
@@ -29,7 +30,7 @@ pub struct Output {
 #[derive(Clone, Copy)]
 pub struct Grouping<'a> {
     pub grouped: bool,
-    pub keys: &'a [usize],
+    pub keys: &'a Places,
 }
 
 impl Grouping<'_> {
@@ -37,14 +38,8 @@ impl Grouping<'_> {
     fn shows(&self, column: Column) -> bool
         ensures { result ≡ spec.shows self.now.grouped self.now.keys.now column }
     {
-        !self.grouped || column.level != 0 || is_key(self.keys, column.place)
+        !self.grouped || column.level != 0 || self.keys.has(column.place)
     }
-}
-
-fn is_key(keys: &[usize], place: usize) -> bool
-    ensures { result ≡ list_any (λ k. k == place) keys.now }
-{
-    keys.iter().any(|key| *key == place)
 }
 
 fn is_aggregate(item: &SelectItem) -> bool
@@ -72,12 +67,12 @@ pub fn keys(
     alloc: Global,
     group: &[ColumnName],
     scopes: &Scopes<'_, '_>,
-) -> Result<Items<usize>, BindFault>
+) -> Result<Places, BindFault>
     ensures { Gives (λ keys. keys) result (each (spec.key_in (scopes_of scopes.now)) group.now) }
 {
-    let mut keys = Items::new(alloc);
+    let mut keys = Places::new(alloc);
     for name in group {
-        keys.push(key(name, scopes)?)?;
+        keys = keys.with(key(name, scopes)?)?;
     }
     Ok(keys)
 }

@@ -313,14 +313,14 @@ pub fn select<'s>(
     let grouped = keys.len() > 0 || own_aggregates > 0;
     let grouping = Grouping {
         grouped,
-        keys: keys.as_slice(),
+        keys: &keys,
     };
     let outputs = outputs(alloc, &part.list, first_number, grouping, &scope, &scopes)?;
     let block = Block {
         from,
         filter,
         grouped,
-        keys,
+        keys: keys.into_items(),
         items: items(alloc, outputs.as_slice())?,
         distinct: part.distinct,
     };

@@ -15,7 +15,7 @@ returns-in_err-key c =
 pub loop-name-preserved : goal.loop-name-preserved
 loop-name-preserved c =
     let read = key_in (scopes_of c.args.scopes.now) in
-    rw c.in_ok-push.ensures.ok (goes_on read c.loop-name.keys c.args.group.now c.loop-name.name-index c.name-item.result c.in_ok-key.field-0 (each read c.args.group.now) (omega arith) c.name-item.is c.in_ok-key.ensures c.loop-name.invariant)
+    rw c.in_ok-keys.ensures (goes_on read c.loop-name.keys c.args.group.now c.loop-name.name-index c.name-item.result c.in_ok-key.field-0 (each read c.args.group.now) (omega arith) c.name-item.is c.in_ok-key.ensures c.loop-name.invariant)
 
 pub returns : goal.returns
 returns c =
