@@ -129,12 +129,10 @@ select-returns-in_err-outputs t c =
       | select-else-len-gt0 w ↦
           w.grouped-is ∙ grouped_by_aggregates c.in_ok-keys.keys q.list c.len.result c.aggregates-own_aggregates.result c.len.ensures w.if-len-gt0.false c.aggregates-own_aggregates.ensures
     ] in
-    let shown : List ℕ → Bool → Result (List Output) BindRefusal = λ keys by. outputs_in c.in_ok-from.scope (c.in_ok-from.scope ∷ scopes_of c.args.outer.now) by keys c.args.numbered.now.next_aggregate q.list in
-    let outputs : shown c.as_slice-3.result.now c.if-len-gt0.grouped ≡ shown c.in_ok-keys.keys (is_grouped c.in_ok-keys.keys q.list) =
-    ap (λ (keys : List ℕ). shown keys c.if-len-gt0.grouped) c.as_slice-3.ensures ∙ ap (shown c.in_ok-keys.keys) grouped in
+    let shown : Bool → Result (List Output) BindRefusal = λ by. outputs_in c.in_ok-from.scope (c.in_ok-from.scope ∷ scopes_of c.args.outer.now) by c.in_ok-keys.keys c.args.numbered.now.next_aggregate q.list in
     let p = err_from_is_err_and c.from_residual-in_err-outputs.result c.from_residual-in_err-outputs.ensures.1 in
     let whole = select_at c.args.schema.now c.args.part.now (scopes_of c.args.outer.now) c.args.numbered.now c.push_aggregates.new.self c.as_slice.result.now c.as_slice-2.result.now (c.in_ok-push_aggregates.ensures ∙ ap (with_aggregates c.args.numbered.now) c.aggregates-own_aggregates.ensures) c.as_slice.ensures c.as_slice-2.ensures in
-    rw (p.1, p.2) (told c.in_err-outputs.field-0.0 _ _ _ (handed _ _ _ _ (handed _ _ _ _ (handed _ _ _ _ whole c.in_ok-from.ensures) c.in_ok-filter.ensures) c.in_ok-keys.ensures) (subst (Fails c.in_err-outputs.field-0.0) outputs c.in_err-outputs.ensures))
+    rw (p.1, p.2) (told c.in_err-outputs.field-0.0 _ _ _ (handed _ _ _ _ (handed _ _ _ _ (handed _ _ _ _ whole c.in_ok-from.ensures) c.in_ok-filter.ensures) c.in_ok-keys.ensures) (subst (λ (by : Bool). Fails c.in_err-outputs.field-0.0 (shown by)) grouped c.in_err-outputs.ensures))
 
 pub select-returns : goal.select-returns
 select-returns t c =
@@ -144,13 +142,10 @@ select-returns t c =
       | select-else-len-gt0 w ↦
           w.grouped-is ∙ grouped_by_aggregates c.in_ok-keys.keys q.list c.len.result c.aggregates-own_aggregates.result c.len.ensures w.if-len-gt0.false c.aggregates-own_aggregates.ensures
     ] in
-    let shown : List ℕ → Bool → Result (List Output) BindRefusal = λ keys by. outputs_in c.in_ok-from.scope (c.in_ok-from.scope ∷ scopes_of c.args.outer.now) by keys c.args.numbered.now.next_aggregate q.list in
-    let outputs : shown c.as_slice-3.result.now c.if-len-gt0.grouped ≡ shown c.in_ok-keys.keys (is_grouped c.in_ok-keys.keys q.list) =
-    ap (λ (keys : List ℕ). shown keys c.if-len-gt0.grouped) c.as_slice-3.ensures ∙ ap (shown c.in_ok-keys.keys) grouped in
+    let shown : Bool → Result (List Output) BindRefusal = λ by. outputs_in c.in_ok-from.scope (c.in_ok-from.scope ∷ scopes_of c.args.outer.now) by c.in_ok-keys.keys c.args.numbered.now.next_aggregate q.list in
     let whole = select_at c.args.schema.now c.args.part.now (scopes_of c.args.outer.now) c.args.numbered.now c.push_aggregates.new.self c.as_slice.result.now c.as_slice-2.result.now (c.in_ok-push_aggregates.ensures ∙ ap (with_aggregates c.args.numbered.now) c.aggregates-own_aggregates.ensures) c.as_slice.ensures c.as_slice-2.ensures in
-    let items : c.in_ok-items.field-0 ≡ map (λ (o : Output). o.item) c.in_ok-outputs.outputs = c.in_ok-items.ensures ∙ ap (map (λ (o : Output). o.item)) c.as_slice-4.ensures in
-    let keys : c.keys-2.inside.items.items ≡ c.in_ok-keys.keys = c.keys-2.view_is in
-    rw (grouped, items, keys) (handed _ _ _ _ (handed _ _ _ _ (handed _ _ _ _ (handed _ _ _ _ whole c.in_ok-from.ensures) c.in_ok-filter.ensures) c.in_ok-keys.ensures) (sym outputs ∙ c.in_ok-outputs.ensures))
+    let items : c.in_ok-items.field-0 ≡ map (λ (o : Output). o.item) c.in_ok-outputs.outputs = c.in_ok-items.ensures ∙ ap (map (λ (o : Output). o.item)) c.as_slice-3.ensures in
+    rw (grouped, items, c.into_items.ensures) (handed _ _ _ _ (handed _ _ _ _ (handed _ _ _ _ (handed _ _ _ _ whole c.in_ok-from.ensures) c.in_ok-filter.ensures) c.in_ok-keys.ensures) (sym (ap shown grouped) ∙ c.in_ok-outputs.ensures))
 
 pub sources-loop-part-preserved : goal.sources-loop-part-preserved
 sources-loop-part-preserved t c =
