@@ -15,6 +15,7 @@ pub mod SameCounts
 pub mod SelectLoops
 pub mod SelectParts
 pub mod Sources
+pub mod Steps
 pub mod Truths
 pub mod Unique
 pub mod Widths

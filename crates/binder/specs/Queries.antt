@@ -1,5 +1,5 @@
 -- The query that a statement is over a schema, or its first fault (this project's profile of SQL).
-use Rattle.std.specs.Prelude.{ℕ, [], map, nat_le, Result, Ok, Err}
+use Rattle.std.specs.Prelude.{[], map, nat_le, Result}
 use Rattle.values.specs.Faults.{◌>>=◌, wanted_if}
 use Rattle.schema.specs.declared.schema.Schema.{Schema}
 use Rattle.sql_parse.specs.declared.statement.Statement.{Statement}

@@ -258,28 +258,7 @@ fn chain<'s>(
     )
 }
 
-/// Chains from the left.
-#[cycle(selects)]
-fn chains<'s>(
-    alloc: Global,
-    schema: &'s Schema,
-    parts: &'s [Chain],
-    outer: &Scopes<'_, 's>,
-    first: (From, Scope<'s>),
-    numbered: &mut Numbered,
-) -> Result<(From, Scope<'s>), BindFault>
-    ensures { Gives (λ x. (x.0, x.1, numbered.new)) result (spec.commas (map (spec.chain_in schema.entry.now) parts.entry.now) (scopes_of outer.now) (first.entry.0, first.entry.1, numbered.old)) }
-{
-    let (mut left, mut scope) = first;
-    for part in parts {
-        let (right, tables) = chain(alloc, schema, part, outer, &scope, numbered)?;
-        left = From::Comma(Boxed::new(alloc, left)?, Boxed::new(alloc, right)?);
-        scope = scope.append(&tables)?;
-    }
-    Ok((left, scope))
-}
-
-/// A FROM, and its tables. No text has one without a table.
+/// A FROM, its chains from the left, and its tables. No text has one without a table.
 #[cycle(selects)]
 fn sources<'s>(
     alloc: Global,
@@ -294,8 +273,13 @@ fn sources<'s>(
         return Err(refused(BindReason::UnknownTable, 0));
     };
     let none = Scope::new(alloc);
-    let first = chain(alloc, schema, first, outer, &none, numbered)?;
-    chains(alloc, schema, others, outer, first, numbered)
+    let (mut left, mut scope) = chain(alloc, schema, first, outer, &none, numbered)?;
+    for part in others {
+        let (right, tables) = chain(alloc, schema, part, outer, &scope, numbered)?;
+        left = From::Comma(Boxed::new(alloc, left)?, Boxed::new(alloc, right)?);
+        scope = scope.append(&tables)?;
+    }
+    Ok((left, scope))
 }
 
 fn items(alloc: Global, outputs: &[Output]) -> Result<Items<Item>, AllocError>

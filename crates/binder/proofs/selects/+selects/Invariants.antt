@@ -14,7 +14,7 @@ invariant-joins-loop-part l =
     spec.through (map (spec.join_in l.schema) (drop l.part-index l.parts)) (scopes_of l.outer) l.before (l.left.0, l.left.1, l.numbered)
     ≡ spec.through (map (spec.join_in l.schema) l.parts) (scopes_of l.outer) l.before (l.fn.first.0, l.fn.first.1, l.fn.numbered)
 
-abbrev pub invariant-chains-loop-part : goal.invariant-chains-loop-part
-invariant-chains-loop-part l =
-    spec.commas (map (spec.chain_in l.schema) (drop l.part-index l.parts)) (scopes_of l.outer) (l.left, l.scope, l.numbered)
-    ≡ spec.commas (map (spec.chain_in l.schema) l.parts) (scopes_of l.outer) (l.fn.first.0, l.fn.first.1, l.fn.numbered)
+abbrev pub invariant-sources-loop-part : goal.invariant-sources-loop-part
+invariant-sources-loop-part l =
+    spec.commas (map (spec.chain_in l.schema) (drop l.part-index l.others)) (scopes_of l.outer) (l.left, l.scope, l.numbered)
+    ≡ spec.from_in (map (spec.chain_in l.schema) l.parts) (scopes_of l.outer) l.fn.numbered
