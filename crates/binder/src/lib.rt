@@ -2,9 +2,20 @@
 #![tactic(auto)]
 
 pub mod binding;
+mod extent;
 pub mod fault;
 pub mod laws;
+mod named;
+mod ordering;
+mod output;
+mod places;
 pub mod query;
+mod scope;
+mod selects;
+mod statement;
+mod tables;
+#[cfg(test)]
+mod tests;
 
 pub use binding::bind;
 pub use fault::{BindFault, BindReason, BindRefusal};
@@ -15,3 +26,4 @@ pub use laws::{
 pub use query::{
     Aggregate, Block, Column, Cond, From, Item, Occurrence, Query, SortKey, TableUse, Term,
 };
+pub use statement::bind_statement;

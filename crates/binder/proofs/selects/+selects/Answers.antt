@@ -1,0 +1,155 @@
+use Rattle.std.proofs.Common.{◌≡◌, refl, ◌∙◌, ap, sym, subst, ℕ, ◌-◌, Bool, List, ◌∷◌, length, take, drop, map, Result, Ok, arith}
+use Rattle.std.proofs.lemmas.Result.{err_from_is_err_and}
+use Rattle.values.specs.Faults.{Fails}
+use Rattle.sql_parse.specs.declared.statement.Chain.{out-Chain}
+use Rattle.sql_parse.specs.declared.statement.Join.{out-Join}
+use Rattle.sql_parse.specs.declared.statement.Select.{out-Select}
+use Rattle.binder.specs.declared.query.Cond.{Cond}
+use Rattle.binder.specs.declared.query.Cond.TheVariants as cond
+use Rattle.binder.specs.declared.query.Block.{Block}
+use Rattle.binder.specs.declared.query.From.{From}
+use Rattle.binder.specs.declared.output.Output.{Output}
+use Rattle.binder.specs.declared.fault.BindRefusal.{BindRefusal}
+use Rattle.binder.specs.Numbers.{with_aggregates}
+use Rattle.binder.specs.Outputs.{is_grouped, outputs_in}
+use Rattle.binder.specs.Scopes.{Scope}
+use Rattle.binder.specs.Chained.{scopes_of}
+use Rattle.binder.specs.Selects as spec
+use Rattle.binder.proofs.SelectParts.{compared, null_tested, negated, conjoined, disjoined, existing, contained, join_at, chain_at, select_at, grouped_by_keys, grouped_by_aggregates}
+use Rattle.binder.proofs.SelectLoops.{chains_on}
+use Rattle.binder.proofs.Steps.{told, handed, seen, same}
+use Rattle.binder.proofs.selects.+selects.Goals as goal
+use Rattle.binder.proofs.selects.+selects.Goals.{select-then-len-gt0, select-else-len-gt0}
+
+pub condition-returns-in-Compare : goal.condition-returns-in-Compare
+condition-returns-in-Compare t c = seen (λ (bound : Cond). bound) (λ (bound : Cond). (bound, c.args.numbered.now)) c.comparison.result _ _ (compared c.args.schema.now c.args.part.now c.in-Compare.left c.in-Compare.by c.in-Compare.right (scopes_of c.args.scopes.now) c.args.numbered.now c.in-Compare.is) c.comparison.ensures
+
+pub condition-returns-in_err-term-in-IsNull : goal.condition-returns-in_err-term-in-IsNull
+condition-returns-in_err-term-in-IsNull t c =
+    let p = err_from_is_err_and c.from_residual.result c.from_residual.ensures.1 in
+    rw (p.1, p.2) (told c.in_err-term-in-IsNull.field-0.0 _ _ _ (null_tested c.args.schema.now c.args.part.now c.in-IsNull.tested (scopes_of c.args.scopes.now) c.args.numbered.now c.in-IsNull.is) c.in_err-term-in-IsNull.ensures)
+
+pub condition-returns-in_ok-term-in-IsNull : goal.condition-returns-in_ok-term-in-IsNull
+condition-returns-in_ok-term-in-IsNull t c = handed _ _ _ _ (null_tested c.args.schema.now c.args.part.now c.in-IsNull.tested (scopes_of c.args.scopes.now) c.args.numbered.now c.in-IsNull.is) c.in_ok-term-in-IsNull.ensures
+
+pub condition-returns-in_err-inner-in-Not : goal.condition-returns-in_err-inner-in-Not
+condition-returns-in_err-inner-in-Not t c =
+    let p = err_from_is_err_and c.from_residual-in_err-inner-in-Not.result c.from_residual-in_err-inner-in-Not.ensures.1 in
+    rw (p.1, p.2) (told c.in_err-inner-in-Not.field-0.0 _ _ _ (negated c.args.schema.now c.args.part.now c.in-Not.inner c.get.result.now (scopes_of c.args.scopes.now) c.args.numbered.now c.in-Not.is c.get.ensures) c.in_err-inner-in-Not.ensures)
+
+pub condition-returns-in_ok-new-in-Not : goal.condition-returns-in_ok-new-in-Not
+condition-returns-in_ok-new-in-Not t c = handed _ _ _ _ (negated c.args.schema.now c.args.part.now c.in-Not.inner c.get.result.now (scopes_of c.args.scopes.now) c.args.numbered.now c.in-Not.is c.get.ensures) c.in_ok-inner-in-Not.ensures ∙ ap (λ (d : Cond). Ok (cond.Not d, c.condition.new.numbered)) (sym c.in_ok-new-in-Not.ensures)
+
+pub condition-returns-in_err-parts-in-And : goal.condition-returns-in_err-parts-in-And
+condition-returns-in_err-parts-in-And t c =
+    let p = err_from_is_err_and c.from_residual-in_err-parts-in-And.result c.from_residual-in_err-parts-in-And.ensures.1 in
+    rw (p.1, p.2) (told c.in_err-parts-in-And.field-0.0 _ _ _ (conjoined c.args.schema.now c.args.part.now c.in-And.parts c.as_slice.result.now (scopes_of c.args.scopes.now) c.args.numbered.now c.in-And.is c.as_slice.ensures) c.in_err-parts-in-And.ensures)
+
+pub condition-returns-in_ok-parts-in-And : goal.condition-returns-in_ok-parts-in-And
+condition-returns-in_ok-parts-in-And t c = handed _ _ _ _ (conjoined c.args.schema.now c.args.part.now c.in-And.parts c.as_slice.result.now (scopes_of c.args.scopes.now) c.args.numbered.now c.in-And.is c.as_slice.ensures) c.in_ok-parts-in-And.ensures
+
+pub condition-returns-in_err-parts-in-Or : goal.condition-returns-in_err-parts-in-Or
+condition-returns-in_err-parts-in-Or t c =
+    let p = err_from_is_err_and c.from_residual-in_err-parts-in-Or.result c.from_residual-in_err-parts-in-Or.ensures.1 in
+    rw (p.1, p.2) (told c.in_err-parts-in-Or.field-0.0 _ _ _ (disjoined c.args.schema.now c.args.part.now c.in-Or.parts c.as_slice-in-Or.result.now (scopes_of c.args.scopes.now) c.args.numbered.now c.in-Or.is c.as_slice-in-Or.ensures) c.in_err-parts-in-Or.ensures)
+
+pub condition-returns-in_ok-parts-in-Or : goal.condition-returns-in_ok-parts-in-Or
+condition-returns-in_ok-parts-in-Or t c = handed _ _ _ _ (disjoined c.args.schema.now c.args.part.now c.in-Or.parts c.as_slice-in-Or.result.now (scopes_of c.args.scopes.now) c.args.numbered.now c.in-Or.is c.as_slice-in-Or.ensures) c.in_ok-parts-in-Or.ensures
+
+pub condition-returns-in_err-query-in-Exists : goal.condition-returns-in_err-query-in-Exists
+condition-returns-in_err-query-in-Exists t c =
+    let p = err_from_is_err_and c.from_residual-in_err-query-in-Exists.result c.from_residual-in_err-query-in-Exists.ensures.1 in
+    rw (p.1, p.2) (told c.in_err-query-in-Exists.field-0.0 _ _ _ (existing c.args.schema.now c.args.part.now c.in-Exists.query c.get-in-Exists.result.now (scopes_of c.args.scopes.now) c.args.numbered.now c.in-Exists.is c.get-in-Exists.ensures) c.in_err-query-in-Exists.ensures)
+
+pub condition-returns-in_ok-new-in-Exists : goal.condition-returns-in_ok-new-in-Exists
+condition-returns-in_ok-new-in-Exists t c = handed _ _ _ _ (existing c.args.schema.now c.args.part.now c.in-Exists.query c.get-in-Exists.result.now (scopes_of c.args.scopes.now) c.args.numbered.now c.in-Exists.is c.get-in-Exists.ensures) c.in_ok-query-in-Exists.ensures ∙ ap (λ (q : Block). Ok (cond.Exists q, c.select.new.numbered)) (sym c.in_ok-new-in-Exists.ensures)
+
+pub condition-returns-in_err-left-in-In : goal.condition-returns-in_err-left-in-In
+condition-returns-in_err-left-in-In t c =
+    let p = err_from_is_err_and c.from_residual-in_err-left-in-In.result c.from_residual-in_err-left-in-In.ensures.1 in
+    rw (p.1, p.2) (told c.in_err-left-in-In.field-0.0 _ _ _ (contained c.args.schema.now c.args.part.now c.in-In.tested c.in-In.at c.in-In.query c.in-In.query (scopes_of c.args.scopes.now) c.args.numbered.now c.in-In.is refl) c.in_err-left-in-In.ensures)
+
+pub condition-returns-in_err-query-in-In : goal.condition-returns-in_err-query-in-In
+condition-returns-in_err-query-in-In t c =
+    let p = err_from_is_err_and c.from_residual-in_err-query-in-In.result c.from_residual-in_err-query-in-In.ensures.1 in
+    rw (p.1, p.2) (told c.in_err-query-in-In.field-0.0 _ _ _ (handed _ _ _ _ (contained c.args.schema.now c.args.part.now c.in-In.tested c.in-In.at c.in-In.query c.get-in-In.result.now (scopes_of c.args.scopes.now) c.args.numbered.now c.in-In.is c.get-in-In.ensures) c.in_ok-left-in-In.ensures) c.in_err-query-in-In.ensures)
+
+pub condition-returns-in_ok-query-in-In : goal.condition-returns-in_ok-query-in-In
+condition-returns-in_ok-query-in-In t c =
+    let is = handed _ _ _ _ (handed _ _ _ _ (contained c.args.schema.now c.args.part.now c.in-In.tested c.in-In.at c.in-In.query c.get-in-In.result.now (scopes_of c.args.scopes.now) c.args.numbered.now c.in-In.is c.get-in-In.ensures) c.in_ok-left-in-In.ensures) c.in_ok-query-in-In.ensures in
+    seen (λ (bound : Cond). bound) (λ (bound : Cond). (bound, c.select-in-In.new.numbered)) c.membership.result _ _ is c.membership.ensures
+
+pub join-returns-in_err-right : goal.join-returns-in_err-right
+join-returns-in_err-right t c =
+    let p = err_from_is_err_and c.from_residual.result c.from_residual.ensures.1 in
+    rw (p.1, p.2) (told c.in_err-right.field-0.0 _ _ _ (join_at c.args.schema.now c.args.part.now (scopes_of c.args.outer.now) c.args.before.now (c.args.left.0, c.args.left.1, c.args.numbered.now) (out-Join c.args.part.now).condition refl) c.in_err-right.ensures)
+
+pub join-returns-in_err-on : goal.join-returns-in_err-on
+join-returns-in_err-on t c =
+    let p = err_from_is_err_and c.from_residual-in_err-on.result c.from_residual-in_err-on.ensures.1 in
+    rw (p.1, p.2) (told c.in_err-on.field-0.0 _ _ _ (handed _ _ _ _ (join_at c.args.schema.now c.args.part.now (scopes_of c.args.outer.now) c.args.before.now (c.args.left.0, c.args.left.1, c.args.numbered.now) c.get.result.now c.get.ensures) c.in_ok-right.ensures) c.in_err-on.ensures)
+
+pub join-returns : goal.join-returns
+join-returns t c =
+    handed _ _ _ _ (handed _ _ _ _ (join_at c.args.schema.now c.args.part.now (scopes_of c.args.outer.now) c.args.before.now (c.args.left.0, c.args.left.1, c.args.numbered.now) c.get.result.now c.get.ensures) c.in_ok-right.ensures) c.in_ok-on.ensures
+    ∙ ap (λ (f : From). Ok (f, c.in_ok-right.chain, c.condition.new.numbered)) (sym c.in_ok-joined.ensures)
+
+pub chain-returns-in_err-first : goal.chain-returns-in_err-first
+chain-returns-in_err-first t c =
+    let p = err_from_is_err_and c.from_residual.result c.from_residual.ensures.1 in
+    rw (p.1, p.2) (told c.in_err-first.field-0.0 _ _ _ (chain_at c.args.schema.now c.args.part.now (scopes_of c.args.outer.now) c.args.before.now c.args.numbered.now c.new-none.result (out-Chain c.args.part.now).joins c.new-none.ensures refl) c.in_err-first.ensures)
+
+pub chain-returns : goal.chain-returns
+chain-returns t c =
+    let is = handed _ _ _ _ (chain_at c.args.schema.now c.args.part.now (scopes_of c.args.outer.now) c.args.before.now c.args.numbered.now c.new-none.result c.as_slice.result.now c.new-none.ensures c.as_slice.ensures) c.in_ok-first.ensures in
+    same (λ (x : From × Scope). (x.0, x.1, c.joins.new.numbered)) c.joins.result _ _ is c.joins.ensures
+
+pub select-returns-in_err-from : goal.select-returns-in_err-from
+select-returns-in_err-from t c =
+    let p = err_from_is_err_and c.from_residual-in_err-from.result c.from_residual-in_err-from.ensures.1 in
+    rw (p.1, p.2) (told c.in_err-from.field-0.0 _ _ _ (select_at c.args.schema.now c.args.part.now (scopes_of c.args.outer.now) c.args.numbered.now c.push_aggregates.new.self c.as_slice.result.now (out-Select c.args.part.now).group (c.in_ok-push_aggregates.ensures ∙ ap (with_aggregates c.args.numbered.now) c.aggregates-own_aggregates.ensures) c.as_slice.ensures refl) c.in_err-from.ensures)
+
+pub select-returns-in_err-filter : goal.select-returns-in_err-filter
+select-returns-in_err-filter t c =
+    let p = err_from_is_err_and c.from_residual-in_err-filter.result c.from_residual-in_err-filter.ensures.1 in
+    let whole = select_at c.args.schema.now c.args.part.now (scopes_of c.args.outer.now) c.args.numbered.now c.push_aggregates.new.self c.as_slice.result.now (out-Select c.args.part.now).group (c.in_ok-push_aggregates.ensures ∙ ap (with_aggregates c.args.numbered.now) c.aggregates-own_aggregates.ensures) c.as_slice.ensures refl in
+    rw (p.1, p.2) (told c.in_err-filter.field-0.0 _ _ _ (handed _ _ _ _ whole c.in_ok-from.ensures) c.in_err-filter.ensures)
+
+pub select-returns-in_err-keys : goal.select-returns-in_err-keys
+select-returns-in_err-keys t c =
+    let p = err_from_is_err_and c.from_residual-in_err-keys.result c.from_residual-in_err-keys.ensures.1 in
+    let whole = select_at c.args.schema.now c.args.part.now (scopes_of c.args.outer.now) c.args.numbered.now c.push_aggregates.new.self c.as_slice.result.now c.as_slice-2.result.now (c.in_ok-push_aggregates.ensures ∙ ap (with_aggregates c.args.numbered.now) c.aggregates-own_aggregates.ensures) c.as_slice.ensures c.as_slice-2.ensures in
+    rw (p.1, p.2) (told c.in_err-keys.field-0.0 _ _ _ (handed _ _ _ _ (handed _ _ _ _ whole c.in_ok-from.ensures) c.in_ok-filter.ensures) c.in_err-keys.ensures)
+
+pub select-returns-in_err-outputs : goal.select-returns-in_err-outputs
+select-returns-in_err-outputs t c =
+    let q = out-Select c.args.part.now in
+    let grouped : c.if-len-gt0.grouped ≡ is_grouped c.in_ok-keys.keys q.list = elim c.if-len-gt0.branch [
+      | select-then-len-gt0 w ↦ w.grouped-is ∙ grouped_by_keys c.in_ok-keys.keys q.list c.len.result c.len.ensures w.if-len-gt0.true
+      | select-else-len-gt0 w ↦
+          w.grouped-is ∙ grouped_by_aggregates c.in_ok-keys.keys q.list c.len.result c.aggregates-own_aggregates.result c.len.ensures w.if-len-gt0.false c.aggregates-own_aggregates.ensures
+    ] in
+    let shown : Bool → Result (List Output) BindRefusal = λ by. outputs_in c.in_ok-from.scope (c.in_ok-from.scope ∷ scopes_of c.args.outer.now) by c.in_ok-keys.keys c.args.numbered.now.next_aggregate q.list in
+    let p = err_from_is_err_and c.from_residual-in_err-outputs.result c.from_residual-in_err-outputs.ensures.1 in
+    let whole = select_at c.args.schema.now c.args.part.now (scopes_of c.args.outer.now) c.args.numbered.now c.push_aggregates.new.self c.as_slice.result.now c.as_slice-2.result.now (c.in_ok-push_aggregates.ensures ∙ ap (with_aggregates c.args.numbered.now) c.aggregates-own_aggregates.ensures) c.as_slice.ensures c.as_slice-2.ensures in
+    rw (p.1, p.2) (told c.in_err-outputs.field-0.0 _ _ _ (handed _ _ _ _ (handed _ _ _ _ (handed _ _ _ _ whole c.in_ok-from.ensures) c.in_ok-filter.ensures) c.in_ok-keys.ensures) (subst (λ (by : Bool). Fails c.in_err-outputs.field-0.0 (shown by)) grouped c.in_err-outputs.ensures))
+
+pub select-returns : goal.select-returns
+select-returns t c =
+    let q = out-Select c.args.part.now in
+    let grouped : c.if-len-gt0.grouped ≡ is_grouped c.in_ok-keys.keys q.list = elim c.if-len-gt0.branch [
+      | select-then-len-gt0 w ↦ w.grouped-is ∙ grouped_by_keys c.in_ok-keys.keys q.list c.len.result c.len.ensures w.if-len-gt0.true
+      | select-else-len-gt0 w ↦
+          w.grouped-is ∙ grouped_by_aggregates c.in_ok-keys.keys q.list c.len.result c.aggregates-own_aggregates.result c.len.ensures w.if-len-gt0.false c.aggregates-own_aggregates.ensures
+    ] in
+    let shown : Bool → Result (List Output) BindRefusal = λ by. outputs_in c.in_ok-from.scope (c.in_ok-from.scope ∷ scopes_of c.args.outer.now) by c.in_ok-keys.keys c.args.numbered.now.next_aggregate q.list in
+    let whole = select_at c.args.schema.now c.args.part.now (scopes_of c.args.outer.now) c.args.numbered.now c.push_aggregates.new.self c.as_slice.result.now c.as_slice-2.result.now (c.in_ok-push_aggregates.ensures ∙ ap (with_aggregates c.args.numbered.now) c.aggregates-own_aggregates.ensures) c.as_slice.ensures c.as_slice-2.ensures in
+    let items : c.in_ok-items.field-0 ≡ map (λ (o : Output). o.item) c.in_ok-outputs.outputs = c.in_ok-items.ensures ∙ ap (map (λ (o : Output). o.item)) c.as_slice-3.ensures in
+    rw (grouped, items, c.into_items.ensures) (handed _ _ _ _ (handed _ _ _ _ (handed _ _ _ _ (handed _ _ _ _ whole c.in_ok-from.ensures) c.in_ok-filter.ensures) c.in_ok-keys.ensures) (sym (ap shown grouped) ∙ c.in_ok-outputs.ensures))
+
+pub sources-loop-part-preserved : goal.sources-loop-part-preserved
+sources-loop-part-preserved t c =
+    let others = take (length c.args.parts.now - 1) (drop 1 c.args.parts.now) in
+    let total = spec.from_in (map (spec.chain_in c.args.schema.now) c.args.parts.now) (scopes_of c.args.outer.now) c.args.numbered.now in
+    rw (c.in_ok-new.ensures, c.in_ok-new-2.ensures, c.in_ok-scope.ensures) (chains_on (spec.chain_in c.args.schema.now) (scopes_of c.args.outer.now) others c.loop-part.part-index c.part-item.result
+    c.loop-part.left c.in_ok-right.right c.loop-part.scope c.in_ok-right.tables c.loop-part.numbered c.chain-in-loop-part.new.numbered total (omega arith) c.part-item.is c.in_ok-right.ensures c.loop-part.invariant)

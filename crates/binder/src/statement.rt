@@ -1,0 +1,64 @@
+//! The tree of a statement becomes a query.
+
+ghost use Rattle.std.specs.Prelude.{◌≡◌, map, IfOk};
+ghost use Rattle.values.specs.Faults.{Gives};
+ghost use Rattle.binder.specs.Queries as spec;
+
+use crate::binding::MAX_COLUMNS;
+use crate::extent::of_select;
+use crate::fault::{BindFault, BindReason, refused};
+use crate::ordering::order;
+use crate::output::Output;
+use crate::query::Query;
+use crate::scope::Scopes;
+use crate::selects::select;
+use crate::tables::Numbered;
+use schema::Schema;
+use sql_parse::statement::Statement;
+use std::alloc::{AllocError, Global};
+use values::{Items, Text};
+
+fn names(alloc: Global, outputs: &[Output]) -> Result<Items<Text>, AllocError>
+    ensures { IfOk result (λ names. names ≡ map (λ o. o.name) outputs.now) }
+{
+    let mut names = Items::new(alloc);
+    for output in outputs {
+        names.push(output.name.copy(alloc)?)?;
+    }
+    Ok(names)
+}
+
+/// The query that a statement is over a schema, or its first fault. First of all are counted its table occurrences, the
+/// SELECTs in one another and its tests, and last of all its columns.
+#[tactic(auto, unfolding(crate::specs::Queries::bound_statement))]
+pub fn bind_statement(
+    alloc: Global,
+    schema: &Schema,
+    statement: &Statement,
+) -> Result<Query, BindFault>
+    ensures exact { Gives (λ query. query) result (spec.bound_statement schema.now statement.now) }
+{
+    let extent = of_select(schema, &statement.select)?;
+    if !extent.is_within() {
+        return Err(refused(BindReason::TooLarge, 0));
+    }
+    let mut numbered = Numbered {
+        tables: Items::new(alloc),
+        next_column: 0,
+        next_aggregate: extent.columns,
+    };
+    let outermost = Scopes::Outermost;
+    let bound = select(alloc, schema, &statement.select, &outermost, &mut numbered)?;
+    let keys = statement.order.as_slice();
+    let order = order(alloc, keys, &bound.scope, bound.outputs.as_slice())?;
+    if numbered.next_aggregate > MAX_COLUMNS {
+        return Err(refused(BindReason::TooLarge, 0));
+    }
+    let names = names(alloc, bound.outputs.as_slice())?;
+    Ok(Query {
+        tables: numbered.tables,
+        block: bound.block,
+        names,
+        order,
+    })
+}
