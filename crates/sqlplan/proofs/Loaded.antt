@@ -6,7 +6,7 @@ use Rattle.std.proofs.lemmas.Bool.{cases_eq}
 use Rattle.std.proofs.lemmas.List.{get_or-map, get_or-set_same, get_or-set_other, length-set}
 use Rattle.schema.specs.declared.schema.Schema.{Schema}
 use Rattle.schema.specs.declared.schema.Table.{Table}
-use Rattle.schema.specs.Databases.{Row, Database}
+use Rattle.schema.specs.Databases.{Database}
 use Rattle.store.specs.declared.fault.TableFault.{TableFault}
 use Rattle.store.specs.declared.fault.TableFault.TheVariants as faults
 use Rattle.store.specs.Devices.{Rose}
@@ -16,14 +16,14 @@ use Rattle.sqlplan.specs.declared.refusal.Refusal.{Refusal}
 use Rattle.sqlplan.specs.Refusals.{of_table}
 use Rattle.sqlplan.specs.EndToEnd.{Input, FileTells, TablesTold, IsLoadFault, IsDeviceFault}
 
--- the first so many tables are loaded, and the other inputs are as they were
+-- the first so many tables are loaded, the other inputs are as they were, and no call failed
 pub record IsLoaded (S : Schema) (inputs now : List Input) (counts later : List ℕ) (n : ℕ) (D : Database) : Type 0 where
   pub told : TablesTold S inputs n D
   pub unread : (k : ℕ) → n ≤ k → get_or now k None ≡ get_or inputs k None
-  pub quiet : (k : ℕ) → n ≤ k → get_or later k 0 ≡ get_or counts k 0
+  pub quiet : (k : ℕ) → get_or later k 0 ≡ get_or counts k 0
 
 pub loaded_none : (S : Schema) (inputs : List Input) (counts : List ℕ) (D : Database) → IsLoaded S inputs inputs counts counts 0 D
-loaded_none S inputs counts D = record { told = λ n lt. absurd (omega (arith, lt)); unread = λ k le. refl; quiet = λ k le. refl }
+loaded_none S inputs counts D = record { told = λ n lt. absurd (omega (arith, lt)); unread = λ k le. refl; quiet = λ k. refl }
 
 -- what is said of the value that is there
 pub said_of : {A : Type 0} (o : Option A) (x : A) (P : A → Type 0) → o ≡ Some x → IfSome o P → P x
@@ -42,13 +42,16 @@ told_there S old new n t bytes r same at loads =
     said_of (slice_get old.schema.tables n) t (λ t. LoadsTable old new n t (records_of bytes) r) (ap (λ (s : Schema). slice_get s.tables n) same ∙ at) loads
 
 pub loaded_more : (S : Schema) (inputs now : List Input) (counts later : List ℕ) (old new : Stored) (n : ℕ) (i : Input) (c : ℕ)
-    → n < length old.tables → old.schema ≡ S → ReplacesTable old new n
+    → n < length old.tables → n < length later → c ≡ get_or later n 0 → old.schema ≡ S → ReplacesTable old new n
     → ((bytes : List ℕ) → get_or now n None ≡ Some bytes → Loads old new n (records_of bytes) (Ok tt))
     → IsLoaded S inputs now counts later n old.tables → IsLoaded S inputs (set now n i) counts (set later n c) (n + 1) new.tables
-loaded_more S inputs now counts later old new n i c lt same replaced loads before = record {
+loaded_more S inputs now counts later old new n i c lt counted still same replaced loads before = record {
   told = told;
   unread = λ k le. get_or-set_other now n k i None (λ e. absurd (omega (arith, e, le))) ∙ before.unread k (omega (arith, le));
-  quiet = λ k le. get_or-set_other later n k c 0 (λ e. absurd (omega (arith, e, le))) ∙ before.quiet k (omega (arith, le));
+  quiet = λ k. elim (cases_eq k n) [
+    | inl e ↦ rw e (get_or-set_same later n c 0 counted ∙ still ∙ before.quiet n)
+    | inr ne ↦ get_or-set_other later n k c 0 ne ∙ before.quiet k
+  ];
 }
   where
     tables-are : new.tables ≡ set old.tables n replaced.0
@@ -65,6 +68,10 @@ loaded_more S inputs now counts later old new n i c lt same replaced loads befor
       | inl e ↦ rw e here
       | inr ne ↦ λ t bytes at input. rw (tables-are, get_or-set_other old.tables n k replaced.0 [] ne) (before.told k (omega (arith, below, ne)) t bytes at input)
     ]
+
+-- an input whose count stayed has the count that was listed
+pub still_counted : {R : Type 0} (failures : R → ℕ) (tables : List R) (d y : R) (n : ℕ) → n < length tables → failures y ≡ failures (get_or tables n d) → failures y ≡ get_or (map failures tables) n 0
+still_counted failures tables d y n lt same = same ∙ sym (get_or-map failures tables n d 0 lt)
 
 -- a load that fails after these
 pub load_fails : (S : Schema) (inputs now : List Input) (counts later : List ℕ) (old new : Stored) (n : ℕ) (fault : TableFault) (refusal : Refusal) → old.schema ≡ S
@@ -83,7 +90,7 @@ pub device_rose : {R : Type 0} (failures : R → ℕ) (S : Schema) (inputs now :
     → n < length tables → IsLoaded S inputs now counts (map failures tables) n D
     → Rose (failures (get_or tables n d)) (failures y) → Rose (get_or counts n 0) (get_or (map failures (set tables n y)) n 0)
 device_rose failures S inputs now counts tables d y n D lt before rose =
-    let first : get_or counts n 0 ≡ failures (get_or tables n d) = sym (before.quiet n (omega arith)) ∙ get_or-map failures tables n d 0 lt in
+    let first : get_or counts n 0 ≡ failures (get_or tables n d) = sym (before.quiet n) ∙ get_or-map failures tables n d 0 lt in
     let last : get_or (map failures (set tables n y)) n 0 ≡ failures y
     = get_or-map failures (set tables n y) n y 0 (rw length-set lt) ∙ ap failures (get_or-set_same tables n y y lt) in
     rw (first, last) rose

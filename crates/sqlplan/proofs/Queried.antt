@@ -1,5 +1,5 @@
 -- A query from its first step to its last.
-use Rattle.std.proofs.Common.{◌≡◌, ◌≢◌, refl, ap, sym, ◌∙◌, ℕ, List, length, Result, Ok, Err, IfErr, OnErr}
+use Rattle.std.proofs.Common.{◌≡◌, ◌≢◌, refl, sym, ◌∙◌, ℕ, List, length, Result, Ok, Err, IfErr, OnErr}
 use Rattle.values.specs.declared.fault.Fault.{Fault}
 use Rattle.values.specs.declared.fault.Fault.TheVariants as fault
 use Rattle.values.specs.Faults.{Fails}
@@ -8,26 +8,23 @@ use Rattle.schema.specs.Databases.{Database, Satisfies}
 use Rattle.store.specs.Databases.{Stored}
 use Rattle.store.specs.Devices.{Rose}
 use Rattle.binder.specs.declared.query.Query.{Query}
-use Rattle.binder.specs.Rows.{tables_of}
 use Rattle.binder.specs.Simple.{IsSimple}
 use Rattle.checker.specs.declared.certificate.Certificate.{Certificate}
 use Rattle.checker.specs.declared.certificate.CheckRefusal.{CheckRefusal}
-use Rattle.checker.specs.Plans.{answer}
 use Rattle.checker.specs.Replay.{Accepted, IsChecked, replayed}
 use Rattle.checker.proofs.Right.{checked}
 use Rattle.executor.specs.declared.output.OutputFailed.{OutputFailed}
-use Rattle.executor.specs.AnswerText.{answer_text}
-use Rattle.executor.specs.Execution.{plan_rows, plan_text}
+use Rattle.executor.specs.Execution.{plan_text}
 use Rattle.sqlplan.specs.declared.refusal.Refusal.{Refusal}
 use Rattle.sqlplan.specs.declared.refusal.Refusal.TheVariants as refusal
 use Rattle.sqlplan.specs.Refusals.{of_check, of_answer}
-use Rattle.sqlplan.specs.EndToEnd.{Input, Asks, TablesTold, IsLoadFault, IsAnswerText, WithAnswer, WithQuery, IsRefusedBy, IsBefore, IsDeviceFault}
+use Rattle.sqlplan.specs.EndToEnd.{Input, Asks, TablesTold, IsLoadFault, WithAnswer, IsRefusedBy, IsBefore, IsDeviceFault}
 
 -- what holds of the fault that a call ends with
-pub of_fault : {A : Type 0} (r : Result A Refusal) (e : Refusal) (P : Refusal → Type 0) → r ≡ Err e → P e → IfErr r P
+pub of_fault : {A E : Type 0} (r : Result A E) (e : E) (P : E → Type 0) → r ≡ Err e → P e → IfErr r P
 of_fault r e P is h = rw is h
 
-pub on_fault : {A : Type 0} (r : Result A Refusal) (e : Refusal) (P : Type 0) → r ≡ Err e → P → OnErr r P
+pub on_fault : {A E : Type 0} (r : Result A E) (e : E) (P : Type 0) → r ≡ Err e → P → OnErr r P
 on_fault r e P is h = rw is h
 
 -- ---- the check

@@ -113,3 +113,7 @@ abbrev pub IsDeviceFault : List ℕ → List ℕ → ℕ → ℕ → Refusal →
 IsDeviceFault old new out out' (refusal.TableDevice n) = Rose (slice_index_or old n 0) (slice_index_or new n 0)
 IsDeviceFault old new out out' refusal.Output = Rose out out'
 IsDeviceFault old new out out' _ = Unit {0}
+
+-- the counts of failures stayed as they were
+abbrev pub AreQuiet : List ℕ → List ℕ → Type 0
+AreQuiet old new = (n : ℕ) → slice_index_or new n 0 ≡ slice_index_or old n 0

@@ -1,11 +1,11 @@
-use Rattle.std.proofs.Common.{◌≡◌, ◌∙◌, ap, subst, List, ℕ, length, map, Err, inr}
+use Rattle.std.proofs.Common.{◌∙◌, ap, subst, length, map, Err, inr}
 use Rattle.std.proofs.lemmas.Result.{err_from_is_err_and}
 use Rattle.std.specs.Io.KnownBytes.{Appends}
 use Rattle.schema.specs.declared.schema.Schema.{Schema}
 use Rattle.store.specs.Databases.{Stored}
 use Rattle.executor.specs.AnswerText.{HasFront}
 use Rattle.sqlplan.specs.declared.refusal.Refusal.TheVariants as refusal
-use Rattle.sqlplan.specs.Refusals.{of_check, of_answer}
+use Rattle.sqlplan.specs.Refusals.{of_answer}
 use Rattle.sqlplan.specs.EndToEnd.{IsLoadFault}
 use Rattle.sqlplan.proofs.Queried.{of_fault, on_fault, same_certificate, only_memory, load_refused, load_device_fault, told_all, satisfied_by, answer_refused, answer_device, answer_after, with_answer}
 use Rattle.sqlplan.proofs.end_to_end.query.Goals as goal
