@@ -3,7 +3,7 @@
 ghost use Rattle.std.specs.Prelude.{◌≡◌, ◌≤◌, ◌⊎◌, [], length, map, IfErr, OnOk, OnErr};
 ghost use Rattle.std.specs.Io.KnownBytes.{Appends};
 ghost use Rattle.executor.specs.AnswerText.{HasFront};
-ghost use Rattle.sqlplan.specs.EndToEnd.{HasTables, TablesTold, IsLoadFault, WithAnswer, IsRefusedBy, IsBefore, IsDeviceFault, AreQuiet};
+ghost use Rattle.sqlplan.specs.EndToEnd.{HasTables, TablesTold, IsLoadFault, WithAnswer, IsRefusedBy, IsBefore, IsDeviceFault, AreQuiet, IsQuiet};
 
 use crate::canonical::canonical;
 use crate::refusal::Refusal;
@@ -59,8 +59,8 @@ pub fn query<R: TableInput, W: AnswerOutput>(
     // A fault that comes later leaves a beginning of such a text.
     ensures front { OnErr result ((out.new ≡ out.old) ⊎ WithAnswer schema.now text.now (map R.remaining tables.old) (HasFront (W.contents out.old) (W.contents out.new))) }
     ensures device { IfErr result (IsDeviceFault (map R.failures tables.old) (map R.failures tables.new) (W.failures out.old) (W.failures out.new)) }
-    // Where there is an answer, no call of a device failed.
-    ensures quiet { OnOk result (AreQuiet (map R.failures tables.old) (map R.failures tables.new) × (W.failures out.new ≡ W.failures out.old)) }
+    // No other call of a device failed, and none where there is an answer.
+    ensures quiet { OnOk result (IsQuiet (map R.failures tables.old) (map R.failures tables.new) (W.failures out.old) (W.failures out.new)) }
 {
     let schema = Schema::read(alloc, schema)?;
     let ast = parse_bytes(alloc, text)?;

@@ -1,7 +1,7 @@
-use Rattle.std.proofs.Common.{◌≡◌, ◌∙◌, length, arith}
+use Rattle.std.proofs.Common.{◌≡◌, ◌<◌, ◌∙◌, length, arith}
 use Rattle.std.proofs.Math.ListN.{set}
 use Rattle.std.proofs.lemmas.List.{map-set, length-set, length-map}
-use Rattle.sqlplan.proofs.Loaded.{loaded_more, said_there, still_counted, load_fails, load_device, device_rose}
+use Rattle.sqlplan.proofs.Loaded.{loaded_more, said_there, still_counted, load_fails, load_device, device_rose, device_quiet}
 use Rattle.sqlplan.proofs.end_to_end.load_all.Goals as goal
 
 pub returns-in-Err-clause-fails : goal.returns-in-Err-clause-fails
@@ -12,8 +12,10 @@ returns-in-Err-clause-fails g c =
 
 pub returns-in-Err-clause-device : goal.returns-in-Err-clause-device
 returns-in-Err-clause-device g c =
-    load_device c.loop-number.number c.in-Err.fault c.of_table.result _ _ 0 0 (λ is. device_rose g.R.TableInput.failures _ _ _ _ c.loop-number.tables c.index-tables-number.result c.load.new.input c.loop-number.number _
-    (omega (arith, c.loop-number.invariant.count, c.loop-number-test.true)) c.loop-number.invariant.loaded (c.in-Err.ensures.device is)) c.of_table.ensures
+    let within : c.loop-number.number < length c.loop-number.tables = omega (arith, c.loop-number.invariant.count, c.loop-number-test.true) in
+    load_device c.loop-number.number c.in-Err.fault c.of_table.result _ _ 0
+    (λ is. device_rose g.R.TableInput.failures _ _ _ _ c.loop-number.tables c.index-tables-number.result c.load.new.input c.loop-number.number _ within c.loop-number.invariant.loaded (c.in-Err.ensures.device is))
+    (λ is. device_quiet g.R.TableInput.failures _ _ _ _ c.loop-number.tables c.index-tables-number.result c.load.new.input c.loop-number.number _ within c.loop-number.invariant.loaded (c.in-Err.ensures.refused is)) c.of_table.ensures
 
 pub loop-number-preserved : goal.loop-number-preserved
 loop-number-preserved g c =
