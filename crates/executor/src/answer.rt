@@ -1,6 +1,6 @@
 //! The answer of a checked plan, from its tables to its text.
 
-ghost use Rattle.std.specs.Prelude.{◌≡◌, ◌≢◌, IsErrAnd, OnOk, OnErr};
+ghost use Rattle.std.specs.Prelude.{◌≡◌, ◌≢◌, [], IsErrAnd, OnOk, OnErr};
 ghost use Rattle.std.specs.Io.KnownBytes.{Appends};
 ghost use Rattle.binder.specs.Answer.{IsAnswer};
 ghost use Rattle.binder.specs.Simple.{IsSimple};
@@ -26,11 +26,16 @@ pub fn write_answer<W: AnswerOutput>(
     requires simple { IsSimple checked.now.query }
     requires schema { database.now.schema ≡ checked.now.schema }
     ensures ok { OnOk result (Appends (W.contents out.old) (W.contents out.new) (plan_text checked.now database.now)) }
+    // Nothing of it is held back.
+    ensures handed { OnOk result (W.held out.new ≡ []) }
     // After a fault a beginning of the text has been written.
     ensures front { OnErr result (HasFront (W.contents out.old) (W.contents out.new) (plan_text checked.now database.now)) }
     // These rows are an answer of the query.
     ensures answer { OnOk result (IsAnswer checked.now.query (tables_in database.now) (plan_rows checked.now database.now)) }
     ensures device { IsErrAnd result (λ e. e ≢ Fault.Memory) → Rose (W.failures out.old) (W.failures out.new) }
+    // No other call failed.
+    ensures quiet { OnOk result (W.failures out.new ≡ W.failures out.old) }
+    ensures memory { IsErrAnd result (λ e. e ≡ Fault.Memory) → W.failures out.new ≡ W.failures out.old }
 {
     let rows = run(alloc, checked, database)?;
     write_rows(alloc, checked.query(), rows.as_slice(), out)

@@ -1,10 +1,11 @@
 //! Where an answer goes.
 
-ghost use Rattle.std.specs.Prelude.{◌≡◌, ◌≤◌, ◌<◌, ◌+◌, ◌-◌, ◌^◌, ℕ, List, Option, None, min, take, length, IfOk, OnOk, OnErr, MatchResult};
+ghost use Rattle.std.specs.Prelude.{◌≡◌, ◌≤◌, ◌<◌, ◌+◌, ◌-◌, ◌^◌, ℕ, List, [], Option, None, min, take, length, IfOk, OnOk, OnErr, MatchResult};
+ghost use Rattle.std.specs.Io.Buffered.{writer_buffer, writer_contents};
 ghost use Rattle.std.specs.Io.KnownBytes.{Appends, Keeps, WriteAppends};
 ghost use Rattle.store.specs.Devices.{Rose};
 
-use std::io::Write;
+use std::io::{BufWriter, Write};
 use thiserror::Error;
 
 /// A write to the output failed.
@@ -17,6 +18,9 @@ pub trait AnswerOutput {
     /// The bytes that it holds, where they are known.
     ghost contents: { Self → Option (List ℕ) } = { λ _. None };
 
+    /// The bytes that it took and holds back, as a buffer does.
+    ghost held: { Self → List ℕ };
+
     /// How many calls failed.
     ghost failures: { Self → ℕ };
 
@@ -28,9 +32,10 @@ pub trait AnswerOutput {
         ensures counts { MatchResult result (λ _. failures self.new ≡ failures self.old)
             (λ _. failures self.new ≡ min (failures self.old + 1) (2 ^ 64 - 1)) };
 
-    /// Hands on what it may hold back.
+    /// Hands on what it holds back.
     fn flush_all(&mut self) -> Result<(), OutputFailed>
         ensures bytes { Keeps (contents self.old) (contents self.new) }
+        ensures handed { OnOk result (held self.new ≡ []) }
         ensures counts { MatchResult result (λ _. failures self.new ≡ failures self.old)
             (λ _. failures self.new ≡ min (failures self.old + 1) (2 ^ 64 - 1)) };
 }
@@ -68,8 +73,10 @@ impl<W: Write> CountedOutput<W> {
     }
 }
 
-impl<W: Write> AnswerOutput for CountedOutput<W> {
-    ghost contents = { λ c. W.contents c.writer };
+impl<W: Write + Drop> AnswerOutput for CountedOutput<BufWriter<W>> {
+    ghost contents = { λ c. writer_contents W.contents c.writer };
+
+    ghost held = { λ c. writer_buffer c.writer };
 
     ghost failures = { λ c. c.failures };
 

@@ -84,6 +84,7 @@ fn send_record<W: AnswerOutput>(
     ensures front { OnErr result (HasFront (W.contents out.old) (W.contents out.new) (row_text default_writer (fields_of fields.now))) }
     ensures device { IsErrAnd result (λ e. e ≢ Fault.Memory) → Rose (W.failures out.old) (W.failures out.new) }
     ensures quiet { OnOk result (W.failures out.new ≡ W.failures out.old) }
+    ensures memory { IsErrAnd result (λ e. e ≡ Fault.Memory) → W.failures out.new ≡ W.failures out.old }
 {
     let text = record_text(alloc, fields)?;
     match send(out, text.as_slice()) {
@@ -101,6 +102,7 @@ fn send_rows<W: AnswerOutput>(
     ensures front { OnErr result (HasFront (W.contents out.old) (W.contents out.new) (rows_text rows.now)) }
     ensures device { IsErrAnd result (λ e. e ≢ Fault.Memory) → Rose (W.failures out.old) (W.failures out.new) }
     ensures quiet { OnOk result (W.failures out.new ≡ W.failures out.old) }
+    ensures memory { IsErrAnd result (λ e. e ≡ Fault.Memory) → W.failures out.new ≡ W.failures out.old }
 {
     let mut fields = StringRecord::new(alloc);
     for row in rows {
@@ -119,9 +121,14 @@ pub fn write_rows<W: AnswerOutput>(
     out: &mut W,
 ) -> Result<(), AnswerFault>
     ensures ok { OnOk result (Appends (W.contents out.old) (W.contents out.new) (answer_text query.now.names rows.now)) }
+    // Nothing of it is held back.
+    ensures handed { OnOk result (W.held out.new ≡ []) }
     // After a fault a beginning of the text has been written.
     ensures front { OnErr result (HasFront (W.contents out.old) (W.contents out.new) (answer_text query.now.names rows.now)) }
     ensures device { IsErrAnd result (λ e. e ≢ Fault.Memory) → Rose (W.failures out.old) (W.failures out.new) }
+    // No other call failed.
+    ensures quiet { OnOk result (W.failures out.new ≡ W.failures out.old) }
+    ensures memory { IsErrAnd result (λ e. e ≡ Fault.Memory) → W.failures out.new ≡ W.failures out.old }
 {
     let mut header = StringRecord::new(alloc);
     push_names(&mut header, query.names.as_slice())?;

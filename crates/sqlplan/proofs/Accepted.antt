@@ -1,11 +1,10 @@
 -- The check accepts the canonical certificate of a simple query.
-use Rattle.std.proofs.Common.{◌≡◌, IsTrue, refl, ap, sym, subst, ◌∙◌, ℕ, zero, suc, ◌+◌, ◌-◌, ◌<◌, ◌≤◌, Bool, true, false, not, ◌&&◌, ◌||◌, ◌==◌, nat_lt, nat_le, List, [], ◌∷◌, length, map, Option, Some, None, Result, Ok, inl, inr, arith}
-use Rattle.std.specs.List.{slice_get, AllByRecursion, list_all, list_any, range_with_len}
+use Rattle.std.proofs.Common.{◌≡◌, refl, ap, sym, subst, ◌∙◌, ℕ, zero, suc, ◌+◌, ◌-◌, ◌<◌, Bool, true, false, ◌&&◌, ◌==◌, nat_lt, List, [], ◌∷◌, length, map, Option, Some, None, Ok, inl, inr, arith}
+use Rattle.std.specs.List.{slice_get, AllByRecursion, list_any}
 use Rattle.std.proofs.lemmas.Bool.{eq-eqb, eqb-true, lt-ltb, le-leb, or_right, or_cases}
 use Rattle.std.proofs.lemmas.Option.{slice_get_within}
-use Rattle.values.specs.Faults.{◌>>=◌}
 use Rattle.binder.specs.declared.query.Cond.{Cond, out-Cond}
-use Rattle.binder.specs.declared.query.Cond.TheOpen.{Cond-F, From-F}
+use Rattle.binder.specs.declared.query.Cond.TheOpen.{Cond-F}
 use Rattle.binder.specs.declared.query.From.{From}
 use Rattle.binder.specs.declared.query.Block.{Block}
 use Rattle.binder.specs.declared.query.Item.{Item}
@@ -21,22 +20,21 @@ use Rattle.logical.specs.declared.condition.Condition.TheOpen.{Condition-F}
 use Rattle.logical.specs.declared.condition.Term as own
 use Rattle.logical.specs.declared.expr.Expr.{Expr}
 use Rattle.logical.specs.declared.expr.Expr.TheVariants.{Get, Select, Keep}
-use Rattle.logical.specs.Columns.{has, within, rising}
+use Rattle.logical.specs.Columns.{has, within}
 use Rattle.logical.specs.Conditions.{Passes, columns_layer, all_columns, classes_layer, all_classes, term_passes}
 use Rattle.logical.specs.Equality.{same_conditions, same_columns, same_expr}
-use Rattle.logical.specs.Expressions.{use_columns, get_columns, columns_of, classes_pass, is_own, names_own, is_plain, is_formed, subqueries_pass}
+use Rattle.logical.specs.Expressions.{use_columns, get_columns, classes_pass, is_own, names_own, is_plain, is_formed, subqueries_pass}
 use Rattle.logical.specs.Classes.{class_columns}
-use Rattle.logical.specs.Frame.{term_of, conjuncts_of, item_column, item_columns, output_columns, frame_of, frame_over}
+use Rattle.logical.specs.Frame.{term_of, conjuncts_of, item_columns, output_columns, frame_of, frame_over}
 use Rattle.logical.proofs.Same.{tested_expr, tested_conditions, tested_columns}
 use Rattle.logical.proofs.Sets.{has-rising, range_has}
 use Rattle.logical.proofs.Simple.{frame_is}
-use Rattle.checker.specs.declared.certificate.Line.{Line}
 use Rattle.checker.specs.declared.certificate.Line.TheVariants.{Founds}
 use Rattle.checker.specs.declared.certificate.Node.{Node}
 use Rattle.checker.specs.declared.certificate.Node.TheVariants.{Scan, Filter, Cut}
-use Rattle.checker.specs.declared.certificate.Plan.{Plan, out-Plan, out-roll-Plan}
+use Rattle.checker.specs.declared.certificate.Plan.{Plan, out-roll-Plan}
 use Rattle.checker.specs.declared.certificate.Certificate.{Certificate}
-use Rattle.checker.specs.Replay.{founding, line_of, inputs_of, line_replays, lines_replay, plan_fits, node_fits, inputs_fit, root, replayed}
+use Rattle.checker.specs.Replay.{founding, line_of, inputs_of, line_replays, lines_replay, plan_fits, replayed}
 use Rattle.checker.proofs.Fits.{plan_fits_out}
 use Rattle.sqlplan.specs.Canonical.{over, scan, filter, cut, plan_over, IsCanonical}
 

@@ -1,12 +1,12 @@
 -- Tables loaded one after the other.
-use Rattle.std.proofs.Common.{◌≡◌, refl, ap, sym, ◌∙◌, ℕ, ◌+◌, ◌<◌, ◌≤◌, List, [], length, map, get_or, Option, Some, None, IfSome, Result, Ok, Err, inl, inr, arith}
+use Rattle.std.proofs.Common.{◌≡◌, ◌≢◌, refl, ap, sym, ◌∙◌, ℕ, ◌+◌, ◌<◌, ◌≤◌, List, [], length, map, get_or, Option, Some, None, IfSome, Result, Ok, Err, inl, inr, arith}
 use Rattle.std.proofs.Math.ListN.{set}
 use Rattle.std.specs.List.{slice_get}
 use Rattle.std.proofs.lemmas.Bool.{cases_eq}
-use Rattle.std.proofs.lemmas.List.{get_or-map, get_or-set_same, get_or-set_other, length-set}
+use Rattle.std.proofs.lemmas.List.{get_or-map, get_or-set_same, get_or-set_other, length-set, length-map, map-set}
 use Rattle.schema.specs.declared.schema.Schema.{Schema}
 use Rattle.schema.specs.declared.schema.Table.{Table}
-use Rattle.schema.specs.Databases.{Row, Database}
+use Rattle.schema.specs.Databases.{Database}
 use Rattle.store.specs.declared.fault.TableFault.{TableFault}
 use Rattle.store.specs.declared.fault.TableFault.TheVariants as faults
 use Rattle.store.specs.Devices.{Rose}
@@ -14,16 +14,16 @@ use Rattle.store.specs.Tables.{records_of}
 use Rattle.store.specs.Databases.{Stored, ReplacesTable, LoadsTable, Loads}
 use Rattle.sqlplan.specs.declared.refusal.Refusal.{Refusal}
 use Rattle.sqlplan.specs.Refusals.{of_table}
-use Rattle.sqlplan.specs.EndToEnd.{Input, FileTells, TablesTold, IsLoadFault, IsDeviceFault}
+use Rattle.sqlplan.specs.EndToEnd.{Input, FileTells, TablesTold, IsLoadFault, IsDeviceFault, AreQuiet}
 
--- the first so many tables are loaded, and the other inputs are as they were
+-- the first so many tables are loaded, the other inputs are as they were, and no call failed
 pub record IsLoaded (S : Schema) (inputs now : List Input) (counts later : List ℕ) (n : ℕ) (D : Database) : Type 0 where
   pub told : TablesTold S inputs n D
   pub unread : (k : ℕ) → n ≤ k → get_or now k None ≡ get_or inputs k None
-  pub quiet : (k : ℕ) → n ≤ k → get_or later k 0 ≡ get_or counts k 0
+  pub quiet : (k : ℕ) → get_or later k 0 ≡ get_or counts k 0
 
 pub loaded_none : (S : Schema) (inputs : List Input) (counts : List ℕ) (D : Database) → IsLoaded S inputs inputs counts counts 0 D
-loaded_none S inputs counts D = record { told = λ n lt. absurd (omega (arith, lt)); unread = λ k le. refl; quiet = λ k le. refl }
+loaded_none S inputs counts D = record { told = λ n lt. absurd (omega (arith, lt)); unread = λ k le. refl; quiet = λ k. refl }
 
 -- what is said of the value that is there
 pub said_of : {A : Type 0} (o : Option A) (x : A) (P : A → Type 0) → o ≡ Some x → IfSome o P → P x
@@ -41,14 +41,21 @@ told_there : (S : Schema) (old new : Stored) (n : ℕ) (t : Table) (bytes : List
 told_there S old new n t bytes r same at loads =
     said_of (slice_get old.schema.tables n) t (λ t. LoadsTable old new n t (records_of bytes) r) (ap (λ (s : Schema). slice_get s.tables n) same ∙ at) loads
 
+-- a count that stays leaves all of them as they were
+quiet_more : (counts later : List ℕ) (n c : ℕ) → n < length later → c ≡ get_or later n 0 → AreQuiet counts later → AreQuiet counts (set later n c)
+quiet_more counts later n c lt still quiet k = elim (cases_eq k n) [
+  | inl e ↦ rw e (get_or-set_same later n c 0 lt ∙ still ∙ quiet n)
+  | inr ne ↦ get_or-set_other later n k c 0 ne ∙ quiet k
+]
+
 pub loaded_more : (S : Schema) (inputs now : List Input) (counts later : List ℕ) (old new : Stored) (n : ℕ) (i : Input) (c : ℕ)
-    → n < length old.tables → old.schema ≡ S → ReplacesTable old new n
+    → n < length old.tables → n < length later → c ≡ get_or later n 0 → old.schema ≡ S → ReplacesTable old new n
     → ((bytes : List ℕ) → get_or now n None ≡ Some bytes → Loads old new n (records_of bytes) (Ok tt))
     → IsLoaded S inputs now counts later n old.tables → IsLoaded S inputs (set now n i) counts (set later n c) (n + 1) new.tables
-loaded_more S inputs now counts later old new n i c lt same replaced loads before = record {
+loaded_more S inputs now counts later old new n i c lt counted still same replaced loads before = record {
   told = told;
   unread = λ k le. get_or-set_other now n k i None (λ e. absurd (omega (arith, e, le))) ∙ before.unread k (omega (arith, le));
-  quiet = λ k le. get_or-set_other later n k c 0 (λ e. absurd (omega (arith, e, le))) ∙ before.quiet k (omega (arith, le));
+  quiet = quiet_more counts later n c counted still before.quiet;
 }
   where
     tables-are : new.tables ≡ set old.tables n replaced.0
@@ -65,6 +72,10 @@ loaded_more S inputs now counts later old new n i c lt same replaced loads befor
       | inl e ↦ rw e here
       | inr ne ↦ λ t bytes at input. rw (tables-are, get_or-set_other old.tables n k replaced.0 [] ne) (before.told k (omega (arith, below, ne)) t bytes at input)
     ]
+
+-- an input whose count stayed has the count that was listed
+pub still_counted : {R : Type 0} (failures : R → ℕ) (tables : List R) (d y : R) (n : ℕ) → n < length tables → failures y ≡ failures (get_or tables n d) → failures y ≡ get_or (map failures tables) n 0
+still_counted failures tables d y n lt same = same ∙ sym (get_or-map failures tables n d 0 lt)
 
 -- a load that fails after these
 pub load_fails : (S : Schema) (inputs now : List Input) (counts later : List ℕ) (old new : Stored) (n : ℕ) (fault : TableFault) (refusal : Refusal) → old.schema ≡ S
@@ -83,14 +94,21 @@ pub device_rose : {R : Type 0} (failures : R → ℕ) (S : Schema) (inputs now :
     → n < length tables → IsLoaded S inputs now counts (map failures tables) n D
     → Rose (failures (get_or tables n d)) (failures y) → Rose (get_or counts n 0) (get_or (map failures (set tables n y)) n 0)
 device_rose failures S inputs now counts tables d y n D lt before rose =
-    let first : get_or counts n 0 ≡ failures (get_or tables n d) = sym (before.quiet n (omega arith)) ∙ get_or-map failures tables n d 0 lt in
+    let first : get_or counts n 0 ≡ failures (get_or tables n d) = sym (before.quiet n) ∙ get_or-map failures tables n d 0 lt in
     let last : get_or (map failures (set tables n y)) n 0 ≡ failures y
     = get_or-map failures (set tables n y) n y 0 (rw length-set lt) ∙ ap failures (get_or-set_same tables n y y lt) in
     rw (first, last) rose
 
+-- the counts stay where that of the failing input does
+pub device_quiet : {R : Type 0} (failures : R → ℕ) (S : Schema) (inputs now : List Input) (counts : List ℕ) (tables : List R) (d y : R) (n : ℕ) (D : Database)
+    → n < length tables → IsLoaded S inputs now counts (map failures tables) n D
+    → failures y ≡ failures (get_or tables n d) → AreQuiet counts (map failures (set tables n y))
+device_quiet failures S inputs now counts tables d y n D lt before same =
+    rw map-set (quiet_more counts (map failures tables) n (failures y) (rw length-map lt) (still_counted failures tables d y n lt same) before.quiet)
+
 -- so what a failing load tells of its device holds
-pub load_device : (n : ℕ) (fault : TableFault) (refusal : Refusal) (old new : List ℕ) (o p : ℕ) → (fault ≡ faults.Device → Rose (get_or old n 0) (get_or new n 0))
-    → refusal ≡ of_table n fault → IsDeviceFault old new o p refusal
-load_device n faults.Memory refusal old new o p rose is = rw is tt
-load_device n faults.Device refusal old new o p rose is = rw is (rose refl)
-load_device n (faults.Refused r) refusal old new o p rose is = rw is tt
+pub load_device : (n : ℕ) (fault : TableFault) (refusal : Refusal) (old new : List ℕ) (o : ℕ) → (fault ≡ faults.Device → Rose (get_or old n 0) (get_or new n 0))
+    → (fault ≢ faults.Device → AreQuiet old new) → refusal ≡ of_table n fault → IsDeviceFault old new o o refusal
+load_device n faults.Memory refusal old new o rose quiet is = rw is (quiet (λ e. cc e), refl)
+load_device n faults.Device refusal old new o rose quiet is = rw is (rose refl, refl)
+load_device n (faults.Refused r) refusal old new o rose quiet is = rw is (quiet (λ e. cc e), refl)

@@ -1,5 +1,5 @@
 -- A query from its first step to its last.
-use Rattle.std.proofs.Common.{◌≡◌, ◌≢◌, refl, ap, sym, ◌∙◌, ℕ, List, length, Result, Ok, Err, IfErr, OnErr}
+use Rattle.std.proofs.Common.{◌≡◌, ◌≢◌, refl, sym, ◌∙◌, ℕ, List, length, Result, Ok, Err, IfErr, OnErr}
 use Rattle.values.specs.declared.fault.Fault.{Fault}
 use Rattle.values.specs.declared.fault.Fault.TheVariants as fault
 use Rattle.values.specs.Faults.{Fails}
@@ -8,26 +8,23 @@ use Rattle.schema.specs.Databases.{Database, Satisfies}
 use Rattle.store.specs.Databases.{Stored}
 use Rattle.store.specs.Devices.{Rose}
 use Rattle.binder.specs.declared.query.Query.{Query}
-use Rattle.binder.specs.Rows.{tables_of}
 use Rattle.binder.specs.Simple.{IsSimple}
 use Rattle.checker.specs.declared.certificate.Certificate.{Certificate}
 use Rattle.checker.specs.declared.certificate.CheckRefusal.{CheckRefusal}
-use Rattle.checker.specs.Plans.{answer}
 use Rattle.checker.specs.Replay.{Accepted, IsChecked, replayed}
 use Rattle.checker.proofs.Right.{checked}
 use Rattle.executor.specs.declared.output.OutputFailed.{OutputFailed}
-use Rattle.executor.specs.AnswerText.{answer_text}
-use Rattle.executor.specs.Execution.{plan_rows, plan_text}
+use Rattle.executor.specs.Execution.{plan_text}
 use Rattle.sqlplan.specs.declared.refusal.Refusal.{Refusal}
 use Rattle.sqlplan.specs.declared.refusal.Refusal.TheVariants as refusal
 use Rattle.sqlplan.specs.Refusals.{of_check, of_answer}
-use Rattle.sqlplan.specs.EndToEnd.{Input, Asks, TablesTold, IsLoadFault, IsAnswerText, WithAnswer, WithQuery, IsRefusedBy, IsBefore, IsDeviceFault}
+use Rattle.sqlplan.specs.EndToEnd.{Input, Asks, TablesTold, IsLoadFault, WithAnswer, IsRefusedBy, IsBefore, IsDeviceFault, AreQuiet}
 
 -- what holds of the fault that a call ends with
-pub of_fault : {A : Type 0} (r : Result A Refusal) (e : Refusal) (P : Refusal → Type 0) → r ≡ Err e → P e → IfErr r P
+pub of_fault : {A E : Type 0} (r : Result A E) (e : E) (P : E → Type 0) → r ≡ Err e → P e → IfErr r P
 of_fault r e P is h = rw is h
 
-pub on_fault : {A : Type 0} (r : Result A Refusal) (e : Refusal) (P : Type 0) → r ≡ Err e → P → OnErr r P
+pub on_fault : {A E : Type 0} (r : Result A E) (e : E) (P : Type 0) → r ≡ Err e → P → OnErr r P
 on_fault r e P is h = rw is h
 
 -- ---- the check
@@ -53,15 +50,15 @@ load_refused schema text S q inputs (refusal.Text r) asks h = absurd h
 load_refused schema text S q inputs (refusal.Scope r) asks h = absurd h
 load_refused schema text S q inputs (refusal.Check r) asks h = absurd h
 
-pub load_device_fault : (S : Schema) (inputs : List Input) (old new : List ℕ) (o p : ℕ) (r : Refusal) → IsLoadFault S inputs r → IsDeviceFault old new 0 0 r → IsDeviceFault old new o p r
-load_device_fault S inputs old new o p refusal.Memory h d = tt
-load_device_fault S inputs old new o p (refusal.TableDevice n) h d = d
-load_device_fault S inputs old new o p (refusal.Table n r) h d = tt
-load_device_fault S inputs old new o p refusal.Output h d = absurd h
-load_device_fault S inputs old new o p (refusal.Schema r) h d = tt
-load_device_fault S inputs old new o p (refusal.Text r) h d = tt
-load_device_fault S inputs old new o p (refusal.Scope r) h d = tt
-load_device_fault S inputs old new o p (refusal.Check r) h d = tt
+pub load_device_fault : (S : Schema) (inputs : List Input) (old new : List ℕ) (o : ℕ) (r : Refusal) → IsLoadFault S inputs r → IsDeviceFault old new 0 0 r → IsDeviceFault old new o o r
+load_device_fault S inputs old new o refusal.Memory h d = (d.0, refl)
+load_device_fault S inputs old new o (refusal.TableDevice n) h d = (d.0, refl)
+load_device_fault S inputs old new o (refusal.Table n r) h d = (d.0, refl)
+load_device_fault S inputs old new o refusal.Output h d = absurd h
+load_device_fault S inputs old new o (refusal.Schema r) h d = absurd h
+load_device_fault S inputs old new o (refusal.Text r) h d = absurd h
+load_device_fault S inputs old new o (refusal.Scope r) h d = absurd h
+load_device_fault S inputs old new o (refusal.Check r) h d = absurd h
 
 -- the tables of the schema are all told
 pub told_all : (S T : Schema) (inputs : List Input) (m n : ℕ) (D : Database) → S ≡ T → m ≡ n → TablesTold S inputs m D → TablesTold T inputs n D
@@ -77,9 +74,9 @@ pub answer_refused : (schema text : List ℕ) (S : Schema) (q : Query) (inputs :
 answer_refused schema text S q inputs fault.Memory asks = tt
 answer_refused schema text S q inputs (fault.Refused r) asks = (S, q, asks, tt)
 
-pub answer_device : (old new : List ℕ) (o p : ℕ) (f : Fault OutputFailed) → (f ≢ fault.Memory → Rose o p) → IsDeviceFault old new o p (of_answer f)
-answer_device old new o p fault.Memory rose = tt
-answer_device old new o p (fault.Refused r) rose = rose (λ e. cc e)
+pub answer_device : (old new : List ℕ) (o p : ℕ) (f : Fault OutputFailed) → AreQuiet old new → (f ≢ fault.Memory → Rose o p) → (f ≡ fault.Memory → p ≡ o) → IsDeviceFault old new o p (of_answer f)
+answer_device old new o p fault.Memory quiet rose same = (quiet, same refl)
+answer_device old new o p (fault.Refused r) quiet rose same = (quiet, rose (λ e. cc e))
 
 -- a fault of the answer comes after its beginning
 pub answer_after : (f : Fault OutputFailed) → IsBefore (of_answer f) → ⊥

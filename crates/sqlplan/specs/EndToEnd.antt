@@ -108,8 +108,21 @@ IsBefore (refusal.Check r) = Unit {0}
 IsBefore (refusal.Table n r) = Unit {0}
 IsBefore (refusal.TableDevice n) = Unit {0}
 
--- the device whose fault is told failed: its count of failures rose between these
+-- the counts of failures stayed as they were
+abbrev pub AreQuiet : List ℕ → List ℕ → Type 0
+AreQuiet old new = (n : ℕ) → slice_index_or new n 0 ≡ slice_index_or old n 0
+
+-- so did those of the tables and that of the output
+abbrev pub IsQuiet : List ℕ → List ℕ → ℕ → ℕ → Type 0
+IsQuiet old new out out' = AreQuiet old new × (out' ≡ out)
+
+-- the device whose fault is told failed: its count of failures rose between these; where none is told, none failed
 abbrev pub IsDeviceFault : List ℕ → List ℕ → ℕ → ℕ → Refusal → Type 0
-IsDeviceFault old new out out' (refusal.TableDevice n) = Rose (slice_index_or old n 0) (slice_index_or new n 0)
-IsDeviceFault old new out out' refusal.Output = Rose out out'
-IsDeviceFault old new out out' _ = Unit {0}
+IsDeviceFault old new out out' (refusal.TableDevice n) = Rose (slice_index_or old n 0) (slice_index_or new n 0) × (out' ≡ out)
+IsDeviceFault old new out out' refusal.Output = AreQuiet old new × Rose out out'
+IsDeviceFault old new out out' refusal.Memory = IsQuiet old new out out'
+IsDeviceFault old new out out' (refusal.Schema r) = IsQuiet old new out out'
+IsDeviceFault old new out out' (refusal.Text r) = IsQuiet old new out out'
+IsDeviceFault old new out out' (refusal.Scope r) = IsQuiet old new out out'
+IsDeviceFault old new out out' (refusal.Check r) = IsQuiet old new out out'
+IsDeviceFault old new out out' (refusal.Table n r) = IsQuiet old new out out'

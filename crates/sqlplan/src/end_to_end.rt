@@ -1,9 +1,9 @@
 //! From the bytes of files to the bytes of an answer.
 
-ghost use Rattle.std.specs.Prelude.{◌≡◌, ◌≤◌, ◌⊎◌, length, map, IfErr, OnOk, OnErr};
+ghost use Rattle.std.specs.Prelude.{◌≡◌, ◌≤◌, ◌⊎◌, [], length, map, IfErr, OnOk, OnErr};
 ghost use Rattle.std.specs.Io.KnownBytes.{Appends};
 ghost use Rattle.executor.specs.AnswerText.{HasFront};
-ghost use Rattle.sqlplan.specs.EndToEnd.{HasTables, TablesTold, IsLoadFault, WithAnswer, IsRefusedBy, IsBefore, IsDeviceFault};
+ghost use Rattle.sqlplan.specs.EndToEnd.{HasTables, TablesTold, IsLoadFault, WithAnswer, IsRefusedBy, IsBefore, IsDeviceFault, AreQuiet, IsQuiet};
 
 use crate::canonical::canonical;
 use crate::refusal::Refusal;
@@ -26,6 +26,7 @@ fn load_all<R: TableInput>(
     ensures told { OnOk result (TablesTold database.old.schema (map R.remaining tables.old) (length tables.old) database.new.tables) }
     ensures fails { IfErr result (IsLoadFault database.old.schema (map R.remaining tables.old)) }
     ensures device { IfErr result (IsDeviceFault (map R.failures tables.old) (map R.failures tables.new) 0 0) }
+    ensures quiet { OnOk result (AreQuiet (map R.failures tables.old) (map R.failures tables.new)) }
 {
     for number in 0..tables.len() {
         if let Err(fault) = database.load(alloc, number, &mut tables[number]) {
@@ -51,11 +52,15 @@ pub fn query<R: TableInput, W: AnswerOutput>(
     requires { HasTables schema.now (length tables.old) }
     // What is added to the output is the text of an answer.
     ensures answered { OnOk result (WithAnswer schema.now text.now (map R.remaining tables.old) (Appends (W.contents out.old) (W.contents out.new))) }
+    // Nothing of it is held back.
+    ensures handed { OnOk result (W.held out.new ≡ []) }
     ensures refused { IfErr result (IsRefusedBy schema.now text.now (map R.remaining tables.old)) }
     ensures untouched { IfErr result (λ r. IsBefore r → out.new ≡ out.old) }
     // A fault that comes later leaves a beginning of such a text.
     ensures front { OnErr result ((out.new ≡ out.old) ⊎ WithAnswer schema.now text.now (map R.remaining tables.old) (HasFront (W.contents out.old) (W.contents out.new))) }
     ensures device { IfErr result (IsDeviceFault (map R.failures tables.old) (map R.failures tables.new) (W.failures out.old) (W.failures out.new)) }
+    // No other call of a device failed, and none where there is an answer.
+    ensures quiet { OnOk result (IsQuiet (map R.failures tables.old) (map R.failures tables.new) (W.failures out.old) (W.failures out.new)) }
 {
     let schema = Schema::read(alloc, schema)?;
     let ast = parse_bytes(alloc, text)?;

@@ -1,7 +1,8 @@
 //! Answers queries over tables in files, by checked plans.
 #![tactic(auto)]
 
-ghost use Rattle.std.specs.Prelude.{◌≡◌, length, vec_len, IfOk};
+ghost use Rattle.std.specs.Prelude.{◌≡◌, length, vec_len, IfOk, IfErr};
+ghost use Rattle.sqlplan.specs.Stops.{SaysFile, SaysTable};
 
 mod canonical;
 mod command;
@@ -30,7 +31,9 @@ use store::CountedInput;
 const LIMIT: u32 = 20_000;
 
 /// The bytes of a file.
-fn bytes_of(rt: &HostRuntime, path: &str) -> Result<Vec<u8>, Stop> {
+fn bytes_of(rt: &HostRuntime, path: &str) -> Result<Vec<u8>, Stop>
+    ensures { IfErr result (SaysFile path.now) }
+{
     match fs::read(rt, path) {
         Ok(bytes) => Ok(bytes),
         Err(error) => Err(Stop::of_file(rt.alloc(), path, &error)),
@@ -43,7 +46,8 @@ fn open_tables(
     schema: &Schema,
     folder: &str,
 ) -> Result<Vec<CountedInput<File>>, Stop>
-    ensures { IfOk result (λ tables. vec_len tables ≡ length schema.now.tables) }
+    ensures each { IfOk result (λ tables. vec_len tables ≡ length schema.now.tables) }
+    ensures fails { IfErr result (SaysTable schema.now folder.now) }
 {
     let alloc = rt.alloc();
     let mut tables = Vec::new(alloc);

@@ -1,5 +1,11 @@
 //! Why the program stops early, and what it says.
 
+ghost use Rattle.std.specs.Prelude.{◌≡◌};
+ghost use Rattle.std.specs.Option.{option_copied};
+ghost use Rattle.sqlplan.specs.Lines.{line_of};
+ghost use Rattle.sqlplan.specs.Refusals as refusals;
+ghost use Rattle.sqlplan.specs.Stops as spec;
+
 use crate::refusal::{Refusal, fault_line};
 use schema::Schema;
 use std::alloc::{AllocError, AllocFailed, Global};
@@ -17,7 +23,9 @@ pub enum Stop {
 
 impl Stop {
     /// The stop of a refusal. The schema names the table of a table's fault.
-    pub fn of_refusal(alloc: Global, refusal: &Refusal, schema: Option<&Schema>) -> Stop {
+    pub fn of_refusal(alloc: Global, refusal: &Refusal, schema: Option<&Schema>) -> Stop
+        ensures { spec.Says (line_of (option_copied schema.entry) refusal.now) (refusals.status_of refusal.now) result }
+    {
         match fault_line(alloc, refusal, schema) {
             Ok(line) => Stop::Line(line, refusal.status()),
             Err(AllocError) => Stop::Memory,
@@ -25,7 +33,9 @@ impl Stop {
     }
 
     /// The stop of a file that can't be opened or read.
-    pub fn of_file(alloc: Global, path: &str, error: &io::Error) -> Stop {
+    pub fn of_file(alloc: Global, path: &str, error: &io::Error) -> Stop
+        ensures { spec.SaysFile path.now result }
+    {
         if error.kind() == io::ErrorKind::OutOfMemory {
             return Stop::Memory;
         }
@@ -44,7 +54,9 @@ impl Stop {
         };
     }
 
-    pub fn status(&self) -> u8 {
+    pub fn status(&self) -> u8
+        ensures { result ≡ spec.status_of self.now }
+    {
         match self {
             Stop::Usage => 2,
             Stop::Memory => 3,
@@ -54,12 +66,20 @@ impl Stop {
 }
 
 impl From<AllocError> for Stop {
+    ghost use Rattle.sqlplan.specs.declared.stop.Stop.TheVariants.{Memory};
+
+    ghost from_gives = { λ _ stop. stop ≡ Memory };
+
     fn from(_error: AllocError) -> Stop {
         Stop::Memory
     }
 }
 
 impl<T: Drop> From<AllocFailed<T>> for Stop {
+    ghost use Rattle.sqlplan.specs.declared.stop.Stop.TheVariants.{Memory};
+
+    ghost from_gives = { λ _ stop. stop ≡ Memory };
+
     fn from(_error: AllocFailed<T>) -> Stop {
         Stop::Memory
     }
@@ -67,6 +87,10 @@ impl<T: Drop> From<AllocFailed<T>> for Stop {
 
 /// What std's calls fail with here: for want of memory alone.
 impl From<io::Error> for Stop {
+    ghost use Rattle.sqlplan.specs.declared.stop.Stop.TheVariants.{Memory};
+
+    ghost from_gives = { λ _ stop. stop ≡ Memory };
+
     fn from(_error: io::Error) -> Stop {
         Stop::Memory
     }

@@ -10,6 +10,7 @@ use logical::{Columns, Condition, Conjuncts, Expr, Term};
 use schema::Schema;
 use sql_parse::parse_bytes;
 use std::alloc::{AllocError, Global};
+use std::io::BufWriter;
 use std::process::Abort;
 use std::test::Fail;
 use store::CountedInput;
@@ -44,9 +45,10 @@ fn told(
         Err(Fault::Refused(_)) => None,
         Err(Fault::Memory) => return Err(Fail::from(AllocError)),
     };
-    let mut out = CountedOutput::new(Vec::new(alloc));
+    let mut out = CountedOutput::new(BufWriter::new(alloc, Vec::new(alloc))?);
     let outcome = query(alloc, schema, text, tables.as_mut_slice(), 20000, &mut out);
-    let written = out.into_inner();
+    // What is still in the buffer was not handed on.
+    let (written, _) = out.into_inner().into_parts();
     match outcome {
         Ok(()) => Ok(String::from_utf8(written)?),
         Err(refusal) => {

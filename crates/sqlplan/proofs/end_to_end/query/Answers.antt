@@ -1,14 +1,21 @@
-use Rattle.std.proofs.Common.{◌≡◌, ◌∙◌, ap, subst, List, ℕ, length, map, Err, inr}
+use Rattle.std.proofs.Common.{◌∙◌, refl, ap, subst, length, map, Err, inr}
 use Rattle.std.proofs.lemmas.Result.{err_from_is_err_and}
 use Rattle.std.specs.Io.KnownBytes.{Appends}
 use Rattle.schema.specs.declared.schema.Schema.{Schema}
 use Rattle.store.specs.Databases.{Stored}
 use Rattle.executor.specs.AnswerText.{HasFront}
 use Rattle.sqlplan.specs.declared.refusal.Refusal.TheVariants as refusal
-use Rattle.sqlplan.specs.Refusals.{of_check, of_answer}
-use Rattle.sqlplan.specs.EndToEnd.{IsLoadFault}
+use Rattle.sqlplan.specs.Refusals.{of_answer}
+use Rattle.sqlplan.specs.EndToEnd.{IsLoadFault, IsDeviceFault}
 use Rattle.sqlplan.proofs.Queried.{of_fault, on_fault, same_certificate, only_memory, load_refused, load_device_fault, told_all, satisfied_by, answer_refused, answer_device, answer_after, with_answer}
 use Rattle.sqlplan.proofs.end_to_end.query.Goals as goal
+
+pub returns-in_err-database-clause-device : goal.returns-in_err-database-clause-device
+returns-in_err-database-clause-device g c =
+    let p = err_from_is_err_and c.from_residual-in_err-database.result c.from_residual-in_err-database.ensures.1 in
+    of_fault c.from_residual-in_err-database.result refusal.Memory
+    (IsDeviceFault (map g.R.TableInput.failures c.args.tables.now) (map g.R.TableInput.failures c.args.tables.now) (g.W.AnswerOutput.failures c.args.out.now) (g.W.AnswerOutput.failures c.args.out.now))
+    (p.1 ∙ ap Err p.2) (λ k. refl, refl)
 
 pub returns-in_err-load_all-clause-refused : goal.returns-in_err-load_all-clause-refused
 returns-in_err-load_all-clause-refused g c =
@@ -22,7 +29,7 @@ pub returns-in_err-load_all-clause-device : goal.returns-in_err-load_all-clause-
 returns-in_err-load_all-clause-device g c =
     let p = err_from_is_err_and c.from_residual-in_err-load_all.result c.from_residual-in_err-load_all.ensures.1 in
     of_fault c.from_residual-in_err-load_all.result c.in_err-load_all.field-0.0 _ (p.1 ∙ ap Err p.2)
-    (load_device_fault c.in_ok-database.database.schema (map g.R.TableInput.remaining c.args.tables.now) _ _ _ _ c.in_err-load_all.field-0.0 c.in_err-load_all.ensures.fails c.in_err-load_all.ensures.device)
+    (load_device_fault c.in_ok-database.database.schema (map g.R.TableInput.remaining c.args.tables.now) _ _ _ c.in_err-load_all.field-0.0 c.in_err-load_all.ensures.fails c.in_err-load_all.ensures.device)
 
 pub returns-in_err-checked-clause-refused : goal.returns-in_err-checked-clause-refused
 returns-in_err-checked-clause-refused g c =
@@ -33,8 +40,9 @@ returns-in_err-checked-clause-refused g c =
 pub returns-in_err-checked-clause-device : goal.returns-in_err-checked-clause-device
 returns-in_err-checked-clause-device g c =
     let p = err_from_is_err_and c.from_residual-in_err-checked.result c.from_residual-in_err-checked.ensures.1 in
-    of_fault c.from_residual-in_err-checked.result refusal.Memory _
-    (p.1 ∙ ap Err (p.2 ∙ only_memory c.in_err-checked.field-0.0 c.in_ok-query.query c.in_ok-certificate.certificate c.in_err-checked.ensures.verdict c.in_ok-certificate.ensures.replays)) tt
+    of_fault c.from_residual-in_err-checked.result refusal.Memory
+    (IsDeviceFault (map g.R.TableInput.failures c.args.tables.now) (map g.R.TableInput.failures c.load_all.new.tables) (g.W.AnswerOutput.failures c.args.out.now) (g.W.AnswerOutput.failures c.args.out.now))
+    (p.1 ∙ ap Err (p.2 ∙ only_memory c.in_err-checked.field-0.0 c.in_ok-query.query c.in_ok-certificate.certificate c.in_err-checked.ensures.verdict c.in_ok-certificate.ensures.replays)) (c.in_ok-load_all.ensures.quiet, refl)
 
 pub returns-in_err-write_answer-clause-refused : goal.returns-in_err-write_answer-clause-refused
 returns-in_err-write_answer-clause-refused g c =
@@ -65,7 +73,7 @@ returns-in_err-write_answer-clause-front g c =
 pub returns-in_err-write_answer-clause-device : goal.returns-in_err-write_answer-clause-device
 returns-in_err-write_answer-clause-device g c =
     let p = err_from_is_err_and c.from_residual-in_err-write_answer.result c.from_residual-in_err-write_answer.ensures.1 in
-    of_fault c.from_residual-in_err-write_answer.result (of_answer c.in_err-write_answer.field-0.0) _ (p.1 ∙ ap Err p.2) (answer_device _ _ _ _ c.in_err-write_answer.field-0.0 c.in_err-write_answer.ensures.device)
+    of_fault c.from_residual-in_err-write_answer.result (of_answer c.in_err-write_answer.field-0.0) _ (p.1 ∙ ap Err p.2) (answer_device _ _ _ _ c.in_err-write_answer.field-0.0 c.in_ok-load_all.ensures.quiet c.in_err-write_answer.ensures.device c.in_err-write_answer.ensures.memory)
 
 pub returns-clause-answered : goal.returns-clause-answered
 returns-clause-answered g c = with_answer c.args.schema.now c.args.text.now (map g.R.TableInput.remaining c.args.tables.now) c.in_ok-schema.schema c.in_ok-query.query c.load_all.new.database c.in_ok-certificate.certificate c.in_ok-checked.checked
