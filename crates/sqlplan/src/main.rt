@@ -4,6 +4,8 @@
 ghost use Rattle.std.specs.Prelude.{◌≡◌, length, vec_len, IfOk, IfErr};
 ghost use Rattle.sqlplan.specs.Stops.{SaysFile, SaysTable};
 
+#[cfg(test)]
+mod answers;
 mod canonical;
 mod command;
 mod end_to_end;
@@ -15,7 +17,7 @@ mod tests;
 use clap::ArgMatches;
 use clap::error::ErrorKind;
 use command::command;
-use end_to_end::query;
+use end_to_end::{evaluate, query};
 use executor::CountedOutput;
 use refusal::Refusal;
 use schema::Schema;
@@ -62,8 +64,17 @@ fn open_tables(
     Ok(tables)
 }
 
-/// The command `query`. The schema is read and tested before any other file is opened.
-fn answer_query(rt: &HostRuntime, arguments: &ArgMatches<'_>) -> Result<(), Stop> {
+/// By what a query is answered.
+#[derive(Clone, Copy)]
+enum Way {
+    /// A plan that was checked.
+    Plan,
+    /// The slow evaluator.
+    Meaning,
+}
+
+/// The commands `query` and `meaning`. The schema is read and tested before any other file is opened.
+fn answer(rt: &HostRuntime, way: Way, arguments: &ArgMatches<'_>) -> Result<(), Stop> {
     let alloc = rt.alloc();
     let (Some(schema_path), Some(query_path), Some(folder)) = (
         arguments.get_str("SCHEMA"),
@@ -79,15 +90,17 @@ fn answer_query(rt: &HostRuntime, arguments: &ArgMatches<'_>) -> Result<(), Stop
     };
     let text = bytes_of(rt, query_path)?;
     let mut tables = open_tables(rt, &schema, folder)?;
-    let mut out = CountedOutput::new(BufWriter::new(alloc, io::writer(rt))?);
-    match query(
-        alloc,
+    let (bytes, text, tables) = (
         schema_bytes.as_slice(),
         text.as_slice(),
         tables.as_mut_slice(),
-        LIMIT,
-        &mut out,
-    ) {
+    );
+    let mut out = CountedOutput::new(BufWriter::new(alloc, io::writer(rt))?);
+    let answered = match way {
+        Way::Plan => query(alloc, bytes, text, tables, LIMIT, &mut out),
+        Way::Meaning => evaluate(alloc, bytes, text, tables, &mut out),
+    };
+    match answered {
         Ok(()) => Ok(()),
         Err(refusal) => Err(Stop::of_refusal(alloc, &refusal, Some(&schema))),
     }
@@ -98,7 +111,8 @@ fn run(rt: &HostRuntime) -> Result<(), Stop> {
     let words: Vec<String> = env::args(rt)?.collect(alloc)?;
     match command(alloc)?.try_get_matches_from(words.as_slice()) {
         Ok(matches) => match matches.subcommand() {
-            Some(("query", arguments)) => answer_query(rt, arguments),
+            Some(("query", arguments)) => answer(rt, Way::Plan, arguments),
+            Some(("meaning", arguments)) => answer(rt, Way::Meaning, arguments),
             _ => Err(Stop::Usage),
         },
         Err(error) => {

@@ -16,16 +16,16 @@ use std::test::Fail;
 use store::CountedInput;
 use values::{Comparison, Fault, Items, Value};
 
-const SCHEMA: &[u8] = br#"{"tables":[
+pub const SCHEMA: &[u8] = br#"{"tables":[
     {"name":"dept","columns":[{"name":"id","kind":"INT","not_null":true},{"name":"name","kind":"TEXT","not_null":true},
         {"name":"boss","kind":"INT","not_null":false}],"unique":[["id"]],"indexes":[]},
     {"name":"emp","columns":[{"name":"id","kind":"INT","not_null":true},{"name":"dept","kind":"INT","not_null":false},
         {"name":"pay","kind":"INT","not_null":false},{"name":"badge","kind":"INT","not_null":false}],
         "unique":[["id"],["badge"]],"indexes":[]}]}"#;
 
-const DEPT: &[u8] = b"id,name,boss\n1,ops,10\n2,lab,\\N\n3,dev,12\n";
+pub const DEPT: &[u8] = b"id,name,boss\n1,ops,10\n2,lab,\\N\n3,dev,12\n";
 
-const EMP: &[u8] = b"id,dept,pay,badge\n10,1,500,7\n11,1,\\N,\\N\n12,3,400,\\N\n13,\\N,500,9\n";
+pub const EMP: &[u8] = b"id,dept,pay,badge\n10,1,500,7\n11,1,\\N,\\N\n12,3,400,\\N\n13,\\N,500,9\n";
 
 /// What the program writes, or the line that it says; nothing is written before a refusal.
 fn told(

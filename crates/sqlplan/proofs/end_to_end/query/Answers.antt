@@ -6,8 +6,8 @@ use Rattle.store.specs.Databases.{Stored}
 use Rattle.executor.specs.AnswerText.{HasFront}
 use Rattle.sqlplan.specs.declared.refusal.Refusal.TheVariants as refusal
 use Rattle.sqlplan.specs.Refusals.{of_answer}
-use Rattle.sqlplan.specs.EndToEnd.{IsLoadFault, IsDeviceFault}
-use Rattle.sqlplan.proofs.Queried.{of_fault, on_fault, same_certificate, only_memory, load_refused, load_device_fault, told_all, satisfied_by, answer_refused, answer_device, answer_after, with_answer}
+use Rattle.sqlplan.specs.EndToEnd.{IsLoadFault, IsDeviceFault, cut}
+use Rattle.sqlplan.proofs.Queried.{of_fault, on_fault, same_certificate, only_memory, load_refused, load_device_fault, told_all, satisfied_by, answer_refused, answer_device, answer_after, with_plan}
 use Rattle.sqlplan.proofs.end_to_end.query.Goals as goal
 
 pub returns-in_err-database-clause-device : goal.returns-in_err-database-clause-device
@@ -21,8 +21,8 @@ pub returns-in_err-load_all-clause-refused : goal.returns-in_err-load_all-clause
 returns-in_err-load_all-clause-refused g c =
     let p = err_from_is_err_and c.from_residual-in_err-load_all.result c.from_residual-in_err-load_all.ensures.1 in
     of_fault c.from_residual-in_err-load_all.result c.in_err-load_all.field-0.0 _ (p.1 ∙ ap Err p.2)
-    (load_refused c.args.schema.now c.args.text.now c.in_ok-schema.schema c.in_ok-query.query (map g.R.TableInput.remaining c.args.tables.now) c.in_err-load_all.field-0.0
-    (record { is_schema = c.in_ok-schema.ensures.exact; tree = c.in_ok-ast.ast; reads = c.in_ok-ast.ensures.found; binds = c.in_ok-query.ensures.exact })
+    (load_refused cut c.args.schema.now c.args.text.now c.in_ok-schema.schema c.in_ok-query.query (map g.R.TableInput.remaining c.args.tables.now) c.in_err-load_all.field-0.0
+    (record { is_schema = c.in_ok-schema.ensures.exact; is_query = (c.in_ok-ast.ast, c.in_ok-ast.ensures.found, c.in_ok-query.ensures.exact) })
     (subst (λ (S : Schema). IsLoadFault S (map g.R.TableInput.remaining c.args.tables.now) c.in_err-load_all.field-0.0) (ap (λ (s : Stored). s.schema) c.in_ok-database.ensures) c.in_err-load_all.ensures.fails))
 
 pub returns-in_err-load_all-clause-device : goal.returns-in_err-load_all-clause-device
@@ -48,8 +48,8 @@ pub returns-in_err-write_answer-clause-refused : goal.returns-in_err-write_answe
 returns-in_err-write_answer-clause-refused g c =
     let p = err_from_is_err_and c.from_residual-in_err-write_answer.result c.from_residual-in_err-write_answer.ensures.1 in
     of_fault c.from_residual-in_err-write_answer.result (of_answer c.in_err-write_answer.field-0.0) _ (p.1 ∙ ap Err p.2)
-    (answer_refused c.args.schema.now c.args.text.now c.in_ok-schema.schema c.in_ok-query.query (map g.R.TableInput.remaining c.args.tables.now) c.in_err-write_answer.field-0.0
-    (record { is_schema = c.in_ok-schema.ensures.exact; tree = c.in_ok-ast.ast; reads = c.in_ok-ast.ensures.found; binds = c.in_ok-query.ensures.exact }))
+    (answer_refused cut c.args.schema.now c.args.text.now c.in_ok-schema.schema c.in_ok-query.query (map g.R.TableInput.remaining c.args.tables.now) c.in_err-write_answer.field-0.0
+    (record { is_schema = c.in_ok-schema.ensures.exact; is_query = (c.in_ok-ast.ast, c.in_ok-ast.ensures.found, c.in_ok-query.ensures.exact) }))
 
 pub returns-in_err-write_answer-clause-untouched : goal.returns-in_err-write_answer-clause-untouched
 returns-in_err-write_answer-clause-untouched g c =
@@ -59,9 +59,9 @@ returns-in_err-write_answer-clause-untouched g c =
 pub returns-in_err-write_answer-clause-front : goal.returns-in_err-write_answer-clause-front
 returns-in_err-write_answer-clause-front g c =
     let p = err_from_is_err_and c.from_residual-in_err-write_answer.result c.from_residual-in_err-write_answer.ensures.1 in
-    on_fault c.from_residual-in_err-write_answer.result (of_answer c.in_err-write_answer.field-0.0) _ (p.1 ∙ ap Err p.2) (inr (with_answer c.args.schema.now c.args.text.now (map g.R.TableInput.remaining c.args.tables.now) c.in_ok-schema.schema c.in_ok-query.query c.load_all.new.database c.in_ok-certificate.certificate c.in_ok-checked.checked
+    on_fault c.from_residual-in_err-write_answer.result (of_answer c.in_err-write_answer.field-0.0) _ (p.1 ∙ ap Err p.2) (inr (with_plan cut c.args.schema.now c.args.text.now (map g.R.TableInput.remaining c.args.tables.now) c.in_ok-schema.schema c.in_ok-query.query c.load_all.new.database c.in_ok-certificate.certificate c.in_ok-checked.checked
     (HasFront (g.W.AnswerOutput.contents c.args.out.now) (g.W.AnswerOutput.contents c.write_answer.new.out))
-    (record { is_schema = c.in_ok-schema.ensures.exact; tree = c.in_ok-ast.ast; reads = c.in_ok-ast.ensures.found; binds = c.in_ok-query.ensures.exact })
+    (record { is_schema = c.in_ok-schema.ensures.exact; is_query = (c.in_ok-ast.ast, c.in_ok-ast.ensures.found, c.in_ok-query.ensures.exact) })
     (told_all c.in_ok-database.database.schema c.in_ok-schema.schema (map g.R.TableInput.remaining c.args.tables.now) (length c.args.tables.now) (length c.in_ok-schema.schema.tables) c.load_all.new.database.tables
     (ap (λ (s : Stored). s.schema) c.in_ok-database.ensures) (c.requires c.in_ok-schema.schema c.in_ok-schema.ensures.exact) c.in_ok-load_all.ensures.told)
     (c.in_ok-load_all.ensures.schema ∙ ap (λ (s : Stored). s.schema) c.in_ok-database.ensures)
@@ -76,9 +76,9 @@ returns-in_err-write_answer-clause-device g c =
     of_fault c.from_residual-in_err-write_answer.result (of_answer c.in_err-write_answer.field-0.0) _ (p.1 ∙ ap Err p.2) (answer_device _ _ _ _ c.in_err-write_answer.field-0.0 c.in_ok-load_all.ensures.quiet c.in_err-write_answer.ensures.device c.in_err-write_answer.ensures.memory)
 
 pub returns-clause-answered : goal.returns-clause-answered
-returns-clause-answered g c = with_answer c.args.schema.now c.args.text.now (map g.R.TableInput.remaining c.args.tables.now) c.in_ok-schema.schema c.in_ok-query.query c.load_all.new.database c.in_ok-certificate.certificate c.in_ok-checked.checked
+returns-clause-answered g c = with_plan cut c.args.schema.now c.args.text.now (map g.R.TableInput.remaining c.args.tables.now) c.in_ok-schema.schema c.in_ok-query.query c.load_all.new.database c.in_ok-certificate.certificate c.in_ok-checked.checked
     (Appends (g.W.AnswerOutput.contents c.args.out.now) (g.W.AnswerOutput.contents c.write_answer.new.out))
-    (record { is_schema = c.in_ok-schema.ensures.exact; tree = c.in_ok-ast.ast; reads = c.in_ok-ast.ensures.found; binds = c.in_ok-query.ensures.exact })
+    (record { is_schema = c.in_ok-schema.ensures.exact; is_query = (c.in_ok-ast.ast, c.in_ok-ast.ensures.found, c.in_ok-query.ensures.exact) })
     (told_all c.in_ok-database.database.schema c.in_ok-schema.schema (map g.R.TableInput.remaining c.args.tables.now) (length c.args.tables.now) (length c.in_ok-schema.schema.tables) c.load_all.new.database.tables
     (ap (λ (s : Stored). s.schema) c.in_ok-database.ensures) (c.requires c.in_ok-schema.schema c.in_ok-schema.ensures.exact) c.in_ok-load_all.ensures.told)
     (c.in_ok-load_all.ensures.schema ∙ ap (λ (s : Stored). s.schema) c.in_ok-database.ensures)
