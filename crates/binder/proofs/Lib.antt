@@ -10,6 +10,7 @@ pub mod KeyOrder
 pub mod Obeys
 pub mod OutputLoops
 pub mod SameCounts
+pub mod SelectExits
 pub mod SelectLoops
 pub mod SelectParts
 pub mod Sources
