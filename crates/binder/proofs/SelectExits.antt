@@ -1,5 +1,5 @@
 -- Each exit of IN, JOIN and SELECT, by the steps that were taken before it.
-use Rattle.std.proofs.Common.{◌≡◌, refl, ℕ, Bool, List, ◌∷◌, Option, map, Result, Ok, Err, ap, subst, sym, ◌∙◌, option_map}
+use Rattle.std.proofs.Common.{◌≡◌, refl, ℕ, Bool, List, ◌∷◌, Option, map, Result, Ok, subst, option_map}
 use Rattle.values.specs.declared.fault.Fault.{Fault}
 use Rattle.values.specs.Faults.{◌>>=◌, Fails, Gives}
 use Rattle.schema.specs.declared.schema.Schema.{Schema}
@@ -71,9 +71,9 @@ module _ (S : Schema) (q : Select) (outer : Scopes) (n m : Numbered) (chains : L
 
   with_from : (sources : FromSoFar) → from_in (map (chain_in S) chains) outer m ≡ Ok sources → select_in S q outer n
       ≡ (filter_in (option_map (condition_in S) (out-Select q).filter) (sources.1 ∷ outer) sources.2
-          >>= λ filter. each (key_in (sources.1 ∷ outer)) group
-          >>= λ keys. outputs_in sources.1 (sources.1 ∷ outer) (is_grouped keys (out-Select q).list) keys n.next_aggregate (out-Select q).list
-          >>= λ outputs. Ok (record { block = block_of (out-Select q).distinct sources.0 filter.0 (is_grouped keys (out-Select q).list) keys outputs; outputs = outputs; scope = sources.1 }, filter.1))
+      >>= λ filter. each (key_in (sources.1 ∷ outer)) group
+      >>= λ keys. outputs_in sources.1 (sources.1 ∷ outer) (is_grouped keys (out-Select q).list) keys n.next_aggregate (out-Select q).list
+      >>= λ outputs. Ok (record { block = block_of (out-Select q).distinct sources.0 filter.0 (is_grouped keys (out-Select q).list) keys outputs; outputs = outputs; scope = sources.1 }, filter.1))
   with_from sources found = handed _ _ _ _ (select_at S q outer n m chains group counted at by) found
 
   pub filter_fails : (e : Fault BindRefusal) (sources : FromSoFar) → from_in (map (chain_in S) chains) outer m ≡ Ok sources
@@ -83,8 +83,8 @@ module _ (S : Schema) (q : Select) (outer : Scopes) (n m : Numbered) (chains : L
   with_filter : (sources : FromSoFar) (filter : Option Cond × Numbered) → from_in (map (chain_in S) chains) outer m ≡ Ok sources
       → filter_in (option_map (condition_in S) (out-Select q).filter) (sources.1 ∷ outer) sources.2 ≡ Ok filter → select_in S q outer n
       ≡ (each (key_in (sources.1 ∷ outer)) group
-          >>= λ keys. outputs_in sources.1 (sources.1 ∷ outer) (is_grouped keys (out-Select q).list) keys n.next_aggregate (out-Select q).list
-          >>= λ outputs. Ok (record { block = block_of (out-Select q).distinct sources.0 filter.0 (is_grouped keys (out-Select q).list) keys outputs; outputs = outputs; scope = sources.1 }, filter.1))
+      >>= λ keys. outputs_in sources.1 (sources.1 ∷ outer) (is_grouped keys (out-Select q).list) keys n.next_aggregate (out-Select q).list
+      >>= λ outputs. Ok (record { block = block_of (out-Select q).distinct sources.0 filter.0 (is_grouped keys (out-Select q).list) keys outputs; outputs = outputs; scope = sources.1 }, filter.1))
   with_filter sources filter found bound = handed _ _ _ _ (with_from sources found) bound
 
   pub keys_fail : (e : Fault BindRefusal) (sources : FromSoFar) (filter : Option Cond × Numbered) → from_in (map (chain_in S) chains) outer m ≡ Ok sources
@@ -104,11 +104,14 @@ module _ (S : Schema) (q : Select) (outer : Scopes) (n m : Numbered) (chains : L
       → filter_in (option_map (condition_in S) (out-Select q).filter) (sources.1 ∷ outer) sources.2 ≡ Ok filter
       → each (key_in (sources.1 ∷ outer)) group ≡ Ok keys → grouped ≡ is_grouped keys (out-Select q).list
       → outputs_in sources.1 (sources.1 ∷ outer) grouped keys n.next_aggregate (out-Select q).list ≡ Ok outputs → items ≡ map (λ o. o.item) outputs
-      → select_in S q outer n ≡ Ok (record {
-        block = roll-Block (record { from = sources.0; filter = filter.0; grouped = grouped; keys = keys; items = items; distinct = (out-Select q).distinct });
-        outputs = outputs;
-        scope = sources.1;
-      }, filter.1)
+      → select_in S q outer n ≡ Ok (
+        record {
+          block = roll-Block (record { from = sources.0; filter = filter.0; grouped = grouped; keys = keys; items = items; distinct = (out-Select q).distinct });
+          outputs = outputs;
+          scope = sources.1;
+        },
+        filter.1,
+      )
   select_is sources filter keys grouped outputs items found bound kept by_group shown named =
       rw (by_group, named) (handed _ _ _ _ (handed _ _ _ _ (with_filter sources filter found bound) kept)
       (subst (λ by. outputs_in sources.1 (sources.1 ∷ outer) by keys n.next_aggregate (out-Select q).list ≡ Ok outputs) by_group shown))

@@ -1,17 +1,14 @@
-use Rattle.std.proofs.Common.{◌≡◌, refl, ◌∙◌, ap, sym, subst, ℕ, ◌-◌, Bool, List, ◌∷◌, length, take, drop, map, Result, Ok, arith}
+use Rattle.std.proofs.Common.{◌≡◌, refl, ◌∙◌, ap, sym, ◌-◌, length, take, drop, map, Ok, arith}
 use Rattle.std.proofs.lemmas.Result.{err_from_is_err_and}
-use Rattle.values.specs.Faults.{Fails}
 use Rattle.sql_parse.specs.declared.statement.Chain.{out-Chain}
-use Rattle.sql_parse.specs.declared.statement.Join.{out-Join}
 use Rattle.sql_parse.specs.declared.statement.Select.{out-Select}
 use Rattle.binder.specs.declared.query.Cond.{Cond}
 use Rattle.binder.specs.declared.query.Cond.TheVariants as cond
 use Rattle.binder.specs.declared.query.Block.{Block}
 use Rattle.binder.specs.declared.query.From.{From}
 use Rattle.binder.specs.declared.output.Output.{Output}
-use Rattle.binder.specs.declared.fault.BindRefusal.{BindRefusal}
 use Rattle.binder.specs.Numbers.{with_aggregates}
-use Rattle.binder.specs.Outputs.{is_grouped, outputs_in}
+use Rattle.binder.specs.Outputs.{is_grouped}
 use Rattle.binder.specs.Scopes.{Scope}
 use Rattle.binder.specs.Chained.{scopes_of}
 use Rattle.binder.specs.Selects as spec
