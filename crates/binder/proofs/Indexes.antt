@@ -1,7 +1,6 @@
 -- Scopes by hash: one more table keeps the maps in step with the list.
-use Rattle.std.proofs.Common.{◌⊎◌, inl, inr, ◌≡◌, refl, ℕ, ◌+◌, List, [], ◌∷◌, ◌++◌, length, Bool, true, false, ◌||◌, cond, Option, Some, None, option_map, is_some, bytes_eq, ap, sym, ◌∙◌, arith, append_assoc, ◌<◌, drop, get_or, if◌then◌else◌, Result, Ok, Err}
+use Rattle.std.proofs.Common.{inl, inr, ◌≡◌, refl, ℕ, ◌+◌, List, [], ◌∷◌, ◌++◌, length, Bool, true, false, ◌||◌, Option, Some, None, option_map, is_some, bytes_eq, ap, sym, ◌∙◌, arith, append_assoc, ◌<◌, drop, get_or, if◌then◌else◌, Result, Ok, Err}
 use Rattle.std.proofs.lemmas.List.{append-nil}
-use Rattle.std.proofs.lemmas.Map.Text.{hash_map_updates_str}
 use Rattle.std.proofs.lemmas.Slice.Eq.{bytes_eq-Decides}
 use Rattle.std.specs.Borrow.{Bor}
 use Rattle.std.specs.HashMap as hash
@@ -20,6 +19,7 @@ use Rattle.binder.specs.Binding.{find_column, refusal}
 use Rattle.binder.specs.Scopes.{Known, Scope, is_taken, columns_named, named_in, occurrence_named, only, at_level, column_of}
 use Rattle.binder.specs.Lent.{IsIndexed, width, placed_of, meaning_of, one_more, with_more}
 use Rattle.binder.proofs.Fronts.{front_of}
+use Rattle.binder.proofs.NameKeys.{after-insert}
 
 pub width-append : (a b : Scope) → width (a ++ b) ≡ width a + width b
 width-append [] b = omega arith
@@ -122,24 +122,6 @@ column-none table name level n entry h = rw (find-from n entry.columns name.text
 pub column-some : (table name : Name) (level n place : ℕ) (entry : Table) (c : entries.Column) → find_column 0 entry.columns name.text ≡ Some (place, c)
     → column_of table name level (n, entry) ≡ Ok (at_level level (n + place, c.kind))
 column-some table name level n place entry c h = rw (find-from n entry.columns name.text, h) refl
-
--- ---- keys that are names
-
--- what a map has at a name after one has got a value
-after-insert : {X S : Type 0} (name : List ℕ) (m n : HashMap (Bor (List ℕ)) X S) (x : X) → hash.UpdatesBy (λ a b. bytes_eq a.now b.now) (λ k. bytes_eq name k.now) m n (Some x)
-    → (q : List ℕ) → ((q ≡ name) × (hash.get_by (λ k. bytes_eq q k.now) n ≡ Some x) × (bytes_eq q name ≡ true))
-    ⊎ ((hash.get_by (λ k. bytes_eq q k.now) n ≡ hash.get_by (λ k. bytes_eq q k.now) m) × (bytes_eq q name ≡ false))
-after-insert name m n x up q = step (bytes_eq name q) refl (bytes_eq q name) refl
-  where
-    now : (b : Bool) → bytes_eq name q ≡ b → hash.get_by (λ k. bytes_eq q k.now) n ≡ cond b (Some x) (hash.get_by (λ k. bytes_eq q k.now) m)
-    now b e = hash_map_updates_str name m n (Some x) up q ∙ ap (λ b. cond b (Some x) (hash.get_by (λ k. bytes_eq q k.now) m)) e
-
-    step : (a : Bool) → bytes_eq name q ≡ a → (b : Bool) → bytes_eq q name ≡ b → ((q ≡ name) × (hash.get_by (λ k. bytes_eq q k.now) n ≡ Some x) × (bytes_eq q name ≡ true))
-        ⊎ ((hash.get_by (λ k. bytes_eq q k.now) n ≡ hash.get_by (λ k. bytes_eq q k.now) m) × (bytes_eq q name ≡ false))
-    step true e true f = inl ((bytes_eq-Decides q name).0 f, now true e, f)
-    step true e false f = let t : bytes_eq q name ≡ true = (bytes_eq-Decides q name).1 (sym ((bytes_eq-Decides name q).0 e)) in cc (t, f)
-    step false e true f = let t : bytes_eq name q ≡ true = (bytes_eq-Decides name q).1 (sym ((bytes_eq-Decides q name).0 f)) in cc (t, e)
-    step false e false f = inr (now false e, f)
 
 -- ---- one more column
 

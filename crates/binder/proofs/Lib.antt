@@ -7,6 +7,8 @@ pub mod Fronts
 pub mod Groups
 pub mod Indexes
 pub mod KeyOrder
+pub mod NameKeys
+pub mod Naming
 pub mod Obeys
 pub mod OutputLoops
 pub mod SameCounts

@@ -8,6 +8,7 @@ pub mod Extents
 pub mod Laws
 pub mod Lent
 pub mod Meaning
+pub mod Named
 pub mod Numbers
 pub mod Ordering
 pub mod Outputs

@@ -5,6 +5,7 @@ pub mod binding;
 mod extent;
 pub mod fault;
 pub mod laws;
+mod named;
 mod ordering;
 mod output;
 mod places;

@@ -3,7 +3,7 @@ use Rattle.values.specs.Faults.{◌>>=◌}
 use Rattle.schema.specs.Each.{each}
 use Rattle.binder.specs.Ordering.{sort_key_in, without_repeats}
 use Rattle.binder.proofs.KeyOrder.{finished}
-use Rattle.binder.proofs.ordering.order.Given as goal
+use Rattle.binder.proofs.ordering.order_over.Given as goal
 
 abbrev pub invariant-loop-key : goal.invariant-loop-key
 invariant-loop-key l = record {

@@ -1,12 +1,12 @@
-use Rattle.std.proofs.Common.{◌≡◌, ◌∙◌, sym, ap, [], ◌∷◌, ◌++◌, map, Bool, true, false, refl, arith, Ok}
+use Rattle.std.proofs.Common.{◌≡◌, ◌∙◌, sym, [], ◌∷◌, true, false, refl, arith, Ok}
 use Rattle.std.proofs.lemmas.List.{map-append}
 use Rattle.std.proofs.lemmas.Result.{err_from_is_err_and}
 use Rattle.values.specs.Faults.{◌>>=◌}
 use Rattle.schema.specs.Each.{each}
 use Rattle.binder.specs.Ordering.{sort_key_in, without_repeats, order_in}
 use Rattle.binder.proofs.KeyOrder.{is_in, among-in, keys_begin, keys_keep, keys_add, keys_end, keys_done}
-use Rattle.binder.proofs.ordering.order.Goals as goal
-use Rattle.binder.proofs.ordering.order.Goals.{then-not-has+in_ok-known+in_ok-push, else-not-has}
+use Rattle.binder.proofs.ordering.order_over.Goals as goal
+use Rattle.binder.proofs.ordering.order_over.Goals.{then-not-has+in_ok-known+in_ok-push, else-not-has}
 
 pub loop-key-init : goal.loop-key-init
 loop-key-init c = record {
