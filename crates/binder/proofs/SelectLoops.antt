@@ -1,6 +1,5 @@
 -- Conditions and chains one after the other, as a loop goes over them.
-use Rattle.std.proofs.Common.{◌≡◌, refl, ℕ, suc, ◌+◌, ◌<◌, List, ◌∷◌, ◌++◌, length, drop, get_or, map, Result, Ok, Err, ap, sym, ◌∙◌, arith}
-use Rattle.std.proofs.Math.Seq.{drop-cons}
+use Rattle.std.proofs.Common.{◌≡◌, refl, ℕ, ◌+◌, ◌<◌, List, ◌++◌, length, drop, get_or, map, Result, Ok, Err, sym, ◌∙◌}
 use Rattle.values.specs.declared.fault.Fault.{Fault}
 use Rattle.values.specs.declared.fault.Fault.TheVariants as fault
 use Rattle.values.specs.Faults.{◌>>=◌, Fails}
@@ -11,15 +10,11 @@ use Rattle.binder.specs.declared.tables.Numbered.{Numbered}
 use Rattle.binder.specs.declared.fault.BindRefusal.{BindRefusal}
 use Rattle.binder.specs.Scopes.{Scope, Scopes}
 use Rattle.binder.specs.Selects.{ChainBinding, FromSoFar, commas}
+use Rattle.binder.proofs.Fronts.{front_of}
 
 -- what was bound before, and what is bound still
 abbrev pub in_front : List Cond → Result (List Cond × Numbered) BindRefusal → Result (List Cond × Numbered) BindRefusal
 in_front front read = read >>= λ x. Ok (front ++ x.0, x.1)
-
-front_of : {A : Type 0} (xs : List A) (i : ℕ) (x : A) → i < length xs → x ≡ get_or xs i x → drop i xs ≡ x ∷ drop (i + 1) xs
-front_of xs i x lt at =
-    let k : suc i ≡ i + 1 = omega arith in
-    drop-cons xs i x lt ∙ ap (λ y. y ∷ drop (suc i) xs) (sym at) ∙ ap (λ j. x ∷ drop j xs) k
 
 pub chains_on : {A : Type 0} (f : A → ChainBinding) (outer : Scopes) (xs : List A) (i : ℕ) (x : A) (left right : From) (scope tables : Scope) (n m : Numbered) (total : Result FromSoFar BindRefusal)
     → i < length xs → x ≡ get_or xs i x → f x outer scope n ≡ Ok (right, tables, m) → commas (map f (drop i xs)) outer (left, scope, n) ≡ total
