@@ -12,6 +12,7 @@ pub mod Naming
 pub mod Obeys
 pub mod OutputLoops
 pub mod SameCounts
+pub mod SelectExits
 pub mod SelectLoops
 pub mod SelectParts
 pub mod Sources

@@ -1,4 +1,4 @@
--- What becomes of each form of condition, join, chain and SELECT: one equation for each.
+-- What becomes of each form of condition, join, chain and SELECT: one equation for each, of parts that are told by equations.
 use Rattle.std.proofs.Common.{◌≡◌, refl, ℕ, ◌<◌, ◌≤◌, Bool, true, false, ◌||◌, nat_lt, List, [], ◌∷◌, length, map, Option, Some, None, Ok, ap, sym, ◌∙◌, option_map, arith}
 use Rattle.std.proofs.lemmas.Bool.Decides.{nat_tests}
 use Rattle.values.specs.Faults.{◌>>=◌}
@@ -49,80 +49,43 @@ condition_at S x c is scopes n = ap (λ y. condition_in S y scopes n) (sym is) �
 
 -- ---- conditions
 
-pub condition-Compare : (S : Schema) (a : tree.Term) (op : Operator) (b : tree.Term) (scopes : Scopes) (n : Numbered)
-    → condition_in S (Compare a op b) scopes n ≡ (comparison_in scopes a op b >>= λ bound. Ok (bound, n))
-condition-Compare S a op b = condition_at S (Condition-F.Compare a op b) _ (rolls-Compare a op b)
-
-pub condition-IsNull : (S : Schema) (a : tree.Term) (scopes : Scopes) (n : Numbered)
-    → condition_in S (IsNull a) scopes n ≡ (term_in scopes a >>= λ tested. Ok (cond.IsNull tested.term, n))
-condition-IsNull S a = condition_at S (Condition-F.IsNull a) _ (rolls-IsNull a)
-
-pub condition-Not : (S : Schema) (c : Condition) (scopes : Scopes) (n : Numbered)
-    → condition_in S (Not c) scopes n ≡ (condition_in S c scopes n >>= λ part. Ok (cond.Not part.0, part.1))
-condition-Not S c = condition_at S (Condition-F.Not c) _ (rolls-Not c)
-
-pub condition-And : (S : Schema) (cs : List Condition) (scopes : Scopes) (n : Numbered)
-    → condition_in S (And cs) scopes n ≡ (all_in (map (condition_in S) cs) scopes n >>= λ parts. Ok (cond.And parts.0, parts.1))
-condition-And S cs = condition_at S (Condition-F.And cs) _ (rolls-And cs)
-
-pub condition-Or : (S : Schema) (cs : List Condition) (scopes : Scopes) (n : Numbered)
-    → condition_in S (Or cs) scopes n ≡ (all_in (map (condition_in S) cs) scopes n >>= λ parts. Ok (cond.Or parts.0, parts.1))
-condition-Or S cs = condition_at S (Condition-F.Or cs) _ (rolls-Or cs)
-
-pub condition-Exists : (S : Schema) (q : Select) (scopes : Scopes) (n : Numbered)
-    → condition_in S (Exists q) scopes n ≡ (select_in S q scopes n >>= λ query. Ok (cond.Exists query.0.block, query.1))
-condition-Exists S q = condition_at S (Condition-F.Exists q) _ (rolls-Exists q)
-
-pub condition-In : (S : Schema) (a : tree.Term) (at : ℕ) (q : Select) (scopes : Scopes) (n : Numbered)
-    → condition_in S (In a at q) scopes n
-    ≡ (term_in scopes a >>= λ left. select_in S q scopes n >>= λ query. membership_in left at query.0 >>= λ bound. Ok (bound, query.1))
-condition-In S a at q = condition_at S (Condition-F.In a at q) _ (rolls-In a at q)
-
--- ---- the same, where the parts are told by equations
-
 pub compared : (S : Schema) (c : Condition) (a : tree.Term) (op : Operator) (b : tree.Term) (scopes : Scopes) (n : Numbered) → c ≡ Compare a op b
     → condition_in S c scopes n ≡ (comparison_in scopes a op b >>= λ bound. Ok (bound, n))
-compared S c a op b scopes n is = ap (λ y. condition_in S y scopes n) is ∙ condition-Compare S a op b scopes n
+compared S c a op b scopes n is = condition_at S (Condition-F.Compare a op b) c (rolls-Compare a op b ∙ sym is) scopes n
 
 pub null_tested : (S : Schema) (c : Condition) (a : tree.Term) (scopes : Scopes) (n : Numbered) → c ≡ IsNull a
     → condition_in S c scopes n ≡ (term_in scopes a >>= λ tested. Ok (cond.IsNull tested.term, n))
-null_tested S c a scopes n is = ap (λ y. condition_in S y scopes n) is ∙ condition-IsNull S a scopes n
+null_tested S c a scopes n is = condition_at S (Condition-F.IsNull a) c (rolls-IsNull a ∙ sym is) scopes n
 
 pub negated : (S : Schema) (c d lent : Condition) (scopes : Scopes) (n : Numbered) → c ≡ Not d → lent ≡ d
     → condition_in S c scopes n ≡ (condition_in S lent scopes n >>= λ part. Ok (cond.Not part.0, part.1))
-negated S c d lent scopes n is at =
-    ap (λ y. condition_in S y scopes n) is ∙ condition-Not S d scopes n ∙ ap (λ y. condition_in S y scopes n >>= λ part. Ok (cond.Not part.0, part.1)) (sym at)
+negated S c d lent scopes n is at = rw at (condition_at S (Condition-F.Not d) c (rolls-Not d ∙ sym is) scopes n)
 
 pub conjoined : (S : Schema) (c : Condition) (ds lent : List Condition) (scopes : Scopes) (n : Numbered) → c ≡ And ds → lent ≡ ds
     → condition_in S c scopes n ≡ (all_in (map (condition_in S) lent) scopes n >>= λ parts. Ok (cond.And parts.0, parts.1))
-conjoined S c ds lent scopes n is at =
-    ap (λ y. condition_in S y scopes n) is ∙ condition-And S ds scopes n ∙ ap (λ ys. all_in (map (condition_in S) ys) scopes n >>= λ parts. Ok (cond.And parts.0, parts.1)) (sym at)
+conjoined S c ds lent scopes n is at = rw at (condition_at S (Condition-F.And ds) c (rolls-And ds ∙ sym is) scopes n)
 
 pub disjoined : (S : Schema) (c : Condition) (ds lent : List Condition) (scopes : Scopes) (n : Numbered) → c ≡ Or ds → lent ≡ ds
     → condition_in S c scopes n ≡ (all_in (map (condition_in S) lent) scopes n >>= λ parts. Ok (cond.Or parts.0, parts.1))
-disjoined S c ds lent scopes n is at =
-    ap (λ y. condition_in S y scopes n) is ∙ condition-Or S ds scopes n ∙ ap (λ ys. all_in (map (condition_in S) ys) scopes n >>= λ parts. Ok (cond.Or parts.0, parts.1)) (sym at)
+disjoined S c ds lent scopes n is at = rw at (condition_at S (Condition-F.Or ds) c (rolls-Or ds ∙ sym is) scopes n)
 
 pub existing : (S : Schema) (c : Condition) (q lent : Select) (scopes : Scopes) (n : Numbered) → c ≡ Exists q → lent ≡ q
     → condition_in S c scopes n ≡ (select_in S lent scopes n >>= λ query. Ok (cond.Exists query.0.block, query.1))
-existing S c q lent scopes n is at =
-    ap (λ y. condition_in S y scopes n) is ∙ condition-Exists S q scopes n ∙ ap (λ y. select_in S y scopes n >>= λ query. Ok (cond.Exists query.0.block, query.1)) (sym at)
+existing S c q lent scopes n is at = rw at (condition_at S (Condition-F.Exists q) c (rolls-Exists q ∙ sym is) scopes n)
 
-pub contained : (S : Schema) (c : Condition) (a : tree.Term) (at : ℕ) (q lent : Select) (scopes : Scopes) (n : Numbered) → c ≡ In a at q → lent ≡ q
-    → condition_in S c scopes n ≡ (term_in scopes a >>= λ left. select_in S lent scopes n >>= λ query. membership_in left at query.0 >>= λ bound. Ok (bound, query.1))
-contained S c a at q lent scopes n is same =
-    ap (λ y. condition_in S y scopes n) is ∙ condition-In S a at q scopes n
-    ∙ ap (λ y. term_in scopes a >>= λ left. select_in S y scopes n >>= λ query. membership_in left at query.0 >>= λ bound. Ok (bound, query.1)) (sym same)
+pub contained : (S : Schema) (c : Condition) (a : tree.Term) (place : ℕ) (q lent : Select) (scopes : Scopes) (n : Numbered) → c ≡ In a place q → lent ≡ q
+    → condition_in S c scopes n ≡ (term_in scopes a >>= λ left. select_in S lent scopes n >>= λ query. membership_in left place query.0 >>= λ bound. Ok (bound, query.1))
+contained S c a place q lent scopes n is at = rw at (condition_at S (Condition-F.In a place q) c (rolls-In a place q ∙ sym is) scopes n)
 
 -- ---- FROM
 
-pub join-parts : (S : Schema) (j : Join) (outer : Scopes) (before : Scope) (left : FromSoFar) → join_in S j outer before left
-    ≡ (enter S before left.1 (out-Join j).table left.2 >>= λ right. condition_in S (out-Join j).condition (right.1 ∷ outer) right.2 >>= λ on. Ok (joined (out-Join j).kind left.0 right.0 on.0, right.1, on.1))
-join-parts S j outer before left = ap (λ m. m outer before left) (join_roll S j)
+pub join_at : (S : Schema) (j : Join) (outer : Scopes) (before : Scope) (left : FromSoFar) (lent : Condition) → lent ≡ (out-Join j).condition → join_in S j outer before left
+    ≡ (enter S before left.1 (out-Join j).table left.2 >>= λ right. condition_in S lent (right.1 ∷ outer) right.2 >>= λ on. Ok (joined (out-Join j).kind left.0 right.0 on.0, right.1, on.1))
+join_at S j outer before left lent at = rw at (ap (λ m. m outer before left) (join_roll S j))
 
-pub chain-parts : (S : Schema) (c : Chain) (outer : Scopes) (before : Scope) (n : Numbered) → chain_in S c outer before n
-    ≡ (enter S before [] (out-Chain c).table n >>= λ first. through (map (join_in S) (out-Chain c).joins) outer before (from.Table first.0, first.1, first.2))
-chain-parts S c outer before n = ap (λ m. m outer before n) (chain_roll S c)
+pub chain_at : (S : Schema) (c : Chain) (outer : Scopes) (before : Scope) (n : Numbered) (none : Scope) (lent : List Join) → none ≡ [] → lent ≡ (out-Chain c).joins → chain_in S c outer before n
+    ≡ (enter S before none (out-Chain c).table n >>= λ first. through (map (join_in S) lent) outer before (from.Table first.0, first.1, first.2))
+chain_at S c outer before n none lent empty at = rw (empty, at) (ap (λ m. m outer before n) (chain_roll S c))
 
 -- ---- SELECT
 
@@ -136,24 +99,6 @@ select_layers : (S : Schema) (x : Select-F Condition Chain Join Select) (o : Opt
 select_layers S x None = refl
 select_layers S x (Some c) = refl
 
-pub select-parts : (S : Schema) (q : Select) (outer : Scopes) (n : Numbered) → select_in S q outer n
-    ≡ (from_in (map (chain_in S) (out-Select q).from) outer (with_aggregates n (aggregates (out-Select q).list))
-    >>= λ sources. filter_in (option_map (condition_in S) (out-Select q).filter) (sources.1 ∷ outer) sources.2
-    >>= λ filter. each (key_in (sources.1 ∷ outer)) (out-Select q).group
-    >>= λ keys. outputs_in sources.1 (sources.1 ∷ outer) (is_grouped keys (out-Select q).list) keys n.next_aggregate (out-Select q).list
-    >>= λ outputs. Ok (record { block = block_of (out-Select q).distinct sources.0 filter.0 (is_grouped keys (out-Select q).list) keys outputs; outputs = outputs; scope = sources.1 }, filter.1))
-select-parts S q outer n = ap (λ m. m outer n) (select_roll S q ∙ select_layers S (out-Select q) (out-Select q).filter)
-
--- ---- the same, where the parts are told by equations
-
-pub join_at : (S : Schema) (j : Join) (outer : Scopes) (before : Scope) (left : FromSoFar) (lent : Condition) → lent ≡ (out-Join j).condition → join_in S j outer before left
-    ≡ (enter S before left.1 (out-Join j).table left.2 >>= λ right. condition_in S lent (right.1 ∷ outer) right.2 >>= λ on. Ok (joined (out-Join j).kind left.0 right.0 on.0, right.1, on.1))
-join_at S j outer before left lent at = rw at (join-parts S j outer before left)
-
-pub chain_at : (S : Schema) (c : Chain) (outer : Scopes) (before : Scope) (n : Numbered) (none : Scope) (lent : List Join) → none ≡ [] → lent ≡ (out-Chain c).joins → chain_in S c outer before n
-    ≡ (enter S before none (out-Chain c).table n >>= λ first. through (map (join_in S) lent) outer before (from.Table first.0, first.1, first.2))
-chain_at S c outer before n none lent empty at = rw (empty, at) (chain-parts S c outer before n)
-
 pub select_at : (S : Schema) (q : Select) (outer : Scopes) (n m : Numbered) (chains : List Chain) (group : List ColumnName) → m ≡ with_aggregates n (aggregates (out-Select q).list) → chains ≡ (out-Select q).from → group ≡ (out-Select q).group
     → select_in S q outer n
     ≡ (from_in (map (chain_in S) chains) outer m
@@ -161,7 +106,7 @@ pub select_at : (S : Schema) (q : Select) (outer : Scopes) (n m : Numbered) (cha
     >>= λ filter. each (key_in (sources.1 ∷ outer)) group
     >>= λ keys. outputs_in sources.1 (sources.1 ∷ outer) (is_grouped keys (out-Select q).list) keys n.next_aggregate (out-Select q).list
     >>= λ outputs. Ok (record { block = block_of (out-Select q).distinct sources.0 filter.0 (is_grouped keys (out-Select q).list) keys outputs; outputs = outputs; scope = sources.1 }, filter.1))
-select_at S q outer n m chains group counted at by = rw (counted, at, by) (select-parts S q outer n)
+select_at S q outer n m chains group counted at by = rw (counted, at, by) (ap (λ f. f outer n) (select_roll S q ∙ select_layers S (out-Select q) (out-Select q).filter))
 
 -- ---- groups
 
