@@ -10,11 +10,13 @@ pub mod Growth
 pub mod Loops
 pub mod Meaning
 pub mod Ordered
+pub mod Places
 pub mod Plain
 pub mod Puts
 pub mod Same
 pub mod Sets
 pub mod Shown
 pub mod Simple
+pub mod TextEquations
 pub mod Truths
 pub mod Values

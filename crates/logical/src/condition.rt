@@ -57,6 +57,12 @@ impl Conjuncts {
         Ok(Conjuncts { conditions })
     }
 
+    pub fn from_items(conditions: Items<Condition>) -> Conjuncts
+        ensures { result ≡ conditions }
+    {
+        Conjuncts { conditions }
+    }
+
     pub fn as_slice(&self) -> &[Condition]
         ensures { result.now ≡ self.now }
     {

@@ -7,6 +7,8 @@
 
 pub mod columns;
 pub mod condition;
+mod condition_text;
+mod conjunct_order;
 pub mod expr;
 pub mod formed;
 pub mod framing;
