@@ -49,6 +49,14 @@ impl Model for Conjuncts {
 }
 
 impl Conjuncts {
+    pub fn none(alloc: Global) -> Conjuncts
+        ensures { result ≡ [] }
+    {
+        Conjuncts {
+            conditions: Items::new(alloc),
+        }
+    }
+
     pub fn one(alloc: Global, condition: Condition) -> Result<Conjuncts, AllocError>
         ensures { IfOk result (λ c. c ≡ condition ∷ []) }
     {
