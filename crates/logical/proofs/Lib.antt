@@ -4,8 +4,10 @@ pub mod FrameConds
 pub mod FrameEquations
 pub mod FrameFroms
 pub mod FrameGroups
+pub mod FrameLoops
 pub mod FrameMeaning
 pub mod FrameRight
+pub mod FrameSteps
 pub mod Growth
 pub mod Loops
 pub mod Meaning

@@ -251,7 +251,7 @@ fn join_sides(
     let left = lines.last();
     lines.push(Expr::Get(occurrence.number))?;
     let right = lines.last();
-    let scope = Scope::Inner(numbers.as_slice(), outer);
+    let scope = Scope::Inner(numbers.as_slice(), &*outer);
     let on = conjuncts(alloc, uses, on, &scope, lines)?;
     Ok(JoinSides {
         numbers,
@@ -275,8 +275,9 @@ fn add_from(
 {
     match from {
         From::Table(occurrence) => {
+            let numbers = use_numbers(alloc, uses, *occurrence)?;
             lines.push(Expr::Get(occurrence.number))?;
-            use_numbers(alloc, uses, *occurrence)
+            Ok(numbers)
         }
         From::Join(left, occurrence, on) => {
             let numbers = add_from(alloc, uses, left.get(), outer, lines)?;
@@ -371,7 +372,7 @@ fn add_block(
     ensures lines { OnOk result (lines.new ≡ (spec.block_frame uses.now block.now).lines (scope_of outer.now) lines.old) }
 {
     let numbers = add_from(alloc, uses, &block.from, outer, lines)?;
-    let scope = Scope::Inner(numbers.as_slice(), outer);
+    let scope = Scope::Inner(numbers.as_slice(), &*outer);
     add_filter(alloc, uses, &block.filter, &scope, lines)?;
     add_group(alloc, numbers.as_slice(), block, lines)?;
     add_end(alloc, &scope, block, lines)?;
