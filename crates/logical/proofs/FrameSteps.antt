@@ -1,23 +1,24 @@
 -- The frame of each form of condition, FROM and block, by the steps that compute it.
-use Rattle.std.proofs.Common.{◌≡◌, refl, ap, sym, subst, ◌∙◌, ℕ, Bool, List, [], ◌∷◌, ◌++◌, length, map, option_map}
+use Rattle.std.proofs.Common.{◌≡◌, refl, ap, sym, ◌∙◌, ℕ, List, [], ◌∷◌, ◌++◌, length, map, reverse, option_map}
 use Rattle.values.specs.declared.truth.Comparison.{Comparison}
 use Rattle.binder.specs.declared.query.Term as named
 use Rattle.binder.specs.declared.query.Occurrence.{Occurrence}
 use Rattle.binder.specs.declared.query.TableUse.{TableUse}
-use Rattle.binder.specs.declared.query.Cond.{Cond, roll-Cond, out-Cond}
+use Rattle.binder.specs.declared.query.Cond.{Cond, roll-Cond}
 use Rattle.binder.specs.declared.query.Cond.TheVariants as cond
-use Rattle.binder.specs.declared.query.Cond.TheOpen.{Cond-F, From-F, Block-F}
+use Rattle.binder.specs.declared.query.Cond.TheOpen.{Cond-F}
 use Rattle.binder.specs.declared.query.From.{From}
 use Rattle.binder.specs.declared.query.From.TheVariants as from
 use Rattle.binder.specs.declared.query.Block.{Block, out-Block}
 use Rattle.binder.specs.declared.query.Item.{Item}
+use Rattle.binder.specs.declared.query.Query.{Query}
 use Rattle.binder.specs.Bound.{Scope, use_numbers}
 use Rattle.logical.specs.declared.condition.Term.{Term}
 use Rattle.logical.specs.declared.condition.Condition.{Condition}
 use Rattle.logical.specs.declared.condition.Condition.TheVariants.{Compare, IsNull, Not, And, Or, Exists, In}
 use Rattle.logical.specs.declared.expr.Expr.{Expr}
 use Rattle.logical.specs.declared.expr.Expr.TheVariants.{Get, Join, LeftJoin}
-use Rattle.logical.specs.Frames.{CondLines, AllLines, FromFrame, BlockFrame, cond_frame, from_frame, block_frame, cond_frame_layer, from_frame_layer, all_frames, alone, numbered, last, first_shown, ordered, on_lines, join_frame, item_number, where_lines, group_lines, keep_lines, distinct_lines}
+use Rattle.logical.specs.Frames.{CondLines, AllLines, FromFrame, cond_frame, from_frame, block_frame, all_frames, alone, numbered, last, first_shown, ordered, on_lines, join_frame, item_number, where_lines, group_lines, keep_lines, distinct_lines, query_frame}
 use Rattle.logical.proofs.FrameEquations.{frame-Compare, frame-IsNull, frame-Not, frame-And, frame-Or, frame-Exists, frame-In, frame-Table, frame-Join, frame-LeftJoin, frame-Comma, frame-Block}
 
 -- ---- conditions
@@ -137,3 +138,9 @@ module _ (uses : List TableUse) (scope : Scope) (lines : List Expr) (q : Block) 
       → added ≡ group_lines (out-Block q).grouped grouped (out-Block q).keys (out-Block q).items filtered
       → ended ≡ distinct_lines (out-Block q).distinct (keep_lines (lent ∷ scope) (out-Block q).items added) → ended ≡ (block_frame uses q).lines scope lines
   block_lines_are numbers lent grouped sourced filtered added ended n at by s f a e = rw (e, a, f, s, by, at, n, frame-Block uses q) refl
+
+-- ---- queries
+
+pub query_is : (q : Query) (uses : List TableUse) (none lines all : List Expr) → uses ≡ q.tables → none ≡ [] → lines ≡ (block_frame uses q.block).lines [] none → all ≡ reverse lines → all ≡ query_frame q
+unfolding query_frame
+query_is q uses none lines all at empty is turned = rw (turned, is, empty, at) refl

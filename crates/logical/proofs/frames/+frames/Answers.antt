@@ -1,13 +1,11 @@
-use Rattle.std.proofs.Common.{◌≡◌, refl, ap, sym, ◌∙◌, ℕ, List, [], ◌∷◌, ◌++◌, IfOk, OnOk, subst, arith}
+use Rattle.std.proofs.Common.{ap, sym, ◌∙◌, ℕ, List, [], ◌∷◌, ◌++◌, arith}
 use Rattle.binder.specs.declared.query.Cond.{out-Cond, roll-out-Cond}
-use Rattle.binder.specs.Bound.{use_numbers}
 use Rattle.logical.specs.declared.condition.Condition.{Condition}
-use Rattle.logical.specs.declared.expr.Expr.{Expr}
 use Rattle.logical.specs.declared.expr.Expr.TheVariants.{Join}
 use Rattle.logical.specs.Frames as spec
 use Rattle.logical.specs.Lent.{scope_of}
 use Rattle.logical.proofs.FrameLoops.{conditions_on, conjuncts_on, lines_on, conditions_end, conjuncts_end, lines_end}
-use Rattle.logical.proofs.FrameSteps.{IsSourced, compare_is, null_is, not_is, and_is, or_is, exists_is, in_is, conjoined, no_and, table_is, join_is, left_join_is, comma_is, first_shown_is, block_lines_are}
+use Rattle.logical.proofs.FrameSteps.{compare_is, null_is, not_is, and_is, or_is, exists_is, in_is, conjoined, no_and, table_is, join_is, left_join_is, comma_is, first_shown_is, block_lines_are}
 use Rattle.logical.proofs.frames.+frames.Goals as goal
 
 -- ---- conditions

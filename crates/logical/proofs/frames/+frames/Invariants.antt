@@ -1,4 +1,4 @@
-use Rattle.std.proofs.Common.{◌≡◌, ◌++◌, drop, map}
+use Rattle.std.proofs.Common.{◌≡◌, ◌++◌, map}
 use Rattle.logical.specs.Frames as spec
 use Rattle.logical.specs.Lent.{scope_of}
 use Rattle.logical.proofs.FrameLoops.{from_place}
