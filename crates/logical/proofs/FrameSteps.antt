@@ -4,7 +4,7 @@ use Rattle.values.specs.declared.truth.Comparison.{Comparison}
 use Rattle.binder.specs.declared.query.Term as named
 use Rattle.binder.specs.declared.query.Occurrence.{Occurrence}
 use Rattle.binder.specs.declared.query.TableUse.{TableUse}
-use Rattle.binder.specs.declared.query.Cond.{Cond, roll-Cond}
+use Rattle.binder.specs.declared.query.Cond.{Cond, roll-Cond, out-Cond, roll-out-Cond}
 use Rattle.binder.specs.declared.query.Cond.TheVariants as cond
 use Rattle.binder.specs.declared.query.Cond.TheOpen.{Cond-F}
 use Rattle.binder.specs.declared.query.From.{From}
@@ -70,15 +70,17 @@ module _ (uses : List TableUse) (scope : Scope) (lines : List Expr) (c : Cond) w
       told _ (In (numbered scope a) (last all) shown) _ all (cond_frame uses c scope lines) (rw at (ap (λ d. cond_frame uses d scope lines) is ∙ ap (λ m. m scope lines) (frame-In uses a q)))
       (ap (λ t. In t n k) l ∙ ap (λ m. In (numbered scope a) m k) (n_is ∙ ap last behind) ∙ ap (In (numbered scope a) (last all)) k_is) behind
 
+  -- its conjuncts behind others, and the lines then
+  abbrev pub IsJoined : List Condition → List Condition → List Expr → Type 0
+  IsJoined all xs more = record { conjuncts : all ≡ xs ++ (cond_frame uses c scope lines).conjuncts; lines : more ≡ (cond_frame uses c scope lines).lines }
+
   -- the conjuncts of an AND are those of its parts
-  pub conjoined : (parts lent : List Cond) → c ≡ cond.And parts → lent ≡ parts → record {
-    conjuncts : (cond_frame uses c scope lines).conjuncts ≡ (all_frames (map (cond_frame uses) lent) scope lines).conjuncts;
-    lines : (cond_frame uses c scope lines).lines ≡ (all_frames (map (cond_frame uses) lent) scope lines).lines;
-  }
-  conjoined parts lent is at = rw (is, at, frame-And uses parts) (record { conjuncts = refl; lines = refl })
+  pub parts_join : (parts lent : List Cond) (all xs : List Condition) (more : List Expr) → c ≡ cond.And parts → lent ≡ parts → all ≡ xs ++ (all_frames (map (cond_frame uses) lent) scope lines).conjuncts
+      → more ≡ (all_frames (map (cond_frame uses) lent) scope lines).lines → IsJoined all xs more
+  parts_join parts lent all xs more is at joined behind = rw (is, ← at, frame-And uses lent) (record { conjuncts = joined; lines = behind })
 
   -- a condition that is no AND has one conjunct, itself
-  pub no_and : (x : Cond-F Cond From Block) → roll-Cond x ≡ c → ((parts : List Cond) → c ≡ cond.And parts → ⊥) → (cond_frame uses c scope lines).conjuncts ≡ (cond_frame uses c scope lines).condition ∷ []
+  no_and : (x : Cond-F Cond From Block) → roll-Cond x ≡ c → ((parts : List Cond) → c ≡ cond.And parts → ⊥) → (cond_frame uses c scope lines).conjuncts ≡ (cond_frame uses c scope lines).condition ∷ []
   no_and (Cond-F.Compare op a b) is not = rw (sym (sym (cond.rolls-Compare op a b) ∙ is), frame-Compare uses op a b) refl
   no_and (Cond-F.IsNull a) is not = rw (sym (sym (cond.rolls-IsNull a) ∙ is), frame-IsNull uses a) refl
   no_and (Cond-F.Not d) is not = rw (sym (sym (cond.rolls-Not d) ∙ is), frame-Not uses d) refl
@@ -86,6 +88,13 @@ module _ (uses : List TableUse) (scope : Scope) (lines : List Expr) (c : Cond) w
   no_and (Cond-F.Or ds) is not = rw (sym (sym (cond.rolls-Or ds) ∙ is), frame-Or uses ds) refl
   no_and (Cond-F.Exists q) is not = rw (sym (sym (cond.rolls-Exists q) ∙ is), frame-Exists uses q) refl
   no_and (Cond-F.In a q) is not = rw (sym (sym (cond.rolls-In a q) ∙ is), frame-In uses a q) refl
+
+  pub one_joins : (x : Condition) (all xs : List Condition) (more : List Expr) → ((parts : List Cond) → c ≡ cond.And parts → ⊥) → all ≡ xs ++ x ∷ [] → IsFramed x more (cond_frame uses c scope lines)
+      → IsJoined all xs more
+  one_joins x all xs more not is framed = record {
+    conjuncts = is ∙ ap (λ y. xs ++ y ∷ []) framed.condition ∙ ap (λ ys. xs ++ ys) (sym (no_and (out-Cond c) (roll-out-Cond c) not));
+    lines = framed.lines;
+  }
 
 -- ---- FROM
 
@@ -97,13 +106,14 @@ module _ (uses : List TableUse) (scope : Scope) (lines : List Expr) (f : From) w
   pub table_is : (o : Occurrence) (numbers : List ℕ) (more : List Expr) → f ≡ from.Table o → numbers ≡ use_numbers uses o → more ≡ Get o.number ∷ lines → IsSourced numbers more scope lines (from_frame uses f)
   table_is o numbers more is n l = rw (is, frame-Table uses o) (record { numbers = n; lines = l })
 
-  pub comma_is : (left lent_left right lent_right : From) (numbers more all : List ℕ) (behind_left behind : List Expr) (a b : ℕ) → f ≡ from.Comma left right → lent_left ≡ left → lent_right ≡ right
-      → numbers ≡ (from_frame uses lent_left).numbers → behind_left ≡ (from_frame uses lent_left).lines scope lines → more ≡ (from_frame uses lent_right).numbers
-      → behind ≡ (from_frame uses lent_right).lines scope behind_left → all ≡ numbers ++ more → a ≡ last behind_left → b ≡ last behind → IsSourced all (Join [] a b ∷ behind) scope lines (from_frame uses f)
-  comma_is left lent_left right lent_right numbers more all behind_left behind a b is at_left at_right n l m r all_is a_is b_is =
+  pub comma_is : (left lent_left right lent_right : From) (numbers more lent all : List ℕ) (behind_left behind ended : List Expr) (none : List Condition) (a b : ℕ) → f ≡ from.Comma left right → lent_left ≡ left
+      → lent_right ≡ right → numbers ≡ (from_frame uses lent_left).numbers → behind_left ≡ (from_frame uses lent_left).lines scope lines → more ≡ (from_frame uses lent_right).numbers
+      → behind ≡ (from_frame uses lent_right).lines scope behind_left → lent ≡ more → all ≡ numbers ++ lent → a ≡ last behind_left → b ≡ last behind → none ≡ [] → ended ≡ Join none a b ∷ behind
+      → IsSourced all ended scope lines (from_frame uses f)
+  comma_is left lent_left right lent_right numbers more lent all behind_left behind ended none a b is at_left at_right n l m r lent_is all_is a_is b_is none_is ended_is =
       rw (is, frame-Comma uses left right, ← at_left, ← at_right) (record {
-        numbers = rw (all_is, n, m) refl;
-        lines = rw (a_is, b_is, r, l) refl;
+        numbers = rw (all_is, lent_is, n, m) refl;
+        lines = rw (ended_is, none_is, a_is, b_is, r, l) refl;
       })
 
   -- a join, by its left side, its table and its ON

@@ -1,11 +1,8 @@
-use Rattle.std.proofs.Common.{ap, sym, ◌∙◌, ℕ, List, [], ◌∷◌, ◌++◌, arith}
-use Rattle.binder.specs.declared.query.Cond.{out-Cond, roll-out-Cond}
-use Rattle.logical.specs.declared.condition.Condition.{Condition}
-use Rattle.logical.specs.declared.expr.Expr.TheVariants.{Join}
+use Rattle.std.proofs.Common.{arith}
 use Rattle.logical.specs.Frames as spec
 use Rattle.logical.specs.Lent.{scope_of}
 use Rattle.logical.proofs.FrameLoops.{conditions_on, conjuncts_on, lines_on, conditions_end, conjuncts_end, lines_end}
-use Rattle.logical.proofs.FrameSteps.{compare_is, null_is, not_is, and_is, or_is, exists_is, in_is, conjoined, no_and, table_is, join_is, left_join_is, comma_is, first_shown_is, block_lines_are}
+use Rattle.logical.proofs.FrameSteps.{compare_is, null_is, not_is, and_is, or_is, exists_is, in_is, parts_join, one_joins, table_is, join_is, left_join_is, comma_is, first_shown_is, block_lines_are}
 use Rattle.logical.proofs.frames.+frames.Goals as goal
 
 -- ---- conditions
@@ -74,21 +71,14 @@ add_conjuncts-returns-after-loop-part t c =
     let f = spec.cond_frame c.args.uses.now in
     let scope = scope_of c.args.scope.now in
     let parts = c.as_slice-part-items.result.now in
-    let whole = conjoined c.args.uses.now scope c.args.lines.now c.args.cond.now c.in-And.parts parts c.in-And.is c.as_slice-part-items.ensures in
-    record {
-      conjuncts = conjuncts_end f scope parts c.loop-part.part-index c.loop-part.conjuncts.items _ c.loop-part.lines (omega arith) c.loop-part.invariant.conjuncts
-          ∙ ap (λ (xs : List Condition). c.args.conjuncts.now.items ++ xs) (sym whole.conjuncts);
-      lines = lines_end f scope parts c.loop-part.part-index _ c.loop-part.lines (omega arith) c.loop-part.invariant.lines ∙ sym whole.lines;
-    }
+    parts_join c.args.uses.now scope c.args.lines.now c.args.cond.now c.in-And.parts parts c.loop-part.conjuncts.items c.args.conjuncts.now.items c.loop-part.lines c.in-And.is c.as_slice-part-items.ensures
+    (conjuncts_end f scope parts c.loop-part.part-index c.loop-part.conjuncts.items _ c.loop-part.lines (omega arith) c.loop-part.invariant.conjuncts)
+    (lines_end f scope parts c.loop-part.part-index _ c.loop-part.lines (omega arith) c.loop-part.invariant.lines)
 
 pub add_conjuncts-returns-in_ok-push-in_default : goal.add_conjuncts-returns-in_ok-push-in_default
 add_conjuncts-returns-in_ok-push-in_default t c =
-    let one = no_and c.args.uses.now (scope_of c.args.scope.now) c.args.lines.now c.args.cond.now (out-Cond c.args.cond.now) (roll-out-Cond c.args.cond.now) c.in_default.not-And in
-    record {
-      conjuncts = c.in_ok-push-in_default.ensures.items ∙ ap (λ (x : Condition). c.args.conjuncts.now.items ++ x ∷ []) c.in_ok-framed-in_default.ensures.condition
-          ∙ ap (λ (xs : List Condition). c.args.conjuncts.now.items ++ xs) (sym one);
-      lines = c.in_ok-framed-in_default.ensures.lines;
-    }
+    one_joins c.args.uses.now (scope_of c.args.scope.now) c.args.lines.now c.args.cond.now c.in_ok-framed-in_default.framed c.push.new.self.items c.args.conjuncts.now.items c.condition.new.lines
+    c.in_default.not-And c.in_ok-push-in_default.ensures.items c.in_ok-framed-in_default.ensures
 
 -- ---- FROM
 
@@ -116,11 +106,10 @@ pub add_from-returns-in_ok-push-in-Comma : goal.add_from-returns-in_ok-push-in-C
 add_from-returns-in_ok-push-in-Comma t c =
     let n = c.in_ok-numbers-in-Comma.ensures in
     let m = c.in_ok-more-in-Comma.ensures in
-    let all_is = c.in_ok-extend_from_slice-in-Comma.ensures.items ∙ ap (λ (ns : List ℕ). c.in_ok-numbers-in-Comma.numbers.items ++ ns) c.as_slice.ensures.value in
-    let none = c.in_ok-push-in-Comma.ensures ∙ ap (λ on. Join on c.last-left_class.result c.last-right_class.result ∷ c.add_from-in-Comma-2.new.lines) c.none.ensures in
-    rw none (comma_is c.args.uses.now (scope_of c.args.outer.now) c.args.lines.now c.args.from.now c.in-Comma.left c.get-in-Comma.result.now c.in-Comma.right c.get-in-Comma-2.result.now
-    c.in_ok-numbers-in-Comma.numbers.items c.in_ok-more-in-Comma.more.items c.extend_from_slice.new.self.items c.add_from-in-Comma.new.lines c.add_from-in-Comma-2.new.lines
-    c.last-left_class.result c.last-right_class.result c.in-Comma.is c.get-in-Comma.ensures c.get-in-Comma-2.ensures n.numbers n.lines m.numbers m.lines all_is c.last-left_class.ensures c.last-right_class.ensures)
+    comma_is c.args.uses.now (scope_of c.args.outer.now) c.args.lines.now c.args.from.now c.in-Comma.left c.get-in-Comma.result.now c.in-Comma.right c.get-in-Comma-2.result.now
+    c.in_ok-numbers-in-Comma.numbers.items c.in_ok-more-in-Comma.more.items c.as_slice.result.now c.extend_from_slice.new.self.items c.add_from-in-Comma.new.lines c.add_from-in-Comma-2.new.lines c.push-in-Comma.new.self
+    c.none.result c.last-left_class.result c.last-right_class.result c.in-Comma.is c.get-in-Comma.ensures c.get-in-Comma-2.ensures n.numbers n.lines m.numbers m.lines c.as_slice.ensures.value
+    c.in_ok-extend_from_slice-in-Comma.ensures.items c.last-left_class.ensures c.last-right_class.ensures c.none.ensures c.in_ok-push-in-Comma.ensures
 
 -- ---- blocks
 
