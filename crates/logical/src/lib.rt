@@ -11,6 +11,8 @@ mod condition_text;
 mod conjunct_order;
 pub mod expr;
 pub mod formed;
+#[cfg(test)]
+mod frame_tests;
 mod frames;
 pub mod framing;
 pub mod laws;
