@@ -71,27 +71,27 @@ module _ (uses : List TableUse) (scope : Scope) (lines : List Expr) (c : Cond) w
       (ap (λ t. In t n k) l ∙ ap (λ m. In (numbered scope a) m k) (n_is ∙ ap last behind) ∙ ap (In (numbered scope a) (last all)) k_is) behind
 
   -- its conjuncts behind others, and the lines then
-  abbrev pub IsJoined : List Condition → List Condition → List Expr → Type 0
-  IsJoined all xs more = record { conjuncts : all ≡ xs ++ (cond_frame uses c scope lines).conjuncts; lines : more ≡ (cond_frame uses c scope lines).lines }
+  abbrev pub AreAppended : List Condition → List Condition → List Expr → Type 0
+  AreAppended all xs more = record { conjuncts : all ≡ xs ++ (cond_frame uses c scope lines).conjuncts; lines : more ≡ (cond_frame uses c scope lines).lines }
 
   -- the conjuncts of an AND are those of its parts
-  pub parts_join : (parts lent : List Cond) (all xs : List Condition) (more : List Expr) → c ≡ cond.And parts → lent ≡ parts → all ≡ xs ++ (all_frames (map (cond_frame uses) lent) scope lines).conjuncts
-      → more ≡ (all_frames (map (cond_frame uses) lent) scope lines).lines → IsJoined all xs more
-  parts_join parts lent all xs more is at joined behind = rw (is, ← at, frame-And uses lent) (record { conjuncts = joined; lines = behind })
+  pub parts_appended : (parts lent : List Cond) (all xs : List Condition) (more : List Expr) → c ≡ cond.And parts → lent ≡ parts → all ≡ xs ++ (all_frames (map (cond_frame uses) lent) scope lines).conjuncts
+      → more ≡ (all_frames (map (cond_frame uses) lent) scope lines).lines → AreAppended all xs more
+  parts_appended parts lent all xs more is at joined behind = rw (is, ← at, frame-And uses lent) (record { conjuncts = joined; lines = behind })
 
   -- a condition that is no AND has one conjunct, itself
   no_and : (x : Cond-F Cond From Block) → roll-Cond x ≡ c → ((parts : List Cond) → c ≡ cond.And parts → ⊥) → (cond_frame uses c scope lines).conjuncts ≡ (cond_frame uses c scope lines).condition ∷ []
-  no_and (Cond-F.Compare op a b) is not = rw (sym (sym (cond.rolls-Compare op a b) ∙ is), frame-Compare uses op a b) refl
-  no_and (Cond-F.IsNull a) is not = rw (sym (sym (cond.rolls-IsNull a) ∙ is), frame-IsNull uses a) refl
-  no_and (Cond-F.Not d) is not = rw (sym (sym (cond.rolls-Not d) ∙ is), frame-Not uses d) refl
-  no_and (Cond-F.And ds) is not = absurd (not ds (sym (sym (cond.rolls-And ds) ∙ is)))
-  no_and (Cond-F.Or ds) is not = rw (sym (sym (cond.rolls-Or ds) ∙ is), frame-Or uses ds) refl
-  no_and (Cond-F.Exists q) is not = rw (sym (sym (cond.rolls-Exists q) ∙ is), frame-Exists uses q) refl
-  no_and (Cond-F.In a q) is not = rw (sym (sym (cond.rolls-In a q) ∙ is), frame-In uses a q) refl
+  no_and (Cond-F.Compare op a b) is not = rw (sym is ∙ cond.rolls-Compare op a b, frame-Compare uses op a b) refl
+  no_and (Cond-F.IsNull a) is not = rw (sym is ∙ cond.rolls-IsNull a, frame-IsNull uses a) refl
+  no_and (Cond-F.Not d) is not = rw (sym is ∙ cond.rolls-Not d, frame-Not uses d) refl
+  no_and (Cond-F.And ds) is not = absurd (not ds (sym is ∙ cond.rolls-And ds))
+  no_and (Cond-F.Or ds) is not = rw (sym is ∙ cond.rolls-Or ds, frame-Or uses ds) refl
+  no_and (Cond-F.Exists q) is not = rw (sym is ∙ cond.rolls-Exists q, frame-Exists uses q) refl
+  no_and (Cond-F.In a q) is not = rw (sym is ∙ cond.rolls-In a q, frame-In uses a q) refl
 
-  pub one_joins : (x : Condition) (all xs : List Condition) (more : List Expr) → ((parts : List Cond) → c ≡ cond.And parts → ⊥) → all ≡ xs ++ x ∷ [] → IsFramed x more (cond_frame uses c scope lines)
-      → IsJoined all xs more
-  one_joins x all xs more not is framed = record {
+  pub one_appended : (x : Condition) (all xs : List Condition) (more : List Expr) → ((parts : List Cond) → c ≡ cond.And parts → ⊥) → all ≡ xs ++ x ∷ [] → IsFramed x more (cond_frame uses c scope lines)
+      → AreAppended all xs more
+  one_appended x all xs more not is framed = record {
     conjuncts = is ∙ ap (λ y. xs ++ y ∷ []) framed.condition ∙ ap (λ ys. xs ++ ys) (sym (no_and (out-Cond c) (roll-out-Cond c) not));
     lines = framed.lines;
   }

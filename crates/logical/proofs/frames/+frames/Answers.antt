@@ -2,7 +2,7 @@ use Rattle.std.proofs.Common.{arith}
 use Rattle.logical.specs.Frames as spec
 use Rattle.logical.specs.Lent.{scope_of}
 use Rattle.logical.proofs.FrameLoops.{conditions_on, conjuncts_on, lines_on, conditions_end, conjuncts_end, lines_end}
-use Rattle.logical.proofs.FrameSteps.{compare_is, null_is, not_is, and_is, or_is, exists_is, in_is, parts_join, one_joins, table_is, join_is, left_join_is, comma_is, first_shown_is, block_lines_are}
+use Rattle.logical.proofs.FrameSteps.{compare_is, null_is, not_is, and_is, or_is, exists_is, in_is, parts_appended, one_appended, table_is, join_is, left_join_is, comma_is, first_shown_is, block_lines_are}
 use Rattle.logical.proofs.frames.+frames.Goals as goal
 
 -- ---- conditions
@@ -71,13 +71,13 @@ add_conjuncts-returns-after-loop-part t c =
     let f = spec.cond_frame c.args.uses.now in
     let scope = scope_of c.args.scope.now in
     let parts = c.as_slice-part-items.result.now in
-    parts_join c.args.uses.now scope c.args.lines.now c.args.cond.now c.in-And.parts parts c.loop-part.conjuncts.items c.args.conjuncts.now.items c.loop-part.lines c.in-And.is c.as_slice-part-items.ensures
+    parts_appended c.args.uses.now scope c.args.lines.now c.args.cond.now c.in-And.parts parts c.loop-part.conjuncts.items c.args.conjuncts.now.items c.loop-part.lines c.in-And.is c.as_slice-part-items.ensures
     (conjuncts_end f scope parts c.loop-part.part-index c.loop-part.conjuncts.items _ c.loop-part.lines (omega arith) c.loop-part.invariant.conjuncts)
     (lines_end f scope parts c.loop-part.part-index _ c.loop-part.lines (omega arith) c.loop-part.invariant.lines)
 
 pub add_conjuncts-returns-in_ok-push-in_default : goal.add_conjuncts-returns-in_ok-push-in_default
 add_conjuncts-returns-in_ok-push-in_default t c =
-    one_joins c.args.uses.now (scope_of c.args.scope.now) c.args.lines.now c.args.cond.now c.in_ok-framed-in_default.framed c.push.new.self.items c.args.conjuncts.now.items c.condition.new.lines
+    one_appended c.args.uses.now (scope_of c.args.scope.now) c.args.lines.now c.args.cond.now c.in_ok-framed-in_default.framed c.push.new.self.items c.args.conjuncts.now.items c.condition.new.lines
     c.in_default.not-And c.in_ok-push-in_default.ensures.items c.in_ok-framed-in_default.ensures
 
 -- ---- FROM
