@@ -203,20 +203,33 @@ module _ (uses : List TableUse) (D : Tables) (fits : IsFitting D) (over : AreOve
         ∙ loops (λ l. length l ≡ length ks) _ (λ s. put ks s e) (λ s. put (ks ++ ls) s e) _ (source f D ρ)
         (λ l wide. two or_else_row (pad l wide) (pairs ρ e bound new agree l wide) ∙ or_else-map (λ s. put (ks ++ ls) s e) (l ++ rows.nulls (D.width o.table)) _) (source-wide bound ρ)
 
+    abbrev framed_lines : List Expr
+    framed_lines = (cond_frame uses on inner lines).lines
+
+    framed-columns : (n c : ℕ) → n < length lines → has (class_columns uses framed_lines n) c ≡ has (class_columns uses lines n) c
+    framed-columns n c below = ap (λ ns. has ns c) (kept-columns uses framed_lines lines n (sides.test inner lines).grows below)
+
+    left-below : last left_lines < length lines
+    left-below = let below : last left_lines < length left_lines = last-below left_lines sides.left.some in omega (arith, below)
+
     -- a join of either kind, whose rows these are
     joined-right : (join : List Condition → ℕ → ℕ → Expr) (m : List Row → List Row)
-        → (columns_of uses (class_columns uses lines) (join conjuncts (last left_lines) (length left_lines)) ≡ rising (class_columns uses lines (last left_lines) ++ class_columns uses lines (length left_lines)))
+        → (columns_of uses (class_columns uses framed_lines) (join conjuncts (last left_lines) (length left_lines)) ≡ rising (class_columns uses framed_lines (last left_lines) ++ class_columns uses framed_lines (length left_lines)))
         → ((ρ : List Row) (e : Env) → Bound → IsNew (ks ++ ls) scope → Agrees scope ρ e → means uses D (classes uses D lines) (join conjuncts (last left_lines) (length left_lines)) e ≡ map (λ s. put (ks ++ ls) s e) (m ρ))
         → FromRight uses D (join_frame join uses (from_frame uses f) o (cond_frame uses on)) (join_scope uses (from_scope uses f) o (cond_scope uses on)) m (from_width f D + D.width o.table) scope E
     joined-right join m columns is =
         let top : Expr = join conjuncts (last left_lines) (length left_lines) in
+        let test = sides.test inner lines in
         record {
           numbers = ap (λ ns. ns ++ ls) sides.left.numbers;
-          grows = grows-more (top ∷ lines) left_lines E (top ∷ Get o.number ∷ [], refl) sides.left.grows;
+          grows = grows-more (top ∷ framed_lines) framed_lines E (grows-one top framed_lines)
+              (grows-more framed_lines lines E test.grows (grows-more lines left_lines E (grows-one _ left_lines) sides.left.grows));
           some = omega arith;
           width = λ h. let b = bound-parts h in let w : from_width f D ≡ length ks = sides.left.width b.left in let v : D.width o.table ≡ length ls = table-width o b.used in omega (arith, w, v, length-append ks ls);
-          columns = λ c. ap (λ ns. has ns c) (top-columns uses top lines ∙ columns) ∙ joined-columns _ _ ks ls left-columns right-columns c;
-          rows = λ ρ e h new agree. top-rows uses D top lines e ∙ is ρ e (bound-parts h) new agree;
+          columns = λ c. ap (λ ns. has ns c) (top-columns uses top framed_lines ∙ columns)
+              ∙ joined-columns _ _ ks ls (λ k. framed-columns _ k left-below ∙ left-columns k) (λ k. framed-columns _ k (omega arith) ∙ right-columns k) c;
+          rows = λ ρ e h new agree. let b = bound-parts h in
+              top-rows uses D top framed_lines e ∙ ap (λ L. means uses D (classes uses D L) top e) (test.plain b.plain) ∙ is ρ e b new agree;
         }
 
   pub means-Join : (f : From) (o : Occurrence) (on : Cond) → FromMeans uses D f → CondMeans uses D on → FromMeans uses D (from.Join f o on)

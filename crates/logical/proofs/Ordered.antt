@@ -3,13 +3,9 @@ use Rattle.std.proofs.Common.{◌≡◌, refl, ap, sym, ◌∙◌, Bool, true, f
 use Rattle.std.specs.List.{list_all}
 use Rattle.std.proofs.lemmas.Bool.{cond_both}
 use Rattle.logical.specs.declared.condition.Condition.{Condition}
-use Rattle.logical.specs.contracts.condition.Condition as condition
-use Rattle.logical.specs.ConjunctOrder.{same_condition, goes_before, put_in_order, in_order}
-use Rattle.logical.proofs.Same.{same_by-equal}
-
-equal_condition : (c d : Condition) → same_condition c d ≡ true → c ≡ d
-unfolding same_condition
-equal_condition = same_by-equal condition.the_row.coded
+use Rattle.logical.specs.Equality.{same_condition}
+use Rattle.logical.specs.ConjunctOrder.{goes_before, put_in_order, in_order}
+use Rattle.logical.proofs.Same.{equal_condition}
 
 and-twice : (a b : Bool) → (a && b) ≡ (a && (a && b))
 and-twice true b = refl

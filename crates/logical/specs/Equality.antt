@@ -22,6 +22,9 @@ same_code (gcons a b) c = false
 abbrev pub same_by : {A : Type 0} → Coded A → A → A → Bool
 same_by coded x y = same_code (coded.code x) (coded.code y)
 
+unfoldable pub same_condition : Condition → Condition → Bool
+same_condition = same_by condition.the_row.coded
+
 unfoldable pub same_conditions : List Condition → List Condition → Bool
 same_conditions = same_by (coded_list condition.the_row.coded)
 

@@ -83,6 +83,10 @@ all_frames (c ∷ cs) scope lines =
     let rest = all_frames cs scope first.lines in
     record { conditions = first.condition ∷ rest.conditions; conjuncts = first.conjuncts ++ rest.conjuncts; lines = rest.lines }
 
+-- the number of the first item
+abbrev pub first_shown : List ℕ → ℕ
+first_shown shown = number_at shown 0
+
 abbrev pub cond_frame_layer : Cond-F CondFrame FromFrame BlockFrame → CondFrame
 cond_frame_layer (Cond-F.Compare op a b) scope lines = alone (Compare op (numbered scope a) (numbered scope b)) lines
 cond_frame_layer (Cond-F.IsNull a) scope lines = alone (IsNull (numbered scope a)) lines
@@ -90,15 +94,20 @@ cond_frame_layer (Cond-F.Not c) scope lines = let part = c scope lines in alone 
 cond_frame_layer (Cond-F.And cs) scope lines = let parts = all_frames cs scope lines in record { condition = And parts.conditions; conjuncts = parts.conjuncts; lines = parts.lines }
 cond_frame_layer (Cond-F.Or cs) scope lines = let parts = all_frames cs scope lines in alone (Or parts.conditions) parts.lines
 cond_frame_layer (Cond-F.Exists q) scope lines = let more = q.lines scope lines in alone (Exists (last more)) more
-cond_frame_layer (Cond-F.In a q) scope lines = let more = q.lines scope lines in alone (In (numbered scope a) (last more) (number_at (q.shown scope) 0)) more
+cond_frame_layer (Cond-F.In a q) scope lines = let more = q.lines scope lines in alone (In (numbered scope a) (last more) (first_shown (q.shown scope))) more
 
 -- ---- FROM
 
--- the table of a join, and directly after it the join, whose ON has no subquery
+-- the conjuncts of a condition, in order
+abbrev pub ordered : CondLines → List Condition
+ordered framed = in_order framed.conjuncts
+
+-- the table of a join and the join; a bound ON has no subquery, so it stands directly behind its table
 abbrev pub join_lines : (List Condition → ℕ → ℕ → Expr) → Occurrence → CondFrame → Scope → List Expr → List Expr
 join_lines join o on scope left =
     let lines = Get o.number ∷ left in
-    join (in_order (on scope lines).conjuncts) (last left) (last lines) ∷ lines
+    let framed = on scope lines in
+    join (ordered framed) (last left) (last lines) ∷ framed.lines
 
 -- all that is left of a comma, the chain at its right, and their pairs
 abbrev pub comma_lines : List Expr → List Expr → List Expr
@@ -123,7 +132,7 @@ from_frame_layer uses (From-F.Comma f g) = record {
 -- the lines of a WHERE's subqueries and its Select
 abbrev pub where_lines : Option CondFrame → Scope → List Expr → List Expr
 where_lines None scope lines = lines
-where_lines (Some c) scope lines = let framed = c scope lines in Select (in_order framed.conjuncts) (last lines) ∷ framed.lines
+where_lines (Some c) scope lines = let framed = c scope lines in Select (ordered framed) (last lines) ∷ framed.lines
 
 -- an aggregate that names its column by its number
 abbrev pub numbered_aggregate : List ℕ → Aggregate → Aggregate
@@ -139,9 +148,13 @@ aggregations numbers [] = []
 aggregations numbers (item.Column c ∷ items) = aggregations numbers items
 aggregations numbers (item.Aggregate n a ∷ items) = record { column = n; aggregate = numbered_aggregate numbers a } ∷ aggregations numbers items
 
+-- the columns of the keys
+abbrev pub key_columns : List ℕ → List ℕ → List ℕ
+key_columns numbers keys = rising (map (number_at numbers) keys)
+
 abbrev pub group_lines : Bool → List ℕ → List ℕ → List Item → List Expr → List Expr
 group_lines false numbers keys items lines = lines
-group_lines true numbers keys items lines = Group (rising (map (number_at numbers) keys)) (aggregations numbers items) (last lines) ∷ lines
+group_lines true numbers keys items lines = Group (key_columns numbers keys) (aggregations numbers items) (last lines) ∷ lines
 
 -- the number of what an item shows
 abbrev pub item_number : Scope → Item → ℕ
@@ -158,8 +171,12 @@ abbrev pub own_numbers : Scope → List Item → List ℕ
 own_numbers scope [] = []
 own_numbers scope (i ∷ items) = if is_own i then item_number scope i ∷ own_numbers scope items else own_numbers scope items
 
+-- the columns that a block keeps
+abbrev pub kept : Scope → List Item → List ℕ
+kept scope items = rising (own_numbers scope items)
+
 abbrev pub keep_lines : Scope → List Item → List Expr → List Expr
-keep_lines scope items lines = Keep (rising (own_numbers scope items)) (last lines) ∷ lines
+keep_lines scope items lines = Keep (kept scope items) (last lines) ∷ lines
 
 abbrev pub distinct_lines : Bool → List Expr → List Expr
 distinct_lines false lines = lines
@@ -182,6 +199,10 @@ cond_frame uses = fold-Cond CondFrame FromFrame BlockFrame cond_frame_layer (fro
 
 unfoldable pub from_frame : List TableUse → From → FromFrame
 from_frame uses = fold-From CondFrame FromFrame BlockFrame cond_frame_layer (from_frame_layer uses) block_frame_layer
+
+-- what the ON of a join becomes behind the lines of its left side and its table
+abbrev pub on_lines : List TableUse → List ℕ → Occurrence → Cond → Scope → List Expr → CondLines
+on_lines uses numbers o on scope left = cond_frame uses on ((numbers ++ use_numbers uses o) ∷ scope) (Get o.number ∷ left)
 
 unfoldable pub block_frame : List TableUse → Block → BlockFrame
 block_frame uses = fold-Block CondFrame FromFrame BlockFrame cond_frame_layer (from_frame_layer uses) block_frame_layer

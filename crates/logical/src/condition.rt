@@ -49,12 +49,26 @@ impl Model for Conjuncts {
 }
 
 impl Conjuncts {
+    pub fn none(alloc: Global) -> Conjuncts
+        ensures { result ≡ [] }
+    {
+        Conjuncts {
+            conditions: Items::new(alloc),
+        }
+    }
+
     pub fn one(alloc: Global, condition: Condition) -> Result<Conjuncts, AllocError>
         ensures { IfOk result (λ c. c ≡ condition ∷ []) }
     {
         let mut conditions = Items::new(alloc);
         conditions.push(condition)?;
         Ok(Conjuncts { conditions })
+    }
+
+    pub fn from_items(conditions: Items<Condition>) -> Conjuncts
+        ensures { result ≡ conditions }
+    {
+        Conjuncts { conditions }
     }
 
     pub fn as_slice(&self) -> &[Condition]

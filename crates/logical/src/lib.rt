@@ -7,14 +7,22 @@
 
 pub mod columns;
 pub mod condition;
+mod condition_text;
+mod conjunct_order;
 pub mod expr;
 pub mod formed;
+#[cfg(test)]
+mod frame_tests;
+mod frames;
 pub mod framing;
 pub mod laws;
+mod lines;
+mod scope;
 #[cfg(test)]
 mod tests;
 
 pub use columns::Columns;
 pub use condition::{Condition, Conjuncts, Term};
 pub use expr::{Aggregation, Expr};
+pub use frames::query_frame;
 pub use framing::frame;

@@ -1,0 +1,51 @@
+-- Conditions framed one after another, as a loop goes over them.
+use Rattle.std.proofs.Common.{◌≡◌, refl, ap, sym, ◌∙◌, ℕ, suc, ◌+◌, ◌<◌, ◌≤◌, List, [], ◌∷◌, ◌++◌, length, drop, get_or, map, append_assoc, append-nil, arith}
+use Rattle.std.proofs.lemmas.List.{drop_all}
+use Rattle.std.proofs.Math.Seq.{drop-cons}
+use Rattle.binder.specs.declared.query.Cond.{Cond}
+use Rattle.binder.specs.Bound.{Scope}
+use Rattle.logical.specs.declared.condition.Condition.{Condition}
+use Rattle.logical.specs.declared.expr.Expr.{Expr}
+use Rattle.logical.specs.Frames.{CondFrame, AllLines, all_frames}
+
+module _ (f : Cond → CondFrame) (scope : Scope) where
+  -- what is framed from a place on
+  abbrev pub from_place : List Cond → ℕ → List Expr → AllLines
+  from_place cs i lines = all_frames (map f (drop i cs)) scope lines
+
+  front_of : (cs : List Cond) (i : ℕ) (c : Cond) → i < length cs → c ≡ get_or cs i c → drop i cs ≡ c ∷ drop (i + 1) cs
+  front_of cs i c lt at =
+      let k : suc i ≡ i + 1 = omega arith in
+      drop-cons cs i c lt ∙ ap (λ d. d ∷ drop (suc i) cs) (sym at) ∙ ap (λ j. c ∷ drop j cs) k
+
+  at_place : (cs : List Cond) (i : ℕ) (c : Cond) (lines more : List Expr) → i < length cs → c ≡ get_or cs i c → more ≡ (f c scope lines).lines
+      → from_place cs i lines ≡ record { conditions = (f c scope lines).condition ∷ (from_place cs (i + 1) more).conditions; conjuncts = (f c scope lines).conjuncts ++ (from_place cs (i + 1) more).conjuncts; lines = (from_place cs (i + 1) more).lines }
+  at_place cs i c lines more lt at behind = rw (front_of cs i c lt at, behind) refl
+
+  pub conditions_on : (cs : List Cond) (i : ℕ) (c : Cond) (x : Condition) (xs next all : List Condition) (lines more : List Expr) → i < length cs → c ≡ get_or cs i c → x ≡ (f c scope lines).condition
+      → more ≡ (f c scope lines).lines → next ≡ xs ++ x ∷ [] → xs ++ (from_place cs i lines).conditions ≡ all → next ++ (from_place cs (i + 1) more).conditions ≡ all
+  conditions_on cs i c x xs next all lines more lt at framed behind next_is so_far =
+      let one : xs ++ (from_place cs i lines).conditions ≡ xs ++ (f c scope lines).condition ∷ (from_place cs (i + 1) more).conditions = ap (λ (p : AllLines). xs ++ p.conditions) (at_place cs i c lines more lt at behind) in
+      rw (next_is, append_assoc) (ap (λ y. xs ++ y ∷ (from_place cs (i + 1) more).conditions) framed ∙ sym one ∙ so_far)
+
+  pub conjuncts_on : (cs : List Cond) (i : ℕ) (c : Cond) (xs next all : List Condition) (lines more : List Expr) → i < length cs → c ≡ get_or cs i c → more ≡ (f c scope lines).lines
+      → next ≡ xs ++ (f c scope lines).conjuncts → xs ++ (from_place cs i lines).conjuncts ≡ all → next ++ (from_place cs (i + 1) more).conjuncts ≡ all
+  conjuncts_on cs i c xs next all lines more lt at behind next_is so_far =
+      let one : xs ++ (from_place cs i lines).conjuncts ≡ xs ++ ((f c scope lines).conjuncts ++ (from_place cs (i + 1) more).conjuncts) = ap (λ (p : AllLines). xs ++ p.conjuncts) (at_place cs i c lines more lt at behind) in
+      rw (next_is, append_assoc) (sym one ∙ so_far)
+
+  pub lines_on : (cs : List Cond) (i : ℕ) (c : Cond) (all lines more : List Expr) → i < length cs → c ≡ get_or cs i c → more ≡ (f c scope lines).lines → (from_place cs i lines).lines ≡ all
+      → (from_place cs (i + 1) more).lines ≡ all
+  lines_on cs i c all lines more lt at behind so_far = sym (ap (λ (p : AllLines). p.lines) (at_place cs i c lines more lt at behind)) ∙ so_far
+
+  past : (cs : List Cond) (i : ℕ) → length cs ≤ i → drop i cs ≡ []
+  past cs i le = drop_all i cs le
+
+  pub conditions_end : (cs : List Cond) (i : ℕ) (xs all : List Condition) (lines : List Expr) → length cs ≤ i → xs ++ (from_place cs i lines).conditions ≡ all → xs ≡ all
+  conditions_end cs i xs all lines le is = sym (append-nil xs) ∙ ap (λ (ds : List Cond). xs ++ (all_frames (map f ds) scope lines).conditions) (sym (past cs i le)) ∙ is
+
+  pub conjuncts_end : (cs : List Cond) (i : ℕ) (xs all : List Condition) (lines : List Expr) → length cs ≤ i → xs ++ (from_place cs i lines).conjuncts ≡ all → xs ≡ all
+  conjuncts_end cs i xs all lines le is = sym (append-nil xs) ∙ ap (λ (ds : List Cond). xs ++ (all_frames (map f ds) scope lines).conjuncts) (sym (past cs i le)) ∙ is
+
+  pub lines_end : (cs : List Cond) (i : ℕ) (all lines : List Expr) → length cs ≤ i → (from_place cs i lines).lines ≡ all → lines ≡ all
+  lines_end cs i all lines le is = ap (λ (ds : List Cond). (all_frames (map f ds) scope lines).lines) (sym (past cs i le)) ∙ is

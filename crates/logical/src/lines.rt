@@ -1,0 +1,59 @@
+//! The lines of a frame, one after another.
+
+ghost use Rattle.std.specs.Prelude.{◌≡◌, ◌∷◌, [], reverse, OnOk};
+ghost use Rattle.logical.specs.Frames as spec;
+
+use crate::expr::Expr;
+use std::alloc::{AllocError, Global};
+use std::marker::Model;
+use values::Items;
+
+/// Lines, each founding a class. Contracts see the last one first.
+#[derive(Debug, Drop)]
+pub struct Lines {
+    lines: Items<Expr>,
+}
+
+impl Model for Lines {
+    ghost use Rattle.std.specs.Prelude.{List, reverse};
+    ghost use Rattle.logical.specs.declared.expr.Expr.{Expr};
+
+    ghost Value = { List Expr };
+
+    ghost use Rattle.logical.specs.contracts.expr.Expr as e;
+    ghost use Rattle.std.specs.Coded.{codes};
+
+    ghost coded = { Prim.hlevel (codes, e.the_row.coded) };
+
+    ghost view = { λ l. reverse l.lines };
+}
+
+impl Lines {
+    pub fn new(alloc: Global) -> Lines
+        ensures { result ≡ [] }
+    {
+        Lines {
+            lines: Items::new(alloc),
+        }
+    }
+
+    pub fn push(&mut self, line: Expr) -> Result<(), AllocError>
+        ensures { OnOk result (self.new ≡ line ∷ self.old) }
+    {
+        self.lines.push(line)
+    }
+
+    /// The class that the last line founds.
+    pub fn last(&self) -> usize
+        ensures { result ≡ spec.last self.now }
+    {
+        self.lines.len().saturating_sub(1)
+    }
+
+    /// The lines, the first one first.
+    pub fn into_items(self) -> Items<Expr>
+        ensures { result ≡ reverse self }
+    {
+        self.lines
+    }
+}
