@@ -38,15 +38,16 @@ fn told(alloc: Global, text: &str) -> Result<String, Fail> {
     Ok(told)
 }
 
-fn are_told(rt: &impl Abort, alloc: Global, cases: &[(&str, &str)]) {
+fn are_told(rt: &impl Abort, alloc: Global, cases: &[(&str, &str)]) -> Result<(), Fail> {
     for (text, wanted) in cases {
-        assert_eq!(rt; told(alloc, text).unwrap().as_str(), *wanted, "{text}");
+        assert_eq!(rt; told(alloc, text)?.as_str(), *wanted, "{text}");
     }
+    Ok(())
 }
 
 /// B01 and B04, in FROM.
 #[test]
-fn tables(rt: HostRuntime) {
+fn tables(rt: HostRuntime) -> Result<(), Fail> {
     let cases = [
         ("SELECT id FROM nope", "B01 at 15"),
         (
@@ -78,12 +79,12 @@ fn tables(rt: HostRuntime) {
         ),
         ("SELECT id FROM emp nope, nope", "B01 at 25"),
     ];
-    are_told(&rt, rt.alloc(), &cases);
+    are_told(&rt, rt.alloc(), &cases)
 }
 
 /// B02 and B03.
 #[test]
-fn columns(rt: HostRuntime) {
+fn columns(rt: HostRuntime) -> Result<(), Fail> {
     let cases = [
         ("SELECT nope FROM emp", "B02 at 7"),
         ("SELECT id, nope, pay FROM emp", "B02 at 11"),
@@ -159,12 +160,12 @@ fn columns(rt: HostRuntime) {
             "B03 at 52",
         ),
     ];
-    are_told(&rt, rt.alloc(), &cases);
+    are_told(&rt, rt.alloc(), &cases)
 }
 
 /// B05 and B08.
 #[test]
-fn kinds(rt: HostRuntime) {
+fn kinds(rt: HostRuntime) -> Result<(), Fail> {
     let cases = [
         ("SELECT id FROM emp WHERE id = 'x'", "B05 at 28"),
         ("SELECT id FROM emp WHERE 'x' <> 1", "B05 at 29"),
@@ -209,12 +210,12 @@ fn kinds(rt: HostRuntime) {
             "B08 at 62",
         ),
     ];
-    are_told(&rt, rt.alloc(), &cases);
+    are_told(&rt, rt.alloc(), &cases)
 }
 
 /// B06, B07 and B11.
 #[test]
-fn groups(rt: HostRuntime) {
+fn groups(rt: HostRuntime) -> Result<(), Fail> {
     let cases = [
         ("SELECT name, COUNT(*) FROM dept", "B06 at 7"),
         ("SELECT COUNT(*), name FROM dept", "B06 at 17"),
@@ -261,12 +262,12 @@ fn groups(rt: HostRuntime) {
             "B11 at 45",
         ),
     ];
-    are_told(&rt, rt.alloc(), &cases);
+    are_told(&rt, rt.alloc(), &cases)
 }
 
 /// B09.
 #[test]
-fn orders(rt: HostRuntime) {
+fn orders(rt: HostRuntime) -> Result<(), Fail> {
     let cases = [
         ("SELECT id FROM emp ORDER BY pay", "B09 at 28"),
         (
@@ -282,12 +283,12 @@ fn orders(rt: HostRuntime) {
         ("SELECT id AS key FROM emp ORDER BY id", "B09 at 35"),
         ("SELECT COUNT(id) FROM emp ORDER BY emp.id", "B09 at 35"),
     ];
-    are_told(&rt, rt.alloc(), &cases);
+    are_told(&rt, rt.alloc(), &cases)
 }
 
 /// Which of several faults is told.
 #[test]
-fn order_of_faults(rt: HostRuntime) {
+fn order_of_faults(rt: HostRuntime) -> Result<(), Fail> {
     let cases = [
         (
             "SELECT nope FROM emp, gone WHERE id = 'x' GROUP BY none ORDER BY never",
@@ -334,12 +335,12 @@ fn order_of_faults(rt: HostRuntime) {
         ("SELECT id, SUM(name) FROM dept", "B06 at 7"),
         ("SELECT id FROM emp ORDER BY pay, nope", "B09 at 28"),
     ];
-    are_told(&rt, rt.alloc(), &cases);
+    are_told(&rt, rt.alloc(), &cases)
 }
 
 /// Texts that bind.
 #[test]
-fn bound(rt: HostRuntime) {
+fn bound(rt: HostRuntime) -> Result<(), Fail> {
     let cases = [
         ("SELECT id FROM emp", "bound"),
         ("SELECT * FROM dept, emp e", "bound"),
@@ -372,7 +373,7 @@ fn bound(rt: HostRuntime) {
         ("SELECT MAX(name), COUNT(name) FROM dept", "bound"),
         ("SELECT emp.id FROM dept emp, emp dept", "bound"),
     ];
-    are_told(&rt, rt.alloc(), &cases);
+    are_told(&rt, rt.alloc(), &cases)
 }
 
 /// The front, the part so often, with its number for each `#`, and `)` so often.
@@ -401,49 +402,52 @@ fn repeated(
 
 /// At most 24 table occurrences; more are told before an unknown table.
 #[test]
-fn occurrences(rt: HostRuntime) {
+fn occurrences(rt: HostRuntime) -> Result<(), Fail> {
     let alloc = rt.alloc();
     let front = "SELECT t.id FROM dept t";
-    let most = repeated(alloc, front, ", dept t#", 23, 0).unwrap();
-    assert_eq!(rt; told(alloc, most.as_str()).unwrap().as_str(), "bound");
-    let more = repeated(alloc, front, ", dept t#", 24, 0).unwrap();
-    assert_eq!(rt; told(alloc, more.as_str()).unwrap().as_str(), "B10 at 0");
-    let unknown = repeated(alloc, front, ", nope t#", 24, 0).unwrap();
-    assert_eq!(rt; told(alloc, unknown.as_str()).unwrap().as_str(), "B10 at 0");
+    let most = repeated(alloc, front, ", dept t#", 23, 0)?;
+    assert_eq!(rt; told(alloc, most.as_str())?.as_str(), "bound");
+    let more = repeated(alloc, front, ", dept t#", 24, 0)?;
+    assert_eq!(rt; told(alloc, more.as_str())?.as_str(), "B10 at 0");
+    let unknown = repeated(alloc, front, ", nope t#", 24, 0)?;
+    assert_eq!(rt; told(alloc, unknown.as_str())?.as_str(), "B10 at 0");
+    Ok(())
 }
 
 /// At most 8 queries in one another.
 #[test]
-fn levels(rt: HostRuntime) {
+fn levels(rt: HostRuntime) -> Result<(), Fail> {
     let alloc = rt.alloc();
     let front = "SELECT id FROM dept";
     let inner = " WHERE EXISTS (SELECT * FROM dept";
-    let most = repeated(alloc, front, inner, 7, 7).unwrap();
-    assert_eq!(rt; told(alloc, most.as_str()).unwrap().as_str(), "bound");
-    let more = repeated(alloc, front, inner, 8, 8).unwrap();
-    assert_eq!(rt; told(alloc, more.as_str()).unwrap().as_str(), "B10 at 0");
+    let most = repeated(alloc, front, inner, 7, 7)?;
+    assert_eq!(rt; told(alloc, most.as_str())?.as_str(), "bound");
+    let more = repeated(alloc, front, inner, 8, 8)?;
+    assert_eq!(rt; told(alloc, more.as_str())?.as_str(), "B10 at 0");
+    Ok(())
 }
 
 /// At most 1,024 tests.
 #[test]
-fn conditions(rt: HostRuntime) {
+fn conditions(rt: HostRuntime) -> Result<(), Fail> {
     let alloc = rt.alloc();
     let front = "SELECT id FROM dept WHERE id IN (SELECT boss FROM dept WHERE id IS NULL)";
-    let most = repeated(alloc, front, " OR 1 = 2", 1022, 0).unwrap();
-    assert_eq!(rt; told(alloc, most.as_str()).unwrap().as_str(), "bound");
-    let more = repeated(alloc, front, " OR 1 = 2", 1023, 0).unwrap();
-    assert_eq!(rt; told(alloc, more.as_str()).unwrap().as_str(), "B10 at 0");
+    let most = repeated(alloc, front, " OR 1 = 2", 1022, 0)?;
+    assert_eq!(rt; told(alloc, most.as_str())?.as_str(), "bound");
+    let more = repeated(alloc, front, " OR 1 = 2", 1023, 0)?;
+    assert_eq!(rt; told(alloc, more.as_str())?.as_str(), "B10 at 0");
+    Ok(())
 }
 
 /// At most 512 columns with numbers; more are told after all other faults.
 #[test]
-fn numbers(rt: HostRuntime) {
+fn numbers(rt: HostRuntime) -> Result<(), Fail> {
     let alloc = rt.alloc();
     let front = r#"{"tables":[{"name":"w","columns":[{"name":"a","kind":"INT","not_null":false}"#;
     let part = r#",{"name":"a#","kind":"INT","not_null":false}"#;
-    let mut json = repeated(alloc, front, part, 63, 0).unwrap();
-    json.push_str(r#"],"unique":[],"indexes":[]}]}"#).unwrap();
-    let schema = Schema::read(alloc, json.as_bytes()).unwrap();
+    let mut json = repeated(alloc, front, part, 63, 0)?;
+    json.push_str(r#"],"unique":[],"indexes":[]}]}"#)?;
+    let schema = Schema::read(alloc, json.as_bytes()).expect(&rt, "a schema");
     let cases = [
         ("SELECT w.a FROM w", "", "bound"),
         ("SELECT COUNT(*) FROM w", "", "B10 at 0"),
@@ -451,16 +455,17 @@ fn numbers(rt: HostRuntime) {
         ("SELECT COUNT(*) n FROM w", " ORDER BY nope", "B09 at 76"),
     ];
     for (front, back, wanted) in cases {
-        let mut text = repeated(alloc, front, ", w w#", 7, 0).unwrap();
-        text.push_str(back).unwrap();
-        let statement = parse_statement(alloc, text.as_str()).unwrap();
+        let mut text = repeated(alloc, front, ", w w#", 7, 0)?;
+        text.push_str(back)?;
+        let statement = parse_statement(alloc, text.as_str()).expect(&rt, "a statement");
         let mut told = String::new(alloc);
         match bind_statement(alloc, &schema, &statement) {
-            Ok(_) => told.push_str("bound").unwrap(),
-            Err(fault) => write!(&mut told, "{fault}").unwrap(),
+            Ok(_) => told.push_str("bound")?,
+            Err(fault) => write!(&mut told, "{fault}")?,
         }
         assert_eq!(rt; told.as_str(), wanted, "{front}");
     }
+    Ok(())
 }
 
 fn filter_of(block: &Block) -> Option<&Cond> {
@@ -472,13 +477,13 @@ fn filter_of(block: &Block) -> Option<&Cond> {
 
 /// Occurrences, columns and aggregates are numbered in the order of the text.
 #[test]
-fn numbered(rt: HostRuntime) {
+fn numbered(rt: HostRuntime) -> Result<(), Fail> {
     let alloc = rt.alloc();
-    let schema = Schema::read(alloc, COMPANY.as_bytes()).unwrap();
+    let schema = Schema::read(alloc, COMPANY.as_bytes()).expect(&rt, "a schema");
     let text =
         "SELECT COUNT(*), d.id k FROM dept d, dept x JOIN emp e ON e.id = x.boss WHERE d.id IN (SELECT MAX(f.pay) FROM emp f WHERE d.boss = f.id) GROUP BY d.id ORDER BY d.id, k DESC";
-    let statement = parse_statement(alloc, text).unwrap();
-    let query = bind_statement(alloc, &schema, &statement).unwrap();
+    let statement = parse_statement(alloc, text).expect(&rt, "a statement");
+    let query = bind_statement(alloc, &schema, &statement).expect(&rt, "a query");
     let mut tables = String::new(alloc);
     for table in query.tables.as_slice() {
         write!(
@@ -486,8 +491,7 @@ fn numbered(rt: HostRuntime) {
             "{}@{} ",
             table.name.as_str(),
             table.first_column
-        )
-        .unwrap();
+        )?;
     }
     assert_eq!(rt; tables.as_str(), "d@0 x@3 e@6 f@10 ");
     let own = Item::Column(Column { level: 0, place: 0 });
@@ -507,7 +511,7 @@ fn numbered(rt: HostRuntime) {
     assert_eq!(rt; query.names.as_slice().len(), 2);
     let Some(Cond::In(_, inner)) = filter_of(&query.block) else {
         assert!(rt; false, "no IN");
-        return;
+        return Ok(());
     };
     assert_eq!(rt;
         inner.get().items.as_slice(),
@@ -516,10 +520,11 @@ fn numbered(rt: HostRuntime) {
     let Some(Cond::Compare(_, Term::Column(outer), Term::Column(own))) = filter_of(inner.get())
     else {
         assert!(rt; false, "no comparison");
-        return;
+        return Ok(());
     };
     assert_eq!(rt;
         (*outer, *own),
         (Column { level: 1, place: 2 }, Column { level: 0, place: 0 })
     );
+    Ok(())
 }
