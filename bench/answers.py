@@ -4,7 +4,6 @@
 Rows are compared up to order, and in order where the query has an ORDER BY. sqlite3 agrees with this project's SQL on what
 that needs: Nulls are first under ASC and last under DESC, and texts are compared byte by byte (collation BINARY).
 """
-import ast
 import csv
 import pathlib
 import re
@@ -12,13 +11,11 @@ import sqlite3
 
 ROOT = pathlib.Path(__file__).resolve().parent.parent
 TESTS = ROOT / "crates/sqlplan/src/answers.rt"
-TEXT = r'"(?:[^"\\]|\\.)*"'
 
 
 def worked():
-    """The pairs of a query and its answer."""
-    for query, answer in re.findall(rf"\(\s*({TEXT}),\s*({TEXT}),?\s*\)", TESTS.read_text()):
-        query, answer = ast.literal_eval(query), ast.literal_eval(answer)
+    """The pairs of a query and its answer, which stand in lines as `query => header;row;row`."""
+    for query, answer in re.findall(r'^(?:.*r")?(SELECT .*) => (.*?)(?:";)?$', TESTS.read_text(), re.MULTILINE):
         if not answer.startswith("refused"):
             yield query, answer
 
@@ -57,7 +54,7 @@ def main():
             print(f"not asked ({error}): {query[:60]}..")
             left_out += 1
             continue
-        shown = answer.split("\n")[1:-1]
+        shown = answer.split(";")[1:]
         same = rows == shown if "ORDER BY" in query else sorted(rows) == sorted(shown)
         asked += 1
         if not same:

@@ -38,9 +38,11 @@ fn told(alloc: Global, text: &str) -> Result<String, Fail> {
     Ok(told)
 }
 
-fn are_told(rt: &impl Abort, alloc: Global, cases: &[(&str, &str)]) -> Result<(), Fail> {
-    for (text, wanted) in cases {
-        assert_eq!(rt; told(alloc, text)?.as_str(), *wanted, "{text}");
+/// Each line has what is wanted, `|` and a text.
+fn are_told(rt: &impl Abort, alloc: Global, cases: &str) -> Result<(), Fail> {
+    for case in cases.lines() {
+        let (wanted, text) = case.split_once(" | ").expect(rt, "two parts");
+        assert_eq!(rt; told(alloc, text)?.as_str(), wanted, "{text}");
     }
     Ok(())
 }
@@ -48,332 +50,142 @@ fn are_told(rt: &impl Abort, alloc: Global, cases: &[(&str, &str)]) -> Result<()
 /// B01 and B04, in FROM.
 #[test]
 fn tables(rt: HostRuntime) -> Result<(), Fail> {
-    let cases = [
-        ("SELECT id FROM nope", "B01 at 15"),
-        (
-            "SELECT id FROM dept d JOIN nope n ON n.id = d.id",
-            "B01 at 27",
-        ),
-        ("SELECT id FROM dept, emp e, nope", "B01 at 28"),
-        (
-            "SELECT d.id FROM dept d WHERE EXISTS (SELECT * FROM nope)",
-            "B01 at 52",
-        ),
-        (
-            "SELECT d.id FROM dept d WHERE d.id IN (SELECT e.id FROM emp e WHERE NOT EXISTS (SELECT * FROM emp f, nope))",
-            "B01 at 101",
-        ),
-        ("SELECT id FROM emp, emp", "B04 at 20"),
-        ("SELECT e.id FROM emp e, dept e", "B04 at 29"),
-        (
-            "SELECT e.id FROM dept, emp AS e JOIN dept e ON e.id = 1",
-            "B04 at 42",
-        ),
-        (
-            "SELECT e.id FROM dept emp, dept e LEFT JOIN emp ON e.id = 1",
-            "B04 at 44",
-        ),
-        (
-            "SELECT d.id FROM dept d WHERE EXISTS (SELECT * FROM emp d, dept d)",
-            "B04 at 64",
-        ),
-        ("SELECT id FROM emp nope, nope", "B01 at 25"),
-    ];
-    are_told(&rt, rt.alloc(), &cases)
+    const CASES: &str = "B01 at 15 | SELECT id FROM nope
+B01 at 27 | SELECT id FROM dept d JOIN nope n ON n.id = d.id
+B01 at 28 | SELECT id FROM dept, emp e, nope
+B01 at 52 | SELECT d.id FROM dept d WHERE EXISTS (SELECT * FROM nope)
+B01 at 101 | SELECT d.id FROM dept d WHERE d.id IN (SELECT e.id FROM emp e WHERE NOT EXISTS (SELECT * FROM emp f, nope))
+B04 at 20 | SELECT id FROM emp, emp
+B04 at 29 | SELECT e.id FROM emp e, dept e
+B04 at 42 | SELECT e.id FROM dept, emp AS e JOIN dept e ON e.id = 1
+B04 at 44 | SELECT e.id FROM dept emp, dept e LEFT JOIN emp ON e.id = 1
+B04 at 64 | SELECT d.id FROM dept d WHERE EXISTS (SELECT * FROM emp d, dept d)
+B01 at 25 | SELECT id FROM emp nope, nope";
+    are_told(&rt, rt.alloc(), CASES)
 }
 
 /// B02 and B03.
 #[test]
 fn columns(rt: HostRuntime) -> Result<(), Fail> {
-    let cases = [
-        ("SELECT nope FROM emp", "B02 at 7"),
-        ("SELECT id, nope, pay FROM emp", "B02 at 11"),
-        ("SELECT id, pay, nope.id FROM emp", "B02 at 16"),
-        ("SELECT id, emp.name FROM emp", "B02 at 11"),
-        ("SELECT emp.id FROM emp e", "B02 at 7"),
-        ("SELECT COUNT(*), SUM(nope) FROM emp", "B02 at 21"),
-        (
-            "SELECT id FROM emp WHERE nope = 1 AND gone = 2",
-            "B02 at 25",
-        ),
-        (
-            "SELECT id FROM emp WHERE id = 1 AND (pay = nope OR id = 2)",
-            "B02 at 43",
-        ),
-        (
-            "SELECT id FROM emp WHERE NOT id = 1 OR nope IS NOT NULL",
-            "B02 at 39",
-        ),
-        (
-            "SELECT id FROM emp WHERE nope IN (SELECT gone FROM emp)",
-            "B02 at 25",
-        ),
-        (
-            "SELECT id FROM emp WHERE id IN (SELECT gone FROM emp) AND nope = 1",
-            "B02 at 39",
-        ),
-        (
-            "SELECT d.id FROM dept d JOIN emp e ON f.id = d.id JOIN emp f ON f.id = e.id",
-            "B02 at 38",
-        ),
-        (
-            "SELECT d.id FROM dept d, emp e JOIN emp f ON f.id = d.id",
-            "B02 at 52",
-        ),
-        ("SELECT id FROM emp GROUP BY id, nope", "B02 at 32"),
-        (
-            "SELECT d.id FROM dept d WHERE EXISTS (SELECT e.id FROM emp e GROUP BY e.id, e.name)",
-            "B02 at 76",
-        ),
-        (
-            "SELECT d.id FROM dept d WHERE EXISTS (SELECT * FROM emp d WHERE d.name = 'ops')",
-            "B02 at 64",
-        ),
-        ("SELECT id FROM dept, emp", "B03 at 7"),
-        ("SELECT boss, name, id FROM dept, emp", "B03 at 19"),
-        ("SELECT pay FROM dept JOIN emp ON id = 1", "B03 at 33"),
-        (
-            "SELECT pay FROM dept, emp WHERE pay = 1 AND boss = id",
-            "B03 at 51",
-        ),
-        ("SELECT pay FROM dept, emp GROUP BY pay, id", "B03 at 40"),
-        ("SELECT MAX(id) FROM dept, emp", "B03 at 11"),
-        (
-            "SELECT d.id FROM dept d WHERE EXISTS (SELECT * FROM emp a, emp b WHERE pay = 1)",
-            "B03 at 71",
-        ),
-        (
-            "SELECT d.id FROM dept d WHERE d.id IN (SELECT badge FROM emp a, emp b)",
-            "B03 at 46",
-        ),
-        (
-            "SELECT d.id FROM dept d, dept e WHERE EXISTS (SELECT * FROM emp f WHERE boss = 1)",
-            "B03 at 72",
-        ),
-        ("SELECT id, pay AS id FROM emp ORDER BY id", "B03 at 39"),
-        (
-            "SELECT COUNT(id) n, COUNT(pay) n FROM emp ORDER BY n",
-            "B03 at 51",
-        ),
-        (
-            "SELECT pay, dept, badge pay FROM emp ORDER BY dept, pay DESC",
-            "B03 at 52",
-        ),
-    ];
-    are_told(&rt, rt.alloc(), &cases)
+    const CASES: &str = "B02 at 7 | SELECT nope FROM emp
+B02 at 11 | SELECT id, nope, pay FROM emp
+B02 at 16 | SELECT id, pay, nope.id FROM emp
+B02 at 11 | SELECT id, emp.name FROM emp
+B02 at 7 | SELECT emp.id FROM emp e
+B02 at 21 | SELECT COUNT(*), SUM(nope) FROM emp
+B02 at 25 | SELECT id FROM emp WHERE nope = 1 AND gone = 2
+B02 at 43 | SELECT id FROM emp WHERE id = 1 AND (pay = nope OR id = 2)
+B02 at 39 | SELECT id FROM emp WHERE NOT id = 1 OR nope IS NOT NULL
+B02 at 25 | SELECT id FROM emp WHERE nope IN (SELECT gone FROM emp)
+B02 at 39 | SELECT id FROM emp WHERE id IN (SELECT gone FROM emp) AND nope = 1
+B02 at 38 | SELECT d.id FROM dept d JOIN emp e ON f.id = d.id JOIN emp f ON f.id = e.id
+B02 at 52 | SELECT d.id FROM dept d, emp e JOIN emp f ON f.id = d.id
+B02 at 32 | SELECT id FROM emp GROUP BY id, nope
+B02 at 76 | SELECT d.id FROM dept d WHERE EXISTS (SELECT e.id FROM emp e GROUP BY e.id, e.name)
+B02 at 64 | SELECT d.id FROM dept d WHERE EXISTS (SELECT * FROM emp d WHERE d.name = 'ops')
+B03 at 7 | SELECT id FROM dept, emp
+B03 at 19 | SELECT boss, name, id FROM dept, emp
+B03 at 33 | SELECT pay FROM dept JOIN emp ON id = 1
+B03 at 51 | SELECT pay FROM dept, emp WHERE pay = 1 AND boss = id
+B03 at 40 | SELECT pay FROM dept, emp GROUP BY pay, id
+B03 at 11 | SELECT MAX(id) FROM dept, emp
+B03 at 71 | SELECT d.id FROM dept d WHERE EXISTS (SELECT * FROM emp a, emp b WHERE pay = 1)
+B03 at 46 | SELECT d.id FROM dept d WHERE d.id IN (SELECT badge FROM emp a, emp b)
+B03 at 72 | SELECT d.id FROM dept d, dept e WHERE EXISTS (SELECT * FROM emp f WHERE boss = 1)
+B03 at 39 | SELECT id, pay AS id FROM emp ORDER BY id
+B03 at 51 | SELECT COUNT(id) n, COUNT(pay) n FROM emp ORDER BY n
+B03 at 52 | SELECT pay, dept, badge pay FROM emp ORDER BY dept, pay DESC";
+    are_told(&rt, rt.alloc(), CASES)
 }
 
 /// B05 and B08.
 #[test]
 fn kinds(rt: HostRuntime) -> Result<(), Fail> {
-    let cases = [
-        ("SELECT id FROM emp WHERE id = 'x'", "B05 at 28"),
-        ("SELECT id FROM emp WHERE 'x' <> 1", "B05 at 29"),
-        (
-            "SELECT id FROM emp WHERE id = 1 AND pay = 2 AND 'x' >= dept",
-            "B05 at 52",
-        ),
-        (
-            "SELECT d.id FROM dept d JOIN emp e ON e.id = d.id AND e.id < d.name",
-            "B05 at 59",
-        ),
-        (
-            "SELECT d.id FROM dept d WHERE EXISTS (SELECT * FROM emp e WHERE e.id = d.name)",
-            "B05 at 69",
-        ),
-        (
-            "SELECT id FROM dept WHERE name IN (SELECT id FROM emp)",
-            "B05 at 31",
-        ),
-        (
-            "SELECT id FROM emp WHERE id NOT IN (SELECT name FROM dept)",
-            "B05 at 32",
-        ),
-        (
-            "SELECT id FROM dept WHERE name IN (SELECT COUNT(*) FROM emp)",
-            "B05 at 31",
-        ),
-        (
-            "SELECT id FROM emp WHERE id IN (SELECT MIN(name) FROM dept)",
-            "B05 at 28",
-        ),
-        (
-            "SELECT id FROM emp WHERE id IN (SELECT * FROM dept)",
-            "B08 at 28",
-        ),
-        (
-            "SELECT id FROM emp WHERE 1 = 1 OR id NOT IN (SELECT id, name FROM dept)",
-            "B08 at 41",
-        ),
-        (
-            "SELECT id FROM dept WHERE EXISTS (SELECT * FROM emp WHERE pay IN (SELECT name, id FROM dept))",
-            "B08 at 62",
-        ),
-    ];
-    are_told(&rt, rt.alloc(), &cases)
+    const CASES: &str = "B05 at 28 | SELECT id FROM emp WHERE id = 'x'
+B05 at 29 | SELECT id FROM emp WHERE 'x' <> 1
+B05 at 52 | SELECT id FROM emp WHERE id = 1 AND pay = 2 AND 'x' >= dept
+B05 at 59 | SELECT d.id FROM dept d JOIN emp e ON e.id = d.id AND e.id < d.name
+B05 at 69 | SELECT d.id FROM dept d WHERE EXISTS (SELECT * FROM emp e WHERE e.id = d.name)
+B05 at 31 | SELECT id FROM dept WHERE name IN (SELECT id FROM emp)
+B05 at 32 | SELECT id FROM emp WHERE id NOT IN (SELECT name FROM dept)
+B05 at 31 | SELECT id FROM dept WHERE name IN (SELECT COUNT(*) FROM emp)
+B05 at 28 | SELECT id FROM emp WHERE id IN (SELECT MIN(name) FROM dept)
+B08 at 28 | SELECT id FROM emp WHERE id IN (SELECT * FROM dept)
+B08 at 41 | SELECT id FROM emp WHERE 1 = 1 OR id NOT IN (SELECT id, name FROM dept)
+B08 at 62 | SELECT id FROM dept WHERE EXISTS (SELECT * FROM emp WHERE pay IN (SELECT name, id FROM dept))";
+    are_told(&rt, rt.alloc(), CASES)
 }
 
 /// B06, B07 and B11.
 #[test]
 fn groups(rt: HostRuntime) -> Result<(), Fail> {
-    let cases = [
-        ("SELECT name, COUNT(*) FROM dept", "B06 at 7"),
-        ("SELECT COUNT(*), name FROM dept", "B06 at 17"),
-        (
-            "SELECT dept, pay, id FROM emp GROUP BY pay, dept",
-            "B06 at 18",
-        ),
-        (
-            "SELECT dept, COUNT(*), emp.pay p FROM emp GROUP BY dept",
-            "B06 at 23",
-        ),
-        ("SELECT * FROM emp GROUP BY id, dept, pay", "B06 at 7"),
-        (
-            "SELECT id FROM dept d WHERE id IN (SELECT e.id FROM emp e GROUP BY e.pay)",
-            "B06 at 42",
-        ),
-        (
-            "SELECT d.id FROM dept d WHERE EXISTS (SELECT e.pay FROM emp e GROUP BY e.pay, d.id)",
-            "B06 at 78",
-        ),
-        (
-            "SELECT d.id FROM dept d WHERE EXISTS (SELECT pay FROM emp GROUP BY boss)",
-            "B06 at 67",
-        ),
-        ("SELECT SUM(name) FROM dept", "B07 at 7"),
-        (
-            "SELECT COUNT(*), MAX(name), SUM(name) FROM dept",
-            "B07 at 28",
-        ),
-        (
-            "SELECT id FROM emp WHERE id IN (SELECT SUM(name) FROM dept)",
-            "B07 at 39",
-        ),
-        (
-            "SELECT d.id FROM dept d WHERE d.id IN (SELECT MAX(d.id) FROM emp e)",
-            "B11 at 46",
-        ),
-        (
-            "SELECT d.id FROM dept d WHERE EXISTS (SELECT COUNT(*), SUM(d.name) FROM emp e)",
-            "B11 at 55",
-        ),
-        (
-            "SELECT d.id FROM dept d WHERE EXISTS (SELECT COUNT(boss), name FROM emp)",
-            "B11 at 45",
-        ),
-    ];
-    are_told(&rt, rt.alloc(), &cases)
+    const CASES: &str = "B06 at 7 | SELECT name, COUNT(*) FROM dept
+B06 at 17 | SELECT COUNT(*), name FROM dept
+B06 at 18 | SELECT dept, pay, id FROM emp GROUP BY pay, dept
+B06 at 23 | SELECT dept, COUNT(*), emp.pay p FROM emp GROUP BY dept
+B06 at 7 | SELECT * FROM emp GROUP BY id, dept, pay
+B06 at 42 | SELECT id FROM dept d WHERE id IN (SELECT e.id FROM emp e GROUP BY e.pay)
+B06 at 78 | SELECT d.id FROM dept d WHERE EXISTS (SELECT e.pay FROM emp e GROUP BY e.pay, d.id)
+B06 at 67 | SELECT d.id FROM dept d WHERE EXISTS (SELECT pay FROM emp GROUP BY boss)
+B07 at 7 | SELECT SUM(name) FROM dept
+B07 at 28 | SELECT COUNT(*), MAX(name), SUM(name) FROM dept
+B07 at 39 | SELECT id FROM emp WHERE id IN (SELECT SUM(name) FROM dept)
+B11 at 46 | SELECT d.id FROM dept d WHERE d.id IN (SELECT MAX(d.id) FROM emp e)
+B11 at 55 | SELECT d.id FROM dept d WHERE EXISTS (SELECT COUNT(*), SUM(d.name) FROM emp e)
+B11 at 45 | SELECT d.id FROM dept d WHERE EXISTS (SELECT COUNT(boss), name FROM emp)";
+    are_told(&rt, rt.alloc(), CASES)
 }
 
 /// B09.
 #[test]
 fn orders(rt: HostRuntime) -> Result<(), Fail> {
-    let cases = [
-        ("SELECT id FROM emp ORDER BY pay", "B09 at 28"),
-        (
-            "SELECT id, pay FROM emp ORDER BY pay, dept DESC, id",
-            "B09 at 38",
-        ),
-        (
-            "SELECT id, pay FROM emp ORDER BY id, pay, emp.dept",
-            "B09 at 42",
-        ),
-        ("SELECT id FROM emp ORDER BY nope.id", "B09 at 28"),
-        ("SELECT id FROM emp ORDER BY emp.nope", "B09 at 28"),
-        ("SELECT id AS key FROM emp ORDER BY id", "B09 at 35"),
-        ("SELECT COUNT(id) FROM emp ORDER BY emp.id", "B09 at 35"),
-    ];
-    are_told(&rt, rt.alloc(), &cases)
+    const CASES: &str = "B09 at 28 | SELECT id FROM emp ORDER BY pay
+B09 at 38 | SELECT id, pay FROM emp ORDER BY pay, dept DESC, id
+B09 at 42 | SELECT id, pay FROM emp ORDER BY id, pay, emp.dept
+B09 at 28 | SELECT id FROM emp ORDER BY nope.id
+B09 at 28 | SELECT id FROM emp ORDER BY emp.nope
+B09 at 35 | SELECT id AS key FROM emp ORDER BY id
+B09 at 35 | SELECT COUNT(id) FROM emp ORDER BY emp.id";
+    are_told(&rt, rt.alloc(), CASES)
 }
 
 /// Which of several faults is told.
 #[test]
 fn order_of_faults(rt: HostRuntime) -> Result<(), Fail> {
-    let cases = [
-        (
-            "SELECT nope FROM emp, gone WHERE id = 'x' GROUP BY none ORDER BY never",
-            "B01 at 22",
-        ),
-        (
-            "SELECT nope FROM emp WHERE id = 'x' GROUP BY none ORDER BY never",
-            "B05 at 30",
-        ),
-        (
-            "SELECT nope FROM emp GROUP BY none ORDER BY never",
-            "B02 at 30",
-        ),
-        ("SELECT nope FROM emp ORDER BY never", "B02 at 7"),
-        (
-            "SELECT id FROM emp e JOIN dept d ON nope = 1 JOIN gone ON id = 1",
-            "B02 at 36",
-        ),
-        (
-            "SELECT id FROM emp e JOIN dept d ON e.id = d.name, emp e",
-            "B05 at 41",
-        ),
-        (
-            "SELECT id FROM emp WHERE id = 'x' AND nope = 1",
-            "B05 at 28",
-        ),
-        (
-            "SELECT id FROM emp WHERE id IN (SELECT id, nope FROM dept)",
-            "B02 at 43",
-        ),
-        (
-            "SELECT id FROM emp WHERE id IN (SELECT name, id FROM dept) AND nope = 1",
-            "B08 at 28",
-        ),
-        (
-            "SELECT nope FROM emp WHERE EXISTS (SELECT gone FROM dept)",
-            "B02 at 42",
-        ),
-        (
-            "SELECT d.id FROM dept d WHERE EXISTS (SELECT SUM(d.name), nope FROM emp)",
-            "B11 at 45",
-        ),
-        ("SELECT SUM(name), nope FROM dept", "B07 at 7"),
-        ("SELECT id, SUM(name) FROM dept", "B06 at 7"),
-        ("SELECT id FROM emp ORDER BY pay, nope", "B09 at 28"),
-    ];
-    are_told(&rt, rt.alloc(), &cases)
+    const CASES: &str =
+        "B01 at 22 | SELECT nope FROM emp, gone WHERE id = 'x' GROUP BY none ORDER BY never
+B05 at 30 | SELECT nope FROM emp WHERE id = 'x' GROUP BY none ORDER BY never
+B02 at 30 | SELECT nope FROM emp GROUP BY none ORDER BY never
+B02 at 7 | SELECT nope FROM emp ORDER BY never
+B02 at 36 | SELECT id FROM emp e JOIN dept d ON nope = 1 JOIN gone ON id = 1
+B05 at 41 | SELECT id FROM emp e JOIN dept d ON e.id = d.name, emp e
+B05 at 28 | SELECT id FROM emp WHERE id = 'x' AND nope = 1
+B02 at 43 | SELECT id FROM emp WHERE id IN (SELECT id, nope FROM dept)
+B08 at 28 | SELECT id FROM emp WHERE id IN (SELECT name, id FROM dept) AND nope = 1
+B02 at 42 | SELECT nope FROM emp WHERE EXISTS (SELECT gone FROM dept)
+B11 at 45 | SELECT d.id FROM dept d WHERE EXISTS (SELECT SUM(d.name), nope FROM emp)
+B07 at 7 | SELECT SUM(name), nope FROM dept
+B06 at 7 | SELECT id, SUM(name) FROM dept
+B09 at 28 | SELECT id FROM emp ORDER BY pay, nope";
+    are_told(&rt, rt.alloc(), CASES)
 }
 
 /// Texts that bind.
 #[test]
 fn bound(rt: HostRuntime) -> Result<(), Fail> {
-    let cases = [
-        ("SELECT id FROM emp", "bound"),
-        ("SELECT * FROM dept, emp e", "bound"),
-        (
-            "SELECT e.id FROM emp e WHERE NULL = 'x' AND NULL = 1 AND NULL IS NULL",
-            "bound",
-        ),
-        (
-            "SELECT d.id FROM dept d, emp e WHERE EXISTS (SELECT * FROM emp d WHERE d.pay = boss)",
-            "bound",
-        ),
-        (
-            "SELECT d.id FROM dept d WHERE d.name IN (SELECT MIN(name) FROM dept)",
-            "bound",
-        ),
-        (
-            "SELECT id FROM emp WHERE NULL IN (SELECT name FROM dept)",
-            "bound",
-        ),
-        (
-            "SELECT d.id FROM dept d WHERE EXISTS (SELECT d.name, e.pay FROM emp e GROUP BY e.pay)",
-            "bound",
-        ),
-        ("SELECT * FROM emp GROUP BY badge, pay, dept, id", "bound"),
-        ("SELECT id, id FROM emp ORDER BY id, emp.id DESC", "bound"),
-        (
-            "SELECT id i, pay FROM emp ORDER BY emp.id, i DESC, pay",
-            "bound",
-        ),
-        ("SELECT MAX(name), COUNT(name) FROM dept", "bound"),
-        ("SELECT emp.id FROM dept emp, emp dept", "bound"),
-    ];
-    are_told(&rt, rt.alloc(), &cases)
+    const CASES: &str = "bound | SELECT id FROM emp
+bound | SELECT * FROM dept, emp e
+bound | SELECT e.id FROM emp e WHERE NULL = 'x' AND NULL = 1 AND NULL IS NULL
+bound | SELECT d.id FROM dept d, emp e WHERE EXISTS (SELECT * FROM emp d WHERE d.pay = boss)
+bound | SELECT d.id FROM dept d WHERE d.name IN (SELECT MIN(name) FROM dept)
+bound | SELECT id FROM emp WHERE NULL IN (SELECT name FROM dept)
+bound | SELECT d.id FROM dept d WHERE EXISTS (SELECT d.name, e.pay FROM emp e GROUP BY e.pay)
+bound | SELECT * FROM emp GROUP BY badge, pay, dept, id
+bound | SELECT id, id FROM emp ORDER BY id, emp.id DESC
+bound | SELECT id i, pay FROM emp ORDER BY emp.id, i DESC, pay
+bound | SELECT MAX(name), COUNT(name) FROM dept
+bound | SELECT emp.id FROM dept emp, emp dept";
+    are_told(&rt, rt.alloc(), CASES)
 }
 
 /// The front, the part so often, with its number for each `#`, and `)` so often.

@@ -58,38 +58,26 @@ fn told(
     }
 }
 
-#[test]
-fn queries_are_answered(rt: HostRuntime) -> Result<(), Fail> {
-    let answers = [
-        ("SELECT id FROM emp WHERE pay <> 500", "id\n12\n"),
-        ("SELECT id FROM emp WHERE pay != 500;", "id\n12\n"),
-        ("SELECT id FROM emp WHERE pay = 500", "id\n10\n13\n"),
-        ("SELECT id FROM emp WHERE pay < 500", "id\n12\n"),
-        ("SELECT id FROM emp WHERE pay <= 500", "id\n10\n12\n13\n"),
-        ("SELECT id FROM emp WHERE pay > 400", "id\n10\n13\n"),
-        ("SELECT id FROM emp WHERE pay >= 401", "id\n10\n13\n"),
-        // A comparison with NULL is unknown, and so is its opposite.
-        ("SELECT id FROM emp WHERE pay = NULL", "id\n"),
-        ("SELECT id FROM emp WHERE pay <> NULL", "id\n"),
-        (
-            "SELECT pay, id, pay FROM emp WHERE id < 12",
-            "pay,id,pay\n500,10,500\n\\N,11,\\N\n",
-        ),
-        (
-            "\tselect\r\nNAME from DEPT where Name > 'lab' ;\n",
-            "name\nops\n",
-        ),
-        ("SELECT name FROM dept WHERE name = 'it''s'", "name\n"),
-        ("SELECT boss FROM dept", "boss\n10\n\\N\n12\n"),
-        (
-            "SELECT id FROM emp WHERE id >= -9223372036854775808",
-            "id\n10\n11\n12\n13\n",
-        ),
-    ];
-    for (text, answer) in answers {
+/// The lines of a text, with `;` between them.
+pub fn in_a_line(alloc: Global, text: &str) -> Result<String, Fail> {
+    let mut line = String::new(alloc);
+    for (number, part) in text.lines().enumerate() {
+        if number > 0 {
+            line.push_str(";")?;
+        }
+        line.push_str(part)?;
+    }
+    Ok(line)
+}
+
+/// Each line has a text, `=>`, and the lines that it is answered with, with `;` between them.
+fn are_told(rt: &impl Abort, alloc: Global, cases: &str) -> Result<(), Fail> {
+    for case in cases.lines() {
+        let (text, lines) = case.split_once(" => ").expect(rt, "two parts");
+        let answer = told(rt, alloc, SCHEMA, text.as_bytes(), DEPT, EMP)?;
         assert_eq!(rt;
-            told(&rt, rt.alloc(), SCHEMA, text.as_bytes(), DEPT, EMP)?.as_str(),
-            answer,
+            in_a_line(alloc, answer.as_str())?.as_str(),
+            lines,
             "at {text}"
         );
     }
@@ -97,31 +85,52 @@ fn queries_are_answered(rt: HostRuntime) -> Result<(), Fail> {
 }
 
 #[test]
+fn queries_are_answered(rt: HostRuntime) -> Result<(), Fail> {
+    // A comparison with NULL is unknown, and so is its opposite.
+    const CASES: &str = r"SELECT id FROM emp WHERE pay <> 500 => id;12
+SELECT id FROM emp WHERE pay != 500; => id;12
+SELECT id FROM emp WHERE pay = 500 => id;10;13
+SELECT id FROM emp WHERE pay < 500 => id;12
+SELECT id FROM emp WHERE pay <= 500 => id;10;12;13
+SELECT id FROM emp WHERE pay > 400 => id;10;13
+SELECT id FROM emp WHERE pay >= 401 => id;10;13
+SELECT id FROM emp WHERE pay = NULL => id
+SELECT id FROM emp WHERE pay <> NULL => id
+SELECT pay, id, pay FROM emp WHERE id < 12 => pay,id,pay;500,10,500;\N,11,\N
+SELECT name FROM dept WHERE name = 'it''s' => name
+SELECT boss FROM dept => boss;10;\N;12
+SELECT id FROM emp WHERE id >= -9223372036854775808 => id;10;11;12;13";
+    are_told(&rt, rt.alloc(), CASES)?;
+    assert_eq!(rt;
+        told(
+            &rt,
+            rt.alloc(),
+            SCHEMA,
+            b"\tselect\r\nNAME from DEPT where Name > 'lab' ;\n",
+            DEPT,
+            EMP
+        )?
+        .as_str(),
+        "name\nops\n"
+    );
+    Ok(())
+}
+
+#[test]
 fn texts_are_refused(rt: HostRuntime) -> Result<(), Fail> {
-    let lines = [
-        ("", "refused P04 at 0"),
-        ("SELECT id FROM emp LIMIT 1", "refused P04 at 19"),
-        ("SELECT id FROM emp, emp", "refused P04 at 18"),
-        ("SELECT id FROM", "refused P04 at 14"),
-        ("SELECT 'a", "refused P02 at 7"),
-        (
-            "SELECT id FROM emp WHERE id = 9223372036854775808",
-            "refused P03 at 30",
-        ),
-        ("SELECT id FROM emp WHERE id ! 1", "refused P01 at 28"),
-        ("SELECT id FROM emps", "refused B01 at 15"),
-        ("SELECT id, nam FROM dept", "refused B02 at 11"),
-        ("SELECT nam FROM dept WHERE bos = 1", "refused B02 at 27"),
-        ("SELECT id FROM emp WHERE id = 'x'", "refused B05 at 28"),
-        ("SELECT id FROM dept WHERE name <> 1", "refused B05 at 31"),
-    ];
-    for (text, line) in lines {
-        assert_eq!(rt;
-            told(&rt, rt.alloc(), SCHEMA, text.as_bytes(), DEPT, EMP)?.as_str(),
-            line,
-            "at {text}"
-        );
-    }
+    const CASES: &str = r" => refused P04 at 0
+SELECT id FROM emp LIMIT 1 => refused P04 at 19
+SELECT id FROM emp, emp => refused P04 at 18
+SELECT id FROM => refused P04 at 14
+SELECT 'a => refused P02 at 7
+SELECT id FROM emp WHERE id = 9223372036854775808 => refused P03 at 30
+SELECT id FROM emp WHERE id ! 1 => refused P01 at 28
+SELECT id FROM emps => refused B01 at 15
+SELECT id, nam FROM dept => refused B02 at 11
+SELECT nam FROM dept WHERE bos = 1 => refused B02 at 27
+SELECT id FROM emp WHERE id = 'x' => refused B05 at 28
+SELECT id FROM dept WHERE name <> 1 => refused B05 at 31";
+    are_told(&rt, rt.alloc(), CASES)?;
     let bytes = [
         // No UTF-8, and a byte order mark, which no token begins with.
         (b"SELECT \xff".as_slice(), "refused P01 at 7"),
