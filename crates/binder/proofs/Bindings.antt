@@ -31,7 +31,7 @@ wanted_ok r None x e = cc e
 wanted_ok r (Some y) x e = cc e
 
 -- a column that is found stands in the list
-found_below : (n : ℕ) (cs : List entries.Column) (name : List ℕ) (p : ℕ × entries.Column) → find_column n cs name ≡ Some p → p.0 < n + length cs
+pub found_below : (n : ℕ) (cs : List entries.Column) (name : List ℕ) (p : ℕ × entries.Column) → find_column n cs name ≡ Some p → p.0 < n + length cs
 found_below n [] name p e = cc e
 found_below n (c ∷ cs) name p e = one (bytes_eq c.name name) e (found_below (n + 1) cs name p)
   where

@@ -2,6 +2,7 @@ pub mod Aggregates
 pub mod Answer
 pub mod Binding
 pub mod Bound
+pub mod BoundStatements
 pub mod Chained
 pub mod Codes
 pub mod Examples

@@ -1,6 +1,12 @@
 //! The laws of the meaning of queries. Each function does nothing: its contract is the law.
 
 ghost use Rattle.binder.specs.Answer.{AnswersAreByLaws, LawsDetermineMeaning, SatisfyingFits};
+ghost use Rattle.binder.specs.BoundStatements.{
+  StatementsAreBound,
+  StatementsAreOver,
+  StatementsArePlain,
+  StatementsAreWide,
+};
 ghost use Rattle.binder.specs.Examples.{WorkedRows};
 ghost use Rattle.binder.specs.Laws.{IsMeaning};
 ghost use Rattle.binder.specs.Meaning.{often, src, truth};
@@ -30,4 +36,13 @@ pub fn answers_are_by_laws()
 /// aggregates with and without rows.
 pub fn worked_rows_hold()
     ensures { WorkedRows }
+{}
+
+/// No text is a statement with a subquery in an ON. What the query of any other statement names is there, and the columns
+/// that a condition can name have numbers of their own. Each table occurrence is one of a table of the schema, and as wide.
+pub fn statements_are_bound()
+    ensures plain { StatementsArePlain }
+    ensures bound { StatementsAreBound }
+    ensures over { StatementsAreOver }
+    ensures wide { StatementsAreWide }
 {}

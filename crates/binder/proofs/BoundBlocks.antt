@@ -1,0 +1,136 @@
+-- A SELECT is bound, if its FROM and its WHERE are.
+use Rattle.std.proofs.Common.{◌≡◌, refl, ◌∙◌, subst, ℕ, ◌+◌, ◌≤◌, ◌<◌, Bool, true, ◌&&◌, nat_lt, List, [], ◌∷◌, ◌++◌, map, length, Option, Some, None, option_map, arith}
+use Rattle.std.specs.List.{list_all}
+use Rattle.std.proofs.lemmas.List.{length-map}
+use Rattle.std.proofs.lemmas.Bool.{and_parts, and_from, or_right, lt-ltb, eq-eqb}
+use Rattle.schema.specs.declared.schema.Schema.{Schema}
+use Rattle.schema.specs.Each.{each}
+use Rattle.sql_parse.specs.declared.statement.Condition.{Condition}
+use Rattle.sql_parse.specs.declared.statement.SelectList.{SelectList}
+use Rattle.sql_parse.specs.declared.statement.Select.{Select, out-Select}
+use Rattle.binder.specs.declared.query.TableUse.{TableUse}
+use Rattle.binder.specs.declared.query.Cond.{Cond}
+use Rattle.binder.specs.declared.tables.Numbered.{Numbered}
+use Rattle.binder.specs.declared.output.Output.{Output}
+use Rattle.binder.specs.Scopes.{Scopes}
+use Rattle.binder.specs.Numbers.{with_aggregates}
+use Rattle.binder.specs.Outputs.{aggregates, is_grouped, key_in, outputs_in}
+use Rattle.binder.specs.Selects.{FromSoFar, condition_in, chain_in, select_in, from_in, filter_in, block_of}
+use Rattle.binder.specs.Extents.{of_condition, of_chain, of_filter}
+use Rattle.binder.specs.Bound as numbers
+use Rattle.binder.specs.Bound.{CondScope, FromScope, BlockScope, cond_scope, from_scope, block_scope, block_scope_layer, bound_filter, bound_items, aggregate_numbers, all_differ, none_among, are_new}
+use Rattle.binder.specs.BoundStatements.{plainness, filter_ons}
+use Rattle.binder.proofs.SelectParts.{select_at}
+use Rattle.binder.proofs.ExtentParts.{extent-select}
+use Rattle.binder.proofs.PlainParts.{ons-select}
+use Rattle.binder.proofs.ScopeEquations.{scope-Block}
+use Rattle.binder.proofs.Given.{Given, and-then, given-from, given-at, given-ok}
+use Rattle.binder.proofs.Rising.{Rising, AreBelow, rising-bounds, rising-below, apart, none-among, none-among-append}
+use Rattle.binder.proofs.Growth.{Grown, Within, grown-none, grown-more, within-first, within-next}
+use Rattle.binder.proofs.NamesThere.{Around, around-more}
+use Rattle.binder.proofs.BoundParts.{FromIs, SelectIs, SelectBound}
+use Rattle.binder.proofs.BoundConditions.{ProvedCondition, columns-all}
+use Rattle.binder.proofs.BoundFroms.{ProvedChain, chains_of, from-bound}
+use Rattle.binder.proofs.BoundItems.{items-by, OutputsAre, keys-bound, outputs-are}
+
+-- ---- column numbers of a block
+
+new-among : (b : ℕ) (scopes : Scopes) (rows : numbers.Scope) (xs : List ℕ) → Around b scopes rows → ((row : List ℕ) → AreBelow b row → none_among xs row ≡ true) → list_all (none_among xs) rows ≡ true
+new-among b [] [] xs fits none = refl
+new-among b [] (row ∷ rows) xs fits none = absurd fits
+new-among b (scope ∷ outer) [] xs fits none = refl
+new-among b (scope ∷ outer) (row ∷ rows) xs fits none = and_from _ _ (none row fits.1) (new-among b outer rows xs fits.2 none)
+
+-- the numbers of a block's aggregates and columns are new behind the rows around
+numbers-new : (a b c d : ℕ) (scopes : Scopes) (rows : numbers.Scope) (xs ys : List ℕ) → Around a scopes rows → Rising a b ys → Rising c d xs → b ≤ c → are_new (xs ++ ys) rows ≡ true
+numbers-new a b c d scopes rows xs ys fits columns others le =
+    let bounds = rising-bounds a b ys columns in
+    and_from _ _ (apart a b c d xs ys others columns le)
+    (new-among a scopes rows (xs ++ ys) fits (λ row below. none-among-append xs ys row (none-among c d a xs row others below (omega (arith, bounds, le))) (none-among a b a ys row columns below (omega arith))))
+
+module _ (S : Schema) (uses : List TableUse) (T : ℕ) where
+  -- ---- WHERE
+
+  pub record FilterIs (more : ℕ) (ons : Bool) (scopes : Scopes) (n : Numbered) (o : Option CondScope) (m : Numbered) : Type 0 where
+    pub grown : Grown S n m more
+    pub bound : ons ≡ true → Within uses T n m → (rows : numbers.Scope) → Around n.next_column scopes rows → bound_filter o rows ≡ true
+
+  abbrev pub filter_of : Option (ProvedCondition S uses T) → Option Condition
+  filter_of None = None
+  filter_of (Some c) = Some c.0
+
+  abbrev FilterGiven : Option Condition → Scopes → Numbered → Option Cond × Numbered → Type 0
+  FilterGiven o scopes n r = FilterIs (of_filter (option_map (of_condition S) o)).columns (filter_ons (option_map plainness o)) scopes n (option_map (cond_scope uses) r.0) r.1
+
+  filter-bound : (w : Option (ProvedCondition S uses T)) (scopes : Scopes) (n : Numbered) → Given (FilterGiven (filter_of w) scopes n) (filter_in (option_map (condition_in S) (filter_of w)) scopes n)
+  filter-bound None scopes n = record { grown = grown-none S n; bound = λ ons within rows fits. refl }
+  filter-bound (Some c) scopes n = and-then _ (FilterGiven (Some c.0) scopes n) (condition_in S c.0 scopes n) _ (c.1 scopes n) (λ r is. record { grown = is.grown; bound = is.bound })
+
+  -- ---- the block
+
+  grown-aggregates : (n : Numbered) (a : ℕ) → Grown S n (with_aggregates n a) 0
+  grown-aggregates n a =
+      let none = grown-none S n in
+      record { tables = none.tables; over = none.over; columns = none.columns; aggregates = omega arith }
+
+  grouped-if : (keys : List ℕ) (l : SelectList) → 0 < aggregates l → is_grouped keys l ≡ true
+  grouped-if keys l lt = or_right _ _ (lt-ltb 0 (aggregates l) lt)
+
+  module _ (outer : Scopes) (n : Numbered) (distinct : Bool) (l : SelectList) (sources : FromSoFar) (filter : Option Cond × Numbered) (keys : List ℕ) (outputs : List Output) where
+    abbrev KeysAre : Type 0
+    KeysAre = (b : ℕ) (row : List ℕ) (rows : numbers.Scope) → Around b (sources.1 ∷ outer) (row ∷ rows) → list_all (λ k. nat_lt k (length row)) keys ≡ true
+
+    abbrev ShownAre : Type 0
+    ShownAre = (b : ℕ) (row : List ℕ) (rows : numbers.Scope) (fits : Around b (sources.1 ∷ outer) (row ∷ rows)) → OutputsAre b sources.1 outer row rows fits (is_grouped keys l) keys n.next_aggregate (aggregates l) outputs
+
+    select-is : (x y : ℕ) (ons others : Bool) → FromIs S uses T x ons outer (with_aggregates n (aggregates l)) (from_scope uses sources.0) sources.1 sources.2
+        → FilterIs y others (sources.1 ∷ outer) sources.2 (option_map (cond_scope uses) filter.0) filter.1 → KeysAre → ShownAre
+        → SelectIs S uses T (x + y) (ons && others) outer n (block_scope uses (block_of distinct sources.0 filter.0 (is_grouped keys l) keys outputs)) outputs filter.1
+    select-is x y ons others from where_ keyed shown =
+        let k : Numbered = with_aggregates n (aggregates l) in
+        let m : Numbered = filter.1 in
+        let own : List ℕ = (from_scope uses sources.0).numbers in
+        let before : Grown S n k 0 = grown-aggregates n (aggregates l) in
+        let after : Grown S k m (x + y) = grown-more S k sources.2 m x y (x + y) from.grown where_.grown refl in
+        let of_all : Within uses T n m → Within uses T k m = λ within. within-next S uses T n k m 0 (x + y) before within in
+        let of_from : Within uses T n m → Within uses T k sources.2 = λ within. within-first S uses T k sources.2 m x y where_.grown (of_all within) in
+        let of_filter : Within uses T n m → Within uses T sources.2 m = λ within. within-next S uses T k sources.2 m x y from.grown (of_all within) in
+        rw (scope-Block uses (block_of distinct sources.0 filter.0 (is_grouped keys l) keys outputs)) (record {
+          grown = grown-more S n k m 0 (x + y) (x + y) before after (omega arith);
+          single = λ one. eq-eqb _ _ (length-map outputs (λ o. o.item) ∙ one);
+          bound = λ h within rows fits.
+              let tests = and_parts ons others h in
+              let more = from.grown.columns in
+              let rises = from.rises (of_from within) in
+              let inner : Around sources.2.next_column (sources.1 ∷ outer) (own ∷ rows)
+              = (from.wide (of_from within), rising-below n.next_column sources.2.next_column own rises, around-more n.next_column sources.2.next_column outer rows (omega (arith, more)) fits) in
+              let shows = shown sources.2.next_column own rows inner in
+              let last = (of_from within).columns in
+              let first = within.aggregates in
+              and_from _ _ (numbers-new n.next_column sources.2.next_column n.next_aggregate _ outer rows (aggregate_numbers (map (λ o. o.item) outputs)) own fits rises shows.1 (omega (arith, last, first)))
+              (and_from _ _ (from.bound tests.0 (of_from within) rows fits)
+              (and_from _ _ (where_.bound tests.1 (of_filter within) (own ∷ rows) inner)
+              (items-by (is_grouped keys l) (length own) keys (map (λ o. o.item) outputs) (own ∷ rows) (keyed sources.2.next_column own rows inner) shows.0)));
+        })
+
+  -- ---- SELECT
+
+  pub bound-select : (q : Select) (cs : List (ProvedChain S uses T)) (w : Option (ProvedCondition S uses T)) → chains_of S uses T cs ≡ (out-Select q).from → filter_of w ≡ (out-Select q).filter → SelectBound S uses T q
+  bound-select q cs w from_is filter_is outer n =
+      let x = out-Select q in
+      let k : Numbered = with_aggregates n (aggregates x.list) in
+      given-at _ (select_in S q outer n) _ (select_at S q outer n k (chains_of S uses T cs) x.group refl from_is refl)
+      (and-then _ _ (from_in (map (chain_in S) (chains_of S uses T cs)) outer k) _ (from-bound S uses T cs outer k) (λ sources from.
+      and-then (FilterGiven x.filter (sources.1 ∷ outer) sources.2) _ (filter_in (option_map (condition_in S) x.filter) (sources.1 ∷ outer) sources.2) _
+      (subst (λ o. Given (FilterGiven o (sources.1 ∷ outer) sources.2) (filter_in (option_map (condition_in S) o) (sources.1 ∷ outer) sources.2)) filter_is (filter-bound w (sources.1 ∷ outer) sources.2)) (λ filter where_.
+      and-then (λ keys. (b : ℕ) (row : List ℕ) (rows : numbers.Scope) → Around b (sources.1 ∷ outer) (row ∷ rows) → list_all (λ k. nat_lt k (length row)) keys ≡ true) _ (each (key_in (sources.1 ∷ outer)) x.group) _
+      (given-from _ (each (key_in (sources.1 ∷ outer)) x.group) (λ keys is b row rows fits.
+      given-ok (λ keys. list_all (λ k. nat_lt k (length row)) keys ≡ true) (each (key_in (sources.1 ∷ outer)) x.group) keys is (keys-bound b sources.1 outer row rows fits x.group)))
+      (λ keys keyed.
+      and-then (ShownAre outer n x.distinct x.list sources filter keys) _ (outputs_in sources.1 (sources.1 ∷ outer) (is_grouped keys x.list) keys n.next_aggregate x.list) _
+      (given-from _ (outputs_in sources.1 (sources.1 ∷ outer) (is_grouped keys x.list) keys n.next_aggregate x.list) (λ outputs is b row rows fits.
+      given-ok (OutputsAre b sources.1 outer row rows fits (is_grouped keys x.list) keys n.next_aggregate (aggregates x.list)) (outputs_in sources.1 (sources.1 ∷ outer) (is_grouped keys x.list) keys n.next_aggregate x.list) outputs is
+      (outputs-are b sources.1 outer row rows fits (is_grouped keys x.list) keys n.next_aggregate x.list (grouped-if keys x.list))))
+      (λ outputs shown.
+      rw (extent-select S q, ons-select q, columns-all (map (of_chain S) x.from), ← from_is)
+      (select-is outer n x.distinct x.list sources filter keys outputs _ _ _ _ from where_ keyed shown))))))

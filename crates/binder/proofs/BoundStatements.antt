@@ -1,0 +1,137 @@
+-- The query that a statement is over a schema is bound, and its table occurrences are tables of the schema.
+use Rattle.std.proofs.Common.{◌≡◌, refl, ap, sym, subst, ℕ, true, List, [], ◌∷◌, map, length, slice_index_or, nat_le, Option, Some, None, arith}
+use Prim.Native.Nat.{zero, suc}
+use Rattle.std.specs.List.{AllByRecursion, slice_get}
+use Rattle.std.proofs.lemmas.List.{append-nil}
+use Rattle.values.specs.Faults.{wanted_if}
+use Rattle.schema.specs.declared.schema.Table.{Table}
+use Rattle.schema.specs.declared.schema.Schema.{Schema}
+use Rattle.schema.specs.Databases.{Database}
+use Rattle.sql_parse.specs.declared.statement.Condition.{Condition, roll-Condition}
+use Rattle.sql_parse.specs.declared.statement.Condition.TheVariants as tree
+use Rattle.sql_parse.specs.declared.statement.Condition.TheOpen.{Condition-F, Join-F, Chain-F, Select-F}
+use Rattle.sql_parse.specs.declared.statement.Condition.TheFolds.{ind-Select, map-Condition, map-Join, map-Chain, map-Select}
+use Rattle.sql_parse.specs.declared.statement.Join.{Join, roll-Join, out-roll-Join}
+use Rattle.sql_parse.specs.declared.statement.Chain.{Chain, roll-Chain, out-roll-Chain}
+use Rattle.sql_parse.specs.declared.statement.Select.{Select, roll-Select, out-roll-Select}
+use Rattle.sql_parse.specs.declared.statement.Statement.{Statement}
+use Rattle.binder.specs.declared.query.TableUse.{TableUse}
+use Rattle.binder.specs.declared.query.SortKey.{SortKey}
+use Rattle.binder.specs.declared.query.Query.{Query}
+use Rattle.binder.specs.declared.extent.Extent.{Extent}
+use Rattle.binder.specs.declared.tables.Numbered.{Numbered}
+use Rattle.binder.specs.declared.selects.BoundSelect.{BoundSelect}
+use Rattle.binder.specs.declared.binding.TheConstants.{MAX_COLUMNS}
+use Rattle.binder.specs.declared.fault.BindReason.TheVariants.{TooLarge}
+use Rattle.binder.specs.Binding.{refusal}
+use Rattle.binder.specs.Rows.{tables_of}
+use Rattle.binder.specs.Extents.{of_select, is_within}
+use Rattle.binder.specs.Selects.{select_in}
+use Rattle.binder.specs.Ordering.{order_in}
+use Rattle.binder.specs.Queries.{at_start, bound_statement}
+use Rattle.binder.specs.Bound.{block_scope, is_bound}
+use Rattle.binder.specs.BoundStatements.{select_ons, ons_are_plain, IsOver, StatementsAreBound, StatementsAreOver, StatementsAreWide}
+use Rattle.binder.proofs.Given.{Given, and-then, given-from, given-if, given-ok}
+use Rattle.binder.proofs.BoundParts.{SelectIs, CondBound, JoinBound, ChainBound, SelectBound}
+use Rattle.binder.proofs.BoundConditions.{bound-Compare, bound-IsNull, bound-Not, bound-And, bound-Or, bound-Exists, bound-In}
+use Rattle.binder.proofs.BoundFroms.{bound-join, bound-chain}
+use Rattle.binder.proofs.BoundBlocks.{bound-select}
+
+module _ (S : Schema) (uses : List TableUse) (T : ℕ) where
+  abbrev ProvedCondition : Type 0
+  ProvedCondition = (c : Condition) × CondBound S uses T c
+
+  abbrev ProvedJoin : Type 0
+  ProvedJoin = (j : Join) × JoinBound S uses T j
+
+  abbrev ProvedChain : Type 0
+  ProvedChain = (c : Chain) × ChainBound S uses T c
+
+  abbrev ProvedSelect : Type 0
+  ProvedSelect = (q : Select) × SelectBound S uses T q
+
+  abbrev plain_condition : Condition-F ProvedCondition ProvedChain ProvedJoin ProvedSelect → Condition-F Condition Chain Join Select
+  plain_condition = map-Condition _ _ _ _ Condition Chain Join Select (λ c. c.0) (λ c. c.0) (λ j. j.0) (λ q. q.0)
+
+  abbrev plain_join : Join-F ProvedCondition ProvedChain ProvedJoin ProvedSelect → Join-F Condition Chain Join Select
+  plain_join = map-Join _ _ _ _ Condition Chain Join Select (λ c. c.0) (λ c. c.0) (λ j. j.0) (λ q. q.0)
+
+  abbrev plain_chain : Chain-F ProvedCondition ProvedChain ProvedJoin ProvedSelect → Chain-F Condition Chain Join Select
+  plain_chain = map-Chain _ _ _ _ Condition Chain Join Select (λ c. c.0) (λ c. c.0) (λ j. j.0) (λ q. q.0)
+
+  abbrev plain_select : Select-F ProvedCondition ProvedChain ProvedJoin ProvedSelect → Select-F Condition Chain Join Select
+  plain_select = map-Select _ _ _ _ Condition Chain Join Select (λ c. c.0) (λ c. c.0) (λ j. j.0) (λ q. q.0)
+
+  condition-bound : (y : Condition-F ProvedCondition ProvedChain ProvedJoin ProvedSelect) → CondBound S uses T (roll-Condition (plain_condition y))
+  condition-bound (Condition-F.Compare a op b) = subst (CondBound S uses T) (sym (tree.rolls-Compare a op b)) (bound-Compare S uses T a op b)
+  condition-bound (Condition-F.IsNull a) = subst (CondBound S uses T) (sym (tree.rolls-IsNull a)) (bound-IsNull S uses T a)
+  condition-bound (Condition-F.Not c) = subst (CondBound S uses T) (sym (tree.rolls-Not c.0)) (bound-Not S uses T c.0 c.1)
+  condition-bound (Condition-F.And cs) = subst (CondBound S uses T) (sym (tree.rolls-And (map (λ c. c.0) cs))) (bound-And S uses T cs)
+  condition-bound (Condition-F.Or cs) = subst (CondBound S uses T) (sym (tree.rolls-Or (map (λ c. c.0) cs))) (bound-Or S uses T cs)
+  condition-bound (Condition-F.Exists q) = subst (CondBound S uses T) (sym (tree.rolls-Exists q.0)) (bound-Exists S uses T q.0 q.1)
+  condition-bound (Condition-F.In a at q) = subst (CondBound S uses T) (sym (tree.rolls-In a at q.0)) (bound-In S uses T a at q.0 q.1)
+
+  chain-bound : (y : Chain-F ProvedCondition ProvedChain ProvedJoin ProvedSelect) → ChainBound S uses T (roll-Chain (plain_chain y))
+  chain-bound y = bound-chain S uses T (roll-Chain (plain_chain y)) y.joins (sym (ap (λ x. x.joins) (out-roll-Chain (plain_chain y))))
+
+  join-bound : (y : Join-F ProvedCondition ProvedChain ProvedJoin ProvedSelect) → JoinBound S uses T (roll-Join (plain_join y))
+  join-bound y = bound-join S uses T (roll-Join (plain_join y)) (subst (CondBound S uses T) (sym (ap (λ x. x.condition) (out-roll-Join (plain_join y)))) y.condition.1)
+
+  select-bound : (y : Select-F ProvedCondition ProvedChain ProvedJoin ProvedSelect) (w : Option ProvedCondition) → SelectBound S uses T (roll-Select (plain_select (record y { filter = w })))
+  select-bound y None = bound-select S uses T (roll-Select (plain_select (record y { filter = None }))) y.from None
+      (sym (ap (λ x. x.from) (out-roll-Select (plain_select (record y { filter = None }))))) (sym (ap (λ x. x.filter) (out-roll-Select (plain_select (record y { filter = None })))))
+  select-bound y (Some c) = bound-select S uses T (roll-Select (plain_select (record y { filter = Some c }))) y.from (Some c)
+      (sym (ap (λ x. x.from) (out-roll-Select (plain_select (record y { filter = Some c }))))) (sym (ap (λ x. x.filter) (out-roll-Select (plain_select (record y { filter = Some c })))))
+
+  -- each SELECT is bound, wherever it stands
+  pub selects_bound : (q : Select) → SelectBound S uses T q
+  selects_bound = ind-Select (CondBound S uses T) (ChainBound S uses T) (JoinBound S uses T) (SelectBound S uses T)
+      (λ x y is. subst (λ z. CondBound S uses T (roll-Condition z)) is (condition-bound y))
+      (λ x y is. subst (λ z. ChainBound S uses T (roll-Chain z)) is (chain-bound y))
+      (λ x y is. subst (λ z. JoinBound S uses T (roll-Join z)) is (join-bound y))
+      (λ x y is. subst (λ z. SelectBound S uses T (roll-Select z)) is (select-bound y y.filter))
+
+-- what is known of the query of a statement
+abbrev IsKnown : Schema → Statement → Query → Type 0
+IsKnown S s q = (ons_are_plain s ≡ true → is_bound q ≡ true) × AllByRecursion (IsOver S) q.tables
+
+-- the SELECT of a statement, whose table occurrences are all that have numbers after it
+select-known : (S : Schema) (s : Statement) (extent : Extent) (r : BoundSelect × Numbered) (names : List (List ℕ)) (order : List SortKey) → extent ≡ of_select S s.select
+    → SelectIs S r.1.tables extent.columns (of_select S s.select).columns (select_ons s.select) [] (at_start extent) (block_scope r.1.tables r.0.block) r.0.outputs r.1
+    → IsKnown S s (record { tables = r.1.tables; block = r.0.block; names = names; order = order })
+select-known S s extent r names order same is = (
+  (λ ons. is.bound ons (record {
+    tables = ([], sym (append-nil r.1.tables));
+    columns = let more = is.grown.columns in let at = ap (λ e. e.columns) same in omega (arith, more, at);
+    aggregates = omega arith;
+  }) [] tt),
+  is.grown.over tt,
+)
+
+statement-known : (S : Schema) (s : Statement) → Given (IsKnown S s) (bound_statement S s)
+unfolding bound_statement
+statement-known S s =
+    and-then (λ e. e ≡ of_select S s.select) (IsKnown S s) (wanted_if (refusal TooLarge 0) (is_within (of_select S s.select)) (of_select S s.select)) _
+    (given-if (λ e. e ≡ of_select S s.select) (refusal TooLarge 0) (is_within (of_select S s.select)) (of_select S s.select) (λ within. refl)) (λ extent same.
+    and-then (λ r. SelectIs S r.1.tables extent.columns (of_select S s.select).columns (select_ons s.select) [] (at_start extent) (block_scope r.1.tables r.0.block) r.0.outputs r.1) (IsKnown S s) (select_in S s.select [] (at_start extent)) _
+    (given-from _ (select_in S s.select [] (at_start extent)) (λ r is. given-ok _ (select_in S s.select [] (at_start extent)) r is (selects_bound S r.1.tables extent.columns s.select [] (at_start extent)))) (λ r is.
+    and-then (λ order. Unit {0}) (IsKnown S s) (order_in r.0.scope r.0.outputs s.order) _ (given-from _ (order_in r.0.scope r.0.outputs s.order) (λ order is. tt)) (λ order found.
+    given-if (IsKnown S s) (refusal TooLarge 0) (nat_le r.1.next_aggregate MAX_COLUMNS) _ (λ few. select-known S s extent r (map (λ o. o.name) r.0.outputs) order same is))))
+
+pub statements_bound : StatementsAreBound
+statements_bound S s q plain is = (given-ok (IsKnown S s) (bound_statement S s) q is (statement-known S s)).0 plain
+
+pub statements_over : StatementsAreOver
+statements_over S s q is = (given-ok (IsKnown S s) (bound_statement S s) q is (statement-known S s)).1
+
+get-width : (tables : List Table) (k : ℕ) (entry : Table) → slice_get tables k ≡ Some entry → length entry.columns ≡ slice_index_or (map (λ t. length t.columns) tables) k 0
+get-width [] k entry is = cc is
+get-width (t ∷ tables) zero entry is = let same : t ≡ entry = cc is in ap (λ e. length e.columns) (sym same)
+get-width (t ∷ tables) (suc k) entry is = get-width tables k entry is
+
+wide-all : (S : Schema) (D : Database) (uses : List TableUse) → AllByRecursion (IsOver S) uses → AllByRecursion (λ t. length t.entry.columns ≡ (tables_of S D).width t.table) uses
+wide-all S D [] over = tt
+wide-all S D (t ∷ uses) over = (get-width S.tables t.table t.entry over.0, wide-all S D uses over.1)
+
+pub statements_wide : StatementsAreWide
+statements_wide S D s q is = wide-all S D q.tables (statements_over S s q is)

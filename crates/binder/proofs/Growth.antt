@@ -1,0 +1,142 @@
+-- What gets numbers while a statement is bound: table occurrences are added behind those before, each of a table of the
+-- schema, and so are columns and aggregates.
+use Rattle.std.proofs.Common.{◌≡◌, refl, ap, sym, ◌∙◌, ℕ, ◌+◌, ◌≤◌, Bool, true, false, not, if◌then◌else◌, List, [], ◌∷◌, ◌++◌, length, Some, bytes_eq, arith, append_assoc}
+use Prim.Native.Nat.{zero, suc}
+use Rattle.std.specs.List.{AllByRecursion, slice_get}
+use Rattle.std.proofs.lemmas.Bool.{eq-eqb}
+use Rattle.std.proofs.lemmas.List.FromFn.{length-range_with_len}
+use Rattle.schema.specs.declared.schema.Table.{Table}
+use Rattle.schema.specs.declared.schema.Schema.{Schema}
+use Rattle.sql_parse.specs.declared.statement.TableName.{TableName}
+use Rattle.binder.specs.declared.query.TableUse.{TableUse}
+use Rattle.binder.specs.declared.query.Occurrence.{Occurrence}
+use Rattle.binder.specs.declared.tables.Numbered.{Numbered}
+use Rattle.binder.specs.declared.fault.BindReason.TheVariants.{RepeatedName, UnknownTable}
+use Rattle.binder.specs.Binding.{find_table, table_in, refusal}
+use Rattle.binder.specs.Scopes.{Scope, is_taken, known_name}
+use Rattle.binder.specs.Numbers.{next_occurrence, entered, enter}
+use Rattle.binder.specs.Extents.{width_of, one_table}
+use Rattle.binder.specs.Lent.{width}
+use Rattle.binder.specs.BoundStatements.{IsOver}
+use Rattle.binder.specs.Bound.{use_numbers, is_used, is_use_of}
+use Rattle.binder.proofs.Indexes.{width-append}
+use Rattle.binder.proofs.Given.{Given, and-then, given-wanted, given-if}
+use Rattle.binder.proofs.Rising.{Rising, rising-range}
+
+-- ---- table occurrences
+
+-- the list goes on from the other
+abbrev pub Begins : {A : Type 0} → List A → List A → Type 0
+Begins xs front = (more : List _) × (xs ≡ front ++ more)
+
+pub begins-again : {A : Type 0} (xs ys zs : List A) → Begins xs ys → Begins ys zs → Begins xs zs
+begins-again xs ys zs left right = (right.0 ++ left.0, left.1 ∙ ap (λ l. l ++ left.0) right.1 ∙ append_assoc zs right.0 left.0)
+
+pub all-append : {A : Type 0} (P : A → Type 0) (xs ys : List A) → AllByRecursion P xs → AllByRecursion P ys → AllByRecursion P (xs ++ ys)
+all-append P [] ys left right = right
+all-append P (x ∷ xs) ys left right = (left.0, all-append P xs ys left.1 right)
+
+get-next : {A : Type 0} (front : List A) (x : A) (more : List A) → slice_get (front ++ x ∷ more) (length front) ≡ Some x
+get-next [] x more = refl
+get-next (y ∷ front) x more = get-next front x more
+
+-- ---- growth
+
+-- what has numbers after a part of so many columns
+pub record Grown (S : Schema) (n m : Numbered) (more : ℕ) : Type 0 where
+  pub tables : Begins m.tables n.tables
+  pub over : AllByRecursion (IsOver S) n.tables → AllByRecursion (IsOver S) m.tables
+  pub columns : m.next_column ≡ n.next_column + more
+  pub aggregates : n.next_aggregate ≤ m.next_aggregate
+
+pub grown-none : (S : Schema) (n : Numbered) → Grown S n n 0
+grown-none S n = record { tables = ([], sym (append-nil n.tables)); over = λ all. all; columns = omega arith; aggregates = omega arith }
+  where
+    append-nil : {A : Type 0} (xs : List A) → xs ++ [] ≡ xs
+    append-nil [] = refl
+    append-nil (x ∷ xs) = ap (λ ys. x ∷ ys) (append-nil xs)
+
+pub grown-more : (S : Schema) (n k m : Numbered) (a b c : ℕ) → Grown S n k a → Grown S k m b → a + b ≡ c → Grown S n m c
+grown-more S n k m a b c first next sum = record {
+  tables = begins-again m.tables k.tables n.tables next.tables first.tables;
+  over = λ all. next.over (first.over all);
+  columns = let x = first.columns in let y = next.columns in omega (arith, x, y, sum);
+  aggregates = let x = first.aggregates in let y = next.aggregates in omega (arith, x, y);
+}
+
+-- the part from n to m is one of a text whose occurrences are these, and whose aggregates are numbered from T on
+pub record Within (uses : List TableUse) (T : ℕ) (n m : Numbered) : Type 0 where
+  pub tables : Begins uses m.tables
+  pub columns : m.next_column ≤ T
+  pub aggregates : T ≤ n.next_aggregate
+
+module _ (S : Schema) (uses : List TableUse) (T : ℕ) (n k m : Numbered) (a b : ℕ) where
+  pub within-first : Grown S k m b → Within uses T n m → Within uses T n k
+  within-first next all = record {
+    tables = begins-again uses m.tables k.tables all.tables next.tables;
+    columns = let x = next.columns in let y = all.columns in omega (arith, x, y);
+    aggregates = all.aggregates;
+  }
+
+  pub within-next : Grown S n k a → Within uses T n m → Within uses T k m
+  within-next first all = record {
+    tables = all.tables;
+    columns = all.columns;
+    aggregates = let x = first.aggregates in let y = all.aggregates in omega (arith, x, y);
+  }
+
+-- ---- one table
+
+find-there : (n : ℕ) (ts : List Table) (name : List ℕ) (found : ℕ × Table) → find_table n ts name ≡ Some found → (i : ℕ) × (found.0 ≡ n + i) × (slice_get ts i ≡ Some found.1)
+find-there n [] name found is = cc is
+find-there n (t ∷ ts) name found is = by (bytes_eq t.name name) is (find-there (n + 1) ts name found)
+  where
+    by : (b : Bool) → (if b then Some (n, t) else find_table (n + 1) ts name) ≡ Some found
+        → (find_table (n + 1) ts name ≡ Some found → (i : ℕ) × (found.0 ≡ (n + 1) + i) × (slice_get ts i ≡ Some found.1))
+        → (i : ℕ) × (found.0 ≡ n + i) × (slice_get (t ∷ ts) i ≡ Some found.1)
+    by true e more = let same : (n, t) ≡ found = cc e in (zero, rw (← same) (omega arith), rw (← same) refl)
+    by false e more = let rest = more e in let at = rest.1 in (suc rest.0, omega (arith, at), rest.2)
+
+find-is : (ts : List Table) (name : List ℕ) (found : ℕ × Table) → find_table 0 ts name ≡ Some found → slice_get ts found.0 ≡ Some found.1
+find-is ts name found is =
+    let there = find-there 0 ts name found is in
+    let at : found.0 ≡ there.0 = there.1 ∙ omega arith in
+    rw at there.2
+
+-- a table that has entered a FROM
+pub record Entered (S : Schema) (uses : List TableUse) (T : ℕ) (chain : Scope) (t : TableName) (n : Numbered) (r : Occurrence × Scope × Numbered) : Type 0 where
+  pub grown : Grown S n r.2 (one_table S t).columns
+  pub used : Within uses T n r.2 → is_used uses r.0 ≡ true
+  pub rises : Within uses T n r.2 → Rising n.next_column r.2.next_column (use_numbers uses r.0)
+  pub wide : Within uses T n r.2 → width r.1 ≡ width chain + length (use_numbers uses r.0)
+
+-- the occurrence that gets the next number
+abbrev next_use : Numbered → ℕ → Table → List ℕ → TableUse
+next_use n place entry name = record { table = place; entry = entry; name = name; first_column = n.next_column }
+
+used-next : (uses : List TableUse) (n : Numbered) (t : TableUse) → Begins uses (n.tables ++ t ∷ []) → slice_get uses (length n.tables) ≡ Some t
+used-next uses n t begins = ap (λ l. slice_get l (length n.tables)) (begins.1 ∙ append_assoc n.tables (t ∷ []) begins.0) ∙ get-next n.tables t begins.0
+
+module _ (S : Schema) (uses : List TableUse) (T : ℕ) (chain : Scope) (t : TableName) (n : Numbered) where
+  enters : (found : ℕ × Table) → find_table 0 S.tables t.name.text ≡ Some found → Entered S uses T chain t n (entered chain t n found)
+  enters found is =
+      let next = next_use n found.0 found.1 (known_name t).text in
+      let at : Within uses T n (entered chain t n found).2 → slice_get uses (length n.tables) ≡ Some next = λ within. used-next uses n next within.tables in
+      record {
+        grown = record {
+          tables = (next ∷ [], refl);
+          over = λ all. all-append (IsOver S) n.tables (next ∷ []) all (find-is S.tables t.name.text found is, tt);
+          columns = ap (λ o. n.next_column + width_of o) (sym is);
+          aggregates = omega arith;
+        };
+        used = λ within. ap (λ o. is_use_of o (next_occurrence n found.0)) (at within) ∙ eq-eqb found.0 found.0 refl;
+        rises = λ within. rw (at within) (rising-range n.next_column (length found.1.columns));
+        wide = λ within. width-append chain _ ∙ rw (at within) (let l = length-range_with_len n.next_column (length found.1.columns) in omega (arith, l));
+      }
+
+  pub enter-gives : (before : Scope) → Given (Entered S uses T chain t n) (enter S before chain t n)
+  unfolding enter
+  enter-gives before =
+      and-then (λ found. find_table 0 S.tables t.name.text ≡ Some found) (Entered S uses T chain t n) (table_in S t.name) _
+      (given-wanted _ (refusal UnknownTable t.name.at) (find_table 0 S.tables t.name.text) (λ found is. is))
+      (λ found is. given-if (Entered S uses T chain t n) (refusal RepeatedName (known_name t).at) (not (is_taken (known_name t).text (before ++ chain))) (entered chain t n found) (λ free. enters found is))
