@@ -1,5 +1,5 @@
 -- What conditions mean, and what they read.
-use Rattle.std.specs.Prelude.{ℕ, Bool, true, false, not, ◌&&◌, ◌||◌, ◌==◌, List, [], ◌∷◌, map}
+use Rattle.std.specs.Prelude.{ℕ, Bool, true, false, not, ◌&&◌, ◌||◌, ◌==◌, List, [], ◌∷◌, map, flat_map}
 use Rattle.std.specs.List.{list_any, list_all}
 use Rattle.values.specs.declared.truth.Truth.{Truth}
 use Rattle.values.specs.declared.truth.Comparison.TheVariants as by
@@ -10,7 +10,7 @@ use Rattle.logical.specs.declared.condition.Term.{Term}
 use Rattle.logical.specs.declared.condition.Term.TheVariants as term
 use Rattle.logical.specs.declared.condition.Condition.{Condition, fold-Condition}
 use Rattle.logical.specs.declared.condition.Condition.TheOpen.{Condition-F}
-use Rattle.logical.specs.Columns.{ColumnSet, has}
+use Rattle.logical.specs.Columns.{ColumnSet, has, rising}
 use Rattle.logical.specs.Bags.{Env, Test, Bag}
 
 -- ---- truth
@@ -87,6 +87,23 @@ classes_layer (Condition-F.In a g k) p = p g
 -- whether each class that a condition names passes
 unfoldable pub all_classes : Condition → Passes
 all_classes = fold-Condition Passes classes_layer
+
+abbrev pub named_layer : Condition-F (List ℕ) → List ℕ
+named_layer (Condition-F.Compare c a b) = []
+named_layer (Condition-F.IsNull a) = []
+named_layer (Condition-F.Not c) = c
+named_layer (Condition-F.And cs) = flat_map (λ c. c) cs
+named_layer (Condition-F.Or cs) = flat_map (λ c. c) cs
+named_layer (Condition-F.Exists g) = g ∷ []
+named_layer (Condition-F.In a g k) = g ∷ []
+
+-- the classes that a condition names
+unfoldable pub named_classes : Condition → List ℕ
+named_classes = fold-Condition (List ℕ) named_layer
+
+-- the classes that conditions name, rising
+abbrev pub classes_in : List Condition → List ℕ
+classes_in C = rising (flat_map named_classes C)
 
 -- the columns and the free columns of each class, to the columns that a condition reads there
 abbrev pub Mentions : Type 0

@@ -1,6 +1,6 @@
 //! Sets of columns.
 
-ghost use Rattle.std.specs.Prelude.{◌≡◌, ◌↔◌, ◌+◌, ◌<◌, ◌^◌, ◌++◌, IsTrue, IfOk};
+ghost use Rattle.std.specs.Prelude.{◌≡◌, ◌↔◌, ◌++◌, IsTrue, IfOk};
 ghost use Rattle.std.specs.List.{range_with_len};
 ghost use Rattle.logical.specs.Equality.{same_columns};
 ghost use Rattle.logical.specs.Columns.{has, within, apart, rising};
@@ -29,24 +29,22 @@ impl Model for Columns {
 
 impl Columns {
     /// The set of the columns of a list, in any order and with repeats.
-    pub fn from_vec(mut columns: Vec<usize>) -> Columns
+    pub fn from_vec(columns: Vec<usize>) -> Columns
         ensures { result ≡ rising columns.items }
     {
-        columns.sort_unstable();
-        columns.dedup();
         Columns {
-            columns: Items::from_vec(columns),
+            columns: Items::from_vec(in_rising_order(columns)),
         }
     }
 
-    /// So many columns from the first on.
+    /// So many columns from the first on. No query has columns past the numbers of the machine; they are told as want of
+    /// memory.
     pub fn run(alloc: Global, first: usize, count: usize) -> Result<Columns, AllocError>
-        requires { first + count < 2 ^ 64 }
         ensures { IfOk result (λ c. c ≡ range_with_len first count) }
     {
         let mut columns = Items::new(alloc);
-        for i in 0..count {
-            columns.push(first + i)?;
+        for place in 0..count {
+            columns.push(first.checked_add(place).ok_or(AllocError)?)?;
         }
         Ok(Columns { columns })
     }
@@ -89,6 +87,16 @@ impl Columns {
             columns: Items::from_slice(alloc, self.as_slice())?,
         })
     }
+}
+
+/// The numbers in rising order, each once.
+pub(crate) fn in_rising_order(mut numbers: Vec<usize>) -> Vec<usize>
+    ensures rising { result.items ≡ rising numbers.items }
+    ensures increasing { IsStrictlyIncreasing result.items }
+{
+    numbers.sort_unstable();
+    numbers.dedup();
+    numbers
 }
 
 /// Whether each column of a list is in the set.

@@ -2,7 +2,6 @@
 
 ghost use Rattle.std.specs.Prelude.{◌≡◌, ◌==◌, ◌&&◌, ◌++◌, ℕ, nat_lt, true, length, IfOk};
 ghost use Rattle.std.specs.List.{list_all, list_any};
-ghost use Rattle.binder.specs.Simple.{NumbersFit};
 ghost use Rattle.logical.specs.Conditions as reads;
 ghost use Rattle.logical.specs.Columns.{has, within, rising, columns_at};
 ghost use Rattle.logical.specs.Equality.{same_aggregation};
@@ -168,8 +167,7 @@ impl Expr {
         uses: &[TableUse],
         columns: &[Columns],
     ) -> Result<Columns, AllocError>
-        requires known { spec.classes_pass (λ g. nat_lt g (length columns.now)) self.now ≡ true }
-        requires room { NumbersFit uses.now }
+        requires { spec.classes_pass (λ g. nat_lt g (length columns.now)) self.now ≡ true }
         ensures { IfOk result (λ c. c ≡ spec.columns_of uses.now (columns_at columns.now) self.now) }
     {
         match self {

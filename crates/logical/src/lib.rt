@@ -7,6 +7,7 @@
 
 pub mod columns;
 pub mod condition;
+mod condition_classes;
 mod condition_text;
 mod conjunct_order;
 pub mod expr;

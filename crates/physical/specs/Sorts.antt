@@ -1,0 +1,28 @@
+-- Rows by the keys of an order, and stable sorts (D. Knuth, The Art of Computer Programming, volume 3, section 5.2.1:
+-- straight insertion). Null is the least value: this project's profile of SQL.
+use Rattle.std.specs.Prelude.{if◌then◌else◌, List, [], ◌∷◌}
+use Rattle.std.specs.declared.cmp.Ordering.{Ordering}
+use Rattle.std.specs.declared.cmp.Ordering.TheVariants.{Equal}
+use Rattle.std.specs.Ordering.{is_gt, on, then_cmp, flip_args}
+use Rattle.values.specs.Order.{order}
+use Rattle.logical.specs.Bags.{Env}
+use Rattle.physical.specs.declared.plan.OrderKey.{OrderKey}
+
+-- the order of the rows' values in the key's column, turned round if it descends
+abbrev pub key_order : OrderKey → Env → Env → Ordering
+key_order k = on (λ r. r k.column) (if k.descending then flip_args order else order)
+
+-- a later key decides where the earlier ones do not
+abbrev pub keys_order : List OrderKey → Env → Env → Ordering
+keys_order [] = λ a b. Equal
+keys_order (k ∷ keys) = then_cmp (key_order k) (keys_order keys)
+
+-- an element put before those that it doesn't go after
+abbrev pub put_sorted : {X : Type 0} → (X → X → Ordering) → X → List X → List X
+put_sorted cmp x [] = x ∷ []
+put_sorted cmp x (y ∷ ys) = if is_gt (cmp x y) then y ∷ put_sorted cmp x ys else x ∷ y ∷ ys
+
+-- the elements in order, those that tie as they stood
+abbrev pub sorted : {X : Type 0} → (X → X → Ordering) → List X → List X
+sorted cmp [] = []
+sorted cmp (x ∷ xs) = put_sorted cmp x (sorted cmp xs)
