@@ -6,11 +6,13 @@ pub mod FrameFroms
 pub mod FrameGroups
 pub mod FrameLoops
 pub mod FrameMeaning
+pub mod FrameOperators
 pub mod FrameRight
 pub mod FrameSteps
 pub mod Growth
 pub mod Loops
 pub mod Meaning
+pub mod NamedClasses
 pub mod Ordered
 pub mod Places
 pub mod Plain
