@@ -18,6 +18,7 @@ pub mod Plain
 pub mod Puts
 pub mod Same
 pub mod SameBags
+pub mod SameConditions
 pub mod SameGroups
 pub mod Sets
 pub mod Shown
