@@ -130,7 +130,7 @@ greater-swap = swap-by greater (flip_args order) (back_total order-total) back-a
 same-together : (f : Value → Value → Value) → ((a x m : Value) → f a (f x m) ≡ f x (f a m)) → (place : ℕ) (G H : List Row) → SameCounts G H → together f (map (value_at place) G) ≡ together f (map (value_at place) H)
 same-together f swap place G H h = same-fold (λ L. together f (map (value_at place) L)) (λ x v. f (value_at place x) v) (record { first = λ x L. refl; swap = λ a x v. swap (value_at place a) (value_at place x) v }) G H h
 
-same-aggregate : (a : Aggregate) (G H : List Row) → SameCounts G H → aggregate a G ≡ aggregate a H
+pub same-aggregate : (a : Aggregate) (G H : List Row) → SameCounts G H → aggregate a G ≡ aggregate a H
 same-aggregate by.CountRows G H h = ap (λ n. Int (pos n)) (same-fold length (λ x n. suc n) (record { first = λ x L. refl; swap = λ a x n. refl }) G H h)
 same-aggregate (by.Count c) G H h = ap (λ n. Int (pos n)) (same-fold (λ L. known (map (value_at c) L)) (λ x n. (if is_null (value_at c x) then 0 else 1) + n) (record { first = λ x L. refl; swap = λ a x n. omega arith }) G H h)
 same-aggregate (by.Sum c) G H h = same-together plus plus-swap c G H h

@@ -1,3 +1,4 @@
+pub mod BagSums
 pub mod Equations
 pub mod FrameBlocks
 pub mod FrameConds
@@ -18,9 +19,13 @@ pub mod Places
 pub mod Plain
 pub mod Puts
 pub mod Same
+pub mod SameBags
+pub mod SameConditions
+pub mod SameGroups
 pub mod Sets
 pub mod Shown
 pub mod Simple
 pub mod TextEquations
 pub mod Truths
+pub mod UniqueRows
 pub mod Values

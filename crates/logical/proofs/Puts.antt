@@ -181,7 +181,7 @@ agrees-put ks s e scope ρ new h agree = both (put-reads ks s e new.0 h) (scope-
 
 -- ---- numbers of parts
 
-among-append : (k : ℕ) (ks ls : List ℕ) → has (ks ++ ls) k ≡ (has ks k || has ls k)
+pub among-append : (k : ℕ) (ks ls : List ℕ) → has (ks ++ ls) k ≡ (has ks k || has ls k)
 among-append k [] ls = refl
 among-append k (j ∷ ks) ls = ap (λ b. (j == k) || b) (among-append k ks ls) ∙ assoc (j == k) (has ks k) (has ls k)
   where

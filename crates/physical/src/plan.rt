@@ -22,14 +22,26 @@ pub struct OrderKey {
 #[derive(Debug, Drop)]
 pub enum Node {
     /// The rows of a table occurrence, in the order of the table.
-    Scan { line: usize, occurrence: usize },
+    Scan {
+        line: usize,
+        occurrence: usize,
+    },
     /// The input's rows that make all conjuncts true, which have no subquery.
-    Filter { line: usize, conjuncts: Conjuncts },
+    Filter {
+        line: usize,
+        conjuncts: Conjuncts,
+    },
     /// The first input's rows that make all conjuncts true. The other inputs are the classes that the conjuncts name, in
     /// rising order, and are played at each row.
-    FilterSubqueries { line: usize, conjuncts: Conjuncts },
+    FilterSubqueries {
+        line: usize,
+        conjuncts: Conjuncts,
+    },
     /// The input's rows cut to the columns.
-    Cut { line: usize, columns: Columns },
+    Cut {
+        line: usize,
+        columns: Columns,
+    },
     /// For each left row in order the right rows in order with which it makes all conjuncts true.
     Loop {
         line: usize,
@@ -37,7 +49,9 @@ pub enum Node {
         conjuncts: Conjuncts,
     },
     /// The input's rows by the keys, those that tie as they stood.
-    Sort { keys: Items<OrderKey> },
+    Sort {
+        keys: Items<OrderKey>,
+    },
     /// One row for each different key, as first seen, with its aggregates.
     HashGroup {
         line: usize,
@@ -45,7 +59,9 @@ pub enum Node {
         added: Items<Aggregation>,
     },
     /// One of each row, as first seen.
-    HashDistinct { line: usize },
+    HashDistinct {
+        line: usize,
+    },
 }
 
 #[derive(Debug, Drop)]

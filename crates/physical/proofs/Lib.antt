@@ -1,0 +1,2 @@
+pub mod SortedRows
+pub mod Sorting

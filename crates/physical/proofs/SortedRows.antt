@@ -1,0 +1,41 @@
+-- Rows by the keys of an order: the order is total, and a sort keeps the bag.
+use Rattle.std.proofs.Common.{◌≡◌, refl, ap, ◌∙◌, ℕ, ◌+◌, Bool, true, false, if◌then◌else◌, List, [], ◌∷◌, arith}
+use Rattle.std.specs.declared.cmp.Ordering.{Ordering}
+use Rattle.std.specs.Ordering.{is_gt, flip_args}
+use Rattle.std.specs.Cmp.{IsTotalOrder}
+use Rattle.std.proofs.lemmas.Cmp.{on_total, then_total, back_total}
+use Rattle.values.specs.Order.{order}
+use Rattle.binder.proofs.Counting.{order-total}
+use Rattle.logical.specs.Bags.{Env, Bag, total, SameRows, SameBag}
+use Rattle.physical.specs.declared.plan.OrderKey.{OrderKey}
+use Rattle.physical.specs.Sorts.{put_sorted, sorted, key_order, keys_order}
+
+-- ---- the order of the keys
+
+turned : (b : Bool) → IsTotalOrder (if b then flip_args order else order)
+turned true = back_total order-total
+turned false = order-total
+
+key_total : (k : OrderKey) → IsTotalOrder (key_order k)
+key_total k = on_total (λ (r : Env). r k.column) (turned k.descending)
+
+pub keys_total : (keys : List OrderKey) → IsTotalOrder (keys_order keys)
+keys_total [] = record { antisymm = λ a b. refl; trans = λ a b c h k. h; congr = λ a b c h. refl }
+keys_total (k ∷ keys) = then_total (key_total k) (keys_total keys)
+
+-- ---- a sort keeps the bag
+
+total-put_sorted : (f : Env → ℕ) (cmp : Env → Env → Ordering) (x : Env) (ys : List Env) → total f (put_sorted cmp x ys) ≡ f x + total f ys
+total-put_sorted f cmp x [] = refl
+total-put_sorted f cmp x (y ∷ ys) = by (is_gt (cmp x y)) (total-put_sorted f cmp x ys)
+  where
+    by : (b : Bool) → total f (put_sorted cmp x ys) ≡ f x + total f ys → total f (if b then y ∷ put_sorted cmp x ys else x ∷ y ∷ ys) ≡ f x + (f y + total f ys)
+    by true later = omega (arith, later)
+    by false later = refl
+
+pub same_rows-sorted : (cmp : Env → Env → Ordering) (rows : List Env) → SameRows (sorted cmp rows) rows
+same_rows-sorted cmp [] f = refl
+same_rows-sorted cmp (x ∷ rows) f = total-put_sorted f cmp x (sorted cmp rows) ∙ ap (λ n. f x + n) (same_rows-sorted cmp rows f)
+
+pub same_bag-sorted : (cmp : Env → Env → Ordering) (a : Bag) → SameBag (λ e. sorted cmp (a e)) a
+same_bag-sorted cmp a e = same_rows-sorted cmp (a e)
