@@ -1,4 +1,10 @@
+pub mod ConditionNames
 pub mod Equations
+pub mod FormedBlocks
+pub mod FormedConds
+pub mod FormedFroms
+pub mod FormedParts
+pub mod FormedQueries
 pub mod FrameBlocks
 pub mod FrameConds
 pub mod FrameEquations
@@ -7,8 +13,10 @@ pub mod FrameGroups
 pub mod FrameLoops
 pub mod FrameMeaning
 pub mod FrameRight
+pub mod FrameShapes
 pub mod FrameSteps
 pub mod Growth
+pub mod Induction
 pub mod Loops
 pub mod Meaning
 pub mod Ordered

@@ -78,3 +78,11 @@ equal_columns = same_by-equal (coded_list coded_ℕ)
 pub equal_expr : (x y : Expr) → same_expr x y ≡ true → x ≡ y
 unfolding same_expr
 equal_expr = same_by-equal expr.the_row.coded
+
+pub equal_aggregation : (x y : Aggregation) → same_aggregation x y ≡ true → x ≡ y
+unfolding same_aggregation
+equal_aggregation = same_by-equal aggregation.the_row.coded
+
+pub same_aggregation-refl : (x : Aggregation) → same_aggregation x x ≡ true
+unfolding same_aggregation
+same_aggregation-refl x = same_by-refl aggregation.the_row.coded x x refl
