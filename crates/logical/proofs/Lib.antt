@@ -1,5 +1,11 @@
 pub mod BagSums
+pub mod ConditionNames
 pub mod Equations
+pub mod FormedBlocks
+pub mod FormedConds
+pub mod FormedFroms
+pub mod FormedParts
+pub mod FormedQueries
 pub mod FrameBlocks
 pub mod FrameConds
 pub mod FrameEquations
@@ -9,8 +15,10 @@ pub mod FrameLoops
 pub mod FrameMeaning
 pub mod FrameOperators
 pub mod FrameRight
+pub mod FrameShapes
 pub mod FrameSteps
 pub mod Growth
+pub mod Induction
 pub mod Loops
 pub mod Meaning
 pub mod NamedClasses

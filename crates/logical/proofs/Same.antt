@@ -86,3 +86,11 @@ equal_expr = same_by-equal expr.the_row.coded
 pub equal_aggregations : (x y : List Aggregation) → same_aggregations x y ≡ true → x ≡ y
 unfolding same_aggregations
 equal_aggregations = same_by-equal (coded_list aggregation.the_row.coded)
+
+pub equal_aggregation : (x y : Aggregation) → same_aggregation x y ≡ true → x ≡ y
+unfolding same_aggregation
+equal_aggregation = same_by-equal aggregation.the_row.coded
+
+pub same_aggregation-refl : (x : Aggregation) → same_aggregation x x ≡ true
+unfolding same_aggregation
+same_aggregation-refl x = same_by-refl aggregation.the_row.coded x x refl
