@@ -4,6 +4,8 @@
 //! (specs/Orders).
 #![tactic(auto)]
 
+mod order;
 pub mod plan;
 
+pub use order::{delivers, query_order};
 pub use plan::{JoinKind, Node, OrderKey, Plan};
