@@ -4,6 +4,7 @@
 //! (specs/Orders).
 #![tactic(auto)]
 
+pub mod laws;
 pub mod plan;
 
 pub use plan::{JoinKind, Node, OrderKey, Plan};
