@@ -3,7 +3,8 @@
 ghost use Rattle.std.specs.Prelude.{◌≡◌};
 ghost use Rattle.checker.specs.Codes.{name_of};
 
-use logical::{Columns, Conjuncts, Expr};
+use logical::Expr;
+use physical::Plan;
 use thiserror::Error;
 use values::{Fault, Items};
 
@@ -12,23 +13,6 @@ use values::{Fault, Items};
 pub enum Line {
     /// Founds a class, which is named by this line's number.
     Founds(Expr),
-}
-
-/// An operator of a plan. Its `line` is the line whose expression it computes.
-#[derive(Debug, Drop)]
-pub enum Node {
-    /// The rows of a table occurrence, in the order of the table.
-    Scan { line: usize, occurrence: usize },
-    /// The input's rows that make all conjuncts true.
-    Filter { line: usize, conjuncts: Conjuncts },
-    /// The input's rows cut to the columns.
-    Cut { line: usize, columns: Columns },
-}
-
-#[derive(Debug, Drop)]
-pub struct Plan {
-    pub node: Node,
-    pub inputs: Items<Plan>,
 }
 
 /// A plan, and the derivation that ties it to its query.

@@ -2,21 +2,20 @@
 
 ghost use Rattle.std.specs.Prelude.{◌≡◌, IfOk};
 ghost use Rattle.values.specs.Faults.{Gives};
-ghost use Rattle.binder.specs.Simple.{IsSimple};
-ghost use Rattle.checker.specs.Replay.{replayed, IsChecked};
+ghost use Rattle.checker.specs.Replay.{replayed, IsBoundOver, IsChecked};
 
 use crate::certificate::{Certificate, CheckFault};
-use crate::fit::plan_fits;
+use crate::fit::{is_delivered, plan_fits};
 use crate::replay::replay;
 use binder::Query;
-use logical::frame;
+use logical::query_frame;
 use schema::Schema;
 use std::alloc::Global;
 use std::marker::Model;
 
-/// Checks that each line of a certificate may stand where it does, and that each node of its plan computes the class that
-/// is wanted of it. Else the first fault is told; lines go before nodes. A plan with more nodes than there are numbers has
-/// no room in memory, and is told so.
+/// Checks that each line of a certificate may stand where it does, that each node of its plan computes the class that is
+/// wanted of it, and that the plan delivers the ORDER BY. Else the first fault is told; lines go before nodes. A plan with
+/// more nodes than there are numbers has no room in memory, and is told so.
 #[tactic(auto, unfolding(crate::specs::Replay::replayed))]
 pub fn check<'a>(
     alloc: Global,
@@ -24,20 +23,17 @@ pub fn check<'a>(
     query: &'a Query,
     certificate: &'a Certificate,
 ) -> Result<Checked<'a>, CheckFault>
-    requires { IsSimple query.now }
+    requires { IsBoundOver schema.now query.now }
     ensures verdict { Gives (λ c. c.certificate) result (replayed query.now certificate.now) }
     ensures of { IfOk result (λ c. (c.schema ≡ schema.now) × (c.query ≡ query.now)) }
 {
-    let frame = frame(alloc, query)?;
+    let frame = query_frame(alloc, query)?;
     let lines = certificate.lines.as_slice();
-    replay(alloc, query, frame.as_slice(), lines)?;
-    plan_fits(
-        alloc,
-        lines,
-        &certificate.plan,
-        frame.len() - 1,
-        lines.len(),
-    )?;
+    let columns = replay(alloc, query, frame.as_slice(), lines)?;
+    let plan = &certificate.plan;
+    let ordered = is_delivered(alloc, query, plan)?;
+    let root = frame.len() - 1;
+    plan_fits(alloc, lines, columns.as_slice(), plan, ordered, root, lines.len())?;
     Ok(Checked {
         schema,
         query,

@@ -1,93 +1,132 @@
 //! The nodes of a plan against the lines.
 
-ghost use Rattle.std.specs.Prelude.{◌≡◌, ◌+◌, ◌∷◌, [], IfOk, length, map};
+ghost use Rattle.std.specs.Prelude.{◌≡◌, ◌+◌, IfOk, length, map};
 ghost use Rattle.values.specs.Faults.{Gives};
+ghost use Rattle.logical.specs.Columns.{within, columns_at};
 ghost use Rattle.checker.specs.declared.certificate.CheckRefusal.{CheckRefusal};
 ghost use Rattle.checker.specs.Replay as spec;
 
-use crate::certificate::{CheckCode, CheckFault, Line, Node, Plan};
+use crate::certificate::{CheckCode, CheckFault, Line};
 use crate::replay::refused;
-use logical::Expr;
+use binder::Query;
+use logical::{Columns, Expr, same_aggregations};
+use physical::{JoinKind, Node, OrderKey, Plan, delivers, query_order};
 use std::alloc::{AllocError, Global};
-use values::{Fault, Items};
+use values::Fault;
 
-/// The line whose expression a node computes.
-fn line_of(node: &Node) -> usize
+/// The line whose expression a node computes. A sort has none of its own.
+fn line_of(node: &Node) -> Option<usize>
     ensures { result ≡ spec.line_of node.now }
 {
     match node {
-        Node::Scan { line, .. } => *line,
-        Node::Filter { line, .. } => *line,
-        Node::Cut { line, .. } => *line,
+        Node::Scan { line, .. } => Some(*line),
+        Node::Filter { line, .. } => Some(*line),
+        Node::FilterSubqueries { line, .. } => Some(*line),
+        Node::Cut { line, .. } => Some(*line),
+        Node::Loop { line, .. } => Some(*line),
+        Node::Sort { .. } => None,
+        Node::HashGroup { line, .. } => Some(*line),
+        Node::HashDistinct { line } => Some(*line),
     }
 }
 
-fn no_input(alloc: Global) -> Option<Items<usize>>
-    ensures { result ≡ Some [] }
-{
-    Some(Items::new(alloc))
-}
-
-fn one_input(alloc: Global, class: usize) -> Result<Option<Items<usize>>, AllocError>
-    ensures { IfOk result (λ inputs. inputs ≡ Some (class ∷ [])) }
-{
-    let mut inputs = Items::new(alloc);
-    inputs.push(class)?;
-    Ok(Some(inputs))
-}
-
-/// The classes of the inputs of an operator that computes the expression.
-fn inputs_of(alloc: Global, node: &Node, expr: &Expr) -> Result<Option<Items<usize>>, AllocError>
-    ensures { IfOk result (λ inputs. inputs ≡ spec.inputs_of node.now expr.now) }
+/// Whether a node computes an expression from what its inputs compute.
+fn computes(node: &Node, expr: &Expr) -> bool
+    ensures { result ≡ spec.computes node.now expr.now }
 {
     match (node, expr) {
-        (Node::Scan { occurrence, .. }, Expr::Get(own)) => if *occurrence == *own {
-            Ok(no_input(alloc))
-        } else {
-            Ok(None)
-        },
-        (Node::Filter { conjuncts, .. }, Expr::Select(own, input)) => if own.is_plain()
-            && conjuncts.same(own)
-        {
-            one_input(alloc, *input)
-        } else {
-            Ok(None)
-        },
-        (Node::Cut { columns, .. }, Expr::Keep(own, input)) => if columns.same(own) {
-            one_input(alloc, *input)
-        } else {
-            Ok(None)
-        },
-        _ => Ok(None),
+        (Node::Scan { occurrence, .. }, Expr::Get(own)) => *occurrence == *own,
+        (Node::Filter { conjuncts, .. }, Expr::Select(own, _)) => own.is_plain() && conjuncts.same(own),
+        (Node::FilterSubqueries { conjuncts, .. }, Expr::Select(own, _)) => !own.is_plain() && conjuncts.same(own),
+        (Node::Cut { columns, .. }, Expr::Keep(own, _)) => columns.same(own),
+        (Node::Loop { kind, conjuncts, .. }, Expr::Join(own, _, _)) => *kind == JoinKind::Inner && conjuncts.same(own),
+        (Node::Loop { kind, conjuncts, .. }, Expr::LeftJoin(own, _, _)) => *kind == JoinKind::Left && conjuncts.same(own),
+        (Node::HashGroup { keys, added, .. }, Expr::Group(own, others, _)) => {
+            keys.same(own) && same_aggregations(added.as_slice(), others.as_slice())
+        }
+        (Node::HashDistinct { .. }, Expr::Distinct(_)) => true,
+        _ => false,
     }
 }
 
-/// The classes of the inputs that the node wants, where it computes the class.
-fn node_fits(
+/// Whether the columns of the keys are in the set.
+fn keys_within(keys: &[OrderKey], columns: &Columns) -> bool
+    ensures { result ≡ within (spec.key_columns keys.now) columns.now }
+{
+    keys.iter().all(|key| columns.contains(key.column))
+}
+
+/// The class of the only input of a sort of the class.
+fn sort_fits(
+    alloc: Global,
+    columns: &[Columns],
+    keys: &[OrderKey],
+    inputs: usize,
+    class: usize,
+    number: usize,
+) -> Result<Vec<usize>, CheckFault>
+    ensures { Gives (λ classes. classes.items) result (spec.sort_fits (columns_at columns.now) keys.now inputs class number) }
+{
+    let known = match columns.get(class) {
+        Some(columns) => keys_within(keys, columns),
+        None => keys.is_empty(),
+    };
+    if !known {
+        return Err(refused(number, CheckCode::IllFormed));
+    }
+    if inputs != 1 {
+        return Err(refused(number, CheckCode::OtherOperator));
+    }
+    let mut classes = Vec::new(alloc);
+    classes.push(class)?;
+    Ok(classes)
+}
+
+/// The classes of the inputs that an operator with this line needs, where it computes the class.
+fn operator_fits(
     alloc: Global,
     lines: &[Line],
+    line: usize,
     node: &Node,
     inputs: usize,
     class: usize,
     number: usize,
-) -> Result<Items<usize>, CheckFault>
-    ensures { Gives (λ classes. classes) result (spec.node_fits (map spec.founding lines.now) node.now inputs class number) }
+) -> Result<Vec<usize>, CheckFault>
+    ensures { Gives (λ classes. classes.items) result (spec.operator_fits (map spec.founding lines.now) line node.now inputs class number) }
 {
-    let line = line_of(node);
     let expr = match lines.get(line) {
         Some(line) => line.founding(),
         None => return Err(refused(number, CheckCode::UnknownLine)),
     };
-    if line != class {
+    if line != class || !computes(node, expr) {
         return Err(refused(number, CheckCode::OtherOperator));
     }
-    match inputs_of(alloc, node, expr)? {
-        Some(classes) => if inputs == classes.len() {
-            Ok(classes)
-        } else {
-            Err(refused(number, CheckCode::OtherOperator))
+    let classes = expr.inputs(alloc)?;
+    if inputs == classes.len() {
+        Ok(classes)
+    } else {
+        Err(refused(number, CheckCode::OtherOperator))
+    }
+}
+
+/// The classes of the inputs that a node needs, where it computes the class.
+fn node_fits(
+    alloc: Global,
+    lines: &[Line],
+    columns: &[Columns],
+    node: &Node,
+    inputs: usize,
+    class: usize,
+    number: usize,
+) -> Result<Vec<usize>, CheckFault>
+    ensures { Gives (λ classes. classes.items) result (spec.node_fits (map spec.founding lines.now) (columns_at columns.now) node.now inputs class number) }
+{
+    match node {
+        Node::Sort { keys } => sort_fits(alloc, columns, keys.as_slice(), inputs, class, number),
+        _ => match line_of(node) {
+            Some(line) => operator_fits(alloc, lines, line, node, inputs, class, number),
+            None => unreachable!(),
         },
-        None => Err(refused(number, CheckCode::OtherOperator)),
     }
 }
 
@@ -101,37 +140,59 @@ fn next(number: usize) -> Result<usize, CheckFault>
     }
 }
 
-/// Checks that the plan computes the class, its nodes being numbered from a number on. Gives the number after them.
+/// Whether the order that the plan delivers begins with the ORDER BY.
+pub fn is_delivered(alloc: Global, query: &Query, plan: &Plan) -> Result<bool, AllocError>
+    ensures { IfOk result (λ b. b ≡ spec.is_delivered query.now plan.now) }
+{
+    let wanted = query_order(alloc, query)?;
+    let order = delivers(alloc, query, plan)?;
+    Ok(begins_with(order.as_slice(), wanted.as_slice()))
+}
+
+fn begins_with(order: &[OrderKey], wanted: &[OrderKey]) -> bool
+    ensures { result ≡ spec.same_order (take (length wanted.now) order.now) wanted.now }
+{
+    wanted.len() <= order.len() && &order[..wanted.len()] == wanted
+}
+
+/// Checks that the plan computes the class, its nodes being numbered from a number on, and that it is ordered as is wanted.
+/// Gives the number after them.
 #[cycle(fits)]
 #[tactic(auto, using(crate::proofs::Fits::plan_fits_out))]
 pub fn plan_fits(
     alloc: Global,
     lines: &[Line],
+    columns: &[Columns],
     plan: &Plan,
+    ordered: bool,
     class: usize,
     number: usize,
 ) -> Result<usize, CheckFault>
-    ensures { Gives (λ n. n) result (spec.plan_fits (map spec.founding lines.now) plan.now class number) }
+    ensures { Gives (λ n. n) result (spec.plan_fits (map spec.founding lines.now) (columns_at columns.now) plan.now ordered class number) }
 {
     let inputs = plan.inputs.as_slice();
-    let classes = node_fits(alloc, lines, &plan.node, inputs.len(), class, number)?;
-    inputs_fit(alloc, lines, inputs, classes.as_slice(), next(number)?)
+    let classes = node_fits(alloc, lines, columns, &plan.node, inputs.len(), class, number)?;
+    if !ordered {
+        return Err(refused(number, CheckCode::UnsortedAnswer));
+    }
+    inputs_fit(alloc, lines, columns, inputs, classes.as_slice(), next(number)?)
 }
 
 #[cycle(fits)]
 fn inputs_fit(
     alloc: Global,
     lines: &[Line],
+    columns: &[Columns],
     inputs: &[Plan],
     classes: &[usize],
     number: usize,
 ) -> Result<usize, CheckFault>
     requires { length inputs.now ≡ length classes.now }
-    ensures { Gives (λ n. n) result (spec.inputs_fit (map (spec.plan_fits (map spec.founding lines.now)) inputs.now) classes.now number) }
+    ensures { Gives (λ n. n) result (spec.inputs_fit (map (spec.plan_fits (map spec.founding lines.now) (columns_at columns.now)) inputs.now) classes.now number) }
 {
     let mut after = number;
     for i in 0..inputs.len() {
-        after = plan_fits(alloc, lines, &inputs[i], classes[i], after)?;
+        after = plan_fits(alloc, lines, columns, &inputs[i], true, classes[i], after)?;
     }
     Ok(after)
 }

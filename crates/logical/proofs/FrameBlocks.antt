@@ -14,6 +14,7 @@ use Rattle.binder.specs.Meaning as query
 use Rattle.binder.specs.Meaning.{item_of_row, item_of_group, all_shown, passes_filter, source}
 use Rattle.binder.specs.Bound.{Scope, bound_filter, bound_items, aggregate_numbers, are_new, all_differ, is_single, number_at, cond_scope, from_scope}
 use Rattle.binder.proofs.Equations as meaning
+use Rattle.binder.proofs.ScopeEquations.{scope-Block}
 use Rattle.binder.proofs.Widths.{source_fits, length-nulls}
 use Rattle.logical.specs.declared.expr.Expr.{Expr}
 use Rattle.logical.specs.declared.expr.Expr.TheVariants.{Select, Group, Keep, Distinct}
@@ -24,7 +25,7 @@ use Rattle.logical.specs.Expressions.{with_aggregates}
 use Rattle.logical.specs.Classes.{class_rows, class_columns}
 use Rattle.logical.specs.ConjunctOrder.{in_order}
 use Rattle.logical.specs.Frames.{CondLines, cond_frame, from_frame, where_lines, group_lines, keep_lines, distinct_lines, aggregations, item_number, own_numbers, last}
-use Rattle.logical.proofs.FrameEquations.{frame-Block, scope-Block}
+use Rattle.logical.proofs.FrameEquations.{frame-Block}
 use Rattle.logical.proofs.FrameGroups.{plain-items, group-items, group-keyed, groups-keyed, with_key, first_rows}
 use Rattle.logical.proofs.FrameRight.{CondRight, FromRight, CondMeans, FromMeans, BlockMeans, block-right, last_rows}
 use Rattle.logical.proofs.Growth.{Grows, grows-none, grows-one, grows-more, kept-rows, top-rows, top-columns, last-below}

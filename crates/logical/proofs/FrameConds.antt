@@ -19,13 +19,14 @@ use Rattle.binder.specs.Meaning as query
 use Rattle.binder.specs.Meaning.{all_of, any_of, equals_row}
 use Rattle.binder.specs.Bound.{Scope, CondScope, bound_term, cond_scope, block_scope, number_at}
 use Rattle.binder.proofs.Equations as meaning
+use Rattle.binder.proofs.ScopeEquations.{scope-Compare, scope-IsNull, scope-Not, scope-And, scope-Or, scope-Exists, scope-In}
 use Rattle.logical.specs.declared.condition.Condition.{Condition}
 use Rattle.logical.specs.declared.expr.Expr.{Expr}
 use Rattle.logical.specs.Bags.{Env}
 use Rattle.logical.specs.Conditions.{truth, term_value, is_empty}
 use Rattle.logical.specs.Classes.{class_rows}
 use Rattle.logical.specs.Frames.{CondLines, cond_frame, block_frame, all_frames, alone, numbered, last}
-use Rattle.logical.proofs.FrameEquations.{frame-Compare, frame-IsNull, frame-Not, frame-And, frame-Or, frame-Exists, frame-In, scope-Compare, scope-IsNull, scope-Not, scope-And, scope-Or, scope-Exists, scope-In}
+use Rattle.logical.proofs.FrameEquations.{frame-Compare, frame-IsNull, frame-Not, frame-And, frame-Or, frame-Exists, frame-In}
 use Rattle.logical.proofs.FrameRight.{CondRight, AllRight, CondMeans, BlockMeans, cond-right}
 use Rattle.logical.proofs.Growth.{Grows, grows-none, grows-more, kept-rows, last-below}
 use Rattle.logical.proofs.Loops.{two}

@@ -1,4 +1,4 @@
--- What the frame and the scope are of each form of condition, FROM and block.
+-- What the frame is of each form of condition, FROM and block: one equation for each.
 use Rattle.std.proofs.Common.{◌≡◌, refl, ap, sym, ◌∙◌, List, map, Option, Some, None, option_map}
 use Rattle.values.specs.declared.truth.Comparison.{Comparison}
 use Rattle.binder.specs.declared.query.Term.{Term}
@@ -11,12 +11,9 @@ use Rattle.binder.specs.declared.query.Cond.TheFolds.{fold-roll-Cond, fold-roll-
 use Rattle.binder.specs.declared.query.From.{From, roll-From}
 use Rattle.binder.specs.declared.query.From.TheVariants as from
 use Rattle.binder.specs.declared.query.Block.{Block, out-Block}
-use Rattle.binder.specs.Bound.{CondScope, FromScope, BlockScope, cond_scope, from_scope, block_scope, cond_scope_layer, from_scope_layer, block_scope_layer}
 use Rattle.logical.specs.Frames.{CondFrame, FromFrame, BlockFrame, cond_frame, from_frame, block_frame, cond_frame_layer, from_frame_layer, block_frame_layer}
 
 module _ (uses : List TableUse) where
-  -- ---- frames
-
   cond_roll : (x : Cond-F Cond From Block) → cond_frame uses (roll-Cond x) ≡ cond_frame_layer (map-Cond Cond From Block CondFrame FromFrame BlockFrame (cond_frame uses) (from_frame uses) (block_frame uses) x)
   unfolding cond_frame from_frame block_frame
   cond_roll x = fold-roll-Cond CondFrame FromFrame BlockFrame cond_frame_layer (from_frame_layer uses) block_frame_layer x
@@ -79,67 +76,3 @@ module _ (uses : List TableUse) where
 
   pub frame-Block : (q : Block) → block_frame uses q ≡ block_frame_layer (framed q)
   frame-Block q = block_roll q ∙ framed-is (out-Block q) (out-Block q).filter
-
-  -- ---- scopes
-
-  scope_roll : (x : Cond-F Cond From Block) → cond_scope uses (roll-Cond x) ≡ cond_scope_layer (map-Cond Cond From Block CondScope FromScope BlockScope (cond_scope uses) (from_scope uses) (block_scope uses) x)
-  unfolding cond_scope from_scope block_scope
-  scope_roll x = fold-roll-Cond CondScope FromScope BlockScope cond_scope_layer (from_scope_layer uses) block_scope_layer x
-
-  from_scope_roll : (x : From-F Cond From Block) → from_scope uses (roll-From x) ≡ from_scope_layer uses (map-From Cond From Block CondScope FromScope BlockScope (cond_scope uses) (from_scope uses) (block_scope uses) x)
-  unfolding cond_scope from_scope block_scope
-  from_scope_roll x = fold-roll-From CondScope FromScope BlockScope cond_scope_layer (from_scope_layer uses) block_scope_layer x
-
-  block_scope_roll : (q : Block) → block_scope uses q ≡ block_scope_layer (map-Block Cond From Block CondScope FromScope BlockScope (cond_scope uses) (from_scope uses) (block_scope uses) (out-Block q))
-  unfolding cond_scope from_scope block_scope
-  block_scope_roll q = fold_out-Block CondScope FromScope BlockScope cond_scope_layer (from_scope_layer uses) block_scope_layer q
-
-  scope_at : (x : Cond-F Cond From Block) (c : Cond) → roll-Cond x ≡ c → cond_scope uses c ≡ cond_scope_layer (map-Cond Cond From Block CondScope FromScope BlockScope (cond_scope uses) (from_scope uses) (block_scope uses) x)
-  scope_at x c is = ap (cond_scope uses) (sym is) ∙ scope_roll x
-
-  from_scope_at : (x : From-F Cond From Block) (f : From) → roll-From x ≡ f → from_scope uses f ≡ from_scope_layer uses (map-From Cond From Block CondScope FromScope BlockScope (cond_scope uses) (from_scope uses) (block_scope uses) x)
-  from_scope_at x f is = ap (from_scope uses) (sym is) ∙ from_scope_roll x
-
-  pub scope-Compare : (op : Comparison) (a b : Term) → cond_scope uses (cond.Compare op a b) ≡ cond_scope_layer (Cond-F.Compare op a b)
-  scope-Compare op a b = scope_at (Cond-F.Compare op a b) _ (cond.rolls-Compare op a b)
-
-  pub scope-IsNull : (a : Term) → cond_scope uses (cond.IsNull a) ≡ cond_scope_layer (Cond-F.IsNull a)
-  scope-IsNull a = scope_at (Cond-F.IsNull a) _ (cond.rolls-IsNull a)
-
-  pub scope-Not : (c : Cond) → cond_scope uses (cond.Not c) ≡ cond_scope_layer (Cond-F.Not (cond_scope uses c))
-  scope-Not c = scope_at (Cond-F.Not c) _ (cond.rolls-Not c)
-
-  pub scope-And : (cs : List Cond) → cond_scope uses (cond.And cs) ≡ cond_scope_layer (Cond-F.And (map (cond_scope uses) cs))
-  scope-And cs = scope_at (Cond-F.And cs) _ (cond.rolls-And cs)
-
-  pub scope-Or : (cs : List Cond) → cond_scope uses (cond.Or cs) ≡ cond_scope_layer (Cond-F.Or (map (cond_scope uses) cs))
-  scope-Or cs = scope_at (Cond-F.Or cs) _ (cond.rolls-Or cs)
-
-  pub scope-Exists : (q : Block) → cond_scope uses (cond.Exists q) ≡ cond_scope_layer (Cond-F.Exists (block_scope uses q))
-  scope-Exists q = scope_at (Cond-F.Exists q) _ (cond.rolls-Exists q)
-
-  pub scope-In : (a : Term) (q : Block) → cond_scope uses (cond.In a q) ≡ cond_scope_layer (Cond-F.In a (block_scope uses q))
-  scope-In a q = scope_at (Cond-F.In a q) _ (cond.rolls-In a q)
-
-  pub scope-Table : (o : Occurrence) → from_scope uses (from.Table o) ≡ from_scope_layer uses (From-F.Table o)
-  scope-Table o = from_scope_at (From-F.Table o) _ (from.rolls-Table o)
-
-  pub scope-Join : (f : From) (o : Occurrence) (on : Cond) → from_scope uses (from.Join f o on) ≡ from_scope_layer uses (From-F.Join (from_scope uses f) o (cond_scope uses on))
-  scope-Join f o on = from_scope_at (From-F.Join f o on) _ (from.rolls-Join f o on)
-
-  pub scope-LeftJoin : (f : From) (o : Occurrence) (on : Cond) → from_scope uses (from.LeftJoin f o on) ≡ from_scope_layer uses (From-F.LeftJoin (from_scope uses f) o (cond_scope uses on))
-  scope-LeftJoin f o on = from_scope_at (From-F.LeftJoin f o on) _ (from.rolls-LeftJoin f o on)
-
-  pub scope-Comma : (f g : From) → from_scope uses (from.Comma f g) ≡ from_scope_layer uses (From-F.Comma (from_scope uses f) (from_scope uses g))
-  scope-Comma f g = from_scope_at (From-F.Comma f g) _ (from.rolls-Comma f g)
-
-  abbrev pub scoped : Block → Block-F CondScope FromScope BlockScope
-  scoped q = record { from = from_scope uses q.from; filter = option_map (cond_scope uses) q.filter; grouped = q.grouped; keys = q.keys; items = q.items; distinct = q.distinct }
-
-  scoped-is : (x : Block-F Cond From Block) (w : Option Cond) → block_scope_layer (map-Block Cond From Block CondScope FromScope BlockScope (cond_scope uses) (from_scope uses) (block_scope uses) (record x { filter = w }))
-      ≡ block_scope_layer (record { from = from_scope uses x.from; filter = option_map (cond_scope uses) w; grouped = x.grouped; keys = x.keys; items = x.items; distinct = x.distinct })
-  scoped-is x None = refl
-  scoped-is x (Some c) = refl
-
-  pub scope-Block : (q : Block) → block_scope uses q ≡ block_scope_layer (scoped q)
-  scope-Block q = block_scope_roll q ∙ scoped-is (out-Block q) (out-Block q).filter

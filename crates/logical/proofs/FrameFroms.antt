@@ -15,6 +15,7 @@ use Rattle.binder.specs.Meaning as query
 use Rattle.binder.specs.Meaning.{from_width, pairs_of, passes, source}
 use Rattle.binder.specs.Bound.{Scope, is_use_of, is_used, numbers_of_use, use_numbers, cond_scope, from_scope, join_scope}
 use Rattle.binder.proofs.Equations as meaning
+use Rattle.binder.proofs.ScopeEquations.{scope-Table, scope-Join, scope-LeftJoin, scope-Comma}
 use Rattle.binder.proofs.Widths.{source_fits}
 use Rattle.logical.specs.declared.condition.Condition.{Condition}
 use Rattle.logical.specs.declared.expr.Expr.{Expr}
@@ -27,7 +28,7 @@ use Rattle.logical.specs.Classes.{class_rows, class_columns, classes}
 use Rattle.logical.specs.ConjunctOrder.{in_order}
 use Rattle.logical.specs.Frames.{AreOver, cond_frame, from_frame, join_frame, last}
 use Rattle.logical.proofs.Sets.{has-rising}
-use Rattle.logical.proofs.FrameEquations.{frame-Table, frame-Join, frame-LeftJoin, frame-Comma, scope-Table, scope-Join, scope-LeftJoin, scope-Comma}
+use Rattle.logical.proofs.FrameEquations.{frame-Table, frame-Join, frame-LeftJoin, frame-Comma}
 use Rattle.logical.proofs.FrameRight.{FromRight, CondMeans, FromMeans, from-right}
 use Rattle.logical.proofs.Growth.{Grows, grows-none, grows-one, grows-more, kept-rows, kept-columns, top-rows, top-columns, last-below}
 use Rattle.logical.proofs.Loops.{two, map-map, map-same, keep-all, through, loops, all-map}

@@ -53,6 +53,26 @@ around-off ns numbers scope c none outer there = by c.level outer there
     by zero outer there = cc
     by (suc l) outer there = level-off ns scope l c.place none there
 
+-- ---- places among keys
+
+-- the column of a key is one of the keys' columns
+pub key-has : (numbers keys : List ℕ) (p : ℕ) → is_among p keys ≡ true → has (map (number_at numbers) keys) (number_at numbers p) ≡ true
+key-has numbers [] p in_ = cc
+key-has numbers (k ∷ keys) p in_ = from (k == p) refl (λ later. key-has numbers keys p later) in_
+  where
+    from : (b : Bool) → (k == p) ≡ b → (is_among p keys ≡ true → has (map (number_at numbers) keys) (number_at numbers p) ≡ true) → (b || is_among p keys) ≡ true → has (map (number_at numbers) (k ∷ keys)) (number_at numbers p) ≡ true
+    from true is more in_ = or_left _ _ (eq-eqb _ _ (ap (number_at numbers) (eqb-true k p is)))
+    from false is more in_ = or_right _ _ (more in_)
+
+-- a place among keys that are below a width is below it
+pub key-below : (width : ℕ) (keys : List ℕ) (p : ℕ) → list_all (λ k. nat_lt k width) keys ≡ true → is_among p keys ≡ true → p < width
+key-below width [] p bound in_ = absurd (never in_)
+key-below width (k ∷ keys) p bound in_ = from (k == p) refl (λ later. key-below width keys p (and_parts (nat_lt k width) _ bound).1 later) in_
+  where
+    from : (b : Bool) → (k == p) ≡ b → (is_among p keys ≡ true → p < width) → (b || is_among p keys) ≡ true → p < width
+    from true is more in_ = subst (λ n. n < width) (eqb-true k p is) (ltb-true _ _ (and_parts (nat_lt k width) _ bound).0)
+    from false is more in_ = more in_
+
 all-parts : {X : Type 0} (p : X → Bool) (P : X → Type 0) → ((x : X) → p x ≡ true → P x) → (xs : List X) → list_all p xs ≡ true → AllByRecursion P xs
 all-parts p P h [] all = tt
 all-parts p P h (x ∷ xs) all = let parts = and_parts (p x) (list_all p xs) all in (h x parts.0, all-parts p P h xs parts.1)
@@ -110,22 +130,6 @@ module _ (numbers : List ℕ) (scope : Scope) (ρ : List Row) (e : Env) (agree :
       where
         from : (b : Bool) → (k == p) ≡ b → (is_among p keys ≡ true → key_value keys (values_at keys s) p ≡ value_at p s) → (b || is_among p keys) ≡ true → (if b then value_at k s else key_value keys (values_at keys s) p) ≡ value_at p s
         from true is more in_ = ap (λ n. value_at n s) (eqb-true k p is)
-        from false is more in_ = more in_
-
-    key-has : (keys : List ℕ) (p : ℕ) → is_among p keys ≡ true → has (key_numbers keys) (number_at numbers p) ≡ true
-    key-has [] p in_ = cc
-    key-has (k ∷ keys) p in_ = from (k == p) refl (λ later. key-has keys p later) in_
-      where
-        from : (b : Bool) → (k == p) ≡ b → (is_among p keys ≡ true → has (key_numbers keys) (number_at numbers p) ≡ true) → (b || is_among p keys) ≡ true → has (key_numbers (k ∷ keys)) (number_at numbers p) ≡ true
-        from true is more in_ = or_left _ _ (eq-eqb _ _ (ap (number_at numbers) (eqb-true k p is)))
-        from false is more in_ = or_right _ _ (more in_)
-
-    key-below : (keys : List ℕ) (p : ℕ) → list_all (λ k. nat_lt k (length numbers)) keys ≡ true → is_among p keys ≡ true → p < length numbers
-    key-below [] p bound in_ = absurd (never in_)
-    key-below (k ∷ keys) p bound in_ = from (k == p) refl (λ later. key-below keys p (and_parts (nat_lt k (length numbers)) _ bound).1 later) in_
-      where
-        from : (b : Bool) → (k == p) ≡ b → (is_among p keys ≡ true → p < length numbers) → (b || is_among p keys) ≡ true → p < length numbers
-        from true is more in_ = subst (λ n. n < length numbers) (eqb-true k p is) (ltb-true _ _ (and_parts (nat_lt k (length numbers)) _ bound).0)
         from false is more in_ = more in_
 
     -- ---- aggregates
@@ -207,12 +211,12 @@ module _ (numbers : List ℕ) (scope : Scope) (ρ : List Row) (e : Env) (agree :
 
       own-column : (M : Row → List Row) (c : Column) → (c.level == 0) ≡ true → is_among c.place keys ≡ true → Reads (numbers ∷ scope) e (group_row M) (group_shows M) Wide (item.Column c)
       own-column M c is in_ =
-          let lt : c.place < length numbers = key-below keys c.place bound in_ in
+          let lt : c.place < length numbers = key-below (length numbers) keys c.place bound in_ in
           let number_is : number (numbers ∷ scope) c ≡ number_at numbers c.place = ap (λ l. number_at (slice_index_or (numbers ∷ scope) l []) c.place) (eqb-true c.level 0 is) in
           record {
             own = λ s wide.
                 ap (group_row M s) number_is ∙ with-off items (map g (M s)) _ (number_at numbers c.place) (own-off c.place lt)
-                ∙ cond-true _ _ _ (has-rising (number_at numbers c.place) (key_numbers keys) ∙ key-has keys c.place in_) ∙ own-reads s c.place wide lt
+                ∙ cond-true _ _ _ (has-rising (number_at numbers c.place) (key_numbers keys) ∙ key-has numbers keys c.place in_) ∙ own-reads s c.place wide lt
                 ∙ sym (cond-true _ _ _ is ∙ key-value keys s c.place in_);
             around = λ outer s wide. cc (is, outer);
           }

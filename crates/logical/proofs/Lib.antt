@@ -1,5 +1,11 @@
 pub mod BagSums
+pub mod ConditionNames
 pub mod Equations
+pub mod FormedBlocks
+pub mod FormedConds
+pub mod FormedFroms
+pub mod FormedParts
+pub mod FormedQueries
 pub mod FrameBlocks
 pub mod FrameConds
 pub mod FrameEquations
@@ -7,11 +13,15 @@ pub mod FrameFroms
 pub mod FrameGroups
 pub mod FrameLoops
 pub mod FrameMeaning
+pub mod FrameOperators
 pub mod FrameRight
+pub mod FrameShapes
 pub mod FrameSteps
 pub mod Growth
+pub mod Induction
 pub mod Loops
 pub mod Meaning
+pub mod NamedClasses
 pub mod Ordered
 pub mod Places
 pub mod Plain

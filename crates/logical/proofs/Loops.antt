@@ -48,9 +48,9 @@ all-filter P p (x ∷ xs) all = by (p x) (all-filter P p xs all.1)
     by true more = (all.0, more)
     by false more = more
 
-pub all-any : {X : Type 0} (xs : List X) → AllByRecursion (λ x. Unit {0}) xs
-all-any [] = tt
-all-any (x ∷ xs) = (tt, all-any xs)
+pub all-each : {X : Type 0} (P : X → Type 0) → ((x : X) → P x) → (xs : List X) → AllByRecursion P xs
+all-each P h [] = tt
+all-each P h (x ∷ xs) = (h x, all-each P h xs)
 
 -- ---- one of each
 

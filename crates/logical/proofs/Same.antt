@@ -10,7 +10,7 @@ use Rattle.logical.specs.declared.expr.Expr.{Expr}
 use Rattle.logical.specs.contracts.condition.Condition as condition
 use Rattle.logical.specs.contracts.expr.Aggregation as aggregation
 use Rattle.logical.specs.contracts.expr.Expr as expr
-use Rattle.logical.specs.Equality.{same_code, same_by, same_condition, same_conditions, same_columns, same_expr, same_aggregation}
+use Rattle.logical.specs.Equality.{same_code, same_by, same_condition, same_conditions, same_columns, same_expr, same_aggregation, same_aggregations}
 
 two : (a b : Gv) {c d : Gv} → a ≡ c → b ≡ d → gcons a b ≡ gcons c d
 two a b e f = rw (e, f) refl
@@ -33,14 +33,14 @@ code-refl gnil = refl
 code-refl (gnum n) = eq-eqb n n refl
 code-refl (gcons a b) = rw (code-refl a, code-refl b) refl
 
-same_by-equal : {A : Type 0} (coded : Coded A) (x y : A) → same_by coded x y ≡ true → x ≡ y
+pub same_by-equal : {A : Type 0} (coded : Coded A) (x y : A) → same_by coded x y ≡ true → x ≡ y
 same_by-equal coded x y e = coded.inj x y (code-equal (coded.code x) (coded.code y) e)
 
 same_by-refl : {A : Type 0} (coded : Coded A) (x y : A) → x ≡ y → same_by coded x y ≡ true
 same_by-refl coded x y e = ap (λ z. same_by coded x z) (sym e) ∙ code-refl (coded.code x)
 
 -- what is true just where two values are equal is the test
-tested : {A : Type 0} (coded : Coded A) (b : Bool) (x y : A) → IsTrue b ↔ (x ≡ y) → b ≡ same_by coded x y
+pub tested : {A : Type 0} (coded : Coded A) (b : Bool) (x y : A) → IsTrue b ↔ (x ≡ y) → b ≡ same_by coded x y
 tested coded b x y is = both_ways b (same_by coded x y) (λ e. same_by-refl coded x y (is.0 e)) (λ e. is.1 (same_by-equal coded x y e))
 
 pub tested_condition : (b : Bool) (x y : Condition) → IsTrue b ↔ (x ≡ y) → b ≡ same_condition x y
@@ -63,6 +63,10 @@ pub tested_aggregation : (b : Bool) (x y : Aggregation) → IsTrue b ↔ (x ≡ 
 unfolding same_aggregation
 tested_aggregation = tested aggregation.the_row.coded
 
+pub tested_aggregations : (b : Bool) (x y : List Aggregation) → IsTrue b ↔ (x ≡ y) → b ≡ same_aggregations x y
+unfolding same_aggregations
+tested_aggregations = tested (coded_list aggregation.the_row.coded)
+
 pub equal_condition : (x y : Condition) → same_condition x y ≡ true → x ≡ y
 unfolding same_condition
 equal_condition = same_by-equal condition.the_row.coded
@@ -78,3 +82,15 @@ equal_columns = same_by-equal (coded_list coded_ℕ)
 pub equal_expr : (x y : Expr) → same_expr x y ≡ true → x ≡ y
 unfolding same_expr
 equal_expr = same_by-equal expr.the_row.coded
+
+pub equal_aggregations : (x y : List Aggregation) → same_aggregations x y ≡ true → x ≡ y
+unfolding same_aggregations
+equal_aggregations = same_by-equal (coded_list aggregation.the_row.coded)
+
+pub equal_aggregation : (x y : Aggregation) → same_aggregation x y ≡ true → x ≡ y
+unfolding same_aggregation
+equal_aggregation = same_by-equal aggregation.the_row.coded
+
+pub same_aggregation-refl : (x : Aggregation) → same_aggregation x x ≡ true
+unfolding same_aggregation
+same_aggregation-refl x = same_by-refl aggregation.the_row.coded x x refl

@@ -182,3 +182,7 @@ increasing_range first n k h =
 
 pub range_more : (first n : ℕ) → range_with_len first (n + 1) ≡ range_with_len first n ++ (first + n) ∷ []
 range_more first n = simp map-id at (map-range_with_len_more (λ x. x) first n (first + n) refl)
+
+-- a list of numbers in a run, with the next one pushed
+pub run_more : (first n x : ℕ) (xs all : List ℕ) → all ≡ xs ++ x ∷ [] → xs ≡ range_with_len first n → x ≡ first + n → all ≡ range_with_len first (n + 1)
+run_more first n x xs all is so_far next = rw (is, so_far, next, range_more) refl

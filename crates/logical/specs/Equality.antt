@@ -36,3 +36,6 @@ same_expr = same_by expr.the_row.coded
 
 unfoldable pub same_aggregation : Aggregation → Aggregation → Bool
 same_aggregation = same_by aggregation.the_row.coded
+
+unfoldable pub same_aggregations : List Aggregation → List Aggregation → Bool
+same_aggregations = same_by (coded_list aggregation.the_row.coded)

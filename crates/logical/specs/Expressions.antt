@@ -14,7 +14,7 @@ use Rattle.logical.specs.declared.expr.Expr.TheVariants.{Get, Select, Join, Left
 use Rattle.logical.specs.Equality.{same_aggregation}
 use Rattle.logical.specs.Columns.{ColumnSet, has, within, apart, rising}
 use Rattle.logical.specs.Bags.{Env, Bag, lay, select, join, left_join, semi, anti, keep, distinct, group}
-use Rattle.logical.specs.Conditions.{holds, allows, all_columns, all_classes, mentions}
+use Rattle.logical.specs.Conditions.{holds, allows, all_columns, all_classes, classes_in, mentions}
 
 -- what is known of each class: its rows, its columns, and the columns of the environment on which its rows depend
 pub record Classes : Type 0 where
@@ -122,6 +122,18 @@ classes_pass p (Anti S M a b) = p a && p b && subqueries_pass p S && subqueries_
 classes_pass p (Keep K x) = p x
 classes_pass p (Distinct x) = p x
 classes_pass p (Group K G x) = p x
+
+-- the classes that an expression names: its inputs, and those of its conditions, rising
+abbrev pub input_classes : Expr → List ℕ
+input_classes (Get o) = []
+input_classes (Select C x) = x ∷ classes_in C
+input_classes (Join C a b) = a ∷ b ∷ []
+input_classes (LeftJoin C a b) = a ∷ b ∷ []
+input_classes (Semi C a b) = a ∷ b ∷ []
+input_classes (Anti S M a b) = a ∷ b ∷ []
+input_classes (Keep K x) = x ∷ []
+input_classes (Distinct x) = x ∷ []
+input_classes (Group K G x) = x ∷ []
 
 -- a column of the query: of a table occurrence, or of an aggregate of its own
 abbrev pub is_own : List TableUse → List Aggregation → ColumnSet

@@ -26,7 +26,7 @@ use Rattle.logical.specs.declared.condition.Condition.{Condition}
 use Rattle.logical.specs.declared.condition.Condition.TheVariants.{Compare, IsNull, Not, And, Or, Exists, In}
 use Rattle.logical.specs.declared.expr.Aggregation.{Aggregation}
 use Rattle.logical.specs.declared.expr.Expr.{Expr}
-use Rattle.logical.specs.declared.expr.Expr.TheVariants.{Get, Select, Join, LeftJoin, Keep, Distinct, Group}
+use Rattle.logical.specs.declared.expr.Expr.TheVariants.{Get, Select, Join, LeftJoin, Semi, Anti, Keep, Distinct, Group}
 use Rattle.logical.specs.Columns.{rising}
 use Rattle.logical.specs.Bags.{Env}
 use Rattle.logical.specs.Classes.{root_rows}
@@ -214,6 +214,12 @@ query_frame q = reverse ((block_frame q.tables q.block).lines [] [])
 -- the column numbers of a query's items
 unfoldable pub query_numbers : Query → List ℕ
 query_numbers q = (block_frame q.tables q.block).shown []
+
+-- whether frames have the operator: they have no semijoin and no antijoin
+abbrev pub is_framed : Expr → Bool
+is_framed (Semi C a b) = false
+is_framed (Anti S M a b) = false
+is_framed x = true
 
 -- ---- what it means
 

@@ -1,7 +1,7 @@
 //! Expressions over classes.
 
 ghost use Rattle.std.specs.Prelude.{◌≡◌, ◌↔◌, IsTrue};
-ghost use Rattle.logical.specs.Equality.{same_expr, same_aggregation};
+ghost use Rattle.logical.specs.Equality as spec;
 
 use crate::columns::Columns;
 use crate::condition::Conjuncts;
@@ -43,7 +43,7 @@ pub enum Expr {
 impl Expr {
     pub fn same(&self, other: &Expr) -> bool
         ensures equal { IsTrue result ↔ (self.now ≡ other.now) }
-        ensures test { result ≡ same_expr self.now other.now }
+        ensures test { result ≡ spec.same_expr self.now other.now }
     {
         is_same(self, other)
     }
@@ -74,13 +74,20 @@ fn is_same(expr: &Expr, other: &Expr) -> bool
 impl Aggregation {
     pub fn same(self, other: Aggregation) -> bool
         ensures equal { IsTrue result ↔ (self ≡ other) }
-        ensures test { result ≡ same_aggregation self other }
+        ensures test { result ≡ spec.same_aggregation self other }
     {
         self == other
     }
 }
 
-fn same_aggregations(added: &[Aggregation], others: &[Aggregation]) -> bool
+pub fn same_aggregations(added: &[Aggregation], others: &[Aggregation]) -> bool
+    ensures equal { IsTrue result ↔ (added.now ≡ others.now) }
+    ensures test { result ≡ spec.same_aggregations added.now others.now }
+{
+    are_same(added, others)
+}
+
+fn are_same(added: &[Aggregation], others: &[Aggregation]) -> bool
     ensures { IsTrue result ↔ (added.now ≡ others.now) }
 {
     if added.len() != others.len() {

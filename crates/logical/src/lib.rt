@@ -7,7 +7,6 @@
 
 pub mod columns;
 pub mod condition;
-mod condition_classes;
 mod condition_text;
 mod conjunct_order;
 pub mod expr;
@@ -18,12 +17,13 @@ mod frames;
 pub mod framing;
 pub mod laws;
 mod lines;
+mod named_classes;
 mod scope;
 #[cfg(test)]
 mod tests;
 
 pub use columns::Columns;
 pub use condition::{Condition, Conjuncts, Term};
-pub use expr::{Aggregation, Expr};
+pub use expr::{Aggregation, Expr, same_aggregations};
 pub use frames::query_frame;
 pub use framing::frame;

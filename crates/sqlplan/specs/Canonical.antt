@@ -1,35 +1,27 @@
 -- The plan that follows a frame, operator by operator.
-use Rattle.std.specs.Prelude.{◌≡◌, ℕ, List, [], ◌∷◌, map, Option, Some, None}
+use Rattle.std.specs.Prelude.{◌≡◌, Bool, true, false, ◌&&◌, List, [], ◌∷◌, map}
+use Rattle.std.specs.List.{list_all}
 use Rattle.binder.specs.declared.query.Query.{Query}
-use Rattle.logical.specs.declared.condition.Condition.{Condition}
-use Rattle.logical.specs.declared.expr.Expr.{Expr}
-use Rattle.logical.specs.declared.expr.Expr.TheVariants.{Get, Select, Keep}
-use Rattle.logical.specs.Frame.{frame_of}
+use Rattle.logical.specs.Frames.{query_frame}
+use Rattle.physical.specs.declared.plan.OrderKey.{OrderKey}
+use Rattle.physical.specs.declared.plan.Node.{Node}
+use Rattle.physical.specs.declared.plan.Node.TheVariants.{Sort}
+use Rattle.physical.specs.declared.plan.Plan.{Plan, roll-Plan, fold-Plan}
+use Rattle.physical.specs.declared.plan.Plan.TheOpen.{Plan-F}
+use Rattle.physical.specs.Orders.{query_order}
 use Rattle.checker.specs.declared.certificate.Line.TheVariants.{Founds}
-use Rattle.checker.specs.declared.certificate.Node.{Node}
-use Rattle.checker.specs.declared.certificate.Node.TheVariants.{Scan, Filter, Cut}
-use Rattle.checker.specs.declared.certificate.Plan.{Plan, roll-Plan}
 use Rattle.checker.specs.declared.certificate.Certificate.{Certificate}
 
-abbrev pub over : Node → Plan → Plan
-over node input = roll-Plan (record { node = node; inputs = input ∷ [] })
+abbrev pub is_sort : Node → Bool
+is_sort (Sort keys) = true
+is_sort _ = false
 
-abbrev pub scan : ℕ → Plan
-scan o = roll-Plan (record { node = Scan 0 o; inputs = [] })
+abbrev pub unsorted_layer : Plan-F Bool → Bool
+unsorted_layer p = not (is_sort p.node) && list_all (λ x. x) p.inputs
 
-abbrev pub filter : ℕ → List Condition → Plan → Plan
-filter line C input = over (Filter line C) input
+-- the plan has no sort: so each of its nodes is told by the expression that it computes
+unfoldable pub is_unsorted : Plan → Bool
+is_unsorted = fold-Plan Bool unsorted_layer
 
-abbrev pub cut : ℕ → List ℕ → Plan → Plan
-cut line K input = over (Cut line K) input
-
--- a node for each expression, the root's last
-abbrev pub plan_over : List Expr → Option Plan
-plan_over (Get o ∷ Keep K x ∷ []) = Some (cut 1 K (scan o))
-plan_over (Get o ∷ Select C y ∷ Keep K x ∷ []) = Some (cut 2 K (filter 1 C (scan o)))
-plan_over _ = None
-
--- the certificate's lines are the query's frame, and its plan follows it
-pub record IsCanonical (q : Query) (V : Certificate) : Type 0 where
-  pub lines : V.lines ≡ map Founds (frame_of q)
-  pub plan : plan_over (frame_of q) ≡ Some V.plan
+-- a plan without a sort, and on top of it the sort that an ORDER BY asks for
+pub data IsSortedPlan : List OrderKey → Plan → Type 0 where

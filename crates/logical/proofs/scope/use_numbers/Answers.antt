@@ -4,17 +4,14 @@ use Rattle.std.proofs.lemmas.Option.{slice_get_read}
 use Rattle.binder.specs.declared.query.Occurrence.{Occurrence}
 use Rattle.binder.specs.declared.query.TableUse.{TableUse}
 use Rattle.binder.specs.Bound.{numbers_of_use, use_numbers}
-use Rattle.logical.proofs.Sets.{range_more}
+use Rattle.logical.proofs.Sets.{run_more}
 use Rattle.logical.proofs.scope.use_numbers.Goals as goal
-
-one_more : (first n x : ℕ) (xs all : List ℕ) → all ≡ xs ++ x ∷ [] → xs ≡ range_with_len first n → x ≡ first + n → all ≡ range_with_len first (n + 1)
-one_more first n x xs all is so_far next = rw (is, so_far, next, range_more) refl
 
 to_end : (uses : List TableUse) (o : Occurrence) (t : TableUse) (n : ℕ) (xs : List ℕ) → slice_get uses o.number ≡ Some t → n ≡ length t.entry.columns → xs ≡ range_with_len t.first_column n → xs ≡ use_numbers uses o
 to_end uses o t n xs there end is = is ∙ ap (range_with_len t.first_column) end ∙ sym (ap numbers_of_use there)
 
 pub loop-place-preserved : goal.loop-place-preserved
-loop-place-preserved c = one_more c.in-Some.table.now.first_column c.loop-place.place c.in_ok-ok_or.field-0 c.loop-place.numbers.items c.push.new.self.items c.in_ok-push.ensures.items c.loop-place.invariant (search rules)
+loop-place-preserved c = run_more c.in-Some.table.now.first_column c.loop-place.place c.in_ok-ok_or.field-0 c.loop-place.numbers.items c.push.new.self.items c.in_ok-push.ensures.items c.loop-place.invariant (search rules)
 
 pub returns : goal.returns
 returns c =

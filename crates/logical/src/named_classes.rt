@@ -1,10 +1,12 @@
-//! The classes that conditions name.
+//! The classes that conditions and expressions name.
 
 ghost use Rattle.std.specs.Prelude.{◌≡◌, ◌++◌, flat_map, IfOk, OnOk};
 ghost use Rattle.logical.specs.Conditions as spec;
+ghost use Rattle.logical.specs.Expressions.{input_classes};
 
 use crate::columns::in_rising_order;
 use crate::condition::{Condition, Conjuncts};
+use crate::expr::Expr;
 use std::alloc::{AllocError, Global};
 
 /// Adds the classes that a condition names.
@@ -48,4 +50,36 @@ impl Conjuncts {
         add_all_classes(self.as_slice(), &mut classes)?;
         Ok(in_rising_order(classes))
     }
+}
+
+impl Expr {
+    /// The classes of its inputs, the left one first, and then those that a selection's conditions name, in rising order.
+    pub fn inputs(&self, alloc: Global) -> Result<Vec<usize>, AllocError>
+        ensures { IfOk result (λ classes. classes.items ≡ input_classes self.now) }
+    {
+        match self {
+            Expr::Get(_) => Ok(Vec::new(alloc)),
+            Expr::Select(conjuncts, x) => {
+                let mut classes = listed(alloc, &[*x])?;
+                let named = conjuncts.classes(alloc)?;
+                classes.extend_from_slice(named.as_slice())?;
+                Ok(classes)
+            }
+            Expr::Join(_, a, b) => listed(alloc, &[*a, *b]),
+            Expr::LeftJoin(_, a, b) => listed(alloc, &[*a, *b]),
+            Expr::Semi(_, a, b) => listed(alloc, &[*a, *b]),
+            Expr::Anti(_, _, a, b) => listed(alloc, &[*a, *b]),
+            Expr::Keep(_, x) => listed(alloc, &[*x]),
+            Expr::Distinct(x) => listed(alloc, &[*x]),
+            Expr::Group(_, _, x) => listed(alloc, &[*x]),
+        }
+    }
+}
+
+fn listed(alloc: Global, classes: &[usize]) -> Result<Vec<usize>, AllocError>
+    ensures { IfOk result (λ listed. listed.items ≡ classes.now) }
+{
+    let mut listed = Vec::new(alloc);
+    listed.extend_from_slice(classes)?;
+    Ok(listed)
 }
