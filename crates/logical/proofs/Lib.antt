@@ -26,6 +26,7 @@ pub mod Ordered
 pub mod Places
 pub mod Plain
 pub mod Puts
+pub mod QueryNumbers
 pub mod Same
 pub mod SameBags
 pub mod SameConditions

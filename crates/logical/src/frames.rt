@@ -59,7 +59,7 @@ fn aggregations(
 }
 
 /// The number of what an item shows.
-fn item_number(scope: &Scope<'_>, item: Item) -> usize
+pub(crate) fn item_number(scope: &Scope<'_>, item: Item) -> usize
     ensures { result ≡ spec.item_number (scope_of scope.now) item }
 {
     match item {

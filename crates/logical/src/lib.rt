@@ -18,6 +18,7 @@ pub mod framing;
 pub mod laws;
 mod lines;
 mod named_classes;
+mod numbers;
 mod scope;
 #[cfg(test)]
 mod tests;
@@ -27,3 +28,4 @@ pub use condition::{Condition, Conjuncts, Term};
 pub use expr::{Aggregation, Expr, same_aggregations};
 pub use frames::query_frame;
 pub use framing::frame;
+pub use numbers::query_numbers;

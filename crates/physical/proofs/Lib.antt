@@ -1,2 +1,4 @@
+pub mod Deliveries
+pub mod OrderedLists
 pub mod SortedRows
 pub mod Sorting

@@ -4,6 +4,7 @@
 //! (specs/Orders).
 #![tactic(auto)]
 
+pub mod laws;
 mod order;
 pub mod plan;
 

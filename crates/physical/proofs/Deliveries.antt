@@ -1,0 +1,158 @@
+-- Each plan's rows stand in the order that it delivers.
+use Rattle.std.proofs.Common.{◌≡◌, refl, ap, sym, ◌∙◌, subst, ℕ, Bool, true, false, not, if◌then◌else◌, List, [], ◌∷◌, map}
+use Rattle.std.specs.declared.cmp.Ordering.{Ordering}
+use Rattle.std.specs.declared.cmp.Ordering.TheVariants.{Less, Equal, Greater}
+use Rattle.std.specs.Ordering.{is_gt, flip_args, ordering_then}
+use Rattle.std.specs.List.{AllByRecursion}
+use Rattle.std.proofs.lemmas.Bool.{cond-true, not-true}
+use Rattle.values.specs.Order.{order}
+use Rattle.binder.specs.declared.query.TableUse.{TableUse}
+use Rattle.binder.specs.Rows.{Tables}
+use Rattle.logical.specs.Columns.{ColumnSet, has}
+use Rattle.logical.specs.Bags.{Env, Bag, Test, lay, nulls, matches, or_else_row, distinct_on}
+use Rattle.logical.specs.Conditions.{holds}
+use Rattle.logical.proofs.Loops.{two, all-map, all-filter, all-any}
+use Rattle.physical.specs.declared.plan.JoinKind.{JoinKind}
+use Rattle.physical.specs.declared.plan.JoinKind.TheVariants.{Inner, Left}
+use Rattle.physical.specs.declared.plan.OrderKey.{OrderKey}
+use Rattle.physical.specs.declared.plan.Node.{Node}
+use Rattle.physical.specs.declared.plan.Node.TheVariants.{Scan, Filter, FilterSubqueries, Cut, Loop, Sort, HashGroup, HashDistinct}
+use Rattle.physical.specs.declared.plan.Plan.{Plan, roll-Plan, fold-roll-Plan, ind-Plan, map-Plan}
+use Rattle.physical.specs.declared.plan.Plan.TheOpen.{Plan-F}
+use Rattle.physical.specs.Sorts.{key_order, keys_order}
+use Rattle.physical.specs.Plays.{Played, node_rows, play_layer, played, play, first, rest, no_classes, loop_rows, first_columns, second_columns, node_columns}
+use Rattle.physical.specs.Orders.{IsOrdered, Delivered, front, first_order, node_order, deliver_layer, delivered, PlansDeliver}
+use Rattle.physical.proofs.Sorting.{Ascends, ascends-sorted}
+use Rattle.physical.proofs.SortedRows.{keys_total}
+use Rattle.physical.proofs.OrderedLists.{Alike, ascends-any, ascends-map, ascends-weaker, ascends-filter, ascends-distinct_on, ascends-laid_out}
+
+ordered : (keys : List OrderKey) (rows : List Env) → Ascends (keys_order keys) rows → IsOrdered keys rows
+ordered keys [] up = tt
+ordered keys (a ∷ []) up = tt
+ordered keys (a ∷ b ∷ rows) up = (up.0.0, ordered keys (b ∷ rows) up.1)
+
+-- ---- the front of an order
+
+not-behind : (o p q : Ordering) → (is_gt p ≡ false → is_gt q ≡ false) → is_gt (ordering_then o p) ≡ false → is_gt (ordering_then o q) ≡ false
+not-behind Less p q h k = k
+not-behind Equal p q h k = h k
+not-behind Greater p q h k = k
+
+-- rows in an order are in each front of it
+front-weaker : (K : ColumnSet) (keys : List OrderKey) (a b : Env) → is_gt (keys_order keys a b) ≡ false → is_gt (keys_order (front K keys) a b) ≡ false
+front-weaker K [] a b h = h
+front-weaker K (k ∷ keys) a b h = by (K k.column) (not-behind (key_order k a b) (keys_order keys a b) (keys_order (front K keys) a b) (front-weaker K keys a b) h)
+  where
+    by : (p : Bool) → is_gt (keys_order (k ∷ front K keys) a b) ≡ false → is_gt (keys_order (if p then k ∷ front K keys else []) a b) ≡ false
+    by true later = later
+    by false later = refl
+
+-- rows that agree in the columns are alike in each front of the columns
+front-alike : (K : ColumnSet) (t r : Env) → ((c : ℕ) → K c ≡ true → t c ≡ r c) → (keys : List OrderKey) → Alike (keys_order (front K keys)) t r
+front-alike K t r agree [] = record { before = λ z. refl; behind = λ z. refl }
+front-alike K t r agree (k ∷ keys) = by (K k.column) (agree k.column) (front-alike K t r agree keys)
+  where
+    by : (p : Bool) → (p ≡ true → t k.column ≡ r k.column) → Alike (keys_order (front K keys)) t r → Alike (keys_order (if p then k ∷ front K keys else [])) t r
+    by true same later = record {
+      before = λ z. two ordering_then (ap (λ v. (if k.descending then flip_args order else order) v (z k.column)) (same refl)) (later.before z);
+      behind = λ z. two ordering_then (ap (λ v. (if k.descending then flip_args order else order) (z k.column) v) (same refl)) (later.behind z);
+    }
+    by false same later = record { before = λ z. refl; behind = λ z. refl }
+
+lay-on : (K : ColumnSet) (r e : Env) (c : ℕ) → K c ≡ true → lay K r e c ≡ r c
+lay-on K r e c h = cond-true (K c) (r c) (e c) h
+
+lay-off : (K : ColumnSet) (r e : Env) (c : ℕ) → not (K c) ≡ true → lay K r e c ≡ e c
+lay-off K r e c h = ap (λ b. if b then r c else e c) (not-true (K c) h)
+
+-- ---- operators
+
+-- rows cut to columns
+ascends-cut : (K : ColumnSet) (keys : List OrderKey) (e : Env) (rows : List Env) → Ascends (keys_order keys) rows → Ascends (keys_order (front K keys)) (map (λ r. lay K r e) rows)
+ascends-cut K keys e rows = ascends-map (keys_order keys) (keys_order (front K keys)) (λ r. lay K r e) (λ a b h.
+    ap is_gt ((front-alike K (lay K a e) a (lay-on K a e) keys).before (lay K b e) ∙ (front-alike K (lay K b e) b (lay-on K b e) keys).behind a) ∙ front-weaker K keys a b h) rows
+
+module _ (right : List ℕ) (keys : List OrderKey) where
+  abbrev shown : ColumnSet
+  shown c = not (has right c)
+
+  abbrev left_order : Env → Env → Ordering
+  left_order = keys_order (front shown keys)
+
+  -- a left row's pair is like it in the columns that the right side doesn't hide
+  pair-alike : (s r : Env) → Alike left_order (lay (has right) s r) r
+  pair-alike s r = front-alike shown (lay (has right) s r) r (lay-off (has right) s r) keys
+
+  matches-alike : (p : Test) (rows : List Env) (r : Env) → AllByRecursion (λ t. Alike left_order t r) (matches p (has right) rows r)
+  matches-alike p rows r =
+      all-filter _ p (map (λ s. lay (has right) s r) rows) (all-map (λ s. Unit {0}) _ (λ s. lay (has right) s r) rows (λ s h. pair-alike s r) (all-any rows))
+
+  or_else-alike : (r : Env) (rows : List Env) → AllByRecursion (λ t. Alike left_order t r) rows → AllByRecursion (λ t. Alike left_order t r) (or_else_row (lay (has right) nulls r) rows)
+  or_else-alike r [] all = (pair-alike nulls r, tt)
+  or_else-alike r (t ∷ rows) all = all
+
+  -- a loop goes through its left side in order
+  ascends-loop : (kind : JoinKind) (p : Test) (a b : Bag) (e : Env) → Ascends (keys_order keys) (a e) → Ascends left_order (loop_rows kind p right a b e)
+  ascends-loop Inner p a b e up =
+      ascends-laid_out left_order (keys_total (front shown keys)) (matches p (has right) (b e)) (matches-alike p (b e)) (a e) (ascends-weaker _ _ (front-weaker shown keys) (a e) up)
+  ascends-loop Left p a b e up =
+      ascends-laid_out left_order (keys_total (front shown keys)) (λ r. or_else_row (lay (has right) nulls r) (matches p (has right) (b e) r)) (λ r. or_else-alike r _ (matches-alike p (b e) r)) (a e)
+      (ascends-weaker _ _ (front-weaker shown keys) (a e) up)
+
+-- ---- plans
+
+-- what is delivered is what is played
+pub record Delivers (d : Delivered) (p : Played) : Type 0 where
+  pub columns : d.columns ≡ p.columns
+  pub ascends : (e : Env) → Ascends (keys_order d.order) (p.rows e)
+
+module _ (uses : List TableUse) (D : Tables) where
+  abbrev P : Plan → Type 0
+  P plan = Delivers (delivered uses plan) (played uses D plan)
+
+  abbrev Part : Type 0
+  Part = (plan : Plan) × P plan
+
+  abbrev deliveries : List Part → List Delivered
+  deliveries parts = map (delivered uses) (map (λ p. p.0) parts)
+
+  abbrev plays_of : List Part → List Played
+  plays_of parts = map (played uses D) (map (λ p. p.0) parts)
+
+  first-ascends : (parts : List Part) (e : Env) → Ascends (keys_order (first_order (deliveries parts))) (first (plays_of parts) e)
+  first-ascends [] e = tt
+  first-ascends (p ∷ parts) e = p.1.ascends e
+
+  columns-same : (parts : List Part) → map (λ (x : Delivered). x.columns) (deliveries parts) ≡ map (λ (x : Played). x.columns) (plays_of parts)
+  columns-same [] = refl
+  columns-same (p ∷ parts) = two (λ K Ks. K ∷ Ks) p.1.columns (columns-same parts)
+
+  layer : (node : Node) (parts : List Part) (e : Env) → Ascends (keys_order (node_order node (deliveries parts))) (node_rows uses D node (plays_of parts) e)
+  layer (Scan line o) parts e = ascends-any (keys_order []) (λ a b. refl) _
+  layer (Filter line C) parts e = ascends-filter _ (holds no_classes C) _ (first-ascends parts e)
+  layer (FilterSubqueries line C) parts e = ascends-filter _ _ _ (first-ascends parts e)
+  layer (Cut line K) parts e = ascends-cut (has K) _ e _ (first-ascends parts e)
+  layer (Loop line kind C) parts e =
+      subst (λ Ks. Ascends (keys_order (front (λ c. not (has (second_columns Ks) c)) (first_order (deliveries parts)))) (node_rows uses D (Loop line kind C) (plays_of parts) e)) (sym (columns-same parts))
+      (ascends-loop (second_columns (map (λ (x : Played). x.columns) (plays_of parts))) (first_order (deliveries parts)) kind (holds no_classes C) (first (plays_of parts)) (first (rest (plays_of parts))) e (first-ascends parts e))
+  layer (Sort keys) parts e = ascends-sorted (keys_order keys) (keys_total keys) (first (plays_of parts) e)
+  layer (HashGroup line K G) parts e = ascends-any (keys_order []) (λ a b. refl) _
+  layer (HashDistinct line) parts e =
+      let K : List ℕ = first_columns (map (λ (x : Played). x.columns) (plays_of parts)) in
+      let keys : List OrderKey = first_order (deliveries parts) in
+      subst (λ Ks. Ascends (keys_order (front (has (first_columns Ks)) keys)) (node_rows uses D (HashDistinct line) (plays_of parts) e)) (sym (columns-same parts))
+      (ascends-cut (has K) keys e (distinct_on K (first (plays_of parts) e)) (ascends-distinct_on (keys_order keys) K (first (plays_of parts) e) (first-ascends parts e)))
+
+  step : (y : Plan-F Part) → P (roll-Plan (map-Plan Part Plan (λ p. p.0) y))
+  unfolding delivered played
+  step y =
+      let z : Plan-F Plan = map-Plan Part Plan (λ p. p.0) y in
+      subst (λ d. Delivers d (played uses D (roll-Plan z))) (sym (fold-roll-Plan Delivered (deliver_layer uses) z))
+      (subst (λ p. Delivers (deliver_layer uses (map-Plan Plan Delivered (delivered uses) z)) p) (sym (fold-roll-Plan Played (play_layer uses D) z))
+      (record { columns = ap (node_columns uses y.node) (columns-same y.inputs); ascends = layer y.node y.inputs }))
+
+  pub delivers : (plan : Plan) → P plan
+  delivers = ind-Plan P (λ x y is. subst (λ z. P (roll-Plan z)) is (step y))
+
+pub plans_deliver : PlansDeliver
+plans_deliver uses D plan e = ordered (delivered uses plan).order (play uses D plan e) ((delivers uses D plan).ascends e)
