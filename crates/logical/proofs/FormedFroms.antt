@@ -1,5 +1,5 @@
 -- The lines of a FROM are well formed: a join names its sides' classes, which share no column, and its ON names no class.
-use Rattle.std.proofs.Common.{◌≡◌, refl, ap, sym, ◌∙◌, ℕ, ◌<◌, ◌≤◌, Bool, true, false, ◌&&◌, not, ◌==◌, nat_lt, List, [], ◌∷◌, ◌++◌, length, Option, Some, None, arith}
+use Rattle.std.proofs.Common.{◌≡◌, refl, ap, sym, ◌∙◌, ℕ, ◌<◌, ◌≤◌, Bool, true, false, ◌&&◌, ◌==◌, nat_lt, List, [], ◌∷◌, ◌++◌, length, Option, Some, None, arith}
 use Rattle.std.specs.List.{list_all, slice_get}
 use Rattle.std.proofs.lemmas.Bool.{and_parts, and_from, eq-eqb, or_left, or_right, lt-ltb, not_from_false, false_from_ne_true}
 use Rattle.std.proofs.lemmas.Option.{slice_get_within}
@@ -23,8 +23,8 @@ use Rattle.logical.specs.FormedFrames.{AreFormed}
 use Rattle.logical.specs.Frames.{CondLines, FromFrame, cond_frame, from_frame, join_frame, last}
 use Rattle.logical.proofs.FormedParts.{all-three, AreOwn, AllOwn, GroupsOwn, groups-before, FormedCond, CondFormed, FromFormed}
 use Rattle.logical.proofs.FrameEquations.{frame-Table, frame-Join, frame-LeftJoin, frame-Comma}
-use Rattle.logical.proofs.FrameShapes.{FromShape, CondShape, Sides, left_of, on_of, from-shape, join-sides}
-use Rattle.logical.proofs.Growth.{Grows, grows-longer, kept-columns, last-below}
+use Rattle.logical.proofs.FrameShapes.{FromShape, Sides, left_of, on_of, from-shape, join-sides}
+use Rattle.logical.proofs.Growth.{grows-longer, kept-columns, last-below}
 use Rattle.logical.proofs.Ordered.{in_order-all}
 use Rattle.logical.proofs.Puts.{Apart, differ-left, differ-right, differ-apart}
 

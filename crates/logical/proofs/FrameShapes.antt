@@ -1,6 +1,6 @@
 -- The shape of a frame, whatever it means: the lines that it adds, the classes that its conditions name, and the columns
 -- of its last class.
-use Rattle.std.proofs.Common.{◌≡◌, refl, ap, sym, ◌∙◌, inl, inr, ℕ, zero, suc, ◌-◌, ◌<◌, ◌≤◌, Bool, true, false, ◌||◌, ◌&&◌, ◌==◌, List, [], ◌∷◌, ◌++◌, map, length, Option, Some, None, option_map, arith}
+use Rattle.std.proofs.Common.{◌≡◌, refl, ap, sym, ◌∙◌, subst, inl, inr, ℕ, zero, suc, ◌-◌, ◌<◌, ◌≤◌, Bool, true, false, ◌||◌, ◌&&◌, ◌==◌, List, [], ◌∷◌, ◌++◌, map, length, Option, Some, None, option_map, arith}
 use Rattle.std.specs.List.{list_all, list_any, slice_get, AllByRecursion}
 use Rattle.std.proofs.lemmas.Bool.{eqb-true, and_parts, and_from, or_cases, or_left, or_right}
 use Rattle.std.proofs.lemmas.List.Folds.{list_all-append, list_any-append}
@@ -14,8 +14,8 @@ use Rattle.binder.specs.declared.query.Cond.TheVariants as cond
 use Rattle.binder.specs.declared.query.From.{From}
 use Rattle.binder.specs.declared.query.From.TheVariants as from
 use Rattle.binder.specs.declared.query.Block.{Block}
-use Rattle.binder.specs.Bound.{Scope, CondScope, FromScope, BlockScope, cond_scope, from_scope, block_scope, join_scope, numbers_of_use, use_numbers, is_single}
-use Rattle.binder.proofs.ScopeEquations.{scope-Compare, scope-IsNull, scope-Not, scope-And, scope-Or, scope-Exists, scope-In, scope-Table, scope-Join, scope-LeftJoin, scope-Comma, scope-Block}
+use Rattle.binder.specs.Bound.{Scope, CondScope, FromScope, BlockScope, cond_scope, from_scope, block_scope, join_scope, numbers_of_use, use_numbers, is_single, are_new, aggregate_numbers, bound_filter, bound_items, block_scope_layer}
+use Rattle.binder.proofs.ScopeEquations.{scope-Compare, scope-IsNull, scope-Not, scope-And, scope-Or, scope-Exists, scope-In, scope-Table, scope-Join, scope-LeftJoin, scope-Comma, scope-Block, scoped}
 use Rattle.logical.specs.declared.condition.Condition.{Condition}
 use Rattle.logical.specs.declared.expr.Expr.{Expr}
 use Rattle.logical.specs.declared.expr.Expr.TheVariants.{Get, Select, Join, LeftJoin}
@@ -28,7 +28,7 @@ use Rattle.logical.specs.Frames.{CondLines, AllLines, FromFrame, BlockFrame, con
 use Rattle.logical.proofs.ConditionNames.{classes-Compare, classes-IsNull, classes-Not, classes-Exists, classes-In}
 use Rattle.logical.proofs.Equations.{all_classes_and, all_classes_or}
 use Rattle.logical.proofs.FrameEquations.{frame-Compare, frame-IsNull, frame-Not, frame-And, frame-Or, frame-Exists, frame-In, frame-Table, frame-Join, frame-LeftJoin, frame-Comma, frame-Block}
-use Rattle.logical.proofs.Growth.{Grows, grows-none, grows-one, grows-more, grows-longer, grows-some, kept-columns, top-columns, last-below, last-is}
+use Rattle.logical.proofs.Growth.{Grows, grows-none, grows-one, grows-more, grows-longer, kept-columns, top-columns, last-below, last-is}
 use Rattle.logical.proofs.Induction.{Steps, OfFilter, each-cond, each-from, each-block}
 use Rattle.logical.proofs.Loops.{two, all-each}
 use Rattle.logical.proofs.Puts.{never}
@@ -347,6 +347,9 @@ module _ (uses : List TableUse) where
   pub block-shape : (q : Block) → BlockHas q
   block-shape = each-block CondHas FromHas BlockHas steps
 
+  pub block-below : (q : Block) (scope : Scope) (E : List Expr) → last ((block_frame uses q).lines scope E) < length ((block_frame uses q).lines scope E)
+  block-below q scope E = let adds : length E < length ((block_frame uses q).lines scope E) = (block-shape q scope E).adds in last-below ((block_frame uses q).lines scope E) (omega (arith, adds))
+
   pub where-shape : (o : Option Cond) (inner : Scope) (A : List Expr) → 0 < length A → WhereShape o inner A
   where-shape None = filter-shape None tt
   where-shape (Some c) = filter-shape (Some c) (cond-shape c)
@@ -356,3 +359,19 @@ module _ (uses : List TableUse) where
 
   pub shape-all : (cs : List Cond) (scope : Scope) (E : List Expr) → AllShape (all_frames (map (cond_frame uses) cs) scope E) cs E
   shape-all cs = all-shape cs (all-each CondHas cond-shape cs)
+
+  -- what is known of a bound block, over the column numbers of its FROM's frame
+  pub record BoundParts (q : Block) (scope : Scope) : Type 0 where
+    pub new : are_new (aggregate_numbers q.items ++ (from_frame uses q.from).numbers) scope ≡ true
+    pub from : (from_scope uses q.from).bound scope ≡ true
+    pub filter : bound_filter (option_map (cond_scope uses) q.filter) ((from_frame uses q.from).numbers ∷ scope) ≡ true
+    pub items : bound_items q.grouped (length (from_frame uses q.from).numbers) q.keys q.items ((from_frame uses q.from).numbers ∷ scope) ≡ true
+
+  pub bound-parts : (q : Block) (scope : Scope) → (block_scope_layer (scoped uses q)).bound scope ≡ true → BoundParts q scope
+  bound-parts q scope bound =
+      let moved = subst (λ ns. (are_new (aggregate_numbers q.items ++ ns) scope && ((from_scope uses q.from).bound scope && (bound_filter (option_map (cond_scope uses) q.filter) (ns ∷ scope) && bound_items q.grouped (length ns) q.keys q.items (ns ∷ scope)))) ≡ true)
+      (from-shape q.from scope []).numbers bound in
+      let a = and_parts (are_new (aggregate_numbers q.items ++ (from_frame uses q.from).numbers) scope) _ moved in
+      let b = and_parts ((from_scope uses q.from).bound scope) _ a.1 in
+      let c = and_parts (bound_filter (option_map (cond_scope uses) q.filter) ((from_frame uses q.from).numbers ∷ scope)) _ b.1 in
+      record { new = a.0; from = b.0; filter = c.0; items = c.1 }
