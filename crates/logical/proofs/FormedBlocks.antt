@@ -118,10 +118,11 @@ module _ (uses : List TableUse) (own : List Aggregation) where
       let test : FormedCond uses own framed = is_formed inner A all formed bound groups.1 in
       let below : last A < length A = last-below A some in
       let longer : length A ≤ length framed.lines = grows-longer framed.lines A shape.grows in
-      let p : ℕ → Bool = λ g. nat_lt g (length framed.lines) in
-      (and_from _ _ (lt-ltb _ _ (omega (arith, below, longer))) (in_order-all (λ d. all_classes d p) framed.conjuncts ∙ shape.conjuncts p (λ g low lt. lt-ltb _ _ lt)),
+      let p : ℕ → Bool = λ g. nat_lt g (length framed.lines) in (
+        and_from _ _ (lt-ltb _ _ (omega (arith, below, longer))) (in_order-all (λ d. all_classes d p) framed.conjuncts ∙ shape.conjuncts p (λ g low lt. lt-ltb _ _ lt)),
         in_order-all (λ d. all_columns d (is_own uses own)) framed.conjuncts ∙ test.conjuncts,
-        test.lines)
+        test.lines,
+      )
 
   -- ---- behind FROM and WHERE, whose last class has the columns of the FROM
 
@@ -184,10 +185,11 @@ module _ (uses : List TableUse) (own : List Aggregation) where
         → AllByRecursion (λ i. frame.is_own i ≡ true → has (grouped keys items) (item_number (numbers ∷ scope) i) ≡ true) its
     group-kept keys items [] have bound = tt
     group-kept keys items (item.Column c ∷ its) have bound =
-        let parts = and_parts (bound_group_item (length numbers) keys (numbers ∷ scope) (item.Column c)) _ bound in
-        (λ is. let key : is_among c.place keys ≡ true = sym (cond-true _ _ _ is) ∙ parts.0 in
-            ap (has (grouped keys items)) (own-number numbers scope c is) ∙ grouped-has keys items (number_at numbers c.place) ∙ or_left _ _ (key-has numbers keys c.place key),
-          group-kept keys items its have.1 parts.1)
+        let parts = and_parts (bound_group_item (length numbers) keys (numbers ∷ scope) (item.Column c)) _ bound in (
+          λ is. let key : is_among c.place keys ≡ true = sym (cond-true _ _ _ is) ∙ parts.0 in
+              ap (has (grouped keys items)) (own-number numbers scope c is) ∙ grouped-has keys items (number_at numbers c.place) ∙ or_left _ _ (key-has numbers keys c.place key),
+          group-kept keys items its have.1 parts.1,
+        )
     group-kept keys items (item.Aggregate n a ∷ its) have bound =
         (λ is. grouped-has keys items n ∙ or_right (has (map (number_at numbers) keys) n) _ have.0, group-kept keys items its have.1 (and_parts (bound_aggregate (length numbers) a) _ bound).1)
 

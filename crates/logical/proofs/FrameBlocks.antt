@@ -27,10 +27,10 @@ use Rattle.logical.specs.ConjunctOrder.{in_order}
 use Rattle.logical.specs.Frames.{CondLines, cond_frame, from_frame, where_lines, group_lines, keep_lines, distinct_lines, aggregations, item_number, own_numbers, last}
 use Rattle.logical.proofs.FrameEquations.{frame-Block}
 use Rattle.logical.proofs.FrameGroups.{plain-items, group-items, group-keyed, groups-keyed, with_key, first_rows}
-use Rattle.logical.proofs.FrameShapes.{FromShape, BoundParts, cond-shape, from-shape, bound-parts}
-use Rattle.logical.proofs.Induction.{OfFilter}
 use Rattle.logical.proofs.FrameRight.{CondRight, FromRight, CondMeans, FromMeans, BlockMeans, block-right, last_rows}
+use Rattle.logical.proofs.FrameShapes.{FromShape, BoundParts, cond-shape, from-shape, bound-parts}
 use Rattle.logical.proofs.Growth.{grows-none, kept-rows, top-rows, top-columns, last-below}
+use Rattle.logical.proofs.Induction.{OfFilter}
 use Rattle.logical.proofs.Loops.{keep-all, through, all-filter, all-distinct}
 use Rattle.logical.proofs.Ordered.{in_order-all}
 use Rattle.logical.proofs.Puts.{put, Agrees, IsNew, agrees-put, new-right}

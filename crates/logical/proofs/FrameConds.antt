@@ -28,8 +28,8 @@ use Rattle.logical.specs.Conditions.{truth, term_value, is_empty}
 use Rattle.logical.specs.Classes.{class_rows}
 use Rattle.logical.specs.Frames.{CondLines, cond_frame, block_frame, all_frames, alone, numbered, last}
 use Rattle.logical.proofs.FrameEquations.{frame-Compare, frame-IsNull, frame-Not, frame-And, frame-Or, frame-Exists, frame-In}
-use Rattle.logical.proofs.FrameShapes.{block-shape, block-below, shape-all}
 use Rattle.logical.proofs.FrameRight.{CondRight, AllRight, CondMeans, BlockMeans, cond-right}
+use Rattle.logical.proofs.FrameShapes.{block-shape, block-below, shape-all}
 use Rattle.logical.proofs.Growth.{Grows, grows-more, kept-rows}
 use Rattle.logical.proofs.Loops.{two}
 use Rattle.logical.proofs.Ordered.{all-append}

@@ -28,8 +28,8 @@ use Rattle.logical.specs.Classes.{class_rows, class_columns, classes}
 use Rattle.logical.specs.ConjunctOrder.{in_order}
 use Rattle.logical.specs.Frames.{AreOver, cond_frame, from_frame, join_frame, last}
 use Rattle.logical.proofs.FrameEquations.{frame-Table, frame-Join, frame-LeftJoin, frame-Comma}
-use Rattle.logical.proofs.FrameShapes.{FromShape, Sides, from-shape, join-sides, table-columns}
 use Rattle.logical.proofs.FrameRight.{FromRight, CondMeans, FromMeans, from-right}
+use Rattle.logical.proofs.FrameShapes.{FromShape, Sides, JoinParts, from-shape, join-sides, join-parts, table-columns}
 use Rattle.logical.proofs.Growth.{Grows, grows-none, grows-one, kept-rows, top-rows, top-columns, last-below}
 use Rattle.logical.proofs.Loops.{two, map-map, map-same, keep-all, through, loops, all-map}
 use Rattle.logical.proofs.Ordered.{in_order-all}
@@ -124,21 +124,8 @@ module _ (uses : List TableUse) (D : Tables) (fits : IsFitting D) (over : AreOve
     abbrev conjuncts : List Condition
     conjuncts = in_order (cond_frame uses on inner lines).conjuncts
 
-    abbrev join_bound : Bool
-    join_bound = (join_scope uses (from_scope uses f) o (cond_scope uses on)).bound scope
-
-    pub record Bound : Type 0 where
-      pub left : (from_scope uses f).bound scope ≡ true
-      pub used : is_used uses o ≡ true
-      pub plain : (cond_scope uses on).plain ≡ true
-      pub test : (cond_scope uses on).bound inner ≡ true
-
-    bound-parts : join_bound ≡ true → Bound
-    bound-parts h =
-        let a = and_parts ((from_scope uses f).bound scope) _ h in
-        let b = and_parts (is_used uses o) _ a.1 in
-        let c = and_parts (cond_scope uses on).plain _ b.1 in
-        record { left = a.0; used = b.0; plain = c.0; test = ap (λ ns. (cond_scope uses on).bound ((ns ++ ls) ∷ scope)) (sym shape.left.numbers) ∙ c.1 }
+    abbrev Bound : Type 0
+    Bound = JoinParts uses f o on scope
 
     on-passes : (ρ : List Row) (e : Env) → Bound → IsNew (ks ++ ls) scope → Agrees scope ρ e → (z : Row) → length z ≡ length ks + length ls
         → holds (class_rows uses D lines) conjuncts (put (ks ++ ls) z e) ≡ passes (query.truth on) D ρ z
@@ -191,8 +178,8 @@ module _ (uses : List TableUse) (D : Tables) (fits : IsFitting D) (over : AreOve
     joined-right join m is =
         let top : Expr = join conjuncts (last left_lines) (length left_lines) in
         record {
-          width = λ h. let b = bound-parts h in let w : from_width f D ≡ length ks = left.width b.left in let v : D.width o.table ≡ length ls = table-width o b.used in omega (arith, w, v, length-append ks ls);
-          rows = λ ρ e h new agree. let b = bound-parts h in
+          width = λ h. let b = join-parts uses f o on scope h in let w : from_width f D ≡ length ks = left.width b.left in let v : D.width o.table ≡ length ls = table-width o b.used in omega (arith, w, v, length-append ks ls);
+          rows = λ ρ e h new agree. let b = join-parts uses f o on scope h in
               top-rows uses D top framed_lines e ∙ ap (λ L. means uses D (classes uses D L) top e) (shape.test.plain b.plain) ∙ is ρ e b new agree;
         }
 
