@@ -67,11 +67,11 @@ module _ (uses : List TableUse) (own : List Aggregation) (D : Tables) (W : Class
   subquery-is : (K : List ℕ) (inputs : List Played) → AllAre W inputs K → (g : ℕ) → has K g ≡ true → SameBag (subquery_rows K inputs g) (W.rows g)
   subquery-is [] inputs all g in_ = cc
   subquery-is (k ∷ K) [] all g in_ = absurd all
-  subquery-is (k ∷ K) (a ∷ inputs) all g in_ = by (k == g) (λ is. eqb-true k g is) in_
+  subquery-is (k ∷ K) (a ∷ inputs) all g in_ = by (k == g) (λ is. eqb-true k g is) (subquery-is K inputs all.1 g) in_
     where
-      by : (b : Bool) → (b ≡ true → k ≡ g) → (b || has K g) ≡ true → SameBag (if b then a.rows else subquery_rows K inputs g) (W.rows g)
-      by true is in_ = subst (λ g. SameBag a.rows (W.rows g)) (is refl) all.0.rows
-      by false is in_ = subquery-is K inputs all.1 g in_
+      by : (b : Bool) → (b ≡ true → k ≡ g) → (has K g ≡ true → SameBag (subquery_rows K inputs g) (W.rows g)) → (b || has K g) ≡ true → SameBag (if b then a.rows else subquery_rows K inputs g) (W.rows g)
+      by true is later in_ = subst (λ g. SameBag a.rows (W.rows g)) (is refl) all.0.rows
+      by false is later in_ = later in_
 
   subqueries-give : (l : ℕ) (C : List Condition) (x : Expr) → Computes (FilterSubqueries l C) x
   subqueries-give l C (Select E g) [] h formed all = absurd all

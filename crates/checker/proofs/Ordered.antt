@@ -1,5 +1,5 @@
 -- Rows in the order that a plan delivers are in one that the ORDER BY allows.
-use Rattle.std.proofs.Common.{◌≡◌, refl, ap, sym, ◌∙◌, subst, ℕ, zero, suc, true, false, List, [], ◌∷◌, map, take, length, Option, Some, None}
+use Rattle.std.proofs.Common.{◌≡◌, refl, ap, sym, ◌∙◌, subst, ℕ, zero, suc, Bool, true, false, if◌then◌else◌, List, [], ◌∷◌, map, take, length, Option, Some, None}
 use Rattle.std.specs.List.{slice_get, slice_index_or}
 use Rattle.std.specs.Ordering.{is_gt, on, then_cmp, ordering_then, flip_args}
 use Rattle.std.specs.declared.cmp.Ordering.{Ordering}
@@ -74,11 +74,11 @@ two e f = rw (e, f) refl
 -- the order of rows by the items' columns is that of what they show
 keys-same : (numbers : List ℕ) (keys : List order_by.SortKey) (a b : Env) → keys_order (ordered_columns numbers keys) a b ≡ asked.keys_order keys (map a numbers) (map b numbers)
 keys-same numbers [] a b = refl
-keys-same numbers (k ∷ keys) a b = by (slice_get numbers k.item) refl
+keys-same numbers (k ∷ keys) a b = by (slice_get numbers k.item) refl (keys-same numbers keys a b)
   where
-    by : (o : Option ℕ) → slice_get numbers k.item ≡ o → keys_order (ordered_column o k (ordered_columns numbers keys)) a b ≡ asked.keys_order (k ∷ keys) (map a numbers) (map b numbers)
-    by None is = keys-same numbers keys a b ∙ sym (two (key-none k (map a numbers) (map b numbers) (item-none numbers k.item a is) (item-none numbers k.item b is)) refl)
-    by (Some c) is = two (key-some k c (map a numbers) (map b numbers) a b (item-some numbers k.item c a is) (item-some numbers k.item c b is)) (keys-same numbers keys a b)
+    by : (o : Option ℕ) → slice_get numbers k.item ≡ o → keys_order (ordered_columns numbers keys) a b ≡ asked.keys_order keys (map a numbers) (map b numbers) → keys_order (ordered_column o k (ordered_columns numbers keys)) a b ≡ asked.keys_order (k ∷ keys) (map a numbers) (map b numbers)
+    by None is later = later ∙ sym (two (key-none k (map a numbers) (map b numbers) (item-none numbers k.item a is) (item-none numbers k.item b is)) refl)
+    by (Some c) is later = two (key-some k c (map a numbers) (map b numbers) a b (item-some numbers k.item c a is) (item-some numbers k.item c b is)) later
 
 allowed : (numbers : List ℕ) (keys : List order_by.SortKey) (rows : List Env) → IsOrdered (ordered_columns numbers keys) rows → IsAllowed keys (map (λ r. map r numbers) rows)
 allowed numbers keys [] h = tt

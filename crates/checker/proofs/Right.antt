@@ -1,5 +1,5 @@
 -- The plan of a certificate that replays gives answers of its query.
-use Rattle.std.proofs.Common.{◌≡◌, refl, ap, sym, ◌∙◌, subst, ℕ, ◌+◌, ◌<◌, Bool, true, if◌then◌else◌, List, [], ◌∷◌, ◌++◌, map, length, reverse, Ok, arith}
+use Rattle.std.proofs.Common.{◌≡◌, refl, ap, sym, ◌∙◌, subst, ℕ, ◌+◌, ◌<◌, Bool, true, if◌then◌else◌, List, [], ◌∷◌, ◌++◌, map, length, reverse, Result, Ok, arith}
 use Rattle.std.proofs.lemmas.List.{reverse-append, length-reverse}
 use Rattle.values.specs.Faults.{◌>>=◌, wanted_if}
 use Rattle.schema.specs.declared.schema.Schema.{Schema}
@@ -14,10 +14,11 @@ use Rattle.logical.specs.Classes.{class_columns, class_rows, root_rows}
 use Rattle.logical.specs.Frames.{query_frame, query_numbers, query_shown}
 use Rattle.logical.proofs.FrameMeaning.{frame_means}
 use Rattle.logical.proofs.FormedQueries.{frames_formed}
-use Rattle.physical.specs.declared.plan.Plan.{Plan}
+use Rattle.physical.specs.declared.plan.Plan.{Plan, out-Plan}
 use Rattle.physical.specs.Plays.{play, answer}
 use Rattle.physical.proofs.Deliveries.{plans_deliver}
 use Rattle.checker.specs.declared.certificate.Certificate.{Certificate}
+use Rattle.checker.specs.declared.certificate.CheckRefusal.{CheckRefusal}
 use Rattle.checker.specs.declared.certificate.CheckCode.TheVariants.{UnsortedAnswer}
 use Rattle.checker.specs.Replay.{founding, refusal, lines_replay, node_fits, inputs_fit, plan_fits, is_delivered, root, replayed, IsBoundOver, IsChecked}
 use Rattle.checker.proofs.Chains.{both_ok, wanted_if_ok}
@@ -38,8 +39,10 @@ root-is q some D lines rest e is =
 -- a plan that fits delivers the order that is wanted
 ordered-is : (lines : List Expr) (cols : ℕ → List ℕ) (p : Plan) (ordered : Bool) (g n m : ℕ) → plan_fits lines cols p ordered g n ≡ Ok m → ordered ≡ true
 ordered-is lines cols p ordered g n m fits =
-    let first = both_ok _ _ m (sym (plan_fits_out lines cols p ordered g n) ∙ fits) in
-    let second = both_ok (wanted_if (refusal n UnsortedAnswer) ordered first.0) _ m first.2 in
+    let inputs : List ℕ → Result ℕ CheckRefusal = λ classes. inputs_fit (map (plan_fits lines cols) (out-Plan p).inputs) classes (n + 1) in
+    let next : List ℕ → Result ℕ CheckRefusal = λ classes. wanted_if (refusal n UnsortedAnswer) ordered classes >>= inputs in
+    let first = both_ok (node_fits lines cols (out-Plan p).node (length (out-Plan p).inputs) g n) next m (sym (plan_fits_out lines cols p ordered g n) ∙ fits) in
+    let second = both_ok (wanted_if (refusal n UnsortedAnswer) ordered first.0) inputs m first.2 in
     (wanted_if_ok (refusal n UnsortedAnswer) ordered first.0 second.0 second.1).0
 
 pub record PlaysRoot (q : Query) (c : Certificate) (D : Tables) : Type 0 where
