@@ -1,4 +1,6 @@
+pub mod Delivered
 pub mod Deliveries
 pub mod OrderedLists
+pub mod OrderLoops
 pub mod SortedRows
 pub mod Sorting

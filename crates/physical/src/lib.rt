@@ -5,6 +5,8 @@
 #![tactic(auto)]
 
 pub mod laws;
+pub mod order;
 pub mod plan;
 
+pub use order::{delivers, query_order};
 pub use plan::{JoinKind, Node, OrderKey, Plan};
