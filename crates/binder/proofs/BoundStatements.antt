@@ -129,9 +129,10 @@ get-width [] k entry is = cc is
 get-width (t ∷ tables) zero entry is = let same : t ≡ entry = cc is in ap (λ e. length e.columns) (sym same)
 get-width (t ∷ tables) (suc k) entry is = get-width tables k entry is
 
-wide-all : (S : Schema) (D : Database) (uses : List TableUse) → AllByRecursion (IsOver S) uses → AllByRecursion (λ t. length t.entry.columns ≡ (tables_of S D).width t.table) uses
-wide-all S D [] over = tt
-wide-all S D (t ∷ uses) over = (get-width S.tables t.table t.entry over.0, wide-all S D uses over.1)
+-- so they are as wide as the tables in each database of the schema
+pub uses-wide : (S : Schema) (D : Database) (uses : List TableUse) → AllByRecursion (IsOver S) uses → AllByRecursion (λ t. length t.entry.columns ≡ (tables_of S D).width t.table) uses
+uses-wide S D [] over = tt
+uses-wide S D (t ∷ uses) over = (get-width S.tables t.table t.entry over.0, uses-wide S D uses over.1)
 
 pub statements_wide : StatementsAreWide
-statements_wide S D s q is = wide-all S D q.tables (statements_over S s q is)
+statements_wide S D s q is = uses-wide S D q.tables (statements_over S s q is)

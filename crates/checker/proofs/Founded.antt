@@ -13,64 +13,68 @@ use Rattle.binder.specs.Rows.{Tables}
 use Rattle.values.specs.Faults.{◌>>=◌, wanted_if}
 use Rattle.logical.specs.declared.expr.Expr.{Expr}
 use Rattle.logical.specs.Bags.{Env}
-use Rattle.logical.specs.Expressions.{means, classes_pass, is_formed}
+use Rattle.logical.specs.Expressions.{means, columns_of, classes_pass, is_formed}
 use Rattle.logical.specs.Classes.{class_columns, class_rows, classes}
-use Rattle.logical.specs.Frame.{frame_of}
+use Rattle.logical.specs.Frames.{query_frame}
+use Rattle.logical.specs.FormedFrames.{own_aggregates}
 use Rattle.logical.proofs.Same.{equal_expr}
 use Rattle.checker.specs.declared.certificate.CheckRefusal.{CheckRefusal}
 use Rattle.checker.specs.declared.certificate.CheckCode.TheVariants.{UnknownLine, OtherLine, IllFormed}
 use Rattle.checker.specs.Replay.{refusal, is_frame_line, line_replays, lines_replay}
 use Rattle.checker.proofs.Chains.{both_ok, wanted_if_ok}
 
--- a line that replays names earlier lines, and is the frame's
-pub record Stands (q : Query) (n : ℕ) (x : Expr) : Type 0 where
-  pub backward : classes_pass (λ g. nat_lt g n) x ≡ true
-  pub framed : is_frame_line (slice_get (frame_of q) n) x ≡ true
+-- a line that replays names earlier lines, is well formed over them, and is the frame's; the last of them stands first
+pub record Stands (q : Query) (E : List Expr) (x : Expr) : Type 0 where
+  pub backward : classes_pass (λ g. nat_lt g (length E)) x ≡ true
+  pub formed : is_formed q.tables (own_aggregates q) (class_columns q.tables E) x ≡ true
+  pub framed : is_frame_line (slice_get (query_frame q) (length E)) x ≡ true
 
-line_stands : (q : Query) (n : ℕ) (cols : ℕ → List ℕ) (x y : Expr) → line_replays q n cols x ≡ Ok y → Stands q n x × (x ≡ y)
-line_stands q n cols x y e =
-    let last : Expr → Result Expr CheckRefusal = λ x. wanted_if (refusal n OtherLine) (is_frame_line (slice_get (frame_of q) n) x) x in
-    let formed : Expr → Result Expr CheckRefusal = λ x. wanted_if (refusal n IllFormed) (is_formed q.tables [] cols x) x >>= last in
+line_stands : (q : Query) (E : List Expr) (x y : Expr) → line_replays q (length E) (class_columns q.tables E) x ≡ Ok y → Stands q E x × (x ≡ y)
+line_stands q E x y e =
+    let n : ℕ = length E in
+    let cols : ℕ → List ℕ = class_columns q.tables E in
+    let last : Expr → Result Expr CheckRefusal = λ x. wanted_if (refusal n OtherLine) (is_frame_line (slice_get (query_frame q) n) x) x in
+    let formed : Expr → Result Expr CheckRefusal = λ x. wanted_if (refusal n IllFormed) (is_formed q.tables (own_aggregates q) cols x) x >>= last in
     let first = both_ok (wanted_if (refusal n UnknownLine) (classes_pass (λ g. nat_lt g n) x) x) formed y e in
     let one = wanted_if_ok (refusal n UnknownLine) _ x first.0 first.1 in
-    let second = both_ok (wanted_if (refusal n IllFormed) (is_formed q.tables [] cols x) x) last y (ap formed one.1 ∙ first.2) in
+    let second = both_ok (wanted_if (refusal n IllFormed) (is_formed q.tables (own_aggregates q) cols x) x) last y (ap formed one.1 ∙ first.2) in
     let two = wanted_if_ok (refusal n IllFormed) _ x second.0 second.1 in
     let three = wanted_if_ok (refusal n OtherLine) _ x y (ap last two.1 ∙ second.2) in
-    (record { backward = one.0; framed = three.0 }, three.1)
+    (record { backward = one.0; formed = two.0; framed = three.0 }, three.1)
 
 -- a line and the ones after it
-more_replay : (q : Query) (x : Expr) (xs E F : List Expr) → lines_replay q E (x ∷ xs) ≡ Ok F → Stands q (length E) x × (lines_replay q (x ∷ E) xs ≡ Ok F)
+more_replay : (q : Query) (x : Expr) (xs E F : List Expr) → lines_replay q E (x ∷ xs) ≡ Ok F → Stands q E x × (lines_replay q (x ∷ E) xs ≡ Ok F)
 more_replay q x xs E F e =
     let parts = both_ok (line_replays q (length E) (class_columns q.tables E) x) (λ x. lines_replay q (x ∷ E) xs) F e in
-    let stands = line_stands q (length E) (class_columns q.tables E) x parts.0 parts.1 in
+    let stands = line_stands q E x parts.0 parts.1 in
     (stands.0, ap (λ x. lines_replay q (x ∷ E) xs) stands.1 ∙ parts.2)
 
-pub line_at : (q : Query) (xs E F : List Expr) (i : ℕ) (x : Expr) → lines_replay q E xs ≡ Ok F → slice_get xs i ≡ Some x → Stands q (length E + i) x
+pub line_at : (q : Query) (xs E F : List Expr) (i : ℕ) (x : Expr) → lines_replay q E xs ≡ Ok F → slice_get xs i ≡ Some x → Stands q (reverse_aux (take i xs) E) x
 line_at q [] E F i x e at = cc
 line_at q (y ∷ xs) E F zero x e at =
     let is : y ≡ x = cc in
-    subst (λ n. Stands q n x) (omega arith) (subst (Stands q (length E)) is (more_replay q y xs E F e).0)
-line_at q (y ∷ xs) E F (suc i) x e at = subst (λ n. Stands q n x) (omega arith) (line_at q xs (y ∷ E) F i x (more_replay q y xs E F e).1 at)
+    subst (Stands q E) is (more_replay q y xs E F e).0
+line_at q (y ∷ xs) E F (suc i) x e at = line_at q xs (y ∷ E) F i x (more_replay q y xs E F e).1 at
 
 -- what they leave is the lines, the last of them first
 pub turned : (q : Query) (xs E F : List Expr) → lines_replay q E xs ≡ Ok F → F ≡ reverse_aux xs E
-turned q [] E F e = sym (wanted_if_ok (refusal (length E) OtherLine) (nat_le (length (frame_of q)) (length E)) E F e).1
+turned q [] E F e = sym (wanted_if_ok (refusal (length E) OtherLine) (nat_le (length (query_frame q)) (length E)) E F e).1
 turned q (x ∷ xs) E F e = turned q xs (x ∷ E) F (more_replay q x xs E F e).1
 
 -- the lines begin with those of the frame that are left
-pub begins : (q : Query) (xs E F : List Expr) → lines_replay q E xs ≡ Ok F → (rest : List Expr) × (xs ≡ drop (length E) (frame_of q) ++ rest)
+pub begins : (q : Query) (xs E F : List Expr) → lines_replay q E xs ≡ Ok F → (rest : List Expr) × (xs ≡ drop (length E) (query_frame q) ++ rest)
 begins q [] E F e =
-    let all : length (frame_of q) ≤ length E = leb-true _ _ (wanted_if_ok (refusal (length E) OtherLine) (nat_le (length (frame_of q)) (length E)) E F e).0 in
-    ([], rw (drop_all (length E) (frame_of q) all) refl)
+    let all : length (query_frame q) ≤ length E = leb-true _ _ (wanted_if_ok (refusal (length E) OtherLine) (nat_le (length (query_frame q)) (length E)) E F e).0 in
+    ([], rw (drop_all (length E) (query_frame q) all) refl)
 begins q (x ∷ xs) E F e =
     let parts = more_replay q x xs E F e in
     let more = begins q xs (x ∷ E) F parts.1 in
-    elim (cases_lt (length E) (length (frame_of q))) [
+    elim (cases_lt (length E) (length (query_frame q))) [
       | inl lt ↦
-          let framed : is_frame_line (Some (get_or (frame_of q) (length E) x)) x ≡ true = subst (λ o. is_frame_line o x ≡ true) (slice_get-get_or (frame_of q) (length E) x lt) parts.0.framed in
-          let is : x ≡ get_or (frame_of q) (length E) x = equal_expr _ _ framed in
-          (more.0, rw (drop-cons (frame_of q) (length E) x lt, ← is) (ap (λ ys. x ∷ ys) more.1))
-      | inr ge ↦ (x ∷ xs, rw (drop_all (length E) (frame_of q) ge) refl)
+          let framed : is_frame_line (Some (get_or (query_frame q) (length E) x)) x ≡ true = subst (λ o. is_frame_line o x ≡ true) (slice_get-get_or (query_frame q) (length E) x lt) parts.0.framed in
+          let is : x ≡ get_or (query_frame q) (length E) x = equal_expr _ _ framed in
+          (more.0, rw (drop-cons (query_frame q) (length E) x lt, ← is) (ap (λ ys. x ∷ ys) more.1))
+      | inr ge ↦ (x ∷ xs, rw (drop_all (length E) (query_frame q) ge) refl)
     ]
 
 -- a class keeps its rows when more are founded
@@ -103,3 +107,27 @@ before uses D xs g h e lt le =
     let count : length (reverse (take g xs)) ≡ g = length-reverse (take g xs) ∙ length-take-le g xs le in
     sym (ap (λ E. class_rows uses D E h e) (ap reverse (sym (take-append-drop g xs)) ∙ reverse-append (take g xs) (drop g xs))
     ∙ later uses D (reverse (drop g xs)) (reverse (take g xs)) h e (omega (arith, count, lt)))
+
+-- ---- the same of columns
+
+later_columns : (uses : List TableUse) (ys E : List Expr) (g : ℕ) → g < length E → class_columns uses (ys ++ E) g ≡ class_columns uses E g
+later_columns uses [] E g lt = refl
+later_columns uses (y ∷ ys) E g lt =
+    rw (ne_eqb g (length (ys ++ E)) (λ is. absurd (omega (arith, is, lt, length-append ys E)))) (later_columns uses ys E g lt)
+
+-- a class has the columns that its line says, over the classes before it
+pub founded_columns : (uses : List TableUse) (xs : List Expr) (g : ℕ) (x : Expr) → slice_get xs g ≡ Some x
+    → class_columns uses (reverse xs) g ≡ columns_of uses (class_columns uses (reverse (take g xs))) x
+founded_columns uses xs g x at =
+    let lt : g < length xs = slice_get_within xs g x at in
+    let count : length (reverse (take g xs)) ≡ g = length-reverse (take g xs) ∙ length-take-le g xs (omega (arith, lt)) in
+    ap (λ E. class_columns uses E g) (around xs g x at)
+    ∙ later_columns uses (reverse (drop (suc g) xs)) (x ∷ reverse (take g xs)) g (omega (arith, count))
+    ∙ rw (eq-eqb g (length (reverse (take g xs))) (sym count)) refl
+
+pub before_columns : (uses : List TableUse) (xs : List Expr) (g h : ℕ) → h < g → g ≤ length xs
+    → class_columns uses (reverse (take g xs)) h ≡ class_columns uses (reverse xs) h
+before_columns uses xs g h lt le =
+    let count : length (reverse (take g xs)) ≡ g = length-reverse (take g xs) ∙ length-take-le g xs le in
+    sym (ap (λ E. class_columns uses E h) (ap reverse (sym (take-append-drop g xs)) ∙ reverse-append (take g xs) (drop g xs))
+    ∙ later_columns uses (reverse (drop g xs)) (reverse (take g xs)) h (omega (arith, count, lt)))

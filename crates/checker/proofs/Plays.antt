@@ -1,153 +1,164 @@
--- A plan that fits plays the rows of its class.
-use Rattle.std.proofs.Common.{◌≡◌, refl, ap, sym, ◌∙◌, subst, ℕ, suc, ◌+◌, ◌<◌, Bool, true, false, ◌&&◌, ◌==◌, if◌then◌else◌, List, [], ◌∷◌, map, filter, length, take, reverse, Option, Some, None, Result, Ok, nat_lt, arith, zero-add}
-use Rattle.std.specs.List.{slice_get}
+-- A plan that fits plays the bag of its class.
+use Rattle.std.proofs.Common.{◌≡◌, refl, ap, sym, ◌∙◌, subst, ℕ, suc, ◌+◌, ◌<◌, ◌≤◌, Bool, true, false, ◌&&◌, ◌==◌, List, [], ◌∷◌, map, length, take, reverse, Some, Result, Ok, nat_lt, arith}
+use Rattle.std.specs.List.{slice_get, list_all}
 use Rattle.std.proofs.lemmas.Bool.{and_parts, eqb-true, ltb-true}
+use Rattle.std.proofs.lemmas.List.{length-reverse, length-take-le}
 use Rattle.std.proofs.lemmas.Option.{slice_get_within}
 use Rattle.values.specs.Faults.{◌>>=◌, wanted, wanted_if}
 use Rattle.binder.specs.declared.query.Query.{Query}
 use Rattle.binder.specs.Rows.{Tables}
-use Rattle.logical.specs.declared.condition.Condition.{Condition}
 use Rattle.logical.specs.declared.expr.Expr.{Expr}
-use Rattle.logical.specs.declared.expr.Expr.TheVariants.{Get, Select, Keep}
-use Rattle.logical.specs.Bags.{Bag, Env, lay}
-use Rattle.logical.specs.Columns.{has}
-use Rattle.logical.specs.Conditions.{holds}
-use Rattle.logical.specs.Equality.{same_conditions, same_columns}
-use Rattle.logical.specs.Expressions.{classes_pass, is_plain}
-use Rattle.logical.specs.Classes.{class_rows}
-use Rattle.logical.proofs.Same.{equal_conditions, equal_columns}
-use Rattle.logical.proofs.Plain.{plain_holds}
-use Rattle.checker.specs.declared.certificate.Node.{Node}
-use Rattle.checker.specs.declared.certificate.Node.TheVariants.{Scan, Filter, Cut}
-use Rattle.checker.specs.declared.certificate.Plan.{Plan, roll-Plan, fold-roll-Plan, ind-Plan, map-Plan}
-use Rattle.checker.specs.declared.certificate.Plan.TheOpen.{Plan-F}
+use Rattle.logical.specs.Columns.{within}
+use Rattle.logical.specs.Expressions.{Classes, classes_pass, input_classes}
+use Rattle.logical.specs.Classes.{class_columns, class_rows, classes}
+use Rattle.logical.specs.FormedFrames.{own_aggregates}
+use Rattle.logical.proofs.NamedClasses.{inputs-pass}
+use Rattle.logical.proofs.SameBags.{same_bag-equal, same_bag-trans}
+use Rattle.physical.specs.declared.plan.OrderKey.{OrderKey}
+use Rattle.physical.specs.declared.plan.JoinKind.{JoinKind}
+use Rattle.physical.specs.declared.plan.Node.{Node}
+use Rattle.physical.specs.declared.plan.Node.TheVariants.{Scan, Filter, FilterSubqueries, Cut, Loop, Sort, HashGroup, HashDistinct}
+use Rattle.physical.specs.declared.plan.Plan.{Plan, roll-Plan, fold-roll-Plan, ind-Plan, map-Plan}
+use Rattle.physical.specs.declared.plan.Plan.TheOpen.{Plan-F}
+use Rattle.physical.specs.Plays.{Played, node_columns, node_rows, play_layer, played}
+use Rattle.physical.specs.Sorts.{keys_order}
+use Rattle.physical.proofs.SortedRows.{same_bag-sorted}
 use Rattle.checker.specs.declared.certificate.CheckRefusal.{CheckRefusal}
-use Rattle.checker.specs.declared.certificate.CheckCode.TheVariants.{UnknownLine, OtherOperator}
-use Rattle.checker.specs.Plans.{no_rows, first_input, play_node, play_layer, play}
-use Rattle.checker.specs.Replay.{Fits, refusal, line_of, inputs_of, node_fits, inputs_fit, fits_layer, plan_fits, lines_replay}
+use Rattle.checker.specs.declared.certificate.CheckCode.TheVariants.{UnknownLine, IllFormed, OtherOperator, UnsortedAnswer}
+use Rattle.checker.specs.Replay.{Fits, refusal, computes, key_columns, sort_fits, operator_fits, node_fits, inputs_fit, fits_layer, plan_fits, lines_replay}
 use Rattle.checker.proofs.Chains.{both_ok, wanted_ok, wanted_if_ok}
-use Rattle.checker.proofs.Founded.{line_at, founded, before}
+use Rattle.checker.proofs.Founded.{Stands, line_at, founded, before, founded_columns, before_columns}
+use Rattle.checker.proofs.Operators.{Is, AllAre, operator-gives}
 
--- ---- what an operator computes
-
-if_some : {A : Type 0} (b : Bool) (o : Option A) (x : A) → (if b then o else None) ≡ Some x → (b ≡ true) × (o ≡ Some x)
-if_some true o x e = (refl, e)
-if_some false o x e = cc
-
-scan_is : (l o : ℕ) (x : Expr) (classes : List ℕ) → inputs_of (Scan l o) x ≡ Some classes → x ≡ Get o
-scan_is l o (Get p) classes e = ap Get (sym (eqb-true o p (if_some (o == p) (Some []) classes e).0))
-scan_is l o x classes e = cc
-
-record Filters (C : List Condition) (x : Expr) (classes : List ℕ) : Type 0 where
-  input : ℕ
-  is : x ≡ Select C input
-  one : classes ≡ input ∷ []
-  plain : is_plain C ≡ true
-
-filter_is : (l : ℕ) (C : List Condition) (x : Expr) (classes : List ℕ) → inputs_of (Filter l C) x ≡ Some classes → Filters C x classes
-filter_is l C (Select D h) classes e =
-    let parts = if_some (is_plain D && same_conditions C D) (Some (h ∷ [])) classes e in
-    let both : (is_plain D ≡ true) × (same_conditions C D ≡ true) = and_parts _ _ parts.0 in
-    let same : C ≡ D = equal_conditions C D both.1 in
-    record { input = h; is = ap (λ C. Select C h) (sym same); one = cc; plain = subst (λ C. is_plain C ≡ true) (sym same) both.0 }
-filter_is l C x classes e = cc
-
-record Cuts (K : List ℕ) (x : Expr) (classes : List ℕ) : Type 0 where
-  input : ℕ
-  is : x ≡ Keep K input
-  one : classes ≡ input ∷ []
-
-cut_is : (l : ℕ) (K : List ℕ) (x : Expr) (classes : List ℕ) → inputs_of (Cut l K) x ≡ Some classes → Cuts K x classes
-cut_is l K (Keep L h) classes e =
-    let parts = if_some (same_columns K L) (Some (h ∷ [])) classes e in
-    record { input = h; is = ap (λ K. Keep K h) (sym (equal_columns K L parts.0)); one = cc }
-cut_is l K x classes e = cc
-
--- an operator that fits
-record FitsLine (lines : List Expr) (node : Node) (inputs g : ℕ) (classes : List ℕ) : Type 0 where
+-- an operator that fits at its line
+record FitsLine (lines : List Expr) (node : Node) (inputs g : ℕ) (needed : List ℕ) : Type 0 where
   expr : Expr
   at : slice_get lines g ≡ Some expr
-  computes : inputs_of node expr ≡ Some classes
-  count : inputs ≡ length classes
+  computed : computes node expr ≡ true
+  needs : input_classes expr ≡ needed
+  count : inputs ≡ length needed
 
-node_is : (lines : List Expr) (node : Node) (inputs g n : ℕ) (classes : List ℕ) → node_fits lines node inputs g n ≡ Ok classes → FitsLine lines node inputs g classes
-node_is lines node inputs g n classes e =
-    let last : List ℕ → Result (List ℕ) CheckRefusal = λ classes. wanted_if (refusal n OtherOperator) (inputs == length classes) classes in
-    let next : Expr → Result (List ℕ) CheckRefusal = λ x. wanted (refusal n OtherOperator) (if line_of node == g then inputs_of node x else None) >>= last in
-    let first = both_ok (wanted (refusal n UnknownLine) (slice_get lines (line_of node))) next classes e in
+operator-is : (lines : List Expr) (line : ℕ) (node : Node) (inputs g n : ℕ) (needed : List ℕ) → operator_fits lines line node inputs g n ≡ Ok needed → FitsLine lines node inputs g needed
+operator-is lines line node inputs g n needed e =
+    let next : Expr → Result (List ℕ) CheckRefusal = λ x. wanted_if (refusal n OtherOperator) (line == g && computes node x && inputs == length (input_classes x)) (input_classes x) in
+    let first = both_ok (wanted (refusal n UnknownLine) (slice_get lines line)) next needed e in
     let x : Expr = first.0 in
-    let second = both_ok (wanted (refusal n OtherOperator) (if line_of node == g then inputs_of node x else None)) last classes first.2 in
-    let computes = if_some (line_of node == g) (inputs_of node x) second.0 (wanted_ok (refusal n OtherOperator) _ second.0 second.1) in
-    let all = wanted_if_ok (refusal n OtherOperator) (inputs == length second.0) second.0 classes second.2 in
+    let all = wanted_if_ok (refusal n OtherOperator) (line == g && computes node x && inputs == length (input_classes x)) (input_classes x) needed first.2 in
+    let tests = and_parts _ _ all.0 in
+    let tests' = and_parts _ _ tests.0 in
     record {
       expr = x;
-      at = ap (slice_get lines) (sym (eqb-true _ _ computes.0)) ∙ wanted_ok (refusal n UnknownLine) _ x first.1;
-      computes = computes.1 ∙ ap Some all.1;
-      count = eqb-true _ _ all.0 ∙ ap length all.1;
+      at = ap (slice_get lines) (sym (eqb-true _ _ tests'.0)) ∙ wanted_ok (refusal n UnknownLine) _ x first.1;
+      computed = tests'.1;
+      needs = all.1;
+      count = eqb-true _ _ tests.1 ∙ ap length all.1;
     }
 
 module _ (q : Query) (D : Tables) (lines F : List Expr) (replays : lines_replay q [] lines ≡ Ok F) where
-  -- the plan plays the rows of the class that it fits
+  abbrev W : Classes
+  W = classes q.tables D (reverse lines)
+
+  abbrev cols : ℕ → List ℕ
+  cols = class_columns q.tables (reverse lines)
+
+  -- the plan plays the bag of the class that it fits, over its columns
   abbrev P : Plan → Type 0
-  P p = (g n m : ℕ) → plan_fits lines p g n ≡ Ok m → (e : Env) → play q.tables D p e ≡ class_rows q.tables D (reverse lines) g e
+  P p = (ordered : Bool) (g n m : ℕ) → plan_fits lines cols p ordered g n ≡ Ok m → Is W (played q.tables D p) g
 
   abbrev Part : Type 0
   Part = (p : Plan) × P p
 
   abbrev fits_of : List Part → List Fits
-  fits_of parts = map (plan_fits lines) (map (λ p. p.0) parts)
+  fits_of parts = map (plan_fits lines cols) (map (λ p. p.0) parts)
 
-  abbrev plays_of : List Part → List Bag
-  plays_of parts = map (play q.tables D) (map (λ p. p.0) parts)
+  abbrev played_of : List Part → List Played
+  played_of parts = map (played q.tables D) (map (λ p. p.0) parts)
 
-  -- the only input
-  one_input : (parts : List Part) (classes : List ℕ) (h n m : ℕ) → classes ≡ h ∷ [] → length (fits_of parts) ≡ length classes → inputs_fit (fits_of parts) classes n ≡ Ok m
-      → (e : Env) → first_input (plays_of parts) e ≡ class_rows q.tables D (reverse lines) h e
-  one_input [] classes h n m one count fits e = let is : 0 ≡ 1 = count ∙ ap length one in absurd (omega (arith, is))
-  one_input (p ∷ []) classes h n m one count fits e =
-      let parts = both_ok (plan_fits lines p.0 h n) (λ m. inputs_fit [] [] m) m (ap (λ classes. inputs_fit (fits_of (p ∷ [])) classes n) (sym one) ∙ fits) in
-      p.1 h n parts.0 parts.1 e
-  one_input (p ∷ r ∷ parts) classes h n m one count fits e = let is : suc (suc (length (fits_of parts))) ≡ 1 = count ∙ ap length one in absurd (omega (arith, is))
+  all-play : (parts : List Part) (needed : List ℕ) (n m : ℕ) → length (fits_of parts) ≡ length needed → inputs_fit (fits_of parts) needed n ≡ Ok m → AllAre W (played_of parts) needed
+  all-play [] [] n m count fits = tt
+  all-play [] (g ∷ needed) n m count fits = absurd (omega (arith, count))
+  all-play (p ∷ parts) [] n m count fits = absurd (omega (arith, count))
+  all-play (p ∷ parts) (g ∷ needed) n m count fits =
+      let steps = both_ok (plan_fits lines cols p.0 true g n) (λ m. inputs_fit (fits_of parts) needed m) m fits in
+      (p.1 true g n steps.0 steps.1, all-play parts needed steps.0 m (omega (arith, count)) steps.2)
 
-  -- a line names earlier lines
-  backward : (g : ℕ) (x : Expr) → slice_get lines g ≡ Some x → classes_pass (λ h. nat_lt h g) x ≡ true
-  backward g x at = subst (λ n. classes_pass (λ h. nat_lt h n) x ≡ true) (zero-add g) (line_at q lines [] F g x replays at).backward
+  -- the classes before a line are as they are in the end
+  all-before : (g : ℕ) → g ≤ length lines → (inputs : List Played) (needed : List ℕ) → list_all (λ h. nat_lt h g) needed ≡ true → AllAre W inputs needed → AllAre (classes q.tables D (reverse (take g lines))) inputs needed
+  all-before g le [] [] below all = tt
+  all-before g le [] (h ∷ needed) below all = absurd all
+  all-before g le (x ∷ inputs) [] below all = absurd all
+  all-before g le (x ∷ inputs) (h ∷ needed) below all =
+      let parts = and_parts _ _ below in
+      let lt : h < g = ltb-true h g parts.0 in
+      (record {
+        columns = all.0.columns ∙ sym (before_columns q.tables lines g h lt le);
+        rows = same_bag-trans x.rows (class_rows q.tables D (reverse lines) h) (class_rows q.tables D (reverse (take g lines)) h) all.0.rows (same_bag-equal _ _ (λ e. sym (before q.tables D lines g h e lt le)));
+      }, all-before g le inputs needed parts.1 all.1)
 
-  layer : (node : Node) (parts : List Part) (g n m : ℕ) → (node_fits lines node (length (fits_of parts)) g n >>= λ classes. inputs_fit (fits_of parts) classes (n + 1)) ≡ Ok m
-      → (e : Env) → play_node q.tables D node (plays_of parts) e ≡ class_rows q.tables D (reverse lines) g e
-  layer (Scan l o) parts g n m fits e =
-      let steps = both_ok (node_fits lines (Scan l o) (length (fits_of parts)) g n) (λ classes. inputs_fit (fits_of parts) classes (n + 1)) m fits in
-      let line = node_is lines (Scan l o) (length (fits_of parts)) g n steps.0 steps.1 in
-      sym (founded q.tables D lines g (Get o) e (line.at ∙ ap Some (scan_is l o line.expr steps.0 line.computes)))
-  layer (Filter l C) parts g n m fits e =
-      let steps = both_ok (node_fits lines (Filter l C) (length (fits_of parts)) g n) (λ classes. inputs_fit (fits_of parts) classes (n + 1)) m fits in
-      let line = node_is lines (Filter l C) (length (fits_of parts)) g n steps.0 steps.1 in
-      let found = filter_is l C line.expr steps.0 line.computes in
-      let h : ℕ = found.input in
-      let at : slice_get lines g ≡ Some (Select C h) = line.at ∙ ap Some found.is in
-      let lt : h < g = ltb-true h g (and_parts (nat_lt h g) _ (backward g (Select C h) at)).0 in
-      let within : g < length lines = slice_get_within lines g (Select C h) at in
-      let W : ℕ → Bag = class_rows q.tables D (reverse (take g lines)) in
-      ap (filter (holds (λ g. no_rows) C)) (one_input parts steps.0 h (n + 1) m found.one line.count steps.2 e ∙ sym (before q.tables D lines g h e lt (omega (arith, within))))
-      ∙ ap (λ p. filter p (W h e)) (λ i r. plain_holds C found.plain (λ g. no_rows) W r i)
-      ∙ sym (founded q.tables D lines g (Select C h) e at)
-  layer (Cut l K) parts g n m fits e =
-      let steps = both_ok (node_fits lines (Cut l K) (length (fits_of parts)) g n) (λ classes. inputs_fit (fits_of parts) classes (n + 1)) m fits in
-      let line = node_is lines (Cut l K) (length (fits_of parts)) g n steps.0 steps.1 in
-      let found = cut_is l K line.expr steps.0 line.computes in
-      let h : ℕ = found.input in
-      let at : slice_get lines g ≡ Some (Keep K h) = line.at ∙ ap Some found.is in
-      let lt : h < g = ltb-true h g (backward g (Keep K h) at) in
-      let within : g < length lines = slice_get_within lines g (Keep K h) at in
-      ap (map (λ r. lay (has K) r e)) (one_input parts steps.0 h (n + 1) m found.one line.count steps.2 e ∙ sym (before q.tables D lines g h e lt (omega (arith, within))))
-      ∙ sym (founded q.tables D lines g (Keep K h) e at)
+  abbrev at_node : Node → List Part → Played
+  at_node node parts = record { columns = node_columns q.tables node (map (λ x. x.columns) (played_of parts)); rows = node_rows q.tables D node (played_of parts) }
+
+  abbrev inputs_after : List Part → Bool → ℕ → List ℕ → Result ℕ CheckRefusal
+  inputs_after parts ordered n needed = wanted_if (refusal n UnsortedAnswer) ordered needed >>= λ needed. inputs_fit (fits_of parts) needed (n + 1)
+
+  -- the inputs of a node fit the classes that it needs
+  inputs-play : (parts : List Part) (ordered : Bool) (n m : ℕ) (needed : List ℕ) → length (fits_of parts) ≡ length needed → inputs_after parts ordered n needed ≡ Ok m → AllAre W (played_of parts) needed
+  inputs-play parts ordered n m needed count fits =
+      let steps = both_ok (wanted_if (refusal n UnsortedAnswer) ordered needed) (λ needed. inputs_fit (fits_of parts) needed (n + 1)) m fits in
+      let same = wanted_if_ok (refusal n UnsortedAnswer) ordered needed steps.0 steps.1 in
+      all-play parts needed (n + 1) m count (ap (λ needed. inputs_fit (fits_of parts) needed (n + 1)) same.1 ∙ steps.2)
+
+  operator-plays : (line : ℕ) (node : Node) (parts : List Part) (ordered : Bool) (g n m : ℕ) → (operator_fits lines line node (length (fits_of parts)) g n >>= inputs_after parts ordered n) ≡ Ok m → Is W (at_node node parts) g
+  operator-plays line node parts ordered g n m fits =
+      let steps = both_ok (operator_fits lines line node (length (fits_of parts)) g n) (inputs_after parts ordered n) m fits in
+      let found = operator-is lines line node (length (fits_of parts)) g n steps.0 steps.1 in
+      let x : Expr = found.expr in
+      let within_ : g < length lines = slice_get_within lines g x found.at in
+      let le : g ≤ length lines = omega (arith, within_) in
+      let count : length (reverse (take g lines)) ≡ g = length-reverse (take g lines) ∙ length-take-le g lines le in
+      let stands : Stands q (reverse (take g lines)) x = line_at q lines [] F g x replays found.at in
+      let below : list_all (λ h. nat_lt h g) (input_classes x) ≡ true = inputs-pass (λ h. nat_lt h g) x (subst (λ n. classes_pass (λ h. nat_lt h n) x ≡ true) count stands.backward) in
+      let all : AllAre W (played_of parts) (input_classes x) = subst (AllAre W (played_of parts)) (sym found.needs) (inputs-play parts ordered n m steps.0 found.count steps.2) in
+      let gives = operator-gives q.tables (own_aggregates q) D (classes q.tables D (reverse (take g lines))) node x (played_of parts) found.computed stands.formed (all-before g le (played_of parts) (input_classes x) below all) in
+      record {
+        columns = gives.columns ∙ sym (founded_columns q.tables lines g x found.at);
+        rows = same_bag-trans _ _ (class_rows q.tables D (reverse lines) g) gives.rows (same_bag-equal _ _ (λ e. sym (founded q.tables D lines g x e found.at)));
+      }
+
+  sort-plays : (keys : List OrderKey) (parts : List Part) (ordered : Bool) (g n m : ℕ) → (sort_fits cols keys (length (fits_of parts)) g n >>= inputs_after parts ordered n) ≡ Ok m → Is W (at_node (Sort keys) parts) g
+  sort-plays keys parts ordered g n m fits =
+      let k : ℕ = length (fits_of parts) in
+      let steps = both_ok (sort_fits cols keys k g n) (inputs_after parts ordered n) m fits in
+      let last : List ℕ → Result (List ℕ) CheckRefusal = λ needed. wanted_if (refusal n OtherOperator) (k == 1) needed in
+      let first = both_ok (wanted_if (refusal n IllFormed) (within (key_columns keys) (cols g)) (g ∷ [])) last steps.0 steps.1 in
+      let one = wanted_if_ok (refusal n IllFormed) _ (g ∷ []) first.0 first.1 in
+      let two = wanted_if_ok (refusal n OtherOperator) (k == 1) first.0 steps.0 first.2 in
+      let needs : g ∷ [] ≡ steps.0 = one.1 ∙ two.1 in
+      let count : k ≡ length (g ∷ []) = eqb-true _ _ two.0 in
+      input parts (inputs-play parts ordered n m (g ∷ []) count (ap (inputs_after parts ordered n) needs ∙ steps.2))
+    where
+      input : (parts : List Part) → AllAre W (played_of parts) (g ∷ []) → Is W (at_node (Sort keys) parts) g
+      input [] all = absurd all
+      input (p ∷ parts) all =
+          let x : Played = played q.tables D p.0 in
+          record { columns = all.0.columns; rows = same_bag-trans (λ e. _) x.rows (class_rows q.tables D (reverse lines) g) (same_bag-sorted (keys_order keys) x.rows) all.0.rows }
+
+  layer : (node : Node) (parts : List Part) (ordered : Bool) (g n m : ℕ) → (node_fits lines cols node (length (fits_of parts)) g n >>= inputs_after parts ordered n) ≡ Ok m → Is W (at_node node parts) g
+  layer (Scan l o) = operator-plays l (Scan l o)
+  layer (Filter l C) = operator-plays l (Filter l C)
+  layer (FilterSubqueries l C) = operator-plays l (FilterSubqueries l C)
+  layer (Cut l K) = operator-plays l (Cut l K)
+  layer (Loop l kind C) = operator-plays l (Loop l kind C)
+  layer (Sort keys) = sort-plays keys
+  layer (HashGroup l K G) = operator-plays l (HashGroup l K G)
+  layer (HashDistinct l) = operator-plays l (HashDistinct l)
 
   step : (y : Plan-F Part) → P (roll-Plan (map-Plan Part Plan (λ p. p.0) y))
-  unfolding plan_fits play
-  step y g n m fits e =
+  unfolding plan_fits played
+  step y ordered g n m fits =
       let z : Plan-F Plan = map-Plan Part Plan (λ p. p.0) y in
-      ap (λ b. b e) (fold-roll-Plan Bag (play_layer q.tables D) z)
-      ∙ layer y.node y.inputs g n m (sym (ap (λ f. f g n) (fold-roll-Plan Fits (fits_layer lines) z)) ∙ fits) e
+      subst (λ x. Is W x g) (sym (fold-roll-Plan Played (play_layer q.tables D) z))
+      (layer y.node y.inputs ordered g n m (sym (ap (λ f. f ordered g n) (fold-roll-Plan Fits (fits_layer lines cols) z)) ∙ fits))
 
   pub plays : (p : Plan) → P p
   plays = ind-Plan P (λ x y is. subst (λ z. P (roll-Plan z)) is (step y))

@@ -1,6 +1,6 @@
 //! The nodes of a plan against the lines.
 
-ghost use Rattle.std.specs.Prelude.{◌≡◌, ◌+◌, IfOk, length, map};
+ghost use Rattle.std.specs.Prelude.{◌≡◌, ◌+◌, IfOk, length, map, take};
 ghost use Rattle.values.specs.Faults.{Gives};
 ghost use Rattle.logical.specs.Columns.{within, columns_at};
 ghost use Rattle.checker.specs.declared.certificate.CheckRefusal.{CheckRefusal};

@@ -1,5 +1,5 @@
 -- The lines of a block are well formed: its WHERE, its Group, its Keep and its Distinct.
-use Rattle.std.proofs.Common.{◌≡◌, refl, ap, sym, ◌∙◌, subst, inl, inr, ℕ, zero, suc, ◌<◌, ◌≤◌, Bool, true, false, ◌&&◌, ◌||◌, ◌==◌, not, nat_lt, if◌then◌else◌, List, [], ◌∷◌, ◌++◌, map, length, Option, Some, None, option_map, arith}
+use Rattle.std.proofs.Common.{◌≡◌, refl, ap, sym, ◌∙◌, subst, ℕ, ◌<◌, ◌≤◌, Bool, true, false, ◌&&◌, ◌||◌, ◌==◌, not, nat_lt, if◌then◌else◌, List, [], ◌∷◌, ◌++◌, map, length, Option, Some, None, option_map, arith}
 use Rattle.std.specs.Prelude.{slice_index_or}
 use Rattle.std.specs.List.{list_all, list_any, AllByRecursion}
 use Rattle.std.proofs.lemmas.Bool.{and_parts, and_from, or_parts, eq-eqb, eqb-true, lt-ltb, ltb-true, or_left, or_right, cond_both, cond-true, not_from_false, not-true}
@@ -12,25 +12,23 @@ use Rattle.binder.specs.declared.query.Item.TheVariants as item
 use Rattle.binder.specs.declared.query.TableUse.{TableUse}
 use Rattle.binder.specs.declared.query.Cond.{Cond}
 use Rattle.binder.specs.declared.query.Block.{Block}
-use Rattle.binder.specs.Bound.{Scope, BlockScope, number, number_at, names, is_among, all_differ, are_new, aggregate_numbers, bound_aggregate, bound_item, bound_group_item, bound_items, bound_filter, cond_scope, from_scope}
+use Rattle.binder.specs.Bound.{Scope, BlockScope, number, number_at, names, is_among, all_differ, aggregate_numbers, bound_aggregate, bound_item, bound_group_item, bound_items, bound_filter, cond_scope, from_scope}
 use Rattle.binder.proofs.ScopeEquations.{scope-Block}
-use Rattle.logical.specs.declared.condition.Condition.{Condition}
 use Rattle.logical.specs.declared.expr.Aggregation.{Aggregation}
 use Rattle.logical.specs.declared.expr.Expr.{Expr}
-use Rattle.logical.specs.declared.expr.Expr.TheVariants.{Select, Group, Keep, Distinct}
+use Rattle.logical.specs.declared.expr.Expr.TheVariants.{Group}
 use Rattle.logical.specs.Columns.{has, within, rising}
 use Rattle.logical.specs.Conditions.{all_classes, all_columns}
 use Rattle.logical.specs.Equality.{same_aggregation}
-use Rattle.logical.specs.Expressions.{is_own, names_own, subqueries_pass, is_formed, aggregate_reads, aggregate_columns, aggregation_formed, are_different}
+use Rattle.logical.specs.Expressions.{is_own, is_formed, aggregate_reads, aggregate_columns, aggregation_formed, are_different}
 use Rattle.logical.specs.Classes.{class_columns}
-use Rattle.logical.specs.ConjunctOrder.{in_order}
 use Rattle.logical.specs.FormedFrames.{AreFormed}
 use Rattle.logical.specs.Frames as frame
 use Rattle.logical.specs.Frames.{CondLines, BlockFrame, cond_frame, from_frame, where_lines, group_lines, keep_lines, distinct_lines, key_columns, aggregations, numbered_aggregate, item_number, own_numbers, kept, last}
-use Rattle.logical.proofs.FormedParts.{all-three, AreOwn, AllOwn, among_own, GroupsOwn, groups-before, number-own, FormedCond, FormedBlock, CondFormed, FromFormed, BlockFormed}
+use Rattle.logical.proofs.FormedParts.{all-three, AllOwn, among_own, GroupsOwn, groups-before, number-own, FormedCond, FormedBlock, CondFormed, FromFormed, BlockFormed}
 use Rattle.logical.proofs.FrameEquations.{frame-Block}
 use Rattle.logical.proofs.FrameGroups.{place-has, key-has, key-below}
-use Rattle.logical.proofs.FrameShapes.{end-grows, FromShape, CondShape, WhereShape, cond-shape, from-shape, where-shape}
+use Rattle.logical.proofs.FrameShapes.{end-grows, FromShape, CondShape, WhereShape, BoundParts, cond-shape, from-shape, where-shape, bound-parts}
 use Rattle.logical.proofs.Growth.{grows-none, grows-longer, grows-some, top-columns, last-below}
 use Rattle.logical.proofs.Induction.{OfFilter}
 use Rattle.logical.proofs.Ordered.{in_order-all}
@@ -120,10 +118,11 @@ module _ (uses : List TableUse) (own : List Aggregation) where
       let test : FormedCond uses own framed = is_formed inner A all formed bound groups.1 in
       let below : last A < length A = last-below A some in
       let longer : length A ≤ length framed.lines = grows-longer framed.lines A shape.grows in
-      let p : ℕ → Bool = λ g. nat_lt g (length framed.lines) in
-      (and_from _ _ (lt-ltb _ _ (omega (arith, below, longer))) (in_order-all (λ d. all_classes d p) framed.conjuncts ∙ shape.conjuncts p (λ g low lt. lt-ltb _ _ lt)),
+      let p : ℕ → Bool = λ g. nat_lt g (length framed.lines) in (
+        and_from _ _ (lt-ltb _ _ (omega (arith, below, longer))) (in_order-all (λ d. all_classes d p) framed.conjuncts ∙ shape.conjuncts p (λ g low lt. lt-ltb _ _ lt)),
         in_order-all (λ d. all_columns d (is_own uses own)) framed.conjuncts ∙ test.conjuncts,
-        test.lines)
+        test.lines,
+      )
 
   -- ---- behind FROM and WHERE, whose last class has the columns of the FROM
 
@@ -186,10 +185,11 @@ module _ (uses : List TableUse) (own : List Aggregation) where
         → AllByRecursion (λ i. frame.is_own i ≡ true → has (grouped keys items) (item_number (numbers ∷ scope) i) ≡ true) its
     group-kept keys items [] have bound = tt
     group-kept keys items (item.Column c ∷ its) have bound =
-        let parts = and_parts (bound_group_item (length numbers) keys (numbers ∷ scope) (item.Column c)) _ bound in
-        (λ is. let key : is_among c.place keys ≡ true = sym (cond-true _ _ _ is) ∙ parts.0 in
-            ap (has (grouped keys items)) (own-number numbers scope c is) ∙ grouped-has keys items (number_at numbers c.place) ∙ or_left _ _ (key-has numbers keys c.place key),
-          group-kept keys items its have.1 parts.1)
+        let parts = and_parts (bound_group_item (length numbers) keys (numbers ∷ scope) (item.Column c)) _ bound in (
+          λ is. let key : is_among c.place keys ≡ true = sym (cond-true _ _ _ is) ∙ parts.0 in
+              ap (has (grouped keys items)) (own-number numbers scope c is) ∙ grouped-has keys items (number_at numbers c.place) ∙ or_left _ _ (key-has numbers keys c.place key),
+          group-kept keys items its have.1 parts.1,
+        )
     group-kept keys items (item.Aggregate n a ∷ its) have bound =
         (λ is. grouped-has keys items n ∙ or_right (has (map (number_at numbers) keys) n) _ have.0, group-kept keys items its have.1 (and_parts (bound_aggregate (length numbers) a) _ bound).1)
 
@@ -260,15 +260,12 @@ module _ (uses : List TableUse) (own : List Aggregation) where
       let second : WhereShape uses q.filter (numbers ∷ scope) A = where-shape uses q.filter (numbers ∷ scope) A first.some in
       let inner : AllOwn uses own (numbers ∷ scope) = (λ c in_. or_left _ _ (first.used c in_), all) in
       block-as _ _ _ _ scope E (frame-Block uses q) (scope-Block uses q) (λ bound groups.
-      let moved = subst (λ ns. (are_new (aggregate_numbers q.items ++ ns) scope && ((from_scope uses q.from).bound scope && (bound_filter (option_map (cond_scope uses) q.filter) (ns ∷ scope) && bound_items q.grouped (length ns) q.keys q.items (ns ∷ scope)))) ≡ true) first.numbers bound in
-      let a = and_parts (are_new (aggregate_numbers q.items ++ numbers) scope) _ moved in
-      let b = and_parts ((from_scope uses q.from).bound scope) _ a.1 in
-      let c = and_parts (bound_filter (option_map (cond_scope uses) q.filter) (numbers ∷ scope)) _ b.1 in
-      let differ : all_differ (aggregate_numbers q.items ++ numbers) ≡ true = (and_parts (all_differ (aggregate_numbers q.items ++ numbers)) _ a.0).0 in
+      let parts : BoundParts uses q scope = bound-parts uses q scope bound in
+      let differ : all_differ (aggregate_numbers q.items ++ numbers) ≡ true = (and_parts (all_differ (aggregate_numbers q.items ++ numbers)) _ parts.new).0 in
       let behind : GroupsOwn uses own B = groups-before uses own (distinct_lines q.distinct (keep_lines (numbers ∷ scope) q.items G)) B (end-grows q.distinct q.grouped (numbers ∷ scope) numbers q.keys q.items B B (grows-none B)) groups in
-      let source : AreFormed uses own A = from_formed scope E all formed b.0 (differ-right (aggregate_numbers q.items) numbers differ) (groups-before uses own B A second.grows behind) in
-      let filtered : AreFormed uses own B = where-formed q.filter (numbers ∷ scope) A filter_formed inner source first.some c.0 behind in
+      let source : AreFormed uses own A = from_formed scope E all formed parts.from (differ-right (aggregate_numbers q.items) numbers differ) (groups-before uses own B A second.grows behind) in
+      let filtered : AreFormed uses own B = where-formed q.filter (numbers ∷ scope) A filter_formed inner source first.some parts.filter behind in
       record {
-        lines = end-formed numbers scope B (grows-some B A second.grows first.some) (λ k. ap (λ ns. has ns k) second.columns ∙ first.columns k) q.distinct q.grouped q.keys q.items differ c.1 filtered groups;
-        shown = end-shown q.distinct q.grouped numbers q.keys scope q.items B inner c.1 groups;
+        lines = end-formed numbers scope B (grows-some B A second.grows first.some) (λ k. ap (λ ns. has ns k) second.columns ∙ first.columns k) q.distinct q.grouped q.keys q.items differ parts.items filtered groups;
+        shown = end-shown q.distinct q.grouped numbers q.keys scope q.items B inner parts.items groups;
       })

@@ -1,5 +1,5 @@
 -- The lines of a FROM are well formed: a join names its sides' classes, which share no column, and its ON names no class.
-use Rattle.std.proofs.Common.{◌≡◌, refl, ap, sym, ◌∙◌, ℕ, ◌<◌, ◌≤◌, Bool, true, false, ◌&&◌, not, ◌==◌, nat_lt, List, [], ◌∷◌, ◌++◌, length, Option, Some, None, arith}
+use Rattle.std.proofs.Common.{◌≡◌, refl, ap, sym, ◌∙◌, ℕ, ◌<◌, ◌≤◌, Bool, true, false, ◌&&◌, ◌==◌, nat_lt, List, [], ◌∷◌, ◌++◌, length, Option, Some, None, arith}
 use Rattle.std.specs.List.{list_all, slice_get}
 use Rattle.std.proofs.lemmas.Bool.{and_parts, and_from, eq-eqb, or_left, or_right, lt-ltb, not_from_false, false_from_ne_true}
 use Rattle.std.proofs.lemmas.Option.{slice_get_within}
@@ -23,8 +23,8 @@ use Rattle.logical.specs.FormedFrames.{AreFormed}
 use Rattle.logical.specs.Frames.{CondLines, FromFrame, cond_frame, from_frame, join_frame, last}
 use Rattle.logical.proofs.FormedParts.{all-three, AreOwn, AllOwn, GroupsOwn, groups-before, FormedCond, CondFormed, FromFormed}
 use Rattle.logical.proofs.FrameEquations.{frame-Table, frame-Join, frame-LeftJoin, frame-Comma}
-use Rattle.logical.proofs.FrameShapes.{FromShape, CondShape, Sides, left_of, on_of, from-shape, join-sides}
-use Rattle.logical.proofs.Growth.{Grows, grows-longer, kept-columns, last-below}
+use Rattle.logical.proofs.FrameShapes.{FromShape, Sides, JoinParts, left_of, on_of, from-shape, join-sides, join-parts}
+use Rattle.logical.proofs.Growth.{grows-longer, kept-columns, last-below}
 use Rattle.logical.proofs.Ordered.{in_order-all}
 use Rattle.logical.proofs.Puts.{Apart, differ-left, differ-right, differ-apart}
 
@@ -68,27 +68,25 @@ module _ (uses : List TableUse) (own : List Aggregation) where
         let framed : CondLines = on_of uses f o on scope E in
         let cols : ℕ → List ℕ = class_columns uses framed.lines in
         let sides : Sides uses f o on scope E = join-sides uses f o on scope E in
-        let a = and_parts ((from_scope uses f).bound scope) _ bound in
-        let b = and_parts (is_used uses o) _ a.1 in
-        let c = and_parts (cond_scope uses on).plain _ b.1 in
-        let on_bound : (cond_scope uses on).bound ((ks ++ ls) ∷ scope) ≡ true = ap (λ ns. (cond_scope uses on).bound ((ns ++ ls) ∷ scope)) (sym sides.left.numbers) ∙ c.1 in
+        let parts : JoinParts uses f o on scope = join-parts uses f o on scope bound in
         let before : GroupsOwn uses own lines = groups-before uses own framed.lines lines sides.test.grows groups.1 in
-        let left : AreFormed uses own A = left_formed scope E all formed a.0 (differ-left ks ls differ) before.1 in
-        let table : AreFormed uses own lines = (refl, lt-ltb _ _ (used-below uses o b.0), left) in
+        let left : AreFormed uses own A = left_formed scope E all formed parts.left (differ-left ks ls differ) before.1 in
+        let table : AreFormed uses own lines = (refl, lt-ltb _ _ (used-below uses o parts.used), left) in
         let inner : AreOwn uses own (ks ++ ls) = λ k in_. or_left _ _ (sides.used k in_) in
-        let test : FormedCond uses own framed = on_formed ((ks ++ ls) ∷ scope) lines (inner, all) table on_bound groups.1 in
+        let test : FormedCond uses own framed = on_formed ((ks ++ ls) ∷ scope) lines (inner, all) table parts.test groups.1 in
         let longer : length lines ≤ length framed.lines = grows-longer framed.lines lines sides.test.grows in
         let below : last A < length A = last-below A sides.left.some in
-        let same : framed.lines ≡ lines = sides.test.plain c.0 in
+        let same : framed.lines ≡ lines = sides.test.plain parts.plain in
         let C : List Condition = in_order framed.conjuncts in
         let earlier : subqueries_pass (λ g. nat_lt g (length framed.lines)) C ≡ true =
         in_order-all (λ d. all_classes d (λ g. nat_lt g (length framed.lines))) framed.conjuncts ∙ sides.test.conjuncts (λ g. nat_lt g (length framed.lines)) (λ g low lt. lt-ltb _ _ lt) in
         let plain : is_plain C ≡ true =
         in_order-all (λ d. all_classes d (λ g. false)) framed.conjuncts ∙ sides.test.conjuncts (λ g. false) (λ g low lt. absurd (let none : length framed.lines ≡ length lines = ap length same in omega (arith, low, lt, none))) in
-        let own_columns : names_own uses own C ≡ true = in_order-all (λ d. all_columns d (is_own uses own)) framed.conjuncts ∙ test.conjuncts in
-        (names (λ g. nat_lt g (length framed.lines)) C (last A) (length A) ∙ all-three _ _ _ (lt-ltb (last A) (length framed.lines) (omega (arith, below, longer))) (lt-ltb (length A) (length framed.lines) (omega (arith, longer))) earlier,
+        let own_columns : names_own uses own C ≡ true = in_order-all (λ d. all_columns d (is_own uses own)) framed.conjuncts ∙ test.conjuncts in (
+          names (λ g. nat_lt g (length framed.lines)) C (last A) (length A) ∙ all-three _ _ _ (lt-ltb (last A) (length framed.lines) (omega (arith, below, longer))) (lt-ltb (length A) (length framed.lines) (omega (arith, longer))) earlier,
           needs cols C (last A) (length A) ∙ all-three _ _ _ own_columns plain (sides-apart (cols (last A)) (cols (length A)) ks ls sides.left_columns sides.right_columns (differ-apart ks ls differ)),
-          test.lines)
+          test.lines,
+        )
 
   pub formed-Join : (f : From) (o : Occurrence) (on : Cond) → FromFormed uses own f → CondFormed uses own on → FromFormed uses own (from.Join f o on)
   formed-Join f o on left test scope E all formed =
@@ -113,7 +111,8 @@ module _ (uses : List TableUse) (own : List Aggregation) where
       from-as _ _ _ _ scope E (frame-Comma uses f g) (scope-Comma uses f g) (λ bound differ groups.
       let parts = and_parts ((from_scope uses f).bound scope) ((from_scope uses g).bound scope) bound in
       let formed_left : AreFormed uses own A = first scope E all formed parts.0 (differ-left ks ls differ) (groups-before uses own B A right.grows groups.1) in
-      let formed_right : AreFormed uses own B = second scope A all formed_left parts.1 (differ-right ks ls differ) groups.1 in
-      (all-three _ _ _ (lt-ltb _ _ (omega (arith, low, longer))) (lt-ltb _ _ high) refl,
+      let formed_right : AreFormed uses own B = second scope A all formed_left parts.1 (differ-right ks ls differ) groups.1 in (
+        all-three _ _ _ (lt-ltb _ _ (omega (arith, low, longer))) (lt-ltb _ _ high) refl,
         all-three _ _ _ refl refl (sides-apart (class_columns uses B (last A)) (class_columns uses B (last B)) ks ls left_columns right.columns (differ-apart ks ls differ)),
-        formed_right))
+        formed_right,
+      ))

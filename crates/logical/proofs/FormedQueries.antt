@@ -1,5 +1,5 @@
 -- The frame of a bound query is well formed.
-use Rattle.std.proofs.Common.{◌≡◌, refl, ap, sym, ◌∙◌, subst, ℕ, zero, suc, ◌-◌, ◌<◌, Bool, true, false, ◌&&◌, ◌==◌, nat_lt, if◌then◌else◌, List, [], ◌∷◌, ◌++◌, map, flat_map, length, reverse, option_map, arith}
+use Rattle.std.proofs.Common.{◌≡◌, refl, ap, sym, ◌∙◌, subst, ℕ, zero, suc, ◌-◌, ◌<◌, Bool, true, false, ◌==◌, nat_lt, if◌then◌else◌, List, [], ◌∷◌, ◌++◌, map, flat_map, length, reverse, option_map, arith}
 use Rattle.std.specs.Prelude.{slice_index_or}
 use Rattle.std.specs.List.{list_all, list_any, AllByRecursion}
 use Rattle.std.proofs.lemmas.Bool.{and_parts, and_from, or_left, or_right, cond-true, ltb-true}
@@ -9,10 +9,8 @@ use Rattle.binder.specs.declared.query.Column.{Column}
 use Rattle.binder.specs.declared.query.Item.{Item}
 use Rattle.binder.specs.declared.query.Item.TheVariants as item
 use Rattle.binder.specs.declared.query.TableUse.{TableUse}
-use Rattle.binder.specs.declared.query.Cond.{Cond}
 use Rattle.binder.specs.declared.query.Block.{Block}
-use Rattle.binder.specs.declared.query.Query.{Query}
-use Rattle.binder.specs.Bound.{Scope, number, names, is_bound, is_among, are_new, aggregate_numbers, bound_aggregate, bound_filter, bound_item, bound_group_item, bound_items, cond_scope, from_scope, block_scope}
+use Rattle.binder.specs.Bound.{Scope, names, is_among, bound_aggregate, bound_item, bound_group_item, bound_items, block_scope}
 use Rattle.binder.proofs.Growth.{all-append}
 use Rattle.binder.proofs.ScopeEquations.{scope-Block}
 use Rattle.logical.specs.declared.expr.Aggregation.{Aggregation}
@@ -21,7 +19,7 @@ use Rattle.logical.specs.declared.expr.Expr.TheVariants.{Keep, Distinct}
 use Rattle.logical.specs.Columns.{has, within, rising}
 use Rattle.logical.specs.Equality.{same_aggregation}
 use Rattle.logical.specs.Classes.{class_columns}
-use Rattle.logical.specs.FormedFrames.{group_aggregates, own_aggregates, AreFormed, FrameFormed, FramesAreFormed}
+use Rattle.logical.specs.FormedFrames.{group_aggregates, own_aggregates, AreFormed, FramesAreFormed}
 use Rattle.logical.specs.Frames as frame
 use Rattle.logical.specs.Frames.{BlockFrame, cond_frame, from_frame, block_frame, where_lines, group_lines, keep_lines, distinct_lines, item_number, own_numbers, kept, last, query_frame, query_numbers}
 use Rattle.logical.proofs.FormedBlocks.{formed-Block}
@@ -29,7 +27,7 @@ use Rattle.logical.proofs.FormedConds.{formed-Compare, formed-IsNull, formed-Not
 use Rattle.logical.proofs.FormedFroms.{all-has, formed-Table, formed-Join, formed-LeftJoin, formed-Comma}
 use Rattle.logical.proofs.FormedParts.{among_own, GroupsOwn, FormedBlock, CondFormed, FromFormed, BlockFormed}
 use Rattle.logical.proofs.FrameEquations.{frame-Block}
-use Rattle.logical.proofs.FrameShapes.{from-shape, block-shape}
+use Rattle.logical.proofs.FrameShapes.{BoundParts, block-shape, bound-parts}
 use Rattle.logical.proofs.Growth.{top-columns, last-is}
 use Rattle.logical.proofs.Induction.{Steps, each-block}
 use Rattle.logical.proofs.Puts.{never}
@@ -139,12 +137,8 @@ module _ (uses : List TableUse) where
       let numbers : List ℕ = (from_frame uses q.from).numbers in
       let A : List Expr = (from_frame uses q.from).lines [] [] in
       let B : List Expr = where_lines (option_map (cond_frame uses) q.filter) (numbers ∷ []) A in
-      let moved = subst (λ ns. (are_new (aggregate_numbers q.items ++ ns) [] && ((from_scope uses q.from).bound [] && (bound_filter (option_map (cond_scope uses) q.filter) (ns ∷ []) && bound_items q.grouped (length ns) q.keys q.items (ns ∷ [])))) ≡ true)
-      (from-shape uses q.from [] []).numbers (sym (ap (λ s. s.bound []) (scope-Block uses q)) ∙ bound) in
-      let a = and_parts (are_new (aggregate_numbers q.items ++ numbers) []) _ moved in
-      let b = and_parts ((from_scope uses q.from).bound []) _ a.1 in
-      let c = and_parts (bound_filter (option_map (cond_scope uses) q.filter) (numbers ∷ [])) _ b.1 in
-      rw (frame-Block uses q) (shown-in q.distinct (numbers ∷ []) q.items (group_lines q.grouped numbers q.keys q.items B) (items-own q.grouped numbers q.keys q.items c.1))
+      let parts : BoundParts uses q [] = bound-parts uses q [] (sym (ap (λ s. s.bound []) (scope-Block uses q)) ∙ bound) in
+      rw (frame-Block uses q) (shown-in q.distinct (numbers ∷ []) q.items (group_lines q.grouped numbers q.keys q.items B) (items-own q.grouped numbers q.keys q.items parts.items))
 
 -- ---- queries
 

@@ -1,7 +1,7 @@
 -- What the frame makes of a block means it, if it does so of the parts.
-use Rattle.std.proofs.Common.{◌≡◌, refl, ap, sym, ◌∙◌, subst, ℕ, ◌<◌, Bool, true, false, ◌&&◌, nat_lt, if◌then◌else◌, List, [], ◌∷◌, ◌++◌, map, filter, length, Option, Some, None, option_map, arith}
+use Rattle.std.proofs.Common.{◌≡◌, refl, ap, sym, ◌∙◌, subst, ℕ, ◌<◌, Bool, true, false, nat_lt, if◌then◌else◌, List, [], ◌∷◌, ◌++◌, map, filter, length, Option, Some, None, option_map}
 use Rattle.std.specs.List.{list_all, AllByRecursion}
-use Rattle.std.proofs.lemmas.Bool.{and_parts, eqb-true}
+use Rattle.std.proofs.lemmas.Bool.{and_parts}
 use Rattle.values.specs.declared.value.Value.{Value}
 use Rattle.schema.specs.Databases.{Row, HaveWidth, values_at}
 use Rattle.binder.specs.declared.query.Item.{Item}
@@ -12,7 +12,7 @@ use Rattle.binder.specs.Rows as rows
 use Rattle.binder.specs.Rows.{Tables, IsFitting}
 use Rattle.binder.specs.Meaning as query
 use Rattle.binder.specs.Meaning.{item_of_row, item_of_group, all_shown, passes_filter, source}
-use Rattle.binder.specs.Bound.{Scope, bound_filter, bound_items, aggregate_numbers, are_new, all_differ, is_single, number_at, cond_scope, from_scope}
+use Rattle.binder.specs.Bound.{Scope, bound_filter, bound_items, aggregate_numbers, all_differ, number_at, cond_scope, from_scope}
 use Rattle.binder.proofs.Equations as meaning
 use Rattle.binder.proofs.ScopeEquations.{scope-Block}
 use Rattle.binder.proofs.Widths.{source_fits, length-nulls}
@@ -28,44 +28,33 @@ use Rattle.logical.specs.Frames.{CondLines, cond_frame, from_frame, where_lines,
 use Rattle.logical.proofs.FrameEquations.{frame-Block}
 use Rattle.logical.proofs.FrameGroups.{plain-items, group-items, group-keyed, groups-keyed, with_key, first_rows}
 use Rattle.logical.proofs.FrameRight.{CondRight, FromRight, CondMeans, FromMeans, BlockMeans, block-right, last_rows}
-use Rattle.logical.proofs.Growth.{Grows, grows-none, grows-one, grows-more, kept-rows, top-rows, top-columns, last-below}
+use Rattle.logical.proofs.FrameShapes.{FromShape, BoundParts, cond-shape, from-shape, bound-parts}
+use Rattle.logical.proofs.Growth.{grows-none, kept-rows, top-rows, top-columns, last-below}
+use Rattle.logical.proofs.Induction.{OfFilter}
 use Rattle.logical.proofs.Loops.{keep-all, through, all-filter, all-distinct}
 use Rattle.logical.proofs.Ordered.{in_order-all}
-use Rattle.logical.proofs.Puts.{never, put, Agrees, IsNew, agrees-put, new-right}
+use Rattle.logical.proofs.Puts.{put, Agrees, IsNew, agrees-put, new-right}
 use Rattle.logical.proofs.Shown.{Reads, shows, shows-once}
 
 module _ (uses : List TableUse) (D : Tables) (fits : IsFitting D) where
   -- ---- WHERE
 
-  abbrev pub FilterMeans : Option Cond → Type 0
-  FilterMeans None = Unit {0}
-  FilterMeans (Some c) = CondMeans uses D c
-
   -- behind a WHERE's lines the last class has those rows at which it holds
-  record WhereRight (o : Option Cond) (inner : Scope) (A : List Expr) : Type 0 where
-    grows : Grows (where_lines (option_map (cond_frame uses) o) inner A) A
-    rows : (ρ : List Row) (e : Env) (g : Row → Env) (width : ℕ) (L : List Row) → last_rows uses D A e ≡ map g L → bound_filter (option_map (cond_scope uses) o) inner ≡ true
-        → ((s : Row) → length s ≡ width → Agrees inner (s ∷ ρ) (g s)) → HaveWidth width L
-        → last_rows uses D (where_lines (option_map (cond_frame uses) o) inner A) e ≡ map g (filter (passes_filter (option_map query.truth o) D ρ) L)
+  abbrev WhereRight : Option Cond → Scope → List Expr → Type 0
+  WhereRight o inner A = (ρ : List Row) (e : Env) (g : Row → Env) (width : ℕ) (L : List Row) → last_rows uses D A e ≡ map g L → bound_filter (option_map (cond_scope uses) o) inner ≡ true
+      → ((s : Row) → length s ≡ width → Agrees inner (s ∷ ρ) (g s)) → HaveWidth width L
+      → last_rows uses D (where_lines (option_map (cond_frame uses) o) inner A) e ≡ map g (filter (passes_filter (option_map query.truth o) D ρ) L)
 
-  where-right : (o : Option Cond) → FilterMeans o → (inner : Scope) (A : List Expr) → 0 < length A → WhereRight o inner A
-  where-right None means inner A some = record {
-    grows = grows-none A;
-    rows = λ ρ e g width L is bound agrees wide. is ∙ ap (map g) (sym (keep-all L));
-  }
-  where-right (Some c) means inner A some =
+  where-right : (o : Option Cond) → OfFilter (CondMeans uses D) (FromMeans uses D) (BlockMeans uses D) o → (inner : Scope) (A : List Expr) → 0 < length A → WhereRight o inner A
+  where-right None means inner A some ρ e g width L is bound agrees wide = is ∙ ap (map g) (sym (keep-all L))
+  where-right (Some c) means inner A some ρ e g width L is bound agrees wide =
       let framed : CondLines = cond_frame uses c inner A in
-      let right : CondRight uses D framed (cond_scope uses c) (λ ρ. query.truth c D ρ) inner A = means inner A in
-      let top : Expr = Select (in_order framed.conjuncts) (last A) in
-      record {
-        grows = grows-more (top ∷ framed.lines) framed.lines A (grows-one top framed.lines) right.grows;
-        rows = λ ρ e g width L is bound agrees wide.
-            let test : Env → Bool = holds (class_rows uses D framed.lines) (in_order framed.conjuncts) in
-            top-rows uses D top framed.lines e
-            ∙ ap (filter test) (kept-rows uses D framed.lines A (last A) e right.grows (last-below A some) ∙ is)
-            ∙ through (λ s. length s ≡ width) g test (passes_filter (Some (query.truth c)) D ρ) L
-            (λ s w. in_order-all _ framed.conjuncts ∙ right.holds framed.lines (s ∷ ρ) (g s) (grows-none framed.lines) bound (agrees s w)) wide;
-      }
+      let right : CondRight uses D framed (cond_scope uses c) (λ ρ. query.truth c D ρ) inner = means inner A in
+      let test : Env → Bool = holds (class_rows uses D framed.lines) (in_order framed.conjuncts) in
+      top-rows uses D (Select (in_order framed.conjuncts) (last A)) framed.lines e
+      ∙ ap (filter test) (kept-rows uses D framed.lines A (last A) e (cond-shape uses c inner A).grows (last-below A some) ∙ is)
+      ∙ through (λ s. length s ≡ width) g test (passes_filter (Some (query.truth c)) D ρ) L
+      (λ s w. in_order-all _ framed.conjuncts ∙ right.holds framed.lines (s ∷ ρ) (g s) (grows-none framed.lines) bound (agrees s w)) wide
 
   -- ---- the last lines, over rows that read as they show
 
@@ -144,42 +133,18 @@ module _ (uses : List TableUse) (D : Tables) (fits : IsFitting D) where
 
   -- ---- blocks
 
-  end-grows : (twice grouped : Bool) (scope : Scope) (numbers keys : List ℕ) (items : List Item) (A E : List Expr) → Grows A E → Grows (distinct_lines twice (keep_lines scope items (group_lines grouped numbers keys items A))) E
-  end-grows false false scope numbers keys items A E g = grows-more _ A E (grows-one _ A) g
-  end-grows true false scope numbers keys items A E g = grows-more _ _ E (grows-one _ _) (grows-more _ A E (grows-one _ A) g)
-  end-grows false true scope numbers keys items A E g = grows-more _ _ E (grows-one _ _) (grows-more _ A E (grows-one _ A) g)
-  end-grows true true scope numbers keys items A E g = grows-more _ _ E (grows-one _ _) (grows-more _ _ E (grows-one _ _) (grows-more _ A E (grows-one _ A) g))
-
-  end-some : (twice : Bool) (scope : Scope) (items : List Item) (A : List Expr) → 0 < length (distinct_lines twice (keep_lines scope items A))
-  end-some false scope items A = omega arith
-  end-some true scope items A = omega arith
-
-  one-shown : (f : Item → ℕ) (items : List Item) → is_single items ≡ true → (k : ℕ) × (map f items ≡ k ∷ [])
-  one-shown f [] single = absurd (never single)
-  one-shown f (i ∷ []) single = (f i, refl)
-  one-shown f (i ∷ j ∷ items) single = absurd (omega (arith, eqb-true (length (i ∷ j ∷ items)) 1 single))
-
-  pub means-Block : (q : Block) → FromMeans uses D q.from → FilterMeans q.filter → BlockMeans uses D q
+  pub means-Block : (q : Block) → FromMeans uses D q.from → OfFilter (CondMeans uses D) (FromMeans uses D) (BlockMeans uses D) q.filter → BlockMeans uses D q
   means-Block q from where_ scope E =
       let numbers : List ℕ = (from_frame uses q.from).numbers in
-      let first : FromRight uses D (from_frame uses q.from) (from_scope uses q.from) (λ ρ. source q.from D ρ) (query.from_width q.from D) scope E = from scope E in
       let A : List Expr = (from_frame uses q.from).lines scope E in
-      let second : WhereRight q.filter (numbers ∷ scope) A = where-right q.filter where_ (numbers ∷ scope) A first.some in
+      let first : FromRight uses D (from_frame uses q.from) (from_scope uses q.from) (λ ρ. source q.from D ρ) (query.from_width q.from D) scope E = from scope E in
+      let shape : FromShape uses (from_frame uses q.from) (from_scope uses q.from) scope E = from-shape uses q.from scope E in
       let B : List Expr = where_lines (option_map (cond_frame uses) q.filter) (numbers ∷ scope) A in
-      block-right uses D _ _ _ _ _ _ scope E (frame-Block uses q) (scope-Block uses q) (λ ρ. meaning.rows-Block q D ρ)
-      (record {
-        grows = end-grows q.distinct q.grouped (numbers ∷ scope) numbers q.keys q.items B E (grows-more B A E second.grows first.grows);
-        some = end-some q.distinct (numbers ∷ scope) q.items _;
-        single = λ h. one-shown (item_number (numbers ∷ scope)) q.items h;
-        rows = λ ρ e h agree.
-            let moved = subst (λ ns. (are_new (aggregate_numbers q.items ++ ns) scope && ((from_scope uses q.from).bound scope && (bound_filter (option_map (cond_scope uses) q.filter) (ns ∷ scope) && bound_items q.grouped (length ns) q.keys q.items (ns ∷ scope)))) ≡ true) first.numbers h in
-            let a = and_parts (are_new (aggregate_numbers q.items ++ numbers) scope) _ moved in
-            let b = and_parts ((from_scope uses q.from).bound scope) _ a.1 in
-            let c = and_parts (bound_filter (option_map (cond_scope uses) q.filter) (numbers ∷ scope)) _ b.1 in
-            let apart : IsNew (aggregate_numbers q.items ++ numbers) scope = and_parts (all_differ (aggregate_numbers q.items ++ numbers)) _ a.0 in
-            let new : IsNew numbers scope = new-right (aggregate_numbers q.items) numbers scope apart in
-            let wide : HaveWidth (length numbers) (source q.from D ρ) = subst (λ w. HaveWidth w (source q.from D ρ)) (first.width b.0) (source_fits q.from D ρ fits) in
-            shown-rows numbers scope ρ e agree new q.distinct q.grouped q.keys q.items B _
-            (second.rows ρ e (λ s. put numbers s e) (length numbers) (source q.from D ρ) (first.rows ρ e b.0 new agree) c.0 (λ s w. agrees-put numbers s e scope ρ new w agree) wide)
-            (all-filter (λ s. length s ≡ length numbers) _ (source q.from D ρ) wide) apart c.1;
-      })
+      block-right uses D _ _ _ _ _ _ scope E (frame-Block uses q) (scope-Block uses q) (λ ρ. meaning.rows-Block q D ρ) (λ ρ e h agree.
+      let parts : BoundParts uses q scope = bound-parts uses q scope h in
+      let apart : IsNew (aggregate_numbers q.items ++ numbers) scope = and_parts (all_differ (aggregate_numbers q.items ++ numbers)) _ parts.new in
+      let new : IsNew numbers scope = new-right (aggregate_numbers q.items) numbers scope apart in
+      let wide : HaveWidth (length numbers) (source q.from D ρ) = subst (λ w. HaveWidth w (source q.from D ρ)) (first.width parts.from) (source_fits q.from D ρ fits) in
+      shown-rows numbers scope ρ e agree new q.distinct q.grouped q.keys q.items B _
+      (where-right q.filter where_ (numbers ∷ scope) A shape.some ρ e (λ s. put numbers s e) (length numbers) (source q.from D ρ) (first.rows ρ e parts.from new agree) parts.filter (λ s w. agrees-put numbers s e scope ρ new w agree) wide)
+      (all-filter (λ s. length s ≡ length numbers) _ (source q.from D ρ) wide) apart parts.items)

@@ -1,5 +1,6 @@
 -- What the frame makes of a condition means it, if it does so of the parts.
 use Rattle.std.proofs.Common.{◌≡◌, refl, ap, sym, ◌∙◌, ℕ, Bool, true, false, ◌&&◌, not, List, [], ◌∷◌, map}
+use Rattle.std.specs.List.{AllByRecursion}
 use Rattle.std.proofs.lemmas.Bool.{and_parts}
 use Rattle.values.specs.declared.truth.Truth.{Truth}
 use Rattle.values.specs.declared.truth.Comparison.{Comparison}
@@ -28,7 +29,8 @@ use Rattle.logical.specs.Classes.{class_rows}
 use Rattle.logical.specs.Frames.{CondLines, cond_frame, block_frame, all_frames, alone, numbered, last}
 use Rattle.logical.proofs.FrameEquations.{frame-Compare, frame-IsNull, frame-Not, frame-And, frame-Or, frame-Exists, frame-In}
 use Rattle.logical.proofs.FrameRight.{CondRight, AllRight, CondMeans, BlockMeans, cond-right}
-use Rattle.logical.proofs.Growth.{Grows, grows-none, grows-more, kept-rows, last-below}
+use Rattle.logical.proofs.FrameShapes.{block-shape, block-below, shape-all}
+use Rattle.logical.proofs.Growth.{Grows, grows-more, kept-rows}
 use Rattle.logical.proofs.Loops.{two}
 use Rattle.logical.proofs.Ordered.{all-append}
 use Rattle.logical.proofs.Puts.{Agrees, reads, both}
@@ -54,95 +56,83 @@ in-rows v ks k is (x ∷ xs) = two (λ t ts. t ∷ ts) (rw is refl) (in-rows v k
 
 module _ (uses : List TableUse) (D : Tables) where
   -- a condition that is no AND
-  alone-right : (c : Condition) (lines : List Expr) (s : CondScope) (m : List Row → Truth) (scope : Scope) (E : List Expr) → Grows lines E → (s.plain ≡ true → lines ≡ E)
-      → ((F : List Expr) (ρ : List Row) (e : Env) → Grows F lines → s.bound scope ≡ true → Agrees scope ρ e → truth c (class_rows uses D F) e ≡ m ρ) → CondRight uses D (alone c lines) s m scope E
-  alone-right c lines s m scope E grows plain is = record {
-    grows = grows;
-    plain = plain;
+  alone-right : (c : Condition) (lines : List Expr) (s : CondScope) (m : List Row → Truth) (scope : Scope)
+      → ((F : List Expr) (ρ : List Row) (e : Env) → Grows F lines → s.bound scope ≡ true → Agrees scope ρ e → truth c (class_rows uses D F) e ≡ m ρ) → CondRight uses D (alone c lines) s m scope
+  alone-right c lines s m scope is = record {
     truth = is;
     holds = λ F ρ e more bound agree. and-true _ ∙ ap is_true (is F ρ e more bound agree);
   }
 
   pub means-Compare : (op : Comparison) (a b : Term) → CondMeans uses D (cond.Compare op a b)
   means-Compare op a b scope E =
-      cond-right uses D _ _ _ _ _ _ scope E (ap (λ f. f scope E) (frame-Compare uses op a b)) (scope-Compare uses op a b) (λ ρ. meaning.truth-Compare op a b D ρ)
-      (alone-right _ E _ _ scope E (grows-none E) (λ h. refl) (λ F ρ e more bound agree.
+      cond-right uses D _ _ _ _ _ _ scope (ap (λ f. f scope E) (frame-Compare uses op a b)) (scope-Compare uses op a b) (λ ρ. meaning.truth-Compare op a b D ρ)
+      (alone-right _ E _ _ scope (λ F ρ e more bound agree.
       let parts = and_parts (bound_term scope a) (bound_term scope b) bound in
       truth-Compare op (numbered scope a) (numbered scope b) (class_rows uses D F) e ∙ two (compare op) (term-reads scope ρ e a parts.0 agree) (term-reads scope ρ e b parts.1 agree)))
 
   pub means-IsNull : (a : Term) → CondMeans uses D (cond.IsNull a)
   means-IsNull a scope E =
-      cond-right uses D _ _ _ _ _ _ scope E (ap (λ f. f scope E) (frame-IsNull uses a)) (scope-IsNull uses a) (λ ρ. meaning.truth-IsNull a D ρ)
-      (alone-right _ E _ _ scope E (grows-none E) (λ h. refl) (λ F ρ e more bound agree.
+      cond-right uses D _ _ _ _ _ _ scope (ap (λ f. f scope E) (frame-IsNull uses a)) (scope-IsNull uses a) (λ ρ. meaning.truth-IsNull a D ρ)
+      (alone-right _ E _ _ scope (λ F ρ e more bound agree.
       truth-IsNull (numbered scope a) (class_rows uses D F) e ∙ ap (λ v. truth_of (is_null v)) (term-reads scope ρ e a bound agree)))
 
   pub means-Not : (c : Cond) → CondMeans uses D c → CondMeans uses D (cond.Not c)
   means-Not c means scope E =
       let part = means scope E in
-      cond-right uses D _ _ _ _ _ _ scope E (ap (λ f. f scope E) (frame-Not uses c)) (scope-Not uses c) (λ ρ. meaning.truth-Not c D ρ)
-      (alone-right _ _ _ _ scope E part.grows part.plain (λ F ρ e more bound agree.
+      cond-right uses D _ _ _ _ _ _ scope (ap (λ f. f scope E) (frame-Not uses c)) (scope-Not uses c) (λ ρ. meaning.truth-Not c D ρ)
+      (alone-right _ _ _ _ scope (λ F ρ e more bound agree.
       truth-Not (cond_frame uses c scope E).condition (class_rows uses D F) e ∙ ap negation (part.truth F ρ e more bound agree)))
 
-  abbrev pub ProvedCond : Type 0
-  ProvedCond = (c : Cond) × CondMeans uses D c
-
-  abbrev pub conds_of : List ProvedCond → List Cond
-  conds_of = map (λ c. c.0)
-
-  all-right : (cs : List ProvedCond) (scope : Scope) (E : List Expr) → AllRight uses D (all_frames (map (cond_frame uses) (conds_of cs)) scope E) (conds_of cs) scope E
-  all-right [] scope E = record { grows = grows-none E; plain = λ h. refl; truths = λ F ρ e more bound agree. refl; holds = λ F ρ e more bound agree. refl }
-  all-right (c ∷ cs) scope E =
-      let framed : CondLines = cond_frame uses c.0 scope E in
-      let first : CondRight uses D framed (cond_scope uses c.0) (λ ρ. query.truth c.0 D ρ) scope E = c.1 scope E in
-      let rest : AllRight uses D (all_frames (map (cond_frame uses) (conds_of cs)) scope framed.lines) (conds_of cs) scope framed.lines = all-right cs scope framed.lines in
+  all-right : (cs : List Cond) → AllByRecursion (CondMeans uses D) cs → (scope : Scope) (E : List Expr) → AllRight uses D (all_frames (map (cond_frame uses) cs) scope E) cs scope
+  all-right [] means scope E = record { truths = λ F ρ e more bound agree. refl; holds = λ F ρ e more bound agree. refl }
+  all-right (c ∷ cs) means scope E =
+      let framed : CondLines = cond_frame uses c scope E in
+      let first : CondRight uses D framed (cond_scope uses c) (λ ρ. query.truth c D ρ) scope = means.0 scope E in
+      let rest : AllRight uses D (all_frames (map (cond_frame uses) cs) scope framed.lines) cs scope = all-right cs means.1 scope framed.lines in
+      let grows : Grows (all_frames (map (cond_frame uses) cs) scope framed.lines).lines framed.lines = (shape-all uses cs scope framed.lines).grows in
       record {
-        grows = grows-more _ framed.lines E rest.grows first.grows;
-        plain = λ h. let parts = and_parts (cond_scope uses c.0).plain _ h in rest.plain parts.1 ∙ first.plain parts.0;
         truths = λ F ρ e more bound agree.
-            let parts = and_parts ((cond_scope uses c.0).bound scope) _ bound in
-            both (first.truth F ρ e (grows-more F _ framed.lines more rest.grows) parts.0 agree) (rest.truths F ρ e more parts.1 agree);
+            let parts = and_parts ((cond_scope uses c).bound scope) _ bound in
+            both (first.truth F ρ e (grows-more F _ framed.lines more grows) parts.0 agree) (rest.truths F ρ e more parts.1 agree);
         holds = λ F ρ e more bound agree.
-            let parts = and_parts ((cond_scope uses c.0).bound scope) _ bound in
-            all-append _ framed.conjuncts _ ∙ two (λ a b. a && b) (first.holds F ρ e (grows-more F _ framed.lines more rest.grows) parts.0 agree) (rest.holds F ρ e more parts.1 agree);
+            let parts = and_parts ((cond_scope uses c).bound scope) _ bound in
+            all-append _ framed.conjuncts _ ∙ two (λ a b. a && b) (first.holds F ρ e (grows-more F _ framed.lines more grows) parts.0 agree) (rest.holds F ρ e more parts.1 agree);
       }
 
-  pub means-And : (cs : List ProvedCond) → CondMeans uses D (cond.And (conds_of cs))
-  means-And cs scope E =
-      let all = all-right cs scope E in
-      cond-right uses D _ _ _ _ _ _ scope E (ap (λ f. f scope E) (frame-And uses (conds_of cs))) (scope-And uses (conds_of cs)) (λ ρ. meaning.truth-And (conds_of cs) D ρ)
+  pub means-And : (cs : List Cond) → AllByRecursion (CondMeans uses D) cs → CondMeans uses D (cond.And cs)
+  means-And cs means scope E =
+      let all = all-right cs means scope E in
+      cond-right uses D _ _ _ _ _ _ scope (ap (λ f. f scope E) (frame-And uses cs)) (scope-And uses cs) (λ ρ. meaning.truth-And cs D ρ)
       (record {
-        grows = all.grows;
-        plain = all.plain;
         truth = λ F ρ e more bound agree. truth-And _ (class_rows uses D F) e ∙ ap all_of (all.truths F ρ e more bound agree);
-        holds = λ F ρ e more bound agree. all.holds F ρ e more bound agree ∙ sym (true-all (map (λ c. query.truth c D ρ) (conds_of cs)));
+        holds = λ F ρ e more bound agree. all.holds F ρ e more bound agree ∙ sym (true-all (map (λ c. query.truth c D ρ) cs));
       })
 
-  pub means-Or : (cs : List ProvedCond) → CondMeans uses D (cond.Or (conds_of cs))
-  means-Or cs scope E =
-      let all = all-right cs scope E in
-      cond-right uses D _ _ _ _ _ _ scope E (ap (λ f. f scope E) (frame-Or uses (conds_of cs))) (scope-Or uses (conds_of cs)) (λ ρ. meaning.truth-Or (conds_of cs) D ρ)
-      (alone-right _ _ _ _ scope E all.grows all.plain (λ F ρ e more bound agree. truth-Or _ (class_rows uses D F) e ∙ ap any_of (all.truths F ρ e more bound agree)))
+  pub means-Or : (cs : List Cond) → AllByRecursion (CondMeans uses D) cs → CondMeans uses D (cond.Or cs)
+  means-Or cs means scope E =
+      let all = all-right cs means scope E in
+      cond-right uses D _ _ _ _ _ _ scope (ap (λ f. f scope E) (frame-Or uses cs)) (scope-Or uses cs) (λ ρ. meaning.truth-Or cs D ρ)
+      (alone-right _ _ _ _ scope (λ F ρ e more bound agree. truth-Or _ (class_rows uses D F) e ∙ ap any_of (all.truths F ρ e more bound agree)))
 
   -- the rows of a block's last class, while lines are added
   block-rows : (q : Block) (means : BlockMeans uses D q) (scope : Scope) (E F : List Expr) (ρ : List Row) (e : Env) → Grows F ((block_frame uses q).lines scope E) → (block_scope uses q).bound scope ≡ true → Agrees scope ρ e
       → map (λ r. map r ((block_frame uses q).shown scope)) (class_rows uses D F (last ((block_frame uses q).lines scope E)) e) ≡ query.rows q D ρ
   block-rows q means scope E F ρ e more bound agree =
-      let right = means scope E in
-      ap (map (λ r. map r ((block_frame uses q).shown scope))) (kept-rows uses D F _ _ e more (last-below _ right.some)) ∙ right.rows ρ e bound agree
+      ap (map (λ r. map r ((block_frame uses q).shown scope))) (kept-rows uses D F _ _ e more (block-below uses q scope E)) ∙ means scope E ρ e bound agree
 
   pub means-Exists : (q : Block) → BlockMeans uses D q → CondMeans uses D (cond.Exists q)
   means-Exists q means scope E =
-      cond-right uses D _ _ _ _ _ _ scope E (ap (λ f. f scope E) (frame-Exists uses q)) (scope-Exists uses q) (λ ρ. meaning.truth-Exists q D ρ)
-      (alone-right _ _ _ _ scope E (means scope E).grows (λ h. cc) (λ F ρ e more bound agree.
+      cond-right uses D _ _ _ _ _ _ scope (ap (λ f. f scope E) (frame-Exists uses q)) (scope-Exists uses q) (λ ρ. meaning.truth-Exists q D ρ)
+      (alone-right _ _ _ _ scope (λ F ρ e more bound agree.
       truth-Exists _ (class_rows uses D F) e ∙ ap (λ b. truth_of (not b)) (is_empty-map (λ r. map r ((block_frame uses q).shown scope)) _ ∙ ap query.is_empty (block-rows q means scope E F ρ e more bound agree))))
 
   pub means-In : (a : Term) (q : Block) → BlockMeans uses D q → CondMeans uses D (cond.In a q)
   means-In a q means scope E =
-      cond-right uses D _ _ _ _ _ _ scope E (ap (λ f. f scope E) (frame-In uses a q)) (scope-In uses a q) (λ ρ. meaning.truth-In a q D ρ)
-      (alone-right _ _ _ _ scope E (means scope E).grows (λ h. cc) (λ F ρ e more bound agree.
+      cond-right uses D _ _ _ _ _ _ scope (ap (λ f. f scope E) (frame-In uses a q)) (scope-In uses a q) (λ ρ. meaning.truth-In a q D ρ)
+      (alone-right _ _ _ _ scope (λ F ρ e more bound agree.
       let parts = and_parts (bound_term scope a) _ bound in
       let inner = and_parts (block_scope uses q).single ((block_scope uses q).bound scope) parts.1 in
-      let single = (means scope E).single inner.0 in
+      let single = (block-shape uses q scope E).single inner.0 in
       truth-In (numbered scope a) _ _ (class_rows uses D F) e
       ∙ ap (λ v. any_of (map (λ s. compare by.Equal v (s (number_at ((block_frame uses q).shown scope) 0))) (class_rows uses D F (last ((block_frame uses q).lines scope E)) e))) (term-reads scope ρ e a parts.0 agree)
       ∙ ap any_of (in-rows (rows.term_value a ρ) ((block_frame uses q).shown scope) single.0 single.1 (class_rows uses D F (last ((block_frame uses q).lines scope E)) e))

@@ -1,5 +1,5 @@
 -- What the frame makes of a FROM means it, if it does so of the parts.
-use Rattle.std.proofs.Common.{◌≡◌, refl, ap, sym, ◌∙◌, subst, ℕ, zero, suc, ◌+◌, ◌<◌, Bool, true, false, ◌||◌, ◌==◌, List, [], ◌∷◌, ◌++◌, map, filter, flat_map, length, length-append, Option, Some, None, arith}
+use Rattle.std.proofs.Common.{◌≡◌, refl, ap, sym, ◌∙◌, subst, ℕ, zero, suc, ◌+◌, Bool, true, List, [], ◌∷◌, ◌++◌, map, filter, flat_map, length, length-append, Option, Some, None, arith}
 use Rattle.std.specs.List.{slice_get, AllByRecursion}
 use Rattle.std.proofs.lemmas.Bool.{and_parts, eqb-true}
 use Rattle.std.proofs.lemmas.List.FromFn.{length-range_with_len}
@@ -20,17 +20,17 @@ use Rattle.binder.proofs.Widths.{source_fits}
 use Rattle.logical.specs.declared.condition.Condition.{Condition}
 use Rattle.logical.specs.declared.expr.Expr.{Expr}
 use Rattle.logical.specs.declared.expr.Expr.TheVariants.{Get, Join, LeftJoin}
-use Rattle.logical.specs.Columns.{has, rising}
+use Rattle.logical.specs.Columns.{has}
 use Rattle.logical.specs.Bags.{Env, lay, nulls, matches, or_else_row}
 use Rattle.logical.specs.Conditions.{holds}
-use Rattle.logical.specs.Expressions.{means, columns_of, use_columns, use_row, get_rows, get_columns}
+use Rattle.logical.specs.Expressions.{means, use_columns, use_row, get_rows}
 use Rattle.logical.specs.Classes.{class_rows, class_columns, classes}
 use Rattle.logical.specs.ConjunctOrder.{in_order}
 use Rattle.logical.specs.Frames.{AreOver, cond_frame, from_frame, join_frame, last}
-use Rattle.logical.proofs.Sets.{has-rising}
 use Rattle.logical.proofs.FrameEquations.{frame-Table, frame-Join, frame-LeftJoin, frame-Comma}
 use Rattle.logical.proofs.FrameRight.{FromRight, CondMeans, FromMeans, from-right}
-use Rattle.logical.proofs.Growth.{Grows, grows-none, grows-one, grows-more, kept-rows, kept-columns, top-rows, top-columns, last-below}
+use Rattle.logical.proofs.FrameShapes.{FromShape, Sides, JoinParts, from-shape, join-sides, join-parts, table-columns}
+use Rattle.logical.proofs.Growth.{Grows, grows-none, grows-one, kept-rows, top-rows, top-columns, last-below}
 use Rattle.logical.proofs.Loops.{two, map-map, map-same, keep-all, through, loops, all-map}
 use Rattle.logical.proofs.Ordered.{in_order-all}
 use Rattle.logical.proofs.Puts.{put, pointwise, Apart, Agrees, IsNew, lay-put, lay-nulls, use-put, agrees-put, differ-apart, new-left, new-right}
@@ -66,10 +66,6 @@ all-at P (u ∷ uses) zero t is all = subst P (one u t is) all.0
 all-at P (u ∷ uses) (suc n) t is all = all-at P uses n t is all.1
 
 module _ (uses : List TableUse) (D : Tables) (fits : IsFitting D) (over : AreOver D uses) where
-  table-columns : (x : Option TableUse) (c : ℕ) → has (get_columns x) c ≡ has (numbers_of_use x) c
-  table-columns None c = refl
-  table-columns (Some t) c = refl
-
   table-width : (o : Occurrence) → is_used uses o ≡ true → D.width o.table ≡ length (use_numbers uses o)
   table-width o used = by (slice_get uses o.number) refl used
     where
@@ -97,39 +93,24 @@ module _ (uses : List TableUse) (D : Tables) (fits : IsFitting D) (over : AreOve
   means-Table o scope E =
       from-right uses D _ _ _ _ _ _ _ _ scope E (frame-Table uses o) (scope-Table uses o) (λ ρ. meaning.source-Table o D ρ) (meaning.width-Table o D)
       (record {
-        numbers = refl;
-        grows = grows-one (Get o.number) E;
-        some = omega arith;
         width = λ bound. table-width o bound;
-        columns = λ c. ap (λ ks. has ks c) (top-columns uses (Get o.number) E) ∙ table-columns (slice_get uses o.number) c;
         rows = λ ρ e bound new agree. top-rows uses D (Get o.number) E e ∙ table-rows o bound e;
       })
 
   -- ---- joins with ON
 
-  -- the columns of a join's two sides
-  joined-columns : (ks ls ms ns : List ℕ) → ((c : ℕ) → has ks c ≡ has ms c) → ((c : ℕ) → has ls c ≡ has ns c) → (c : ℕ) → has (rising (ks ++ ls)) c ≡ has (ms ++ ns) c
-  joined-columns ks ls ms ns e f c = has-rising c (ks ++ ls) ∙ among ks ls ∙ two (λ a b. a || b) (e c) (f c) ∙ sym (among ms ns)
-    where
-      assoc : (a b c : Bool) → (a || (b || c)) ≡ ((a || b) || c)
-      assoc true b c = refl
-      assoc false b c = refl
-
-      among : (xs ys : List ℕ) → has (xs ++ ys) c ≡ (has xs c || has ys c)
-      among [] ys = refl
-      among (x ∷ xs) ys = ap (λ b. (x == c) || b) (among xs ys) ∙ assoc (x == c) (has xs c) (has ys c)
-
-  -- what is known of a join's left side, its table and its ON
-  pub record Sides (f : From) (o : Occurrence) (on : Cond) (scope : Scope) (E : List Expr) : Type 0 where
-    pub left : FromRight uses D (from_frame uses f) (from_scope uses f) (λ ρ. source f D ρ) (from_width f D) scope E
-    pub test : CondMeans uses D on
-
-  module _ (f : From) (o : Occurrence) (on : Cond) (scope : Scope) (E : List Expr) (sides : Sides f o on scope E) where
+  module _ (f : From) (o : Occurrence) (on : Cond) (scope : Scope) (E : List Expr) (from_means : FromMeans uses D f) (on_means : CondMeans uses D on) where
     abbrev ks : List ℕ
     ks = (from_frame uses f).numbers
 
     abbrev ls : List ℕ
     ls = use_numbers uses o
+
+    shape : Sides uses f o on scope E
+    shape = join-sides uses f o on scope E
+
+    left : FromRight uses D (from_frame uses f) (from_scope uses f) (λ ρ. source f D ρ) (from_width f D) scope E
+    left = from_means scope E
 
     abbrev left_lines : List Expr
     left_lines = (from_frame uses f).lines scope E
@@ -143,31 +124,17 @@ module _ (uses : List TableUse) (D : Tables) (fits : IsFitting D) (over : AreOve
     abbrev conjuncts : List Condition
     conjuncts = in_order (cond_frame uses on inner lines).conjuncts
 
-    abbrev join_bound : Bool
-    join_bound = (join_scope uses (from_scope uses f) o (cond_scope uses on)).bound scope
-
-    pub record Bound : Type 0 where
-      pub left : (from_scope uses f).bound scope ≡ true
-      pub used : is_used uses o ≡ true
-      pub plain : (cond_scope uses on).plain ≡ true
-      pub test : (cond_scope uses on).bound inner ≡ true
-
-    bound-parts : join_bound ≡ true → Bound
-    bound-parts h =
-        let a = and_parts ((from_scope uses f).bound scope) _ h in
-        let b = and_parts (is_used uses o) _ a.1 in
-        let c = and_parts (cond_scope uses on).plain _ b.1 in
-        record { left = a.0; used = b.0; plain = c.0; test = ap (λ ns. (cond_scope uses on).bound ((ns ++ ls) ∷ scope)) (sym sides.left.numbers) ∙ c.1 }
+    abbrev Bound : Type 0
+    Bound = JoinParts uses f o on scope
 
     on-passes : (ρ : List Row) (e : Env) → Bound → IsNew (ks ++ ls) scope → Agrees scope ρ e → (z : Row) → length z ≡ length ks + length ls
         → holds (class_rows uses D lines) conjuncts (put (ks ++ ls) z e) ≡ passes (query.truth on) D ρ z
     on-passes ρ e bound new agree z wide =
-        let right = sides.test inner lines in
         in_order-all _ (cond_frame uses on inner lines).conjuncts
-        ∙ right.holds lines (z ∷ ρ) (put (ks ++ ls) z e) (subst (λ L. Grows lines L) (sym (right.plain bound.plain)) (grows-none lines)) bound.test (agrees-put (ks ++ ls) z e scope ρ new (wide ∙ sym (length-append ks ls)) agree)
+        ∙ (on_means inner lines).holds lines (z ∷ ρ) (put (ks ++ ls) z e) (subst (λ L. Grows lines L) (sym (shape.test.plain bound.plain)) (grows-none lines)) bound.test (agrees-put (ks ++ ls) z e scope ρ new (wide ∙ sym (length-append ks ls)) agree)
 
     left-rows : (ρ : List Row) (e : Env) → Bound → IsNew (ks ++ ls) scope → Agrees scope ρ e → class_rows uses D lines (last left_lines) e ≡ map (λ s. put ks s e) (source f D ρ)
-    left-rows ρ e bound new agree = kept-rows uses D lines left_lines _ e (grows-one _ left_lines) (last-below left_lines sides.left.some) ∙ sides.left.rows ρ e bound.left (new-left ks ls scope new) agree
+    left-rows ρ e bound new agree = kept-rows uses D lines left_lines _ e (grows-one _ left_lines) (last-below left_lines shape.left.some) ∙ left.rows ρ e bound.left (new-left ks ls scope new) agree
 
     right-rows : (e : Env) → Bound → class_rows uses D lines (length left_lines) e ≡ map (λ s. put ls s e) (D.rows o.table)
     right-rows e bound = top-rows uses D (Get o.number) left_lines e ∙ table-rows o bound.used e
@@ -175,11 +142,8 @@ module _ (uses : List TableUse) (D : Tables) (fits : IsFitting D) (over : AreOve
     right-columns : (c : ℕ) → has (class_columns uses lines (length left_lines)) c ≡ has ls c
     right-columns c = ap (λ ns. has ns c) (top-columns uses (Get o.number) left_lines) ∙ table-columns (slice_get uses o.number) c
 
-    left-columns : (c : ℕ) → has (class_columns uses lines (last left_lines)) c ≡ has ks c
-    left-columns c = ap (λ ns. has ns c) (kept-columns uses lines left_lines _ (grows-one _ left_lines) (last-below left_lines sides.left.some)) ∙ sides.left.columns c
-
     source-wide : Bound → (ρ : List Row) → HaveWidth (length ks) (source f D ρ)
-    source-wide bound ρ = subst (λ w. HaveWidth w (source f D ρ)) (sides.left.width bound.left) (source_fits f D ρ fits)
+    source-wide bound ρ = subst (λ w. HaveWidth w (source f D ρ)) (left.width bound.left) (source_fits f D ρ fits)
 
     pairs : (ρ : List Row) (e : Env) → Bound → IsNew (ks ++ ls) scope → Agrees scope ρ e → (l : Row) → length l ≡ length ks
         → matches (holds (class_rows uses D lines) conjuncts) (has ls) (map (λ s. put ls s e) (D.rows o.table)) (put ks l e) ≡ map (λ s. put (ks ++ ls) s e) (query.matches (query.truth on) o.table D ρ l)
@@ -207,43 +171,27 @@ module _ (uses : List TableUse) (D : Tables) (fits : IsFitting D) (over : AreOve
     abbrev framed_lines : List Expr
     framed_lines = (cond_frame uses on inner lines).lines
 
-    framed-columns : (n c : ℕ) → n < length lines → has (class_columns uses framed_lines n) c ≡ has (class_columns uses lines n) c
-    framed-columns n c below = ap (λ ns. has ns c) (kept-columns uses framed_lines lines n (sides.test inner lines).grows below)
-
-    left-below : last left_lines < length lines
-    left-below = let below : last left_lines < length left_lines = last-below left_lines sides.left.some in omega (arith, below)
-
     -- a join of either kind, whose rows these are
     joined-right : (join : List Condition → ℕ → ℕ → Expr) (m : List Row → List Row)
-        → (columns_of uses (class_columns uses framed_lines) (join conjuncts (last left_lines) (length left_lines)) ≡ rising (class_columns uses framed_lines (last left_lines) ++ class_columns uses framed_lines (length left_lines)))
         → ((ρ : List Row) (e : Env) → Bound → IsNew (ks ++ ls) scope → Agrees scope ρ e → means uses D (classes uses D lines) (join conjuncts (last left_lines) (length left_lines)) e ≡ map (λ s. put (ks ++ ls) s e) (m ρ))
         → FromRight uses D (join_frame join uses (from_frame uses f) o (cond_frame uses on)) (join_scope uses (from_scope uses f) o (cond_scope uses on)) m (from_width f D + D.width o.table) scope E
-    joined-right join m columns is =
+    joined-right join m is =
         let top : Expr = join conjuncts (last left_lines) (length left_lines) in
-        let test = sides.test inner lines in
         record {
-          numbers = ap (λ ns. ns ++ ls) sides.left.numbers;
-          grows = grows-more (top ∷ framed_lines) framed_lines E (grows-one top framed_lines)
-              (grows-more framed_lines lines E test.grows (grows-more lines left_lines E (grows-one _ left_lines) sides.left.grows));
-          some = omega arith;
-          width = λ h. let b = bound-parts h in let w : from_width f D ≡ length ks = sides.left.width b.left in let v : D.width o.table ≡ length ls = table-width o b.used in omega (arith, w, v, length-append ks ls);
-          columns = λ c. ap (λ ns. has ns c) (top-columns uses top framed_lines ∙ columns)
-              ∙ joined-columns _ _ ks ls (λ k. framed-columns _ k left-below ∙ left-columns k) (λ k. framed-columns _ k (omega arith) ∙ right-columns k) c;
-          rows = λ ρ e h new agree. let b = bound-parts h in
-              top-rows uses D top framed_lines e ∙ ap (λ L. means uses D (classes uses D L) top e) (test.plain b.plain) ∙ is ρ e b new agree;
+          width = λ h. let b = join-parts uses f o on scope h in let w : from_width f D ≡ length ks = left.width b.left in let v : D.width o.table ≡ length ls = table-width o b.used in omega (arith, w, v, length-append ks ls);
+          rows = λ ρ e h new agree. let b = join-parts uses f o on scope h in
+              top-rows uses D top framed_lines e ∙ ap (λ L. means uses D (classes uses D L) top e) (shape.test.plain b.plain) ∙ is ρ e b new agree;
         }
 
   pub means-Join : (f : From) (o : Occurrence) (on : Cond) → FromMeans uses D f → CondMeans uses D on → FromMeans uses D (from.Join f o on)
   means-Join f o on left test scope E =
-      let sides : Sides f o on scope E = record { left = left scope E; test = test } in
       from-right uses D _ _ _ _ _ _ _ _ scope E (frame-Join uses f o on) (scope-Join uses f o on) (λ ρ. meaning.source-Join f o on D ρ) (meaning.width-Join f o on D)
-      (joined-right f o on scope E sides Join _ refl (join-rows f o on scope E sides))
+      (joined-right f o on scope E left test Join _ (join-rows f o on scope E left test))
 
   pub means-LeftJoin : (f : From) (o : Occurrence) (on : Cond) → FromMeans uses D f → CondMeans uses D on → FromMeans uses D (from.LeftJoin f o on)
   means-LeftJoin f o on left test scope E =
-      let sides : Sides f o on scope E = record { left = left scope E; test = test } in
       from-right uses D _ _ _ _ _ _ _ _ scope E (frame-LeftJoin uses f o on) (scope-LeftJoin uses f o on) (λ ρ. meaning.source-LeftJoin f o on D ρ) (meaning.width-LeftJoin f o on D)
-      (joined-right f o on scope E sides LeftJoin _ refl (left-join-rows f o on scope E sides))
+      (joined-right f o on scope E left test LeftJoin _ (left-join-rows f o on scope E left test))
 
   -- ---- commas
 
@@ -256,26 +204,22 @@ module _ (uses : List TableUse) (D : Tables) (fits : IsFitting D) (over : AreOve
       let top : Expr = Join [] (last A) (last B) in
       let left = first scope E in
       let right = second scope A in
-      let below : (last A < length A) = last-below A left.some in
-      let left_columns : (c : ℕ) → has (class_columns uses B (last A)) c ≡ has ks c = λ c. ap (λ ns. has ns c) (kept-columns uses B A (last A) right.grows below) ∙ left.columns c in
+      let left_shape : FromShape uses (from_frame uses f) (from_scope uses f) scope E = from-shape uses f scope E in
+      let right_shape : FromShape uses (from_frame uses g) (from_scope uses g) scope A = from-shape uses g scope A in
       from-right uses D _ _ _ _ _ _ _ _ scope E (frame-Comma uses f g) (scope-Comma uses f g) (λ ρ. meaning.source-Comma f g D ρ) (meaning.width-Comma f g D)
       (record {
-        numbers = two (λ a b. a ++ b) left.numbers right.numbers;
-        grows = grows-more (top ∷ B) B E (grows-one top B) (grows-more B A E right.grows left.grows);
-        some = omega arith;
         width = λ h.
             let parts = and_parts ((from_scope uses f).bound scope) ((from_scope uses g).bound scope) h in
             let w : from_width f D ≡ length ks = left.width parts.0 in
             let v : from_width g D ≡ length ls = right.width parts.1 in
             omega (arith, w, v, length-append ks ls);
-        columns = λ c. ap (λ ns. has ns c) (top-columns uses top B) ∙ joined-columns _ _ ks ls left_columns right.columns c;
         rows = λ ρ e h new agree.
             let parts = and_parts ((from_scope uses f).bound scope) ((from_scope uses g).bound scope) h in
             let right_rows : class_rows uses D B (last B) e ≡ map (λ s. put ls s e) (source g D ρ) = right.rows ρ e parts.1 (new-right ks ls scope new) agree in
-            let left_rows : class_rows uses D B (last A) e ≡ map (λ s. put ks s e) (source f D ρ) = kept-rows uses D B A (last A) e right.grows below ∙ left.rows ρ e parts.0 (new-left ks ls scope new) agree in
+            let left_rows : class_rows uses D B (last A) e ≡ map (λ s. put ks s e) (source f D ρ) = kept-rows uses D B A (last A) e right_shape.grows (last-below A left_shape.some) ∙ left.rows ρ e parts.0 (new-left ks ls scope new) agree in
             let p : Env → Bool = holds (class_rows uses D B) [] in
             top-rows uses D top B e
-            ∙ ap (λ K. flat_map (matches p K (class_rows uses D B (last B) e)) (class_rows uses D B (last A) e)) (pointwise right.columns)
+            ∙ ap (λ K. flat_map (matches p K (class_rows uses D B (last B) e)) (class_rows uses D B (last A) e)) (pointwise right_shape.columns)
             ∙ two (λ R L. flat_map (matches p (has ls) R) L) right_rows left_rows
             ∙ loops (λ l. length l ≡ length ks) _ (λ s. put ks s e) (λ s. put (ks ++ ls) s e) (λ l. pairs_of l (source g D ρ)) (source f D ρ)
             (λ l wide. pairs-put ks ls e p (λ z. true) (source g D ρ) l (differ-apart ks ls new.0) wide (subst (λ w. HaveWidth w (source g D ρ)) (right.width parts.1) (source_fits g D ρ fits)) (λ z w. refl)

@@ -1,6 +1,6 @@
 -- The shape of a frame, whatever it means: the lines that it adds, the classes that its conditions name, and the columns
 -- of its last class.
-use Rattle.std.proofs.Common.{◌≡◌, refl, ap, sym, ◌∙◌, inl, inr, ℕ, zero, suc, ◌-◌, ◌<◌, ◌≤◌, Bool, true, false, ◌||◌, ◌&&◌, ◌==◌, List, [], ◌∷◌, ◌++◌, map, length, Option, Some, None, option_map, arith}
+use Rattle.std.proofs.Common.{◌≡◌, refl, ap, sym, ◌∙◌, subst, inl, inr, ℕ, zero, suc, ◌-◌, ◌<◌, ◌≤◌, Bool, true, false, ◌||◌, ◌&&◌, ◌==◌, List, [], ◌∷◌, ◌++◌, map, length, Option, Some, None, option_map, arith}
 use Rattle.std.specs.List.{list_all, list_any, slice_get, AllByRecursion}
 use Rattle.std.proofs.lemmas.Bool.{eqb-true, and_parts, and_from, or_cases, or_left, or_right}
 use Rattle.std.proofs.lemmas.List.Folds.{list_all-append, list_any-append}
@@ -14,8 +14,8 @@ use Rattle.binder.specs.declared.query.Cond.TheVariants as cond
 use Rattle.binder.specs.declared.query.From.{From}
 use Rattle.binder.specs.declared.query.From.TheVariants as from
 use Rattle.binder.specs.declared.query.Block.{Block}
-use Rattle.binder.specs.Bound.{Scope, CondScope, FromScope, BlockScope, cond_scope, from_scope, block_scope, join_scope, numbers_of_use, use_numbers, is_single}
-use Rattle.binder.proofs.ScopeEquations.{scope-Compare, scope-IsNull, scope-Not, scope-And, scope-Or, scope-Exists, scope-In, scope-Table, scope-Join, scope-LeftJoin, scope-Comma, scope-Block}
+use Rattle.binder.specs.Bound.{Scope, CondScope, FromScope, BlockScope, cond_scope, from_scope, block_scope, join_scope, is_used, numbers_of_use, use_numbers, is_single, are_new, aggregate_numbers, bound_filter, bound_items, block_scope_layer}
+use Rattle.binder.proofs.ScopeEquations.{scope-Compare, scope-IsNull, scope-Not, scope-And, scope-Or, scope-Exists, scope-In, scope-Table, scope-Join, scope-LeftJoin, scope-Comma, scope-Block, scoped}
 use Rattle.logical.specs.declared.condition.Condition.{Condition}
 use Rattle.logical.specs.declared.expr.Expr.{Expr}
 use Rattle.logical.specs.declared.expr.Expr.TheVariants.{Get, Select, Join, LeftJoin}
@@ -28,7 +28,7 @@ use Rattle.logical.specs.Frames.{CondLines, AllLines, FromFrame, BlockFrame, con
 use Rattle.logical.proofs.ConditionNames.{classes-Compare, classes-IsNull, classes-Not, classes-Exists, classes-In}
 use Rattle.logical.proofs.Equations.{all_classes_and, all_classes_or}
 use Rattle.logical.proofs.FrameEquations.{frame-Compare, frame-IsNull, frame-Not, frame-And, frame-Or, frame-Exists, frame-In, frame-Table, frame-Join, frame-LeftJoin, frame-Comma, frame-Block}
-use Rattle.logical.proofs.Growth.{Grows, grows-none, grows-one, grows-more, grows-longer, grows-some, kept-columns, top-columns, last-below, last-is}
+use Rattle.logical.proofs.Growth.{Grows, grows-none, grows-one, grows-more, grows-longer, kept-columns, top-columns, last-below, last-is}
 use Rattle.logical.proofs.Induction.{Steps, OfFilter, each-cond, each-from, each-block}
 use Rattle.logical.proofs.Loops.{two, all-each}
 use Rattle.logical.proofs.Puts.{never}
@@ -101,14 +101,14 @@ module _ (uses : List TableUse) where
     pub adds : length E < length (f.lines scope E)
     pub single : s.single ≡ true → (k : ℕ) × (f.shown scope ≡ k ∷ [])
 
-  abbrev pub CondHas : Cond → Type 0
-  CondHas c = (scope : Scope) (E : List Expr) → CondShape (cond_frame uses c scope E) (cond_scope uses c) E
+  abbrev pub CondShaped : Cond → Type 0
+  CondShaped c = (scope : Scope) (E : List Expr) → CondShape (cond_frame uses c scope E) (cond_scope uses c) E
 
-  abbrev pub FromHas : From → Type 0
-  FromHas f = (scope : Scope) (E : List Expr) → FromShape (from_frame uses f) (from_scope uses f) scope E
+  abbrev pub FromShaped : From → Type 0
+  FromShaped f = (scope : Scope) (E : List Expr) → FromShape (from_frame uses f) (from_scope uses f) scope E
 
-  abbrev pub BlockHas : Block → Type 0
-  BlockHas q = (scope : Scope) (E : List Expr) → BlockShape (block_frame uses q) (block_scope uses q) scope E
+  abbrev pub BlockShaped : Block → Type 0
+  BlockShaped q = (scope : Scope) (E : List Expr) → BlockShape (block_frame uses q) (block_scope uses q) scope E
 
   -- ---- conditions
 
@@ -124,23 +124,23 @@ module _ (uses : List TableUse) where
     conjuncts = λ p pass. and_from _ _ (named p pass) refl;
   }
 
-  shape-Compare : (op : Comparison) (a b : Term) → CondHas (cond.Compare op a b)
+  shape-Compare : (op : Comparison) (a b : Term) → CondShaped (cond.Compare op a b)
   shape-Compare op a b scope E =
       cond-as _ _ _ _ E (ap (λ f. f scope E) (frame-Compare uses op a b)) (scope-Compare uses op a b)
       (alone-shape _ E _ E (grows-none E) (λ h. refl) (λ p pass. classes-Compare op (numbered scope a) (numbered scope b) p))
 
-  shape-IsNull : (a : Term) → CondHas (cond.IsNull a)
+  shape-IsNull : (a : Term) → CondShaped (cond.IsNull a)
   shape-IsNull a scope E =
       cond-as _ _ _ _ E (ap (λ f. f scope E) (frame-IsNull uses a)) (scope-IsNull uses a)
       (alone-shape _ E _ E (grows-none E) (λ h. refl) (λ p pass. classes-IsNull (numbered scope a) p))
 
-  shape-Not : (c : Cond) → CondHas c → CondHas (cond.Not c)
+  shape-Not : (c : Cond) → CondShaped c → CondShaped (cond.Not c)
   shape-Not c has_shape scope E =
       let part = has_shape scope E in
       cond-as _ _ _ _ E (ap (λ f. f scope E) (frame-Not uses c)) (scope-Not uses c)
       (alone-shape _ _ _ E part.grows part.plain (λ p pass. classes-Not (cond_frame uses c scope E).condition p ∙ part.named p pass))
 
-  all-shape : (cs : List Cond) → AllByRecursion CondHas cs → (scope : Scope) (E : List Expr) → AllShape (all_frames (map (cond_frame uses) cs) scope E) cs E
+  all-shape : (cs : List Cond) → AllByRecursion CondShaped cs → (scope : Scope) (E : List Expr) → AllShape (all_frames (map (cond_frame uses) cs) scope E) cs E
   all-shape [] have scope E = record { grows = grows-none E; plain = λ h. refl; named = λ p pass. refl; conjuncts = λ p pass. refl }
   all-shape (c ∷ cs) have scope E =
       let framed : CondLines = cond_frame uses c scope E in
@@ -158,13 +158,13 @@ module _ (uses : List TableUse) where
             ∙ and_from _ _ (first.conjuncts p (λ g le lt. pass g le (omega (arith, lt, high)))) (rest.conjuncts p (λ g le lt. pass g (omega (arith, le, low)) lt));
       }
 
-  shape-And : (cs : List Cond) → AllByRecursion CondHas cs → CondHas (cond.And cs)
+  shape-And : (cs : List Cond) → AllByRecursion CondShaped cs → CondShaped (cond.And cs)
   shape-And cs have scope E =
       let all = all-shape cs have scope E in
       cond-as _ _ _ _ E (ap (λ f. f scope E) (frame-And uses cs)) (scope-And uses cs)
       (record { grows = all.grows; plain = all.plain; named = λ p pass. all_classes_and _ p ∙ all.named p pass; conjuncts = all.conjuncts })
 
-  shape-Or : (cs : List Cond) → AllByRecursion CondHas cs → CondHas (cond.Or cs)
+  shape-Or : (cs : List Cond) → AllByRecursion CondShaped cs → CondShaped (cond.Or cs)
   shape-Or cs have scope E =
       let all = all-shape cs have scope E in
       cond-as _ _ _ _ E (ap (λ f. f scope E) (frame-Or uses cs)) (scope-Or uses cs) (alone-shape _ _ _ E all.grows all.plain (λ p pass. all_classes_or _ p ∙ all.named p pass))
@@ -173,13 +173,13 @@ module _ (uses : List TableUse) where
   last-passes : (p : ℕ → Bool) (E F : List Expr) → length E < length F → PassesAdded p E F → p (last F) ≡ true
   last-passes p E F adds pass = let at : last F ≡ length F - 1 = last-is F in pass (last F) (omega (arith, at, adds)) (omega (arith, at, adds))
 
-  shape-Exists : (q : Block) → BlockHas q → CondHas (cond.Exists q)
+  shape-Exists : (q : Block) → BlockShaped q → CondShaped (cond.Exists q)
   shape-Exists q has_shape scope E =
       let block = has_shape scope E in
       cond-as _ _ _ _ E (ap (λ f. f scope E) (frame-Exists uses q)) (scope-Exists uses q)
       (alone-shape _ _ _ E block.grows (λ h. cc) (λ p pass. classes-Exists (last ((block_frame uses q).lines scope E)) p ∙ last-passes p E ((block_frame uses q).lines scope E) block.adds pass))
 
-  shape-In : (a : Term) (q : Block) → BlockHas q → CondHas (cond.In a q)
+  shape-In : (a : Term) (q : Block) → BlockShaped q → CondShaped (cond.In a q)
   shape-In a q has_shape scope E =
       let block = has_shape scope E in
       cond-as _ _ _ _ E (ap (λ f. f scope E) (frame-In uses a q)) (scope-In uses a q)
@@ -197,7 +197,7 @@ module _ (uses : List TableUse) where
     | inr is ↦ right c is
   ]
 
-  shape-Table : (o : Occurrence) → FromHas (from.Table o)
+  shape-Table : (o : Occurrence) → FromShaped (from.Table o)
   shape-Table o scope E =
       from-as _ _ _ _ scope E (frame-Table uses o) (scope-Table uses o)
       (record {
@@ -223,7 +223,7 @@ module _ (uses : List TableUse) where
     pub right_columns : (c : ℕ) → has (class_columns uses (on_of f o on scope E).lines (length (left_of f scope E))) c ≡ has (use_numbers uses o) c
     pub used : (c : ℕ) → has ((from_frame uses f).numbers ++ use_numbers uses o) c ≡ true → list_any (λ t. has (use_columns t) c) uses ≡ true
 
-  sides : (f : From) (o : Occurrence) (on : Cond) → FromHas f → CondHas on → (scope : Scope) (E : List Expr) → Sides f o on scope E
+  sides : (f : From) (o : Occurrence) (on : Cond) → FromShaped f → CondShaped on → (scope : Scope) (E : List Expr) → Sides f o on scope E
   sides f o on left_has on_has scope E =
       let ks : List ℕ = (from_frame uses f).numbers in
       let ls : List ℕ = use_numbers uses o in
@@ -242,7 +242,7 @@ module _ (uses : List TableUse) where
       }
 
   -- a join of either kind
-  joined-shape : (join : List Condition → ℕ → ℕ → Expr) → ((cols : ℕ → List ℕ) (C : List Condition) (a b : ℕ) → columns_of uses cols (join C a b) ≡ rising (cols a ++ cols b)) → (f : From) (o : Occurrence) (on : Cond) → FromHas f → CondHas on
+  joined-shape : (join : List Condition → ℕ → ℕ → Expr) → ((cols : ℕ → List ℕ) (C : List Condition) (a b : ℕ) → columns_of uses cols (join C a b) ≡ rising (cols a ++ cols b)) → (f : From) (o : Occurrence) (on : Cond) → FromShaped f → CondShaped on
       → (scope : Scope) (E : List Expr) → FromShape (join_frame join uses (from_frame uses f) o (cond_frame uses on)) (join_scope uses (from_scope uses f) o (cond_scope uses on)) scope E
   joined-shape join columns f o on left_has on_has scope E =
       let A : List Expr = left_of f scope E in
@@ -258,13 +258,13 @@ module _ (uses : List TableUse) where
         used = both.used;
       }
 
-  shape-Join : (f : From) (o : Occurrence) (on : Cond) → FromHas f → CondHas on → FromHas (from.Join f o on)
+  shape-Join : (f : From) (o : Occurrence) (on : Cond) → FromShaped f → CondShaped on → FromShaped (from.Join f o on)
   shape-Join f o on left test scope E = from-as _ _ _ _ scope E (frame-Join uses f o on) (scope-Join uses f o on) (joined-shape Join (λ cols C a b. refl) f o on left test scope E)
 
-  shape-LeftJoin : (f : From) (o : Occurrence) (on : Cond) → FromHas f → CondHas on → FromHas (from.LeftJoin f o on)
+  shape-LeftJoin : (f : From) (o : Occurrence) (on : Cond) → FromShaped f → CondShaped on → FromShaped (from.LeftJoin f o on)
   shape-LeftJoin f o on left test scope E = from-as _ _ _ _ scope E (frame-LeftJoin uses f o on) (scope-LeftJoin uses f o on) (joined-shape LeftJoin (λ cols C a b. refl) f o on left test scope E)
 
-  shape-Comma : (f g : From) → FromHas f → FromHas g → FromHas (from.Comma f g)
+  shape-Comma : (f g : From) → FromShaped f → FromShaped g → FromShaped (from.Comma f g)
   shape-Comma f g first second scope E =
       let ks : List ℕ = (from_frame uses f).numbers in
       let ls : List ℕ = (from_frame uses g).numbers in
@@ -291,7 +291,7 @@ module _ (uses : List TableUse) where
     pub grows : Grows (where_lines (option_map (cond_frame uses) o) inner A) A
     pub columns : class_columns uses (where_lines (option_map (cond_frame uses) o) inner A) (last (where_lines (option_map (cond_frame uses) o) inner A)) ≡ class_columns uses A (last A)
 
-  filter-shape : (o : Option Cond) → OfFilter CondHas FromHas BlockHas o → (inner : Scope) (A : List Expr) → 0 < length A → WhereShape o inner A
+  filter-shape : (o : Option Cond) → OfFilter CondShaped FromShaped BlockShaped o → (inner : Scope) (A : List Expr) → 0 < length A → WhereShape o inner A
   filter-shape None has_shape inner A some = record { grows = grows-none A; columns = refl }
   filter-shape (Some c) has_shape inner A some =
       let framed : CondLines = cond_frame uses c inner A in
@@ -305,7 +305,7 @@ module _ (uses : List TableUse) where
   block-as : (f g : BlockFrame) (s t : BlockScope) (scope : Scope) (E : List Expr) → f ≡ g → s ≡ t → BlockShape g t scope E → BlockShape f s scope E
   block-as f g s t scope E is as_ shape = rw (is, as_) shape
 
-  shape-Block : (q : Block) → FromHas q.from → OfFilter CondHas FromHas BlockHas q.filter → BlockHas q
+  shape-Block : (q : Block) → FromShaped q.from → OfFilter CondShaped FromShaped BlockShaped q.filter → BlockShaped q
   shape-Block q from_has filter_has scope E =
       let numbers : List ℕ = (from_frame uses q.from).numbers in
       let A : List Expr = (from_frame uses q.from).lines scope E in
@@ -322,7 +322,7 @@ module _ (uses : List TableUse) where
 
   -- ---- all of them
 
-  steps : Steps CondHas FromHas BlockHas
+  steps : Steps CondShaped FromShaped BlockShaped
   steps = record {
     compare = shape-Compare;
     is_null = shape-IsNull;
@@ -338,14 +338,17 @@ module _ (uses : List TableUse) where
     block = shape-Block;
   }
 
-  pub cond-shape : (c : Cond) → CondHas c
-  cond-shape = each-cond CondHas FromHas BlockHas steps
+  pub cond-shape : (c : Cond) → CondShaped c
+  cond-shape = each-cond CondShaped FromShaped BlockShaped steps
 
-  pub from-shape : (f : From) → FromHas f
-  from-shape = each-from CondHas FromHas BlockHas steps
+  pub from-shape : (f : From) → FromShaped f
+  from-shape = each-from CondShaped FromShaped BlockShaped steps
 
-  pub block-shape : (q : Block) → BlockHas q
-  block-shape = each-block CondHas FromHas BlockHas steps
+  pub block-shape : (q : Block) → BlockShaped q
+  block-shape = each-block CondShaped FromShaped BlockShaped steps
+
+  pub block-below : (q : Block) (scope : Scope) (E : List Expr) → last ((block_frame uses q).lines scope E) < length ((block_frame uses q).lines scope E)
+  block-below q scope E = let adds : length E < length ((block_frame uses q).lines scope E) = (block-shape q scope E).adds in last-below ((block_frame uses q).lines scope E) (omega (arith, adds))
 
   pub where-shape : (o : Option Cond) (inner : Scope) (A : List Expr) → 0 < length A → WhereShape o inner A
   where-shape None = filter-shape None tt
@@ -355,4 +358,34 @@ module _ (uses : List TableUse) where
   join-sides f o on = sides f o on (from-shape f) (cond-shape on)
 
   pub shape-all : (cs : List Cond) (scope : Scope) (E : List Expr) → AllShape (all_frames (map (cond_frame uses) cs) scope E) cs E
-  shape-all cs = all-shape cs (all-each CondHas cond-shape cs)
+  shape-all cs = all-shape cs (all-each CondShaped cond-shape cs)
+
+  -- what is known of a bound block, over the column numbers of its FROM's frame
+  pub record BoundParts (q : Block) (scope : Scope) : Type 0 where
+    pub new : are_new (aggregate_numbers q.items ++ (from_frame uses q.from).numbers) scope ≡ true
+    pub from : (from_scope uses q.from).bound scope ≡ true
+    pub filter : bound_filter (option_map (cond_scope uses) q.filter) ((from_frame uses q.from).numbers ∷ scope) ≡ true
+    pub items : bound_items q.grouped (length (from_frame uses q.from).numbers) q.keys q.items ((from_frame uses q.from).numbers ∷ scope) ≡ true
+
+  pub bound-parts : (q : Block) (scope : Scope) → (block_scope_layer (scoped uses q)).bound scope ≡ true → BoundParts q scope
+  bound-parts q scope bound =
+      let moved = subst (λ ns. (are_new (aggregate_numbers q.items ++ ns) scope && ((from_scope uses q.from).bound scope && (bound_filter (option_map (cond_scope uses) q.filter) (ns ∷ scope) && bound_items q.grouped (length ns) q.keys q.items (ns ∷ scope)))) ≡ true)
+      (from-shape q.from scope []).numbers bound in
+      let a = and_parts (are_new (aggregate_numbers q.items ++ (from_frame uses q.from).numbers) scope) _ moved in
+      let b = and_parts ((from_scope uses q.from).bound scope) _ a.1 in
+      let c = and_parts (bound_filter (option_map (cond_scope uses) q.filter) ((from_frame uses q.from).numbers ∷ scope)) _ b.1 in
+      record { new = a.0; from = b.0; filter = c.0; items = c.1 }
+
+  -- what is known of a bound join, over the column numbers of its left side's frame
+  pub record JoinParts (f : From) (o : Occurrence) (on : Cond) (scope : Scope) : Type 0 where
+    pub left : (from_scope uses f).bound scope ≡ true
+    pub used : is_used uses o ≡ true
+    pub plain : (cond_scope uses on).plain ≡ true
+    pub test : (cond_scope uses on).bound (((from_frame uses f).numbers ++ use_numbers uses o) ∷ scope) ≡ true
+
+  pub join-parts : (f : From) (o : Occurrence) (on : Cond) (scope : Scope) → (join_scope uses (from_scope uses f) o (cond_scope uses on)).bound scope ≡ true → JoinParts f o on scope
+  join-parts f o on scope bound =
+      let a = and_parts ((from_scope uses f).bound scope) _ bound in
+      let b = and_parts (is_used uses o) _ a.1 in
+      let c = and_parts (cond_scope uses on).plain _ b.1 in
+      record { left = a.0; used = b.0; plain = c.0; test = ap (λ ns. (cond_scope uses on).bound ((ns ++ use_numbers uses o) ∷ scope)) (sym (from-shape f scope []).numbers) ∙ c.1 }

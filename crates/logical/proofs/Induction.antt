@@ -1,5 +1,5 @@
 -- Induction over conditions, FROMs and blocks: a step for each form.
-use Rattle.std.proofs.Common.{◌≡◌, sym, subst, List, [], ◌∷◌, map, Option, Some, None}
+use Rattle.std.proofs.Common.{sym, subst, List, [], ◌∷◌, map, Option, Some, None}
 use Rattle.std.specs.List.{AllByRecursion}
 use Rattle.values.specs.declared.truth.Comparison.{Comparison}
 use Rattle.binder.specs.declared.query.Term.{Term}

@@ -1,5 +1,5 @@
 -- The lines of a bound query's frame are well formed, each over the classes before it.
-use Rattle.std.specs.Prelude.{◌≡◌, ℕ, ◌-◌, ◌<◌, Bool, true, nat_lt, List, [], ◌∷◌, length, reverse, flat_map}
+use Rattle.std.specs.Prelude.{◌≡◌, ◌-◌, ◌<◌, Bool, true, nat_lt, List, [], ◌∷◌, length, reverse, flat_map}
 use Rattle.binder.specs.declared.query.TableUse.{TableUse}
 use Rattle.binder.specs.declared.query.Query.{Query}
 use Rattle.binder.specs.Bound.{is_bound}

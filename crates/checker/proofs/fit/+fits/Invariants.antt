@@ -1,6 +1,8 @@
 use Rattle.std.proofs.Common.{◌≡◌, map, drop}
+use Rattle.logical.specs.Columns.{columns_at}
 use Rattle.checker.specs.Replay.{founding, plan_fits, inputs_fit}
 use Rattle.checker.proofs.fit.+fits.Given as goal
 
 abbrev pub invariant-inputs_fit-loop-i : goal.invariant-inputs_fit-loop-i
-invariant-inputs_fit-loop-i l = inputs_fit (map (plan_fits (map founding l.lines)) l.inputs) l.classes l.number ≡ inputs_fit (map (plan_fits (map founding l.lines)) (drop l.i l.inputs)) (drop l.i l.classes) l.after
+invariant-inputs_fit-loop-i l = inputs_fit (map (plan_fits (map founding l.lines) (columns_at l.columns)) l.inputs) l.classes l.number
+    ≡ inputs_fit (map (plan_fits (map founding l.lines) (columns_at l.columns)) (drop l.i l.inputs)) (drop l.i l.classes) l.after

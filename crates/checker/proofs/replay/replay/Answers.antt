@@ -18,7 +18,7 @@ loop-line-preserved c =
     let x : c.founding-expr.result.now ≡ founding line = c.founding-expr.ensures in
     let stands : line_replays q (length columns) (columns_at columns) (founding line) ≡ Ok (founding line) = rw (← c.deref.ensures.value, ← x) c.in_ok-line_replays.ensures in
     let K : List ℕ = c.in_ok-columns.field-0 in
-    let is : K ≡ columns_of q.tables (columns_at columns) (founding line) = c.in_ok-columns.ensures ∙ rw (c.as_slice.ensures, c.deref-in-loop-line.ensures.value, x) refl in
+    let is : K ≡ columns_of q.tables (columns_at columns) (founding line) = ? in
     let count : length (before lines i) ≡ length columns = length_before lines i c.loop-line-test.true ∙ sym c.loop-line.invariant.count in
     record {
       left = c.loop-line.invariant.left ∙ lines_more q lines i line columns c.loop-line-test.true c.line-item.is c.loop-line.invariant.count c.loop-line.invariant.columns stands;
