@@ -1,3 +1,4 @@
+pub mod ClosureSorts
 pub mod Delivered
 pub mod Deliveries
 pub mod OrderedLists
