@@ -1,0 +1,6 @@
+pub mod Accepted
+pub mod ClassPlans
+pub mod FrameLines
+pub mod Nodes
+pub mod OrderedPlans
+pub mod Passes
