@@ -1,10 +1,10 @@
 -- Rows in the order that a plan delivers are in one that the ORDER BY allows.
 use Rattle.std.proofs.Common.{◌≡◌, refl, ap, sym, ◌∙◌, subst, ℕ, zero, suc, Bool, true, false, if◌then◌else◌, List, [], ◌∷◌, map, take, length, Option, Some, None}
+use Rattle.std.specs.Coded.{coded_list}
 use Rattle.std.specs.List.{slice_get, slice_index_or}
 use Rattle.std.specs.Ordering.{is_gt, on, then_cmp, ordering_then, flip_args}
 use Rattle.std.specs.declared.cmp.Ordering.{Ordering}
 use Rattle.std.specs.declared.cmp.Ordering.TheVariants.{Less, Equal, Greater}
-use Rattle.std.proofs.Math.Seq.{drop-cons}
 use Rattle.values.specs.declared.value.Value.{Value}
 use Rattle.values.specs.declared.value.Value.TheVariants as value
 use Rattle.values.specs.Order.{order}
@@ -18,6 +18,7 @@ use Rattle.logical.specs.Bags.{Env}
 use Rattle.logical.specs.Frames.{query_numbers, query_shown}
 use Rattle.logical.proofs.Same.{same_by-equal}
 use Rattle.physical.specs.declared.plan.OrderKey.{OrderKey}
+use Rattle.physical.specs.contracts.plan.OrderKey as order_key
 use Rattle.physical.specs.declared.plan.Plan.{Plan}
 use Rattle.physical.specs.Sorts.{key_order, keys_order}
 use Rattle.physical.specs.Orders.{IsOrdered, ordered_column, ordered_columns, query_order, delivered}
@@ -89,5 +90,5 @@ allowed numbers keys (a ∷ b ∷ rows) h = (ap is_gt (sym (keys-same numbers ke
 pub delivered-allowed : (q : Query) (p : Plan) (rows : List Env) → is_delivered q p ≡ true → IsOrdered (delivered q.tables p).order rows → IsAllowed q.order (query_shown q rows)
 unfolding same_order
 delivered-allowed q p rows is h =
-    let front : take (length (query_order q)) (delivered q.tables p).order ≡ query_order q = same_by-equal _ _ _ is in
+    let front : take (length (query_order q)) (delivered q.tables p).order ≡ query_order q = same_by-equal (coded_list order_key.the_row.coded) (take (length (query_order q)) (delivered q.tables p).order) (query_order q) is in
     allowed (query_numbers q) q.order rows (subst (λ keys. IsOrdered keys rows) front (front-ordered (length (query_order q)) (delivered q.tables p).order rows h))

@@ -8,7 +8,7 @@ use Rattle.values.specs.Faults.{◌>>=◌, wanted, wanted_if}
 use Rattle.binder.specs.declared.query.Query.{Query}
 use Rattle.binder.specs.Rows.{Tables}
 use Rattle.logical.specs.declared.expr.Expr.{Expr}
-use Rattle.logical.specs.Columns.{within}
+use Rattle.logical.specs.Columns.{has}
 use Rattle.logical.specs.Expressions.{Classes, classes_pass, input_classes}
 use Rattle.logical.specs.Classes.{class_columns, class_rows, classes}
 use Rattle.logical.specs.FormedFrames.{own_aggregates}
@@ -25,34 +25,11 @@ use Rattle.physical.specs.Sorts.{keys_order}
 use Rattle.physical.proofs.SortedRows.{same_bag-sorted}
 use Rattle.checker.specs.declared.certificate.CheckRefusal.{CheckRefusal}
 use Rattle.checker.specs.declared.certificate.CheckCode.TheVariants.{UnknownLine, IllFormed, OtherOperator, UnsortedAnswer}
-use Rattle.checker.specs.Replay.{Fits, refusal, computes, key_columns, sort_fits, operator_fits, node_fits, inputs_fit, fits_layer, plan_fits, lines_replay}
+use Rattle.checker.specs.Replay.{Fits, refusal, computes, sort_fits, operator_fits, node_fits, inputs_fit, fits_layer, plan_fits, lines_replay}
 use Rattle.checker.proofs.Chains.{both_ok, wanted_ok, wanted_if_ok}
+use Rattle.checker.proofs.Fits.{operator-is}
 use Rattle.checker.proofs.Founded.{Stands, line_at, founded, before, founded_columns, before_columns}
 use Rattle.checker.proofs.Operators.{Is, AllAre, operator-gives}
-
--- an operator that fits at its line
-record FitsLine (lines : List Expr) (node : Node) (inputs g : ℕ) (needed : List ℕ) : Type 0 where
-  expr : Expr
-  at : slice_get lines g ≡ Some expr
-  computed : computes node expr ≡ true
-  needs : input_classes expr ≡ needed
-  count : inputs ≡ length needed
-
-operator-is : (lines : List Expr) (line : ℕ) (node : Node) (inputs g n : ℕ) (needed : List ℕ) → operator_fits lines line node inputs g n ≡ Ok needed → FitsLine lines node inputs g needed
-operator-is lines line node inputs g n needed e =
-    let next : Expr → Result (List ℕ) CheckRefusal = λ x. wanted_if (refusal n OtherOperator) (line == g && computes node x && inputs == length (input_classes x)) (input_classes x) in
-    let first = both_ok (wanted (refusal n UnknownLine) (slice_get lines line)) next needed e in
-    let x : Expr = first.0 in
-    let all = wanted_if_ok (refusal n OtherOperator) (line == g && computes node x && inputs == length (input_classes x)) (input_classes x) needed first.2 in
-    let tests = and_parts _ _ all.0 in
-    let tests' = and_parts _ _ tests.0 in
-    record {
-      expr = x;
-      at = ap (slice_get lines) (sym (eqb-true _ _ tests'.0)) ∙ wanted_ok (refusal n UnknownLine) _ x first.1;
-      computed = tests'.1;
-      needs = all.1;
-      count = eqb-true _ _ tests.1 ∙ ap length all.1;
-    }
 
 module _ (q : Query) (D : Tables) (lines F : List Expr) (replays : lines_replay q [] lines ≡ Ok F) where
   abbrev W : Classes
@@ -130,7 +107,7 @@ module _ (q : Query) (D : Tables) (lines F : List Expr) (replays : lines_replay 
       let k : ℕ = length (fits_of parts) in
       let steps = both_ok (sort_fits cols keys k g n) (inputs_after parts ordered n) m fits in
       let last : List ℕ → Result (List ℕ) CheckRefusal = λ needed. wanted_if (refusal n OtherOperator) (k == 1) needed in
-      let first = both_ok (wanted_if (refusal n IllFormed) (within (key_columns keys) (cols g)) (g ∷ [])) last steps.0 steps.1 in
+      let first = both_ok (wanted_if (refusal n IllFormed) (list_all (λ k. has (cols g) k.column) keys) (g ∷ [])) last steps.0 steps.1 in
       let one = wanted_if_ok (refusal n IllFormed) _ (g ∷ []) first.0 first.1 in
       let two = wanted_if_ok (refusal n OtherOperator) (k == 1) first.0 steps.0 first.2 in
       let needs : g ∷ [] ≡ steps.0 = one.1 ∙ two.1 in

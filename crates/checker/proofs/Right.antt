@@ -1,6 +1,6 @@
 -- The plan of a certificate that replays gives answers of its query.
-use Rattle.std.proofs.Common.{◌≡◌, refl, ap, sym, ◌∙◌, subst, ℕ, ◌+◌, ◌<◌, Bool, true, if◌then◌else◌, List, [], ◌∷◌, ◌++◌, map, length, reverse, Result, Ok, arith}
-use Rattle.std.proofs.lemmas.List.{reverse-append, length-reverse}
+use Rattle.std.proofs.Common.{◌≡◌, refl, ap, sym, ◌∙◌, subst, ℕ, ◌+◌, ◌-◌, ◌<◌, Bool, true, if◌then◌else◌, List, [], ◌∷◌, ◌++◌, map, length, reverse, Result, Ok, arith}
+use Rattle.std.proofs.lemmas.List.{reverse-append, length-reverse, length-map}
 use Rattle.values.specs.Faults.{◌>>=◌, wanted_if}
 use Rattle.schema.specs.declared.schema.Schema.{Schema}
 use Rattle.schema.specs.Databases.{Row, Database, Satisfies}
@@ -10,6 +10,7 @@ use Rattle.binder.proofs.BoundStatements.{uses-wide}
 use Rattle.binder.proofs.Widths.{satisfying_fits}
 use Rattle.logical.specs.declared.expr.Expr.{Expr}
 use Rattle.logical.specs.Bags.{Env, SameRows, nulls, total}
+use Rattle.logical.specs.Columns.{columns_at}
 use Rattle.logical.specs.Classes.{class_columns, class_rows, root_rows}
 use Rattle.logical.specs.Frames.{query_frame, query_numbers, query_shown}
 use Rattle.logical.proofs.FrameMeaning.{frame_means}
@@ -17,6 +18,7 @@ use Rattle.logical.proofs.FormedQueries.{frames_formed}
 use Rattle.physical.specs.declared.plan.Plan.{Plan, out-Plan}
 use Rattle.physical.specs.Plays.{play, answer}
 use Rattle.physical.proofs.Deliveries.{plans_deliver}
+use Rattle.checker.specs.declared.certificate.Line.{Line}
 use Rattle.checker.specs.declared.certificate.Certificate.{Certificate}
 use Rattle.checker.specs.declared.certificate.CheckRefusal.{CheckRefusal}
 use Rattle.checker.specs.declared.certificate.CheckCode.TheVariants.{UnsortedAnswer}
@@ -82,3 +84,17 @@ checked S q bound c ok = record {
         ordered = delivered-allowed q c.plan (play q.tables T c.plan nulls) root.ordered (plans_deliver q.tables T c.plan nulls);
       };
 }
+
+-- what is left to replay behind lines that do
+pub verdict : (q : Query) (c : Certificate) (lines : List Line) (columns : List (List ℕ)) (ordered : Bool) (frame : List Expr) → lines ≡ c.lines
+    → lines_replay q [] (map founding lines) ≡ Ok (reverse (map founding lines)) → columns_at columns ≡ class_columns q.tables (reverse (map founding lines)) → ordered ≡ is_delivered q c.plan → frame ≡ query_frame q
+    → replayed q c ≡ (plan_fits (map founding lines) (columns_at columns) c.plan ordered (length frame - 1) (length lines) >>= λ n. Ok c)
+unfolding replayed
+verdict q c lines columns ordered frame same replays cols delivers framed =
+    let E : List Expr = reverse (map founding lines) in
+    let fits : List Line → List Expr → ℕ → Result Certificate CheckRefusal = λ lines E n. plan_fits (map founding lines) (class_columns q.tables E) c.plan (is_delivered q c.plan) (root q) n >>= λ n. Ok c in
+    let count : length E ≡ length lines = length-reverse (map founding lines) ∙ length-map lines founding in
+    ap (λ L. lines_replay q [] (map founding L) >>= λ E. fits L E (length E)) (sym same)
+    ∙ ap (λ r. r >>= λ E. fits lines E (length E)) replays
+    ∙ ap (fits lines E) count
+    ∙ rw (cols, delivers, framed) refl

@@ -3,7 +3,7 @@
 -- G. Graefe's (The Cascades framework for query optimization, 1995: implementation and enforcement).
 use Rattle.std.specs.Prelude.{◌≡◌, ℕ, ◌+◌, ◌-◌, Bool, true, false, not, ◌&&◌, ◌==◌, nat_lt, nat_le, List, [], ◌∷◌, map, length, take, slice_get, Option, Some, None, Result, Ok}
 use Rattle.std.specs.Coded.{coded_list}
-use Rattle.std.specs.List.{AllByRecursion}
+use Rattle.std.specs.List.{AllByRecursion, list_all}
 use Rattle.values.specs.Faults.{◌>>=◌, wanted, wanted_if}
 use Rattle.schema.specs.declared.schema.Schema.{Schema}
 use Rattle.schema.specs.Databases.{Database, Satisfies}
@@ -14,7 +14,7 @@ use Rattle.binder.specs.BoundStatements.{IsOver}
 use Rattle.binder.specs.Answer.{IsAnswer}
 use Rattle.logical.specs.declared.expr.Expr.{Expr}
 use Rattle.logical.specs.declared.expr.Expr.TheVariants.{Get, Select, Join, LeftJoin, Keep, Distinct, Group}
-use Rattle.logical.specs.Columns.{within}
+use Rattle.logical.specs.Columns.{has}
 use Rattle.logical.specs.Equality.{same_conditions, same_columns, same_aggregations, same_expr, same_by}
 use Rattle.logical.specs.Expressions.{classes_pass, input_classes, is_plain, is_formed}
 use Rattle.logical.specs.Classes.{class_columns}
@@ -93,13 +93,10 @@ abbrev pub sort_keys : Node → List OrderKey
 sort_keys (Sort keys) = keys
 sort_keys _ = []
 
-abbrev pub key_columns : List OrderKey → List ℕ
-key_columns keys = map (λ k. k.column) keys
-
 -- a sort at number n, over so many inputs, of the class: by columns of the class, over the class itself
 abbrev pub sort_fits : (ℕ → List ℕ) → List OrderKey → ℕ → ℕ → ℕ → Result (List ℕ) CheckRefusal
 sort_fits cols keys inputs g n =
-    wanted_if (refusal n IllFormed) (within (key_columns keys) (cols g)) (g ∷ [])
+    wanted_if (refusal n IllFormed) (list_all (λ k. has (cols g) k.column) keys) (g ∷ [])
     >>= λ classes. wanted_if (refusal n OtherOperator) (inputs == 1) classes
 
 -- another operator: its line founds the class, it computes the line's expression, and has an input for each class that it needs

@@ -1,8 +1,10 @@
 //! The nodes of a plan against the lines.
 
-ghost use Rattle.std.specs.Prelude.{◌≡◌, ◌+◌, IfOk, length, map, take};
-ghost use Rattle.values.specs.Faults.{Gives};
-ghost use Rattle.logical.specs.Columns.{within, columns_at};
+ghost use Rattle.std.specs.Prelude.{◌≡◌, ◌↔◌, ◌+◌, ◌==◌, ◌∷◌, [], IfOk, IsTrue, length, map, take};
+ghost use Rattle.std.specs.List.{list_all};
+ghost use Rattle.values.specs.Faults.{Gives, wanted_if};
+ghost use Rattle.logical.specs.Columns.{has, columns_at};
+ghost use Rattle.checker.specs.declared.certificate.CheckCode.TheVariants.{OtherOperator};
 ghost use Rattle.checker.specs.declared.certificate.CheckRefusal.{CheckRefusal};
 ghost use Rattle.checker.specs.Replay as spec;
 
@@ -49,11 +51,21 @@ fn computes(node: &Node, expr: &Expr) -> bool
     }
 }
 
-/// Whether the columns of the keys are in the set.
-fn keys_within(keys: &[OrderKey], columns: &Columns) -> bool
-    ensures { result ≡ within (spec.key_columns keys.now) columns.now }
+/// Whether the class has the column.
+fn is_column(columns: &[Columns], class: usize, column: usize) -> bool
+    ensures { result ≡ has (columns_at columns.now class) column }
 {
-    keys.iter().all(|key| columns.contains(key.column))
+    match columns.get(class) {
+        Some(own) => own.contains(column),
+        None => false,
+    }
+}
+
+/// Whether the class has the columns of the keys.
+fn are_columns(columns: &[Columns], class: usize, keys: &[OrderKey]) -> bool
+    ensures { result ≡ list_all (λ k. has (columns_at columns.now class) k.column) keys.now }
+{
+    keys.iter().all(|key| is_column(columns, class, key.column))
 }
 
 /// The class of the only input of a sort of the class.
@@ -65,15 +77,25 @@ fn sort_fits(
     class: usize,
     number: usize,
 ) -> Result<Vec<usize>, CheckFault>
-    ensures { Gives (λ classes. classes.items) result (spec.sort_fits (columns_at columns.now) keys.now inputs class number) }
+    ensures classes { Gives (λ classes. classes.items) result (spec.sort_fits (columns_at columns.now) keys.now inputs class number) }
+    ensures count { IfOk result (λ classes. length classes.items ≡ inputs) }
 {
-    let known = match columns.get(class) {
-        Some(columns) => keys_within(keys, columns),
-        None => keys.is_empty(),
-    };
-    if !known {
+    if !are_columns(columns, class, keys) {
         return Err(refused(number, CheckCode::IllFormed));
     }
+    only_input(alloc, inputs, class, number)
+}
+
+/// The class alone, where there is one input.
+fn only_input(
+    alloc: Global,
+    inputs: usize,
+    class: usize,
+    number: usize,
+) -> Result<Vec<usize>, CheckFault>
+    ensures classes { Gives (λ classes. classes.items) result (wanted_if (spec.refusal number OtherOperator) (inputs == 1) (class ∷ [])) }
+    ensures count { IfOk result (λ classes. length classes.items ≡ inputs) }
+{
     if inputs != 1 {
         return Err(refused(number, CheckCode::OtherOperator));
     }
@@ -92,7 +114,8 @@ fn operator_fits(
     class: usize,
     number: usize,
 ) -> Result<Vec<usize>, CheckFault>
-    ensures { Gives (λ classes. classes.items) result (spec.operator_fits (map spec.founding lines.now) line node.now inputs class number) }
+    ensures classes { Gives (λ classes. classes.items) result (spec.operator_fits (map spec.founding lines.now) line node.now inputs class number) }
+    ensures count { IfOk result (λ classes. length classes.items ≡ inputs) }
 {
     let expr = match lines.get(line) {
         Some(line) => line.founding(),
@@ -119,7 +142,8 @@ fn node_fits(
     class: usize,
     number: usize,
 ) -> Result<Vec<usize>, CheckFault>
-    ensures { Gives (λ classes. classes.items) result (spec.node_fits (map spec.founding lines.now) (columns_at columns.now) node.now inputs class number) }
+    ensures classes { Gives (λ classes. classes.items) result (spec.node_fits (map spec.founding lines.now) (columns_at columns.now) node.now inputs class number) }
+    ensures count { IfOk result (λ classes. length classes.items ≡ inputs) }
 {
     match node {
         Node::Sort { keys } => sort_fits(alloc, columns, keys.as_slice(), inputs, class, number),
@@ -152,7 +176,24 @@ pub fn is_delivered(alloc: Global, query: &Query, plan: &Plan) -> Result<bool, A
 fn begins_with(order: &[OrderKey], wanted: &[OrderKey]) -> bool
     ensures { result ≡ spec.same_order (take (length wanted.now) order.now) wanted.now }
 {
-    wanted.len() <= order.len() && &order[..wanted.len()] == wanted
+    match order.get(..wanted.len()) {
+        Some(front) => are_same(front, wanted),
+        None => false,
+    }
+}
+
+fn are_same(keys: &[OrderKey], others: &[OrderKey]) -> bool
+    ensures { IsTrue result ↔ (keys.now ≡ others.now) }
+{
+    if keys.len() != others.len() {
+        return false;
+    }
+    for i in 0..keys.len() {
+        if keys[i] != others[i] {
+            return false;
+        }
+    }
+    true
 }
 
 /// Checks that the plan computes the class, its nodes being numbered from a number on, and that it is ordered as is wanted.

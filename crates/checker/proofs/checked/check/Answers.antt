@@ -1,18 +1,35 @@
-use Rattle.std.proofs.Common.{◌≡◌, ◌<◌, length, arith, Ok}
-use Rattle.std.proofs.lemmas.Grind.{common_steps}
+use Rattle.std.proofs.Common.{◌≡◌, ◌∙◌, ◌-◌, ◌<◌, ap, sym, subst, ℕ, map, length, arith, rules, Result, Ok}
+use Rattle.values.specs.Faults.{◌>>=◌, Gives}
+use Rattle.logical.specs.Columns.{columns_at}
 use Rattle.logical.specs.Frames.{query_frame}
 use Rattle.logical.proofs.FormedQueries.{frames_formed}
-use Rattle.checker.specs.Replay.{replayed}
-use Rattle.checker.proofs.Right.{checked}
+use Rattle.checker.specs.declared.certificate.Certificate.{Certificate}
+use Rattle.checker.specs.declared.certificate.CheckRefusal.{CheckRefusal}
+use Rattle.checker.specs.Replay.{founding, plan_fits}
+use Rattle.checker.proofs.Right.{checked, verdict}
 use Rattle.checker.proofs.checked.check.Goals as goal
 
 pub overflow_sub-root : goal.overflow_sub-root
 overflow_sub-root c =
     let some : 0 < length (query_frame c.args.query.now) = (frames_formed c.args.query.now c.requires.bound).some in
-    rw (c.len.ensures, c.in_ok-frame.ensures.lines) (omega (arith, some))
+    rw (c.len-root.ensures, c.in_ok-frame.ensures.lines) (omega (arith, some))
+
+pub returns-in_err-plan_fits-clause-verdict : goal.returns-in_err-plan_fits-clause-verdict
+returns-in_err-plan_fits-clause-verdict c =
+    let left = verdict c.args.query.now c.args.certificate.now c.as_slice-lines.result.now c.as_slice-2.result.now c.in_ok-ordered.ordered c.in_ok-frame.frame c.as_slice-lines.ensures
+    c.in_ok-columns.ensures.verdict (ap columns_at c.as_slice-2.ensures.value ∙ c.in_ok-columns.ensures.columns) c.in_ok-ordered.ensures c.in_ok-frame.ensures.lines in
+    subst (λ (z : Result Certificate CheckRefusal). Gives (λ c'. c'.certificate) c.from_residual-in_err-plan_fits.result z) (sym left) (search rules)
+
+pub returns-clause-verdict : goal.returns-clause-verdict
+returns-clause-verdict c =
+    let left = verdict c.args.query.now c.args.certificate.now c.as_slice-lines.result.now c.as_slice-2.result.now c.in_ok-ordered.ordered c.in_ok-frame.frame c.as_slice-lines.ensures
+    c.in_ok-columns.ensures.verdict (ap columns_at c.as_slice-2.ensures.value ∙ c.in_ok-columns.ensures.columns) c.in_ok-ordered.ensures c.in_ok-frame.ensures.lines in
+    let fits = subst (λ k. plan_fits (map founding c.as_slice-lines.result.now) (columns_at c.as_slice-2.result.now) c.args.certificate.now.plan c.in_ok-ordered.ordered (k - 1) (length c.as_slice-lines.result.now) ≡ Ok c.in_ok-plan_fits.field-0) c.len-root.ensures c.in_ok-plan_fits.ensures in
+    left ∙ ap (λ (r : Result ℕ CheckRefusal). r >>= λ n. Ok c.args.certificate.now) fits
 
 pub invariant_of-result : goal.invariant_of-result
-unfolding replayed
 invariant_of-result c =
-    let replays : replayed c.args.query.now c.args.certificate.now ≡ Ok c.args.certificate.now = ? in
-    checked c.args.schema.now c.args.query.now c.requires c.args.certificate.now replays
+    let left = verdict c.args.query.now c.args.certificate.now c.as_slice-lines.result.now c.as_slice-2.result.now c.in_ok-ordered.ordered c.in_ok-frame.frame c.as_slice-lines.ensures
+    c.in_ok-columns.ensures.verdict (ap columns_at c.as_slice-2.ensures.value ∙ c.in_ok-columns.ensures.columns) c.in_ok-ordered.ensures c.in_ok-frame.ensures.lines in
+    let fits = subst (λ k. plan_fits (map founding c.as_slice-lines.result.now) (columns_at c.as_slice-2.result.now) c.args.certificate.now.plan c.in_ok-ordered.ordered (k - 1) (length c.as_slice-lines.result.now) ≡ Ok c.in_ok-plan_fits.field-0) c.len-root.ensures c.in_ok-plan_fits.ensures in
+    checked c.args.schema.now c.args.query.now c.requires c.args.certificate.now (left ∙ ap (λ (r : Result ℕ CheckRefusal). r >>= λ n. Ok c.args.certificate.now) fits)
