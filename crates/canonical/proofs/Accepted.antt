@@ -13,7 +13,7 @@ use Rattle.checker.specs.declared.certificate.Certificate.{Certificate}
 use Rattle.checker.specs.Replay.{founding, root, replayed}
 use Rattle.canonical.specs.Canonical.{top, IsPlanOf}
 use Rattle.canonical.proofs.FrameLines.{frame_replays}
-use Rattle.canonical.proofs.OrderedPlans.{keys_within, top_fits, top_delivered}
+use Rattle.canonical.proofs.OrderedPlans.{order_within, top_fits, top_delivered}
 
 founding-lines : (xs : List Expr) → map founding (map Founds xs) ≡ xs
 founding-lines [] = refl
@@ -27,5 +27,5 @@ canonical_replays q bound V below lines plan is =
     let frame : List Expr = query_frame q in
     let E : List Expr = reverse frame in
     let cols : ℕ → List ℕ = class_columns q.tables E in
-    let fits = top_fits frame cols (query_order q) below (root q) (length E) is (keys_within q (cols (root q)) (frames_formed q bound).shown) in
+    let fits = top_fits frame cols (query_order q) below (root q) (length E) is (order_within q (cols (root q)) (frames_formed q bound).shown) in
     rw (lines, founding-lines frame, frame_replays q bound, plan, top_delivered q below, fits.1) refl
