@@ -1,5 +1,3 @@
 pub mod Plans
-pub mod Rows
 pub mod Sent
-pub mod Truth
 pub mod Widths

@@ -3,7 +3,6 @@
 ghost use Rattle.std.specs.Prelude.{◌≡◌, ◌≢◌, [], IsErrAnd, OnOk, OnErr};
 ghost use Rattle.std.specs.Io.KnownBytes.{Appends};
 ghost use Rattle.binder.specs.Answer.{IsAnswer};
-ghost use Rattle.binder.specs.Simple.{IsSimple};
 ghost use Rattle.store.specs.Devices.{Rose};
 ghost use Rattle.executor.specs.AnswerText.{HasFront};
 ghost use Rattle.executor.specs.Execution.{tables_in, plan_rows, plan_text};
@@ -23,8 +22,7 @@ pub fn write_answer<W: AnswerOutput>(
     database: &Database<'_>,
     out: &mut W,
 ) -> Result<(), AnswerFault>
-    requires simple { IsSimple checked.now.query }
-    requires schema { database.now.schema ≡ checked.now.schema }
+    requires { database.now.schema ≡ checked.now.schema }
     ensures ok { OnOk result (Appends (W.contents out.old) (W.contents out.new) (plan_text checked.now database.now)) }
     // Nothing of it is held back.
     ensures handed { OnOk result (W.held out.new ≡ []) }

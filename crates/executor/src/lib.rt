@@ -2,12 +2,8 @@
 #![tactic(auto)]
 
 pub mod answer;
-mod condition;
 pub mod execution;
-mod heading;
 pub mod output;
-#[cfg(test)]
-mod tests;
 pub mod text;
 
 pub use answer::write_answer;

@@ -85,7 +85,7 @@ module _ (right : List ℕ) (keys : List OrderKey) where
 
   matches-alike : (p : Test) (rows : List Env) (r : Env) → AllByRecursion (λ t. Alike left_order t r) (matches p (has right) rows r)
   matches-alike p rows r =
-      all-filter _ p (map (λ s. lay (has right) s r) rows) (all-map (λ s. Unit {0}) _ (λ s. lay (has right) s r) rows (λ s h. pair-alike s r) (all-each (λ s. Unit {0}) (λ s. tt) rows))
+      all-filter _ p (map (λ s. lay (has right) s r) rows) (all-map (λ s. Alike left_order (lay (has right) s r) r) _ (λ s. lay (has right) s r) rows (λ s h. h) (all-each _ (λ s. pair-alike s r) rows))
 
   or_else-alike : (r : Env) (rows : List Env) → AllByRecursion (λ t. Alike left_order t r) rows → AllByRecursion (λ t. Alike left_order t r) (or_else_row (lay (has right) nulls r) rows)
   or_else-alike r [] all = (pair-alike nulls r, tt)

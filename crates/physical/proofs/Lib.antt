@@ -1,4 +1,7 @@
+pub mod ClosureSorts
+pub mod Delivered
 pub mod Deliveries
 pub mod OrderedLists
+pub mod OrderLoops
 pub mod SortedRows
 pub mod Sorting

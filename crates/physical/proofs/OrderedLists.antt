@@ -6,17 +6,13 @@ use Rattle.std.specs.Cmp.{IsTotalOrder}
 use Rattle.std.specs.List.{AllByRecursion}
 use Rattle.std.proofs.lemmas.Cmp.{tied_itself}
 use Rattle.logical.specs.Bags.{Env, same_on, distinct_on}
-use Rattle.logical.proofs.Loops.{all-map, all-filter}
+use Rattle.logical.proofs.Loops.{all-map, all-filter, all-each}
 use Rattle.physical.proofs.Sorting.{Precedes, Ascends, all-mapped}
 
 -- an order that tells no elements apart
 pub ascends-any : {X : Type 0} (cmp : X → X → Ordering) → ((x y : X) → is_gt (cmp x y) ≡ false) → (xs : List X) → Ascends cmp xs
-ascends-any {X} cmp h [] = tt
-ascends-any {X} cmp h (x ∷ xs) = (all xs, ascends-any cmp h xs)
-  where
-    all : (ys : List X) → Precedes cmp x ys
-    all [] = tt
-    all (y ∷ ys) = (h x y, all ys)
+ascends-any cmp h [] = tt
+ascends-any cmp h (x ∷ xs) = (all-each _ (h x) xs, ascends-any cmp h xs)
 
 -- the elements mapped, by an order in which they go as they did
 pub ascends-map : {X Y : Type 0} (cmp : X → X → Ordering) (by : Y → Y → Ordering) (g : X → Y) → ((x y : X) → is_gt (cmp x y) ≡ false → is_gt (by (g x) (g y)) ≡ false)

@@ -5,8 +5,10 @@
 #![tactic(auto)]
 
 pub mod laws;
-mod order;
+pub mod order;
 pub mod plan;
+#[cfg(test)]
+mod tests;
 
 pub use order::{delivers, query_order};
 pub use plan::{JoinKind, Node, OrderKey, Plan};

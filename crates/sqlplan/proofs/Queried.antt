@@ -15,11 +15,12 @@ use Rattle.binder.specs.declared.fault.BindRefusal.{BindRefusal}
 use Rattle.binder.specs.Queries.{bound_statement}
 use Rattle.binder.specs.Answer.{IsAnswer}
 use Rattle.binder.specs.Rows.{tables_of}
-use Rattle.binder.specs.Simple.{IsSimple}
+use Rattle.binder.proofs.BoundStatements.{statements_bound, statements_over}
+use Rattle.binder.proofs.PlainStatements.{statements_plain}
+use Rattle.physical.specs.Plays.{answer}
 use Rattle.checker.specs.declared.certificate.Certificate.{Certificate}
 use Rattle.checker.specs.declared.certificate.CheckRefusal.{CheckRefusal}
-use Rattle.checker.specs.Plans.{answer}
-use Rattle.checker.specs.Replay.{Accepted, IsChecked, replayed}
+use Rattle.checker.specs.Replay.{Accepted, IsBoundOver, IsChecked, replayed}
 use Rattle.checker.proofs.Right.{checked}
 use Rattle.executor.specs.declared.output.OutputFailed.{OutputFailed}
 use Rattle.executor.specs.AnswerText.{answer_text}
@@ -27,7 +28,7 @@ use Rattle.executor.specs.Execution.{plan_text}
 use Rattle.sqlplan.specs.declared.refusal.Refusal.{Refusal}
 use Rattle.sqlplan.specs.declared.refusal.Refusal.TheVariants as refusal
 use Rattle.sqlplan.specs.Refusals.{of_scope, of_check, of_answer}
-use Rattle.sqlplan.specs.EndToEnd.{Language, whole, Input, Asks, TablesTold, IsLoadFault, WithAnswer, WithPlanned, IsRefusedBy, IsBefore, IsDeviceFault, AreQuiet}
+use Rattle.sqlplan.specs.EndToEnd.{Input, Asks, TablesTold, IsLoadFault, WithAnswer, WithPlanned, IsRefusedBy, IsBefore, IsDeviceFault, AreQuiet}
 
 -- what holds of the fault that a call ends with
 pub of_fault : {A E : Type 0} (r : Result A E) (e : E) (P : E → Type 0) → r ≡ Err e → P e → IfErr r P
@@ -50,21 +51,25 @@ only_memory (fault.Refused r) q V fails ok = let e : Ok V ≡ Err r = sym ok ∙
 -- ---- names
 
 pub scope_refused : (schema text : List ℕ) (S : Schema) (tree : Statement) (inputs : List Input) (f : Fault BindRefusal) → schema_of schema ≡ Ok S → ReadsStatement text tree
-    → Fails f (bound_statement S tree) → IsRefusedBy whole schema text inputs (of_scope f)
+    → Fails f (bound_statement S tree) → IsRefusedBy schema text inputs (of_scope f)
 scope_refused schema text S tree inputs fault.Memory is reads fails = tt
 scope_refused schema text S tree inputs (fault.Refused r) is reads fails = (S, is, (tree, reads, fails))
 
+-- the query that a text is over a schema is bound over it
+pub query_bound : (text : List ℕ) (S : Schema) (tree : Statement) (q : Query) → ReadsStatement text tree → bound_statement S tree ≡ Ok q → IsBoundOver S q
+query_bound text S tree q reads is = record { bound = statements_bound S tree q (statements_plain text tree reads) is; over = statements_over S tree q is }
+
 -- ---- the tables
 
-pub load_refused : (L : Language) (schema text : List ℕ) (S : Schema) (q : Query) (inputs : List Input) (r : Refusal) → Asks L schema text S q → IsLoadFault S inputs r → IsRefusedBy L schema text inputs r
-load_refused L schema text S q inputs refusal.Memory asks h = tt
-load_refused L schema text S q inputs (refusal.TableDevice n) asks h = (S, q, asks, tt)
-load_refused L schema text S q inputs (refusal.Table n r) asks h = (S, q, asks, h)
-load_refused L schema text S q inputs refusal.Output asks h = absurd h
-load_refused L schema text S q inputs (refusal.Schema r) asks h = absurd h
-load_refused L schema text S q inputs (refusal.Text r) asks h = absurd h
-load_refused L schema text S q inputs (refusal.Scope r) asks h = absurd h
-load_refused L schema text S q inputs (refusal.Check r) asks h = absurd h
+pub load_refused : (schema text : List ℕ) (S : Schema) (q : Query) (inputs : List Input) (r : Refusal) → Asks schema text S q → IsLoadFault S inputs r → IsRefusedBy schema text inputs r
+load_refused schema text S q inputs refusal.Memory asks h = tt
+load_refused schema text S q inputs (refusal.TableDevice n) asks h = (S, q, asks, tt)
+load_refused schema text S q inputs (refusal.Table n r) asks h = (S, q, asks, h)
+load_refused schema text S q inputs refusal.Output asks h = absurd h
+load_refused schema text S q inputs (refusal.Schema r) asks h = absurd h
+load_refused schema text S q inputs (refusal.Text r) asks h = absurd h
+load_refused schema text S q inputs (refusal.Scope r) asks h = absurd h
+load_refused schema text S q inputs (refusal.Check r) asks h = absurd h
 
 pub load_device_fault : (S : Schema) (inputs : List Input) (old new : List ℕ) (o : ℕ) (r : Refusal) → IsLoadFault S inputs r → IsDeviceFault old new 0 0 r → IsDeviceFault old new o o r
 load_device_fault S inputs old new o refusal.Memory h d = (d.0, refl)
@@ -86,9 +91,9 @@ satisfied_by S D d is h = rw (← is) h
 
 -- ---- the answer
 
-pub answer_refused : (L : Language) (schema text : List ℕ) (S : Schema) (q : Query) (inputs : List Input) (f : Fault OutputFailed) → Asks L schema text S q → IsRefusedBy L schema text inputs (of_answer f)
-answer_refused L schema text S q inputs fault.Memory asks = tt
-answer_refused L schema text S q inputs (fault.Refused r) asks = (S, q, asks, tt)
+pub answer_refused : (schema text : List ℕ) (S : Schema) (q : Query) (inputs : List Input) (f : Fault OutputFailed) → Asks schema text S q → IsRefusedBy schema text inputs (of_answer f)
+answer_refused schema text S q inputs fault.Memory asks = tt
+answer_refused schema text S q inputs (fault.Refused r) asks = (S, q, asks, tt)
 
 pub answer_device : (old new : List ℕ) (o p : ℕ) (f : Fault OutputFailed) → AreQuiet old new → (f ≢ fault.Memory → Rose o p) → (f ≡ fault.Memory → p ≡ o) → IsDeviceFault old new o p (of_answer f)
 answer_device old new o p fault.Memory quiet rose same = (quiet, same refl)
@@ -99,11 +104,11 @@ pub answer_after : (f : Fault OutputFailed) → IsBefore (of_answer f) → ⊥
 answer_after fault.Memory h = h
 answer_after (fault.Refused r) h = h
 
-pub with_plan : (L : Language) (schema text : List ℕ) (inputs : List Input) (S : Schema) (q : Query) (d : Stored) (V : Certificate) (a : Accepted) (P : List ℕ → Type 0) → Asks L schema text S q
-    → TablesTold S inputs (length S.tables) d.tables → d.schema ≡ S → Satisfies d.schema d.tables → IsSimple q → replayed q V ≡ Ok V → a.query ≡ q → a.certificate ≡ V
-    → P (plan_text a d) → WithPlanned L schema text inputs P
-with_plan L schema text inputs S q d V a P asks told same satisfies simple replays query certificate p =
-    let right : IsChecked S q V = checked S q simple V replays in
+pub with_plan : (schema text : List ℕ) (inputs : List Input) (S : Schema) (q : Query) (d : Stored) (V : Certificate) (a : Accepted) (P : List ℕ → Type 0) → Asks schema text S q
+    → TablesTold S inputs (length S.tables) d.tables → d.schema ≡ S → Satisfies d.schema d.tables → IsBoundOver S q → replayed q V ≡ Ok V → a.query ≡ q → a.certificate ≡ V
+    → P (plan_text a d) → WithPlanned schema text inputs P
+with_plan schema text inputs S q d V a P asks told same satisfies bound replays query certificate p =
+    let right : IsChecked S q V = checked S q bound V replays in
     let satisfied : Satisfies S d.tables = rw (← same) satisfies in (
       plan_text a d,
       record {
@@ -121,10 +126,10 @@ with_plan L schema text inputs S q d V a P asks told same satisfies simple repla
       p,
     )
 
-pub with_answer : (L : Language) (schema text : List ℕ) (inputs : List Input) (S : Schema) (q : Query) (d : Stored) (rows : List Row) (P : List ℕ → Type 0) → Asks L schema text S q
+pub with_answer : (schema text : List ℕ) (inputs : List Input) (S : Schema) (q : Query) (d : Stored) (rows : List Row) (P : List ℕ → Type 0) → Asks schema text S q
     → TablesTold S inputs (length S.tables) d.tables → d.schema ≡ S → Satisfies d.schema d.tables → IsAnswer q (tables_of d.schema d.tables) rows
-    → P (answer_text q.names rows) → WithAnswer L schema text inputs P
-with_answer L schema text inputs S q d rows P asks told same satisfies answers p = (
+    → P (answer_text q.names rows) → WithAnswer schema text inputs P
+with_answer schema text inputs S q d rows P asks told same satisfies answers p = (
   answer_text q.names rows,
   record {
     S = S;

@@ -1,5 +1,5 @@
 -- The plan that follows a frame, operator by operator.
-use Rattle.std.specs.Prelude.{◌≡◌, Bool, true, false, ◌&&◌, List, [], ◌∷◌, map}
+use Rattle.std.specs.Prelude.{◌≡◌, Bool, true, false, not, ◌&&◌, List, [], ◌∷◌, map}
 use Rattle.std.specs.List.{list_all}
 use Rattle.binder.specs.declared.query.Query.{Query}
 use Rattle.logical.specs.Frames.{query_frame}
@@ -19,9 +19,15 @@ is_sort _ = false
 abbrev pub unsorted_layer : Plan-F Bool → Bool
 unsorted_layer p = not (is_sort p.node) && list_all (λ x. x) p.inputs
 
--- the plan has no sort: so each of its nodes is told by the expression that it computes
 unfoldable pub is_unsorted : Plan → Bool
 is_unsorted = fold-Plan Bool unsorted_layer
 
--- a plan without a sort, and on top of it the sort that an ORDER BY asks for
-pub data IsSortedPlan : List OrderKey → Plan → Type 0 where
+abbrev pub top : List OrderKey → Plan → Plan
+top [] plan = plan
+top (k ∷ keys) plan = roll-Plan (record { node = Sort (k ∷ keys); inputs = plan ∷ [] })
+
+pub record IsCanonical (q : Query) (V : Certificate) : Type 0 where
+  pub lines : V.lines ≡ map Founds (query_frame q)
+  pub below : Plan
+  pub unsorted : is_unsorted below ≡ true
+  pub plan : V.plan ≡ top (query_order q) below

@@ -4,22 +4,19 @@ use Rattle.schema.specs.declared.schema.Schema.{Schema}
 use Rattle.schema.specs.declared.schema.Table.{Table}
 use Rattle.schema.specs.Databases.{Row, Database, Satisfies}
 use Rattle.schema.specs.Reading.{schema_of}
-use Rattle.sql_parse.specs.declared.ast.Ast.{Ast}
 use Rattle.sql_parse.specs.declared.statement.Statement.{Statement}
 use Rattle.sql_parse.specs.declared.fault.ParseRefusal.{ParseRefusal}
-use Rattle.sql_parse.specs.Grammar.{ReadsText, IsRefusal}
 use Rattle.sql_parse.specs.Statements.{ReadsStatement, IsStatementFault}
 use Rattle.store.specs.declared.fault.TableRefusal.{TableRefusal}
 use Rattle.store.specs.Devices.{Rose}
 use Rattle.store.specs.Tables.{records_of, IsTold}
 use Rattle.binder.specs.declared.query.Query.{Query}
 use Rattle.binder.specs.declared.fault.BindRefusal.{BindRefusal}
-use Rattle.binder.specs.Binding.{bound}
 use Rattle.binder.specs.Queries.{bound_statement}
 use Rattle.binder.specs.Rows.{tables_of}
 use Rattle.binder.specs.Answer.{IsAnswer}
 use Rattle.checker.specs.declared.certificate.Certificate.{Certificate}
-use Rattle.checker.specs.Plans.{answer}
+use Rattle.physical.specs.Plays.{answer}
 use Rattle.checker.specs.Replay.{IsChecked}
 use Rattle.executor.specs.AnswerText.{answer_text}
 use Rattle.sqlplan.specs.declared.refusal.Refusal.{Refusal}
@@ -31,32 +28,18 @@ use Rattle.sqlplan.specs.declared.refusal.Refusal.TheVariants as refusal
 abbrev pub HasTables : List ℕ → ℕ → Type 0
 HasTables bytes n = (S : Schema) → schema_of bytes ≡ Ok S → n ≡ length S.tables
 
--- a language of queries: which query a text is over a schema, and why it is none
-pub record Language : Type 1 where
-  pub IsQuery : List ℕ → Schema → Query → Type 0
-  pub IsUnread : List ℕ → ParseRefusal → Type 0
-  pub IsUnbound : List ℕ → Schema → BindRefusal → Type 0
+-- the text is this query over the schema
+abbrev pub IsQuery : List ℕ → Schema → Query → Type 0
+IsQuery text S q = (tree : Statement) × ReadsStatement text tree × (bound_statement S tree ≡ Ok q)
 
--- the whole language
-abbrev pub whole : Language
-whole = record {
-  IsQuery = λ text S q. (tree : Statement) × ReadsStatement text tree × (bound_statement S tree ≡ Ok q);
-  IsUnread = IsStatementFault;
-  IsUnbound = λ text S r. (tree : Statement) × ReadsStatement text tree × (bound_statement S tree ≡ Err r);
-}
-
--- the cut of it that plans are made for
-abbrev pub cut : Language
-cut = record {
-  IsQuery = λ text S q. (tree : Ast) × ReadsText text tree × (bound S tree ≡ Ok q);
-  IsUnread = IsRefusal;
-  IsUnbound = λ text S r. (tree : Ast) × ReadsText text tree × (bound S tree ≡ Err r);
-}
+-- the text is a statement, which over the schema is no query for this cause
+abbrev pub IsUnbound : List ℕ → Schema → BindRefusal → Type 0
+IsUnbound text S r = (tree : Statement) × ReadsStatement text tree × (bound_statement S tree ≡ Err r)
 
 -- the bytes are a schema, and the text is a query over it
-pub record Asks (L : Language) (schema text : List ℕ) (S : Schema) (q : Query) : Type 0 where
+pub record Asks (schema text : List ℕ) (S : Schema) (q : Query) : Type 0 where
   pub is_schema : schema_of schema ≡ Ok S
-  pub is_query : L.IsQuery text S q
+  pub is_query : IsQuery text S q
 
 -- ---- the tables' files
 
@@ -89,10 +72,10 @@ IsLoadFault S inputs _ = ⊥
 -- ---- the answer
 
 -- the text of an answer of the query that is asked, over the rows that the files tell
-pub record IsAnswerText (L : Language) (schema text : List ℕ) (inputs : List Input) (written : List ℕ) : Type 0 where
+pub record IsAnswerText (schema text : List ℕ) (inputs : List Input) (written : List ℕ) : Type 0 where
   pub S : Schema
   pub query : Query
-  pub asks : Asks L schema text S query
+  pub asks : Asks schema text S query
   pub database : Database
   pub told : TablesTold S inputs (length S.tables) database
   pub satisfies : Satisfies S database
@@ -101,35 +84,35 @@ pub record IsAnswerText (L : Language) (schema text : List ℕ) (inputs : List I
   pub written_is : written ≡ answer_text query.names rows
 
 -- the rows of that text are those that the plan of a checked certificate gives
-pub record IsByPlan {L : Language} {schema text : List ℕ} {inputs : List Input} {written : List ℕ} (A : IsAnswerText L schema text inputs written) : Type 0 where
+pub record IsByPlan {schema text : List ℕ} {inputs : List Input} {written : List ℕ} (A : IsAnswerText schema text inputs written) : Type 0 where
   pub certificate : Certificate
   pub checked : IsChecked A.S A.query certificate
   pub rows_are : A.rows ≡ answer A.query (tables_of A.S A.database) certificate.plan
 
 -- some such text is as said
-abbrev pub WithAnswer : Language → List ℕ → List ℕ → List Input → (List ℕ → Type 0) → Type 0
-WithAnswer L schema text inputs P = (written : List ℕ) × IsAnswerText L schema text inputs written × P written
+abbrev pub WithAnswer : List ℕ → List ℕ → List Input → (List ℕ → Type 0) → Type 0
+WithAnswer schema text inputs P = (written : List ℕ) × IsAnswerText schema text inputs written × P written
 
 -- some such text, whose rows are by a checked plan, is as said
-abbrev pub WithPlanned : Language → List ℕ → List ℕ → List Input → (List ℕ → Type 0) → Type 0
-WithPlanned L schema text inputs P = (written : List ℕ) × (A : IsAnswerText L schema text inputs written) × IsByPlan A × P written
+abbrev pub WithPlanned : List ℕ → List ℕ → List Input → (List ℕ → Type 0) → Type 0
+WithPlanned schema text inputs P = (written : List ℕ) × (A : IsAnswerText schema text inputs written) × IsByPlan A × P written
 
 -- ---- refusals
 
 -- some query is asked, over a schema that is as said
-abbrev pub WithQuery : Language → List ℕ → List ℕ → (Schema → Type 0) → Type 0
-WithQuery L schema text P = (S : Schema) × (q : Query) × Asks L schema text S q × P S
+abbrev pub WithQuery : List ℕ → List ℕ → (Schema → Type 0) → Type 0
+WithQuery schema text P = (S : Schema) × (q : Query) × Asks schema text S q × P S
 
 -- the first fault, in the order schema, text, scope, tables; no query is refused for its certificate
-abbrev pub IsRefusedBy : Language → List ℕ → List ℕ → List Input → Refusal → Type 0
-IsRefusedBy L schema text inputs refusal.Memory = Unit {0}
-IsRefusedBy L schema text inputs (refusal.Schema r) = schema_of schema ≡ Err r
-IsRefusedBy L schema text inputs (refusal.Text r) = (S : Schema) × (schema_of schema ≡ Ok S) × L.IsUnread text r
-IsRefusedBy L schema text inputs (refusal.Scope r) = (S : Schema) × (schema_of schema ≡ Ok S) × L.IsUnbound text S r
-IsRefusedBy L schema text inputs (refusal.Check r) = ⊥
-IsRefusedBy L schema text inputs (refusal.Table n r) = WithQuery L schema text (λ S. IsTableRefused S inputs n r)
-IsRefusedBy L schema text inputs (refusal.TableDevice n) = WithQuery L schema text (λ S. Unit {0})
-IsRefusedBy L schema text inputs refusal.Output = WithQuery L schema text (λ S. Unit {0})
+abbrev pub IsRefusedBy : List ℕ → List ℕ → List Input → Refusal → Type 0
+IsRefusedBy schema text inputs refusal.Memory = Unit {0}
+IsRefusedBy schema text inputs (refusal.Schema r) = schema_of schema ≡ Err r
+IsRefusedBy schema text inputs (refusal.Text r) = (S : Schema) × (schema_of schema ≡ Ok S) × IsStatementFault text r
+IsRefusedBy schema text inputs (refusal.Scope r) = (S : Schema) × (schema_of schema ≡ Ok S) × IsUnbound text S r
+IsRefusedBy schema text inputs (refusal.Check r) = ⊥
+IsRefusedBy schema text inputs (refusal.Table n r) = WithQuery schema text (λ S. IsTableRefused S inputs n r)
+IsRefusedBy schema text inputs (refusal.TableDevice n) = WithQuery schema text (λ S. Unit {0})
+IsRefusedBy schema text inputs refusal.Output = WithQuery schema text (λ S. Unit {0})
 
 -- the refusal comes before anything is written
 abbrev pub IsBefore : Refusal → Type 0

@@ -3,16 +3,16 @@
 ghost use Rattle.std.specs.Prelude.{◌≡◌, ◌≤◌, ◌⊎◌, [], length, map, IfErr, OnOk, OnErr};
 ghost use Rattle.std.specs.Io.KnownBytes.{Appends};
 ghost use Rattle.executor.specs.AnswerText.{HasFront};
-ghost use Rattle.sqlplan.specs.EndToEnd.{HasTables, TablesTold, IsLoadFault, WithAnswer, WithPlanned, IsRefusedBy, IsBefore, IsDeviceFault, AreQuiet, IsQuiet, cut, whole};
+ghost use Rattle.sqlplan.specs.EndToEnd.{HasTables, TablesTold, IsLoadFault, WithAnswer, WithPlanned, IsRefusedBy, IsBefore, IsDeviceFault, AreQuiet, IsQuiet};
 
 use crate::canonical::canonical;
 use crate::refusal::Refusal;
-use binder::{bind, bind_statement};
+use binder::bind_statement;
 use checker::check;
 use executor::{AnswerOutput, write_answer, write_rows};
 use oracle::meaning;
 use schema::Schema;
-use sql_parse::{parse_bytes, parse_statement_bytes};
+use sql_parse::parse_statement_bytes;
 use std::alloc::Global;
 use store::{Database, TableInput};
 
@@ -37,8 +37,8 @@ fn load_all<R: TableInput>(
     Ok(())
 }
 
-/// Answers a query: reads the schema, the text and the tables' files, checks a plan and writes what it gives. The tables
-/// are one input each, in the order of the schema.
+/// Answers a query: reads the schema, the text and the tables' files, checks a plan and writes what it gives. The tables are
+/// one input each, in the order of the schema.
 ///
 /// The first fault is told, in the order schema, text, scope, tables, and `out` is then as it was. During the answer
 /// memory or the output may fail, and then a beginning of the answer has been written. No search uses `_limit` yet.
@@ -52,20 +52,20 @@ pub fn query<R: TableInput, W: AnswerOutput>(
 ) -> Result<(), Refusal>
     requires { HasTables schema.now (length tables.old) }
     // What is added to the output is the text of an answer.
-    ensures answered { OnOk result (WithPlanned cut schema.now text.now (map R.remaining tables.old) (Appends (W.contents out.old) (W.contents out.new))) }
+    ensures answered { OnOk result (WithPlanned schema.now text.now (map R.remaining tables.old) (Appends (W.contents out.old) (W.contents out.new))) }
     // Nothing of it is held back.
     ensures handed { OnOk result (W.held out.new ≡ []) }
-    ensures refused { IfErr result (IsRefusedBy cut schema.now text.now (map R.remaining tables.old)) }
+    ensures refused { IfErr result (IsRefusedBy schema.now text.now (map R.remaining tables.old)) }
     ensures untouched { IfErr result (λ r. IsBefore r → out.new ≡ out.old) }
     // A fault that comes later leaves a beginning of such a text.
-    ensures front { OnErr result ((out.new ≡ out.old) ⊎ WithPlanned cut schema.now text.now (map R.remaining tables.old) (HasFront (W.contents out.old) (W.contents out.new))) }
+    ensures front { OnErr result ((out.new ≡ out.old) ⊎ WithPlanned schema.now text.now (map R.remaining tables.old) (HasFront (W.contents out.old) (W.contents out.new))) }
     ensures device { IfErr result (IsDeviceFault (map R.failures tables.old) (map R.failures tables.new) (W.failures out.old) (W.failures out.new)) }
     // No other call of a device failed, and none where there is an answer.
     ensures quiet { OnOk result (IsQuiet (map R.failures tables.old) (map R.failures tables.new) (W.failures out.old) (W.failures out.new)) }
 {
     let schema = Schema::read(alloc, schema)?;
-    let ast = parse_bytes(alloc, text)?;
-    let query = bind(alloc, &schema, &ast)?;
+    let statement = parse_statement_bytes(alloc, text)?;
+    let query = bind_statement(alloc, &schema, &statement)?;
     let mut database = Database::new(alloc, &schema)?;
     load_all(alloc, &mut database, tables)?;
     let certificate = canonical(alloc, &query)?;
@@ -74,7 +74,7 @@ pub fn query<R: TableInput, W: AnswerOutput>(
     Ok(())
 }
 
-/// Answers a query of the whole language by the slow evaluator, with no plan: reads the schema, the text and the tables'
+/// Answers a query by the slow evaluator, with no plan: reads the schema, the text and the tables'
 /// files, and writes what the query means. The tables are one input each, in the order of the schema.
 ///
 /// The first fault is told, in the order schema, text, scope, tables, and `out` is then as it was. Memory or the output may
@@ -88,13 +88,13 @@ pub fn evaluate<R: TableInput, W: AnswerOutput>(
 ) -> Result<(), Refusal>
     requires { HasTables schema.now (length tables.old) }
     // What is added to the output is the text of an answer.
-    ensures answered { OnOk result (WithAnswer whole schema.now text.now (map R.remaining tables.old) (Appends (W.contents out.old) (W.contents out.new))) }
+    ensures answered { OnOk result (WithAnswer schema.now text.now (map R.remaining tables.old) (Appends (W.contents out.old) (W.contents out.new))) }
     // Nothing of it is held back.
     ensures handed { OnOk result (W.held out.new ≡ []) }
-    ensures refused { IfErr result (IsRefusedBy whole schema.now text.now (map R.remaining tables.old)) }
+    ensures refused { IfErr result (IsRefusedBy schema.now text.now (map R.remaining tables.old)) }
     ensures untouched { IfErr result (λ r. IsBefore r → out.new ≡ out.old) }
     // A fault that comes later leaves a beginning of such a text.
-    ensures front { OnErr result ((out.new ≡ out.old) ⊎ WithAnswer whole schema.now text.now (map R.remaining tables.old) (HasFront (W.contents out.old) (W.contents out.new))) }
+    ensures front { OnErr result ((out.new ≡ out.old) ⊎ WithAnswer schema.now text.now (map R.remaining tables.old) (HasFront (W.contents out.old) (W.contents out.new))) }
     ensures device { IfErr result (IsDeviceFault (map R.failures tables.old) (map R.failures tables.new) (W.failures out.old) (W.failures out.new)) }
     // No other call of a device failed, and none where there is an answer.
     ensures quiet { OnOk result (IsQuiet (map R.failures tables.old) (map R.failures tables.new) (W.failures out.old) (W.failures out.new)) }

@@ -5,7 +5,7 @@ use Rattle.schema.specs.declared.schema.Schema.{Schema}
 use Rattle.store.specs.Databases.{Stored}
 use Rattle.executor.specs.AnswerText.{HasFront}
 use Rattle.sqlplan.specs.Refusals.{of_scope, of_answer}
-use Rattle.sqlplan.specs.EndToEnd.{IsLoadFault, whole}
+use Rattle.sqlplan.specs.EndToEnd.{IsLoadFault}
 use Rattle.sqlplan.proofs.Queried.{of_fault, on_fault, scope_refused, load_refused, load_device_fault, told_all, satisfied_by, answer_refused, answer_device, answer_after, with_answer}
 use Rattle.sqlplan.proofs.end_to_end.evaluate.Goals as goal
 
@@ -19,7 +19,7 @@ pub returns-in_err-load_all-clause-refused : goal.returns-in_err-load_all-clause
 returns-in_err-load_all-clause-refused g c =
     let p = err_from_is_err_and c.from_residual-in_err-load_all.result c.from_residual-in_err-load_all.ensures.1 in
     of_fault c.from_residual-in_err-load_all.result c.in_err-load_all.field-0.0 _ (p.1 ∙ ap Err p.2)
-    (load_refused whole c.args.schema.now c.args.text.now c.in_ok-schema.schema c.in_ok-query.query (map g.R.TableInput.remaining c.args.tables.now) c.in_err-load_all.field-0.0
+    (load_refused c.args.schema.now c.args.text.now c.in_ok-schema.schema c.in_ok-query.query (map g.R.TableInput.remaining c.args.tables.now) c.in_err-load_all.field-0.0
     (record { is_schema = c.in_ok-schema.ensures.exact; is_query = (c.in_ok-statement.statement, c.in_ok-statement.ensures.found, c.in_ok-query.ensures.exact) })
     (subst (λ (S : Schema). IsLoadFault S (map g.R.TableInput.remaining c.args.tables.now) c.in_err-load_all.field-0.0) (ap (λ (s : Stored). s.schema) c.in_ok-database.ensures) c.in_err-load_all.ensures.fails))
 
@@ -33,7 +33,7 @@ pub returns-in_err-write_rows-clause-refused : goal.returns-in_err-write_rows-cl
 returns-in_err-write_rows-clause-refused g c =
     let p = err_from_is_err_and c.from_residual-in_err-write_rows.result c.from_residual-in_err-write_rows.ensures.1 in
     of_fault c.from_residual-in_err-write_rows.result (of_answer c.in_err-write_rows.field-0.0) _ (p.1 ∙ ap Err p.2)
-    (answer_refused whole c.args.schema.now c.args.text.now c.in_ok-schema.schema c.in_ok-query.query (map g.R.TableInput.remaining c.args.tables.now) c.in_err-write_rows.field-0.0
+    (answer_refused c.args.schema.now c.args.text.now c.in_ok-schema.schema c.in_ok-query.query (map g.R.TableInput.remaining c.args.tables.now) c.in_err-write_rows.field-0.0
     (record { is_schema = c.in_ok-schema.ensures.exact; is_query = (c.in_ok-statement.statement, c.in_ok-statement.ensures.found, c.in_ok-query.ensures.exact) }))
 
 pub returns-in_err-write_rows-clause-untouched : goal.returns-in_err-write_rows-clause-untouched
@@ -44,7 +44,7 @@ returns-in_err-write_rows-clause-untouched g c =
 pub returns-in_err-write_rows-clause-front : goal.returns-in_err-write_rows-clause-front
 returns-in_err-write_rows-clause-front g c =
     let p = err_from_is_err_and c.from_residual-in_err-write_rows.result c.from_residual-in_err-write_rows.ensures.1 in
-    on_fault c.from_residual-in_err-write_rows.result (of_answer c.in_err-write_rows.field-0.0) _ (p.1 ∙ ap Err p.2) (inr (with_answer whole c.args.schema.now c.args.text.now (map g.R.TableInput.remaining c.args.tables.now) c.in_ok-schema.schema c.in_ok-query.query c.load_all.new.database c.in_ok-rows.rows.items
+    on_fault c.from_residual-in_err-write_rows.result (of_answer c.in_err-write_rows.field-0.0) _ (p.1 ∙ ap Err p.2) (inr (with_answer c.args.schema.now c.args.text.now (map g.R.TableInput.remaining c.args.tables.now) c.in_ok-schema.schema c.in_ok-query.query c.load_all.new.database c.in_ok-rows.rows.items
     (HasFront (g.W.AnswerOutput.contents c.args.out.now) (g.W.AnswerOutput.contents c.write_rows.new.out))
     (record { is_schema = c.in_ok-schema.ensures.exact; is_query = (c.in_ok-statement.statement, c.in_ok-statement.ensures.found, c.in_ok-query.ensures.exact) })
     (told_all c.in_ok-database.database.schema c.in_ok-schema.schema (map g.R.TableInput.remaining c.args.tables.now) (length c.args.tables.now) (length c.in_ok-schema.schema.tables) c.load_all.new.database.tables
@@ -61,7 +61,7 @@ returns-in_err-write_rows-clause-device g c =
 
 pub returns-clause-answered : goal.returns-clause-answered
 returns-clause-answered g c =
-    with_answer whole c.args.schema.now c.args.text.now (map g.R.TableInput.remaining c.args.tables.now) c.in_ok-schema.schema c.in_ok-query.query c.load_all.new.database c.in_ok-rows.rows.items
+    with_answer c.args.schema.now c.args.text.now (map g.R.TableInput.remaining c.args.tables.now) c.in_ok-schema.schema c.in_ok-query.query c.load_all.new.database c.in_ok-rows.rows.items
     (Appends (g.W.AnswerOutput.contents c.args.out.now) (g.W.AnswerOutput.contents c.write_rows.new.out))
     (record { is_schema = c.in_ok-schema.ensures.exact; is_query = (c.in_ok-statement.statement, c.in_ok-statement.ensures.found, c.in_ok-query.ensures.exact) })
     (told_all c.in_ok-database.database.schema c.in_ok-schema.schema (map g.R.TableInput.remaining c.args.tables.now) (length c.args.tables.now) (length c.in_ok-schema.schema.tables) c.load_all.new.database.tables
