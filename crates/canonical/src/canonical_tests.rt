@@ -211,24 +211,34 @@ fn a_table_with_a_filter(rt: HostRuntime) -> Result<(), Fail> {
     Ok(())
 }
 
+fn push_left_join(alloc: Global, lines: &mut Vec<Expr>) -> Result<(), Fail> {
+    let own_dept = one_condition(alloc, Comparison::Equal, 1, Term::Column(4))?;
+    lines.push(Expr::Get(0))?;
+    lines.push(Expr::Get(1))?;
+    lines.push(Expr::LeftJoin(own_dept, 0, 1))?;
+    Ok(())
+}
+
+fn push_subquery(alloc: Global, lines: &mut Vec<Expr>) -> Result<(), Fail> {
+    let own_badge = one_condition(alloc, Comparison::Equal, 10, Term::Column(0))?;
+    lines.push(Expr::Get(2))?;
+    lines.push(Expr::Select(own_badge, 3))?;
+    lines.push(Expr::Keep(set_of(alloc, &[7])?, 4))?;
+    Ok(())
+}
+
 #[test]
 fn a_left_join_and_a_subquery_in_order(rt: HostRuntime) -> Result<(), Fail> {
     let alloc = rt.alloc();
     let text =
         "SELECT e.id, d.name FROM emp e LEFT JOIN dept d ON e.dept = d.id WHERE EXISTS (SELECT f.id FROM emp f WHERE f.badge = e.id) ORDER BY e.id DESC";
     let query = query_of(&rt, alloc, text);
-    let own_dept = one_condition(alloc, Comparison::Equal, 1, Term::Column(4))?;
-    let own_badge = one_condition(alloc, Comparison::Equal, 10, Term::Column(0))?;
-    let lines = vec![in alloc;
-        Expr::Get(0),
-        Expr::Get(1),
-        Expr::LeftJoin(own_dept, 0, 1),
-        Expr::Get(2),
-        Expr::Select(own_badge, 3),
-        Expr::Keep(set_of(alloc, &[7])?, 4),
-        Expr::Select(Conjuncts::one(alloc, Condition::Exists(5))?, 2),
-        Expr::Keep(set_of(alloc, &[0, 5])?, 6),
-    ]?;
+    let mut lines = Vec::new(alloc);
+    push_left_join(alloc, &mut lines)?;
+    push_subquery(alloc, &mut lines)?;
+    let exists = Conjuncts::one(alloc, Condition::Exists(5))?;
+    lines.push(Expr::Select(exists, 2))?;
+    lines.push(Expr::Keep(set_of(alloc, &[0, 5])?, 6))?;
     let plan = plan_over(alloc, &query, lines.as_slice())?;
     assert_eq!(rt;
         plan.as_str(),
