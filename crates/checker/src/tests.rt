@@ -1,100 +1,39 @@
-//! Certificates of `SELECT id FROM emp WHERE pay <> 500`.
+//! Certificates of worked queries.
 
-ghost use Rattle.std.specs.Prelude.{◌≡◌, ◌+◌, IfOk, length};
-ghost use Rattle.binder.specs.declared.query.Cond.{out-Cond};
-ghost use Rattle.binder.specs.Simple.{IsSimple, IsComparison};
+ghost use Rattle.std.specs.Prelude.{IfSome};
+ghost use Rattle.checker.specs.Replay.{IsBoundOver};
 
-use crate::certificate::{Certificate, CheckCode, CheckFault, CheckRefusal, Line, Node, Plan};
+use crate::certificate::{Certificate, CheckCode, CheckFault, CheckRefusal, Line};
 use crate::checked::check;
-use binder::{Block, Column as Place, Cond, From, Item, Occurrence, Query, TableUse, Term as Read};
-use logical::{Columns, Condition, Conjuncts, Expr, Term};
-use schema::{Column, Kind, Schema, Table};
+use binder::{Query, bind_statement};
+use logical::{Columns, Condition, Conjuncts, Expr, Term, query_frame};
+use physical::{JoinKind, Node, OrderKey, Plan};
+use schema::{Schema, SchemaFault};
+use sql_parse::parse_statement;
 use std::alloc::{AllocError, Global};
-use values::{Boxed, Comparison, Fault, Items, Text, Value};
+use values::{Comparison, Fault, Items, Value};
 
-fn push_column(
-    alloc: Global,
-    columns: &mut Items<Column>,
-    name: &str,
-    kind: Kind,
-    not_null: bool,
-) -> Result<(), AllocError>
-    ensures { IfOk result (λ _. length columns.new ≡ length columns.old + 1) }
-{
-    let name = Text::from_str(alloc, name)?;
-    columns.push(Column {
-        name,
-        kind,
-        not_null,
-    })
+const ROW_1: &str = "SELECT id FROM emp WHERE pay <> 500";
+
+/// emp(id, dept, pay, badge) and dept(id, boss), numbers all.
+fn schema(alloc: Global) -> Result<Schema, SchemaFault> {
+    let text = r#"{"tables":[
+        {"name":"emp","columns":[{"name":"id","kind":"INT","not_null":true},{"name":"dept","kind":"INT","not_null":false},{"name":"pay","kind":"INT","not_null":false},{"name":"badge","kind":"INT","not_null":false}],"unique":[],"indexes":[]},
+        {"name":"dept","columns":[{"name":"id","kind":"INT","not_null":true},{"name":"boss","kind":"INT","not_null":false}],"unique":[],"indexes":[]}]}"#;
+    Schema::read(alloc, text.as_bytes())
 }
 
-/// emp(id INT NOT NULL, dept INT, pay INT, badge INT)
-fn emp(alloc: Global) -> Result<Table, AllocError>
-    ensures { IfOk result (λ t. length t.columns ≡ 4) }
+/// The query that a text is.
+fn asked(alloc: Global, schema: &Schema, text: &str) -> Option<Query>
+    ensures { IfSome result (IsBoundOver schema.now) }
 {
-    let mut columns = Items::new(alloc);
-    push_column(alloc, &mut columns, "id", Kind::Int, true)?;
-    push_column(alloc, &mut columns, "dept", Kind::Int, false)?;
-    push_column(alloc, &mut columns, "pay", Kind::Int, false)?;
-    push_column(alloc, &mut columns, "badge", Kind::Int, false)?;
-    Ok(Table {
-        name: Text::from_str(alloc, "emp")?,
-        columns,
-        unique: Items::new(alloc),
-        indexes: Items::new(alloc),
-    })
-}
-
-fn schema(alloc: Global) -> Result<Schema, AllocError> {
-    let mut tables = Items::new(alloc);
-    tables.push(emp(alloc)?)?;
-    Ok(Schema { tables })
-}
-
-fn not_500(alloc: Global) -> Result<Boxed<Cond>, AllocError>
-    ensures { IfOk result (λ c. IsComparison 4 (out-Cond c)) }
-{
-    let pay = Read::Column(Place { level: 0, place: 2 });
-    Boxed::new(
-        alloc,
-        Cond::Compare(Comparison::NotEqual, pay, Read::Literal(Value::Int(500))),
-    )
-}
-
-fn query(alloc: Global) -> Result<Query, AllocError>
-    ensures { IfOk result IsSimple }
-{
-    let mut tables = Items::new(alloc);
-    let entry = emp(alloc)?;
-    let name = Text::from_str(alloc, "emp")?;
-    tables.push(TableUse {
-        table: 0,
-        entry,
-        name,
-        first_column: 0,
-    })?;
-    let mut items = Items::new(alloc);
-    items.push(Item::Column(Place { level: 0, place: 0 }))?;
-    let mut names = Items::new(alloc);
-    names.push(Text::from_str(alloc, "id")?)?;
-    let filter = Some(not_500(alloc)?);
-    Ok(Query {
-        tables,
-        block: Block {
-            from: From::Table(Occurrence {
-                number: 0,
-                table: 0,
-            }),
-            filter,
-            grouped: false,
-            keys: Items::new(alloc),
-            items,
-            distinct: false,
-        },
-        names,
-        order: Items::new(alloc),
-    })
+    let Ok(statement) = parse_statement(alloc, text) else {
+        return None;
+    };
+    let Ok(query) = bind_statement(alloc, schema, &statement) else {
+        return None;
+    };
+    Some(query)
 }
 
 /// `[<>(c2,i<number>)]`
@@ -127,39 +66,54 @@ fn lines(alloc: Global, number: i128, class: usize) -> Result<Items<Line>, Alloc
     Ok(lines)
 }
 
-fn scan(alloc: Global, line: usize) -> Plan {
+fn scan_of(alloc: Global, line: usize, occurrence: usize) -> Plan {
     Plan {
-        node: Node::Scan {
-            line,
-            occurrence: 0,
-        },
+        node: Node::Scan { line, occurrence },
         inputs: Items::new(alloc),
     }
 }
 
-fn filter(alloc: Global, number: i128, input: Plan) -> Result<Plan, AllocError> {
+fn scan(alloc: Global, line: usize) -> Plan {
+    scan_of(alloc, line, 0)
+}
+
+/// A node over one input.
+fn over(alloc: Global, node: Node, input: Plan) -> Result<Plan, AllocError> {
     let mut inputs = Items::new(alloc);
     inputs.push(input)?;
+    Ok(Plan { node, inputs })
+}
+
+/// A node over two inputs.
+fn over_both(alloc: Global, node: Node, left: Plan, right: Plan) -> Result<Plan, AllocError> {
+    let mut inputs = Items::new(alloc);
+    inputs.push(left)?;
+    inputs.push(right)?;
+    Ok(Plan { node, inputs })
+}
+
+fn filter(alloc: Global, number: i128, input: Plan) -> Result<Plan, AllocError> {
     let conjuncts = pay_is_not(alloc, number)?;
-    Ok(Plan {
-        node: Node::Filter { line: 1, conjuncts },
-        inputs,
-    })
+    over(alloc, Node::Filter { line: 1, conjuncts }, input)
+}
+
+fn cut_to(alloc: Global, line: usize, column: usize, input: Plan) -> Result<Plan, AllocError> {
+    let columns = only_column(alloc, column)?;
+    over(alloc, Node::Cut { line, columns }, input)
 }
 
 fn cut(alloc: Global, line: usize, input: Plan) -> Result<Plan, AllocError> {
-    let mut inputs = Items::new(alloc);
-    inputs.push(input)?;
-    let columns = only_column(alloc, 0)?;
-    Ok(Plan {
-        node: Node::Cut { line, columns },
-        inputs,
-    })
+    cut_to(alloc, line, 0, input)
 }
 
+/// The verdict on a certificate of the first query.
 fn verdict(alloc: Global, lines: Items<Line>, plan: Plan) -> Result<(), CheckFault> {
-    let schema = schema(alloc)?;
-    let query = query(alloc)?;
+    let Ok(schema) = schema(alloc) else {
+        return Err(Fault::Memory);
+    };
+    let Some(query) = asked(alloc, &schema, ROW_1) else {
+        return Err(Fault::Memory);
+    };
     check(alloc, &schema, &query, &Certificate { lines, plan })?;
     Ok(())
 }
@@ -274,5 +228,130 @@ fn a_line_that_is_not_there_is_told(rt: HostRuntime) {
     assert_eq!(rt;
         citing_line_7(rt.alloc()),
         refusal(5, CheckCode::UnknownLine)
+    );
+}
+
+// ---- other queries, with the lines of their frames
+
+/// The verdict on a plan over the lines of the query's own frame.
+fn planned(alloc: Global, text: &str, plan: Plan) -> Result<(), CheckFault> {
+    let Ok(schema) = schema(alloc) else {
+        return Err(Fault::Memory);
+    };
+    let Some(query) = asked(alloc, &schema, text) else {
+        return Err(Fault::Memory);
+    };
+    let mut frame = query_frame(alloc, &query)?;
+    let mut lines = Items::new(alloc);
+    while !frame.is_empty() {
+        lines.push(Line::Founds(frame.remove(0)))?;
+    }
+    check(alloc, &schema, &query, &Certificate { lines, plan })?;
+    Ok(())
+}
+
+const BADGES: &str = "SELECT DISTINCT badge FROM emp ORDER BY badge DESC";
+
+fn badges(alloc: Global) -> Result<Plan, AllocError> {
+    let node = Node::HashDistinct { line: 2 };
+    over(alloc, node, cut_to(alloc, 1, 3, scan(alloc, 0))?)
+}
+
+fn sorted(
+    alloc: Global,
+    column: usize,
+    descending: bool,
+    input: Plan,
+) -> Result<Plan, AllocError> {
+    let mut keys = Items::new(alloc);
+    keys.push(OrderKey { column, descending })?;
+    over(alloc, Node::Sort { keys }, input)
+}
+
+fn unsorted_badges(alloc: Global) -> Result<(), CheckFault> {
+    planned(alloc, BADGES, badges(alloc)?)
+}
+
+fn badges_sorted_by(alloc: Global, column: usize, descending: bool) -> Result<(), CheckFault> {
+    planned(alloc, BADGES, sorted(alloc, column, descending, badges(alloc)?)?)
+}
+
+#[test]
+fn an_order_by_that_is_not_delivered_is_told(rt: HostRuntime) {
+    let alloc = rt.alloc();
+    assert_eq!(rt; unsorted_badges(alloc), refusal(3, CheckCode::UnsortedAnswer));
+    assert_eq!(rt;
+        badges_sorted_by(alloc, 3, false),
+        refusal(3, CheckCode::UnsortedAnswer)
+    );
+}
+
+#[test]
+fn a_sort_on_top_delivers_it(rt: HostRuntime) {
+    assert_eq!(rt; badges_sorted_by(rt.alloc(), 3, true), Ok(()));
+}
+
+#[test]
+fn a_sort_by_a_column_of_no_row_is_told(rt: HostRuntime) {
+    assert_eq!(rt;
+        badges_sorted_by(rt.alloc(), 2, true),
+        refusal(3, CheckCode::IllFormed)
+    );
+}
+
+const BOSSES: &str = "SELECT d.boss FROM dept d LEFT JOIN emp e ON e.dept = d.id";
+
+/// `[=(c3,c0)]`: dept has the columns 0 and 1, emp those from 2 on.
+fn in_dept(alloc: Global) -> Result<Conjuncts, AllocError> {
+    Conjuncts::one(
+        alloc,
+        Condition::Compare(Comparison::Equal, Term::Column(3), Term::Column(0)),
+    )
+}
+
+fn bosses(alloc: Global, kind: JoinKind) -> Result<(), CheckFault> {
+    let conjuncts = in_dept(alloc)?;
+    let node = Node::Loop {
+        line: 2,
+        kind,
+        conjuncts,
+    };
+    let pairs = over_both(alloc, node, scan_of(alloc, 0, 0), scan_of(alloc, 1, 1))?;
+    planned(alloc, BOSSES, cut_to(alloc, 3, 1, pairs)?)
+}
+
+#[test]
+fn a_left_join_is_no_inner_one(rt: HostRuntime) {
+    let alloc = rt.alloc();
+    assert_eq!(rt; bosses(alloc, JoinKind::Left), Ok(()));
+    assert_eq!(rt;
+        bosses(alloc, JoinKind::Inner),
+        refusal(5, CheckCode::OtherOperator)
+    );
+}
+
+const WITH_EMP: &str = "SELECT d.id FROM dept d WHERE EXISTS (SELECT e.id FROM emp e)";
+
+/// The lines are the two tables', the subquery's cut, the selection and the cut.
+fn departments(alloc: Global, with_subquery: bool) -> Result<(), CheckFault> {
+    let conjuncts = Conjuncts::one(alloc, Condition::Exists(2))?;
+    let node = Node::FilterSubqueries { line: 3, conjuncts };
+    let table = scan_of(alloc, 0, 0);
+    let rows = if with_subquery {
+        let subquery = cut_to(alloc, 2, 2, scan_of(alloc, 1, 1))?;
+        over_both(alloc, node, table, subquery)?
+    } else {
+        over(alloc, node, table)?
+    };
+    planned(alloc, WITH_EMP, cut(alloc, 4, rows)?)
+}
+
+#[test]
+fn a_filter_wants_its_subqueries(rt: HostRuntime) {
+    let alloc = rt.alloc();
+    assert_eq!(rt; departments(alloc, true), Ok(()));
+    assert_eq!(rt;
+        departments(alloc, false),
+        refusal(6, CheckCode::OtherOperator)
     );
 }

@@ -1,3 +1,12 @@
+pub mod ClosureSorts
+pub mod ColumnPlaces
+pub mod FirstSeen
+pub mod GroupEnvs
+pub mod GroupRows
+pub mod JoinRows
 pub mod Plans
+pub mod PlayedPlans
+pub mod RelationRows
 pub mod Sent
+pub mod Steps
 pub mod Widths

@@ -1,7 +1,7 @@
 //! Queries of the whole language by the command `meaning`, over the tables of `examples/hr`. Their answers are sqlite3's:
 //! bench/answers.py reads this file and asks it.
 
-use crate::end_to_end::evaluate;
+use crate::end_to_end::{evaluate, query};
 use crate::refusal::fault_line;
 use crate::tests::{DEPT, EMP, SCHEMA, in_a_line};
 use executor::CountedOutput;
@@ -12,10 +12,18 @@ use std::process::Abort;
 use std::test::Fail;
 use store::CountedInput;
 
-/// What the evaluator writes, or the line that the program says; nothing is written before a refusal.
-fn shown(
+/// By what a query is answered.
+#[derive(Clone, Copy)]
+enum Way {
+    Plan,
+    Meaning,
+}
+
+/// What a command writes, or the line that the program says; nothing is written before a refusal.
+fn told_by(
     rt: &impl Abort,
     alloc: Global,
+    way: Way,
     text: &str,
     dept: &[u8],
     emp: &[u8],
@@ -24,13 +32,11 @@ fn shown(
     let mut tables = vec![in alloc; CountedInput::new(dept), CountedInput::new(emp)]?;
     assert_eq!(rt; schema.tables.len(), tables.len());
     let mut out = CountedOutput::new(BufWriter::new(alloc, Vec::new(alloc))?);
-    let outcome = evaluate(
-        alloc,
-        SCHEMA,
-        text.as_bytes(),
-        tables.as_mut_slice(),
-        &mut out,
-    );
+    let (text, inputs) = (text.as_bytes(), tables.as_mut_slice());
+    let outcome = match way {
+        Way::Plan => query(alloc, SCHEMA, text, inputs, 20000, &mut out),
+        Way::Meaning => evaluate(alloc, SCHEMA, text, inputs, &mut out),
+    };
     // What is still in the buffer was not handed on.
     let (written, _) = out.into_inner().into_parts();
     match outcome {
@@ -40,6 +46,20 @@ fn shown(
             Ok(fault_line(alloc, &refusal, Some(&schema))?)
         }
     }
+}
+
+/// What both commands say of a query; its canonical plan gives the rows in the evaluator's order.
+fn shown(
+    rt: &impl Abort,
+    alloc: Global,
+    text: &str,
+    dept: &[u8],
+    emp: &[u8],
+) -> Result<String, Fail> {
+    let meant = told_by(rt, alloc, Way::Meaning, text, dept, emp)?;
+    let planned = told_by(rt, alloc, Way::Plan, text, dept, emp)?;
+    assert_eq!(rt; planned.as_str(), meant.as_str(), "at {text}");
+    Ok(meant)
 }
 
 /// Each line has a text, `=>`, and the lines that it is answered with, with `;` between them.

@@ -7,6 +7,8 @@ ghost use Rattle.sqlplan.specs.Stops.{SaysFile, SaysTable};
 #[cfg(test)]
 mod answers;
 mod canonical;
+#[cfg(test)]
+mod canonical_tests;
 mod command;
 mod end_to_end;
 mod refusal;

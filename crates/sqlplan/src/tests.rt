@@ -3,12 +3,13 @@
 use crate::canonical::canonical;
 use crate::end_to_end::query;
 use crate::refusal::fault_line;
-use binder::bind;
-use checker::{Certificate, Line, Node, Plan};
+use binder::bind_statement;
+use checker::{Certificate, Line};
 use executor::CountedOutput;
 use logical::{Columns, Condition, Conjuncts, Expr, Term};
+use physical::{Node, Plan};
 use schema::Schema;
-use sql_parse::parse_bytes;
+use sql_parse::parse_statement_bytes;
 use std::alloc::{AllocError, Global};
 use std::io::BufWriter;
 use std::process::Abort;
@@ -119,8 +120,10 @@ SELECT id FROM emp WHERE id >= -9223372036854775808 => id;10;11;12;13";
 #[test]
 fn texts_are_refused(rt: HostRuntime) -> Result<(), Fail> {
     const CASES: &str = r" => refused P04 at 0
-SELECT id FROM emp LIMIT 1 => refused P04 at 19
-SELECT id FROM emp, emp => refused P04 at 18
+SELECT id FROM emp LIMIT 1 => refused P04 at 25
+SELECT boss FROM dept RIGHT JOIN emp ON boss = pay => refused P04 at 22
+SELECT id FROM emp, emp => refused B04 at 20
+SELECT name, COUNT(*) FROM dept => refused B06 at 7
 SELECT id FROM => refused P04 at 14
 SELECT 'a => refused P02 at 7
 SELECT id FROM emp WHERE id = 9223372036854775808 => refused P03 at 30
@@ -299,8 +302,8 @@ fn the_first_query_has_its_certificate(rt: HostRuntime) -> Result<(), Fail> {
     let alloc = rt.alloc();
     let schema = Schema::read(alloc, SCHEMA).expect(&rt, "a schema");
     let text = b"SELECT id FROM emp WHERE pay <> 500";
-    let ast = parse_bytes(alloc, text).expect(&rt, "a tree");
-    let query = bind(alloc, &schema, &ast).expect(&rt, "a query");
+    let statement = parse_statement_bytes(alloc, text).expect(&rt, "a tree");
+    let query = bind_statement(alloc, &schema, &statement).expect(&rt, "a query");
     let certificate = canonical(alloc, &query)?;
     let wanted = first_certificate(alloc)?;
     assert_eq!(rt;

@@ -1,0 +1,145 @@
+-- What plans play, by their root's node.
+use Rattle.std.proofs.Common.{◌≡◌, refl, ap, sym, ◌∙◌, subst, ℕ, zero, suc, ◌≤◌, ◌==◌, Bool, true, false, ◌&&◌, not, if◌then◌else◌, List, [], ◌∷◌, ◌++◌, length, map, filter, flat_map, drop, slice_get, Option, Some, Result, IfOk, append-nil, arith}
+use Rattle.std.proofs.lemmas.List.Elements.{filter-append}
+use Rattle.values.specs.declared.truth.Comparison.TheVariants as by
+use Rattle.values.specs.Truth.{negation, truth_of, is_true, compare}
+use Rattle.binder.specs.Meaning.{all_of, any_of}
+use Rattle.logical.specs.declared.condition.Condition.{Condition, roll-Condition, ind-Condition, map-Condition}
+use Rattle.logical.specs.declared.condition.Condition.TheVariants.{rolls-Compare, rolls-IsNull, rolls-Not, rolls-And, rolls-Or, rolls-Exists, rolls-In}
+use Rattle.logical.specs.declared.condition.Condition.TheOpen.{Condition-F}
+use Rattle.logical.specs.Columns.{has}
+use Rattle.logical.specs.Conditions.{truth, term_value, is_empty, holds, classes_in}
+use Rattle.logical.proofs.Loops.{two}
+use Rattle.logical.proofs.Truths.{truth-Compare, truth-IsNull, truth-Not, truth-And, truth-Or, truth-Exists, truth-In}
+use Rattle.physical.specs.declared.plan.JoinKind.{JoinKind}
+use Rattle.physical.specs.declared.plan.JoinKind.TheVariants.{Inner, Left}
+use Rattle.binder.specs.declared.query.TableUse.{TableUse}
+use Rattle.binder.specs.Rows.{Tables}
+use Rattle.logical.specs.Bags.{Env, Bag, Test, lay, nulls, matches, or_else_row, same_on, distinct_on, group}
+use Rattle.physical.specs.declared.plan.Node.{Node}
+use Rattle.physical.specs.declared.plan.Plan.{Plan, out-Plan, fold_out-Plan}
+use Rattle.physical.specs.Plays.{Played, first_columns, second_columns, first, rest, node_columns, node_rows, loop_rows, subquery_rows, play_layer, played, play}
+use Rattle.executor.specs.declared.relation.Relation.{Relation}
+use Rattle.executor.specs.Relations.{IsPlayed, PlaysInput, ArePlayed, given, rows_of}
+
+module _ (uses : List TableUse) (D : Tables) where
+  -- the columns and the rows of a plan, of what its inputs play
+  pub played-columns : (p : Plan) (node : Node) (inputs : List Plan) → (out-Plan p).node ≡ node → inputs ≡ (out-Plan p).inputs → (played uses D p).columns ≡ node_columns uses node (map (λ x. x.columns) (map (played uses D) inputs))
+  unfolding played
+  played-columns p node inputs is given =
+      ap (λ x. x.columns) (fold_out-Plan Played (play_layer uses D) p)
+      ∙ ap (λ n. node_columns uses n (map (λ x. x.columns) (map (played uses D) (out-Plan p).inputs))) is
+      ∙ sym (ap (λ ps. node_columns uses node (map (λ x. x.columns) (map (played uses D) ps))) given)
+
+  pub played-rows : (p : Plan) (node : Node) (inputs : List Plan) (e : Env) → (out-Plan p).node ≡ node → inputs ≡ (out-Plan p).inputs → play uses D p e ≡ node_rows uses D node (map (played uses D) inputs) e
+  unfolding played
+  played-rows p node inputs e is given =
+      ap (λ x. x.rows e) (fold_out-Plan Played (play_layer uses D) p)
+      ∙ ap (λ n. node_rows uses D n (map (played uses D) (out-Plan p).inputs) e) is
+      ∙ sym (ap (λ ps. node_rows uses D node (map (played uses D) ps) e) given)
+
+-- ---- inputs
+
+pub plays-first : (inputs : List Played) (e : Env) (r : Relation) → PlaysInput inputs 0 e r → IsPlayed (first_columns (map (λ x. x.columns) inputs)) (first inputs e) e r
+plays-first [] e r h = h
+plays-first (p ∷ inputs) e r h = h
+
+pub plays-second : (inputs : List Played) (e : Env) (r : Relation) → PlaysInput inputs 1 e r → IsPlayed (second_columns (map (λ x. x.columns) inputs)) (first (rest inputs) e) e r
+plays-second [] e r h = h
+plays-second (p ∷ []) e r h = h
+plays-second (p ∷ q ∷ inputs) e r h = h
+
+-- the same told of equal columns and rows
+pub retell : {E : Type 0} (result : Result Relation E) (K L : List ℕ) (X Y : List Env) (e : Env) → K ≡ L → X ≡ Y → IfOk result (IsPlayed K X e) → IfOk result (IsPlayed L Y e)
+retell result K L X Y e columns rows told = subst (λ M. IfOk result (IsPlayed M Y e)) columns (subst (λ Z. IfOk result (IsPlayed K Z e)) rows told)
+
+-- one more input is played
+pub played-more : (inputs : List Played) (p : Played) (e : Env) (relations : List Relation) (r : Relation) → ArePlayed inputs e relations → IsPlayed p.columns (p.rows e) e r → ArePlayed (inputs ++ p ∷ []) e (relations ++ r ∷ [])
+played-more [] p e [] r all more = (more, tt)
+played-more [] p e (s ∷ relations) r all more = absurd all
+played-more (q ∷ inputs) p e [] r all more = absurd all
+played-more (q ∷ inputs) p e (s ∷ relations) r all more = (all.0, played-more inputs p e relations r all.1 more)
+
+-- a relation that a plan plays is what that input plays
+pub plays-at : (f : Plan → Played) (inputs : List Plan) (number : ℕ) (plan : Plan) (e : Env) {E : Type 0} (result : Result Relation E) → slice_get inputs number ≡ Some plan → IfOk result (IsPlayed (f plan).columns ((f plan).rows e) e)
+    → IfOk result (PlaysInput (map f inputs) number e)
+plays-at f [] number plan e result is h = cc
+plays-at f (p ∷ inputs) zero plan e result is h = let same : p ≡ plan = cc in subst (λ q. IfOk result (IsPlayed (f q).columns ((f q).rows e) e)) (sym same) h
+plays-at f (p ∷ inputs) (suc number) plan e result is h = plays-at f inputs number plan e result is h
+
+pub plays-none : (f : Plan → Played) (inputs : List Plan) (number : ℕ) (e : Env) {E : Type 0} (result : Result Relation E) → length inputs ≤ number → IfOk result (IsPlayed [] [] e) → IfOk result (PlaysInput (map f inputs) number e)
+plays-none f [] number e result past h = h
+plays-none f (p ∷ inputs) zero e result past h = absurd (omega (arith, past))
+plays-none f (p ∷ inputs) (suc number) e result past h = plays-none f inputs number e result (omega (arith, past)) h
+
+pub rest-drop : (f : Plan → Played) (inputs : List Plan) → rest (map f inputs) ≡ map f (drop 1 inputs)
+rest-drop f [] = refl
+rest-drop f (p ∷ inputs) = refl
+
+-- ---- operators on the same rows
+
+pub group-same : (K : List ℕ) (add : List Env → Env → Env) (a b : Bag) (e : Env) → a e ≡ b e → group K add a e ≡ group K add b e
+group-same [] add a b e same = ap (λ rows. add rows e ∷ []) same
+group-same (k ∷ K) add a b e same = ap (λ rows. map (λ r. add (filter (same_on (k ∷ K) r) rows) (lay (has (k ∷ K)) r e)) (distinct_on (k ∷ K) rows)) same
+
+pub loop-same : (kind : JoinKind) (p : Test) (K : List ℕ) (a b c d : Bag) (e : Env) → a e ≡ b e → c e ≡ d e → loop_rows kind p K a c e ≡ loop_rows kind p K b d e
+loop-same Inner p K a b c d e left right = ap (λ rows. flat_map (matches p (has K) (c e)) rows) left ∙ ap (λ rows. flat_map (matches p (has K) rows) (b e)) right
+loop-same Left p K a b c d e left right =
+    ap (λ rows. flat_map (λ r. or_else_row (lay (has K) nulls r) (matches p (has K) (c e) r)) rows) left
+    ∙ ap (λ rows. flat_map (λ r. or_else_row (lay (has K) nulls r) (matches p (has K) rows r)) (b e)) right
+
+-- ---- a filter, row by row
+
+pub filter-in : {X : Type 0} (p : X → Bool) (xs : List X) (x : X) → p x ≡ true → filter p xs ++ x ∷ [] ≡ filter p (xs ++ x ∷ [])
+filter-in p xs x h = ap (λ b. filter p xs ++ (if b then x ∷ [] else [])) (sym h) ∙ sym (filter-append p xs (x ∷ []))
+
+pub filter-out : {X : Type 0} (p : X → Bool) (xs : List X) (x : X) → p x ≡ false → filter p xs ≡ filter p (xs ++ x ∷ [])
+filter-out p xs x h = sym (append-nil (filter p xs)) ∙ ap (λ b. filter p xs ++ (if b then x ∷ [] else [])) (sym h) ∙ sym (filter-append p xs (x ∷ []))
+
+-- ---- conditions with subqueries
+
+-- a condition at a row goes by the classes' rows there
+abbrev SameAt : (ℕ → Bag) → (ℕ → Bag) → Env → Condition → Type 0
+SameAt W V r c = truth c W r ≡ truth c V r
+
+abbrev Proved : (ℕ → Bag) → (ℕ → Bag) → Env → Type 0
+Proved W V r = Condition-F ((c : Condition) × SameAt W V r c)
+
+module _ (W V : ℕ → Bag) (r : Env) (same : (g : ℕ) → W g r ≡ V g r) where
+  abbrev plain : Proved W V r → Condition-F Condition
+  plain = map-Condition _ Condition (λ c. c.0)
+
+  all-parts : (cs : List ((c : Condition) × SameAt W V r c)) → map (λ c. truth c W r) (map (λ c. c.0) cs) ≡ map (λ c. truth c V r) (map (λ c. c.0) cs)
+  all-parts [] = refl
+  all-parts (c ∷ cs) = two (λ x xs. x ∷ xs) c.1 (all-parts cs)
+
+  same-layer : (y : Proved W V r) → SameAt W V r (roll-Condition (plain y))
+  same-layer (Condition-F.Compare op a b) = subst (SameAt W V r) (sym (rolls-Compare op a b)) (truth-Compare op a b W r ∙ sym (truth-Compare op a b V r))
+  same-layer (Condition-F.IsNull a) = subst (SameAt W V r) (sym (rolls-IsNull a)) (truth-IsNull a W r ∙ sym (truth-IsNull a V r))
+  same-layer (Condition-F.Not c) = subst (SameAt W V r) (sym (rolls-Not c.0)) (truth-Not c.0 W r ∙ ap negation c.1 ∙ sym (truth-Not c.0 V r))
+  same-layer (Condition-F.And cs) = subst (SameAt W V r) (sym (rolls-And (map (λ c. c.0) cs))) (truth-And (map (λ c. c.0) cs) W r ∙ ap all_of (all-parts cs) ∙ sym (truth-And (map (λ c. c.0) cs) V r))
+  same-layer (Condition-F.Or cs) = subst (SameAt W V r) (sym (rolls-Or (map (λ c. c.0) cs))) (truth-Or (map (λ c. c.0) cs) W r ∙ ap any_of (all-parts cs) ∙ sym (truth-Or (map (λ c. c.0) cs) V r))
+  same-layer (Condition-F.Exists g) = subst (SameAt W V r) (sym (rolls-Exists g)) (truth-Exists g W r ∙ ap (λ rows. truth_of (not (is_empty rows))) (same g) ∙ sym (truth-Exists g V r))
+  same-layer (Condition-F.In a g k) = subst (SameAt W V r) (sym (rolls-In a g k)) (truth-In a g k W r ∙ ap (λ rows. any_of (map (λ s. compare by.Equal (term_value a r) (s k)) rows)) (same g) ∙ sym (truth-In a g k V r))
+
+  same-truth : (c : Condition) → SameAt W V r c
+  same-truth = ind-Condition (SameAt W V r) (λ x y is. subst (λ z. SameAt W V r (roll-Condition z)) is (same-layer y))
+
+  same-all : (C : List Condition) → holds W C r ≡ holds V C r
+  same-all [] = refl
+  same-all (c ∷ C) = two (λ a b. a && b) (ap is_true (same-truth c)) (same-all C)
+
+-- the relations that are given are the classes' rows
+given-rows : (classes : List ℕ) (inputs : List Played) (relations : List Relation) (r : Env) → ArePlayed inputs r relations → (g : ℕ) → given classes relations g r ≡ subquery_rows classes inputs g r
+given-rows [] inputs relations r all g = refl
+given-rows (h ∷ classes) [] [] r all g = refl
+given-rows (h ∷ classes) [] (s ∷ relations) r all g = absurd all
+given-rows (h ∷ classes) (p ∷ inputs) [] r all g = absurd all
+given-rows (h ∷ classes) (p ∷ inputs) (s ∷ relations) r all g = by (h == g) (given-rows classes inputs relations r all.1 g)
+  where
+    by : (b : Bool) → given classes relations g r ≡ subquery_rows classes inputs g r → (if b then rows_of s else given classes relations g) r ≡ (if b then p.rows else subquery_rows classes inputs g) r
+    by true later = all.0.rows_are
+    by false later = later
+
+pub same-holds : (C : List Condition) (inputs : List Played) (relations : List Relation) (r : Env) → ArePlayed inputs r relations → holds (given (classes_in C) relations) C r ≡ holds (subquery_rows (classes_in C) inputs) C r
+same-holds C inputs relations r all = same-all (given (classes_in C) relations) (subquery_rows (classes_in C) inputs) r (given-rows (classes_in C) inputs relations r all) C

@@ -1,0 +1,31 @@
+-- One more item of a list, in a list that is made of those so far.
+use Rattle.std.proofs.Common.{◌≡◌, refl, ap, sym, ◌∙◌, zero, suc, ℕ, ◌+◌, ◌<◌, Bool, List, [], ◌∷◌, ◌++◌, length, get_or, map, filter, take, arith}
+use Rattle.std.specs.Iterator.{Yields}
+use Rattle.std.specs.Vec.Iter.{into_iter_items, into_iter_len, into_iter_steps}
+use Rattle.std.specs.declared.vec.IntoIter.{IntoIter}
+use Rattle.std.proofs.lemmas.List.Elements.{filter-append}
+use Rattle.logical.proofs.Loops.{map-append}
+
+take-suc : {X : Type 0} (xs : List X) (i : ℕ) (x : X) → i < length xs → x ≡ get_or xs i x → take (suc i) xs ≡ take i xs ++ x ∷ []
+take-suc [] i x h is = absurd (omega (arith, h))
+take-suc (y ∷ xs) zero x h is = ap (λ z. z ∷ []) (sym is)
+take-suc (y ∷ xs) (suc i) x h is = ap (λ l. y ∷ l) (take-suc xs i x (omega (arith, h)) is)
+
+pub take-more : {X : Type 0} (xs : List X) (i : ℕ) (x : X) → i < length xs → x ≡ get_or xs i x → take (i + 1) xs ≡ take i xs ++ x ∷ []
+take-more xs i x h is = let e : i + 1 ≡ suc i = omega arith in ap (λ n. take n xs) e ∙ take-suc xs i x h is
+
+pub map-more : {X Y : Type 0} (f : X → Y) (xs : List X) (i : ℕ) (x : X) → i < length xs → x ≡ get_or xs i x → map f (take (i + 1) xs) ≡ map f (take i xs) ++ f x ∷ []
+map-more f xs i x h is = ap (map f) (take-more xs i x h is) ∙ map-append f (take i xs) (x ∷ [])
+
+pub filter-more : {X Y Z : Type 0} (g : Y → Z) (p : Y → Bool) (f : X → Y) (xs : List X) (i : ℕ) (x : X) → i < length xs → x ≡ get_or xs i x
+    → map g (filter p (map f (take (i + 1) xs))) ≡ map g (filter p (map f (take i xs))) ++ map g (filter p (f x ∷ []))
+filter-more g p f xs i x h is = ap (λ l. map g (filter p l)) (map-more f xs i x h is) ∙ ap (map g) (filter-append p (map f (take i xs)) (f x ∷ [])) ∙ map-append g (filter p (map f (take i xs))) (filter p (f x ∷ []))
+
+none-left : {X : Type 0} (xs : List X) → length xs ≡ 0 → xs ≡ []
+none-left [] h = refl
+none-left (x ∷ xs) h = absurd (omega (arith, h))
+
+-- what an iterator over a vector by value has given when nothing is left
+pub yielded-all : {X A : Type 0} (s t : IntoIter X A) (xs : List X) → Yields into_iter_steps s xs t → into_iter_len t ≡ 0 → xs ≡ s.rest.items
+yielded-all s t [] y h = sym (ap into_iter_items y ∙ none-left (into_iter_items t) (sym t.rest.ok.0 ∙ h))
+yielded-all s t (x ∷ xs) y h = ap (λ l. x ∷ l) (yielded-all y.0 t xs y.2 h) ∙ sym y.1.0

@@ -1,0 +1,17 @@
+use Rattle.std.proofs.Common.{◌≡◌, ap, sym, ◌∙◌, List, map, arith}
+use Rattle.std.proofs.lemmas.List.{take_all}
+use Rattle.schema.specs.Databases.{Row, values_at}
+use Rattle.store.specs.Keys.{key_eq, key_equiv}
+use Rattle.executor.specs.declared.rows.RowData.{RowData}
+use Rattle.executor.specs.Relations.{values_of}
+use Rattle.executor.specs.Groups.{first_seen, firsts_of, group_of, same_at}
+use Rattle.executor.proofs.FirstSeen.{firsts-groups}
+use Rattle.executor.proofs.groups.first_rows.Goals as goal
+
+pub returns : goal.returns
+returns c =
+    let key : RowData → Row = λ r. values_at c.args.places.now (values_of r) in
+    c.loop-group.invariant
+    ∙ ap (λ gs. map values_of (firsts_of (map group_of gs))) (take_all c.loop-group.group-index c.as_slice-group-items.result.now (omega arith) ∙ c.as_slice-group-items.ensures.value)
+    ∙ ap (λ gs. map values_of (firsts_of gs)) c.in_ok-groups.ensures
+    ∙ ap (map values_of) (firsts-groups key key_eq key_equiv c.args.rows.now (first_seen (same_at c.args.places.now) c.args.rows.now))

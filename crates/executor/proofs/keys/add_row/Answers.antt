@@ -1,0 +1,21 @@
+use Rattle.std.proofs.Common.{◌≡◌, refl, ap, sym, ◌∙◌, arith, rules, ◌++◌, ◌∷◌, [], List, map, Some, option_map}
+use Rattle.logical.proofs.Loops.{map-append}
+use Rattle.executor.specs.declared.keys.RowRef.{RowRef}
+use Rattle.executor.specs.declared.rows.RowData.{RowData}
+use Rattle.executor.specs.Groups.{GroupOf, group_of}
+use Rattle.executor.proofs.GroupRows.{added-within, added-past}
+use Rattle.executor.proofs.keys.add_row.Goals as goal
+
+pub returns-then-number-len : goal.returns-then-number-len
+returns-then-number-len c =
+    let g = c.index_mut.result.now in
+    let more : List RowData → GroupOf RowData = λ l. record { first = option_map (λ r. r.now) g.first; rows = l } in
+    added-within c.args.groups.now.items c.args.number c.args.row.now g (record { first = g.first; rows = c.push.new.self }) (omega (arith, c.if-number-len.true, c.len.ensures)) (sym c.index_mut.ensures.value)
+    (ap (λ (l : List RowRef). more (map (λ r. r.row.now) l)) c.in_ok-push.ensures.items ∙ ap more (map-append (λ (r : RowRef). r.row.now) g.rows.items (record { row = c.args.row } ∷ [])))
+
+pub returns : goal.returns
+returns c =
+    let rows : c.push-2.new.self.items ≡ record { row = c.args.row } ∷ [] = search rules in
+    ap (map group_of) c.in_ok-push-3.ensures.items
+    ∙ added-past c.args.groups.now.items c.args.number c.args.row.now (record { first = Some c.args.row; rows = c.push-2.new.self }) (omega (arith, c.if-number-len.false, c.len.ensures))
+    (ap (λ (l : List RowRef). record { first = Some c.args.row.now; rows = map (λ r. r.row.now) l }) rows)

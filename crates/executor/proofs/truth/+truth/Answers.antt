@@ -1,0 +1,53 @@
+use Rattle.std.proofs.Common.{◌≡◌, ◌≢◌, ◌∙◌, refl, ap, sym, map, false}
+use Rattle.values.specs.Cells.{value_of}
+use Rattle.values.specs.declared.cell.Cell.{Cell}
+use Rattle.values.specs.declared.cell.Cell.TheVariants.{Null, Int, Text}
+use Rattle.values.specs.declared.truth.Comparison.TheVariants as by
+use Rattle.values.specs.Truth.{truth_of, is_null, compare}
+use Rattle.binder.specs.Meaning.{any_of}
+use Rattle.logical.specs.Conditions.{truth}
+use Rattle.logical.proofs.Truths.{truth-Compare, truth-IsNull, truth-Not, truth-And, truth-Or, truth-Exists, truth-In}
+use Rattle.executor.specs.Relations.{env_of, subqueries_given}
+use Rattle.executor.proofs.truth.+truth.Goals.{truth-in-Null, truth-in_default}
+use Rattle.executor.proofs.truth.+truth.Goals as goal
+
+not-null : (x : Cell) → x ≢ Null → is_null (value_of x) ≡ false
+not-null Null h = absurd (h refl)
+not-null (Int n) h = refl
+not-null (Text t) h = refl
+
+pub truth-returns-in-Compare : goal.truth-returns-in-Compare
+truth-returns-in-Compare t c = cc (truth-Compare c.in-Compare.comparison c.in-Compare.a c.in-Compare.b (subqueries_given c.args.subqueries) (env_of c.args.env.now))
+
+pub truth-returns-after-matches : goal.truth-returns-after-matches
+truth-returns-after-matches t c =
+    let W = subqueries_given c.args.subqueries in
+    let r = env_of c.args.env.now in
+    let null : c.match-matches.matches ≡ is_null (value_of c.term_cell-in-IsNull.result) = elim c.match-matches.branch [
+      | truth-in-Null w ↦ w.matches-is ∙ sym (ap (λ x. is_null (value_of x)) w.in-Null.is)
+      | truth-in_default w ↦ w.matches-is ∙ sym (not-null c.term_cell-in-IsNull.result w.in_default.not-Null)
+    ] in
+    c.from.ensures ∙ ap truth_of (null ∙ ap is_null c.term_cell-in-IsNull.ensures) ∙ sym (truth-IsNull c.in-IsNull.term W r) ∙ ap (λ d. truth d W r) (sym c.in-IsNull.is)
+
+pub truth-returns-in-Not : goal.truth-returns-in-Not
+truth-returns-in-Not t c = cc (truth-Not c.in-Not.part (subqueries_given c.args.subqueries) (env_of c.args.env.now))
+
+pub truth-returns-in-And : goal.truth-returns-in-And
+truth-returns-in-And t c = cc (truth-And c.in-And.parts (subqueries_given c.args.subqueries) (env_of c.args.env.now))
+
+pub truth-returns-in-Or : goal.truth-returns-in-Or
+truth-returns-in-Or t c = cc (truth-Or c.in-Or.parts (subqueries_given c.args.subqueries) (env_of c.args.env.now))
+
+pub truth-returns-in-Exists : goal.truth-returns-in-Exists
+truth-returns-in-Exists t c =
+    let W = subqueries_given c.args.subqueries in
+    let r = env_of c.args.env.now in
+    c.from-in-Exists.ensures ∙ ap truth_of (c.has_row.ensures r) ∙ sym (truth-Exists c.in-Exists.class W r) ∙ ap (λ d. truth d W r) (sym c.in-Exists.is)
+
+pub truth-returns-in-In : goal.truth-returns-in-In
+truth-returns-in-In t c =
+    let W = subqueries_given c.args.subqueries in
+    let r = env_of c.args.env.now in
+    c.is_among.ensures
+    ∙ ap (λ v. any_of (map (λ s. compare by.Equal v (s c.in-In.column)) (W c.in-In.class r))) c.term_cell-in-In.ensures
+    ∙ sym (truth-In c.in-In.term c.in-In.class c.in-In.column W r) ∙ ap (λ d. truth d W r) (sym c.in-In.is)

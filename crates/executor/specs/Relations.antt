@@ -1,0 +1,86 @@
+-- Rows, relations and environments of an executor, as those of the algebra.
+use Rattle.std.specs.Prelude.{◌≡◌, ℕ, zero, suc, ◌==◌, if◌then◌else◌, List, [], ◌∷◌, ◌++◌, map, slice_index_or, Option, Some, None}
+use Rattle.std.specs.Borrow.{Bor}
+use Rattle.values.specs.declared.value.Value.{Value}
+use Rattle.values.specs.declared.value.Value.TheVariants as value
+use Rattle.values.specs.Cells.{value_of}
+use Rattle.schema.specs.Databases.{Row}
+use Rattle.binder.specs.Rows.{value_at}
+use Rattle.logical.specs.Columns.{has}
+use Rattle.logical.specs.Bags.{Env, Bag, lay, nulls}
+use Rattle.physical.specs.Plays.{Played, no_classes}
+use Rattle.executor.specs.Places.{place_in, place_list, value_in}
+use Rattle.executor.specs.declared.rows.RowData.{RowData}
+use Rattle.executor.specs.declared.rows.RowData.TheVariants.{Stored, Made}
+use Rattle.executor.specs.declared.headings.Heading.{Heading}
+use Rattle.executor.specs.declared.relation.Relation.{Relation}
+use Rattle.executor.specs.declared.truth.Subqueries.{Subqueries}
+use Rattle.executor.specs.declared.environment.Env as lent
+use Rattle.executor.specs.declared.environment.Env.{Empty, Inner'}
+
+-- ---- rows
+
+-- the values of a row by their places
+abbrev pub values_of : RowData → Row
+values_of (Stored table row) = slice_index_or table.now row []
+values_of (Made cells) = map value_of cells.items
+
+-- a column's place in the rows under a heading, and the places of those of the columns that have one
+abbrev pub column_place : Heading → ℕ → Option ℕ
+column_place h c = place_in h.columns h.places.items c
+
+abbrev pub column_places : Heading → List ℕ → List ℕ
+column_places h K = place_list h.columns h.places.items K
+
+-- the environment overlaid with a row
+abbrev pub row_env : Heading → RowData → Env → Env
+row_env h row e = lay (has h.columns) (λ c. value_in (column_place h c) (values_of row)) e
+
+-- ---- relations
+
+-- the rows of a relation in an environment
+abbrev pub rows_of : Relation → Bag
+rows_of r e = map (λ row. row_env r.heading row e) r.rows.items
+
+-- a relation has these columns, and in the environment these rows
+pub record IsPlayed (columns : List ℕ) (rows : List Env) (e : Env) (r : Relation) : Type 0 where
+  pub columns_are : r.heading.columns ≡ columns
+  pub rows_are : rows_of r e ≡ rows
+
+-- ---- environments
+
+-- what each column reads as
+abbrev pub env_of : lent.Env → Env
+env_of Empty = nulls
+env_of (Inner' heading row _ outer) = row_env heading.now row.now (env_of outer)
+
+-- ---- subqueries
+
+-- the rows of each class, where each has a relation
+abbrev pub given : List ℕ → List Relation → ℕ → Bag
+given [] relations = no_classes
+given (g ∷ classes) [] = no_classes
+given (g ∷ classes) (r ∷ relations) = λ h. if g == h then rows_of r else given classes relations h
+
+abbrev pub subqueries_given : Subqueries → ℕ → Bag
+subqueries_given s = given s.classes.now s.relations.now
+
+-- the rows of a relation that is lent, if there is one
+abbrev pub rows_given : Option (Bor Relation) → Bag
+rows_given None e = []
+rows_given (Some r) e = rows_of r.now e
+
+-- ---- inputs of an operator
+
+-- a relation is what the input with this number plays; nothing where there is none
+abbrev pub PlaysInput : List Played → ℕ → Env → Relation → Type 0
+PlaysInput [] number e = IsPlayed [] [] e
+PlaysInput (p ∷ inputs) zero e = IsPlayed p.columns (p.rows e) e
+PlaysInput (p ∷ inputs) (suc number) e = PlaysInput inputs number e
+
+-- each relation is what its input plays
+abbrev pub ArePlayed : List Played → Env → List Relation → Type 0
+ArePlayed [] e [] = Unit {0}
+ArePlayed [] e (r ∷ relations) = ⊥
+ArePlayed (p ∷ inputs) e [] = ⊥
+ArePlayed (p ∷ inputs) e (r ∷ relations) = IsPlayed p.columns (p.rows e) e r × ArePlayed inputs e relations

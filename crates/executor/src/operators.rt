@@ -1,0 +1,136 @@
+//! Scans, filters and cuts.
+
+ghost use Rattle.std.specs.Prelude.{◌≡◌, [], filter, map, slice_get, slice_index_or, IfOk};
+ghost use Rattle.schema.specs.declared.schema.Schema.{Schema};
+ghost use Rattle.binder.specs.Rows.{tables_of};
+ghost use Rattle.logical.specs.Bags as bags;
+ghost use Rattle.logical.specs.Columns.{has};
+ghost use Rattle.logical.specs.Conditions as spec;
+ghost use Rattle.logical.specs.Expressions.{get_columns, get_rows};
+ghost use Rattle.executor.specs.Relations.{IsPlayed, env_of, row_env, rows_of, subqueries_given, values_of};
+
+use crate::environment::Env;
+use crate::headings::Heading;
+use crate::relation::Relation;
+use crate::rows::{RowData, stored_rows};
+use crate::truth::{Subqueries, holds};
+use binder::TableUse;
+use logical::{Columns, Condition};
+use std::alloc::{AllocError, Global};
+use store::Table;
+
+/// The rows of the table with this number; none where there is no such table.
+fn table_rows<'t>(
+    alloc: Global,
+    tables: &'t [Table],
+    number: usize,
+) -> Result<Vec<RowData<'t>>, AllocError>
+    ensures { IfOk result (λ rows. map values_of rows.items ≡ slice_index_or tables.entry.now number []) }
+{
+    match tables.get(number) {
+        Some(table) => stored_rows(alloc, table),
+        None => Ok(Vec::new(alloc)),
+    }
+}
+
+/// All rows of a table occurrence.
+pub fn scanned<'t>(
+    alloc: Global,
+    uses: &[TableUse],
+    tables: &'t [Table],
+    occurrence: usize,
+) -> Result<Relation<'t>, AllocError>
+    ensures { (S : Schema) (e : bags.Env) → IfOk result (IsPlayed (get_columns (slice_get uses.now occurrence)) (get_rows (slice_get uses.now occurrence) (tables_of S tables.entry.now) e) e) }
+{
+    let Some(table_use) = uses.get(occurrence) else {
+        return Relation::none(alloc);
+    };
+    let columns = Columns::run(
+        alloc,
+        table_use.first_column,
+        table_use.entry.columns.len(),
+    )?;
+    Ok(Relation {
+        heading: Heading::new(alloc, columns)?,
+        rows: table_rows(alloc, tables, table_use.table)?,
+    })
+}
+
+fn passing<'t>(
+    alloc: Global,
+    conditions: &[Condition],
+    subqueries: Subqueries<'_, '_>,
+    heading: &Heading,
+    rows: Vec<RowData<'t>>,
+    env: &Env<'_, '_>,
+) -> Result<Vec<RowData<'t>>, AllocError>
+    ensures { IfOk result (λ kept. kept.items ≡ filter (λ row. spec.holds (subqueries_given subqueries.entry) conditions.now (row_env heading.now row (env_of env.now))) rows.entry.items) }
+{
+    let mut kept = Vec::new(alloc);
+    for row in rows {
+        if holds(conditions, subqueries, &Env::Inner(&*heading, &row, &*env)) {
+            kept.push(row)?;
+        }
+    }
+    Ok(kept)
+}
+
+/// The rows at which all conditions are true.
+pub fn filtered<'t>(
+    alloc: Global,
+    conditions: &[Condition],
+    subqueries: Subqueries<'_, '_>,
+    input: Relation<'t>,
+    env: &Env<'_, '_>,
+) -> Result<Relation<'t>, AllocError>
+    ensures { IfOk result (IsPlayed input.entry.heading.columns (bags.select (spec.holds (subqueries_given subqueries.entry) conditions.now) (rows_of input.entry) (env_of env.now)) (env_of env.now)) }
+{
+    let Relation { heading, rows } = input;
+    let kept = passing(alloc, conditions, subqueries, &heading, rows, env)?;
+    Ok(Relation {
+        heading,
+        rows: kept,
+    })
+}
+
+/// The rows cut to the columns.
+pub fn cut<'t>(
+    alloc: Global,
+    columns: &Columns,
+    input: Relation<'t>,
+    env: &Env<'_, 't>,
+) -> Result<Relation<'t>, AllocError>
+    ensures { IfOk result (IsPlayed columns.now (bags.keep (has columns.now) (rows_of input.entry) (env_of env.now)) (env_of env.now)) }
+{
+    let wanted = columns.as_slice();
+    let places = input.heading.places_of(alloc, wanted)?;
+    if places.as_slice().len() != wanted.len() {
+        return copied(alloc, columns, &input, env);
+    }
+    Ok(Relation {
+        heading: Heading {
+            columns: columns.copy(alloc)?,
+            places,
+        },
+        rows: input.rows,
+    })
+}
+
+/// The same where the rows lack one of the columns: it is that of the environment.
+fn copied<'t>(
+    alloc: Global,
+    columns: &Columns,
+    input: &Relation<'t>,
+    env: &Env<'_, 't>,
+) -> Result<Relation<'t>, AllocError>
+    ensures { IfOk result (IsPlayed columns.now (bags.keep (has columns.now) (rows_of input.now) (env_of env.now)) (env_of env.now)) }
+{
+    let mut rows = Vec::with_capacity(alloc, input.rows.len())?;
+    for row in input.rows.as_slice() {
+        rows.push(Env::Inner(&input.heading, &*row, &*env).row(alloc, columns.as_slice())?)?;
+    }
+    Ok(Relation {
+        heading: Heading::new(alloc, columns.copy(alloc)?)?,
+        rows,
+    })
+}
