@@ -39,7 +39,11 @@ fn lesser<'t>(v: Cell<'t>, w: Cell<'t>) -> Cell<'t>
     match (v, w) {
         (Cell::Null, _) => w,
         (_, Cell::Null) => v,
-        _ => if order(v, w) == Ordering::Greater { w } else { v },
+        _ => if order(v, w) == Ordering::Greater {
+            w
+        } else {
+            v
+        },
     }
 }
 
@@ -47,7 +51,11 @@ fn lesser<'t>(v: Cell<'t>, w: Cell<'t>) -> Cell<'t>
 fn greater<'t>(v: Cell<'t>, w: Cell<'t>) -> Cell<'t>
     ensures { value_of result ≡ spec.greater (value_of v.entry) (value_of w.entry) }
 {
-    if order(v, w) == Ordering::Greater { v } else { w }
+    if order(v, w) == Ordering::Greater {
+        v
+    } else {
+        w
+    }
 }
 
 /// The least of the values, Nulls aside.

@@ -13,8 +13,8 @@ ghost use Rattle.executor.specs.Groups.{first_env, first_of, first_seen, group_e
 
 use crate::aggregates::{greatest, known, least, sum};
 use crate::environment::{Env, row_cell};
-use crate::keys::{Group, RowRef, groups_of};
 use crate::headings::Heading;
+use crate::keys::{Group, RowRef, groups_of};
 use crate::relation::Relation;
 use crate::rows::RowData;
 use binder::Aggregate;

@@ -76,12 +76,7 @@ impl<'a, 't> Subqueries<'a, 't> {
 }
 
 /// Whether a value equals that of the column in some of the rows.
-fn equals_some(
-    cell: Cell<'_>,
-    relation: &Relation<'_>,
-    column: usize,
-    env: &Env<'_, '_>,
-) -> Truth
+fn equals_some(cell: Cell<'_>, relation: &Relation<'_>, column: usize, env: &Env<'_, '_>) -> Truth
     ensures { result ≡ any_of (map (λ s. logic.compare by.Equal (value_of cell.entry) (s column)) (rows_of relation.now (env_of env.now))) }
 {
     let mut any = Truth::False;
