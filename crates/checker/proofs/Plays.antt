@@ -66,11 +66,13 @@ module _ (q : Query) (D : Tables) (lines F : List Expr) (replays : lines_replay 
   all-before g le (x ∷ inputs) [] below all = absurd all
   all-before g le (x ∷ inputs) (h ∷ needed) below all =
       let parts = and_parts _ _ below in
-      let lt : h < g = ltb-true h g parts.0 in
-      (record {
-        columns = all.0.columns ∙ sym (before_columns q.tables lines g h lt le);
-        rows = same_bag-trans x.rows (class_rows q.tables D (reverse lines) h) (class_rows q.tables D (reverse (take g lines)) h) all.0.rows (same_bag-equal _ _ (λ e. sym (before q.tables D lines g h e lt le)));
-      }, all-before g le inputs needed parts.1 all.1)
+      let lt : h < g = ltb-true h g parts.0 in (
+        record {
+          columns = all.0.columns ∙ sym (before_columns q.tables lines g h lt le);
+          rows = same_bag-trans x.rows (class_rows q.tables D (reverse lines) h) (class_rows q.tables D (reverse (take g lines)) h) all.0.rows (same_bag-equal _ _ (λ e. sym (before q.tables D lines g h e lt le)));
+        },
+        all-before g le inputs needed parts.1 all.1,
+      )
 
   abbrev at_node : Node → List Part → Played
   at_node node parts = record { columns = node_columns q.tables node (map (λ x. x.columns) (played_of parts)); rows = node_rows q.tables D node (played_of parts) }

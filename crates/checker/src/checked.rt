@@ -33,7 +33,15 @@ pub fn check<'a>(
     let plan = &certificate.plan;
     let ordered = is_delivered(alloc, query, plan)?;
     let root = frame.len() - 1;
-    plan_fits(alloc, lines, columns.as_slice(), plan, ordered, root, lines.len())?;
+    plan_fits(
+        alloc,
+        lines,
+        columns.as_slice(),
+        plan,
+        ordered,
+        root,
+        lines.len(),
+    )?;
     Ok(Checked {
         schema,
         query,

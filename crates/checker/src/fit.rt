@@ -38,11 +38,27 @@ fn computes(node: &Node, expr: &Expr) -> bool
 {
     match (node, expr) {
         (Node::Scan { occurrence, .. }, Expr::Get(own)) => *occurrence == *own,
-        (Node::Filter { conjuncts, .. }, Expr::Select(own, _)) => own.is_plain() && conjuncts.same(own),
-        (Node::FilterSubqueries { conjuncts, .. }, Expr::Select(own, _)) => !own.is_plain() && conjuncts.same(own),
+        (Node::Filter { conjuncts, .. }, Expr::Select(own, _)) => own.is_plain()
+            && conjuncts.same(own),
+        (Node::FilterSubqueries { conjuncts, .. }, Expr::Select(own, _)) => !own.is_plain()
+            && conjuncts.same(own),
         (Node::Cut { columns, .. }, Expr::Keep(own, _)) => columns.same(own),
-        (Node::Loop { kind, conjuncts, .. }, Expr::Join(own, _, _)) => *kind == JoinKind::Inner && conjuncts.same(own),
-        (Node::Loop { kind, conjuncts, .. }, Expr::LeftJoin(own, _, _)) => *kind == JoinKind::Left && conjuncts.same(own),
+        (
+            Node::Loop {
+                kind,
+                conjuncts,
+                ..
+            },
+            Expr::Join(own, _, _),
+        ) => *kind == JoinKind::Inner && conjuncts.same(own),
+        (
+            Node::Loop {
+                kind,
+                conjuncts,
+                ..
+            },
+            Expr::LeftJoin(own, _, _),
+        ) => *kind == JoinKind::Left && conjuncts.same(own),
         (Node::HashGroup { keys, added, .. }, Expr::Group(own, others, _)) => {
             keys.same(own) && same_aggregations(added.as_slice(), others.as_slice())
         }
@@ -212,11 +228,26 @@ pub fn plan_fits(
     ensures { Gives (λ n. n) result (spec.plan_fits (map spec.founding lines.now) (columns_at columns.now) plan.now ordered class number) }
 {
     let inputs = plan.inputs.as_slice();
-    let classes = node_fits(alloc, lines, columns, &plan.node, inputs.len(), class, number)?;
+    let classes = node_fits(
+        alloc,
+        lines,
+        columns,
+        &plan.node,
+        inputs.len(),
+        class,
+        number,
+    )?;
     if !ordered {
         return Err(refused(number, CheckCode::UnsortedAnswer));
     }
-    inputs_fit(alloc, lines, columns, inputs, classes.as_slice(), next(number)?)
+    inputs_fit(
+        alloc,
+        lines,
+        columns,
+        inputs,
+        classes.as_slice(),
+        next(number)?,
+    )
 }
 
 #[cycle(fits)]

@@ -257,12 +257,7 @@ fn badges(alloc: Global) -> Result<Plan, AllocError> {
     over(alloc, node, cut_to(alloc, 1, 3, scan(alloc, 0))?)
 }
 
-fn sorted(
-    alloc: Global,
-    column: usize,
-    descending: bool,
-    input: Plan,
-) -> Result<Plan, AllocError> {
+fn sorted(alloc: Global, column: usize, descending: bool, input: Plan) -> Result<Plan, AllocError> {
     let mut keys = Items::new(alloc);
     keys.push(OrderKey { column, descending })?;
     over(alloc, Node::Sort { keys }, input)
@@ -273,13 +268,20 @@ fn unsorted_badges(alloc: Global) -> Result<(), CheckFault> {
 }
 
 fn badges_sorted_by(alloc: Global, column: usize, descending: bool) -> Result<(), CheckFault> {
-    planned(alloc, BADGES, sorted(alloc, column, descending, badges(alloc)?)?)
+    planned(
+        alloc,
+        BADGES,
+        sorted(alloc, column, descending, badges(alloc)?)?,
+    )
 }
 
 #[test]
 fn an_order_by_that_is_not_delivered_is_told(rt: HostRuntime) {
     let alloc = rt.alloc();
-    assert_eq!(rt; unsorted_badges(alloc), refusal(3, CheckCode::UnsortedAnswer));
+    assert_eq!(rt;
+        unsorted_badges(alloc),
+        refusal(3, CheckCode::UnsortedAnswer)
+    );
     assert_eq!(rt;
         badges_sorted_by(alloc, 3, false),
         refusal(3, CheckCode::UnsortedAnswer)
