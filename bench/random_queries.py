@@ -1,5 +1,6 @@
 #!/usr/bin/env python3
-"""Makes random queries over small tables rich in Nulls, and compares what `sqlplan meaning` writes with sqlite3's answer.
+"""Makes random queries over small tables rich in Nulls, and compares what `sqlplan query` and `sqlplan meaning` write with
+sqlite3's answer.
 
 Wants the program built. The seed is fixed, so each run asks the same queries.
 
@@ -151,6 +152,13 @@ def ours(folder, query, command):
     return [tuple(field.strip('"') for field in line.split(",")) for line in run.stdout.split("\n")[1:-1]]
 
 
+def agree(query, wanted, given):
+    """Whether these are the rows; in their order if the query asks for one."""
+    if isinstance(given, str):
+        return False
+    return given == wanted if "ORDER BY" in query else sorted(given) == sorted(wanted)
+
+
 def main():
     count = int(sys.argv[1]) if len(sys.argv) > 1 else 1000
     rng = random.Random(int(sys.argv[2]) if len(sys.argv) > 2 else 7)
@@ -161,14 +169,15 @@ def main():
             tables = {name: rows_of(rng, kinds.values()) for name, kinds in TABLES.items()}
             query = Maker(rng).select(outermost=True)
             write_inputs(folder, tables)
-            wanted, given = theirs(tables, query), ours(folder, query, "meaning")
-            if given == "refused B10 at 0":
+            wanted = theirs(tables, query)
+            answers = {command: ours(folder, query, command) for command in ("query", "meaning")}
+            if set(map(str, answers.values())) == {"refused B10 at 0"}:
                 too_large += 1
                 continue
-            ordered = "ORDER BY" in query
-            if isinstance(given, str) or (given != wanted if ordered else sorted(given) != sorted(wanted)):
-                differ += 1
-                print(f"{query}\n  tables  {tables}\n  sqlite3 {wanted}\n  here    {given}")
+            for command, given in answers.items():
+                if not agree(query, wanted, given):
+                    differ += 1
+                    print(f"{query}\n  tables  {tables}\n  sqlite3 {wanted}\n  {command} {given}")
             rows_seen += len(wanted)
     print(f"{count} queries, {too_large} too large to be taken, {differ} differ, {rows_seen} rows")
 

@@ -1,4 +1,3 @@
-pub mod Bindings
 pub mod BoundBlocks
 pub mod BoundConditions
 pub mod BoundFroms

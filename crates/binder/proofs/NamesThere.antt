@@ -15,7 +15,6 @@ use Rattle.binder.specs.Scopes.{Scope, Scopes, columns_named, named_in, at_level
 use Rattle.binder.specs.Lent.{width}
 use Rattle.binder.specs.Bound as numbers
 use Rattle.binder.specs.Bound.{names}
-use Rattle.binder.proofs.Bindings.{found_below}
 use Rattle.binder.proofs.Given.{Given}
 use Rattle.binder.proofs.Rising.{AreBelow}
 
@@ -93,6 +92,15 @@ plain-there name level b (scope ∷ outer) (row ∷ rows) fits =
     let wide = fits.0 in
     only-there name level row rows (named_in name.text 0 scope) (plain name (level + 1) outer) (named-below name.text 0 (length row) scope (omega (arith, wide)))
     (outside-there level row rows (plain name (level + 1) outer) (plain-there name (level + 1) b outer rows fits.2))
+
+-- a column that is found stands in the list
+found_below : (n : ℕ) (cs : List entries.Column) (name : List ℕ) (p : ℕ × entries.Column) → find_column n cs name ≡ Some p → p.0 < n + length cs
+found_below n [] name p e = cc e
+found_below n (c ∷ cs) name p e = one (bytes_eq c.name name) e (found_below (n + 1) cs name p)
+  where
+    one : (b : Bool) → (if b then Some (n, c) else find_column (n + 1) cs name) ≡ Some p → (find_column (n + 1) cs name ≡ Some p → p.0 < (n + 1) + length cs) → p.0 < n + length (c ∷ cs)
+    one true e more = let same : (n, c) ≡ p = cc e in rw (← same) (omega arith)
+    one false e more = let h = more e in omega arith
 
 column-there : (table name : Name) (level : ℕ) (row : List ℕ) (rows : numbers.Scope) (o : ℕ × Table) → o.0 + length o.1.columns ≤ length row → Given (IsThere level (row ∷ rows)) (column_of table name level o)
 column-there table name level row rows o le = by (find_column o.0 o.1.columns name.text) (found_below o.0 o.1.columns name.text)

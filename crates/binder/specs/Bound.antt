@@ -1,6 +1,6 @@
 -- What is known of every bound query: what its blocks name is there, and the columns that a condition can name have numbers
 -- of their own. Columns by level and place, and their numbers, are this project's profile of SQL.
-use Rattle.std.specs.Prelude.{◌≡◌, ℕ, Bool, true, false, not, ◌&&◌, ◌==◌, nat_lt, if◌then◌else◌, List, [], ◌∷◌, ◌++◌, length, slice_get, slice_index_or, Option, Some, None}
+use Rattle.std.specs.Prelude.{ℕ, Bool, true, false, not, ◌&&◌, ◌==◌, nat_lt, if◌then◌else◌, List, [], ◌∷◌, ◌++◌, length, slice_get, slice_index_or, Option, Some, None}
 use Rattle.std.specs.List.{list_any, list_all, range_with_len}
 use Rattle.binder.specs.declared.query.Column.{Column}
 use Rattle.binder.specs.declared.query.Term.{Term}

@@ -18,4 +18,3 @@ pub mod Queries
 pub mod Rows
 pub mod Scopes
 pub mod Selects
-pub mod Simple

@@ -6,7 +6,7 @@ use Rattle.sql_parse.specs.declared.statement.Statement.{Statement}
 use Rattle.binder.specs.declared.query.Query.{Query}
 use Rattle.binder.specs.declared.extent.Extent.{Extent}
 use Rattle.binder.specs.declared.tables.Numbered.{Numbered}
-use Rattle.binder.specs.declared.binding.TheConstants.{MAX_COLUMNS}
+use Rattle.binder.specs.declared.statement.TheConstants.{MAX_COLUMNS}
 use Rattle.binder.specs.declared.fault.BindReason.TheVariants.{TooLarge}
 use Rattle.binder.specs.declared.fault.BindRefusal.{BindRefusal}
 use Rattle.binder.specs.Binding.{refusal}

@@ -1,7 +1,7 @@
 -- Tables, rows, and what a term is in an environment.
 -- Bags of rows, Null and environments: Guagliardo and Libkin, PVLDB 11(1), 2017. Columns by level and place are this
 -- project's profile of SQL.
-use Rattle.std.specs.Prelude.{◌≡◌, ℕ, ◌+◌, Bool, not, if◌then◌else◌, List, [], ◌∷◌, length, map, filter, replicate, slice_index_or}
+use Rattle.std.specs.Prelude.{ℕ, ◌+◌, Bool, not, if◌then◌else◌, List, [], ◌∷◌, length, map, filter, replicate, slice_index_or}
 use Rattle.std.specs.Ordering.{is_eq}
 use Rattle.std.specs.Cmp.Lexicographic.{slice_cmp}
 use Rattle.values.specs.declared.value.Value.{Value}

@@ -1,7 +1,6 @@
 //! Bound queries, what they mean, and how the tree of a text becomes one.
 #![tactic(auto)]
 
-pub mod binding;
 mod extent;
 pub mod fault;
 pub mod laws;
@@ -17,7 +16,6 @@ mod tables;
 #[cfg(test)]
 mod tests;
 
-pub use binding::bind;
 pub use fault::{BindFault, BindReason, BindRefusal};
 pub use laws::{
     answers_are_by_laws, laws_determine_meaning, meaning_obeys_laws, satisfying_databases_fit,

@@ -3,7 +3,7 @@
 ghost use Rattle.std.specs.Prelude.{◌≡◌, ◌+◌, ◌++◌, ◌∷◌, [], ℕ, List, IfOk, bytes_eq, length, map, option_map};
 ghost use Rattle.std.specs.HashMap as hash;
 ghost use Rattle.values.specs.Faults.{Gives};
-ghost use Rattle.binder.specs.Binding as cut;
+ghost use Rattle.binder.specs.Binding as listed;
 ghost use Rattle.binder.specs.Scopes as spec;
 ghost use Rattle.binder.specs.Lent.{IsIndexed, known_of, meaning_of, placed_of, scope_of, with_more};
 ghost use Rattle.binder.specs.Chained.{scopes_of};
@@ -173,7 +173,7 @@ pub enum Scopes<'a, 's> {
 
 /// The table of a name, and its place in the schema.
 pub fn find_table<'s>(schema: &'s Schema, name: &str) -> Option<(usize, &'s Table)>
-    ensures { option_map (λ found. (found.0, found.1.now)) result ≡ cut.find_table 0 schema.entry.now.tables name.now }
+    ensures { option_map (λ found. (found.0, found.1.now)) result ≡ listed.find_table 0 schema.entry.now.tables name.now }
 {
     for (place, table) in schema.tables.as_slice().iter().enumerate() {
         if table.name.as_str() == name {
@@ -185,7 +185,7 @@ pub fn find_table<'s>(schema: &'s Schema, name: &str) -> Option<(usize, &'s Tabl
 
 /// The column of a name among a table's, and its place.
 fn find_column<'s>(columns: &'s [schema::Column], name: &str) -> Option<(usize, &'s schema::Column)>
-    ensures { option_map (λ found. (found.0, found.1.now)) result ≡ cut.find_column 0 columns.entry.now name.now }
+    ensures { option_map (λ found. (found.0, found.1.now)) result ≡ listed.find_column 0 columns.entry.now name.now }
 {
     for (place, column) in columns.iter().enumerate() {
         if column.name.as_str() == name {

@@ -4,7 +4,6 @@ ghost use Rattle.std.specs.Prelude.{◌≡◌, map, IfOk};
 ghost use Rattle.values.specs.Faults.{Gives};
 ghost use Rattle.binder.specs.Queries as spec;
 
-use crate::binding::MAX_COLUMNS;
 use crate::extent::of_select;
 use crate::fault::{BindFault, BindReason, refused};
 use crate::ordering::order;
@@ -17,6 +16,9 @@ use schema::Schema;
 use sql_parse::statement::Statement;
 use std::alloc::{AllocError, Global};
 use values::{Items, Text};
+
+/// The most columns that the table occurrences and aggregates of a query may have together.
+pub const MAX_COLUMNS: usize = 512;
 
 fn names(alloc: Global, outputs: &[Output]) -> Result<Items<Text>, AllocError>
     ensures { IfOk result (λ names. names ≡ map (λ o. o.name) outputs.now) }

@@ -1,11 +1,10 @@
 -- Which operators a frame has.
-use Rattle.std.proofs.Common.{◌≡◌, refl, ap, sym, ◌∙◌, subst, ◌&&◌, Bool, true, false, ℕ, List, [], ◌∷◌, map, reverse, Option, Some, None, option_map}
+use Rattle.std.proofs.Common.{◌≡◌, refl, ap, sym, ◌∙◌, subst, Bool, true, false, ℕ, List, [], ◌∷◌, map, reverse, Option, Some, None, option_map}
 use Rattle.std.specs.List.{list_all}
 use Rattle.std.proofs.lemmas.Bool.{and_parts, and_from}
 use Rattle.std.proofs.lemmas.Grind.{reverse_onto}
 use Rattle.std.proofs.lemmas.List.Folds.{list_all-append}
 use Rattle.binder.specs.declared.query.Item.{Item}
-use Rattle.binder.specs.declared.query.Occurrence.{Occurrence}
 use Rattle.binder.specs.declared.query.TableUse.{TableUse}
 use Rattle.binder.specs.declared.query.Cond.{Cond, roll-Cond}
 use Rattle.binder.specs.declared.query.Cond.TheVariants as cond
@@ -13,7 +12,7 @@ use Rattle.binder.specs.declared.query.Cond.TheOpen.{Cond-F, From-F, Block-F}
 use Rattle.binder.specs.declared.query.Cond.TheFolds.{ind-Block, map-Cond, map-From, map-Block}
 use Rattle.binder.specs.declared.query.From.{From, roll-From}
 use Rattle.binder.specs.declared.query.From.TheVariants as from
-use Rattle.binder.specs.declared.query.Block.{Block, roll-Block, out-Block}
+use Rattle.binder.specs.declared.query.Block.{Block, roll-Block}
 use Rattle.binder.specs.declared.query.Query.{Query}
 use Rattle.binder.specs.Bound.{Scope}
 use Rattle.logical.specs.declared.expr.Expr.{Expr}

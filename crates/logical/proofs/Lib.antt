@@ -20,7 +20,6 @@ pub mod FrameSteps
 pub mod Growth
 pub mod Induction
 pub mod Loops
-pub mod Meaning
 pub mod NamedClasses
 pub mod Ordered
 pub mod Places
@@ -33,7 +32,6 @@ pub mod SameConditions
 pub mod SameGroups
 pub mod Sets
 pub mod Shown
-pub mod Simple
 pub mod TextEquations
 pub mod Truths
 pub mod UniqueRows

@@ -1,5 +1,5 @@
 -- The classes that expressions name pass a test where the expression says so of them.
-use Rattle.std.proofs.Common.{◌≡◌, refl, ap, sym, ◌∙◌, subst, ℕ, Bool, true, false, ◌&&◌, ◌==◌, nat_lt, if◌then◌else◌, List, [], ◌∷◌, ◌++◌, map}
+use Rattle.std.proofs.Common.{◌≡◌, refl, ap, sym, ◌∙◌, subst, ℕ, Bool, true, false, ◌&&◌, ◌==◌, nat_lt, List, [], ◌∷◌, ◌++◌, map}
 use Rattle.std.specs.List.{list_all, flat_map}
 use Rattle.std.proofs.lemmas.Bool.{and_parts, and_from, cond_both}
 use Rattle.std.proofs.lemmas.List.Folds.{list_all-append}
@@ -48,7 +48,6 @@ named-In a g k = named-at (Condition-F.In a g k) _ (rolls-In a g k)
 -- ---- classes that pass
 
 module _ (p : ℕ → Bool) where
-
   abbrev P : Condition → Type 0
   P c = all_classes c p ≡ list_all p (named_classes c)
 

@@ -182,6 +182,20 @@ fn grouped(alloc: Global, keys: &[usize], items: &[Item]) -> Result<Block, Alloc
 }
 
 #[test]
+fn frames_of_one_table(rt: HostRuntime) -> Result<(), Fail> {
+    let alloc = rt.alloc();
+    // `SELECT boss, id FROM dept WHERE boss < 7`
+    let block = select_where(alloc, &[show(1), show(0)], table(2), below(read(0, 1), 7))?;
+    assert_eq!(rt;
+        frame_of(alloc, block)?.as_str(),
+        "; get 2; select 0 [<(c5,i7)]; keep 1: 4 5"
+    );
+    let block = select(alloc, &[show(1)], table(0))?;
+    assert_eq!(rt; frame_of(alloc, block)?.as_str(), "; get 0; keep 0: 1");
+    Ok(())
+}
+
+#[test]
 fn frames_of_joins(rt: HostRuntime) -> Result<(), Fail> {
     let alloc = rt.alloc();
     let on = Boxed::new(alloc, equal(read(0, 0), read(0, 3)))?;

@@ -14,7 +14,6 @@ pub mod formed;
 #[cfg(test)]
 mod frame_tests;
 mod frames;
-pub mod framing;
 pub mod laws;
 mod lines;
 mod named_classes;
@@ -27,5 +26,4 @@ pub use columns::Columns;
 pub use condition::{Condition, Conjuncts, Term};
 pub use expr::{Aggregation, Expr, same_aggregations};
 pub use frames::query_frame;
-pub use framing::frame;
 pub use numbers::query_numbers;

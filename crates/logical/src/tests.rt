@@ -1,19 +1,14 @@
 //! Each call with ample memory.
 
-ghost use Rattle.std.specs.Prelude.{◌≡◌, ◌+◌, IfOk, length};
-ghost use Rattle.binder.specs.declared.query.Cond.{out-Cond};
-ghost use Rattle.binder.specs.Simple.{IsSimple, IsComparison};
-ghost use Rattle.binder.specs.Simple.{NumbersFit};
+ghost use Rattle.std.specs.Prelude.{◌≡◌, IfOk, length};
 
 use super::*;
-use binder::{Aggregate, Block, Column as Place, Cond, From, Item, Occurrence, Query, TableUse};
+use binder::{Aggregate, TableUse};
 use schema::{Column, Kind, Table};
 use std::alloc::{AllocError, Global};
 use values::{Boxed, Comparison, Items, Text, Value};
 
-fn push_column(alloc: Global, columns: &mut Items<Column>, name: &str) -> Result<(), AllocError>
-    ensures { IfOk result (λ _. length columns.new ≡ length columns.old + 1) }
-{
+fn push_column(alloc: Global, columns: &mut Items<Column>, name: &str) -> Result<(), AllocError> {
     let name = Text::from_str(alloc, name)?;
     columns.push(Column {
         name,
@@ -23,10 +18,7 @@ fn push_column(alloc: Global, columns: &mut Items<Column>, name: &str) -> Result
 }
 
 /// dept(id, boss), whose columns are 4 and 5
-fn dept(alloc: Global) -> Result<TableUse, AllocError>
-    ensures numbers { IfOk result (λ t. (t.first_column ≡ 4) × (t.table ≡ 0)) }
-    ensures width { IfOk result (λ t. length t.entry.columns ≡ 2) }
-{
+fn dept(alloc: Global) -> Result<TableUse, AllocError> {
     let mut columns = Items::new(alloc);
     push_column(alloc, &mut columns, "id")?;
     push_column(alloc, &mut columns, "boss")?;
@@ -43,47 +35,6 @@ fn dept(alloc: Global) -> Result<TableUse, AllocError>
     })
 }
 
-fn is_known(alloc: Global) -> Result<Boxed<Cond>, AllocError>
-    ensures { IfOk result (λ c. IsComparison 2 (out-Cond c)) }
-{
-    let boss = binder::Term::Column(Place { level: 0, place: 1 });
-    Boxed::new(
-        alloc,
-        Cond::Compare(Comparison::Less, boss, binder::Term::Literal(Value::Int(7))),
-    )
-}
-
-/// `SELECT boss, id FROM dept WHERE boss < 7`
-fn bosses(alloc: Global) -> Result<Query, AllocError>
-    ensures { IfOk result IsSimple }
-{
-    let mut tables = Items::new(alloc);
-    tables.push(dept(alloc)?)?;
-    let mut items = Items::new(alloc);
-    items.push(Item::Column(Place { level: 0, place: 1 }))?;
-    items.push(Item::Column(Place { level: 0, place: 0 }))?;
-    let mut names = Items::new(alloc);
-    names.push(Text::from_str(alloc, "boss")?)?;
-    names.push(Text::from_str(alloc, "id")?)?;
-    let filter = Some(is_known(alloc)?);
-    Ok(Query {
-        tables,
-        block: Block {
-            from: From::Table(Occurrence {
-                number: 0,
-                table: 0,
-            }),
-            filter,
-            grouped: false,
-            keys: Items::new(alloc),
-            items,
-            distinct: false,
-        },
-        names,
-        order: Items::new(alloc),
-    })
-}
-
 fn compare(comparison: Comparison, column: usize, number: i128) -> Condition {
     Condition::Compare(
         comparison,
@@ -97,25 +48,6 @@ fn columns(alloc: Global, first: usize, second: usize) -> Result<Columns, AllocE
     columns.push(first)?;
     columns.push(second)?;
     Ok(Columns::from_vec(columns))
-}
-
-/// Whether the frame is `get 0`, `select [<(c5,i7)] 0`, `keep 4,5 1`.
-fn frames(alloc: Global) -> Result<bool, AllocError> {
-    let lines = frame(alloc, &bosses(alloc)?)?;
-    let conjuncts = Conjuncts::one(alloc, compare(Comparison::Less, 5, 7))?;
-    let select = Expr::Select(conjuncts, 0);
-    let keep = Expr::Keep(columns(alloc, 5, 4)?, 1);
-    match lines.as_slice() {
-        [first, second, third] => Ok(
-            first.same(&Expr::Get(0)) && second.same(&select) && third.same(&keep),
-        ),
-        _ => Ok(false),
-    }
-}
-
-#[test]
-fn a_frame_has_three_lines(rt: HostRuntime) {
-    assert_eq!(rt; frames(rt.alloc()), Ok(true));
 }
 
 /// `or(not(<(c5,i7)),exists(3))`, `null(c4)` and `in(c4,3,c9)` under an AND
@@ -164,7 +96,6 @@ fn sets_rise(rt: HostRuntime) {
 
 /// The columns of the classes of `get 0` and of a `keep 9`.
 fn classes(alloc: Global, uses: &[TableUse]) -> Result<Vec<Columns>, AllocError>
-    requires { NumbersFit uses.now }
     ensures { IfOk result (λ v. length v.items ≡ 2) }
 {
     let mut classes = Vec::new(alloc);
@@ -173,9 +104,7 @@ fn classes(alloc: Global, uses: &[TableUse]) -> Result<Vec<Columns>, AllocError>
     Ok(classes)
 }
 
-fn uses(alloc: Global) -> Result<Vec<TableUse>, AllocError>
-    ensures { IfOk result (λ v. NumbersFit v.items) }
-{
+fn uses(alloc: Global) -> Result<Vec<TableUse>, AllocError> {
     let mut uses = Vec::new(alloc);
     uses.push(dept(alloc)?)?;
     Ok(uses)

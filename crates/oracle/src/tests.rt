@@ -1,9 +1,11 @@
 //! Worked queries over two small tables, with the answers that SQL gives.
 
 use crate::{Row, meaning};
-use binder::{Aggregate, Block, Column, Cond, From, Item, Occurrence, Query, SortKey, Term, bind};
+use binder::{
+    Aggregate, Block, Column, Cond, From, Item, Occurrence, Query, SortKey, Term, bind_statement,
+};
 use schema::Schema;
-use sql_parse::parse;
+use sql_parse::parse_statement;
 use std::alloc::{AllocError, Global};
 use std::fmt::Write;
 use std::test::Fail;
@@ -223,8 +225,8 @@ fn texts_of_one_table(rt: HostRuntime) -> Result<(), Fail> {
         ("SELECT id FROM dept", ";1,;2,;3,"),
     ];
     for (text, rows) in cases {
-        let ast = parse(alloc, text).expect(&rt, "a tree");
-        let query = bind(alloc, &schema, &ast).expect(&rt, "a query");
+        let statement = parse_statement(alloc, text).expect(&rt, "a statement");
+        let query = bind_statement(alloc, &schema, &statement).expect(&rt, "a query");
         let found = meaning(alloc, &query, &database)?;
         let found = text_of(alloc, found.as_slice())?;
         assert_eq!(rt; found.as_str(), rows, "{text}");

@@ -1,7 +1,3 @@
-pub mod GrammarFaults
-pub mod GrammarLoops
-pub mod GrammarTexts
-pub mod GrammarTrees
 pub mod SqlDecided
 pub mod SqlLoops
 pub mod SqlTexts

@@ -10,7 +10,7 @@ use Rattle.grammar.specs.Faults.{Fault, Unexpected, TooDeep, IsFirstFault}
 use Rattle.grammar.proofs.Telling.{tell}
 use Rattle.grammar.proofs.Verdicts.{found, only, refused}
 use Rattle.sql_parse.specs.declared.fault.ParseRefusal.{ParseRefusal}
-use Rattle.sql_parse.specs.declared.parser.TheConstants.{MAX_TEXT}
+use Rattle.sql_parse.specs.declared.statement_parser.TheConstants.{MAX_TEXT}
 use Rattle.sql_parse.specs.declared.statement.Statement.{Statement}
 use Rattle.sql_parse.specs.declared.token.Token.{Token}
 use Rattle.sql_parse.specs.Sql.{sql, a_statement}

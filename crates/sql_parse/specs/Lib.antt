@@ -1,9 +1,7 @@
 pub mod Classes
 pub mod Codes
-pub mod Grammar
 pub mod Reading
 pub mod ReadingFaults
-pub mod ReadingTrees
 pub mod Sql
 pub mod StatementReading
 pub mod Statements

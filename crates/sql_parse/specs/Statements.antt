@@ -6,7 +6,7 @@ use Rattle.grammar.specs.Faults.{IsWithin, IsUnexpected, IsTooDeep}
 use Rattle.sql_parse.specs.declared.fault.ParseReason.{ParseReason}
 use Rattle.sql_parse.specs.declared.fault.ParseReason.TheVariants.{NoToken, Unexpected, TooDeep, TooLong}
 use Rattle.sql_parse.specs.declared.fault.ParseRefusal.{ParseRefusal}
-use Rattle.sql_parse.specs.declared.parser.TheConstants.{MAX_TEXT}
+use Rattle.sql_parse.specs.declared.statement_parser.TheConstants.{MAX_TEXT}
 use Rattle.sql_parse.specs.declared.statement.Statement.{Statement}
 use Rattle.sql_parse.specs.declared.token.Token.{Token}
 use Rattle.sql_parse.specs.Sql.{sql, a_statement}

@@ -1,6 +1,6 @@
-//! The tree of a query's text.
+//! A name of a text.
 
-use values::{Comparison, Items, Text, Value};
+use values::Text;
 
 /// A name of the text.
 #[derive(Debug, Drop)]
@@ -9,22 +9,4 @@ pub struct Name {
     pub text: Text,
     /// Its first byte in the text.
     pub at: usize,
-}
-
-/// `WHERE column comparison literal`
-#[derive(Debug, Drop)]
-pub struct Filter {
-    pub column: Name,
-    pub comparison: Comparison,
-    /// The first byte of the operator in the text.
-    pub comparison_at: usize,
-    pub literal: Value,
-}
-
-/// `SELECT columns FROM table WHERE filter`
-#[derive(Debug, Drop)]
-pub struct Ast {
-    pub columns: Items<Name>,
-    pub table: Name,
-    pub filter: Option<Filter>,
 }

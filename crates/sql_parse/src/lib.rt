@@ -7,15 +7,13 @@ mod clauses;
 mod conditions;
 pub mod fault;
 mod lexer;
-mod parser;
 mod reading;
 pub mod statement;
 mod statement_parser;
 mod token;
 
-pub use ast::{Ast, Filter, Name};
+pub use ast::Name;
 pub use fault::{ParseFault, ParseReason, ParseRefusal};
-pub use parser::{parse, parse_bytes};
 pub use statement_parser::{parse_statement, parse_statement_bytes};
 
 #[cfg(test)]

@@ -13,12 +13,14 @@ use crate::clauses::order;
 use crate::conditions::select;
 use crate::fault::{ParseFault, ParseReason, refused};
 use crate::lexer::tokens;
-use crate::parser::MAX_TEXT;
 use crate::reading::{Parsed, expect, fault, sees};
 use crate::statement::Statement;
 use crate::token::{Symbol, Token};
 use std::alloc::Global;
 use std::str;
+
+/// The most bytes that a statement's text may have.
+pub const MAX_TEXT: usize = 65536;
 
 /// `select [ORDER BY key {, key}] [;]`
 #[tactic(auto, unfolding(crate::specs::Sql::a_statement))]

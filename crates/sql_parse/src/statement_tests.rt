@@ -1,12 +1,12 @@
 //! Texts of the whole language, and their trees or refusals.
 
 use crate::ast::Name;
-use crate::parser::MAX_TEXT;
+use crate::fault::ParseFault;
 use crate::statement::{
-    AggregateFunction, ColumnName, Condition, ItemValue, JoinKind, Select, SelectList, TableName,
-    Term,
+    AggregateFunction, ColumnName, Condition, ItemValue, JoinKind, Select, SelectList, Statement,
+    TableName, Term,
 };
-use crate::statement_parser::{parse_statement, parse_statement_bytes};
+use crate::statement_parser::{MAX_TEXT, parse_statement, parse_statement_bytes};
 use std::alloc::Global;
 use std::fmt::Write;
 use std::test::Fail;
@@ -187,9 +187,9 @@ fn show_select(told: &mut String, select: &Select, levels: usize) -> Result<(), 
 }
 
 /// The tree with the places of its parts, or the refusal.
-fn told(alloc: Global, text: &str) -> Result<String, Fail> {
+pub fn shown(alloc: Global, outcome: Result<Statement, ParseFault>) -> Result<String, Fail> {
     let mut told = String::new(alloc);
-    match parse_statement(alloc, text) {
+    match outcome {
         Ok(tree) => {
             show_select(&mut told, &tree.select, 20)?;
             for key in tree.order.as_slice() {
@@ -200,6 +200,10 @@ fn told(alloc: Global, text: &str) -> Result<String, Fail> {
         Err(fault) => write!(told, "{fault}")?,
     }
     Ok(told)
+}
+
+fn told(alloc: Global, text: &str) -> Result<String, Fail> {
+    shown(alloc, parse_statement(alloc, text))
 }
 
 #[test]

@@ -15,9 +15,9 @@ use Rattle.sqlplan.specs.Canonical.{top, IsPlanOf}
 use Rattle.sqlplan.proofs.FrameLines.{frame_replays}
 use Rattle.sqlplan.proofs.OrderedPlans.{order_within, top_fits, top_delivered}
 
-founding-lines : (xs : List Expr) → map founding (map Founds xs) ≡ xs
-founding-lines [] = refl
-founding-lines (x ∷ xs) = ap (λ ys. x ∷ ys) (founding-lines xs)
+pub founding_lines : (xs : List Expr) → map founding (map Founds xs) ≡ xs
+founding_lines [] = refl
+founding_lines (x ∷ xs) = ap (λ ys. x ∷ ys) (founding_lines xs)
 
 -- the frame's lines, and a plan of its last class with the sort on top
 pub canonical_replays : (q : Query) → is_bound q ≡ true → (V : Certificate) (below : Plan) → V.lines ≡ map Founds (query_frame q) → V.plan ≡ top (query_order q) below
@@ -28,4 +28,4 @@ canonical_replays q bound V below lines plan is =
     let E : List Expr = reverse frame in
     let cols : ℕ → List ℕ = class_columns q.tables E in
     let fits = top_fits frame cols (query_order q) below (root q) (length E) is (order_within q (cols (root q)) (frames_formed q bound).shown) in
-    rw (lines, founding-lines frame, frame_replays q bound, plan, top_delivered q below, fits.1) refl
+    rw (lines, founding_lines frame, frame_replays q bound, plan, top_delivered q below, fits.1) refl

@@ -14,7 +14,7 @@ use Rattle.physical.specs.declared.plan.Plan.TheOpen.{Plan-F}
 use Rattle.physical.specs.Orders.{query_order}
 use Rattle.checker.specs.declared.certificate.Line.TheVariants.{Founds}
 use Rattle.checker.specs.declared.certificate.Certificate.{Certificate}
-use Rattle.checker.specs.Replay.{line_of, computes, plan_fits}
+use Rattle.checker.specs.Replay.{line_of, computes, plan_fits, replayed}
 
 -- ---- the certificate
 
@@ -34,13 +34,16 @@ abbrev pub top : List OrderKey → Plan → Plan
 top [] plan = plan
 top (k ∷ keys) plan = roll-Plan (record { node = Sort (k ∷ keys); inputs = plan ∷ [] })
 
--- The lines are the query's frame, and the plan's only sort is that of the ORDER BY, on top. Each node of a plan without a sort
--- is told by the expression that it computes: so one certificate of this form replays.
+-- the lines are the query's frame, and the plan's only sort is that of the ORDER BY, on top
 pub record IsCanonical (q : Query) (V : Certificate) : Type 0 where
   pub lines : V.lines ≡ map Founds (query_frame q)
   pub below : Plan
   pub unsorted : is_unsorted below ≡ true
   pub plan : V.plan ≡ top (query_order q) below
+
+-- no other certificate of this form replays: each node of a plan without a sort is told by the expression that it computes
+abbrev pub IsOnlyCanonical : Query → Certificate → Type 0
+IsOnlyCanonical q V = (W : Certificate) → IsCanonical q W → replayed q W ≡ Ok W → W ≡ V
 
 -- ---- the plan of a class
 

@@ -106,6 +106,7 @@ pub fn canonical(alloc: Global, query: &Query) -> Result<Certificate, AllocError
     requires { is_bound query.now ≡ true }
     ensures canonical { IfOk result (spec.IsCanonical query.now) }
     ensures replays { IfOk result (λ certificate. replayed query.now certificate ≡ Ok certificate) }
+    ensures only { IfOk result (spec.IsOnlyCanonical query.now) }
 {
     let frame = query_frame(alloc, query)?;
     let below = plan_of(alloc, frame.as_slice(), frame.len() - 1)?;

@@ -30,7 +30,8 @@ const COMPANY: &str = r#"{"tables":[
         {"name":"badge","kind":"INT","not_null":false}],
      "unique":[["id"],["badge"]],"indexes":[]}]}"#;
 
-fn query_of(rt: &impl Abort, alloc: Global, text: &str) -> Query
+/// The query that a text is over these tables.
+pub fn query_of(rt: &impl Abort, alloc: Global, text: &str) -> Query
     ensures { is_bound result ≡ true }
 {
     let schema = Schema::read(alloc, COMPANY.as_bytes()).expect(rt, "a schema");

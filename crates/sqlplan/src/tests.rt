@@ -1,15 +1,14 @@
 //! Whole queries, from bytes to bytes, over the tables of `examples/hr`.
 
 use crate::canonical::canonical;
+use crate::canonical_tests::query_of;
 use crate::end_to_end::query;
 use crate::refusal::fault_line;
-use binder::bind_statement;
 use checker::{Certificate, Line};
 use executor::CountedOutput;
 use logical::{Columns, Condition, Conjuncts, Expr, Term};
 use physical::{Node, Plan};
 use schema::Schema;
-use sql_parse::parse_statement_bytes;
 use std::alloc::{AllocError, Global};
 use std::io::BufWriter;
 use std::process::Abort;
@@ -300,10 +299,7 @@ fn first_certificate(alloc: Global) -> Result<Certificate, AllocError> {
 #[test]
 fn the_first_query_has_its_certificate(rt: HostRuntime) -> Result<(), Fail> {
     let alloc = rt.alloc();
-    let schema = Schema::read(alloc, SCHEMA).expect(&rt, "a schema");
-    let text = b"SELECT id FROM emp WHERE pay <> 500";
-    let statement = parse_statement_bytes(alloc, text).expect(&rt, "a tree");
-    let query = bind_statement(alloc, &schema, &statement).expect(&rt, "a query");
+    let query = query_of(&rt, alloc, "SELECT id FROM emp WHERE pay <> 500");
     let certificate = canonical(alloc, &query)?;
     let wanted = first_certificate(alloc)?;
     assert_eq!(rt;

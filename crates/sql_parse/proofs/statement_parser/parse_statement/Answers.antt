@@ -1,5 +1,5 @@
 use Rattle.std.proofs.Common.{◌≤◌, length, arith}
-use Rattle.sql_parse.specs.declared.parser.TheConstants.{MAX_TEXT}
+use Rattle.sql_parse.specs.declared.statement_parser.TheConstants.{MAX_TEXT}
 use Rattle.sql_parse.proofs.SqlTexts.{statement_found, statement_only, statement_refused}
 use Rattle.sql_parse.proofs.statement_parser.parse_statement.Goals as goal
 

@@ -1,7 +1,0 @@
-use Rattle.std.proofs.Common.{◌≡◌, drop}
-use Rattle.binder.specs.Binding.{find_column}
-use Rattle.binder.proofs.binding.column_of.Given as goal
-
--- what is found from here on is what is found in all
-abbrev pub invariant-loop-place : goal.invariant-loop-place
-invariant-loop-place l = find_column l.place (drop l.place l.column-items) l.name.text ≡ find_column 0 l.column-items l.name.text

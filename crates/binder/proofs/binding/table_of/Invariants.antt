@@ -1,7 +1,0 @@
-use Rattle.std.proofs.Common.{◌≡◌, drop}
-use Rattle.binder.specs.Binding.{find_table}
-use Rattle.binder.proofs.binding.table_of.Given as goal
-
--- what is found from here on is what is found in all
-abbrev pub invariant-loop-place : goal.invariant-loop-place
-invariant-loop-place l = find_table l.place (drop l.place l.table-items) l.name.text ≡ find_table 0 l.table-items l.name.text

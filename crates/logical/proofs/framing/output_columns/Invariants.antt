@@ -1,6 +1,0 @@
-use Rattle.std.proofs.Common.{◌≡◌, map, take}
-use Rattle.logical.specs.Frame.{item_column}
-use Rattle.logical.proofs.framing.output_columns.Given as goal
-
-abbrev pub invariant-loop-item : goal.invariant-loop-item
-invariant-loop-item l = l.columns.items ≡ map (item_column l.table) (take l.item-index l.items)
