@@ -1,12 +1,11 @@
 -- Where columns stand in rows.
-use Rattle.std.proofs.Common.{◌≡◌, refl, ap, sym, ◌∙◌, subst, zero, suc, ℕ, ◌+◌, ◌-◌, ◌<◌, ◌≤◌, nat_lt, nat_le, ◌==◌, Bool, true, false, ◌||◌, cond, if◌then◌else◌, List, [], ◌∷◌, ◌++◌, length, drop, get_or, map, slice_get, slice_index_or, Option, Some, None, is_some, Result, Ok, Err, ◌⊎◌, inl, inr, arith}
-use Rattle.std.specs.List.{AllByRecursion, Contains, range_with_len}
+use Rattle.std.proofs.Common.{◌≡◌, refl, ap, sym, ◌∙◌, subst, zero, suc, ℕ, ◌+◌, ◌-◌, ◌<◌, ◌≤◌, nat_lt, ◌==◌, Bool, true, false, ◌||◌, cond, if◌then◌else◌, List, [], ◌∷◌, ◌++◌, length, drop, get_or, map, slice_get, Option, Some, None, is_some, Ok, inl, inr, arith}
+use Rattle.std.specs.List.{AllByRecursion, range_with_len}
 use Rattle.std.specs.List.Sorted.{IsStrictlyIncreasing, IsStrictlySortedBy, IsBinarySearchResult}
 use Rattle.std.specs.Ordering.{nat_cmp}
 use Rattle.std.specs.declared.cmp.Ordering.TheVariants.{Less, Equal, Greater}
 use Rattle.std.proofs.lemmas.Bool.{eqb-true, eq-eqb, le-ltb, leb-true, and_parts, cases_eq}
 use Rattle.values.specs.declared.value.Value.{Value}
-use Rattle.values.specs.declared.value.Value.TheVariants as value
 use Rattle.logical.proofs.Sets.{range_has}
 use Rattle.schema.specs.Databases.{Row}
 use Rattle.binder.specs.Rows.{value_at}
@@ -17,7 +16,7 @@ use Rattle.std.proofs.lemmas.List.{get_or_default}
 use Rattle.std.proofs.lemmas.List.Sorted.{searched}
 use Rattle.executor.specs.declared.headings.Heading.{Heading}
 use Rattle.executor.specs.declared.rows.RowData.{RowData}
-use Rattle.executor.specs.Places.{place_in, listed, place_list, value_in}
+use Rattle.executor.specs.Places.{place_in, listed, value_in}
 use Rattle.executor.specs.Relations.{values_of, column_place, column_places, row_env}
 
 -- ---- a column's place

@@ -1,8 +1,8 @@
 -- Groups as they are first seen, row by row.
-use Rattle.std.proofs.Common.{◌≡◌, refl, ap, sym, ◌∙◌, zero, suc, ℕ, ◌+◌, Bool, true, false, not, ◌||◌, if◌then◌else◌, List, [], ◌∷◌, ◌++◌, length, map, filter, flat_map, Option, Some, None, append-nil, arith}
+use Rattle.std.proofs.Common.{◌≡◌, refl, ap, sym, ◌∙◌, suc, ◌+◌, Bool, true, false, not, ◌||◌, if◌then◌else◌, List, [], ◌∷◌, ◌++◌, map, filter, Option, Some, None, append-nil, arith}
 use Rattle.std.specs.List.{list_any, position_or_len}
 use Rattle.std.specs.Cmp.{IsEquivalence}
-use Rattle.executor.specs.Groups.{GroupOf, first_seen, groups_by, added_at, first_of, firsts_of}
+use Rattle.executor.specs.Groups.{GroupOf, first_seen, groups_by, added_at, firsts_of}
 
 module _ {X K : Type 0} (key : X → K) (eq : K → K → Bool) (law : IsEquivalence eq) where
   abbrev alike : X → X → Bool

@@ -1,5 +1,5 @@
 -- Distinct rows and groups, as those of the algebra.
-use Rattle.std.proofs.Common.{◌≡◌, refl, ap, sym, ◌∙◌, subst, ℕ, zero, ◌<◌, Bool, true, false, ◌&&◌, ◌||◌, not, ◌==◌, if◌then◌else◌, List, [], ◌∷◌, ◌++◌, length, map, filter, Option, Some, None, arith}
+use Rattle.std.proofs.Common.{◌≡◌, refl, ap, sym, ◌∙◌, subst, ℕ, ◌<◌, Bool, true, false, ◌&&◌, ◌||◌, not, ◌==◌, if◌then◌else◌, List, [], ◌∷◌, ◌++◌, length, map, filter, Option, Some, None, arith}
 use Rattle.std.specs.Cmp.{both_ways}
 use Rattle.values.specs.declared.value.Value.{Value}
 use Rattle.values.specs.Order.{same}
@@ -22,7 +22,7 @@ use Rattle.executor.specs.declared.relation.Relation.{Relation}
 use Rattle.executor.specs.declared.rows.RowData.{RowData}
 use Rattle.executor.specs.Places.{listed, value_in}
 use Rattle.executor.specs.Relations.{values_of, column_place, column_places, row_env, rows_of}
-use Rattle.executor.specs.Groups.{GroupOf, first_seen, groups_by, same_at, group_env, all_of, relation_groups}
+use Rattle.executor.specs.Groups.{GroupOf, first_seen, same_at, group_env, all_of, relation_groups}
 use Rattle.executor.proofs.ColumnPlaces.{found-column, other-column}
 
 -- ---- rows that are the same

@@ -1,8 +1,8 @@
 -- Groups of rows that are lent.
-use Rattle.std.proofs.Common.{◌≡◌, refl, ap, sym, ◌∙◌, zero, suc, ℕ, ◌+◌, ◌<◌, ◌≤◌, List, [], ◌∷◌, ◌++◌, length, get_or, map, set, Some, arith}
+use Rattle.std.proofs.Common.{◌≡◌, ap, sym, ◌∙◌, zero, suc, ℕ, ◌<◌, ◌≤◌, List, [], ◌∷◌, ◌++◌, length, get_or, map, set, Some, arith}
 use Rattle.executor.specs.declared.rows.RowData.{RowData}
 use Rattle.executor.specs.declared.keys.Group.{Group}
-use Rattle.executor.specs.Groups.{GroupOf, group_of, added_at}
+use Rattle.executor.specs.Groups.{group_of, added_at}
 
 pub added-within : (groups : List Group) (n : ℕ) (r : RowData) (g h : Group) → n < length groups → get_or groups n g ≡ g → group_of h ≡ record { first = (group_of g).first; rows = (group_of g).rows ++ r ∷ [] }
     → map group_of (set groups n h) ≡ added_at n r (map group_of groups)

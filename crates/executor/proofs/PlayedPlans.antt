@@ -1,5 +1,5 @@
 -- What plans play, by their root's node.
-use Rattle.std.proofs.Common.{◌≡◌, refl, ap, sym, ◌∙◌, subst, ℕ, zero, suc, ◌≤◌, ◌==◌, Bool, true, false, ◌&&◌, not, if◌then◌else◌, List, [], ◌∷◌, ◌++◌, length, map, filter, flat_map, drop, slice_get, Option, Some, Result, IfOk, append-nil, arith}
+use Rattle.std.proofs.Common.{◌≡◌, refl, ap, sym, ◌∙◌, subst, ℕ, zero, suc, ◌≤◌, ◌==◌, Bool, true, false, ◌&&◌, not, if◌then◌else◌, List, [], ◌∷◌, ◌++◌, length, map, filter, flat_map, drop, slice_get, Some, Result, IfOk, append-nil, arith}
 use Rattle.std.proofs.lemmas.List.Elements.{filter-append}
 use Rattle.values.specs.declared.truth.Comparison.TheVariants as by
 use Rattle.values.specs.Truth.{negation, truth_of, is_true, compare}

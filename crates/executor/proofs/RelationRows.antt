@@ -1,5 +1,5 @@
 -- Lists of rows under headings.
-use Rattle.std.proofs.Common.{◌≡◌, refl, ap, sym, ◌∙◌, ℕ, ◌-◌, Bool, true, false, if◌then◌else◌, List, [], ◌∷◌, length, map, filter, Some, zero-add}
+use Rattle.std.proofs.Common.{◌≡◌, refl, ap, ◌∙◌, ℕ, ◌-◌, Bool, true, false, if◌then◌else◌, List, [], ◌∷◌, length, map, filter, zero-add}
 use Rattle.std.specs.List.{range_with_len}
 use Rattle.schema.specs.Databases.{Row}
 use Rattle.binder.specs.declared.query.TableUse.{TableUse}

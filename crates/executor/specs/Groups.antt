@@ -1,6 +1,6 @@
 -- Groups of rows, as they are first seen.
 use Rattle.std.specs.Prelude.{ℕ, zero, suc, Bool, not, List, [], ◌∷◌, ◌++◌, map, filter, flat_map, Option, Some, None, option_map}
-use Rattle.schema.specs.Databases.{Row, values_at}
+use Rattle.schema.specs.Databases.{values_at}
 use Rattle.store.specs.Keys.{key_eq}
 use Rattle.logical.specs.Columns.{has}
 use Rattle.logical.specs.Bags.{Env, lay}

@@ -1,11 +1,8 @@
 -- Rows, relations and environments of an executor, as those of the algebra.
-use Rattle.std.specs.Prelude.{◌≡◌, ℕ, zero, suc, ◌==◌, if◌then◌else◌, List, [], ◌∷◌, ◌++◌, map, slice_index_or, Option, Some, None}
+use Rattle.std.specs.Prelude.{◌≡◌, ℕ, zero, suc, ◌==◌, if◌then◌else◌, List, [], ◌∷◌, map, slice_index_or, Option, Some, None}
 use Rattle.std.specs.Borrow.{Bor}
-use Rattle.values.specs.declared.value.Value.{Value}
-use Rattle.values.specs.declared.value.Value.TheVariants as value
 use Rattle.values.specs.Cells.{value_of}
 use Rattle.schema.specs.Databases.{Row}
-use Rattle.binder.specs.Rows.{value_at}
 use Rattle.logical.specs.Columns.{has}
 use Rattle.logical.specs.Bags.{Env, Bag, lay, nulls}
 use Rattle.physical.specs.Plays.{Played, no_classes}

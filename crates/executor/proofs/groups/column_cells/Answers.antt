@@ -1,4 +1,4 @@
-use Rattle.std.proofs.Common.{◌≡◌, ap, sym, ◌∙◌, map, arith}
+use Rattle.std.proofs.Common.{ap, sym, ◌∙◌, map, arith}
 use Rattle.std.proofs.lemmas.List.{take_all}
 use Rattle.logical.specs.Bags.{Env}
 use Rattle.logical.proofs.Loops.{map-map}

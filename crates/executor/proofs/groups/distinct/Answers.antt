@@ -1,4 +1,4 @@
-use Rattle.std.proofs.Common.{◌≡◌, refl, ap, sym, ◌∙◌, map}
+use Rattle.std.proofs.Common.{◌≡◌, refl, ap, ◌∙◌, map}
 use Rattle.executor.specs.Relations.{values_of, column_places}
 use Rattle.executor.specs.Groups.{first_seen, same_at}
 use Rattle.executor.proofs.GroupEnvs.{distinct-rows}

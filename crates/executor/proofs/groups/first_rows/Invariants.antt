@@ -1,4 +1,4 @@
-use Rattle.std.proofs.Common.{◌≡◌, map, flat_map, take}
+use Rattle.std.proofs.Common.{◌≡◌, map, take}
 use Rattle.executor.specs.Relations.{values_of}
 use Rattle.executor.specs.Groups.{group_of, firsts_of}
 use Rattle.executor.proofs.groups.first_rows.Given as goal

@@ -1,4 +1,4 @@
-use Rattle.std.proofs.Common.{◌≡◌, ap, sym, ◌∙◌, ◌++◌, List, map, length}
+use Rattle.std.proofs.Common.{◌≡◌, ap, ◌∙◌, ◌++◌, List, map, length}
 use Rattle.std.specs.List.{range_with_len}
 use Rattle.logical.specs.Columns.{rising}
 use Rattle.logical.specs.Bags.{Env, group}

@@ -1,4 +1,4 @@
-use Rattle.std.proofs.Common.{◌≡◌, ap, sym, ◌∙◌, [], ◌∷◌, ◌++◌, map}
+use Rattle.std.proofs.Common.{ap, ◌∙◌, [], ◌∷◌, ◌++◌, map}
 use Rattle.executor.specs.Relations.{env_of, values_of}
 use Rattle.executor.specs.Groups.{group_env}
 use Rattle.executor.proofs.groups.row_of_all.Goals as goal

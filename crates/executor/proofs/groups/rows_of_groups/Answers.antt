@@ -1,4 +1,4 @@
-use Rattle.std.proofs.Common.{◌≡◌, ap, sym, ◌∙◌, List, [], ◌∷◌, ◌++◌, map, take, arith}
+use Rattle.std.proofs.Common.{◌≡◌, ap, sym, ◌∙◌, [], ◌∷◌, ◌++◌, map, take, arith}
 use Rattle.std.proofs.lemmas.List.{take_all}
 use Rattle.schema.specs.Databases.{Row}
 use Rattle.logical.proofs.Loops.{map-map, map-append}

@@ -1,11 +1,11 @@
-use Rattle.std.proofs.Common.{◌≡◌, ap, sym, ◌∙◌, List, map, take, arith}
+use Rattle.std.proofs.Common.{ap, sym, ◌∙◌, List, map, take, arith}
 use Rattle.std.specs.List.{position_or_len}
 use Rattle.schema.specs.Databases.{Row, values_at}
 use Rattle.store.specs.Keys.{key_eq, key_equiv}
 use Rattle.indexmap.specs.IndexSet.{insert_key}
 use Rattle.executor.specs.declared.rows.RowData.{RowData}
 use Rattle.executor.specs.Relations.{values_of}
-use Rattle.executor.specs.Groups.{GroupOf, first_seen, group_of, groups_by, same_at, added_at}
+use Rattle.executor.specs.Groups.{first_seen, group_of, groups_by, same_at, added_at}
 use Rattle.executor.proofs.FirstSeen.{groups-more, put-at, keys-more}
 use Rattle.executor.proofs.Steps.{take-more}
 use Rattle.executor.proofs.keys.groups_of.Goals as goal

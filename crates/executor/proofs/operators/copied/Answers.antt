@@ -1,7 +1,6 @@
-use Rattle.std.proofs.Common.{◌≡◌, ap, sym, ◌∙◌, arith, length, map, List}
+use Rattle.std.proofs.Common.{ap, ◌∙◌, arith, length, map, List}
 use Rattle.std.specs.List.{range_with_len}
 use Rattle.std.proofs.lemmas.List.{take_all}
-use Rattle.logical.specs.Bags.{Env}
 use Rattle.executor.specs.declared.rows.RowData.{RowData}
 use Rattle.executor.specs.Relations.{env_of, row_env}
 use Rattle.executor.proofs.RelationRows.{made-rows}

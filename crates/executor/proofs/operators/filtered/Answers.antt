@@ -1,4 +1,4 @@
-use Rattle.std.proofs.Common.{◌≡◌, refl, ap, sym, ◌∙◌, map, List}
+use Rattle.std.proofs.Common.{refl, ap, sym, ◌∙◌, map}
 use Rattle.logical.specs.Bags.{Env}
 use Rattle.logical.specs.Conditions.{holds}
 use Rattle.executor.specs.declared.rows.RowData.{RowData}

@@ -1,4 +1,4 @@
-use Rattle.std.proofs.Common.{◌≡◌, ap, sym, ◌∙◌}
+use Rattle.std.proofs.Common.{ap, sym, ◌∙◌}
 use Rattle.executor.specs.Relations.{env_of}
 use Rattle.executor.proofs.ColumnPlaces.{found-column, other-column}
 use Rattle.executor.proofs.environment.Env.+column.Goals as goal
