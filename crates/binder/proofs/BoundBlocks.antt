@@ -18,7 +18,7 @@ use Rattle.binder.specs.Outputs.{aggregates, is_grouped, key_in, outputs_in}
 use Rattle.binder.specs.Selects.{FromSoFar, condition_in, chain_in, select_in, from_in, filter_in, block_of}
 use Rattle.binder.specs.Extents.{of_condition, of_chain, of_filter}
 use Rattle.binder.specs.Bound as numbers
-use Rattle.binder.specs.Bound.{CondScope, FromScope, BlockScope, cond_scope, from_scope, block_scope, block_scope_layer, bound_filter, bound_items, aggregate_numbers, all_differ, none_among, are_new}
+use Rattle.binder.specs.Bound.{CondScope, cond_scope, from_scope, block_scope, bound_filter, aggregate_numbers, none_among, are_new}
 use Rattle.binder.specs.BoundStatements.{plainness, filter_ons}
 use Rattle.binder.proofs.SelectParts.{select_at}
 use Rattle.binder.proofs.ExtentParts.{extent-select}

@@ -22,7 +22,7 @@ use Rattle.binder.specs.Scopes.{Scopes, meant}
 use Rattle.binder.specs.Selects.{condition_in, select_in, comparison_in, membership_in, term_in, all_in, one_output, are_comparable}
 use Rattle.binder.specs.Extents.{of_condition, of_select, beside, nothing, all_of}
 use Rattle.binder.specs.Bound as numbers
-use Rattle.binder.specs.Bound.{CondScope, cond_scope, block_scope, bound_term}
+use Rattle.binder.specs.Bound.{CondScope, cond_scope, bound_term}
 use Rattle.binder.specs.BoundStatements.{Plainness, plainness, all_plain, select_ons}
 use Rattle.binder.proofs.SelectParts.{compared, null_tested, negated, conjoined, disjoined, existing, contained}
 use Rattle.binder.proofs.ExtentParts.{extent-Compare, extent-IsNull, extent-Not, extent-And, extent-Or, extent-Exists, extent-In}

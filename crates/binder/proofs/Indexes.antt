@@ -1,5 +1,5 @@
 -- Scopes by hash: one more table keeps the maps in step with the list.
-use Rattle.std.proofs.Common.{inl, inr, ◌≡◌, refl, ℕ, ◌+◌, List, [], ◌∷◌, ◌++◌, length, Bool, true, false, ◌||◌, Option, Some, None, option_map, is_some, bytes_eq, ap, sym, ◌∙◌, arith, append_assoc, ◌<◌, drop, get_or, if◌then◌else◌, Result, Ok, Err}
+use Rattle.std.proofs.Common.{inl, inr, ◌≡◌, refl, ℕ, ◌+◌, List, [], ◌∷◌, ◌++◌, length, Bool, true, false, ◌||◌, Option, Some, None, option_map, is_some, bytes_eq, ap, sym, ◌∙◌, arith, append_assoc, ◌<◌, drop, get_or, if◌then◌else◌, Ok, Err}
 use Rattle.std.proofs.lemmas.List.{append-nil}
 use Rattle.std.proofs.lemmas.Slice.Eq.{bytes_eq-Decides}
 use Rattle.std.specs.Borrow.{Bor}
@@ -9,14 +9,12 @@ use Rattle.schema.specs.declared.schema.Kind.{Kind}
 use Rattle.schema.specs.declared.schema.Column as entries
 use Rattle.schema.specs.declared.schema.Table.{Table}
 use Rattle.sql_parse.specs.declared.ast.Name.{Name}
-use Rattle.binder.specs.declared.scope.TypedColumn.{TypedColumn}
 use Rattle.binder.specs.declared.scope.Placed.{Placed}
 use Rattle.binder.specs.declared.scope.Meaning.{Meaning}
-use Rattle.binder.specs.declared.scope.Meaning.TheVariants.{One, Several}
-use Rattle.binder.specs.declared.fault.BindReason.TheVariants.{AmbiguousName, UnknownColumn}
-use Rattle.binder.specs.declared.fault.BindRefusal.{BindRefusal}
+use Rattle.binder.specs.declared.scope.Meaning.TheVariants.{Several}
+use Rattle.binder.specs.declared.fault.BindReason.TheVariants.{UnknownColumn}
 use Rattle.binder.specs.Binding.{find_column, refusal}
-use Rattle.binder.specs.Scopes.{Known, Scope, is_taken, columns_named, named_in, occurrence_named, only, at_level, column_of}
+use Rattle.binder.specs.Scopes.{Known, Scope, is_taken, columns_named, named_in, occurrence_named, at_level, column_of}
 use Rattle.binder.specs.Lent.{IsIndexed, width, placed_of, meaning_of, one_more, with_more}
 use Rattle.binder.proofs.Fronts.{front_of}
 use Rattle.binder.proofs.NameKeys.{after-insert}
@@ -86,17 +84,6 @@ meaning-more (x ∷ y ∷ xs) = sym (several xs)
 -- the columns of a name with those of one more table
 pub meaning-push : (xs ys : List (ℕ × Kind)) → meaning_of (xs ++ ys) ≡ with_more (meaning_of xs) ys
 meaning-push xs ys = meaning-more (xs ++ ys) ∙ more-append None xs ys ∙ ap (λ m. with_more m ys) (sym (meaning-more xs))
-
--- what a name means in a scope, told from its columns in short
-abbrev pub only_by : Name → ℕ → Option Meaning → Result TypedColumn BindRefusal → Result TypedColumn BindRefusal
-only_by name level None outside = outside
-only_by name level (Some (One place kind)) outside = Ok (at_level level (place, kind))
-only_by name level (Some Several) outside = Err (refusal AmbiguousName name.at)
-
-pub only-short : (name : Name) (level : ℕ) (xs : List (ℕ × Kind)) (outside : Result TypedColumn BindRefusal) → only name level xs outside ≡ only_by name level (meaning_of xs) outside
-only-short name level [] outside = refl
-only-short name level (x ∷ []) outside = refl
-only-short name level (x ∷ y ∷ xs) outside = refl
 
 -- a column's place may be counted on from where its table's columns begin
 pub find-shift : (n k : ℕ) (cs : List entries.Column) (name : List ℕ) → find_column (n + k) cs name ≡ option_map (λ found. (n + found.0, found.1)) (find_column k cs name)

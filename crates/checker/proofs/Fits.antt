@@ -1,17 +1,16 @@
 -- One node of a plan that fits, and its inputs.
-use Rattle.std.proofs.Common.{◌≡◌, refl, ℕ, ◌+◌, Bool, true, ◌&&◌, ◌==◌, List, [], ◌∷◌, map, length, Option, Some, None, Result, Ok, ◌∙◌, ap, sym}
-use Rattle.std.specs.List.{slice_get, list_all}
+use Rattle.std.proofs.Common.{◌≡◌, refl, ℕ, ◌+◌, Bool, true, ◌&&◌, ◌==◌, List, map, length, Some, Result, Ok, ◌∙◌, ap, sym}
+use Rattle.std.specs.List.{slice_get}
 use Rattle.std.proofs.lemmas.Bool.{and_parts, eqb-true}
 use Rattle.std.proofs.lemmas.List.{length-map}
 use Rattle.values.specs.Faults.{◌>>=◌, wanted, wanted_if}
 use Rattle.logical.specs.declared.expr.Expr.{Expr}
-use Rattle.logical.specs.Columns.{has}
 use Rattle.logical.specs.Expressions.{input_classes}
 use Rattle.physical.specs.declared.plan.Node.{Node}
 use Rattle.physical.specs.declared.plan.Plan.{Plan, out-Plan, fold_out-Plan}
-use Rattle.checker.specs.declared.certificate.CheckCode.TheVariants.{UnknownLine, IllFormed, OtherOperator, UnsortedAnswer}
+use Rattle.checker.specs.declared.certificate.CheckReason.TheVariants.{UnknownLine, OtherOperator, UnsortedAnswer}
 use Rattle.checker.specs.declared.certificate.CheckRefusal.{CheckRefusal}
-use Rattle.checker.specs.Replay.{Fits, refusal, computes, line_of, sort_keys, sort_fits, operator_fits, at_line, fits_layer, node_fits, inputs_fit, plan_fits}
+use Rattle.checker.specs.Replay.{Fits, refusal, computes, operator_fits, fits_layer, node_fits, inputs_fit, plan_fits}
 use Rattle.checker.proofs.Chains.{both_ok, wanted_ok, wanted_if_ok}
 
 pub plan_fits_out : (lines : List Expr) (cols : ℕ → List ℕ) (p : Plan) (ordered : Bool) (g n : ℕ) → plan_fits lines cols p ordered g n

@@ -1,5 +1,5 @@
 -- What lines that replay found.
-use Rattle.std.proofs.Common.{◌≡◌, refl, ap, sym, ◌∙◌, subst, ℕ, zero, suc, ◌+◌, ◌<◌, ◌≤◌, true, List, [], ◌∷◌, ◌++◌, length, take, drop, reverse, get_or, Some, Result, Ok, nat_lt, nat_le, inl, inr, arith}
+use Rattle.std.proofs.Common.{◌≡◌, refl, ap, sym, ◌∙◌, subst, ℕ, zero, suc, ◌<◌, ◌≤◌, true, List, [], ◌∷◌, ◌++◌, length, take, drop, reverse, get_or, Some, Result, Ok, nat_lt, nat_le, inl, inr, arith}
 use mathlib.Core.List.{reverse_aux}
 use Rattle.std.specs.List.{slice_get}
 use Rattle.std.proofs.lemmas.Bool.{cases_lt, leb-true, ne_eqb, eq-eqb}
@@ -19,7 +19,7 @@ use Rattle.logical.specs.Frames.{query_frame}
 use Rattle.logical.specs.FormedFrames.{own_aggregates}
 use Rattle.logical.proofs.Same.{equal_expr}
 use Rattle.checker.specs.declared.certificate.CheckRefusal.{CheckRefusal}
-use Rattle.checker.specs.declared.certificate.CheckCode.TheVariants.{UnknownLine, OtherLine, IllFormed}
+use Rattle.checker.specs.declared.certificate.CheckReason.TheVariants.{UnknownLine, OtherLine, IllFormed}
 use Rattle.checker.specs.Replay.{refusal, is_frame_line, line_replays, lines_replay}
 use Rattle.checker.proofs.Chains.{both_ok, wanted_if_ok}
 

@@ -1,7 +1,7 @@
 -- An operator over inputs that have the bags of its classes has the bag of the expression that it computes.
-use Rattle.std.proofs.Common.{◌≡◌, refl, ap, sym, ◌∙◌, subst, ℕ, Bool, true, false, not, ◌&&◌, ◌||◌, ◌==◌, if◌then◌else◌, List, [], ◌∷◌, ◌++◌, map}
+use Rattle.std.proofs.Common.{◌≡◌, refl, ap, sym, ◌∙◌, subst, ℕ, Bool, true, false, ◌||◌, ◌==◌, if◌then◌else◌, List, [], ◌∷◌, ◌++◌, map}
 use Rattle.std.specs.List.{slice_get}
-use Rattle.std.proofs.lemmas.Bool.{and_parts, eqb-true, cond_both, or_cases}
+use Rattle.std.proofs.lemmas.Bool.{and_parts, eqb-true}
 use Rattle.binder.specs.declared.query.TableUse.{TableUse}
 use Rattle.binder.specs.Rows.{Tables}
 use Rattle.logical.specs.declared.condition.Condition.{Condition}
@@ -11,15 +11,14 @@ use Rattle.logical.specs.declared.expr.Expr.TheVariants.{Get, Select, Join, Left
 use Rattle.logical.specs.Columns.{has, rising}
 use Rattle.logical.specs.Bags.{SameBag, join, left_join, distinct}
 use Rattle.logical.specs.Conditions.{holds, classes_in}
-use Rattle.logical.specs.Equality.{same_conditions, same_columns, same_aggregations}
-use Rattle.logical.specs.Expressions.{Classes, means, columns_of, is_formed, is_plain, input_classes, get_columns, get_rows, aggregate_columns}
+use Rattle.logical.specs.Equality.{same_conditions}
+use Rattle.logical.specs.Expressions.{Classes, means, columns_of, is_formed, is_plain, input_classes, get_columns, get_rows}
 use Rattle.logical.proofs.Plain.{plain_holds}
 use Rattle.logical.proofs.Same.{equal_conditions, equal_columns, equal_aggregations}
 use Rattle.logical.proofs.SameBags.{same_bag-equal, select-same, join-same, left_join-same, keep-same, distinct-same}
 use Rattle.logical.proofs.SameConditions.{holds-same}
 use Rattle.logical.proofs.SameGroups.{aggregated-same}
 use Rattle.physical.specs.declared.plan.JoinKind.TheVariants.{Inner, Left}
-use Rattle.physical.specs.declared.plan.OrderKey.{OrderKey}
 use Rattle.physical.specs.declared.plan.Node.{Node}
 use Rattle.physical.specs.declared.plan.Node.TheVariants.{Scan, Filter, FilterSubqueries, Cut, Loop, Sort, HashGroup, HashDistinct}
 use Rattle.physical.specs.Plays.{Played, node_columns, node_rows, no_classes, subquery_rows}

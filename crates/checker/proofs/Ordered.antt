@@ -1,11 +1,10 @@
 -- Rows in the order that a plan delivers are in one that the ORDER BY allows.
 use Rattle.std.proofs.Common.{◌≡◌, refl, ap, sym, ◌∙◌, subst, ℕ, zero, suc, Bool, true, false, if◌then◌else◌, List, [], ◌∷◌, map, take, length, Option, Some, None}
 use Rattle.std.specs.Coded.{coded_list}
-use Rattle.std.specs.List.{slice_get, slice_index_or}
-use Rattle.std.specs.Ordering.{is_gt, on, then_cmp, ordering_then, flip_args}
+use Rattle.std.specs.List.{slice_get}
+use Rattle.std.specs.Ordering.{is_gt, on, ordering_then, flip_args}
 use Rattle.std.specs.declared.cmp.Ordering.{Ordering}
 use Rattle.std.specs.declared.cmp.Ordering.TheVariants.{Less, Equal, Greater}
-use Rattle.values.specs.declared.value.Value.{Value}
 use Rattle.values.specs.declared.value.Value.TheVariants as value
 use Rattle.values.specs.Order.{order}
 use Rattle.schema.specs.Databases.{Row}

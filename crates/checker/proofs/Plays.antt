@@ -1,10 +1,10 @@
 -- A plan that fits plays the bag of its class.
-use Rattle.std.proofs.Common.{◌≡◌, refl, ap, sym, ◌∙◌, subst, ℕ, suc, ◌+◌, ◌<◌, ◌≤◌, Bool, true, false, ◌&&◌, ◌==◌, List, [], ◌∷◌, map, length, take, reverse, Some, Result, Ok, nat_lt, arith}
-use Rattle.std.specs.List.{slice_get, list_all}
+use Rattle.std.proofs.Common.{◌≡◌, ap, sym, ◌∙◌, subst, ℕ, ◌+◌, ◌<◌, ◌≤◌, Bool, true, ◌==◌, List, [], ◌∷◌, map, length, take, reverse, Result, Ok, nat_lt, arith}
+use Rattle.std.specs.List.{list_all}
 use Rattle.std.proofs.lemmas.Bool.{and_parts, eqb-true, ltb-true}
 use Rattle.std.proofs.lemmas.List.{length-reverse, length-take-le}
 use Rattle.std.proofs.lemmas.Option.{slice_get_within}
-use Rattle.values.specs.Faults.{◌>>=◌, wanted, wanted_if}
+use Rattle.values.specs.Faults.{◌>>=◌, wanted_if}
 use Rattle.binder.specs.declared.query.Query.{Query}
 use Rattle.binder.specs.Rows.{Tables}
 use Rattle.logical.specs.declared.expr.Expr.{Expr}
@@ -15,7 +15,6 @@ use Rattle.logical.specs.FormedFrames.{own_aggregates}
 use Rattle.logical.proofs.NamedClasses.{inputs-pass}
 use Rattle.logical.proofs.SameBags.{same_bag-equal, same_bag-trans}
 use Rattle.physical.specs.declared.plan.OrderKey.{OrderKey}
-use Rattle.physical.specs.declared.plan.JoinKind.{JoinKind}
 use Rattle.physical.specs.declared.plan.Node.{Node}
 use Rattle.physical.specs.declared.plan.Node.TheVariants.{Scan, Filter, FilterSubqueries, Cut, Loop, Sort, HashGroup, HashDistinct}
 use Rattle.physical.specs.declared.plan.Plan.{Plan, roll-Plan, fold-roll-Plan, ind-Plan, map-Plan}
@@ -24,9 +23,9 @@ use Rattle.physical.specs.Plays.{Played, node_columns, node_rows, play_layer, pl
 use Rattle.physical.specs.Sorts.{keys_order}
 use Rattle.physical.proofs.SortedRows.{same_bag-sorted}
 use Rattle.checker.specs.declared.certificate.CheckRefusal.{CheckRefusal}
-use Rattle.checker.specs.declared.certificate.CheckCode.TheVariants.{UnknownLine, IllFormed, OtherOperator, UnsortedAnswer}
-use Rattle.checker.specs.Replay.{Fits, refusal, computes, sort_fits, operator_fits, node_fits, inputs_fit, fits_layer, plan_fits, lines_replay}
-use Rattle.checker.proofs.Chains.{both_ok, wanted_ok, wanted_if_ok}
+use Rattle.checker.specs.declared.certificate.CheckReason.TheVariants.{IllFormed, OtherOperator, UnsortedAnswer}
+use Rattle.checker.specs.Replay.{Fits, refusal, sort_fits, operator_fits, node_fits, inputs_fit, fits_layer, plan_fits, lines_replay}
+use Rattle.checker.proofs.Chains.{both_ok, wanted_if_ok}
 use Rattle.checker.proofs.Fits.{operator-is}
 use Rattle.checker.proofs.Founded.{Stands, line_at, founded, before, founded_columns, before_columns}
 use Rattle.checker.proofs.Operators.{Is, AllAre, operator-gives}

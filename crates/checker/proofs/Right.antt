@@ -3,7 +3,7 @@ use Rattle.std.proofs.Common.{◌≡◌, refl, ap, sym, ◌∙◌, subst, ℕ, �
 use Rattle.std.proofs.lemmas.List.{reverse-append, length-reverse, length-map}
 use Rattle.values.specs.Faults.{◌>>=◌, wanted_if}
 use Rattle.schema.specs.declared.schema.Schema.{Schema}
-use Rattle.schema.specs.Databases.{Row, Database, Satisfies}
+use Rattle.schema.specs.Databases.{Row}
 use Rattle.binder.specs.declared.query.Query.{Query}
 use Rattle.binder.specs.Rows.{Tables, tables_of, same_rows, count}
 use Rattle.binder.proofs.BoundStatements.{uses-wide}
@@ -16,12 +16,12 @@ use Rattle.logical.specs.Frames.{query_frame, query_numbers, query_shown}
 use Rattle.logical.proofs.FrameMeaning.{frame_means}
 use Rattle.logical.proofs.FormedQueries.{frames_formed}
 use Rattle.physical.specs.declared.plan.Plan.{Plan, out-Plan}
-use Rattle.physical.specs.Plays.{play, answer}
+use Rattle.physical.specs.Plays.{play}
 use Rattle.physical.proofs.Deliveries.{plans_deliver}
 use Rattle.checker.specs.declared.certificate.Line.{Line}
 use Rattle.checker.specs.declared.certificate.Certificate.{Certificate}
 use Rattle.checker.specs.declared.certificate.CheckRefusal.{CheckRefusal}
-use Rattle.checker.specs.declared.certificate.CheckCode.TheVariants.{UnsortedAnswer}
+use Rattle.checker.specs.declared.certificate.CheckReason.TheVariants.{UnsortedAnswer}
 use Rattle.checker.specs.Replay.{founding, refusal, lines_replay, node_fits, inputs_fit, plan_fits, is_delivered, root, replayed, IsBoundOver, IsChecked}
 use Rattle.checker.proofs.Chains.{both_ok, wanted_if_ok}
 use Rattle.checker.proofs.Fits.{plan_fits_out}

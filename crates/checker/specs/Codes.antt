@@ -1,14 +1,14 @@
--- The names by which the program tells a faulty certificate.
+-- The codes by which the program tells a faulty certificate.
 use Rattle.std.specs.Prelude.{ℕ, List, codes}
-use Rattle.checker.specs.declared.certificate.CheckCode.{CheckCode}
-use Rattle.checker.specs.declared.certificate.CheckCode.TheVariants.{UnknownLine, OtherForm, OtherLine, IllFormed, FailedCondition, OtherOperator, UnsortedInput, UnsortedAnswer}
+use Rattle.checker.specs.declared.certificate.CheckReason.{CheckReason}
+use Rattle.checker.specs.declared.certificate.CheckReason.TheVariants.{UnknownLine, OtherForm, OtherLine, IllFormed, FailedCondition, OtherOperator, UnsortedInput, UnsortedAnswer}
 
-abbrev pub name_of : CheckCode → List ℕ
-name_of UnknownLine = codes "K01"
-name_of OtherForm = codes "K02"
-name_of OtherLine = codes "K03"
-name_of IllFormed = codes "K04"
-name_of FailedCondition = codes "K05"
-name_of OtherOperator = codes "K06"
-name_of UnsortedInput = codes "K07"
-name_of UnsortedAnswer = codes "K08"
+abbrev pub code_of : CheckReason → List ℕ
+code_of UnknownLine = codes "K01"
+code_of OtherForm = codes "K02"
+code_of OtherLine = codes "K03"
+code_of IllFormed = codes "K04"
+code_of FailedCondition = codes "K05"
+code_of OtherOperator = codes "K06"
+code_of UnsortedInput = codes "K07"
+code_of UnsortedAnswer = codes "K08"

@@ -32,12 +32,12 @@ use Rattle.physical.specs.Plays.{answer}
 use Rattle.checker.specs.declared.certificate.Line.{Line}
 use Rattle.checker.specs.declared.certificate.Line.TheVariants.{Founds}
 use Rattle.checker.specs.declared.certificate.Certificate.{Certificate}
-use Rattle.checker.specs.declared.certificate.CheckCode.{CheckCode}
-use Rattle.checker.specs.declared.certificate.CheckCode.TheVariants.{UnknownLine, OtherLine, IllFormed, OtherOperator, UnsortedAnswer}
+use Rattle.checker.specs.declared.certificate.CheckReason.{CheckReason}
+use Rattle.checker.specs.declared.certificate.CheckReason.TheVariants.{UnknownLine, OtherLine, IllFormed, OtherOperator, UnsortedAnswer}
 use Rattle.checker.specs.declared.certificate.CheckRefusal.{CheckRefusal}
 
-abbrev pub refusal : ℕ → CheckCode → CheckRefusal
-refusal n code = record { line = n; code = code }
+abbrev pub refusal : ℕ → CheckReason → CheckRefusal
+refusal n reason = record { line = n; reason = reason }
 
 -- ---- lines
 

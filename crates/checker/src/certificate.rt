@@ -1,7 +1,7 @@
 //! What a certificate is, and why one is refused.
 
 ghost use Rattle.std.specs.Prelude.{◌≡◌};
-ghost use Rattle.checker.specs.Codes.{name_of};
+ghost use Rattle.checker.specs.Codes.{code_of};
 
 use logical::Expr;
 use physical::Plan;
@@ -22,9 +22,9 @@ pub struct Certificate {
     pub plan: Plan,
 }
 
-/// What is wrong with a line or a node.
+/// Why a line or a node is refused.
 #[derive(Clone, Copy, Debug, PartialEq, Eq)]
-pub enum CheckCode {
+pub enum CheckReason {
     /// A number names no earlier line, or as a class a line that founds none.
     UnknownLine,
     /// What the line cites isn't of the form that it needs.
@@ -43,31 +43,31 @@ pub enum CheckCode {
     UnsortedAnswer,
 }
 
-impl CheckCode {
-    /// The name by which the program tells it.
-    pub fn name(self) -> &'static str
-        ensures { result.now ≡ name_of self }
+impl CheckReason {
+    /// The code by which the program tells it.
+    pub fn code(self) -> &'static str
+        ensures { result.now ≡ code_of self }
     {
         match self {
-            CheckCode::UnknownLine => "K01",
-            CheckCode::OtherForm => "K02",
-            CheckCode::OtherLine => "K03",
-            CheckCode::IllFormed => "K04",
-            CheckCode::FailedCondition => "K05",
-            CheckCode::OtherOperator => "K06",
-            CheckCode::UnsortedInput => "K07",
-            CheckCode::UnsortedAnswer => "K08",
+            CheckReason::UnknownLine => "K01",
+            CheckReason::OtherForm => "K02",
+            CheckReason::OtherLine => "K03",
+            CheckReason::IllFormed => "K04",
+            CheckReason::FailedCondition => "K05",
+            CheckReason::OtherOperator => "K06",
+            CheckReason::UnsortedInput => "K07",
+            CheckReason::UnsortedAnswer => "K08",
         }
     }
 }
 
 /// The first fault of a certificate.
 #[derive(Clone, Copy, Debug, PartialEq, Eq, Error)]
-#[error("{} line {line}", .code.name())]
+#[error("{} line {line}", .reason.code())]
 pub struct CheckRefusal {
     /// The number of the faulty line, or of the faulty node: nodes are numbered on from the lines, each before its inputs.
     pub line: usize,
-    pub code: CheckCode,
+    pub reason: CheckReason,
 }
 
 pub type CheckFault = Fault<CheckRefusal>;

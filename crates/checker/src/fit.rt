@@ -4,11 +4,11 @@ ghost use Rattle.std.specs.Prelude.{◌≡◌, ◌↔◌, ◌+◌, ◌==◌, ◌
 ghost use Rattle.std.specs.List.{list_all};
 ghost use Rattle.values.specs.Faults.{Gives, wanted_if};
 ghost use Rattle.logical.specs.Columns.{has, columns_at};
-ghost use Rattle.checker.specs.declared.certificate.CheckCode.TheVariants.{OtherOperator};
+ghost use Rattle.checker.specs.declared.certificate.CheckReason.TheVariants.{OtherOperator};
 ghost use Rattle.checker.specs.declared.certificate.CheckRefusal.{CheckRefusal};
 ghost use Rattle.checker.specs.Replay as spec;
 
-use crate::certificate::{CheckCode, CheckFault, Line};
+use crate::certificate::{CheckReason, CheckFault, Line};
 use crate::replay::refused;
 use binder::Query;
 use logical::{Columns, Expr, same_aggregations};
@@ -97,7 +97,7 @@ fn sort_fits(
     ensures count { IfOk result (λ classes. length classes.items ≡ inputs) }
 {
     if !are_columns(columns, class, keys) {
-        return Err(refused(number, CheckCode::IllFormed));
+        return Err(refused(number, CheckReason::IllFormed));
     }
     only_input(alloc, inputs, class, number)
 }
@@ -113,7 +113,7 @@ fn only_input(
     ensures count { IfOk result (λ classes. length classes.items ≡ inputs) }
 {
     if inputs != 1 {
-        return Err(refused(number, CheckCode::OtherOperator));
+        return Err(refused(number, CheckReason::OtherOperator));
     }
     let mut classes = Vec::new(alloc);
     classes.push(class)?;
@@ -135,16 +135,16 @@ fn operator_fits(
 {
     let expr = match lines.get(line) {
         Some(line) => line.founding(),
-        None => return Err(refused(number, CheckCode::UnknownLine)),
+        None => return Err(refused(number, CheckReason::UnknownLine)),
     };
     if line != class || !computes(node, expr) {
-        return Err(refused(number, CheckCode::OtherOperator));
+        return Err(refused(number, CheckReason::OtherOperator));
     }
     let classes = expr.inputs(alloc)?;
     if inputs == classes.len() {
         Ok(classes)
     } else {
-        Err(refused(number, CheckCode::OtherOperator))
+        Err(refused(number, CheckReason::OtherOperator))
     }
 }
 
@@ -238,7 +238,7 @@ pub fn plan_fits(
         number,
     )?;
     if !ordered {
-        return Err(refused(number, CheckCode::UnsortedAnswer));
+        return Err(refused(number, CheckReason::UnsortedAnswer));
     }
     inputs_fit(
         alloc,

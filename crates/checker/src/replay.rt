@@ -9,7 +9,7 @@ ghost use Rattle.logical.specs.Frames.{query_frame};
 ghost use Rattle.logical.specs.FormedFrames.{group_aggregates, own_aggregates};
 ghost use Rattle.checker.specs.Replay as spec;
 
-use crate::certificate::{CheckCode, CheckFault, CheckRefusal, Line};
+use crate::certificate::{CheckReason, CheckFault, CheckRefusal, Line};
 use binder::Query;
 use logical::{Aggregation, Columns, Expr};
 use std::alloc::{AllocError, Global};
@@ -27,10 +27,10 @@ impl Line {
 }
 
 /// What a fault of a line or node is.
-pub fn refused(line: usize, code: CheckCode) -> CheckFault
-    ensures { result ≡ Refused (spec.refusal line code) }
+pub fn refused(line: usize, reason: CheckReason) -> CheckFault
+    ensures { result ≡ Refused (spec.refusal line reason) }
 {
-    Fault::Refused(CheckRefusal { line, code })
+    Fault::Refused(CheckRefusal { line, reason })
 }
 
 /// Whether the line is the frame's, where the frame has one.
@@ -70,13 +70,13 @@ fn line_replays(
 {
     let number = columns.len();
     if !expr.names_below(number) {
-        return Err(refused(number, CheckCode::UnknownLine));
+        return Err(refused(number, CheckReason::UnknownLine));
     }
     if !expr.is_formed(query.tables.as_slice(), own, columns) {
-        return Err(refused(number, CheckCode::IllFormed));
+        return Err(refused(number, CheckReason::IllFormed));
     }
     if !is_frame_line(frame.get(number), expr) {
-        return Err(refused(number, CheckCode::OtherLine));
+        return Err(refused(number, CheckReason::OtherLine));
     }
     Ok(())
 }
@@ -100,7 +100,7 @@ pub fn replay(
         columns.push(expr.columns(alloc, query.tables.as_slice(), &columns)?)?;
     }
     if lines.len() < frame.len() {
-        return Err(refused(lines.len(), CheckCode::OtherLine));
+        return Err(refused(lines.len(), CheckReason::OtherLine));
     }
     Ok(columns)
 }

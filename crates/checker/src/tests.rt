@@ -3,7 +3,7 @@
 ghost use Rattle.std.specs.Prelude.{IfSome};
 ghost use Rattle.checker.specs.Replay.{IsBoundOver};
 
-use crate::certificate::{Certificate, CheckCode, CheckFault, CheckRefusal, Line};
+use crate::certificate::{Certificate, CheckReason, CheckFault, CheckRefusal, Line};
 use crate::checked::check;
 use binder::{Query, bind_statement};
 use logical::{Columns, Condition, Conjuncts, Expr, Term, query_frame};
@@ -118,8 +118,8 @@ fn verdict(alloc: Global, lines: Items<Line>, plan: Plan) -> Result<(), CheckFau
     Ok(())
 }
 
-fn refusal(line: usize, code: CheckCode) -> Result<(), CheckFault> {
-    Err(Fault::Refused(CheckRefusal { line, code }))
+fn refusal(line: usize, reason: CheckReason) -> Result<(), CheckFault> {
+    Err(Fault::Refused(CheckRefusal { line, reason }))
 }
 
 fn whole_plan(alloc: Global) -> Result<Plan, AllocError> {
@@ -143,7 +143,7 @@ fn without_a_line(alloc: Global) -> Result<(), CheckFault> {
 fn a_missing_line_is_told(rt: HostRuntime) {
     assert_eq!(rt;
         without_a_line(rt.alloc()),
-        refusal(2, CheckCode::OtherLine)
+        refusal(2, CheckReason::OtherLine)
     );
 }
 
@@ -155,7 +155,7 @@ fn with_another_line(alloc: Global) -> Result<(), CheckFault> {
 fn another_line_is_told(rt: HostRuntime) {
     assert_eq!(rt;
         with_another_line(rt.alloc()),
-        refusal(1, CheckCode::OtherLine)
+        refusal(1, CheckReason::OtherLine)
     );
 }
 
@@ -167,7 +167,7 @@ fn with_a_later_class(alloc: Global) -> Result<(), CheckFault> {
 fn a_class_that_is_not_there_yet_is_told(rt: HostRuntime) {
     assert_eq!(rt;
         with_a_later_class(rt.alloc()),
-        refusal(2, CheckCode::UnknownLine)
+        refusal(2, CheckReason::UnknownLine)
     );
 }
 
@@ -179,7 +179,7 @@ fn with_no_filter(alloc: Global) -> Result<(), CheckFault> {
 fn a_plan_without_its_filter_is_told(rt: HostRuntime) {
     assert_eq!(rt;
         with_no_filter(rt.alloc()),
-        refusal(4, CheckCode::OtherOperator)
+        refusal(4, CheckReason::OtherOperator)
     );
 }
 
@@ -195,7 +195,7 @@ fn with_another_filter(alloc: Global) -> Result<(), CheckFault> {
 fn a_plan_with_another_filter_is_told(rt: HostRuntime) {
     assert_eq!(rt;
         with_another_filter(rt.alloc()),
-        refusal(4, CheckCode::OtherOperator)
+        refusal(4, CheckReason::OtherOperator)
     );
 }
 
@@ -211,7 +211,7 @@ fn with_no_cut(alloc: Global) -> Result<(), CheckFault> {
 fn a_plan_without_its_cut_is_told(rt: HostRuntime) {
     assert_eq!(rt;
         with_no_cut(rt.alloc()),
-        refusal(3, CheckCode::OtherOperator)
+        refusal(3, CheckReason::OtherOperator)
     );
 }
 
@@ -227,7 +227,7 @@ fn citing_line_7(alloc: Global) -> Result<(), CheckFault> {
 fn a_line_that_is_not_there_is_told(rt: HostRuntime) {
     assert_eq!(rt;
         citing_line_7(rt.alloc()),
-        refusal(5, CheckCode::UnknownLine)
+        refusal(5, CheckReason::UnknownLine)
     );
 }
 
@@ -280,11 +280,11 @@ fn an_order_by_that_is_not_delivered_is_told(rt: HostRuntime) {
     let alloc = rt.alloc();
     assert_eq!(rt;
         unsorted_badges(alloc),
-        refusal(3, CheckCode::UnsortedAnswer)
+        refusal(3, CheckReason::UnsortedAnswer)
     );
     assert_eq!(rt;
         badges_sorted_by(alloc, 3, false),
-        refusal(3, CheckCode::UnsortedAnswer)
+        refusal(3, CheckReason::UnsortedAnswer)
     );
 }
 
@@ -297,7 +297,7 @@ fn a_sort_on_top_delivers_it(rt: HostRuntime) {
 fn a_sort_by_a_column_of_no_row_is_told(rt: HostRuntime) {
     assert_eq!(rt;
         badges_sorted_by(rt.alloc(), 2, true),
-        refusal(3, CheckCode::IllFormed)
+        refusal(3, CheckReason::IllFormed)
     );
 }
 
@@ -328,7 +328,7 @@ fn a_left_join_is_no_inner_one(rt: HostRuntime) {
     assert_eq!(rt; bosses(alloc, JoinKind::Left), Ok(()));
     assert_eq!(rt;
         bosses(alloc, JoinKind::Inner),
-        refusal(5, CheckCode::OtherOperator)
+        refusal(5, CheckReason::OtherOperator)
     );
 }
 
@@ -354,6 +354,6 @@ fn a_filter_wants_its_subqueries(rt: HostRuntime) {
     assert_eq!(rt; departments(alloc, true), Ok(()));
     assert_eq!(rt;
         departments(alloc, false),
-        refusal(6, CheckCode::OtherOperator)
+        refusal(6, CheckReason::OtherOperator)
     );
 }

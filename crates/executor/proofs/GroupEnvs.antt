@@ -22,7 +22,7 @@ use Rattle.executor.specs.declared.relation.Relation.{Relation}
 use Rattle.executor.specs.declared.rows.RowData.{RowData}
 use Rattle.executor.specs.Places.{listed, value_in}
 use Rattle.executor.specs.Relations.{values_of, column_place, column_places, row_env, rows_of}
-use Rattle.executor.specs.Groups.{GroupOf, first_seen, same_at, group_env, all_of, relation_groups}
+use Rattle.executor.specs.Groups.{GroupOf, first_seen, same_at, group_env, relation_groups}
 use Rattle.executor.proofs.ColumnPlaces.{found-column, other-column}
 
 -- ---- rows that are the same
@@ -96,10 +96,6 @@ group-some : (K : List ℕ) (add : List Env → Env → Env) (x : Bag) (e : Env)
 group-some [] add x e h = absurd (omega (arith, h))
 group-some (k ∷ K) add x e h = refl
 
-pub group-none : (K : List ℕ) (add : List Env → Env → Env) (x : Bag) (e : Env) → length K ≡ 0 → group K add x e ≡ add (x e) e ∷ []
-group-none [] add x e h = refl
-group-none (k ∷ K) add x e h = absurd (omega (arith, h))
-
 -- the rows of the groups by some columns
 pub group-envs : (g : Grouping) (input : Relation) (e : Env) → 0 < length g.keys.now
     → map (group_env g input.heading e) (relation_groups g.keys.now input) ≡ group g.keys.now (with_aggregates g.added.now) (rows_of input) e
@@ -115,19 +111,6 @@ group-envs g input e some =
     λ r. ap (λ members. with_aggregates g.added.now members (lay (has K) (row r) e)) (sym (through (λ x. Unit {0}) row (same_on K (row r)) (alike r) rows (λ x p. same-key input.heading r x e K) (all-each (λ x. Unit {0}) (λ x. tt) rows))) in
     map-map (group_env g input.heading e) found firsts ∙ (λ i. map (λ r. same r i) firsts) ∙ sym (map-map one row firsts)
     ∙ sym (ap (map one) (distinct-envs input.heading rows e K)) ∙ sym (group-some K (with_aggregates g.added.now) (rows_of input) e some)
-
-laid-itself : (K : List ℕ) (e : Env) → lay (has K) e e ≡ e
-laid-itself K e = λ i c. by (has K c) (e c) i
-  where
-    by : (b : Bool) (v : Value) → (if b then v else v) ≡ v
-    by true v = refl
-    by false v = refl
-
--- the row of all rows, where there are no keys
-pub group-all : (g : Grouping) (input : Relation) (e : Env) → length g.keys.now ≡ 0
-    → group_env g input.heading e (all_of input) ∷ [] ≡ group g.keys.now (with_aggregates g.added.now) (rows_of input) e
-group-all g input e none =
-    ap (λ base. with_aggregates g.added.now (rows_of input e) base ∷ []) (laid-itself g.keys.now e) ∙ sym (group-none g.keys.now (with_aggregates g.added.now) (rows_of input) e none)
 
 -- ---- the columns of groups
 

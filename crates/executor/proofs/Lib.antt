@@ -1,4 +1,3 @@
-pub mod ClosureSorts
 pub mod ColumnPlaces
 pub mod FirstSeen
 pub mod GroupEnvs

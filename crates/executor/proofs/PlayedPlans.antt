@@ -141,5 +141,9 @@ given-rows (h ∷ classes) (p ∷ inputs) (s ∷ relations) r all g = by (h == g
     by true later = all.0.rows_are
     by false later = later
 
-pub same-holds : (C : List Condition) (inputs : List Played) (relations : List Relation) (r : Env) → ArePlayed inputs r relations → holds (given (classes_in C) relations) C r ≡ holds (subquery_rows (classes_in C) inputs) C r
-same-holds C inputs relations r all = same-all (given (classes_in C) relations) (subquery_rows (classes_in C) inputs) r (given-rows (classes_in C) inputs relations r all) C
+pub same-holds : (classes : List ℕ) (C : List Condition) (inputs : List Played) (relations : List Relation) (r : Env) → ArePlayed inputs r relations → holds (given classes relations) C r ≡ holds (subquery_rows classes inputs) C r
+same-holds classes C inputs relations r all = same-all (given classes relations) (subquery_rows classes inputs) r (given-rows classes inputs relations r all) C
+
+-- the classes may be told as those that the conditions name
+pub named-holds : (C : List Condition) (classes : List ℕ) (inputs : List Played) (r : Env) (b : Bool) → b ≡ holds (subquery_rows classes inputs) C r → classes ≡ classes_in C → b ≡ holds (subquery_rows (classes_in C) inputs) C r
+named-holds C classes inputs r b told same = told ∙ ap (λ gs. holds (subquery_rows gs inputs) C r) same

@@ -1,6 +1,6 @@
 -- Bytes that a device took, piece after piece.
-use Rattle.std.proofs.Common.{◌≡◌, ℕ, suc, ◌+◌, ◌<◌, ◌≤◌, List, [], ◌∷◌, ◌++◌, length, take, drop, get_or, map, Option, Some, None, Result, Ok, Err, OnErr, refl, sym, ap, ◌∙◌, append_assoc, arith}
-use Rattle.std.proofs.lemmas.List.{append-nil, drop_all, take-append-drop}
+use Rattle.std.proofs.Common.{◌≡◌, ℕ, suc, ◌+◌, ◌<◌, List, [], ◌∷◌, ◌++◌, length, take, drop, get_or, map, Option, Some, None, Result, Ok, Err, OnErr, refl, sym, ap, ◌∙◌, append_assoc, arith}
+use Rattle.std.proofs.lemmas.List.{append-nil, take-append-drop}
 use Rattle.std.proofs.Math.Seq.{drop-cons}
 use Rattle.std.specs.Io.KnownBytes.{Appends, Keeps}
 use Rattle.csv.specs.Writing.{default_writer, row_text}
@@ -54,9 +54,3 @@ rest_text rows i r lt at =
     let k : suc i ≡ i + 1 = omega arith in
     let h : drop i rows ≡ r ∷ drop (i + 1) rows = drop-cons rows i r lt ∙ ap (λ x. x ∷ drop (suc i) rows) (sym at) ∙ ap (λ j. r ∷ drop j rows) k in
     ap rows_text h
-
-pub no_rest : (rows : List Row) (i : ℕ) (done total : List ℕ) → length rows ≤ i → done ++ rows_text (drop i rows) ≡ total → done ≡ total
-no_rest rows i done total le e =
-    let h : drop i rows ≡ [] = drop_all i rows le in
-    let one : done ++ rows_text (drop i rows) ≡ done = ap (λ (t : List Row). done ++ rows_text t) h ∙ append-nil done in
-    sym one ∙ e

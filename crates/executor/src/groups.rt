@@ -180,18 +180,6 @@ fn group_row<'t>(
     Ok(RowData::Made(cells))
 }
 
-/// The columns of the keys and of the aggregates.
-fn group_columns(alloc: Global, grouping: Grouping<'_>) -> Result<Columns, AllocError>
-    ensures { IfOk result (λ columns. columns ≡ rising (grouping.entry.keys.now ++ expressions.aggregate_columns grouping.entry.added.now)) }
-{
-    let mut columns = Vec::new(alloc);
-    columns.extend_from_slice(grouping.keys.as_slice())?;
-    for added in grouping.added {
-        columns.push(added.column)?;
-    }
-    Ok(Columns::from_vec(columns))
-}
-
 fn all_rows<'a, 't>(
     alloc: Global,
     rows: &'a [RowData<'t>],
@@ -278,7 +266,7 @@ pub fn grouped<'g, 't>(
     ensures { IfOk result (IsPlayed (rising (keys.entry.now ++ expressions.aggregate_columns added.entry.now)) (bags.group keys.entry.now (expressions.with_aggregates added.entry.now) (rows_of input.now) (env_of env.now)) (env_of env.now)) }
 {
     let grouping = Grouping { keys, added };
-    let columns = group_columns(alloc, grouping)?;
+    let columns = Columns::of_groups(alloc, keys, added)?;
     let rows = group_rows(alloc, grouping, &columns, input, env)?;
     Ok(Relation {
         heading: Heading::new(alloc, columns)?,

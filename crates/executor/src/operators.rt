@@ -45,7 +45,7 @@ pub fn scanned<'t>(
     let Some(table_use) = uses.get(occurrence) else {
         return Relation::none(alloc);
     };
-    let columns = Columns::run(alloc, table_use.first_column, table_use.entry.columns.len())?;
+    let columns = Columns::of_occurrence(alloc, uses, occurrence)?;
     Ok(Relation {
         heading: Heading::new(alloc, columns)?,
         rows: table_rows(alloc, tables, table_use.table)?,

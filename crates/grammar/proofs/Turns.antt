@@ -1,5 +1,5 @@
 -- A list that is read turn by turn, as a loop does it.
-use Rattle.std.proofs.Common.{◌≡◌, ℕ, zero, suc, ◌-◌, ◌≤◌, ◌<◌, true, false, List, [], ◌∷◌, ◌++◌, length, Result, Ok, Err, refl, sym, ◌∙◌, ap, subst, append_assoc, arith, length-append, append-nil}
+use Rattle.std.proofs.Common.{◌≡◌, ℕ, zero, suc, ◌-◌, ◌≤◌, ◌<◌, true, false, List, [], ◌∷◌, ◌++◌, length, Result, Ok, Err, refl, sym, ◌∙◌, ap, subst, append_assoc, arith, length-append}
 use Rattle.grammar.specs.Grammars.{Grammar, many, Language, closed}
 use Rattle.grammar.specs.Words.{In, Nested}
 use Rattle.grammar.specs.Readers.{◌>>=◌, Reader, Told, null, sees, first, decides, paired, repeat, parse, inside, with_front, IsDecided}
@@ -86,8 +86,3 @@ module _ {T : Type 0} {P : Type 0 → Type 1} (L : Language T P) where
       halt : (n : ℕ) (ts : List T) → sees L (first L g) ts ≡ false → repeat L told n (first L g) read ts ≡ Ok ([], ts)
       halt zero ts h = refl
       halt (suc n) ts h = rw h refl
-
-      -- no more of them
-      pub turn_stop : (front : List A) (ts : List T) (z : Result (List A × List T) E) → sees L (first L g) ts ≡ false
-          → with_front front (parse L told (inside L told d) (many g) ts) ≡ z → z ≡ Ok (front, ts)
-      turn_stop front ts z h i = sym i ∙ ap (with_front front) (halt (length ts) ts h) ∙ simp append-nil

@@ -1,6 +1,5 @@
 -- Sums over rows, and over lists that are made of others.
-use Rattle.std.proofs.Common.{◌≡◌, refl, ap, sym, ◌∙◌, ℕ, ◌+◌, ◌==◌, Bool, true, false, not, if◌then◌else◌, List, [], ◌∷◌, ◌++◌, map, filter, flat_map, arith}
-use Rattle.std.specs.List.{AllByRecursion}
+use Rattle.std.proofs.Common.{◌≡◌, refl, ap, ◌∙◌, ℕ, ◌+◌, ◌==◌, Bool, true, false, not, if◌then◌else◌, List, [], ◌∷◌, ◌++◌, map, filter, flat_map, arith}
 use Rattle.std.proofs.lemmas.Bool.{ne_eqb}
 use Rattle.logical.specs.Bags.{Env, Test, total, or_else_row}
 
@@ -33,11 +32,6 @@ pub total-same : (f g : Env → ℕ) → ((r : Env) → f r ≡ g r) → (xs : L
 total-same f g h [] = refl
 total-same f g h (x ∷ xs) = omega (arith, h x, total-same f g h xs)
 
--- the same at each row of which something holds
-pub total-same_at : (P : Env → Type 0) (f g : Env → ℕ) → ((r : Env) → P r → f r ≡ g r) → (xs : List Env) → AllByRecursion P xs → total f xs ≡ total g xs
-total-same_at P f g h [] all = refl
-total-same_at P f g h (x ∷ xs) all = omega (arith, h x all.0, total-same_at P f g h xs all.1)
-
 pub total-zero : (f : Env → ℕ) → ((r : Env) → f r ≡ 0) → (xs : List Env) → total f xs ≡ 0
 total-zero f h [] = refl
 total-zero f h (x ∷ xs) = omega (arith, h x, total-zero f h xs)
@@ -45,16 +39,6 @@ total-zero f h (x ∷ xs) = omega (arith, h x, total-zero f h xs)
 pub total-plus : (f g : Env → ℕ) (xs : List Env) → total (λ r. f r + g r) xs ≡ total f xs + total g xs
 total-plus f g [] = omega arith
 total-plus f g (x ∷ xs) = omega (arith, total-plus f g xs)
-
--- sums over rows of sums over other rows may change places
-pub total-swap : (h : Env → Env → ℕ) (xs ys : List Env) → total (λ r. total (h r) ys) xs ≡ total (λ s. total (λ r. h r s) xs) ys
-total-swap h [] ys = sym (total-zero _ (λ s. refl) ys)
-total-swap h (x ∷ xs) ys = ap (λ n. total (h x) ys + n) (total-swap h xs ys) ∙ sym (total-plus (h x) (λ s. total (λ r. h r s) xs) ys)
-
--- a test that is the same at each row stands before the sum
-pub total-when : (f : Env → ℕ) (b : Bool) (xs : List Env) → total (λ r. if b then f r else 0) xs ≡ (if b then total f xs else 0)
-total-when f true xs = refl
-total-when f false xs = total-zero _ (λ r. refl) xs
 
 -- rows that pass and rows that don't
 pub total-split : (p : Test) (f : Env → ℕ) (xs : List Env) → total f xs ≡ total (if_passes p f) xs + total (if_passes (λ r. not (p r)) f) xs
@@ -69,10 +53,6 @@ total-split p f xs = total-same _ _ (λ r. by (p r) (f r)) xs ∙ total-plus (if
 -- how many rows pass
 abbrev pub count_passing : Test → List Env → ℕ
 count_passing p xs = total (λ r. if p r then 1 else 0) xs
-
-pub count-all : (xs : List Env) → total (λ r. 1) xs ≡ 0 → xs ≡ []
-count-all [] h = refl
-count-all (x ∷ xs) h = absurd (omega arith)
 
 -- a list with a row in place of none: the row counts where there are none
 pub total-or_else_row : (f : Env → ℕ) (pad : Env) (xs : List Env) → total f (or_else_row pad xs) ≡ total f xs + (if total (λ r. 1) xs == 0 then f pad else 0)

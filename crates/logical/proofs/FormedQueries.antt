@@ -21,7 +21,7 @@ use Rattle.logical.specs.Equality.{same_aggregation}
 use Rattle.logical.specs.Classes.{class_columns}
 use Rattle.logical.specs.FormedFrames.{group_aggregates, own_aggregates, AreFormed, FramesAreFormed}
 use Rattle.logical.specs.Frames as frame
-use Rattle.logical.specs.Frames.{BlockFrame, cond_frame, from_frame, block_frame, where_lines, group_lines, keep_lines, distinct_lines, item_number, own_numbers, kept, last, query_frame, query_numbers}
+use Rattle.logical.specs.Frames.{cond_frame, from_frame, block_frame, where_lines, group_lines, keep_lines, distinct_lines, item_number, own_numbers, kept, last, query_frame, query_numbers}
 use Rattle.logical.proofs.FormedBlocks.{formed-Block}
 use Rattle.logical.proofs.FormedConds.{formed-Compare, formed-IsNull, formed-Not, formed-And, formed-Or, formed-Exists, formed-In}
 use Rattle.logical.proofs.FormedFroms.{all-has, formed-Table, formed-Join, formed-LeftJoin, formed-Comma}

@@ -15,7 +15,7 @@ use Rattle.binder.specs.declared.query.Cond.{Cond}
 use Rattle.binder.specs.declared.query.Cond.TheVariants as cond
 use Rattle.binder.specs.declared.query.Block.{Block}
 use Rattle.binder.specs.Rows as rows
-use Rattle.binder.specs.Rows.{Tables, value_at}
+use Rattle.binder.specs.Rows.{Tables}
 use Rattle.binder.specs.Meaning as query
 use Rattle.binder.specs.Meaning.{all_of, any_of, equals_row}
 use Rattle.binder.specs.Bound.{Scope, CondScope, bound_term, cond_scope, block_scope, number_at}

@@ -9,12 +9,6 @@ use Rattle.logical.proofs.UniqueRows.{GoesBy, same_on-along, same_on-reads, tota
 
 -- ---- the same rows
 
-pub same_bag-refl : (a : Bag) → SameBag a a
-same_bag-refl a e f = refl
-
-pub same_bag-sym : (a b : Bag) → SameBag a b → SameBag b a
-same_bag-sym a b h e f = sym (h e f)
-
 pub same_bag-trans : (a b c : Bag) → SameBag a b → SameBag b c → SameBag a c
 same_bag-trans a b c h k e f = h e f ∙ k e f
 

@@ -171,10 +171,7 @@ impl Expr {
         ensures { IfOk result (λ c. c ≡ spec.columns_of uses.now (columns_at columns.now) self.now) }
     {
         match self {
-            Expr::Get(o) => match uses.get(*o) {
-                Some(t) => Columns::run(alloc, t.first_column, t.entry.columns.len()),
-                None => Columns::run(alloc, 0, 0),
-            },
+            Expr::Get(o) => Columns::of_occurrence(alloc, uses, *o),
             Expr::Select(_, x) => columns[*x].copy(alloc),
             Expr::Join(_, a, b) => columns[*a].union(alloc, &columns[*b]),
             Expr::LeftJoin(_, a, b) => columns[*a].union(alloc, &columns[*b]),
@@ -182,7 +179,7 @@ impl Expr {
             Expr::Anti(_, _, a, _) => columns[*a].copy(alloc),
             Expr::Keep(k, _) => k.copy(alloc),
             Expr::Distinct(x) => columns[*x].copy(alloc),
-            Expr::Group(k, added, _) => with_added(alloc, k, added.as_slice()),
+            Expr::Group(k, added, _) => Columns::of_groups(alloc, k, added.as_slice()),
         }
     }
 }
@@ -265,16 +262,4 @@ fn each_formed(added: &[Aggregation], columns: &Columns, own: &[Aggregation]) ->
     ensures { result ≡ list_all (spec.aggregation_formed own.now columns.now) added.now }
 {
     added.iter().all(|a| aggregation_formed(*a, columns, own))
-}
-
-/// The key columns and those of the aggregates.
-fn with_added(alloc: Global, keys: &Columns, added: &[Aggregation]) -> Result<Columns, AllocError>
-    ensures { IfOk result (λ c. c ≡ rising (keys.now ++ spec.aggregate_columns added.now)) }
-{
-    let mut columns = Vec::new(alloc);
-    columns.extend_from_slice(keys.as_slice())?;
-    for a in added {
-        columns.push(a.column)?;
-    }
-    Ok(Columns::from_vec(columns))
 }

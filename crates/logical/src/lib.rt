@@ -18,6 +18,7 @@ pub mod laws;
 mod lines;
 mod named_classes;
 mod numbers;
+mod operator_columns;
 mod scope;
 #[cfg(test)]
 mod tests;

@@ -110,15 +110,38 @@ fn uses(alloc: Global) -> Result<Vec<TableUse>, AllocError> {
     Ok(uses)
 }
 
+/// `9=sum:5`
+fn sum_of_bosses() -> Aggregation {
+    Aggregation {
+        column: 9,
+        aggregate: Aggregate::Sum(5),
+    }
+}
+
+/// The columns of dept, of an occurrence that isn't there, and of groups by the first column with `9=sum:5`.
+fn sets_of_operators(alloc: Global) -> Result<bool, AllocError> {
+    let uses = uses(alloc)?;
+    let table = Columns::of_occurrence(alloc, &uses, 0)?;
+    let none = Columns::of_occurrence(alloc, &uses, 1)?;
+    let keys = Columns::run(alloc, 4, 1)?;
+    let groups = Columns::of_groups(alloc, &keys, &[sum_of_bosses()])?;
+    Ok(
+        table.as_slice() == [4, 5].as_slice()
+            && none.as_slice().len() == 0
+            && groups.as_slice() == [4, 9].as_slice(),
+    )
+}
+
+#[test]
+fn operators_have_their_columns(rt: HostRuntime) {
+    assert_eq!(rt; sets_of_operators(rt.alloc()), Ok(true));
+}
+
 /// Whether it is well formed, in a query with the aggregate `9=sum:5`.
 fn is_formed(alloc: Global, expr: &Expr) -> Result<bool, AllocError> {
     let uses = uses(alloc)?;
     let classes = classes(alloc, &uses)?;
-    let own = Aggregation {
-        column: 9,
-        aggregate: Aggregate::Sum(5),
-    };
-    Ok(expr.names_below(2) && expr.is_formed(&uses, &[own], &classes))
+    Ok(expr.names_below(2) && expr.is_formed(&uses, &[sum_of_bosses()], &classes))
 }
 
 fn keep(alloc: Global, column: usize, class: usize) -> Result<bool, AllocError> {

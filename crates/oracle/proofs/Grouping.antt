@@ -1,12 +1,10 @@
 -- Groups, as the evaluator puts them together.
 use Rattle.std.proofs.Common.{◌≡◌, refl, ℕ, ◌+◌, ◌<◌, true, if◌then◌else◌, List, [], ◌∷◌, ◌++◌, length, get_or, take, map, filter, ap, ◌∙◌, arith, Bor}
 use Rattle.values.specs.declared.value.Value.{Value}
-use Rattle.values.specs.declared.value.Value.TheVariants.{Null}
 use Rattle.values.specs.Truth.{is_null}
 use Rattle.schema.specs.Databases.{Row}
 use Rattle.binder.specs.Rows.{value_at}
 use Rattle.binder.specs.Aggregates.{known, group_of, groups}
-use Rattle.binder.specs.Meaning.{key_value}
 use Rattle.oracle.specs.Given.{rows_at, values_of}
 use Rattle.oracle.proofs.Lists.{map-more, map-last}
 
@@ -29,13 +27,3 @@ known-more place rows i r h is =
     ap (λ l. known (map (value_at place) l)) (map-more (λ s. s.now) rows i r h is)
     ∙ ap known (map-last (value_at place) (rows_at (take i rows)) r.now)
     ∙ known-last (values_of place (take i rows)) (value_at place r.now)
-
--- where keys or values have ended
-pub no-keys : (keys : List ℕ) (key : Row) (place : ℕ) → length keys < 1 → Null ≡ key_value keys key place
-no-keys [] key place h = refl
-no-keys (k ∷ keys) key place h = absurd (omega arith)
-
-pub no-values : (keys : List ℕ) (key : Row) (place : ℕ) → length key < 1 → Null ≡ key_value keys key place
-no-values [] key place h = refl
-no-values (k ∷ keys) [] place h = refl
-no-values (k ∷ keys) (v ∷ key) place h = absurd (omega arith)

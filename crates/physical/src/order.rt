@@ -13,32 +13,6 @@ use std::alloc::{AllocError, Global};
 
 // ---- columns
 
-/// The columns of a table occurrence.
-fn use_columns(alloc: Global, uses: &[TableUse], occurrence: usize) -> Result<Columns, AllocError>
-    ensures { IfOk result (λ columns. columns ≡ get_columns (slice_get uses.now occurrence)) }
-{
-    match uses.get(occurrence) {
-        Some(table) => Columns::run(alloc, table.first_column, table.entry.columns.len()),
-        None => Columns::run(alloc, 0, 0),
-    }
-}
-
-/// The columns of a group's rows: those of its keys and of its aggregates.
-fn group_columns(
-    alloc: Global,
-    keys: &Columns,
-    added: &[Aggregation],
-) -> Result<Columns, AllocError>
-    ensures { IfOk result (λ columns. columns ≡ rising (keys.now ++ aggregate_columns added.now)) }
-{
-    let mut columns = Vec::new(alloc);
-    columns.extend_from_slice(keys.as_slice())?;
-    for aggregation in added {
-        columns.push(aggregation.column)?;
-    }
-    Ok(Columns::from_vec(columns))
-}
-
 /// The columns of a plan's rows.
 #[cycle(columns)]
 fn columns(alloc: Global, uses: &[TableUse], plan: &Plan) -> Result<Columns, AllocError>
@@ -46,7 +20,7 @@ fn columns(alloc: Global, uses: &[TableUse], plan: &Plan) -> Result<Columns, All
 {
     let inputs = plan.inputs.as_slice();
     match &plan.node {
-        Node::Scan { occurrence, .. } => use_columns(alloc, uses, *occurrence),
+        Node::Scan { occurrence, .. } => Columns::of_occurrence(alloc, uses, *occurrence),
         Node::Filter { .. } => first_columns(alloc, uses, inputs),
         Node::FilterSubqueries { .. } => first_columns(alloc, uses, inputs),
         Node::Cut { columns, .. } => columns.copy(alloc),
@@ -55,7 +29,7 @@ fn columns(alloc: Global, uses: &[TableUse], plan: &Plan) -> Result<Columns, All
             left.union(alloc, &second_columns(alloc, uses, inputs)?)
         }
         Node::Sort { .. } => first_columns(alloc, uses, inputs),
-        Node::HashGroup { keys, added, .. } => group_columns(alloc, keys, added.as_slice()),
+        Node::HashGroup { keys, added, .. } => Columns::of_groups(alloc, keys, added.as_slice()),
         Node::HashDistinct { .. } => first_columns(alloc, uses, inputs),
     }
 }

@@ -1,22 +1,20 @@
 -- Bytes that spell a schema are read as it.
-use Rattle.std.proofs.Common.{◌≡◌, ◌≢◌, ℕ, zero, suc, ◌<◌, ◌≤◌, ◌&&◌, List, [], ◌∷◌, length, get_or, map, Bool, true, false, cond, ◌⊎◌, inl, inr, Option, Some, None, Result, Ok, Err, slice_index_or, refl, sym, ap, ◌∙◌, subst, arith, bytes_eq, codes, ◌==◌, nat_le, nat_lt}
+use Rattle.std.proofs.Common.{◌≡◌, ◌≢◌, ℕ, zero, suc, ◌<◌, ◌≤◌, ◌&&◌, List, [], ◌∷◌, length, get_or, map, Bool, true, false, ◌⊎◌, inl, inr, Some, Result, Ok, slice_index_or, refl, sym, ap, ◌∙◌, subst, arith, bytes_eq, ◌==◌, nat_le, nat_lt}
 use Rattle.std.proofs.lemmas.Bool.{le-leb}
 use Rattle.std.proofs.lemmas.Bool.Decides.{nat_tests}
 use Rattle.std.proofs.lemmas.List.{length-map}
 use Rattle.std.proofs.lemmas.List.Sums.{position_or_len_is}
 use Rattle.std.proofs.lemmas.Slice.Eq.{bytes_eq-Decides}
-use Rattle.std.proofs.lemmas.Str.{is_utf8-from_IsUtf8}
-use Rattle.std.specs.List.{AllByRecursion, list_all, position, position_or_len}
+use Rattle.std.specs.List.{AllByRecursion, list_all, position}
 use Rattle.std.specs.Option.{is_none}
-use Rattle.serde_json.specs.Data.{Data, Items, Members}
+use Rattle.serde_json.specs.Data.{Data, Items}
 use Rattle.serde_json.specs.Events.{members_len}
 use Rattle.serde_json.specs.Read as json
-use Rattle.serde_json.specs.Find.{get, as_str, as_bool, as_array, as_object}
+use Rattle.serde_json.specs.Find.{as_array}
 use Rattle.values.specs.declared.fault.Fault.{Fault}
-use Rattle.values.specs.Faults.{◌>>=◌, Gives}
+use Rattle.values.specs.Faults.{Gives}
 use Rattle.values.specs.Faults as faults
 use Rattle.schema.specs.declared.fault.SchemaRefusal.{SchemaRefusal}
-use Rattle.schema.specs.declared.fault.SchemaRefusal.TheVariants.{NotJson, Shape, UnknownColumn}
 use Rattle.schema.specs.declared.schema.Kind.{Kind}
 use Rattle.schema.specs.declared.schema.Kind.TheVariants.{Int, Text}
 use Rattle.schema.specs.declared.schema.Column.{Column}
@@ -26,11 +24,11 @@ use Rattle.schema.specs.declared.entries.TableEntry.{TableEntry}
 use Rattle.schema.specs.Each.{each, Pairs}
 use Rattle.schema.specs.Names.{Name, is_name, place_of, are_different}
 use Rattle.schema.specs.Limits.{is_short, lists_are_few, parts_are_few, are_few, lists_differ, parts_differ, names_differ}
-use Rattle.schema.specs.Entries.{json_in, keys_in, field_in, flag_in, kind_in, name_in, names_in, column_in, columns_in, lists_in, table_in, entries_in, some_of, items_in, list_of}
+use Rattle.schema.specs.Entries.{keys_in, kind_in, name_in, names_in, column_in, columns_in, lists_in, table_in, entries_in, some_of, items_in, list_of}
 use Rattle.schema.specs.Places.{place_in, places_in, placed}
 use Rattle.schema.specs.Reading.{schema_of}
-use Rattle.schema.specs.Schemas.{AreDifferent, IsColumnList, AreLists, IsTable, IsSchema}
-use Rattle.schema.specs.Spelling.{HasKeys, HasMember, IsText, IsArray, word_of, IsColumnText, name_in_place, IsListText, IsTableText, IsSchemaText}
+use Rattle.schema.specs.Schemas.{AreDifferent, IsColumnList, AreLists, IsTable}
+use Rattle.schema.specs.Spelling.{HasKeys, IsText, IsArray, word_of, IsColumnText, name_in_place, IsListText, IsTableText, IsSchemaText}
 use Rattle.schema.proofs.Json.{json_ok}
 use Rattle.schema.proofs.Steps.{name_at}
 
@@ -43,9 +41,6 @@ keys_read : (n : ℕ) (d : Data) → HasKeys n d → keys_in n d ≡ Ok (tt {0})
 unfolding keys_in
 keys_read n d (ms, is, same) = rw (is, count_same (members_len ms) n same) refl
 
-field_read : (key : Name) (d m : Data) → get key d ≡ Some m → field_in key d ≡ Ok m
-field_read key d m e = rw e refl
-
 name_read : (d : Data) (name : Name) → IsText d name → is_name name ≡ true → name_in d ≡ Ok name
 unfolding name_in
 name_read d name t named = rw (t, named) refl
@@ -54,9 +49,6 @@ kind_read : (d : Data) (k : Kind) → IsText d (word_of k) → kind_in d ≡ Ok 
 unfolding kind_in
 kind_read d Int t = rw t refl
 kind_read d Text t = rw t refl
-
-flag_read : (d : Data) (b : Bool) → as_bool d ≡ Some b → flag_in d ≡ Ok b
-flag_read d b e = rw e refl
 
 items_read : (d : Data) (items : Items) → as_array d ≡ Some items → items_in d ≡ Ok (list_of items)
 unfolding items_in

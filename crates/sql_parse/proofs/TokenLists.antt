@@ -28,10 +28,6 @@ pub are_append : (p : ℕ → Bool) (a b : Bytes) → Are p a → Are p b → Ar
 are_append p [] b h k = k
 are_append p (c ∷ a) b h k = (h.0, are_append p a b h.1 k)
 
-are_behind : (p : ℕ → Bool) (a b : Bytes) → Are p (a ++ b) → Are p b
-are_behind p [] b h = h
-are_behind p (c ∷ a) b h = are_behind p a b h.1
-
 -- the first character, if any, fails the test
 abbrev pub Starts : (ℕ → Bool) → Bytes → Type 0
 Starts p [] = Unit {0}

@@ -22,9 +22,6 @@ pub record IsLoaded (S : Schema) (inputs now : List Input) (counts later : List 
   pub unread : (k : ℕ) → n ≤ k → get_or now k None ≡ get_or inputs k None
   pub quiet : (k : ℕ) → get_or later k 0 ≡ get_or counts k 0
 
-pub loaded_none : (S : Schema) (inputs : List Input) (counts : List ℕ) (D : Database) → IsLoaded S inputs inputs counts counts 0 D
-loaded_none S inputs counts D = record { told = λ n lt. absurd (omega (arith, lt)); unread = λ k le. refl; quiet = λ k. refl }
-
 -- what is said of the value that is there
 pub said_of : {A : Type 0} (o : Option A) (x : A) (P : A → Type 0) → o ≡ Some x → IfSome o P → P x
 said_of o x P e h = rw e at h

@@ -22,7 +22,7 @@ use Rattle.physical.specs.Orders.{query_order}
 use Rattle.checker.specs.declared.certificate.Line.{Line}
 use Rattle.checker.specs.declared.certificate.Certificate.{Certificate}
 use Rattle.checker.specs.declared.certificate.CheckRefusal.{CheckRefusal}
-use Rattle.checker.specs.declared.certificate.CheckCode.TheVariants.{UnknownLine, IllFormed, OtherOperator, UnsortedAnswer}
+use Rattle.checker.specs.declared.certificate.CheckReason.TheVariants.{UnknownLine, IllFormed, OtherOperator, UnsortedAnswer}
 use Rattle.checker.specs.Replay.{refusal, founding, line_of, computes, sort_fits, operator_fits, at_line, node_fits, inputs_fit, plan_fits, lines_replay, is_delivered, root, replayed}
 use Rattle.checker.proofs.Chains.{both_ok, wanted_if_ok}
 use Rattle.checker.proofs.Fits.{plan_fits_out, operator-is}

@@ -5,7 +5,6 @@ use Rattle.schema.specs.declared.schema.Table.{Table}
 use Rattle.schema.specs.Databases.{Row, Database, Satisfies}
 use Rattle.schema.specs.Reading.{schema_of}
 use Rattle.sql_parse.specs.declared.statement.Statement.{Statement}
-use Rattle.sql_parse.specs.declared.fault.ParseRefusal.{ParseRefusal}
 use Rattle.sql_parse.specs.Statements.{ReadsStatement, IsStatementFault}
 use Rattle.store.specs.declared.fault.TableRefusal.{TableRefusal}
 use Rattle.store.specs.Devices.{Rose}

@@ -33,7 +33,7 @@ pub fn command<'a>(alloc: Global) -> Result<Command<'a>, AllocError> {
     let meaning = over_tables(
         alloc,
         "meaning",
-        "Answers a query of the whole language as its meaning says, slowly and with no plan",
+        "Answers a query over tables in CSV files, as its meaning says: slowly, with no plan",
     )?;
     Command::new(alloc, "sqlplan")
         .about("Plans queries, checks the plans, and runs what was checked")

@@ -194,7 +194,7 @@ pub fn fault_line(
             format!(in alloc; "refused {code} at {at}")
         }
         Refusal::Check(refusal) => {
-            let code = refusal.code.name();
+            let code = refusal.reason.code();
             let line = refusal.line;
             format!(in alloc; "refused {code} line {line}")
         }

@@ -54,9 +54,6 @@ pub no_escape : (rest : List ℕ) → ((more : List ℕ) → rest ≢ 92 ∷ mor
 no_escape rest h [] e = cc e
 no_escape rest h (b ∷ bs) e = h bs (escaped_as b bs rest (b == 92) refl e)
 
-pub bad_escape : (c : Column) (rest : List ℕ) → ((more : List ℕ) → rest ≢ 92 ∷ more) → rest ≢ 78 ∷ [] → FieldFails c (92 ∷ rest) BadEscape
-bad_escape c rest slash other = ((rest, refl), (λ e. other (cc e)), no_escape rest slash)
-
 other_first : (b : ℕ) (bs : List ℕ) → (b ≡ 92 → ⊥) → escaped (b ∷ bs) ≡ b ∷ bs
 other_first b bs h = let e : (b == 92) ≡ false = grind (arith, nat_tests) in rw e refl
 

@@ -1,13 +1,9 @@
 -- Keys of a unique list: when two are equal, and the map of those that were seen.
-use Rattle.std.proofs.Common.{◌≡◌, ℕ, zero, suc, ◌+◌, ◌<◌, ◌≤◌, List, [], ◌∷◌, ◌++◌, length, take, get_or, ◌&&◌, add-one, Bool, true, false, cond, Bor, Vec, Global, Option, Some, None, map, slice_index_or, refl, sym, ap, ◌∙◌, arith, ◌⊎◌, inl, inr}
+use Rattle.std.proofs.Common.{◌≡◌, ℕ, zero, suc, ◌+◌, ◌<◌, ◌≤◌, List, [], ◌∷◌, length, get_or, Bool, true, false, cond, Option, Some, None, slice_index_or, refl, sym, ap, ◌∙◌, arith, ◌⊎◌, inl, inr}
 use Rattle.std.specs.List.{list_any}
 use Rattle.std.specs.HashMap as hash
 use Rattle.std.specs.HashMap.{HashMap}
-use Rattle.std.proofs.lemmas.List.{map-append}
-use Rattle.std.proofs.lemmas.List.Folds.{list_any-append}
 use Rattle.std.proofs.Math.Bool.{or-true}
-use Rattle.std.proofs.Math.Seq.{take-suc}
-use Rattle.values.specs.declared.value.Value.{Value}
 use Rattle.values.specs.declared.value.Value.TheVariants as value
 use Rattle.values.specs.Truth.{is_null}
 use Rattle.schema.specs.Databases.{Row, HaveWidth, values_at}
@@ -21,13 +17,6 @@ pub record IsSeen {S : Type 0} (rows : List Row) (places : List ℕ) (i : ℕ) (
       → (e < i) × (list_any is_null (values_at places (slice_index_or rows e [])) ≡ false) × (values_at places (slice_index_or rows e []) ≡ k)
   pub kept : (k : Row) (e : ℕ) → e < i → list_any is_null (values_at places (slice_index_or rows e [])) ≡ false
       → values_at places (slice_index_or rows e []) ≡ k → hash.get key_eq seen k ≡ None → ⊥
-
-pub none_seen : {S : Type 0} (rows : List Row) (places : List ℕ) (m : HashMap Row ℕ S) → hash.IsEmpty m → IsSeen rows places 0 m
-none_seen rows places m e = record {
-  unique = λ i j lt low whole same. omega arith;
-  known = λ k e' at. let none : hash.get key_eq m k ≡ None = rw e refl in cc (none, at);
-  kept = λ k e' lt whole same at. omega arith;
-}
 
 below_or_last : (e i : ℕ) → e < i + 1 → (e < i) ⊎ (e ≡ i)
 below_or_last e i h = grind arith
@@ -103,16 +92,6 @@ outside (v ∷ row) (suc p) h = outside row p (omega arith)
 
 pub nothing_there : (places : List ℕ) (row : Row) (i : ℕ) → i < length places → length row ≤ get_or places i 0 → list_any is_null (values_at places row) ≡ true
 nothing_there places row i lt out = null_there places row i lt (outside row (get_or places i 0) out)
-
-pub values_more : (places : List ℕ) (row : Row) (i : ℕ) (v : Value) (vs : List Value) → i < length places → slice_index_or row (get_or places i 0) value.Null ≡ v → is_null v ≡ false
-    → vs ≡ values_at (take i places) row → list_any is_null (values_at (take i places) row) ≡ false
-    → (vs ++ v ∷ [] ≡ values_at (take (i + 1) places) row) × (list_any is_null (values_at (take (i + 1) places) row) ≡ false)
-values_more places row i v vs lt at whole is clean =
-    let next : take (i + 1) places ≡ take i places ++ get_or places i 0 ∷ [] = rw add-one (take-suc places i 0 lt) in
-    let values : values_at (take (i + 1) places) row ≡ vs ++ v ∷ [] =
-    ap (λ (ps : List ℕ). values_at ps row) next ∙ map-append (λ p. slice_index_or row p value.Null) (take i places) (get_or places i 0 ∷ []) ∙ ap (λ (xs : List Value). xs ++ slice_index_or row (get_or places i 0) value.Null ∷ []) (sym is) ∙ ap (λ (x : Value). vs ++ x ∷ []) at in
-    let before : list_any is_null vs ≡ false = rw is clean in
-    (sym values, rw (values, list_any-append is_null vs (v ∷ []), before, whole) refl)
 
 -- a row is as wide as its table
 pub width_there : (width : ℕ) (rows : List Row) (i : ℕ) → HaveWidth width rows → i < length rows → length (slice_index_or rows i []) ≡ width

@@ -1,4 +1,3 @@
-pub mod Bytes
 pub mod ColumnRows
 pub mod Decimals
 pub mod Fields

@@ -169,7 +169,3 @@ table_told t records p (inl h) is u =
       text = w.text;
       satisfies = record { few = h.2.few; fit = w.fit; unique = u };
     }
-
-pub file_width : (cs : List Column) (records : List Record) (p : Parsed) → ParsesFile cs records p → HaveWidth (length cs) p.rows
-file_width cs records p (inl h) = fits_width cs p.rows h.2.written.fit
-file_width cs records p (inr h) = rw h.1 tt

@@ -1,5 +1,5 @@
 -- A table that is kept by columns, and the rows that it is.
-use Rattle.std.specs.Prelude.{◌≡◌, ℕ, ℤ, pos, Bool, false, not, List, [], ◌∷◌, ◌++◌, length, map, slice_index_or, if◌then◌else◌, FitsSigned}
+use Rattle.std.specs.Prelude.{◌≡◌, ℕ, ℤ, pos, false, not, List, [], ◌∷◌, ◌++◌, length, map, slice_index_or, if◌then◌else◌, FitsSigned}
 use Rattle.std.specs.Int.{w64}
 use Rattle.std.specs.List.{range_with_len}
 use Rattle.values.specs.declared.value.Value.{Value}

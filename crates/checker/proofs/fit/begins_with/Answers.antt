@@ -1,4 +1,4 @@
-use Rattle.std.proofs.Common.{◌≡◌, ◌↔◌, IsTrue, ◌∙◌, ◌<◌, ◌⊎◌, inl, inr, false, ap, sym, subst, ℕ, List, take, length, arith}
+use Rattle.std.proofs.Common.{◌≡◌, ◌∙◌, ◌<◌, inl, inr, false, ap, subst, List, take, length, arith}
 use Rattle.std.specs.Coded.{coded_list}
 use Rattle.std.proofs.lemmas.List.{length-take}
 use Rattle.logical.proofs.Same.{tested}

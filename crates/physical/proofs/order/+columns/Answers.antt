@@ -8,8 +8,8 @@ use Rattle.physical.proofs.order.+columns.Goals as goal
 
 pub columns-returns-in-Scan : goal.columns-returns-in-Scan
 columns-returns-in-Scan t c =
-    subst (λ (z : List ℕ). IfOk c.use_columns.result (λ columns. columns ≡ z))
-    (columns_at c.args.uses.now c.args.plan.now (node.Scan c.in-Scan.line c.in-Scan.occurrence) c.as_slice-inputs.result.now c.in-Scan.is c.as_slice-inputs.ensures) c.use_columns.ensures
+    subst (λ (z : List ℕ). IfOk c.of_occurrence.result (λ columns. columns ≡ z))
+    (columns_at c.args.uses.now c.args.plan.now (node.Scan c.in-Scan.line c.in-Scan.occurrence) c.as_slice-inputs.result.now c.in-Scan.is c.as_slice-inputs.ensures) c.of_occurrence.ensures
 
 pub columns-returns-in-Filter : goal.columns-returns-in-Filter
 columns-returns-in-Filter t c =
@@ -41,10 +41,10 @@ columns-returns-in-Sort t c =
 
 pub columns-returns-in-HashGroup : goal.columns-returns-in-HashGroup
 columns-returns-in-HashGroup t c =
-    subst (λ (z : List ℕ). IfOk c.group_columns.result (λ columns. columns ≡ z))
+    subst (λ (z : List ℕ). IfOk c.of_groups.result (λ columns. columns ≡ z))
     (ap (λ added. rising (c.in-HashGroup.keys ++ aggregate_columns added)) c.as_slice.ensures
     ∙ columns_at c.args.uses.now c.args.plan.now (node.HashGroup c.in-HashGroup.line c.in-HashGroup.keys c.in-HashGroup.added) c.as_slice-inputs.result.now c.in-HashGroup.is c.as_slice-inputs.ensures)
-    c.group_columns.ensures
+    c.of_groups.ensures
 
 pub columns-returns-in-HashDistinct : goal.columns-returns-in-HashDistinct
 columns-returns-in-HashDistinct t c =

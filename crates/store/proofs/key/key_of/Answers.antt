@@ -1,4 +1,4 @@
-use Rattle.std.proofs.Common.{◌≡◌, ◌∙◌, ◌≤◌, [], length, get_or, sym, ap, arith}
+use Rattle.std.proofs.Common.{◌∙◌, [], get_or, sym, ap, arith}
 use Rattle.values.specs.Truth.{is_null}
 use Rattle.store.proofs.Keys.{nothing_there, null_there, width_there}
 use Rattle.store.proofs.key.key_of.Goals as goal

@@ -1,5 +1,4 @@
-use Rattle.std.proofs.Common.{◌∙◌, [], sym, arith}
-use Rattle.std.proofs.lemmas.List.{get_or_default}
+use Rattle.std.proofs.Common.{◌∙◌, sym, arith}
 use Rattle.store.proofs.Keys.{null_seen, again_seen, new_seen}
 use Rattle.store.proofs.unique.first_repeat.Goals as goal
 

@@ -1,7 +1,5 @@
-use Rattle.std.proofs.Common.{◌≡◌, ◌∙◌, ◌<◌, List, length, get_or, sym, ap, arith, rules}
-use Rattle.schema.specs.Databases.{Row}
-use Rattle.store.specs.declared.cells.ColumnCells.{ColumnCells}
-use Rattle.store.specs.Columns.{Kept, HasCells, rows_of}
+use Rattle.std.proofs.Common.{◌∙◌, ◌<◌, length, ap, rules}
+use Rattle.store.specs.Columns.{Kept}
 use Rattle.store.proofs.ColumnRows.{place_below, cell_of_rows, has_there}
 use Rattle.store.proofs.columns.Columns.cell.Goals as goal
 

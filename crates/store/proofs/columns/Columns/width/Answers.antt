@@ -1,6 +1,3 @@
-use Rattle.std.proofs.Common.{length}
-use Rattle.schema.specs.Databases.{HaveWidth}
-use Rattle.store.specs.Columns.{rows_of}
 use Rattle.store.proofs.ColumnRows.{have_width}
 use Rattle.store.proofs.columns.Columns.width.Goals as goal
 

@@ -1,5 +1,4 @@
-use Rattle.std.proofs.Common.{◌≡◌, ◌∙◌, ◌+◌, ◌++◌, length, string_bytes, sym, ap, rules, arith}
-use Rattle.store.specs.Texts.{AreEnds, texts_of}
+use Rattle.std.proofs.Common.{◌≡◌, ◌+◌, ◌++◌, length, string_bytes, rules}
 use Rattle.store.proofs.TextPlaces.{ends_more, texts_more}
 use Rattle.store.proofs.texts.Texts.push.Goals as goal
 

@@ -1,5 +1,4 @@
-use Rattle.std.proofs.Common.{◌≡◌, ◌∙◌, ◌<◌, ◌≤◌, ℕ, List, length, slice_index, sym, ap, arith, rules}
-use Rattle.store.specs.Texts.{AreEnds}
+use Rattle.std.proofs.Common.{◌≡◌, ◌∙◌, length, sym, ap, arith, rules}
 use Rattle.store.proofs.TextPlaces.{length_texts, text_there, start_cut}
 use Rattle.store.proofs.texts.Texts.text.Goals as goal
 
