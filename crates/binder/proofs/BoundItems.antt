@@ -22,7 +22,7 @@ use Rattle.binder.specs.declared.query.Item.TheVariants as item
 use Rattle.binder.specs.declared.scope.TypedColumn.{TypedColumn}
 use Rattle.binder.specs.declared.output.Output.{Output}
 use Rattle.binder.specs.declared.fault.BindReason.TheVariants.{UngroupedColumn, OuterAggregate}
-use Rattle.binder.specs.Binding.{own, refusal}
+use Rattle.binder.specs.Lookups.{own, refusal}
 use Rattle.binder.specs.Scopes.{Scope, Scopes, meant, place_in_text}
 use Rattle.binder.specs.Outputs.{is_call, is_aggregate, aggregates, key_in, shows, sum_of, aggregate_of, aggregate_in, item_in, output_in, items_in, columns_from, all_columns, is_shown, outputs_in}
 use Rattle.binder.specs.Lent.{width}

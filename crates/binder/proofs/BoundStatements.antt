@@ -23,7 +23,7 @@ use Rattle.binder.specs.declared.tables.Numbered.{Numbered}
 use Rattle.binder.specs.declared.selects.BoundSelect.{BoundSelect}
 use Rattle.binder.specs.declared.statement.TheConstants.{MAX_COLUMNS}
 use Rattle.binder.specs.declared.fault.BindReason.TheVariants.{TooLarge}
-use Rattle.binder.specs.Binding.{refusal}
+use Rattle.binder.specs.Lookups.{refusal}
 use Rattle.binder.specs.Rows.{tables_of}
 use Rattle.binder.specs.Extents.{of_select, is_within}
 use Rattle.binder.specs.Selects.{select_in}

@@ -12,7 +12,7 @@ use Rattle.binder.specs.declared.query.TableUse.{TableUse}
 use Rattle.binder.specs.declared.query.Occurrence.{Occurrence}
 use Rattle.binder.specs.declared.tables.Numbered.{Numbered}
 use Rattle.binder.specs.declared.fault.BindReason.TheVariants.{RepeatedName, UnknownTable}
-use Rattle.binder.specs.Binding.{find_table, table_in, refusal}
+use Rattle.binder.specs.Lookups.{find_table, table_in, refusal}
 use Rattle.binder.specs.Scopes.{Scope, is_taken, known_name}
 use Rattle.binder.specs.Numbers.{next_occurrence, entered, enter}
 use Rattle.binder.specs.Extents.{width_of, one_table}

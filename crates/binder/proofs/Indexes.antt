@@ -8,12 +8,12 @@ use Rattle.std.specs.HashMap.{HashMap}
 use Rattle.schema.specs.declared.schema.Kind.{Kind}
 use Rattle.schema.specs.declared.schema.Column as entries
 use Rattle.schema.specs.declared.schema.Table.{Table}
-use Rattle.sql_parse.specs.declared.ast.Name.{Name}
+use Rattle.sql_parse.specs.declared.name.Name.{Name}
 use Rattle.binder.specs.declared.scope.Placed.{Placed}
 use Rattle.binder.specs.declared.scope.Meaning.{Meaning}
 use Rattle.binder.specs.declared.scope.Meaning.TheVariants.{Several}
 use Rattle.binder.specs.declared.fault.BindReason.TheVariants.{UnknownColumn}
-use Rattle.binder.specs.Binding.{find_column, refusal}
+use Rattle.binder.specs.Lookups.{find_column, refusal}
 use Rattle.binder.specs.Scopes.{Known, Scope, is_taken, columns_named, named_in, occurrence_named, at_level, column_of}
 use Rattle.binder.specs.Lent.{IsIndexed, width, placed_of, meaning_of, one_more, with_more}
 use Rattle.binder.proofs.Fronts.{front_of}

@@ -6,11 +6,11 @@ use Rattle.std.proofs.lemmas.Bool.{lt-ltb}
 use Rattle.schema.specs.declared.schema.Kind.{Kind}
 use Rattle.schema.specs.declared.schema.Column as entries
 use Rattle.schema.specs.declared.schema.Table.{Table}
-use Rattle.sql_parse.specs.declared.ast.Name.{Name}
+use Rattle.sql_parse.specs.declared.name.Name.{Name}
 use Rattle.sql_parse.specs.declared.statement.ColumnName.{ColumnName}
 use Rattle.binder.specs.declared.scope.TypedColumn.{TypedColumn}
 use Rattle.binder.specs.declared.fault.BindRefusal.{BindRefusal}
-use Rattle.binder.specs.Binding.{find_column, refusal}
+use Rattle.binder.specs.Lookups.{find_column, refusal}
 use Rattle.binder.specs.Scopes.{Scope, Scopes, columns_named, named_in, at_level, only, plain, occurrence_named, column_of, in_occurrence, qualified, meant_by, meant}
 use Rattle.binder.specs.Lent.{width}
 use Rattle.binder.specs.Bound as numbers

@@ -11,7 +11,7 @@ use Rattle.std.specs.HashMap.{HashMap}
 use Rattle.binder.specs.contracts.named.IdentityPartialEq.TheImpl.{eq-value}
 use Rattle.binder.specs.declared.fault.BindReason.TheVariants.{NoOutputColumn}
 use Rattle.binder.specs.declared.fault.BindRefusal.{BindRefusal}
-use Rattle.binder.specs.Binding.{refusal}
+use Rattle.binder.specs.Lookups.{refusal}
 use Rattle.binder.specs.declared.query.Column.{Column}
 use Rattle.binder.specs.declared.query.Item.{Item}
 use Rattle.binder.specs.declared.query.Item.TheVariants as item

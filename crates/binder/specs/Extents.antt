@@ -9,7 +9,7 @@ use Rattle.sql_parse.specs.declared.statement.Condition.TheFolds.{fold-Condition
 use Rattle.sql_parse.specs.declared.statement.Join.{Join}
 use Rattle.sql_parse.specs.declared.statement.Chain.{Chain}
 use Rattle.sql_parse.specs.declared.statement.Select.{Select}
-use Rattle.binder.specs.Binding.{find_table}
+use Rattle.binder.specs.Lookups.{find_table}
 use Rattle.binder.specs.declared.extent.Extent.{Extent}
 use Rattle.binder.specs.declared.extent.TheConstants.{MAX_TABLES, MAX_LEVELS, MAX_TESTS}
 

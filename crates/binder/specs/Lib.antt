@@ -1,6 +1,5 @@
 pub mod Aggregates
 pub mod Answer
-pub mod Binding
 pub mod Bound
 pub mod BoundStatements
 pub mod Chained
@@ -9,6 +8,7 @@ pub mod Examples
 pub mod Extents
 pub mod Laws
 pub mod Lent
+pub mod Lookups
 pub mod Meaning
 pub mod Named
 pub mod Numbers

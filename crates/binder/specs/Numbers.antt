@@ -8,7 +8,7 @@ use Rattle.binder.specs.declared.query.Occurrence.{Occurrence}
 use Rattle.binder.specs.declared.tables.Numbered.{Numbered}
 use Rattle.binder.specs.declared.fault.BindReason.TheVariants.{RepeatedName}
 use Rattle.binder.specs.declared.fault.BindRefusal.{BindRefusal}
-use Rattle.binder.specs.Binding.{table_in, refusal}
+use Rattle.binder.specs.Lookups.{table_in, refusal}
 use Rattle.binder.specs.Scopes.{Scope, is_taken, known_name}
 
 -- the next occurrence, of a table at a place of the schema

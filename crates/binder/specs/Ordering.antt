@@ -3,7 +3,7 @@ use Rattle.std.specs.Prelude.{◌==◌, ℕ, Bool, false, not, ◌&&◌, List, [
 use Rattle.std.specs.List.{list_all}
 use Rattle.values.specs.Faults.{◌>>=◌, wanted_if}
 use Rattle.schema.specs.Each.{each}
-use Rattle.sql_parse.specs.declared.ast.Name.{Name}
+use Rattle.sql_parse.specs.declared.name.Name.{Name}
 use Rattle.sql_parse.specs.declared.statement.OrderKey.{OrderKey}
 use Rattle.binder.specs.declared.query.Item.{Item}
 use Rattle.binder.specs.declared.query.Item.TheVariants as item
@@ -12,7 +12,7 @@ use Rattle.binder.specs.declared.scope.TypedColumn.{TypedColumn}
 use Rattle.binder.specs.declared.output.Output.{Output}
 use Rattle.binder.specs.declared.fault.BindReason.TheVariants.{AmbiguousName, NoOutputColumn}
 use Rattle.binder.specs.declared.fault.BindRefusal.{BindRefusal}
-use Rattle.binder.specs.Binding.{refusal}
+use Rattle.binder.specs.Lookups.{refusal}
 use Rattle.binder.specs.Scopes.{Scope, qualified, place_in_text}
 
 -- whether two items are one column; different aggregates of the text are different columns

@@ -5,7 +5,7 @@ use Rattle.values.specs.Faults.{◌>>=◌, wanted_if}
 use Rattle.schema.specs.declared.schema.Kind.{Kind}
 use Rattle.schema.specs.declared.schema.Kind.TheVariants as kind
 use Rattle.schema.specs.declared.schema.Column as entries
-use Rattle.sql_parse.specs.declared.ast.Name.{Name}
+use Rattle.sql_parse.specs.declared.name.Name.{Name}
 use Rattle.sql_parse.specs.declared.statement.ColumnName.{ColumnName}
 use Rattle.sql_parse.specs.declared.statement.AggregateFunction.{AggregateFunction}
 use Rattle.sql_parse.specs.declared.statement.AggregateFunction.TheVariants as function
@@ -23,7 +23,7 @@ use Rattle.binder.specs.declared.scope.TypedColumn.{TypedColumn}
 use Rattle.binder.specs.declared.output.Output.{Output}
 use Rattle.binder.specs.declared.fault.BindReason.TheVariants.{UngroupedColumn, OuterAggregate, SumOfText}
 use Rattle.binder.specs.declared.fault.BindRefusal.{BindRefusal}
-use Rattle.binder.specs.Binding.{own, refusal}
+use Rattle.binder.specs.Lookups.{own, refusal}
 use Rattle.binder.specs.Scopes.{Scope, Scopes, meant, place_in_text}
 
 -- ---- groups

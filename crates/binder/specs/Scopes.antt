@@ -5,13 +5,13 @@ use Rattle.values.specs.Faults.{wanted}
 use Rattle.schema.specs.declared.schema.Kind.{Kind}
 use Rattle.schema.specs.declared.schema.Column as entries
 use Rattle.schema.specs.declared.schema.Table.{Table}
-use Rattle.sql_parse.specs.declared.ast.Name.{Name}
+use Rattle.sql_parse.specs.declared.name.Name.{Name}
 use Rattle.sql_parse.specs.declared.statement.ColumnName.{ColumnName}
 use Rattle.sql_parse.specs.declared.statement.TableName.{TableName}
 use Rattle.binder.specs.declared.scope.TypedColumn.{TypedColumn}
 use Rattle.binder.specs.declared.fault.BindReason.TheVariants.{UnknownColumn, AmbiguousName}
 use Rattle.binder.specs.declared.fault.BindRefusal.{BindRefusal}
-use Rattle.binder.specs.Binding.{find_column, refusal}
+use Rattle.binder.specs.Lookups.{find_column, refusal}
 
 -- ---- scopes
 

@@ -32,7 +32,7 @@ use Rattle.binder.specs.declared.selects.BoundTerm.{BoundTerm}
 use Rattle.binder.specs.declared.selects.BoundSelect.{BoundSelect}
 use Rattle.binder.specs.declared.fault.BindReason.TheVariants.{MixedKinds, NotOneColumn, UnknownTable}
 use Rattle.binder.specs.declared.fault.BindRefusal.{BindRefusal}
-use Rattle.binder.specs.Binding.{refusal}
+use Rattle.binder.specs.Lookups.{refusal}
 use Rattle.binder.specs.Scopes.{Scope, Scopes, meant}
 use Rattle.binder.specs.Numbers.{enter, with_aggregates}
 use Rattle.binder.specs.Outputs.{aggregates, is_grouped, key_in, outputs_in}

@@ -3,7 +3,7 @@
 ghost use Rattle.std.specs.Prelude.{◌≡◌, ◌+◌, ◌++◌, ◌∷◌, [], ℕ, List, IfOk, bytes_eq, length, map, option_map};
 ghost use Rattle.std.specs.HashMap as hash;
 ghost use Rattle.values.specs.Faults.{Gives};
-ghost use Rattle.binder.specs.Binding as listed;
+ghost use Rattle.binder.specs.Lookups as listed;
 ghost use Rattle.binder.specs.Scopes as spec;
 ghost use Rattle.binder.specs.Lent.{IsIndexed, known_of, meaning_of, placed_of, scope_of, with_more};
 ghost use Rattle.binder.specs.Chained.{scopes_of};

@@ -8,7 +8,7 @@ ghost use Rattle.checker.specs.declared.certificate.CheckReason.TheVariants.{Oth
 ghost use Rattle.checker.specs.declared.certificate.CheckRefusal.{CheckRefusal};
 ghost use Rattle.checker.specs.Replay as spec;
 
-use crate::certificate::{CheckReason, CheckFault, Line};
+use crate::certificate::{CheckFault, CheckReason, Line};
 use crate::replay::refused;
 use binder::Query;
 use logical::{Columns, Expr, same_aggregations};

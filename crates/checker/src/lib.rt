@@ -8,5 +8,5 @@ mod replay;
 #[cfg(test)]
 mod tests;
 
-pub use certificate::{Certificate, CheckReason, CheckFault, CheckRefusal, Line};
+pub use certificate::{Certificate, CheckFault, CheckReason, CheckRefusal, Line};
 pub use checked::{Checked, check};

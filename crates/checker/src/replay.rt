@@ -9,7 +9,7 @@ ghost use Rattle.logical.specs.Frames.{query_frame};
 ghost use Rattle.logical.specs.FormedFrames.{group_aggregates, own_aggregates};
 ghost use Rattle.checker.specs.Replay as spec;
 
-use crate::certificate::{CheckReason, CheckFault, CheckRefusal, Line};
+use crate::certificate::{CheckFault, CheckReason, CheckRefusal, Line};
 use binder::Query;
 use logical::{Aggregation, Columns, Expr};
 use std::alloc::{AllocError, Global};

@@ -3,7 +3,7 @@
 ghost use Rattle.std.specs.Prelude.{IfSome};
 ghost use Rattle.checker.specs.Replay.{IsBoundOver};
 
-use crate::certificate::{Certificate, CheckReason, CheckFault, CheckRefusal, Line};
+use crate::certificate::{Certificate, CheckFault, CheckReason, CheckRefusal, Line};
 use crate::checked::check;
 use binder::{Query, bind_statement};
 use logical::{Columns, Condition, Conjuncts, Expr, Term, query_frame};

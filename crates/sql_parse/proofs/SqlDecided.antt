@@ -4,7 +4,7 @@ use Rattle.values.specs.declared.value.Value.TheVariants as value
 use Rattle.grammar.specs.Grammars.{seq}
 use Rattle.grammar.specs.Words.{Within}
 use Rattle.grammar.specs.Readers.{decides, paired, Sample, IsDecided}
-use Rattle.sql_parse.specs.declared.ast.Name.{Name}
+use Rattle.sql_parse.specs.declared.name.Name.{Name}
 use Rattle.sql_parse.specs.declared.class.Clause.{Clause}
 use Rattle.sql_parse.specs.declared.class.Clause.TheVariants as clauses
 use Rattle.sql_parse.specs.declared.statement.Condition.{Condition}

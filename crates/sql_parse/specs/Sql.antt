@@ -12,7 +12,7 @@ use Rattle.sql_parse.specs.declared.token.Symbol.TheVariants as s
 use Rattle.sql_parse.specs.declared.token.TokenKind.{TokenKind}
 use Rattle.sql_parse.specs.declared.token.TokenKind.TheVariants as token
 use Rattle.sql_parse.specs.declared.token.Token.{Token}
-use Rattle.sql_parse.specs.declared.ast.Name.{Name}
+use Rattle.sql_parse.specs.declared.name.Name.{Name}
 use Rattle.sql_parse.specs.declared.statement.ColumnName.{ColumnName}
 use Rattle.sql_parse.specs.declared.statement.Term.{Term}
 use Rattle.sql_parse.specs.declared.statement.Term.TheVariants as term

@@ -1,19 +1,19 @@
 //! The text of a query: tokens, and the tree that they are.
 #![tactic(auto)]
 
-pub mod ast;
 mod class;
 mod clauses;
 mod conditions;
 pub mod fault;
 mod lexer;
+pub mod name;
 mod reading;
 pub mod statement;
 mod statement_parser;
 mod token;
 
-pub use ast::Name;
 pub use fault::{ParseFault, ParseReason, ParseRefusal};
+pub use name::Name;
 pub use statement_parser::{parse_statement, parse_statement_bytes};
 
 #[cfg(test)]

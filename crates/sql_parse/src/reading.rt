@@ -12,9 +12,9 @@ ghost use Rattle.sql_parse.specs.Sql.{sql, of_count, of_column};
 ghost use Rattle.sql_parse.specs.StatementReading as spec;
 ghost use Rattle.sql_parse.specs.StatementReading.{told, reads};
 
-use crate::ast::Name;
 use crate::class::{Class, number_of};
 use crate::fault::{ParseFault, ParseReason, refused};
+use crate::name::Name;
 use crate::statement::{ColumnName, Operator, TableName, Term};
 use crate::token::{Keyword, Symbol, Token, TokenKind};
 use std::alloc::{AllocError, Global};

@@ -1,6 +1,6 @@
 //! The tree of a statement of the whole language.
 
-use crate::ast::Name;
+use crate::name::Name;
 use values::{Boxed, Comparison, Items, Value};
 
 /// `name` or `table.name`

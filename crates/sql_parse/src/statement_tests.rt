@@ -1,7 +1,7 @@
 //! Texts of the whole language, and their trees or refusals.
 
-use crate::ast::Name;
 use crate::fault::ParseFault;
+use crate::name::Name;
 use crate::statement::{
     AggregateFunction, ColumnName, Condition, ItemValue, JoinKind, Select, SelectList, Statement,
     TableName, Term,

@@ -1,5 +1,5 @@
 use Rattle.std.proofs.Common.{◌≡◌, drop}
-use Rattle.binder.specs.Binding.{find_column}
+use Rattle.binder.specs.Lookups.{find_column}
 use Rattle.binder.proofs.scope.find_column.Given as goal
 
 -- what is found from here on is what is found in all

@@ -1,5 +1,5 @@
 use Rattle.std.proofs.Common.{◌≡◌, drop}
-use Rattle.binder.specs.Binding.{find_table}
+use Rattle.binder.specs.Lookups.{find_table}
 use Rattle.binder.proofs.scope.find_table.Given as goal
 
 -- what is found from here on is what is found in all

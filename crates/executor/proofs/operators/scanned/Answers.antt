@@ -15,7 +15,7 @@ returns c = λ S e.
     let given : get_columns (slice_get uses c.args.occurrence) ≡ use_columns t = ap get_columns found in
     let columns : c.in_ok-new.field-0.columns ≡ use_columns t = c.in_ok-new.ensures.0 ∙ c.in_ok-columns.ensures ∙ given in
     let places : c.in_ok-new.field-0.places.items ≡ range_with_len 0 (length t.entry.columns) =
-        c.in_ok-new.ensures.1 ∙ ap (range_with_len 0) (ap length (c.in_ok-columns.ensures ∙ given) ∙ length-range_with_len t.first_column (length t.entry.columns)) in
+    c.in_ok-new.ensures.1 ∙ ap (range_with_len 0) (ap length (c.in_ok-columns.ensures ∙ given) ∙ length-range_with_len t.first_column (length t.entry.columns)) in
     record {
       columns_are = columns ∙ sym given;
       rows_are = table-rows t c.in_ok-new.field-0 _ _ e columns places c.in_ok-table_rows.ensures ∙ sym (ap (λ o. get_rows o (tables_of S c.args.tables.now) e) found);

@@ -1,10 +1,10 @@
--- The table and the column of a name, and refusals.
+-- Tables and columns looked up by name, and refusals.
 use Rattle.std.specs.Prelude.{◌+◌, ℕ, if◌then◌else◌, List, [], ◌∷◌, Option, Some, None, Result, bytes_eq}
 use Rattle.values.specs.Faults.{wanted}
 use Rattle.schema.specs.declared.schema.Column as entries
 use Rattle.schema.specs.declared.schema.Table.{Table}
 use Rattle.schema.specs.declared.schema.Schema.{Schema}
-use Rattle.sql_parse.specs.declared.ast.Name.{Name}
+use Rattle.sql_parse.specs.declared.name.Name.{Name}
 use Rattle.binder.specs.declared.query.Column.{Column}
 use Rattle.binder.specs.declared.fault.BindReason.{BindReason}
 use Rattle.binder.specs.declared.fault.BindReason.TheVariants.{UnknownTable}
