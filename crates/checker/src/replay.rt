@@ -1,6 +1,6 @@
 //! The lines of a certificate, one after the other.
 
-ghost use Rattle.std.specs.Prelude.{◌≡◌, [], length, map, reverse, option_map, flat_map, IfOk, OnOk};
+ghost use Rattle.std.specs.Prelude.{◌≡◌, [], length, map, reverse, option_map, flat_map, IfOk};
 ghost use Rattle.values.specs.Faults.{Gives};
 ghost use Rattle.values.specs.declared.fault.Fault.TheVariants.{Refused};
 ghost use Rattle.logical.specs.Classes.{class_columns};

@@ -5,7 +5,7 @@ ghost use Rattle.values.specs.Cells.{value_of};
 ghost use Rattle.values.specs.declared.value.Value.TheVariants as value;
 ghost use Rattle.binder.specs.Aggregates as spec;
 ghost use Rattle.logical.specs.Bags as bags;
-ghost use Rattle.logical.specs.Columns.{has, rising};
+ghost use Rattle.logical.specs.Columns.{rising};
 ghost use Rattle.logical.specs.Expressions as expressions;
 ghost use Rattle.executor.specs.Relations.{IsPlayed, env_of, rows_of, values_of};
 ghost use Rattle.executor.specs.Groups as spec_groups;

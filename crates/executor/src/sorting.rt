@@ -1,7 +1,6 @@
 //! Stable sorts by columns.
 
 ghost use Rattle.std.specs.Prelude.{◌≡◌, IfOk};
-ghost use Rattle.logical.specs.Bags as bags;
 ghost use Rattle.physical.specs.Sorts as spec;
 ghost use Rattle.executor.specs.Relations.{IsPlayed, env_of, row_env, rows_of};
 
@@ -10,7 +9,7 @@ use crate::headings::Heading;
 use crate::relation::Relation;
 use crate::rows::RowData;
 use physical::OrderKey;
-use std::alloc::{AllocError, Global};
+use std::alloc::AllocError;
 use std::cmp::Ordering;
 use values::order;
 

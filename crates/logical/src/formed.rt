@@ -1,9 +1,9 @@
 //! When expressions are well formed.
 
-ghost use Rattle.std.specs.Prelude.{◌≡◌, ◌==◌, ◌&&◌, ◌++◌, ℕ, nat_lt, true, length, IfOk};
+ghost use Rattle.std.specs.Prelude.{◌≡◌, ◌==◌, ◌&&◌, nat_lt, true, length, IfOk};
 ghost use Rattle.std.specs.List.{list_all, list_any};
 ghost use Rattle.logical.specs.Conditions as reads;
-ghost use Rattle.logical.specs.Columns.{has, within, rising, columns_at};
+ghost use Rattle.logical.specs.Columns.{has, within, columns_at};
 ghost use Rattle.logical.specs.Equality.{same_aggregation};
 ghost use Rattle.logical.specs.Expressions as spec;
 

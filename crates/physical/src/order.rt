@@ -1,14 +1,13 @@
 //! The order that a plan delivers.
 
-ghost use Rattle.std.specs.Prelude.{◌≡◌, ◌++◌, not, map, slice_get, IfOk};
-ghost use Rattle.logical.specs.Columns.{has, rising};
-ghost use Rattle.logical.specs.Expressions.{get_columns, aggregate_columns};
+ghost use Rattle.std.specs.Prelude.{◌≡◌, not, map, IfOk};
+ghost use Rattle.logical.specs.Columns.{has};
 ghost use Rattle.physical.specs.Orders as spec;
 ghost use Rattle.physical.specs.Plays as plays;
 
 use crate::plan::{Node, OrderKey, Plan};
 use binder::{Query, SortKey, TableUse};
-use logical::{Aggregation, Columns, query_numbers};
+use logical::{Columns, query_numbers};
 use std::alloc::{AllocError, Global};
 
 // ---- columns
