@@ -8,8 +8,8 @@ use Rattle.schema.specs.Each.{each}
 use Rattle.sql_parse.specs.declared.statement.Condition.{Condition}
 use Rattle.sql_parse.specs.declared.statement.SelectList.{SelectList}
 use Rattle.sql_parse.specs.declared.statement.Select.{Select, out-Select}
-use Rattle.binder.specs.declared.query.TableUse.{TableUse}
-use Rattle.binder.specs.declared.query.Cond.{Cond}
+use Rattle.query.specs.declared.query.TableUse.{TableUse}
+use Rattle.query.specs.declared.query.Cond.{Cond}
 use Rattle.binder.specs.declared.tables.Numbered.{Numbered}
 use Rattle.binder.specs.declared.output.Output.{Output}
 use Rattle.binder.specs.Scopes.{Scopes}
@@ -17,8 +17,8 @@ use Rattle.binder.specs.Numbers.{with_aggregates}
 use Rattle.binder.specs.Outputs.{aggregates, is_grouped, key_in, outputs_in}
 use Rattle.binder.specs.Selects.{FromSoFar, condition_in, chain_in, select_in, from_in, filter_in, block_of}
 use Rattle.binder.specs.Extents.{of_condition, of_chain, of_filter}
-use Rattle.binder.specs.Bound as numbers
-use Rattle.binder.specs.Bound.{CondScope, cond_scope, from_scope, block_scope, bound_filter, aggregate_numbers, none_among, are_new}
+use Rattle.query.specs.Bound as numbers
+use Rattle.query.specs.Bound.{CondScope, cond_scope, from_scope, block_scope, bound_filter, aggregate_numbers, none_among, are_new}
 use Rattle.binder.specs.BoundStatements.{plainness, filter_ons}
 use Rattle.binder.proofs.SelectParts.{select_at}
 use Rattle.binder.proofs.ExtentParts.{extent-select}

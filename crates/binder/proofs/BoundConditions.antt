@@ -9,9 +9,9 @@ use Rattle.sql_parse.specs.declared.statement.Operator.{Operator}
 use Rattle.sql_parse.specs.declared.statement.Condition.{Condition}
 use Rattle.sql_parse.specs.declared.statement.Condition.TheVariants.{Compare, IsNull, Not, And, Or, Exists, In}
 use Rattle.sql_parse.specs.declared.statement.Select.{Select}
-use Rattle.binder.specs.declared.query.TableUse.{TableUse}
-use Rattle.binder.specs.declared.query.Cond.{Cond}
-use Rattle.binder.specs.declared.query.Cond.TheVariants as cond
+use Rattle.query.specs.declared.query.TableUse.{TableUse}
+use Rattle.query.specs.declared.query.Cond.{Cond}
+use Rattle.query.specs.declared.query.Cond.TheVariants as cond
 use Rattle.binder.specs.declared.tables.Numbered.{Numbered}
 use Rattle.binder.specs.declared.output.Output.{Output}
 use Rattle.binder.specs.declared.selects.BoundTerm.{BoundTerm}
@@ -21,8 +21,8 @@ use Rattle.binder.specs.Lookups.{refusal}
 use Rattle.binder.specs.Scopes.{Scopes, meant}
 use Rattle.binder.specs.Selects.{condition_in, select_in, comparison_in, membership_in, term_in, all_in, one_output, are_comparable}
 use Rattle.binder.specs.Extents.{of_condition, of_select, beside, nothing, all_of}
-use Rattle.binder.specs.Bound as numbers
-use Rattle.binder.specs.Bound.{CondScope, cond_scope, bound_term}
+use Rattle.query.specs.Bound as numbers
+use Rattle.query.specs.Bound.{CondScope, cond_scope, bound_term}
 use Rattle.binder.specs.BoundStatements.{Plainness, plainness, all_plain, select_ons}
 use Rattle.binder.proofs.SelectParts.{compared, null_tested, negated, conjoined, disjoined, existing, contained}
 use Rattle.binder.proofs.ExtentParts.{extent-Compare, extent-IsNull, extent-Not, extent-And, extent-Or, extent-Exists, extent-In}

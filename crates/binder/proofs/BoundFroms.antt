@@ -8,18 +8,18 @@ use Rattle.sql_parse.specs.declared.statement.JoinKind.{JoinKind}
 use Rattle.sql_parse.specs.declared.statement.JoinKind.TheVariants as by
 use Rattle.sql_parse.specs.declared.statement.Join.{Join, out-Join}
 use Rattle.sql_parse.specs.declared.statement.Chain.{Chain, out-Chain}
-use Rattle.binder.specs.declared.query.TableUse.{TableUse}
-use Rattle.binder.specs.declared.query.Occurrence.{Occurrence}
-use Rattle.binder.specs.declared.query.Cond.{Cond}
-use Rattle.binder.specs.declared.query.From.{From}
-use Rattle.binder.specs.declared.query.From.TheVariants as from
+use Rattle.query.specs.declared.query.TableUse.{TableUse}
+use Rattle.query.specs.declared.query.Occurrence.{Occurrence}
+use Rattle.query.specs.declared.query.Cond.{Cond}
+use Rattle.query.specs.declared.query.From.{From}
+use Rattle.query.specs.declared.query.From.TheVariants as from
 use Rattle.binder.specs.declared.tables.Numbered.{Numbered}
 use Rattle.binder.specs.Scopes.{Scope, Scopes}
 use Rattle.binder.specs.Numbers.{enter}
 use Rattle.binder.specs.Selects.{FromSoFar, condition_in, join_in, chain_in, joined, through, commas, from_in}
 use Rattle.binder.specs.Extents.{of_condition, of_join, of_chain, one_table}
 use Rattle.binder.specs.Lent.{width}
-use Rattle.binder.specs.Bound.{FromScope, CondScope, cond_scope, from_scope, join_scope, use_numbers}
+use Rattle.query.specs.Bound.{FromScope, CondScope, cond_scope, from_scope, join_scope, use_numbers}
 use Rattle.binder.specs.BoundStatements.{Plainness, plainness, join_ons, chain_ons}
 use Rattle.binder.proofs.Indexes.{width-append}
 use Rattle.binder.proofs.SelectParts.{join_at, chain_at}

@@ -15,10 +15,10 @@ use Rattle.sql_parse.specs.declared.statement.ItemValue.TheVariants as text
 use Rattle.sql_parse.specs.declared.statement.SelectItem.{SelectItem}
 use Rattle.sql_parse.specs.declared.statement.SelectList.{SelectList}
 use Rattle.sql_parse.specs.declared.statement.SelectList.TheVariants as list
-use Rattle.binder.specs.declared.query.Column.{Column}
-use Rattle.binder.specs.declared.query.Aggregate.{Aggregate}
-use Rattle.binder.specs.declared.query.Item.{Item}
-use Rattle.binder.specs.declared.query.Item.TheVariants as item
+use Rattle.query.specs.declared.query.Column.{Column}
+use Rattle.query.specs.declared.query.Aggregate.{Aggregate}
+use Rattle.query.specs.declared.query.Item.{Item}
+use Rattle.query.specs.declared.query.Item.TheVariants as item
 use Rattle.binder.specs.declared.scope.TypedColumn.{TypedColumn}
 use Rattle.binder.specs.declared.output.Output.{Output}
 use Rattle.binder.specs.declared.fault.BindReason.TheVariants.{UngroupedColumn, OuterAggregate}
@@ -26,8 +26,8 @@ use Rattle.binder.specs.Lookups.{own, refusal}
 use Rattle.binder.specs.Scopes.{Scope, Scopes, meant, place_in_text}
 use Rattle.binder.specs.Outputs.{is_call, is_aggregate, aggregates, key_in, shows, sum_of, aggregate_of, aggregate_in, item_in, output_in, items_in, columns_from, all_columns, is_shown, outputs_in}
 use Rattle.binder.specs.Lent.{width}
-use Rattle.binder.specs.Bound as numbers
-use Rattle.binder.specs.Bound.{names, bound_aggregate, bound_item, bound_group_item, bound_items, aggregate_numbers, is_among}
+use Rattle.query.specs.Bound as numbers
+use Rattle.query.specs.Bound.{names, bound_aggregate, bound_item, bound_group_item, bound_items, aggregate_numbers, is_among}
 use Rattle.binder.proofs.Given.{Given, and-then, given-if}
 use Rattle.binder.proofs.Growth.{all-append}
 use Rattle.binder.proofs.Rising.{Rising}

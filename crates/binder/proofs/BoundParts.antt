@@ -5,15 +5,15 @@ use Rattle.sql_parse.specs.declared.statement.Condition.{Condition}
 use Rattle.sql_parse.specs.declared.statement.Join.{Join}
 use Rattle.sql_parse.specs.declared.statement.Chain.{Chain}
 use Rattle.sql_parse.specs.declared.statement.Select.{Select}
-use Rattle.binder.specs.declared.query.TableUse.{TableUse}
+use Rattle.query.specs.declared.query.TableUse.{TableUse}
 use Rattle.binder.specs.declared.tables.Numbered.{Numbered}
 use Rattle.binder.specs.declared.output.Output.{Output}
 use Rattle.binder.specs.Scopes.{Scope, Scopes}
 use Rattle.binder.specs.Selects.{FromSoFar, condition_in, join_in, chain_in, select_in}
 use Rattle.binder.specs.Extents.{of_condition, of_join, of_chain, of_select}
 use Rattle.binder.specs.Lent.{width}
-use Rattle.binder.specs.Bound as numbers
-use Rattle.binder.specs.Bound.{CondScope, FromScope, BlockScope, cond_scope, from_scope, block_scope}
+use Rattle.query.specs.Bound as numbers
+use Rattle.query.specs.Bound.{CondScope, FromScope, BlockScope, cond_scope, from_scope, block_scope}
 use Rattle.binder.specs.BoundStatements.{Plainness, plainness, join_ons, chain_ons, select_ons}
 use Rattle.binder.proofs.Given.{Given}
 use Rattle.binder.proofs.Growth.{Grown, Within}

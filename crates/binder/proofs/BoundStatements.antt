@@ -15,21 +15,21 @@ use Rattle.sql_parse.specs.declared.statement.Join.{Join, roll-Join, out-roll-Jo
 use Rattle.sql_parse.specs.declared.statement.Chain.{Chain, roll-Chain, out-roll-Chain}
 use Rattle.sql_parse.specs.declared.statement.Select.{Select, roll-Select, out-roll-Select}
 use Rattle.sql_parse.specs.declared.statement.Statement.{Statement}
-use Rattle.binder.specs.declared.query.TableUse.{TableUse}
-use Rattle.binder.specs.declared.query.SortKey.{SortKey}
-use Rattle.binder.specs.declared.query.Query.{Query}
+use Rattle.query.specs.declared.query.TableUse.{TableUse}
+use Rattle.query.specs.declared.query.SortKey.{SortKey}
+use Rattle.query.specs.declared.query.Query.{Query}
 use Rattle.binder.specs.declared.extent.Extent.{Extent}
 use Rattle.binder.specs.declared.tables.Numbered.{Numbered}
 use Rattle.binder.specs.declared.selects.BoundSelect.{BoundSelect}
 use Rattle.binder.specs.declared.statement.TheConstants.{MAX_COLUMNS}
 use Rattle.binder.specs.declared.fault.BindReason.TheVariants.{TooLarge}
 use Rattle.binder.specs.Lookups.{refusal}
-use Rattle.binder.specs.Rows.{tables_of}
+use Rattle.query.specs.Rows.{tables_of}
 use Rattle.binder.specs.Extents.{of_select, is_within}
 use Rattle.binder.specs.Selects.{select_in}
 use Rattle.binder.specs.Ordering.{order_in}
 use Rattle.binder.specs.Queries.{at_start, bound_statement}
-use Rattle.binder.specs.Bound.{block_scope, is_bound}
+use Rattle.query.specs.Bound.{block_scope, is_bound}
 use Rattle.binder.specs.BoundStatements.{select_ons, ons_are_plain, IsOver, StatementsAreBound, StatementsAreOver, StatementsAreWide}
 use Rattle.binder.proofs.Given.{Given, and-then, given-from, given-if, given-ok}
 use Rattle.binder.proofs.BoundParts.{SelectIs, CondBound, JoinBound, ChainBound, SelectBound}

@@ -8,8 +8,8 @@ use Rattle.std.proofs.lemmas.List.FromFn.{length-range_with_len}
 use Rattle.schema.specs.declared.schema.Table.{Table}
 use Rattle.schema.specs.declared.schema.Schema.{Schema}
 use Rattle.sql_parse.specs.declared.statement.TableName.{TableName}
-use Rattle.binder.specs.declared.query.TableUse.{TableUse}
-use Rattle.binder.specs.declared.query.Occurrence.{Occurrence}
+use Rattle.query.specs.declared.query.TableUse.{TableUse}
+use Rattle.query.specs.declared.query.Occurrence.{Occurrence}
 use Rattle.binder.specs.declared.tables.Numbered.{Numbered}
 use Rattle.binder.specs.declared.fault.BindReason.TheVariants.{RepeatedName, UnknownTable}
 use Rattle.binder.specs.Lookups.{find_table, table_in, refusal}
@@ -18,7 +18,7 @@ use Rattle.binder.specs.Numbers.{next_occurrence, entered, enter}
 use Rattle.binder.specs.Extents.{width_of, one_table}
 use Rattle.binder.specs.Lent.{width}
 use Rattle.binder.specs.BoundStatements.{IsOver}
-use Rattle.binder.specs.Bound.{use_numbers, is_used, is_use_of}
+use Rattle.query.specs.Bound.{use_numbers, is_used, is_use_of}
 use Rattle.binder.proofs.Indexes.{width-append}
 use Rattle.binder.proofs.Given.{Given, and-then, given-wanted, given-if}
 use Rattle.binder.proofs.Rising.{Rising, rising-range}

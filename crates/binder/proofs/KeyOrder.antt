@@ -8,7 +8,7 @@ use Rattle.values.specs.declared.fault.Fault.{Fault}
 use Rattle.values.specs.declared.fault.Fault.TheVariants as fault
 use Rattle.values.specs.Faults.{◌>>=◌, Fails}
 use Rattle.schema.specs.Each.{each}
-use Rattle.binder.specs.declared.query.SortKey.{SortKey}
+use Rattle.query.specs.declared.query.SortKey.{SortKey}
 use Rattle.binder.specs.declared.fault.BindRefusal.{BindRefusal}
 use Rattle.binder.specs.Ordering.{without_repeats}
 use Rattle.binder.proofs.Fronts.{front_of}

@@ -13,8 +13,8 @@ use Rattle.binder.specs.declared.fault.BindRefusal.{BindRefusal}
 use Rattle.binder.specs.Lookups.{find_column, refusal}
 use Rattle.binder.specs.Scopes.{Scope, Scopes, columns_named, named_in, at_level, only, plain, occurrence_named, column_of, in_occurrence, qualified, meant_by, meant}
 use Rattle.binder.specs.Lent.{width}
-use Rattle.binder.specs.Bound as numbers
-use Rattle.binder.specs.Bound.{names}
+use Rattle.query.specs.Bound as numbers
+use Rattle.query.specs.Bound.{names}
 use Rattle.binder.proofs.Given.{Given}
 use Rattle.binder.proofs.Rising.{AreBelow}
 

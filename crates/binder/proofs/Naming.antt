@@ -12,9 +12,9 @@ use Rattle.binder.specs.contracts.named.IdentityPartialEq.TheImpl.{eq-value}
 use Rattle.binder.specs.declared.fault.BindReason.TheVariants.{NoOutputColumn}
 use Rattle.binder.specs.declared.fault.BindRefusal.{BindRefusal}
 use Rattle.binder.specs.Lookups.{refusal}
-use Rattle.binder.specs.declared.query.Column.{Column}
-use Rattle.binder.specs.declared.query.Item.{Item}
-use Rattle.binder.specs.declared.query.Item.TheVariants as item
+use Rattle.query.specs.declared.query.Column.{Column}
+use Rattle.query.specs.declared.query.Item.{Item}
+use Rattle.query.specs.declared.query.Item.TheVariants as item
 use Rattle.binder.specs.declared.output.Output.{Output}
 use Rattle.binder.specs.declared.named.Identity.{Identity}
 use Rattle.binder.specs.declared.named.Sense.{Sense}

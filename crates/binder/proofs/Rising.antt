@@ -4,7 +4,7 @@ use Prim.Native.Nat.{zero, suc}
 use Rattle.std.specs.List.{range_with_len}
 use Rattle.std.proofs.lemmas.Bool.{and_from, or_from, not_from_false, ne_eqb}
 use Rattle.std.proofs.lemmas.List.Folds.{list_any-append}
-use Rattle.binder.specs.Bound.{is_among, all_differ, none_among}
+use Rattle.query.specs.Bound.{is_among, all_differ, none_among}
 
 -- the numbers rise from a on, and end below b
 abbrev pub Rising : ℕ → ℕ → List ℕ → Type 0

@@ -1,17 +1,17 @@
 -- What the scope is of each form of condition, FROM and block: one equation for each.
 use Rattle.std.proofs.Common.{◌≡◌, refl, ap, sym, ◌∙◌, List, map, Option, Some, None, option_map}
 use Rattle.values.specs.declared.truth.Comparison.{Comparison}
-use Rattle.binder.specs.declared.query.Term.{Term}
-use Rattle.binder.specs.declared.query.Occurrence.{Occurrence}
-use Rattle.binder.specs.declared.query.TableUse.{TableUse}
-use Rattle.binder.specs.declared.query.Cond.{Cond, roll-Cond}
-use Rattle.binder.specs.declared.query.Cond.TheVariants as cond
-use Rattle.binder.specs.declared.query.Cond.TheOpen.{Cond-F, From-F, Block-F}
-use Rattle.binder.specs.declared.query.Cond.TheFolds.{fold-roll-Cond, fold-roll-From, fold_out-Block, map-Cond, map-From, map-Block}
-use Rattle.binder.specs.declared.query.From.{From, roll-From}
-use Rattle.binder.specs.declared.query.From.TheVariants as from
-use Rattle.binder.specs.declared.query.Block.{Block, out-Block}
-use Rattle.binder.specs.Bound.{CondScope, FromScope, BlockScope, cond_scope, from_scope, block_scope, cond_scope_layer, from_scope_layer, block_scope_layer}
+use Rattle.query.specs.declared.query.Term.{Term}
+use Rattle.query.specs.declared.query.Occurrence.{Occurrence}
+use Rattle.query.specs.declared.query.TableUse.{TableUse}
+use Rattle.query.specs.declared.query.Cond.{Cond, roll-Cond}
+use Rattle.query.specs.declared.query.Cond.TheVariants as cond
+use Rattle.query.specs.declared.query.Cond.TheOpen.{Cond-F, From-F, Block-F}
+use Rattle.query.specs.declared.query.Cond.TheFolds.{fold-roll-Cond, fold-roll-From, fold_out-Block, map-Cond, map-From, map-Block}
+use Rattle.query.specs.declared.query.From.{From, roll-From}
+use Rattle.query.specs.declared.query.From.TheVariants as from
+use Rattle.query.specs.declared.query.Block.{Block, out-Block}
+use Rattle.query.specs.Bound.{CondScope, FromScope, BlockScope, cond_scope, from_scope, block_scope, cond_scope_layer, from_scope_layer, block_scope_layer}
 
 module _ (uses : List TableUse) where
   scope_roll : (x : Cond-F Cond From Block) → cond_scope uses (roll-Cond x) ≡ cond_scope_layer (map-Cond Cond From Block CondScope FromScope BlockScope (cond_scope uses) (from_scope uses) (block_scope uses) x)

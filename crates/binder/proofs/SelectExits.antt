@@ -11,11 +11,11 @@ use Rattle.sql_parse.specs.declared.statement.Condition.TheVariants.{In}
 use Rattle.sql_parse.specs.declared.statement.Join.{Join, out-Join}
 use Rattle.sql_parse.specs.declared.statement.Chain.{Chain}
 use Rattle.sql_parse.specs.declared.statement.Select.{Select, out-Select}
-use Rattle.binder.specs.declared.query.Cond.{Cond}
-use Rattle.binder.specs.declared.query.Occurrence.{Occurrence}
-use Rattle.binder.specs.declared.query.From.{From}
-use Rattle.binder.specs.declared.query.Item.{Item}
-use Rattle.binder.specs.declared.query.Block.{roll-Block}
+use Rattle.query.specs.declared.query.Cond.{Cond}
+use Rattle.query.specs.declared.query.Occurrence.{Occurrence}
+use Rattle.query.specs.declared.query.From.{From}
+use Rattle.query.specs.declared.query.Item.{Item}
+use Rattle.query.specs.declared.query.Block.{roll-Block}
 use Rattle.binder.specs.declared.tables.Numbered.{Numbered}
 use Rattle.binder.specs.declared.output.Output.{Output}
 use Rattle.binder.specs.declared.selects.BoundTerm.{BoundTerm}

@@ -3,9 +3,9 @@ use Rattle.std.proofs.Common.{◌≡◌, refl, ℕ, ◌+◌, ◌<◌, List, ◌+
 use Rattle.values.specs.declared.fault.Fault.{Fault}
 use Rattle.values.specs.declared.fault.Fault.TheVariants as fault
 use Rattle.values.specs.Faults.{◌>>=◌, Fails}
-use Rattle.binder.specs.declared.query.Cond.{Cond}
-use Rattle.binder.specs.declared.query.From.{From}
-use Rattle.binder.specs.declared.query.From.TheVariants.{Comma}
+use Rattle.query.specs.declared.query.Cond.{Cond}
+use Rattle.query.specs.declared.query.From.{From}
+use Rattle.query.specs.declared.query.From.TheVariants.{Comma}
 use Rattle.binder.specs.declared.tables.Numbered.{Numbered}
 use Rattle.binder.specs.declared.fault.BindRefusal.{BindRefusal}
 use Rattle.binder.specs.Scopes.{Scope, Scopes}

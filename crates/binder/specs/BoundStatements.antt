@@ -14,10 +14,10 @@ use Rattle.sql_parse.specs.declared.statement.Select.{Select}
 use Rattle.sql_parse.specs.declared.statement.Statement.{Statement}
 use Rattle.sql_parse.specs.Statements.{ReadsStatement}
 use Rattle.sql_parse.specs.Tokens.{Bytes}
-use Rattle.binder.specs.declared.query.TableUse.{TableUse}
-use Rattle.binder.specs.declared.query.Query.{Query}
-use Rattle.binder.specs.Bound.{is_bound}
-use Rattle.binder.specs.Rows.{tables_of}
+use Rattle.query.specs.declared.query.TableUse.{TableUse}
+use Rattle.query.specs.declared.query.Query.{Query}
+use Rattle.query.specs.Bound.{is_bound}
+use Rattle.query.specs.Rows.{tables_of}
 use Rattle.binder.specs.Queries.{bound_statement}
 
 -- ---- ONs without a subquery

@@ -5,7 +5,7 @@ use Rattle.schema.specs.declared.schema.Column as entries
 use Rattle.schema.specs.declared.schema.Table.{Table}
 use Rattle.schema.specs.declared.schema.Schema.{Schema}
 use Rattle.sql_parse.specs.declared.name.Name.{Name}
-use Rattle.binder.specs.declared.query.Column.{Column}
+use Rattle.query.specs.declared.query.Column.{Column}
 use Rattle.binder.specs.declared.fault.BindReason.{BindReason}
 use Rattle.binder.specs.declared.fault.BindReason.TheVariants.{UnknownTable}
 use Rattle.binder.specs.declared.fault.BindRefusal.{BindRefusal}

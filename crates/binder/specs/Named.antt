@@ -5,9 +5,9 @@ use Rattle.std.specs.HashMap as hash
 use Rattle.std.specs.HashMap.{HashMap}
 use Rattle.std.specs.List.{list_all}
 use Rattle.binder.specs.contracts.named.IdentityPartialEq.TheImpl.{eq-value}
-use Rattle.binder.specs.declared.query.Column.{Column}
-use Rattle.binder.specs.declared.query.Item.{Item}
-use Rattle.binder.specs.declared.query.Item.TheVariants as item
+use Rattle.query.specs.declared.query.Column.{Column}
+use Rattle.query.specs.declared.query.Item.{Item}
+use Rattle.query.specs.declared.query.Item.TheVariants as item
 use Rattle.binder.specs.declared.output.Output.{Output}
 use Rattle.binder.specs.declared.named.Identity.{Identity}
 use Rattle.binder.specs.declared.named.Identity.TheVariants as identity

@@ -4,7 +4,7 @@ use Rattle.values.specs.Faults.{◌>>=◌, wanted_if}
 use Rattle.schema.specs.declared.schema.Table.{Table}
 use Rattle.schema.specs.declared.schema.Schema.{Schema}
 use Rattle.sql_parse.specs.declared.statement.TableName.{TableName}
-use Rattle.binder.specs.declared.query.Occurrence.{Occurrence}
+use Rattle.query.specs.declared.query.Occurrence.{Occurrence}
 use Rattle.binder.specs.declared.tables.Numbered.{Numbered}
 use Rattle.binder.specs.declared.fault.BindReason.TheVariants.{RepeatedName}
 use Rattle.binder.specs.declared.fault.BindRefusal.{BindRefusal}

@@ -5,9 +5,9 @@ use Rattle.values.specs.Faults.{◌>>=◌, wanted_if}
 use Rattle.schema.specs.Each.{each}
 use Rattle.sql_parse.specs.declared.name.Name.{Name}
 use Rattle.sql_parse.specs.declared.statement.OrderKey.{OrderKey}
-use Rattle.binder.specs.declared.query.Item.{Item}
-use Rattle.binder.specs.declared.query.Item.TheVariants as item
-use Rattle.binder.specs.declared.query.SortKey.{SortKey}
+use Rattle.query.specs.declared.query.Item.{Item}
+use Rattle.query.specs.declared.query.Item.TheVariants as item
+use Rattle.query.specs.declared.query.SortKey.{SortKey}
 use Rattle.binder.specs.declared.scope.TypedColumn.{TypedColumn}
 use Rattle.binder.specs.declared.output.Output.{Output}
 use Rattle.binder.specs.declared.fault.BindReason.TheVariants.{AmbiguousName, NoOutputColumn}

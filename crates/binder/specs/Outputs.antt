@@ -14,11 +14,11 @@ use Rattle.sql_parse.specs.declared.statement.ItemValue.TheVariants as text
 use Rattle.sql_parse.specs.declared.statement.SelectItem.{SelectItem}
 use Rattle.sql_parse.specs.declared.statement.SelectList.{SelectList}
 use Rattle.sql_parse.specs.declared.statement.SelectList.TheVariants as list
-use Rattle.binder.specs.declared.query.Column.{Column}
-use Rattle.binder.specs.declared.query.Aggregate.{Aggregate}
-use Rattle.binder.specs.declared.query.Aggregate.TheVariants as by
-use Rattle.binder.specs.declared.query.Item.{Item}
-use Rattle.binder.specs.declared.query.Item.TheVariants as item
+use Rattle.query.specs.declared.query.Column.{Column}
+use Rattle.query.specs.declared.query.Aggregate.{Aggregate}
+use Rattle.query.specs.declared.query.Aggregate.TheVariants as by
+use Rattle.query.specs.declared.query.Item.{Item}
+use Rattle.query.specs.declared.query.Item.TheVariants as item
 use Rattle.binder.specs.declared.scope.TypedColumn.{TypedColumn}
 use Rattle.binder.specs.declared.output.Output.{Output}
 use Rattle.binder.specs.declared.fault.BindReason.TheVariants.{UngroupedColumn, OuterAggregate, SumOfText}

@@ -3,7 +3,7 @@ use Rattle.std.specs.Prelude.{[], map, nat_le, Result}
 use Rattle.values.specs.Faults.{◌>>=◌, wanted_if}
 use Rattle.schema.specs.declared.schema.Schema.{Schema}
 use Rattle.sql_parse.specs.declared.statement.Statement.{Statement}
-use Rattle.binder.specs.declared.query.Query.{Query}
+use Rattle.query.specs.declared.query.Query.{Query}
 use Rattle.binder.specs.declared.extent.Extent.{Extent}
 use Rattle.binder.specs.declared.tables.Numbered.{Numbered}
 use Rattle.binder.specs.declared.statement.TheConstants.{MAX_COLUMNS}

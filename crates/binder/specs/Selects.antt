@@ -19,13 +19,13 @@ use Rattle.sql_parse.specs.declared.statement.Condition.TheFolds.{fold-Condition
 use Rattle.sql_parse.specs.declared.statement.Join.{Join}
 use Rattle.sql_parse.specs.declared.statement.Chain.{Chain}
 use Rattle.sql_parse.specs.declared.statement.Select.{Select}
-use Rattle.binder.specs.declared.query.Term.TheVariants as term
-use Rattle.binder.specs.declared.query.Cond.{Cond}
-use Rattle.binder.specs.declared.query.Cond.TheVariants as cond
-use Rattle.binder.specs.declared.query.Occurrence.{Occurrence}
-use Rattle.binder.specs.declared.query.From.{From}
-use Rattle.binder.specs.declared.query.From.TheVariants as from
-use Rattle.binder.specs.declared.query.Block.{Block, roll-Block}
+use Rattle.query.specs.declared.query.Term.TheVariants as term
+use Rattle.query.specs.declared.query.Cond.{Cond}
+use Rattle.query.specs.declared.query.Cond.TheVariants as cond
+use Rattle.query.specs.declared.query.Occurrence.{Occurrence}
+use Rattle.query.specs.declared.query.From.{From}
+use Rattle.query.specs.declared.query.From.TheVariants as from
+use Rattle.query.specs.declared.query.Block.{Block, roll-Block}
 use Rattle.binder.specs.declared.tables.Numbered.{Numbered}
 use Rattle.binder.specs.declared.output.Output.{Output}
 use Rattle.binder.specs.declared.selects.BoundTerm.{BoundTerm}

@@ -1,4 +1,4 @@
-//! Bound queries, what they mean, and how the tree of a text becomes one.
+//! How the tree of a text becomes a bound query.
 #![tactic(auto)]
 
 mod extent;
@@ -8,7 +8,6 @@ mod named;
 mod ordering;
 mod output;
 mod places;
-pub mod query;
 mod scope;
 mod selects;
 mod statement;
@@ -17,11 +16,5 @@ mod tables;
 mod tests;
 
 pub use fault::{BindFault, BindReason, BindRefusal};
-pub use laws::{
-    answers_are_by_laws, laws_determine_meaning, meaning_obeys_laws, satisfying_databases_fit,
-    worked_rows_hold,
-};
-pub use query::{
-    Aggregate, Block, Column, Cond, From, Item, Occurrence, Query, SortKey, TableUse, Term,
-};
+pub use laws::statements_are_bound;
 pub use statement::bind_statement;

@@ -5,7 +5,7 @@ ghost use Rattle.binder.specs.Named as view;
 ghost use Rattle.binder.specs.Ordering as spec;
 
 use crate::output::Output;
-use crate::query::Item;
+use query::Item;
 use std::alloc::{AllocError, Global};
 use std::collections::HashMap;
 use std::marker::Model;

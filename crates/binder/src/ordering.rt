@@ -10,7 +10,7 @@ use crate::fault::{BindFault, BindReason, refused};
 use crate::named::{Named, Sense};
 use crate::output::Output;
 use crate::places::Places;
-use crate::query::{Column, Item, SortKey};
+use query::{Column, Item, SortKey};
 use crate::scope::{Scope, qualified_in};
 use sql_parse::Name;
 use sql_parse::statement::{ColumnName, OrderKey};

@@ -9,7 +9,7 @@ ghost use Rattle.binder.specs.Chained.{scopes_of};
 
 use crate::fault::{BindFault, BindReason, refused};
 use crate::places::Places;
-use crate::query::{Aggregate, Column, Item};
+use query::{Aggregate, Column, Item};
 use crate::scope::{Scope, Scopes, TypedColumn, meant, place_in_text};
 use schema::Kind;
 use sql_parse::statement::{

@@ -9,7 +9,7 @@ ghost use Rattle.binder.specs.Lent.{IsIndexed, known_of, meaning_of, placed_of, 
 ghost use Rattle.binder.specs.Chained.{scopes_of};
 
 use crate::fault::{BindFault, BindReason, refused};
-use crate::query::Column;
+use query::Column;
 use schema::{Kind, Schema, Table};
 use sql_parse::Name;
 use sql_parse::statement::{ColumnName, TableName};

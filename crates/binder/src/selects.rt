@@ -7,7 +7,7 @@ ghost use Rattle.binder.specs.Chained.{scopes_of};
 
 use crate::fault::{BindFault, BindReason, refused};
 use crate::output::{Grouping, Output, aggregates, keys, outputs};
-use crate::query::{Block, Cond, From, Item, Occurrence, Term};
+use query::{Block, Cond, From, Item, Occurrence, Term};
 use crate::scope::{Scope, Scopes, meant};
 use crate::tables::{Numbered, enter};
 use schema::{Kind, Schema};

@@ -8,7 +8,7 @@ use crate::extent::of_select;
 use crate::fault::{BindFault, BindReason, refused};
 use crate::ordering::order;
 use crate::output::Output;
-use crate::query::Query;
+use query::Query;
 use crate::scope::Scopes;
 use crate::selects::select;
 use crate::tables::Numbered;

@@ -5,7 +5,7 @@ ghost use Rattle.values.specs.Faults.{Gives};
 ghost use Rattle.binder.specs.Numbers as spec;
 
 use crate::fault::{BindFault, BindReason, refused};
-use crate::query::{Occurrence, TableUse};
+use query::{Occurrence, TableUse};
 use crate::scope::{Scope, find_table, known_name};
 use schema::{Schema, Table};
 use sql_parse::statement::TableName;

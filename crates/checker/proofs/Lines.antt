@@ -4,8 +4,8 @@ use Rattle.std.proofs.lemmas.Bool.{cases_order, eq-eqb, ne_eqb}
 use Rattle.std.proofs.lemmas.List.{take_more, reverse-append, length-reverse, length-map, length-take-le, length_push, get_or_push, get_or_append_left, get_or_past}
 use Rattle.std.proofs.Math.Seq.{drop-cons}
 use Rattle.values.specs.Faults.{◌>>=◌}
-use Rattle.binder.specs.declared.query.TableUse.{TableUse}
-use Rattle.binder.specs.declared.query.Query.{Query}
+use Rattle.query.specs.declared.query.TableUse.{TableUse}
+use Rattle.query.specs.declared.query.Query.{Query}
 use Rattle.logical.specs.declared.expr.Expr.{Expr}
 use Rattle.logical.specs.Columns.{columns_at}
 use Rattle.logical.specs.Expressions.{columns_of}

@@ -8,11 +8,11 @@ use Rattle.std.specs.declared.cmp.Ordering.TheVariants.{Less, Equal, Greater}
 use Rattle.values.specs.declared.value.Value.TheVariants as value
 use Rattle.values.specs.Order.{order}
 use Rattle.schema.specs.Databases.{Row}
-use Rattle.binder.specs.declared.query.SortKey as order_by
-use Rattle.binder.specs.declared.query.Query.{Query}
-use Rattle.binder.specs.Rows.{value_at}
-use Rattle.binder.specs.Answer as asked
-use Rattle.binder.specs.Answer.{IsAllowed}
+use Rattle.query.specs.declared.query.SortKey as order_by
+use Rattle.query.specs.declared.query.Query.{Query}
+use Rattle.query.specs.Rows.{value_at}
+use Rattle.query.specs.Answer as asked
+use Rattle.query.specs.Answer.{IsAllowed}
 use Rattle.logical.specs.Bags.{Env}
 use Rattle.logical.specs.Frames.{query_numbers, query_shown}
 use Rattle.logical.proofs.Same.{same_by-equal}

@@ -5,8 +5,8 @@ use Rattle.std.proofs.lemmas.Bool.{and_parts, eqb-true, ltb-true}
 use Rattle.std.proofs.lemmas.List.{length-reverse, length-take-le}
 use Rattle.std.proofs.lemmas.Option.{slice_get_within}
 use Rattle.values.specs.Faults.{◌>>=◌, wanted_if}
-use Rattle.binder.specs.declared.query.Query.{Query}
-use Rattle.binder.specs.Rows.{Tables}
+use Rattle.query.specs.declared.query.Query.{Query}
+use Rattle.query.specs.Rows.{Tables}
 use Rattle.logical.specs.declared.expr.Expr.{Expr}
 use Rattle.logical.specs.Columns.{has}
 use Rattle.logical.specs.Expressions.{Classes, classes_pass, input_classes}

@@ -4,10 +4,10 @@ use Rattle.std.proofs.lemmas.List.{reverse-append, length-reverse, length-map}
 use Rattle.values.specs.Faults.{◌>>=◌, wanted_if}
 use Rattle.schema.specs.declared.schema.Schema.{Schema}
 use Rattle.schema.specs.Databases.{Row}
-use Rattle.binder.specs.declared.query.Query.{Query}
-use Rattle.binder.specs.Rows.{Tables, tables_of, same_rows, count}
+use Rattle.query.specs.declared.query.Query.{Query}
+use Rattle.query.specs.Rows.{Tables, tables_of, same_rows, count}
 use Rattle.binder.proofs.BoundStatements.{uses-wide}
-use Rattle.binder.proofs.Widths.{satisfying_fits}
+use Rattle.query.proofs.Widths.{satisfying_fits}
 use Rattle.logical.specs.declared.expr.Expr.{Expr}
 use Rattle.logical.specs.Bags.{Env, SameRows, nulls, total}
 use Rattle.logical.specs.Columns.{columns_at}

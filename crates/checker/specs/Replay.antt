@@ -7,11 +7,11 @@ use Rattle.std.specs.List.{AllByRecursion, list_all}
 use Rattle.values.specs.Faults.{◌>>=◌, wanted, wanted_if}
 use Rattle.schema.specs.declared.schema.Schema.{Schema}
 use Rattle.schema.specs.Databases.{Database, Satisfies}
-use Rattle.binder.specs.declared.query.Query.{Query}
-use Rattle.binder.specs.Rows.{tables_of}
-use Rattle.binder.specs.Bound.{is_bound}
+use Rattle.query.specs.declared.query.Query.{Query}
+use Rattle.query.specs.Rows.{tables_of}
+use Rattle.query.specs.Bound.{is_bound}
 use Rattle.binder.specs.BoundStatements.{IsOver}
-use Rattle.binder.specs.Answer.{IsAnswer}
+use Rattle.query.specs.Answer.{IsAnswer}
 use Rattle.logical.specs.declared.expr.Expr.{Expr}
 use Rattle.logical.specs.declared.expr.Expr.TheVariants.{Get, Select, Join, LeftJoin, Keep, Distinct, Group}
 use Rattle.logical.specs.Columns.{has}

@@ -10,7 +10,7 @@ ghost use Rattle.checker.specs.Replay as spec;
 
 use crate::certificate::{CheckFault, CheckReason, Line};
 use crate::replay::refused;
-use binder::Query;
+use query::Query;
 use logical::{Columns, Expr, same_aggregations};
 use physical::{JoinKind, Node, OrderKey, Plan, delivers, query_order};
 use std::alloc::{AllocError, Global};

@@ -10,7 +10,7 @@ ghost use Rattle.logical.specs.FormedFrames.{group_aggregates, own_aggregates};
 ghost use Rattle.checker.specs.Replay as spec;
 
 use crate::certificate::{CheckFault, CheckReason, CheckRefusal, Line};
-use binder::Query;
+use query::Query;
 use logical::{Aggregation, Columns, Expr};
 use std::alloc::{AllocError, Global};
 use values::Fault;

@@ -5,7 +5,8 @@ ghost use Rattle.checker.specs.Replay.{IsBoundOver};
 
 use crate::certificate::{Certificate, CheckFault, CheckReason, CheckRefusal, Line};
 use crate::checked::check;
-use binder::{Query, bind_statement};
+use binder::bind_statement;
+use query::Query;
 use logical::{Columns, Condition, Conjuncts, Expr, Term, query_frame};
 use physical::{JoinKind, Node, OrderKey, Plan};
 use schema::{Schema, SchemaFault};

@@ -8,7 +8,7 @@ use Rattle.std.proofs.lemmas.Bool.{eqb-true, eq-eqb, le-ltb, leb-true, and_parts
 use Rattle.values.specs.declared.value.Value.{Value}
 use Rattle.logical.proofs.Sets.{range_has}
 use Rattle.schema.specs.Databases.{Row}
-use Rattle.binder.specs.Rows.{value_at}
+use Rattle.query.specs.Rows.{value_at}
 use Rattle.logical.specs.Columns.{has}
 use Rattle.logical.specs.Bags.{Env, lay}
 use Rattle.std.proofs.lemmas.Map.Keys.{below_from_sorted, sorted_from_strictly_increasing}

@@ -5,7 +5,7 @@ use Rattle.values.specs.declared.value.Value.{Value}
 use Rattle.values.specs.Order.{same}
 use Rattle.values.specs.contracts.value.ValuePartialEq.TheImpl as value_eq
 use Rattle.schema.specs.Databases.{Row, values_at}
-use Rattle.binder.specs.Aggregates.{aggregate_of}
+use Rattle.query.specs.Aggregates.{aggregate_of}
 use Rattle.store.specs.Keys.{key_eq, value_decides}
 use Rattle.logical.specs.declared.expr.Aggregation.{Aggregation}
 use Rattle.logical.specs.Columns.{has, rising}

@@ -2,9 +2,9 @@
 use Rattle.std.proofs.Common.{◌≡◌, ap, subst, ◌∙◌, ℕ, List, map}
 use Rattle.schema.specs.declared.schema.Schema.{Schema}
 use Rattle.schema.specs.Databases.{Database, Satisfies}
-use Rattle.binder.specs.declared.query.Query.{Query}
-use Rattle.binder.specs.Answer.{IsAnswer}
-use Rattle.binder.specs.Rows.{tables_of}
+use Rattle.query.specs.declared.query.Query.{Query}
+use Rattle.query.specs.Answer.{IsAnswer}
+use Rattle.query.specs.Rows.{tables_of}
 use Rattle.checker.specs.declared.certificate.Certificate.{Certificate}
 use Rattle.logical.specs.Bags.{Env, nulls}
 use Rattle.logical.specs.Frames.{query_numbers}

@@ -3,7 +3,7 @@ use Rattle.std.proofs.Common.{◌≡◌, refl, ap, sym, ◌∙◌, subst, ℕ, z
 use Rattle.std.proofs.lemmas.List.Elements.{filter-append}
 use Rattle.values.specs.declared.truth.Comparison.TheVariants as by
 use Rattle.values.specs.Truth.{negation, truth_of, is_true, compare}
-use Rattle.binder.specs.Meaning.{all_of, any_of}
+use Rattle.query.specs.Meaning.{all_of, any_of}
 use Rattle.logical.specs.declared.condition.Condition.{Condition, roll-Condition, ind-Condition, map-Condition}
 use Rattle.logical.specs.declared.condition.Condition.TheVariants.{rolls-Compare, rolls-IsNull, rolls-Not, rolls-And, rolls-Or, rolls-Exists, rolls-In}
 use Rattle.logical.specs.declared.condition.Condition.TheOpen.{Condition-F}
@@ -13,8 +13,8 @@ use Rattle.logical.proofs.Loops.{two}
 use Rattle.logical.proofs.Truths.{truth-Compare, truth-IsNull, truth-Not, truth-And, truth-Or, truth-Exists, truth-In}
 use Rattle.physical.specs.declared.plan.JoinKind.{JoinKind}
 use Rattle.physical.specs.declared.plan.JoinKind.TheVariants.{Inner, Left}
-use Rattle.binder.specs.declared.query.TableUse.{TableUse}
-use Rattle.binder.specs.Rows.{Tables}
+use Rattle.query.specs.declared.query.TableUse.{TableUse}
+use Rattle.query.specs.Rows.{Tables}
 use Rattle.logical.specs.Bags.{Env, Bag, Test, lay, nulls, matches, or_else_row, same_on, distinct_on, group}
 use Rattle.physical.specs.declared.plan.Node.{Node}
 use Rattle.physical.specs.declared.plan.Plan.{Plan, out-Plan, fold_out-Plan}

@@ -2,8 +2,8 @@
 use Rattle.std.proofs.Common.{◌≡◌, refl, ap, ◌∙◌, ℕ, ◌-◌, Bool, true, false, if◌then◌else◌, List, [], ◌∷◌, length, map, filter, zero-add}
 use Rattle.std.specs.List.{range_with_len}
 use Rattle.schema.specs.Databases.{Row}
-use Rattle.binder.specs.declared.query.TableUse.{TableUse}
-use Rattle.binder.specs.Rows.{value_at}
+use Rattle.query.specs.declared.query.TableUse.{TableUse}
+use Rattle.query.specs.Rows.{value_at}
 use Rattle.logical.specs.Columns.{has}
 use Rattle.logical.specs.Bags.{Env, lay}
 use Rattle.logical.specs.Expressions.{use_columns, use_row}

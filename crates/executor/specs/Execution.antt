@@ -1,7 +1,7 @@
 -- What an executor gives.
 use Rattle.std.specs.Prelude.{ℕ, List}
 use Rattle.schema.specs.Databases.{Row}
-use Rattle.binder.specs.Rows.{Tables, tables_of}
+use Rattle.query.specs.Rows.{Tables, tables_of}
 use Rattle.physical.specs.Plays.{answer}
 use Rattle.checker.specs.Replay.{Accepted}
 use Rattle.executor.specs.AnswerText.{answer_text}

@@ -3,7 +3,7 @@ use Rattle.std.specs.Prelude.{ℕ, ◌==◌, if◌then◌else◌, List, [], ◌�
 use Rattle.values.specs.declared.value.Value.{Value}
 use Rattle.values.specs.declared.value.Value.TheVariants as value
 use Rattle.schema.specs.Databases.{Row}
-use Rattle.binder.specs.Rows.{value_at}
+use Rattle.query.specs.Rows.{value_at}
 
 -- the place of a column
 abbrev pub place_in : List ℕ → List ℕ → ℕ → Option ℕ

@@ -3,7 +3,7 @@
 ghost use Rattle.std.specs.Prelude.{◌≡◌, if◌then◌else◌, map, IfOk};
 ghost use Rattle.values.specs.Cells.{value_of};
 ghost use Rattle.values.specs.Truth.{is_null};
-ghost use Rattle.binder.specs.Aggregates as spec;
+ghost use Rattle.query.specs.Aggregates as spec;
 
 use std::alloc::AllocError;
 use std::cmp::Ordering;

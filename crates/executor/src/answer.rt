@@ -2,7 +2,7 @@
 
 ghost use Rattle.std.specs.Prelude.{◌≡◌, ◌≢◌, [], IsErrAnd, OnOk, OnErr};
 ghost use Rattle.std.specs.Io.KnownBytes.{Appends};
-ghost use Rattle.binder.specs.Answer.{IsAnswer};
+ghost use Rattle.query.specs.Answer.{IsAnswer};
 ghost use Rattle.store.specs.Devices.{Rose};
 ghost use Rattle.executor.specs.AnswerText.{HasFront};
 ghost use Rattle.executor.specs.Execution.{tables_in, plan_rows, plan_text};

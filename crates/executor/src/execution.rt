@@ -1,7 +1,7 @@
 //! The rows that a checked plan gives.
 
 ghost use Rattle.std.specs.Prelude.{◌≡◌, IfOk};
-ghost use Rattle.binder.specs.Answer.{IsAnswer};
+ghost use Rattle.query.specs.Answer.{IsAnswer};
 ghost use Rattle.physical.specs.Plays.{answer};
 ghost use Rattle.executor.specs.Execution.{tables_in};
 

@@ -3,7 +3,7 @@
 ghost use Rattle.std.specs.Prelude.{◌≡◌, ◌++◌, [], ◌∷◌, map, length, pos, IfOk, OnOk};
 ghost use Rattle.values.specs.Cells.{value_of};
 ghost use Rattle.values.specs.declared.value.Value.TheVariants as value;
-ghost use Rattle.binder.specs.Aggregates as spec;
+ghost use Rattle.query.specs.Aggregates as spec;
 ghost use Rattle.logical.specs.Bags as bags;
 ghost use Rattle.logical.specs.Columns.{rising};
 ghost use Rattle.logical.specs.Expressions as expressions;
@@ -17,7 +17,7 @@ use crate::headings::Heading;
 use crate::keys::{Group, RowRef, groups_of};
 use crate::relation::Relation;
 use crate::rows::RowData;
-use binder::Aggregate;
+use query::Aggregate;
 use logical::{Aggregation, Columns};
 use std::alloc::{AllocError, Global};
 use values::Cell;

@@ -2,7 +2,7 @@
 
 ghost use Rattle.std.specs.Prelude.{◌≡◌, [], filter, map, slice_get, slice_index_or, IfOk};
 ghost use Rattle.schema.specs.declared.schema.Schema.{Schema};
-ghost use Rattle.binder.specs.Rows.{tables_of};
+ghost use Rattle.query.specs.Rows.{tables_of};
 ghost use Rattle.logical.specs.Bags as bags;
 ghost use Rattle.logical.specs.Columns.{has};
 ghost use Rattle.logical.specs.Conditions as spec;
@@ -14,7 +14,7 @@ use crate::headings::Heading;
 use crate::relation::Relation;
 use crate::rows::{RowData, stored_rows};
 use crate::truth::{Subqueries, holds};
-use binder::TableUse;
+use query::TableUse;
 use logical::{Columns, Condition};
 use std::alloc::{AllocError, Global};
 use store::Table;

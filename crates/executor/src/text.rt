@@ -9,7 +9,7 @@ ghost use Rattle.executor.specs.AnswerText.{rows_text, answer_text, HasFront};
 ghost use Rattle.store.specs.Fields.{escaped, field_of};
 
 use crate::output::{AnswerOutput, OutputFailed, send};
-use binder::Query;
+use query::Query;
 use csv::{StringRecord, Writer};
 use itoa::Buffer;
 use std::alloc::{AllocError, Global};

@@ -4,7 +4,7 @@ ghost use Rattle.std.specs.Prelude.{◌≡◌, map, not};
 ghost use Rattle.values.specs.Cells.{value_of};
 ghost use Rattle.values.specs.declared.truth.Comparison.TheVariants as by;
 ghost use Rattle.values.specs.Truth as logic;
-ghost use Rattle.binder.specs.Meaning.{all_of, any_of};
+ghost use Rattle.query.specs.Meaning.{all_of, any_of};
 ghost use Rattle.logical.specs.Bags as bags;
 ghost use Rattle.logical.specs.Conditions as spec;
 ghost use Rattle.physical.specs.Plays.{no_classes};

@@ -4,7 +4,7 @@ use Rattle.std.specs.List.{list_all, list_any}
 use Rattle.std.proofs.lemmas.Bool.{le-ltb}
 use Rattle.std.proofs.lemmas.List.{take_all, length-drop}
 use Rattle.std.proofs.Math.Seq.{drop-cons}
-use Rattle.binder.specs.declared.query.Aggregate.TheVariants.{CountRows}
+use Rattle.query.specs.declared.query.Aggregate.TheVariants.{CountRows}
 use Rattle.logical.specs.Expressions.{subqueries_pass, is_plain, aggregate_columns, are_different}
 use Rattle.logical.specs.Columns.{has}
 use Rattle.logical.specs.declared.expr.Aggregation.{Aggregation}

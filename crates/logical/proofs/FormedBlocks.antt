@@ -4,15 +4,15 @@ use Rattle.std.specs.Prelude.{slice_index_or}
 use Rattle.std.specs.List.{list_all, list_any, AllByRecursion}
 use Rattle.std.proofs.lemmas.Bool.{and_parts, and_from, or_parts, eq-eqb, eqb-true, lt-ltb, ltb-true, or_left, or_right, cond_both, cond-true, not_from_false, not-true}
 use Rattle.std.proofs.lemmas.List.Folds.{list_any-append}
-use Rattle.binder.specs.declared.query.Column.{Column}
-use Rattle.binder.specs.declared.query.Aggregate.{Aggregate}
-use Rattle.binder.specs.declared.query.Aggregate.TheVariants as by
-use Rattle.binder.specs.declared.query.Item.{Item}
-use Rattle.binder.specs.declared.query.Item.TheVariants as item
-use Rattle.binder.specs.declared.query.TableUse.{TableUse}
-use Rattle.binder.specs.declared.query.Cond.{Cond}
-use Rattle.binder.specs.declared.query.Block.{Block}
-use Rattle.binder.specs.Bound.{Scope, BlockScope, number, number_at, names, is_among, all_differ, aggregate_numbers, bound_aggregate, bound_item, bound_group_item, bound_items, bound_filter, cond_scope, from_scope}
+use Rattle.query.specs.declared.query.Column.{Column}
+use Rattle.query.specs.declared.query.Aggregate.{Aggregate}
+use Rattle.query.specs.declared.query.Aggregate.TheVariants as by
+use Rattle.query.specs.declared.query.Item.{Item}
+use Rattle.query.specs.declared.query.Item.TheVariants as item
+use Rattle.query.specs.declared.query.TableUse.{TableUse}
+use Rattle.query.specs.declared.query.Cond.{Cond}
+use Rattle.query.specs.declared.query.Block.{Block}
+use Rattle.query.specs.Bound.{Scope, BlockScope, number, number_at, names, is_among, all_differ, aggregate_numbers, bound_aggregate, bound_item, bound_group_item, bound_items, bound_filter, cond_scope, from_scope}
 use Rattle.binder.proofs.ScopeEquations.{scope-Block}
 use Rattle.logical.specs.declared.expr.Aggregation.{Aggregation}
 use Rattle.logical.specs.declared.expr.Expr.{Expr}

@@ -4,12 +4,12 @@ use Rattle.std.specs.List.{list_all, AllByRecursion}
 use Rattle.std.proofs.lemmas.Bool.{and_parts, and_from}
 use Rattle.std.proofs.lemmas.List.Folds.{list_all-append}
 use Rattle.values.specs.declared.truth.Comparison.{Comparison}
-use Rattle.binder.specs.declared.query.Term.{Term}
-use Rattle.binder.specs.declared.query.TableUse.{TableUse}
-use Rattle.binder.specs.declared.query.Cond.{Cond}
-use Rattle.binder.specs.declared.query.Cond.TheVariants as cond
-use Rattle.binder.specs.declared.query.Block.{Block}
-use Rattle.binder.specs.Bound.{Scope, CondScope, bound_term, cond_scope, block_scope}
+use Rattle.query.specs.declared.query.Term.{Term}
+use Rattle.query.specs.declared.query.TableUse.{TableUse}
+use Rattle.query.specs.declared.query.Cond.{Cond}
+use Rattle.query.specs.declared.query.Cond.TheVariants as cond
+use Rattle.query.specs.declared.query.Block.{Block}
+use Rattle.query.specs.Bound.{Scope, CondScope, bound_term, cond_scope, block_scope}
 use Rattle.binder.proofs.ScopeEquations.{scope-Compare, scope-IsNull, scope-Not, scope-And, scope-Or, scope-Exists, scope-In}
 use Rattle.logical.specs.declared.condition.Condition.{Condition}
 use Rattle.logical.specs.declared.expr.Aggregation.{Aggregation}

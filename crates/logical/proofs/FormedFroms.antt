@@ -3,12 +3,12 @@ use Rattle.std.proofs.Common.{◌≡◌, refl, ap, sym, ◌∙◌, ℕ, ◌<◌,
 use Rattle.std.specs.List.{list_all, slice_get}
 use Rattle.std.proofs.lemmas.Bool.{and_parts, and_from, eq-eqb, or_left, or_right, lt-ltb, not_from_false, false_from_ne_true}
 use Rattle.std.proofs.lemmas.Option.{slice_get_within}
-use Rattle.binder.specs.declared.query.Occurrence.{Occurrence}
-use Rattle.binder.specs.declared.query.TableUse.{TableUse}
-use Rattle.binder.specs.declared.query.Cond.{Cond}
-use Rattle.binder.specs.declared.query.From.{From}
-use Rattle.binder.specs.declared.query.From.TheVariants as from
-use Rattle.binder.specs.Bound.{Scope, FromScope, all_differ, is_use_of, is_used, use_numbers, cond_scope, from_scope, join_scope}
+use Rattle.query.specs.declared.query.Occurrence.{Occurrence}
+use Rattle.query.specs.declared.query.TableUse.{TableUse}
+use Rattle.query.specs.declared.query.Cond.{Cond}
+use Rattle.query.specs.declared.query.From.{From}
+use Rattle.query.specs.declared.query.From.TheVariants as from
+use Rattle.query.specs.Bound.{Scope, FromScope, all_differ, is_use_of, is_used, use_numbers, cond_scope, from_scope, join_scope}
 use Rattle.binder.proofs.ScopeEquations.{scope-Table, scope-Join, scope-LeftJoin, scope-Comma}
 use Rattle.logical.specs.declared.condition.Condition.{Condition}
 use Rattle.logical.specs.declared.expr.Aggregation.{Aggregation}

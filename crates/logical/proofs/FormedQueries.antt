@@ -5,12 +5,12 @@ use Rattle.std.specs.List.{list_all, list_any, AllByRecursion}
 use Rattle.std.proofs.lemmas.Bool.{and_parts, and_from, or_left, or_right, cond-true, ltb-true}
 use Rattle.std.proofs.lemmas.List.{length-reverse, reverse-append, reverse-reverse}
 use Rattle.std.proofs.lemmas.List.Folds.{list_any-append}
-use Rattle.binder.specs.declared.query.Column.{Column}
-use Rattle.binder.specs.declared.query.Item.{Item}
-use Rattle.binder.specs.declared.query.Item.TheVariants as item
-use Rattle.binder.specs.declared.query.TableUse.{TableUse}
-use Rattle.binder.specs.declared.query.Block.{Block}
-use Rattle.binder.specs.Bound.{Scope, names, is_among, bound_aggregate, bound_item, bound_group_item, bound_items, block_scope}
+use Rattle.query.specs.declared.query.Column.{Column}
+use Rattle.query.specs.declared.query.Item.{Item}
+use Rattle.query.specs.declared.query.Item.TheVariants as item
+use Rattle.query.specs.declared.query.TableUse.{TableUse}
+use Rattle.query.specs.declared.query.Block.{Block}
+use Rattle.query.specs.Bound.{Scope, names, is_among, bound_aggregate, bound_item, bound_group_item, bound_items, block_scope}
 use Rattle.binder.proofs.Growth.{all-append}
 use Rattle.binder.proofs.ScopeEquations.{scope-Block}
 use Rattle.logical.specs.declared.expr.Aggregation.{Aggregation}

@@ -4,18 +4,18 @@ use Rattle.std.specs.List.{list_all, AllByRecursion}
 use Rattle.std.proofs.lemmas.Bool.{and_parts}
 use Rattle.values.specs.declared.value.Value.{Value}
 use Rattle.schema.specs.Databases.{Row, HaveWidth, values_at}
-use Rattle.binder.specs.declared.query.Item.{Item}
-use Rattle.binder.specs.declared.query.TableUse.{TableUse}
-use Rattle.binder.specs.declared.query.Cond.{Cond}
-use Rattle.binder.specs.declared.query.Block.{Block}
-use Rattle.binder.specs.Rows as rows
-use Rattle.binder.specs.Rows.{Tables, IsFitting}
-use Rattle.binder.specs.Meaning as query
-use Rattle.binder.specs.Meaning.{item_of_row, item_of_group, all_shown, passes_filter, source}
-use Rattle.binder.specs.Bound.{Scope, bound_filter, bound_items, aggregate_numbers, all_differ, number_at, cond_scope, from_scope}
-use Rattle.binder.proofs.Equations as meaning
+use Rattle.query.specs.declared.query.Item.{Item}
+use Rattle.query.specs.declared.query.TableUse.{TableUse}
+use Rattle.query.specs.declared.query.Cond.{Cond}
+use Rattle.query.specs.declared.query.Block.{Block}
+use Rattle.query.specs.Rows as rows
+use Rattle.query.specs.Rows.{Tables, IsFitting}
+use Rattle.query.specs.Meaning as query
+use Rattle.query.specs.Meaning.{item_of_row, item_of_group, all_shown, passes_filter, source}
+use Rattle.query.specs.Bound.{Scope, bound_filter, bound_items, aggregate_numbers, all_differ, number_at, cond_scope, from_scope}
+use Rattle.query.proofs.Equations as meaning
 use Rattle.binder.proofs.ScopeEquations.{scope-Block}
-use Rattle.binder.proofs.Widths.{source_fits, length-nulls}
+use Rattle.query.proofs.Widths.{source_fits, length-nulls}
 use Rattle.logical.specs.declared.expr.Expr.{Expr}
 use Rattle.logical.specs.declared.expr.Expr.TheVariants.{Select, Group, Keep, Distinct}
 use Rattle.logical.specs.Columns.{has, rising}

@@ -8,18 +8,18 @@ use Rattle.values.specs.declared.truth.Comparison.TheVariants as by
 use Rattle.values.specs.declared.value.Value.{Value}
 use Rattle.values.specs.Truth.{negation, truth_of, is_true, is_null, compare}
 use Rattle.schema.specs.Databases.{Row}
-use Rattle.binder.specs.declared.query.Term.{Term}
-use Rattle.binder.specs.declared.query.Term.TheVariants as read
-use Rattle.binder.specs.declared.query.TableUse.{TableUse}
-use Rattle.binder.specs.declared.query.Cond.{Cond}
-use Rattle.binder.specs.declared.query.Cond.TheVariants as cond
-use Rattle.binder.specs.declared.query.Block.{Block}
-use Rattle.binder.specs.Rows as rows
-use Rattle.binder.specs.Rows.{Tables}
-use Rattle.binder.specs.Meaning as query
-use Rattle.binder.specs.Meaning.{all_of, any_of, equals_row}
-use Rattle.binder.specs.Bound.{Scope, CondScope, bound_term, cond_scope, block_scope, number_at}
-use Rattle.binder.proofs.Equations as meaning
+use Rattle.query.specs.declared.query.Term.{Term}
+use Rattle.query.specs.declared.query.Term.TheVariants as read
+use Rattle.query.specs.declared.query.TableUse.{TableUse}
+use Rattle.query.specs.declared.query.Cond.{Cond}
+use Rattle.query.specs.declared.query.Cond.TheVariants as cond
+use Rattle.query.specs.declared.query.Block.{Block}
+use Rattle.query.specs.Rows as rows
+use Rattle.query.specs.Rows.{Tables}
+use Rattle.query.specs.Meaning as query
+use Rattle.query.specs.Meaning.{all_of, any_of, equals_row}
+use Rattle.query.specs.Bound.{Scope, CondScope, bound_term, cond_scope, block_scope, number_at}
+use Rattle.query.proofs.Equations as meaning
 use Rattle.binder.proofs.ScopeEquations.{scope-Compare, scope-IsNull, scope-Not, scope-And, scope-Or, scope-Exists, scope-In}
 use Rattle.logical.specs.declared.condition.Condition.{Condition}
 use Rattle.logical.specs.declared.expr.Expr.{Expr}

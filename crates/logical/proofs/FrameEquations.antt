@@ -1,16 +1,16 @@
 -- What the frame is of each form of condition, FROM and block: one equation for each.
 use Rattle.std.proofs.Common.{◌≡◌, refl, ap, sym, ◌∙◌, List, map, Option, Some, None, option_map}
 use Rattle.values.specs.declared.truth.Comparison.{Comparison}
-use Rattle.binder.specs.declared.query.Term.{Term}
-use Rattle.binder.specs.declared.query.Occurrence.{Occurrence}
-use Rattle.binder.specs.declared.query.TableUse.{TableUse}
-use Rattle.binder.specs.declared.query.Cond.{Cond, roll-Cond}
-use Rattle.binder.specs.declared.query.Cond.TheVariants as cond
-use Rattle.binder.specs.declared.query.Cond.TheOpen.{Cond-F, From-F, Block-F}
-use Rattle.binder.specs.declared.query.Cond.TheFolds.{fold-roll-Cond, fold-roll-From, fold_out-Block, map-Cond, map-From, map-Block}
-use Rattle.binder.specs.declared.query.From.{From, roll-From}
-use Rattle.binder.specs.declared.query.From.TheVariants as from
-use Rattle.binder.specs.declared.query.Block.{Block, out-Block}
+use Rattle.query.specs.declared.query.Term.{Term}
+use Rattle.query.specs.declared.query.Occurrence.{Occurrence}
+use Rattle.query.specs.declared.query.TableUse.{TableUse}
+use Rattle.query.specs.declared.query.Cond.{Cond, roll-Cond}
+use Rattle.query.specs.declared.query.Cond.TheVariants as cond
+use Rattle.query.specs.declared.query.Cond.TheOpen.{Cond-F, From-F, Block-F}
+use Rattle.query.specs.declared.query.Cond.TheFolds.{fold-roll-Cond, fold-roll-From, fold_out-Block, map-Cond, map-From, map-Block}
+use Rattle.query.specs.declared.query.From.{From, roll-From}
+use Rattle.query.specs.declared.query.From.TheVariants as from
+use Rattle.query.specs.declared.query.Block.{Block, out-Block}
 use Rattle.logical.specs.Frames.{CondFrame, FromFrame, BlockFrame, cond_frame, from_frame, block_frame, cond_frame_layer, from_frame_layer, block_frame_layer}
 
 module _ (uses : List TableUse) where

@@ -4,19 +4,19 @@ use Rattle.std.specs.List.{slice_get, AllByRecursion}
 use Rattle.std.proofs.lemmas.Bool.{and_parts, eqb-true}
 use Rattle.std.proofs.lemmas.List.FromFn.{length-range_with_len}
 use Rattle.schema.specs.Databases.{Row, HaveWidth}
-use Rattle.binder.specs.declared.query.Occurrence.{Occurrence}
-use Rattle.binder.specs.declared.query.TableUse.{TableUse}
-use Rattle.binder.specs.declared.query.Cond.{Cond}
-use Rattle.binder.specs.declared.query.From.{From}
-use Rattle.binder.specs.declared.query.From.TheVariants as from
-use Rattle.binder.specs.Rows as rows
-use Rattle.binder.specs.Rows.{Tables, IsFitting}
-use Rattle.binder.specs.Meaning as query
-use Rattle.binder.specs.Meaning.{from_width, pairs_of, passes, source}
-use Rattle.binder.specs.Bound.{Scope, is_use_of, is_used, numbers_of_use, use_numbers, cond_scope, from_scope, join_scope}
-use Rattle.binder.proofs.Equations as meaning
+use Rattle.query.specs.declared.query.Occurrence.{Occurrence}
+use Rattle.query.specs.declared.query.TableUse.{TableUse}
+use Rattle.query.specs.declared.query.Cond.{Cond}
+use Rattle.query.specs.declared.query.From.{From}
+use Rattle.query.specs.declared.query.From.TheVariants as from
+use Rattle.query.specs.Rows as rows
+use Rattle.query.specs.Rows.{Tables, IsFitting}
+use Rattle.query.specs.Meaning as query
+use Rattle.query.specs.Meaning.{from_width, pairs_of, passes, source}
+use Rattle.query.specs.Bound.{Scope, is_use_of, is_used, numbers_of_use, use_numbers, cond_scope, from_scope, join_scope}
+use Rattle.query.proofs.Equations as meaning
 use Rattle.binder.proofs.ScopeEquations.{scope-Table, scope-Join, scope-LeftJoin, scope-Comma}
-use Rattle.binder.proofs.Widths.{source_fits}
+use Rattle.query.proofs.Widths.{source_fits}
 use Rattle.logical.specs.declared.condition.Condition.{Condition}
 use Rattle.logical.specs.declared.expr.Expr.{Expr}
 use Rattle.logical.specs.declared.expr.Expr.TheVariants.{Get, Join, LeftJoin}

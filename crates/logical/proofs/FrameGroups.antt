@@ -7,15 +7,15 @@ use Rattle.schema.specs.Databases.{Row, values_at}
 use Rattle.values.specs.declared.value.Value.{Value}
 use Rattle.values.specs.declared.value.Value.TheVariants as value
 use Rattle.values.specs.Order.{same}
-use Rattle.binder.specs.declared.query.Column.{Column}
-use Rattle.binder.specs.declared.query.Aggregate.{Aggregate}
-use Rattle.binder.specs.declared.query.Aggregate.TheVariants as by
-use Rattle.binder.specs.declared.query.Item.{Item}
-use Rattle.binder.specs.declared.query.Item.TheVariants as item
-use Rattle.binder.specs.Rows.{value_at, same_rows, column}
-use Rattle.binder.specs.Aggregates.{aggregate, aggregate_of, together, plus, lesser, greater, known, group_of}
-use Rattle.binder.specs.Meaning.{item_of_row, item_of_group, key_value, all_shown}
-use Rattle.binder.specs.Bound.{Scope, number, number_at, names, is_among, all_differ, bound_item, bound_group_item, bound_aggregate, aggregate_numbers, none_among}
+use Rattle.query.specs.declared.query.Column.{Column}
+use Rattle.query.specs.declared.query.Aggregate.{Aggregate}
+use Rattle.query.specs.declared.query.Aggregate.TheVariants as by
+use Rattle.query.specs.declared.query.Item.{Item}
+use Rattle.query.specs.declared.query.Item.TheVariants as item
+use Rattle.query.specs.Rows.{value_at, same_rows, column}
+use Rattle.query.specs.Aggregates.{aggregate, aggregate_of, together, plus, lesser, greater, known, group_of}
+use Rattle.query.specs.Meaning.{item_of_row, item_of_group, key_value, all_shown}
+use Rattle.query.specs.Bound.{Scope, number, number_at, names, is_among, all_differ, bound_item, bound_group_item, bound_aggregate, aggregate_numbers, none_among}
 use Rattle.logical.specs.Columns.{has, insert, rising}
 use Rattle.logical.specs.Bags.{Env, Bag, lay, same_on, distinct_on, group}
 use Rattle.logical.specs.Expressions.{with_aggregates}

@@ -1,11 +1,11 @@
 -- The frame of a query means the query.
 use Rattle.std.proofs.Common.{◌≡◌, refl, ap, sym, ◌∙◌, ◌-◌, true, List, [], map, length, reverse}
 use Rattle.std.proofs.lemmas.List.{length-reverse, reverse-reverse}
-use Rattle.binder.specs.declared.query.TableUse.{TableUse}
-use Rattle.binder.specs.declared.query.Block.{Block}
-use Rattle.binder.specs.declared.query.Query.{Query}
-use Rattle.binder.specs.Rows.{Tables, IsFitting, count}
-use Rattle.binder.specs.Bound.{is_bound}
+use Rattle.query.specs.declared.query.TableUse.{TableUse}
+use Rattle.query.specs.declared.query.Block.{Block}
+use Rattle.query.specs.declared.query.Query.{Query}
+use Rattle.query.specs.Rows.{Tables, IsFitting, count}
+use Rattle.query.specs.Bound.{is_bound}
 use Rattle.logical.specs.declared.expr.Expr.{Expr}
 use Rattle.logical.specs.Classes.{class_rows, root_rows}
 use Rattle.logical.specs.Frames.{AreOver, block_frame, query_frame, query_numbers, FrameMeans, last}

@@ -4,17 +4,17 @@ use Rattle.std.specs.List.{list_all}
 use Rattle.std.proofs.lemmas.Bool.{and_parts, and_from}
 use Rattle.std.proofs.lemmas.Grind.{reverse_onto}
 use Rattle.std.proofs.lemmas.List.Folds.{list_all-append}
-use Rattle.binder.specs.declared.query.Item.{Item}
-use Rattle.binder.specs.declared.query.TableUse.{TableUse}
-use Rattle.binder.specs.declared.query.Cond.{Cond, roll-Cond}
-use Rattle.binder.specs.declared.query.Cond.TheVariants as cond
-use Rattle.binder.specs.declared.query.Cond.TheOpen.{Cond-F, From-F, Block-F}
-use Rattle.binder.specs.declared.query.Cond.TheFolds.{ind-Block, map-Cond, map-From, map-Block}
-use Rattle.binder.specs.declared.query.From.{From, roll-From}
-use Rattle.binder.specs.declared.query.From.TheVariants as from
-use Rattle.binder.specs.declared.query.Block.{Block, roll-Block}
-use Rattle.binder.specs.declared.query.Query.{Query}
-use Rattle.binder.specs.Bound.{Scope}
+use Rattle.query.specs.declared.query.Item.{Item}
+use Rattle.query.specs.declared.query.TableUse.{TableUse}
+use Rattle.query.specs.declared.query.Cond.{Cond, roll-Cond}
+use Rattle.query.specs.declared.query.Cond.TheVariants as cond
+use Rattle.query.specs.declared.query.Cond.TheOpen.{Cond-F, From-F, Block-F}
+use Rattle.query.specs.declared.query.Cond.TheFolds.{ind-Block, map-Cond, map-From, map-Block}
+use Rattle.query.specs.declared.query.From.{From, roll-From}
+use Rattle.query.specs.declared.query.From.TheVariants as from
+use Rattle.query.specs.declared.query.Block.{Block, roll-Block}
+use Rattle.query.specs.declared.query.Query.{Query}
+use Rattle.query.specs.Bound.{Scope}
 use Rattle.logical.specs.declared.expr.Expr.{Expr}
 use Rattle.logical.specs.Frames.{CondFrame, all_frames, cond_frame, from_frame, block_frame, where_lines, group_lines, distinct_lines, query_frame, is_framed}
 use Rattle.logical.proofs.FrameEquations.{frame-Compare, frame-IsNull, frame-Not, frame-And, frame-Or, frame-Exists, frame-In, frame-Table, frame-Join, frame-LeftJoin, frame-Comma, frame-Block}

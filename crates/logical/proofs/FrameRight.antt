@@ -4,14 +4,14 @@ use Rattle.std.specs.List.{list_all}
 use Rattle.values.specs.declared.truth.Truth.{Truth}
 use Rattle.values.specs.Truth.{is_true}
 use Rattle.schema.specs.Databases.{Row}
-use Rattle.binder.specs.declared.query.TableUse.{TableUse}
-use Rattle.binder.specs.declared.query.Cond.{Cond}
-use Rattle.binder.specs.declared.query.From.{From}
-use Rattle.binder.specs.declared.query.Block.{Block}
-use Rattle.binder.specs.Rows.{Tables}
-use Rattle.binder.specs.Meaning as query
-use Rattle.binder.specs.Meaning.{from_width}
-use Rattle.binder.specs.Bound.{Scope, CondScope, FromScope, BlockScope, cond_scope, from_scope, block_scope}
+use Rattle.query.specs.declared.query.TableUse.{TableUse}
+use Rattle.query.specs.declared.query.Cond.{Cond}
+use Rattle.query.specs.declared.query.From.{From}
+use Rattle.query.specs.declared.query.Block.{Block}
+use Rattle.query.specs.Rows.{Tables}
+use Rattle.query.specs.Meaning as query
+use Rattle.query.specs.Meaning.{from_width}
+use Rattle.query.specs.Bound.{Scope, CondScope, FromScope, BlockScope, cond_scope, from_scope, block_scope}
 use Rattle.logical.specs.declared.expr.Expr.{Expr}
 use Rattle.logical.specs.Bags.{Env}
 use Rattle.logical.specs.Conditions.{truth, holds}

@@ -1,18 +1,18 @@
 -- The frame of each form of condition, FROM and block, by the steps that compute it.
 use Rattle.std.proofs.Common.{◌≡◌, refl, ap, sym, ◌∙◌, ℕ, List, [], ◌∷◌, ◌++◌, length, map, reverse, option_map}
 use Rattle.values.specs.declared.truth.Comparison.{Comparison}
-use Rattle.binder.specs.declared.query.Term as named
-use Rattle.binder.specs.declared.query.Occurrence.{Occurrence}
-use Rattle.binder.specs.declared.query.TableUse.{TableUse}
-use Rattle.binder.specs.declared.query.Cond.{Cond, roll-Cond, out-Cond, roll-out-Cond}
-use Rattle.binder.specs.declared.query.Cond.TheVariants as cond
-use Rattle.binder.specs.declared.query.Cond.TheOpen.{Cond-F}
-use Rattle.binder.specs.declared.query.From.{From}
-use Rattle.binder.specs.declared.query.From.TheVariants as from
-use Rattle.binder.specs.declared.query.Block.{Block, out-Block}
-use Rattle.binder.specs.declared.query.Item.{Item}
-use Rattle.binder.specs.declared.query.Query.{Query}
-use Rattle.binder.specs.Bound.{Scope, use_numbers}
+use Rattle.query.specs.declared.query.Term as named
+use Rattle.query.specs.declared.query.Occurrence.{Occurrence}
+use Rattle.query.specs.declared.query.TableUse.{TableUse}
+use Rattle.query.specs.declared.query.Cond.{Cond, roll-Cond, out-Cond, roll-out-Cond}
+use Rattle.query.specs.declared.query.Cond.TheVariants as cond
+use Rattle.query.specs.declared.query.Cond.TheOpen.{Cond-F}
+use Rattle.query.specs.declared.query.From.{From}
+use Rattle.query.specs.declared.query.From.TheVariants as from
+use Rattle.query.specs.declared.query.Block.{Block, out-Block}
+use Rattle.query.specs.declared.query.Item.{Item}
+use Rattle.query.specs.declared.query.Query.{Query}
+use Rattle.query.specs.Bound.{Scope, use_numbers}
 use Rattle.logical.specs.declared.condition.Term.{Term}
 use Rattle.logical.specs.declared.condition.Condition.{Condition}
 use Rattle.logical.specs.declared.condition.Condition.TheVariants.{Compare, IsNull, Not, And, Or, Exists, In}

@@ -2,15 +2,15 @@
 use Rattle.std.proofs.Common.{sym, subst, List, [], ◌∷◌, map, Option, Some, None}
 use Rattle.std.specs.List.{AllByRecursion}
 use Rattle.values.specs.declared.truth.Comparison.{Comparison}
-use Rattle.binder.specs.declared.query.Term.{Term}
-use Rattle.binder.specs.declared.query.Occurrence.{Occurrence}
-use Rattle.binder.specs.declared.query.Cond.{Cond, roll-Cond}
-use Rattle.binder.specs.declared.query.Cond.TheVariants as cond
-use Rattle.binder.specs.declared.query.Cond.TheOpen.{Cond-F, From-F, Block-F}
-use Rattle.binder.specs.declared.query.Cond.TheFolds.{ind-Cond, ind-From, ind-Block, map-Cond, map-From, map-Block}
-use Rattle.binder.specs.declared.query.From.{From, roll-From}
-use Rattle.binder.specs.declared.query.From.TheVariants as from
-use Rattle.binder.specs.declared.query.Block.{Block, roll-Block}
+use Rattle.query.specs.declared.query.Term.{Term}
+use Rattle.query.specs.declared.query.Occurrence.{Occurrence}
+use Rattle.query.specs.declared.query.Cond.{Cond, roll-Cond}
+use Rattle.query.specs.declared.query.Cond.TheVariants as cond
+use Rattle.query.specs.declared.query.Cond.TheOpen.{Cond-F, From-F, Block-F}
+use Rattle.query.specs.declared.query.Cond.TheFolds.{ind-Cond, ind-From, ind-Block, map-Cond, map-From, map-Block}
+use Rattle.query.specs.declared.query.From.{From, roll-From}
+use Rattle.query.specs.declared.query.From.TheVariants as from
+use Rattle.query.specs.declared.query.Block.{Block, roll-Block}
 
 module _ (C : Cond → Type 0) (F : From → Type 0) (B : Block → Type 0) where
   -- of a WHERE, if there is one

@@ -4,7 +4,7 @@ use Rattle.std.specs.List.{list_all}
 use Rattle.std.proofs.lemmas.Bool.{and_parts}
 use Rattle.values.specs.declared.truth.Truth.{Truth}
 use Rattle.values.specs.Truth.{negation}
-use Rattle.binder.specs.Meaning.{all_of, any_of}
+use Rattle.query.specs.Meaning.{all_of, any_of}
 use Rattle.logical.specs.declared.condition.Condition.{Condition, roll-Condition, fold-roll-Condition, ind-Condition, map-Condition}
 use Rattle.logical.specs.declared.condition.Condition.TheOpen.{Condition-F}
 use Rattle.logical.specs.Bags.{Env, Bag}

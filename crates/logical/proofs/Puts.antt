@@ -6,11 +6,11 @@ use Rattle.std.proofs.lemmas.Bool.{eq-eqb, ne_eqb, eqb-true, ltb-true, leb-true,
 use Rattle.schema.specs.Databases.{Row}
 use Rattle.values.specs.declared.value.Value.{Value}
 use Rattle.values.specs.declared.value.Value.TheVariants.{Null}
-use Rattle.binder.specs.declared.query.TableUse.{TableUse}
-use Rattle.binder.specs.declared.query.Column.{Column}
-use Rattle.binder.specs.Rows as rows
-use Rattle.binder.specs.Rows.{value_at, column}
-use Rattle.binder.specs.Bound.{Scope, number, names, all_differ, none_among}
+use Rattle.query.specs.declared.query.TableUse.{TableUse}
+use Rattle.query.specs.declared.query.Column.{Column}
+use Rattle.query.specs.Rows as rows
+use Rattle.query.specs.Rows.{value_at, column}
+use Rattle.query.specs.Bound.{Scope, number, names, all_differ, none_among}
 use Rattle.logical.specs.Columns.{ColumnSet, has}
 use Rattle.logical.specs.Bags.{Env, lay, nulls}
 use Rattle.logical.specs.Expressions.{use_columns, use_row}

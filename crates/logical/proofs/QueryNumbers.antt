@@ -1,13 +1,13 @@
 -- The column numbers of each form of FROM, and of a query's items.
 use Rattle.std.proofs.Common.{◌≡◌, ap, sym, ◌∙◌, ℕ, List, [], ◌∷◌, ◌++◌, map}
-use Rattle.binder.specs.declared.query.Occurrence.{Occurrence}
-use Rattle.binder.specs.declared.query.TableUse.{TableUse}
-use Rattle.binder.specs.declared.query.Cond.{Cond}
-use Rattle.binder.specs.declared.query.From.{From}
-use Rattle.binder.specs.declared.query.From.TheVariants as from
-use Rattle.binder.specs.declared.query.Block.{out-Block}
-use Rattle.binder.specs.declared.query.Query.{Query}
-use Rattle.binder.specs.Bound.{use_numbers}
+use Rattle.query.specs.declared.query.Occurrence.{Occurrence}
+use Rattle.query.specs.declared.query.TableUse.{TableUse}
+use Rattle.query.specs.declared.query.Cond.{Cond}
+use Rattle.query.specs.declared.query.From.{From}
+use Rattle.query.specs.declared.query.From.TheVariants as from
+use Rattle.query.specs.declared.query.Block.{out-Block}
+use Rattle.query.specs.declared.query.Query.{Query}
+use Rattle.query.specs.Bound.{use_numbers}
 use Rattle.logical.specs.Frames.{from_frame, item_number, query_numbers}
 use Rattle.logical.proofs.FrameEquations.{frame-Table, frame-Join, frame-LeftJoin, frame-Comma, frame-Block}
 

@@ -6,7 +6,7 @@ use Rattle.values.specs.declared.truth.Truth.{Truth}
 use Rattle.values.specs.declared.truth.Truth.TheVariants.{False, Unknown, True}
 use Rattle.values.specs.declared.truth.Comparison.TheVariants as by
 use Rattle.values.specs.Truth.{negation, disjunction, truth_of, is_true, compare}
-use Rattle.binder.specs.Meaning.{all_of, any_of}
+use Rattle.query.specs.Meaning.{all_of, any_of}
 use Rattle.logical.specs.declared.condition.Condition.{Condition, roll-Condition, fold-roll-Condition, ind-Condition, map-Condition}
 use Rattle.logical.specs.declared.condition.Condition.TheOpen.{Condition-F}
 use Rattle.logical.specs.Columns.{has}

@@ -3,12 +3,12 @@ use Rattle.std.proofs.Common.{◌≡◌, refl, ap, sym, ◌∙◌, ℕ, ◌+◌,
 use Rattle.values.specs.declared.value.Value.{Value}
 use Rattle.values.specs.declared.value.Value.TheVariants.{Int}
 use Rattle.schema.specs.Databases.{Row}
-use Rattle.binder.specs.declared.query.Aggregate.{Aggregate}
-use Rattle.binder.specs.declared.query.Aggregate.TheVariants as by
-use Rattle.binder.specs.Rows.{value_at, same_rows, count}
-use Rattle.binder.specs.Aggregates.{aggregate, aggregate_of, known, together, plus, lesser, greater}
-use Rattle.binder.proofs.SameCounts.{SameCounts}
-use Rattle.binder.proofs.Groups.{same-aggregate}
+use Rattle.query.specs.declared.query.Aggregate.{Aggregate}
+use Rattle.query.specs.declared.query.Aggregate.TheVariants as by
+use Rattle.query.specs.Rows.{value_at, same_rows, count}
+use Rattle.query.specs.Aggregates.{aggregate, aggregate_of, known, together, plus, lesser, greater}
+use Rattle.query.proofs.SameCounts.{SameCounts}
+use Rattle.query.proofs.Groups.{same-aggregate}
 use Rattle.logical.specs.declared.expr.Aggregation.{Aggregation}
 use Rattle.logical.specs.Bags.{Env, Bag, total, SameRows, SameBag, group}
 use Rattle.logical.specs.Expressions.{with_aggregates}

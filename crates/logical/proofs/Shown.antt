@@ -9,10 +9,10 @@ use Rattle.std.proofs.lemmas.Bool.{eq-eqb, eqb-true, cond_both, or_left, or_righ
 use Rattle.schema.specs.Databases.{Row}
 use Rattle.values.specs.declared.value.Value.{Value}
 use Rattle.values.specs.Order.{order, same}
-use Rattle.binder.specs.declared.query.Item.{Item}
-use Rattle.binder.specs.Rows as rows
-use Rattle.binder.specs.Rows.{same_rows}
-use Rattle.binder.specs.Bound.{Scope}
+use Rattle.query.specs.declared.query.Item.{Item}
+use Rattle.query.specs.Rows as rows
+use Rattle.query.specs.Rows.{same_rows}
+use Rattle.query.specs.Bound.{Scope}
 use Rattle.logical.specs.Columns.{has, insert, rising}
 use Rattle.logical.specs.Bags.{Env, lay, same_on, distinct_on}
 use Rattle.logical.specs.Frames.{item_number, is_own, own_numbers}

@@ -6,7 +6,7 @@ use Rattle.values.specs.declared.truth.Truth.TheVariants as be
 use Rattle.values.specs.declared.truth.Comparison.{Comparison}
 use Rattle.values.specs.declared.truth.Comparison.TheVariants as by
 use Rattle.values.specs.Truth.{negation, conjunction, truth_of, is_true, is_null, compare}
-use Rattle.binder.specs.Meaning.{all_of, any_of}
+use Rattle.query.specs.Meaning.{all_of, any_of}
 use Rattle.logical.specs.declared.condition.Condition.{Condition, fold-roll-Condition}
 use Rattle.logical.specs.declared.condition.Condition.TheVariants.{Compare, IsNull, Not, And, Or, Exists, In, rolls-Compare, rolls-IsNull, rolls-Not, rolls-And, rolls-Or, rolls-Exists, rolls-In}
 use Rattle.logical.specs.declared.condition.Condition.TheOpen.{Condition-F}

@@ -1,8 +1,8 @@
 -- The classes of a list of founding expressions. The list stands last first, so that each expression names classes of its
 -- tail, and founds the class numbered by the tail's length.
 use Rattle.std.specs.Prelude.{ℕ, false, ◌-◌, ◌==◌, if◌then◌else◌, List, [], ◌∷◌, length, reverse}
-use Rattle.binder.specs.declared.query.TableUse.{TableUse}
-use Rattle.binder.specs.Rows.{Tables}
+use Rattle.query.specs.declared.query.TableUse.{TableUse}
+use Rattle.query.specs.Rows.{Tables}
 use Rattle.logical.specs.declared.expr.Expr.{Expr}
 use Rattle.logical.specs.Columns.{ColumnSet}
 use Rattle.logical.specs.Bags.{Bag}

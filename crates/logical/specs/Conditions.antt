@@ -5,7 +5,7 @@ use Rattle.values.specs.declared.truth.Truth.{Truth}
 use Rattle.values.specs.declared.truth.Comparison.TheVariants as by
 use Rattle.values.specs.declared.value.Value.{Value}
 use Rattle.values.specs.Truth.{negation, truth_of, is_true, is_null, compare}
-use Rattle.binder.specs.Meaning.{all_of, any_of}
+use Rattle.query.specs.Meaning.{all_of, any_of}
 use Rattle.logical.specs.declared.condition.Term.{Term}
 use Rattle.logical.specs.declared.condition.Term.TheVariants as term
 use Rattle.logical.specs.declared.condition.Condition.{Condition, fold-Condition}

@@ -2,11 +2,11 @@
 use Rattle.std.specs.Prelude.{ℕ, ◌-◌, Bool, true, false, not, ◌&&◌, ◌||◌, ◌==◌, nat_lt, if◌then◌else◌, List, [], ◌∷◌, ◌++◌, length, map, slice_get, Option, Some, None}
 use Rattle.std.specs.List.{list_any, list_all, range_with_len}
 use Rattle.schema.specs.Databases.{Row}
-use Rattle.binder.specs.declared.query.TableUse.{TableUse}
-use Rattle.binder.specs.declared.query.Aggregate.{Aggregate}
-use Rattle.binder.specs.declared.query.Aggregate.TheVariants as by
-use Rattle.binder.specs.Rows.{Tables, value_at}
-use Rattle.binder.specs.Aggregates.{aggregate_of}
+use Rattle.query.specs.declared.query.TableUse.{TableUse}
+use Rattle.query.specs.declared.query.Aggregate.{Aggregate}
+use Rattle.query.specs.declared.query.Aggregate.TheVariants as by
+use Rattle.query.specs.Rows.{Tables, value_at}
+use Rattle.query.specs.Aggregates.{aggregate_of}
 use Rattle.logical.specs.declared.condition.Condition.{Condition}
 use Rattle.logical.specs.declared.expr.Aggregation.{Aggregation}
 use Rattle.logical.specs.declared.expr.Expr.{Expr}

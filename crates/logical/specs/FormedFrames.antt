@@ -1,8 +1,8 @@
 -- The lines of a bound query's frame are well formed, each over the classes before it.
 use Rattle.std.specs.Prelude.{◌≡◌, ◌-◌, ◌<◌, Bool, true, nat_lt, List, [], ◌∷◌, length, reverse, flat_map}
-use Rattle.binder.specs.declared.query.TableUse.{TableUse}
-use Rattle.binder.specs.declared.query.Query.{Query}
-use Rattle.binder.specs.Bound.{is_bound}
+use Rattle.query.specs.declared.query.TableUse.{TableUse}
+use Rattle.query.specs.declared.query.Query.{Query}
+use Rattle.query.specs.Bound.{is_bound}
 use Rattle.logical.specs.declared.expr.Aggregation.{Aggregation}
 use Rattle.logical.specs.declared.expr.Expr.{Expr}
 use Rattle.logical.specs.declared.expr.Expr.TheVariants.{Group}

@@ -3,23 +3,23 @@
 use Rattle.std.specs.Prelude.{◌≡◌, ℕ, ◌==◌, Bool, true, false, if◌then◌else◌, List, [], ◌∷◌, ◌++◌, length, map, reverse, Option, Some, None}
 use Rattle.std.specs.List.{AllByRecursion}
 use Rattle.schema.specs.Databases.{Row}
-use Rattle.binder.specs.declared.query.Term as named
-use Rattle.binder.specs.declared.query.Term.TheVariants as place
-use Rattle.binder.specs.declared.query.Aggregate.{Aggregate}
-use Rattle.binder.specs.declared.query.Aggregate.TheVariants as by
-use Rattle.binder.specs.declared.query.Item.{Item}
-use Rattle.binder.specs.declared.query.Item.TheVariants as item
-use Rattle.binder.specs.declared.query.Occurrence.{Occurrence}
-use Rattle.binder.specs.declared.query.TableUse.{TableUse}
-use Rattle.binder.specs.declared.query.Cond.{Cond}
-use Rattle.binder.specs.declared.query.From.{From}
-use Rattle.binder.specs.declared.query.Block.{Block}
-use Rattle.binder.specs.declared.query.Query.{Query}
-use Rattle.binder.specs.declared.query.Cond.TheOpen.{Cond-F, From-F, Block-F}
-use Rattle.binder.specs.declared.query.Cond.TheFolds.{fold-Cond, fold-From, fold-Block}
-use Rattle.binder.specs.Rows.{Tables, IsFitting, count}
-use Rattle.binder.specs.Meaning.{often}
-use Rattle.binder.specs.Bound.{is_bound, Scope, number, number_at, use_numbers}
+use Rattle.query.specs.declared.query.Term as named
+use Rattle.query.specs.declared.query.Term.TheVariants as place
+use Rattle.query.specs.declared.query.Aggregate.{Aggregate}
+use Rattle.query.specs.declared.query.Aggregate.TheVariants as by
+use Rattle.query.specs.declared.query.Item.{Item}
+use Rattle.query.specs.declared.query.Item.TheVariants as item
+use Rattle.query.specs.declared.query.Occurrence.{Occurrence}
+use Rattle.query.specs.declared.query.TableUse.{TableUse}
+use Rattle.query.specs.declared.query.Cond.{Cond}
+use Rattle.query.specs.declared.query.From.{From}
+use Rattle.query.specs.declared.query.Block.{Block}
+use Rattle.query.specs.declared.query.Query.{Query}
+use Rattle.query.specs.declared.query.Cond.TheOpen.{Cond-F, From-F, Block-F}
+use Rattle.query.specs.declared.query.Cond.TheFolds.{fold-Cond, fold-From, fold-Block}
+use Rattle.query.specs.Rows.{Tables, IsFitting, count}
+use Rattle.query.specs.Meaning.{often}
+use Rattle.query.specs.Bound.{is_bound, Scope, number, number_at, use_numbers}
 use Rattle.logical.specs.declared.condition.Term.{Term}
 use Rattle.logical.specs.declared.condition.Term.TheVariants as term
 use Rattle.logical.specs.declared.condition.Condition.{Condition}

@@ -1,6 +1,6 @@
 -- The chain of scopes that is lent, as a list.
 use Rattle.std.specs.Prelude.{[], ◌∷◌}
-use Rattle.binder.specs.Bound.{Scope}
+use Rattle.query.specs.Bound.{Scope}
 use Rattle.logical.specs.declared.scope.Scope as lent
 use Rattle.logical.specs.declared.scope.Scope.{Outermost, Inner'}
 

@@ -5,7 +5,7 @@ ghost use Rattle.logical.specs.Equality as spec;
 
 use crate::columns::Columns;
 use crate::condition::Conjuncts;
-use binder::Aggregate;
+use query::Aggregate;
 use values::Items;
 
 /// An aggregate in a column of its own. Here the aggregate names the column that it reads by its number.

@@ -10,7 +10,7 @@ ghost use Rattle.logical.specs.Expressions as spec;
 use crate::columns::{Columns, are_apart, are_within};
 use crate::condition::{Condition, Conjuncts, Term};
 use crate::expr::{Aggregation, Expr};
-use binder::{Aggregate, TableUse};
+use query::{Aggregate, TableUse};
 use std::alloc::{AllocError, Global};
 
 /// Whether the column is one of a table occurrence.

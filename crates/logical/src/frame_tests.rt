@@ -4,7 +4,7 @@ use crate::condition::Conjuncts;
 use crate::condition_text::condition_text;
 use crate::expr::{Aggregation, Expr};
 use crate::query_frame;
-use binder::{Aggregate, Block, Column, Cond, From, Item, Occurrence, Query, TableUse, Term};
+use query::{Aggregate, Block, Column, Cond, From, Item, Occurrence, Query, TableUse, Term};
 use schema::{Kind, Table};
 use std::alloc::{AllocError, Global};
 use std::fmt::Write;

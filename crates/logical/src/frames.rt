@@ -1,8 +1,8 @@
 //! The frame of a query of any form.
 
 ghost use Rattle.std.specs.Prelude.{◌≡◌, ◌++◌, true, length, map, option_map, IfOk, OnOk};
-ghost use Rattle.binder.specs.declared.query.Block.{out-Block};
-ghost use Rattle.binder.specs.Bound.{is_bound, use_numbers};
+ghost use Rattle.query.specs.declared.query.Block.{out-Block};
+ghost use Rattle.query.specs.Bound.{is_bound, use_numbers};
 ghost use Rattle.logical.specs.Frames as spec;
 ghost use Rattle.logical.specs.Lent.{scope_of};
 
@@ -11,17 +11,17 @@ use crate::condition::{Condition, Conjuncts, Term};
 use crate::expr::{Aggregation, Expr};
 use crate::lines::Lines;
 use crate::scope::{Scope, number_at, use_numbers};
-use binder::{Aggregate, Block, Cond, From, Item, Occurrence, Query, TableUse};
+use query::{Aggregate, Block, Cond, From, Item, Occurrence, Query, TableUse};
 use std::alloc::{AllocError, Global};
 use values::{Boxed, Items};
 
 /// A term with its column's number.
-fn numbered(alloc: Global, term: &binder::Term, scope: &Scope<'_>) -> Result<Term, AllocError>
+fn numbered(alloc: Global, term: &query::Term, scope: &Scope<'_>) -> Result<Term, AllocError>
     ensures { IfOk result (λ t. t ≡ spec.numbered (scope_of scope.now) term.now) }
 {
     match term {
-        binder::Term::Column(column) => Ok(Term::Column(scope.number(*column))),
-        binder::Term::Literal(value) => Ok(Term::Literal(value.copy(alloc)?)),
+        query::Term::Column(column) => Ok(Term::Column(scope.number(*column))),
+        query::Term::Literal(value) => Ok(Term::Literal(value.copy(alloc)?)),
     }
 }
 

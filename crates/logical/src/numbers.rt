@@ -6,7 +6,7 @@ ghost use Rattle.logical.specs.Lent.{scope_of};
 
 use crate::frames::item_number;
 use crate::scope::{Scope, use_numbers};
-use binder::{From, Item, Query, TableUse};
+use query::{From, Item, Query, TableUse};
 use std::alloc::{AllocError, Global};
 
 fn append(mut left: Vec<usize>, right: Vec<usize>) -> Result<Vec<usize>, AllocError>

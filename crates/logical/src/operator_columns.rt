@@ -6,7 +6,7 @@ ghost use Rattle.logical.specs.Expressions as spec;
 
 use crate::columns::Columns;
 use crate::expr::Aggregation;
-use binder::TableUse;
+use query::TableUse;
 use std::alloc::{AllocError, Global};
 
 impl Columns {

@@ -1,10 +1,10 @@
 //! The numbers of the columns that a condition sees.
 
 ghost use Rattle.std.specs.Prelude.{◌≡◌, [], slice_index_or, IfOk};
-ghost use Rattle.binder.specs.Bound as bound;
+ghost use Rattle.query.specs.Bound as bound;
 ghost use Rattle.logical.specs.Lent.{scope_of};
 
-use binder::{Column, Occurrence, TableUse};
+use query::{Column, Occurrence, TableUse};
 use std::alloc::{AllocError, Global};
 
 /// The numbers of the innermost row's columns, and the scope around them.

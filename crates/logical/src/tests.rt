@@ -3,7 +3,7 @@
 ghost use Rattle.std.specs.Prelude.{◌≡◌, IfOk, length};
 
 use super::*;
-use binder::{Aggregate, TableUse};
+use query::{Aggregate, TableUse};
 use schema::{Column, Kind, Table};
 use std::alloc::{AllocError, Global};
 use values::{Boxed, Comparison, Items, Text, Value};

@@ -3,8 +3,8 @@ use Rattle.std.proofs.Common.{◌≡◌, refl, Bool, true, false, if◌then◌el
 use Rattle.std.specs.List.{list_any}
 use Rattle.std.proofs.lemmas.Cmp.{eq_by_cmp_equiv, lists_total}
 use Rattle.schema.specs.Databases.{Row}
-use Rattle.binder.specs.Rows.{same_rows, distinct}
-use Rattle.binder.proofs.Counting.{order-total, same_rows-equal}
+use Rattle.query.specs.Rows.{same_rows, distinct}
+use Rattle.query.proofs.Counting.{order-total, same_rows-equal}
 
 -- one more row comes last, unless it is there
 abbrev pub added : List Row → Row → List Row

@@ -3,8 +3,8 @@ use Rattle.std.proofs.Common.{◌≡◌, refl, ℕ, ◌+◌, ◌<◌, true, if�
 use Rattle.values.specs.declared.value.Value.{Value}
 use Rattle.values.specs.Truth.{is_null}
 use Rattle.schema.specs.Databases.{Row}
-use Rattle.binder.specs.Rows.{value_at}
-use Rattle.binder.specs.Aggregates.{known, group_of, groups}
+use Rattle.query.specs.Rows.{value_at}
+use Rattle.query.specs.Aggregates.{known, group_of, groups}
 use Rattle.oracle.specs.Given.{rows_at, values_of}
 use Rattle.oracle.proofs.Lists.{map-more, map-last}
 

@@ -1,8 +1,8 @@
 -- A loop's next item, in a list that is made of those so far.
 use Rattle.std.proofs.Common.{◌≡◌, refl, ℕ, zero, suc, ◌+◌, ◌<◌, List, [], ◌∷◌, ◌++◌, length, get_or, map, take, ap, sym, ◌∙◌, arith, None, filter}
 use Rattle.schema.specs.Databases.{Row}
-use Rattle.binder.specs.Rows.{Env, Tables}
-use Rattle.binder.specs.Meaning.{passes_filter}
+use Rattle.query.specs.Rows.{Env, Tables}
+use Rattle.query.specs.Meaning.{passes_filter}
 
 take-suc : {X : Type 0} (xs : List X) (i : ℕ) (x : X) → i < length xs → x ≡ get_or xs i x → take (suc i) xs ≡ take i xs ++ x ∷ []
 take-suc [] i x h is = absurd (omega arith)

@@ -7,15 +7,15 @@ use Rattle.schema.specs.declared.schema.Schema.{Schema}
 use Rattle.schema.specs.declared.schema.Table.{Table}
 use Rattle.schema.specs.declared.schema.Column.{Column}
 use Rattle.schema.specs.Databases.{Row, Database, FitsColumn, FitsColumns, Satisfies, SatisfyTables}
-use Rattle.binder.specs.declared.query.Cond.{Cond}
-use Rattle.binder.specs.declared.query.From.{From, roll-From}
-use Rattle.binder.specs.declared.query.Block.{Block}
-use Rattle.binder.specs.declared.query.From.TheVariants.{rolls-Table, rolls-Join, rolls-LeftJoin, rolls-Comma}
-use Rattle.binder.specs.declared.query.Cond.TheOpen.{From-F}
-use Rattle.binder.specs.declared.query.Cond.TheFolds.{ind-From, map-From}
-use Rattle.binder.specs.Rows.{Env, Tables, tables_of, nulls}
-use Rattle.binder.specs.Meaning.{CondMeaning, source, truth, or_else_row, pairs_of, matches, padded, passes}
-use Rattle.binder.proofs.Equations.{source-Table, source-Join, source-LeftJoin, source-Comma}
+use Rattle.query.specs.declared.query.Cond.{Cond}
+use Rattle.query.specs.declared.query.From.{From, roll-From}
+use Rattle.query.specs.declared.query.Block.{Block}
+use Rattle.query.specs.declared.query.From.TheVariants.{rolls-Table, rolls-Join, rolls-LeftJoin, rolls-Comma}
+use Rattle.query.specs.declared.query.Cond.TheOpen.{From-F}
+use Rattle.query.specs.declared.query.Cond.TheFolds.{ind-From, map-From}
+use Rattle.query.specs.Rows.{Env, Tables, tables_of, nulls}
+use Rattle.query.specs.Meaning.{CondMeaning, source, truth, or_else_row, pairs_of, matches, padded, passes}
+use Rattle.query.proofs.Equations.{source-Table, source-Join, source-LeftJoin, source-Comma}
 use Rattle.oracle.specs.Given.{IsShort, AreShort}
 use Rattle.oracle.proofs.Sums.{short-filter}
 

@@ -14,10 +14,10 @@ use Rattle.std.proofs.lemmas.List.Sorted.{ranks_by, sum_by-IsPermutation}
 use Rattle.std.proofs.lemmas.List.Sums.{sum_by-cons}
 use Rattle.values.specs.Order.{order}
 use Rattle.schema.specs.Databases.{Row}
-use Rattle.binder.specs.declared.query.SortKey.{SortKey}
-use Rattle.binder.specs.Rows.{value_at, same_rows, count}
-use Rattle.binder.specs.Answer.{key_order, keys_order, IsAllowed}
-use Rattle.binder.proofs.Counting.{order-total}
+use Rattle.query.specs.declared.query.SortKey.{SortKey}
+use Rattle.query.specs.Rows.{value_at, same_rows, count}
+use Rattle.query.specs.Answer.{key_order, keys_order, IsAllowed}
+use Rattle.query.proofs.Counting.{order-total}
 
 -- ---- the order of ORDER BY
 

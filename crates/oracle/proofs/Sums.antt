@@ -8,8 +8,8 @@ use Rattle.std.proofs.Math.Seq.{drop-cons}
 use Rattle.values.specs.declared.value.Value.{Value}
 use Rattle.values.specs.declared.value.Value.TheVariants.{Null, Int, Text}
 use Rattle.schema.specs.Databases.{Row}
-use Rattle.binder.specs.Rows.{value_at}
-use Rattle.binder.specs.Aggregates.{plus, together}
+use Rattle.query.specs.Rows.{value_at}
+use Rattle.query.specs.Aggregates.{plus, together}
 use Rattle.oracle.specs.Given.{IsShort, AreShort, IsHeld, rows_at, values_of}
 
 -- ---- how large a sum is

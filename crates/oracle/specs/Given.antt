@@ -7,7 +7,7 @@ use Rattle.values.specs.declared.value.Value.{Value}
 use Rattle.values.specs.declared.value.Value.TheVariants as value
 use Rattle.schema.specs.Databases.{Row}
 use Rattle.store.specs.Databases.{Stored}
-use Rattle.binder.specs.Rows as rows
+use Rattle.query.specs.Rows as rows
 use Rattle.oracle.specs.declared.environment.Env.{Env, Empty, Inner'}
 
 -- the rows of an environment, the innermost first

@@ -3,13 +3,13 @@
 ghost use Rattle.std.specs.Prelude.{◌≡◌, map, pos, IfOk};
 ghost use Rattle.std.specs.List.{AllByRecursion};
 ghost use Rattle.values.specs.Cells.{value_of};
-ghost use Rattle.binder.specs.Aggregates as spec;
-ghost use Rattle.binder.specs.Rows.{value_at};
+ghost use Rattle.query.specs.Aggregates as spec;
+ghost use Rattle.query.specs.Rows.{value_at};
 ghost use Rattle.oracle.specs.Given.{AreShort, IsHeld, IsShort, rows_at, values_of};
 
 use crate::environment::{is_null, value_at};
 use crate::rows::Row;
-use binder::Aggregate;
+use query::Aggregate;
 use std::alloc::{AllocError, Global};
 use std::cmp::Ordering;
 use values::{Cell, Value, order};

@@ -1,13 +1,13 @@
 //! The answer of a query.
 
 ghost use Rattle.std.specs.Prelude.{◌≡◌, IfOk};
-ghost use Rattle.binder.specs.Answer as spec;
+ghost use Rattle.query.specs.Answer as spec;
 ghost use Rattle.oracle.specs.Given.{tables_in};
 
 use crate::environment::{Env, value_at};
 use crate::evaluate::rows;
 use crate::rows::Row;
-use binder::{Query, SortKey};
+use query::{Query, SortKey};
 use std::alloc::{AllocError, Global};
 use std::cmp::Ordering;
 use store::Database;

@@ -3,15 +3,15 @@
 ghost use Rattle.std.specs.Prelude.{◌≡◌, ◌∷◌, [], map, filter, IfOk};
 ghost use Rattle.values.specs.Cells.{value_of};
 ghost use Rattle.schema.specs.Databases as databases;
-ghost use Rattle.binder.specs.Aggregates as groups;
-ghost use Rattle.binder.specs.Meaning as spec;
-ghost use Rattle.binder.specs.Rows as rows;
+ghost use Rattle.query.specs.Aggregates as groups;
+ghost use Rattle.query.specs.Meaning as spec;
+ghost use Rattle.query.specs.Rows as rows;
 ghost use Rattle.oracle.specs.Given.{AreShort, env_of, rows_at};
 
 use crate::aggregates::aggregate;
 use crate::environment::{Env, value_at};
 use crate::rows::{Row, distinct, same_rows};
-use binder::{Block, Item};
+use query::{Block, Item};
 use std::alloc::{AllocError, Global};
 use values::{Cell, Items, Value};
 

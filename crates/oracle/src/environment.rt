@@ -3,10 +3,10 @@
 ghost use Rattle.std.specs.Prelude.{◌≡◌, [], slice_index_or};
 ghost use Rattle.values.specs.Cells.{value_of};
 ghost use Rattle.values.specs.Truth as logic;
-ghost use Rattle.binder.specs.Rows as spec;
+ghost use Rattle.query.specs.Rows as spec;
 ghost use Rattle.oracle.specs.Given.{env_of};
 
-use binder::{Column, Term};
+use query::{Column, Term};
 use values::{Cell, Value};
 
 /// The innermost row, and the environment around it.

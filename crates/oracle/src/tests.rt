@@ -1,9 +1,8 @@
 //! Worked queries over two small tables, with the answers that SQL gives.
 
 use crate::{Row, meaning};
-use binder::{
-    Aggregate, Block, Column, Cond, From, Item, Occurrence, Query, SortKey, Term, bind_statement,
-};
+use binder::bind_statement;
+use query::{Aggregate, Block, Column, Cond, From, Item, Occurrence, Query, SortKey, Term};
 use schema::Schema;
 use sql_parse::parse_statement;
 use std::alloc::{AllocError, Global};

@@ -1,6 +1,6 @@
 -- The columns and the order that a plan delivers, by its root's node.
 use Rattle.std.proofs.Common.{◌≡◌, ap, sym, ◌∙◌, List, map}
-use Rattle.binder.specs.declared.query.TableUse.{TableUse}
+use Rattle.query.specs.declared.query.TableUse.{TableUse}
 use Rattle.logical.proofs.Loops.{two, map-map}
 use Rattle.physical.specs.declared.plan.Node.{Node}
 use Rattle.physical.specs.declared.plan.Plan.{Plan, out-Plan, fold_out-Plan}

@@ -6,8 +6,8 @@ use Rattle.std.specs.Ordering.{is_gt, flip_args, ordering_then}
 use Rattle.std.specs.List.{AllByRecursion}
 use Rattle.std.proofs.lemmas.Bool.{cond-true, not-true}
 use Rattle.values.specs.Order.{order}
-use Rattle.binder.specs.declared.query.TableUse.{TableUse}
-use Rattle.binder.specs.Rows.{Tables}
+use Rattle.query.specs.declared.query.TableUse.{TableUse}
+use Rattle.query.specs.Rows.{Tables}
 use Rattle.logical.specs.Columns.{ColumnSet, has}
 use Rattle.logical.specs.Bags.{Env, Bag, Test, lay, nulls, matches, or_else_row, distinct_on}
 use Rattle.logical.specs.Conditions.{holds}

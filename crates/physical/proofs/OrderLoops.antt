@@ -1,7 +1,7 @@
 -- A key of ORDER BY more.
 use Rattle.std.proofs.Common.{◌≡◌, refl, ap, sym, ◌∙◌, ℕ, ◌+◌, ◌<◌, List, [], ◌∷◌, ◌++◌, length, get_or, drop, append_assoc, Some, None, add-one, drop-cons}
 use Rattle.std.specs.List.{slice_get}
-use Rattle.binder.specs.declared.query.SortKey as order_by
+use Rattle.query.specs.declared.query.SortKey as order_by
 use Rattle.physical.specs.declared.plan.OrderKey.{OrderKey}
 use Rattle.physical.specs.Orders.{ordered_column, ordered_columns}
 

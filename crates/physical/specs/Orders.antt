@@ -2,10 +2,10 @@
 -- that what it plays stands in it.
 use Rattle.std.specs.Prelude.{◌≡◌, ℕ, false, not, if◌then◌else◌, List, [], ◌∷◌, map, slice_get, Option, Some, None}
 use Rattle.std.specs.Ordering.{is_gt}
-use Rattle.binder.specs.declared.query.TableUse.{TableUse}
-use Rattle.binder.specs.declared.query.SortKey as order_by
-use Rattle.binder.specs.declared.query.Query.{Query}
-use Rattle.binder.specs.Rows.{Tables}
+use Rattle.query.specs.declared.query.TableUse.{TableUse}
+use Rattle.query.specs.declared.query.SortKey as order_by
+use Rattle.query.specs.declared.query.Query.{Query}
+use Rattle.query.specs.Rows.{Tables}
 use Rattle.logical.specs.Columns.{ColumnSet, has}
 use Rattle.logical.specs.Bags.{Env}
 use Rattle.logical.specs.Frames.{query_numbers}

@@ -3,9 +3,9 @@
 -- first seen, is this project's profile.
 use Rattle.std.specs.Prelude.{ℕ, ◌==◌, if◌then◌else◌, List, [], ◌∷◌, ◌++◌, map, slice_get}
 use Rattle.schema.specs.Databases.{Row}
-use Rattle.binder.specs.declared.query.TableUse.{TableUse}
-use Rattle.binder.specs.declared.query.Query.{Query}
-use Rattle.binder.specs.Rows.{Tables}
+use Rattle.query.specs.declared.query.TableUse.{TableUse}
+use Rattle.query.specs.declared.query.Query.{Query}
+use Rattle.query.specs.Rows.{Tables}
 use Rattle.logical.specs.Columns.{has, rising}
 use Rattle.logical.specs.Bags.{Bag, Test, nulls, select, join, left_join, keep, distinct, group}
 use Rattle.logical.specs.Conditions.{holds, classes_in}

@@ -6,7 +6,7 @@ ghost use Rattle.physical.specs.Orders as spec;
 ghost use Rattle.physical.specs.Plays as plays;
 
 use crate::plan::{Node, OrderKey, Plan};
-use binder::{Query, SortKey, TableUse};
+use query::{Query, SortKey, TableUse};
 use logical::{Columns, query_numbers};
 use std::alloc::{AllocError, Global};
 

@@ -2,7 +2,7 @@
 
 use crate::order::{delivers, query_order};
 use crate::plan::{JoinKind, Node, OrderKey, Plan};
-use binder::{Block, Column, From, Item, Occurrence, Query, SortKey, TableUse};
+use query::{Block, Column, From, Item, Occurrence, Query, SortKey, TableUse};
 use logical::{Columns, Conjuncts};
 use schema::{Kind, Table};
 use std::alloc::{AllocError, Global};

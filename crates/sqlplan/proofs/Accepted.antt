@@ -1,7 +1,7 @@
 -- The check accepts a canonical certificate.
 use Rattle.std.proofs.Common.{◌≡◌, refl, ap, ℕ, true, List, [], ◌∷◌, map, length, reverse, Ok}
-use Rattle.binder.specs.declared.query.Query.{Query}
-use Rattle.binder.specs.Bound.{is_bound}
+use Rattle.query.specs.declared.query.Query.{Query}
+use Rattle.query.specs.Bound.{is_bound}
 use Rattle.logical.specs.declared.expr.Expr.{Expr}
 use Rattle.logical.specs.Classes.{class_columns}
 use Rattle.logical.specs.Frames.{query_frame}

@@ -6,8 +6,8 @@ use Rattle.std.proofs.lemmas.Bool.{le-leb}
 use Rattle.std.proofs.lemmas.Grind.{reverse_onto}
 use Rattle.std.proofs.lemmas.List.{length-reverse, length-take-le}
 use Rattle.std.proofs.lemmas.Option.{slice_get_within}
-use Rattle.binder.specs.declared.query.Query.{Query}
-use Rattle.binder.specs.Bound.{is_bound}
+use Rattle.query.specs.declared.query.Query.{Query}
+use Rattle.query.specs.Bound.{is_bound}
 use Rattle.logical.specs.declared.expr.Expr.{Expr}
 use Rattle.logical.specs.Equality.{same_expr}
 use Rattle.logical.specs.Expressions.{classes_pass}

@@ -4,8 +4,8 @@ use Rattle.std.specs.List.{slice_get, list_all}
 use Rattle.std.specs.Coded.{coded_list}
 use Rattle.std.proofs.lemmas.Bool.{and_from}
 use Rattle.std.proofs.Math.Seq.{take-length}
-use Rattle.binder.specs.declared.query.SortKey as order_by
-use Rattle.binder.specs.declared.query.Query.{Query}
+use Rattle.query.specs.declared.query.SortKey as order_by
+use Rattle.query.specs.declared.query.Query.{Query}
 use Rattle.logical.specs.declared.expr.Expr.{Expr}
 use Rattle.logical.specs.Columns.{has, within}
 use Rattle.logical.specs.Frames.{query_numbers}

@@ -10,11 +10,11 @@ use Rattle.sql_parse.specs.declared.statement.Statement.{Statement}
 use Rattle.sql_parse.specs.Statements.{ReadsStatement}
 use Rattle.store.specs.Databases.{Stored}
 use Rattle.store.specs.Devices.{Rose}
-use Rattle.binder.specs.declared.query.Query.{Query}
+use Rattle.query.specs.declared.query.Query.{Query}
 use Rattle.binder.specs.declared.fault.BindRefusal.{BindRefusal}
 use Rattle.binder.specs.Queries.{bound_statement}
-use Rattle.binder.specs.Answer.{IsAnswer}
-use Rattle.binder.specs.Rows.{tables_of}
+use Rattle.query.specs.Answer.{IsAnswer}
+use Rattle.query.specs.Rows.{tables_of}
 use Rattle.binder.proofs.BoundStatements.{statements_bound, statements_over}
 use Rattle.binder.proofs.PlainStatements.{statements_plain}
 use Rattle.physical.specs.Plays.{answer}

@@ -2,7 +2,7 @@
 -- sort stands on top of all is this project's profile.
 use Rattle.std.specs.Prelude.{◌≡◌, ℕ, Bool, true, false, not, ◌&&◌, nat_lt, List, [], ◌∷◌, map, slice_get, Some, Ok}
 use Rattle.std.specs.List.{list_all}
-use Rattle.binder.specs.declared.query.Query.{Query}
+use Rattle.query.specs.declared.query.Query.{Query}
 use Rattle.logical.specs.declared.expr.Expr.{Expr}
 use Rattle.logical.specs.Expressions.{classes_pass}
 use Rattle.logical.specs.Frames.{query_frame, is_framed}

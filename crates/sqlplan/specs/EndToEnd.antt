@@ -9,11 +9,11 @@ use Rattle.sql_parse.specs.Statements.{ReadsStatement, IsStatementFault}
 use Rattle.store.specs.declared.fault.TableRefusal.{TableRefusal}
 use Rattle.store.specs.Devices.{Rose}
 use Rattle.store.specs.Tables.{records_of, IsTold}
-use Rattle.binder.specs.declared.query.Query.{Query}
+use Rattle.query.specs.declared.query.Query.{Query}
 use Rattle.binder.specs.declared.fault.BindRefusal.{BindRefusal}
 use Rattle.binder.specs.Queries.{bound_statement}
-use Rattle.binder.specs.Rows.{tables_of}
-use Rattle.binder.specs.Answer.{IsAnswer}
+use Rattle.query.specs.Rows.{tables_of}
+use Rattle.query.specs.Answer.{IsAnswer}
 use Rattle.checker.specs.declared.certificate.Certificate.{Certificate}
 use Rattle.physical.specs.Plays.{answer}
 use Rattle.checker.specs.Replay.{IsChecked}

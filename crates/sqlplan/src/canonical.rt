@@ -1,14 +1,14 @@
 //! The certificate that follows a query's frame, operator by operator.
 
 ghost use Rattle.std.specs.Prelude.{◌≡◌, ◌<◌, IfOk, Ok, true, length, map};
-ghost use Rattle.binder.specs.Bound.{is_bound};
+ghost use Rattle.query.specs.Bound.{is_bound};
 ghost use Rattle.logical.specs.Frames.{is_framed};
 ghost use Rattle.physical.specs.Orders as orders;
 ghost use Rattle.checker.specs.declared.certificate.Line.TheVariants.{Founds};
 ghost use Rattle.checker.specs.Replay.{replayed};
 ghost use Rattle.sqlplan.specs.Canonical as spec;
 
-use binder::Query;
+use query::Query;
 use checker::{Certificate, Line};
 use logical::{Expr, query_frame};
 use physical::{JoinKind, Node, Plan, query_order};

@@ -1,10 +1,11 @@
 //! The canonical certificates of three queries: their lines as values, and their plans as texts.
 
 ghost use Rattle.std.specs.Prelude.{◌≡◌, true};
-ghost use Rattle.binder.specs.Bound.{is_bound};
+ghost use Rattle.query.specs.Bound.{is_bound};
 
 use crate::canonical::canonical;
-use binder::{Aggregate, Query, bind_statement};
+use binder::bind_statement;
+use query::{Aggregate, Query};
 use checker::Line;
 use logical::{Aggregation, Columns, Condition, Conjuncts, Expr, Term};
 use physical::{JoinKind, Node, Plan};

@@ -1,7 +1,7 @@
 use Rattle.std.proofs.Common.{◌≡◌, drop}
 use Rattle.std.specs.HashMap as hash
 use Rattle.binder.specs.contracts.named.IdentityPartialEq.TheImpl.{eq-value}
-use Rattle.binder.specs.declared.query.Item.{Item}
+use Rattle.query.specs.declared.query.Item.{Item}
 use Rattle.binder.specs.Ordering.{same_item}
 use Rattle.binder.specs.Named.{identity_of}
 use Rattle.binder.proofs.Naming.{first_at}

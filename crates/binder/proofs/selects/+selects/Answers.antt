@@ -2,10 +2,10 @@ use Rattle.std.proofs.Common.{◌≡◌, refl, ◌∙◌, ap, sym, ◌-◌, leng
 use Rattle.std.proofs.lemmas.Result.{err_from_is_err_and}
 use Rattle.sql_parse.specs.declared.statement.Chain.{out-Chain}
 use Rattle.sql_parse.specs.declared.statement.Select.{out-Select}
-use Rattle.binder.specs.declared.query.Cond.{Cond}
-use Rattle.binder.specs.declared.query.Cond.TheVariants as cond
-use Rattle.binder.specs.declared.query.Block.{Block}
-use Rattle.binder.specs.declared.query.From.{From}
+use Rattle.query.specs.declared.query.Cond.{Cond}
+use Rattle.query.specs.declared.query.Cond.TheVariants as cond
+use Rattle.query.specs.declared.query.Block.{Block}
+use Rattle.query.specs.declared.query.From.{From}
 use Rattle.binder.specs.declared.output.Output.{Output}
 use Rattle.binder.specs.Numbers.{with_aggregates}
 use Rattle.binder.specs.Outputs.{is_grouped}

@@ -1,6 +1,6 @@
 use Rattle.std.proofs.Common.{◌≡◌, ◌≤◌, ◌+◌, length, drop, map}
 use Rattle.values.specs.Cells.{value_of}
-use Rattle.binder.specs.Aggregates.{known}
+use Rattle.query.specs.Aggregates.{known}
 use Rattle.executor.proofs.aggregates.known.Given as goal
 
 abbrev pub invariant-loop-left : goal.invariant-loop-left

@@ -1,6 +1,6 @@
 use Rattle.std.proofs.Common.{◌≡◌, ◌≤◌, length, drop, map}
 use Rattle.values.specs.Cells.{value_of}
-use Rattle.binder.specs.Aggregates.{together, lesser}
+use Rattle.query.specs.Aggregates.{together, lesser}
 use Rattle.executor.proofs.aggregates.least.Given as goal
 
 abbrev pub invariant-loop-left : goal.invariant-loop-left

@@ -1,8 +1,8 @@
 use Rattle.std.proofs.Common.{◌≡◌, List, IfOk, sym, ◌∙◌, ap, subst}
 use Rattle.std.proofs.lemmas.Result.{IfOk-weaker}
 use Rattle.schema.specs.Databases.{Row}
-use Rattle.binder.specs.Answer.{IsAnswer}
-use Rattle.binder.specs.Rows.{tables_of}
+use Rattle.query.specs.Answer.{IsAnswer}
+use Rattle.query.specs.Rows.{tables_of}
 use Rattle.logical.specs.Bags.{nulls}
 use Rattle.physical.specs.Plays.{play}
 use Rattle.executor.specs.Execution.{tables_in}

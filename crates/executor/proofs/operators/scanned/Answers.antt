@@ -2,7 +2,7 @@ use Rattle.std.proofs.Common.{◌≡◌, refl, ap, sym, ◌∙◌, length, slice
 use Rattle.std.specs.List.{range_with_len}
 use Rattle.std.proofs.lemmas.List.FromFn.{length-range_with_len}
 use Rattle.std.proofs.lemmas.Option.{slice_get_read}
-use Rattle.binder.specs.Rows.{tables_of}
+use Rattle.query.specs.Rows.{tables_of}
 use Rattle.logical.specs.Expressions.{get_columns, get_rows, use_columns}
 use Rattle.executor.proofs.RelationRows.{table-rows}
 use Rattle.executor.proofs.operators.scanned.Goals as goal

@@ -4,7 +4,7 @@ use Rattle.values.specs.declared.cell.Cell.{Cell}
 use Rattle.values.specs.declared.cell.Cell.TheVariants.{Null, Int, Text}
 use Rattle.values.specs.declared.truth.Comparison.TheVariants as by
 use Rattle.values.specs.Truth.{truth_of, is_null, compare}
-use Rattle.binder.specs.Meaning.{any_of}
+use Rattle.query.specs.Meaning.{any_of}
 use Rattle.logical.specs.Conditions.{truth}
 use Rattle.logical.proofs.Truths.{truth-Compare, truth-IsNull, truth-Not, truth-And, truth-Or, truth-Exists, truth-In}
 use Rattle.executor.specs.Relations.{env_of, subqueries_given}

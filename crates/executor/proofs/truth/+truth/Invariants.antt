@@ -1,5 +1,5 @@
 use Rattle.std.proofs.Common.{◌≡◌, map, take}
-use Rattle.binder.specs.Meaning.{all_of, any_of}
+use Rattle.query.specs.Meaning.{all_of, any_of}
 use Rattle.logical.specs.Conditions.{truth}
 use Rattle.executor.specs.Relations.{env_of, subqueries_given}
 use Rattle.executor.proofs.truth.+truth.Given as goal

@@ -2,7 +2,7 @@ use Rattle.std.proofs.Common.{◌≡◌, map, take}
 use Rattle.values.specs.Cells.{value_of}
 use Rattle.values.specs.declared.truth.Comparison.TheVariants as by
 use Rattle.values.specs.Truth.{compare}
-use Rattle.binder.specs.Meaning.{any_of}
+use Rattle.query.specs.Meaning.{any_of}
 use Rattle.executor.specs.Relations.{env_of, row_env}
 use Rattle.executor.proofs.truth.equals_some.Given as goal
 

@@ -1,5 +1,5 @@
 use Rattle.std.proofs.Common.{◌≡◌, map, take}
-use Rattle.binder.specs.Bound.{number_at}
+use Rattle.query.specs.Bound.{number_at}
 use Rattle.logical.proofs.frames.key_columns.Given as goal
 
 abbrev pub invariant-loop-key : goal.invariant-loop-key

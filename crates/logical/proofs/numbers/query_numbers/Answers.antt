@@ -1,5 +1,5 @@
 use Rattle.std.proofs.Common.{◌≡◌, ap, ◌∙◌, subst, List, [], ◌∷◌, ℕ, map, IfOk}
-use Rattle.binder.specs.declared.query.Block.{out-Block}
+use Rattle.query.specs.declared.query.Block.{out-Block}
 use Rattle.logical.specs.Frames.{item_number}
 use Rattle.logical.proofs.Loops.{two}
 use Rattle.logical.proofs.QueryNumbers.{numbers_of, item-numbers}

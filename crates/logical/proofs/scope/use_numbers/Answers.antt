@@ -1,9 +1,9 @@
 use Rattle.std.proofs.Common.{◌≡◌, rules, refl, ap, sym, ◌∙◌, ℕ, List, length, Some, arith}
 use Rattle.std.specs.List.{range_with_len, slice_get}
 use Rattle.std.proofs.lemmas.Option.{slice_get_read}
-use Rattle.binder.specs.declared.query.Occurrence.{Occurrence}
-use Rattle.binder.specs.declared.query.TableUse.{TableUse}
-use Rattle.binder.specs.Bound.{numbers_of_use, use_numbers}
+use Rattle.query.specs.declared.query.Occurrence.{Occurrence}
+use Rattle.query.specs.declared.query.TableUse.{TableUse}
+use Rattle.query.specs.Bound.{numbers_of_use, use_numbers}
 use Rattle.logical.proofs.Sets.{run_more}
 use Rattle.logical.proofs.scope.use_numbers.Goals as goal
 

@@ -1,6 +1,6 @@
 use Rattle.std.proofs.Common.{◌≡◌, ◌≤◌, length, drop}
 use Rattle.values.specs.Cells.{value_of}
-use Rattle.binder.specs.Aggregates.{together, greater}
+use Rattle.query.specs.Aggregates.{together, greater}
 use Rattle.oracle.specs.Given.{values_of}
 use Rattle.oracle.proofs.aggregates.greatest.Given as goal
 

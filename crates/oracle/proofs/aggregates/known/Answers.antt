@@ -1,7 +1,7 @@
 use Rattle.std.proofs.Common.{◌≡◌, ◌∙◌, ◌+◌, ap, sym, if◌then◌else◌, take, arith, ℕ}
 use Rattle.values.specs.Truth.{is_null}
-use Rattle.binder.specs.Rows.{value_at}
-use Rattle.binder.specs.Aggregates.{known}
+use Rattle.query.specs.Rows.{value_at}
+use Rattle.query.specs.Aggregates.{known}
 use Rattle.oracle.specs.Given.{values_of}
 use Rattle.oracle.proofs.Grouping.{known-more}
 use Rattle.oracle.proofs.aggregates.known.Goals.{then-not-is_null, else-not-is_null}

@@ -1,5 +1,5 @@
 use Rattle.std.proofs.Common.{◌≡◌, ◌≤◌, take}
-use Rattle.binder.specs.Aggregates.{known}
+use Rattle.query.specs.Aggregates.{known}
 use Rattle.oracle.specs.Given.{values_of}
 use Rattle.oracle.proofs.aggregates.known.Given as goal
 

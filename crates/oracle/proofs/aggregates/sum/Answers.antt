@@ -1,7 +1,7 @@
 use Rattle.std.proofs.Common.{◌≡◌, ◌∙◌, ◌+◌, ◌-◌, ap, drop, arith}
 use Rattle.values.specs.Cells.{value_of}
-use Rattle.binder.specs.Rows.{value_at}
-use Rattle.binder.specs.Aggregates.{together, plus}
+use Rattle.query.specs.Rows.{value_at}
+use Rattle.query.specs.Aggregates.{together, plus}
 use Rattle.oracle.specs.Given.{values_of}
 use Rattle.oracle.proofs.Sums.{held-next}
 use Rattle.oracle.proofs.aggregates.sum.Goals as goal

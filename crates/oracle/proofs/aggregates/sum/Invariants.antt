@@ -1,5 +1,5 @@
 use Rattle.std.proofs.Common.{◌≡◌, ◌≤◌, ◌<◌, ◌^◌, length, drop}
-use Rattle.binder.specs.Aggregates.{together, plus}
+use Rattle.query.specs.Aggregates.{together, plus}
 use Rattle.oracle.specs.Given.{values_of}
 use Rattle.oracle.proofs.aggregates.sum.Given as goal
 

@@ -1,6 +1,6 @@
 use Rattle.std.proofs.Common.{◌∙◌, ap, rules}
-use Rattle.binder.specs.Rows.{count}
-use Rattle.binder.specs.Answer.{keys_order}
+use Rattle.query.specs.Rows.{count}
+use Rattle.query.specs.Answer.{keys_order}
 use Rattle.oracle.proofs.Sorting.{keys_total, sorted_by, allowed, count-sorted}
 use Rattle.oracle.proofs.answer.meaning.Goals as goal
 

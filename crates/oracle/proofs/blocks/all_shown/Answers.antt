@@ -1,7 +1,7 @@
 use Rattle.std.proofs.Common.{◌≡◌, ◌∙◌, ap, sym, subst, IfOk, List, ℕ, Bool, true}
 use Rattle.schema.specs.Databases.{Row}
-use Rattle.binder.specs.declared.query.Item.{Item}
-use Rattle.binder.specs.Meaning as spec
+use Rattle.query.specs.declared.query.Item.{Item}
+use Rattle.query.specs.Meaning as spec
 use Rattle.oracle.specs.Given.{env_of}
 use Rattle.oracle.proofs.blocks.all_shown.Goals as goal
 

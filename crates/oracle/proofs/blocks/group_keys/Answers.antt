@@ -1,5 +1,5 @@
 use Rattle.std.proofs.Common.{◌≡◌, ◌∙◌, ap, [], ◌∷◌, length, map, rules}
-use Rattle.binder.specs.Aggregates.{group_of}
+use Rattle.query.specs.Aggregates.{group_of}
 use Rattle.oracle.proofs.Grouping.{one-group}
 use Rattle.oracle.proofs.blocks.group_keys.Goals as goal
 

@@ -1,5 +1,5 @@
 use Rattle.std.proofs.Common.{◌≡◌, map, take}
-use Rattle.binder.specs.Meaning.{item_of_group}
+use Rattle.query.specs.Meaning.{item_of_group}
 use Rattle.oracle.specs.Given.{env_of, rows_at}
 use Rattle.oracle.proofs.blocks.items_of_group.Given as goal
 

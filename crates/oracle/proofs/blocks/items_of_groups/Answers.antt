@@ -1,8 +1,8 @@
 use Rattle.std.proofs.Common.{◌≡◌, ◌∙◌, ap, sym, subst, List, [], ◌∷◌, ◌++◌, map, filter, take, arith}
 use Rattle.schema.specs.Databases.{Row, values_at}
-use Rattle.binder.specs.Rows.{same_rows}
-use Rattle.binder.specs.Aggregates.{Group, group_of}
-use Rattle.binder.specs.Meaning.{item_of_group}
+use Rattle.query.specs.Rows.{same_rows}
+use Rattle.query.specs.Aggregates.{Group, group_of}
+use Rattle.query.specs.Meaning.{item_of_group}
 use Rattle.oracle.specs.Given.{AreShort, env_of, rows_at}
 use Rattle.oracle.proofs.Lists.{map-more, map-last}
 use Rattle.oracle.proofs.Sums.{short-filter}

@@ -1,6 +1,6 @@
 use Rattle.std.proofs.Common.{◌≡◌, map, take}
-use Rattle.binder.specs.Aggregates.{group_of}
-use Rattle.binder.specs.Meaning.{item_of_group}
+use Rattle.query.specs.Aggregates.{group_of}
+use Rattle.query.specs.Meaning.{item_of_group}
 use Rattle.oracle.specs.Given.{env_of}
 use Rattle.oracle.proofs.blocks.items_of_groups.Given as goal
 

@@ -1,6 +1,6 @@
 use Rattle.std.proofs.Common.{◌∙◌, ap, sym, List, [], ◌∷◌, ◌++◌, map, take, arith}
 use Rattle.schema.specs.Databases.{Row}
-use Rattle.binder.specs.Meaning.{item_of_row}
+use Rattle.query.specs.Meaning.{item_of_row}
 use Rattle.oracle.specs.Given.{env_of}
 use Rattle.oracle.proofs.Lists.{map-more}
 use Rattle.oracle.proofs.blocks.items_of_rows.Goals as goal

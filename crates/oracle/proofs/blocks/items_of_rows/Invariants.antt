@@ -1,5 +1,5 @@
 use Rattle.std.proofs.Common.{◌≡◌, map, take}
-use Rattle.binder.specs.Meaning.{item_of_row}
+use Rattle.query.specs.Meaning.{item_of_row}
 use Rattle.oracle.specs.Given.{env_of}
 use Rattle.oracle.proofs.blocks.items_of_rows.Given as goal
 

@@ -1,6 +1,6 @@
 use Rattle.std.proofs.Common.{◌≡◌, filter, take}
 use Rattle.schema.specs.Databases.{values_at}
-use Rattle.binder.specs.Rows.{same_rows}
+use Rattle.query.specs.Rows.{same_rows}
 use Rattle.oracle.specs.Given.{rows_at}
 use Rattle.oracle.proofs.blocks.members.Given as goal
 

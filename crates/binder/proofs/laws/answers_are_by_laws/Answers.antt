@@ -1,5 +1,0 @@
-use Rattle.binder.proofs.Unique.{answers_by_laws}
-use Rattle.binder.proofs.laws.answers_are_by_laws.Goals as goal
-
-pub returns : goal.returns
-returns c = answers_by_laws

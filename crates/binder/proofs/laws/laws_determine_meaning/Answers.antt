@@ -1,5 +1,0 @@
-use Rattle.binder.proofs.Unique.{laws_determine}
-use Rattle.binder.proofs.laws.laws_determine_meaning.Goals as goal
-
-pub returns : goal.returns
-returns c = laws_determine

@@ -1,5 +1,0 @@
-use Rattle.binder.proofs.Obeys.{meaning_obeys}
-use Rattle.binder.proofs.laws.meaning_obeys_laws.Goals as goal
-
-pub returns : goal.returns
-returns c = meaning_obeys

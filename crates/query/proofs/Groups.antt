@@ -1,0 +1,179 @@
+-- What a block shows depends on how often each row comes alone, and on no order of the rows.
+use Rattle.std.proofs.Common.{◌≡◌, refl, ℕ, suc, ◌+◌, Bool, true, false, if◌then◌else◌, min, List, [], ◌∷◌, length, map, ap, sym, ◌∙◌, arith, pos}
+use Rattle.std.proofs.lemmas.Int.{ints}
+use Rattle.std.proofs.lemmas.Cmp.{upto, then_total, on_total, back_total, nat_cmp_total}
+use Rattle.std.specs.declared.cmp.Ordering.{Ordering}
+use Rattle.std.specs.declared.cmp.Ordering.TheVariants.{Less, Equal, Greater}
+use Rattle.std.specs.Ordering.{is_gt, nat_cmp, on, then_cmp, flip_args, ordering_then, ordering_reverse}
+use Rattle.std.specs.Cmp.{IsTotalOrder}
+use Rattle.std.specs.FinMap.{IsAntisymmetric}
+use Rattle.values.specs.declared.value.Value.{Value}
+use Rattle.values.specs.declared.value.Value.TheVariants.{Null, Int, Text}
+use Rattle.values.specs.Order.{order}
+use Rattle.values.specs.Truth.{is_null}
+use Rattle.schema.specs.Databases.{Row, values_at}
+use Rattle.query.specs.declared.query.Aggregate.{Aggregate}
+use Rattle.query.specs.declared.query.Aggregate.TheVariants as by
+use Rattle.query.specs.declared.query.Item.{Item}
+use Rattle.query.specs.declared.query.Item.TheVariants as item
+use Rattle.query.specs.declared.query.Block.{Block}
+use Rattle.query.specs.Rows.{Env, value_at, same_rows, count, distinct}
+use Rattle.query.specs.Aggregates.{Group, plus, lesser, greater, together, known, aggregate, group_of}
+use Rattle.query.specs.Meaning.{item_of_row, item_of_group, all_shown, shown}
+use Rattle.query.specs.Laws.{number_shown}
+use Rattle.query.proofs.Counting.{order-total, order-antisymmetric, count-distinct}
+use Rattle.query.proofs.SameCounts.{SameCounts, same-fold, same-map, same-filter, same-distinct}
+
+-- ---- the steps of aggregates may be exchanged
+
+plus-swap : (a x m : Value) → plus a (plus x m) ≡ plus x (plus a m)
+plus-swap Null x m = refl
+plus-swap (Text t) x m = refl
+plus-swap (Int a) Null m = refl
+plus-swap (Int a) (Text t) m = refl
+plus-swap (Int a) (Int b) Null = ap Int (omega (arith, ints))
+plus-swap (Int a) (Int b) (Text t) = ap Int (omega (arith, ints))
+plus-swap (Int a) (Int b) (Int c) = ap Int (omega (arith, ints))
+
+-- the first of two values in an order
+abbrev first_by : (Value → Value → Ordering) → Value → Value → Value
+first_by R v w = if is_gt (R v w) then w else v
+
+module _ (R : Value → Value → Ordering) (total : IsTotalOrder R) (anti : IsAntisymmetric R) where
+  not-both : (a b : Value) → is_gt (R a b) ≡ true → is_gt (R b a) ≡ false
+  not-both a b h = rw (total.antisymm b a) (reversed (R a b) h)
+    where
+      reversed : (o : Ordering) → is_gt o ≡ true → is_gt (ordering_reverse o) ≡ false
+      reversed Less h = cc
+      reversed Equal h = cc
+      reversed Greater h = refl
+
+  neither-equal : (a b : Value) → is_gt (R a b) ≡ false → is_gt (R b a) ≡ false → a ≡ b
+  neither-equal a b h g = anti a b (neither (R a b) h (rw (total.antisymm b a) at g))
+    where
+      neither : (o : Ordering) → is_gt o ≡ false → is_gt (ordering_reverse o) ≡ false → o ≡ Equal
+      neither Less h g = cc
+      neither Equal h g = refl
+      neither Greater h g = cc
+
+  first-second : (a b : Value) → is_gt (R b a) ≡ false → first_by R a b ≡ b
+  first-second a b h = by (is_gt (R a b)) refl
+    where
+      by : (c : Bool) → is_gt (R a b) ≡ c → (if c then b else a) ≡ b
+      by true e = refl
+      by false e = neither-equal a b e h
+
+  first-comm : (a b : Value) → first_by R a b ≡ first_by R b a
+  first-comm a b = by (is_gt (R a b)) refl
+    where
+      by : (c : Bool) → is_gt (R a b) ≡ c → (if c then b else a) ≡ first_by R b a
+      by true e = sym (ap (λ d. if d then a else b) (not-both a b e))
+      by false e = sym (first-second b a e)
+
+  first-swap : (a x m : Value) → first_by R a (first_by R x m) ≡ first_by R x (first_by R a m)
+  first-swap a x m = by (is_gt (R x m)) refl (is_gt (R a m)) refl
+    where
+      by : (b : Bool) → is_gt (R x m) ≡ b → (c : Bool) → is_gt (R a m) ≡ c → first_by R a (if b then m else x) ≡ first_by R x (if c then m else a)
+      by true e true f = ap (λ d. if d then m else a) f ∙ sym (ap (λ d. if d then m else x) e)
+      by true e false f = ap (λ d. if d then m else a) f ∙ sym (first-second x a (upto total a m x f (not-both x m e)))
+      by false e true f = first-second a x (upto total x m a e (not-both a m f)) ∙ sym (ap (λ d. if d then m else x) e)
+      by false e false f = first-comm a x
+
+-- the order of values, but Null is last
+null_rank : Value → ℕ
+null_rank Null = 1
+null_rank (Int n) = 0
+null_rank (Text t) = 0
+
+abbrev null_last : Value → Value → Ordering
+null_last = then_cmp (on null_rank nat_cmp) order
+
+null_last-antisymmetric : IsAntisymmetric null_last
+null_last-antisymmetric a b h = order-antisymmetric a b (second (on null_rank nat_cmp a b) (order a b) h)
+  where
+    second : (o p : Ordering) → ordering_then o p ≡ Equal → p ≡ Equal
+    second Less p h = cc
+    second Equal p h = h
+    second Greater p h = cc
+
+lesser-first : (v w : Value) → lesser v w ≡ first_by null_last v w
+unfolding null_rank
+lesser-first Null Null = refl
+lesser-first Null (Int n) = refl
+lesser-first Null (Text t) = refl
+lesser-first (Int m) Null = refl
+lesser-first (Int m) (Int n) = refl
+lesser-first (Int m) (Text t) = refl
+lesser-first (Text s) Null = refl
+lesser-first (Text s) (Int n) = refl
+lesser-first (Text s) (Text t) = refl
+
+back-antisymmetric : IsAntisymmetric (flip_args order)
+back-antisymmetric a b h = sym (order-antisymmetric b a h)
+
+greater-first : (v w : Value) → greater v w ≡ first_by (flip_args order) v w
+greater-first v w = first-comm (flip_args order) (back_total order-total) back-antisymmetric w v
+
+swap-by : (f : Value → Value → Value) (R : Value → Value → Ordering) → IsTotalOrder R → IsAntisymmetric R → ((v w : Value) → f v w ≡ first_by R v w)
+    → (a x m : Value) → f a (f x m) ≡ f x (f a m)
+swap-by f R total anti is a x m =
+    is a (f x m) ∙ ap (first_by R a) (is x m) ∙ first-swap R total anti a x m ∙ sym (is x (f a m) ∙ ap (first_by R x) (is a m))
+
+lesser-swap : (a x m : Value) → lesser a (lesser x m) ≡ lesser x (lesser a m)
+lesser-swap = swap-by lesser null_last (then_total (on_total null_rank nat_cmp_total) order-total) null_last-antisymmetric lesser-first
+
+greater-swap : (a x m : Value) → greater a (greater x m) ≡ greater x (greater a m)
+greater-swap = swap-by greater (flip_args order) (back_total order-total) back-antisymmetric greater-first
+
+-- ---- a group's row
+
+same-together : (f : Value → Value → Value) → ((a x m : Value) → f a (f x m) ≡ f x (f a m)) → (place : ℕ) (G H : List Row) → SameCounts G H → together f (map (value_at place) G) ≡ together f (map (value_at place) H)
+same-together f swap place G H h = same-fold (λ L. together f (map (value_at place) L)) (λ x v. f (value_at place x) v) (record { first = λ x L. refl; swap = λ a x v. swap (value_at place a) (value_at place x) v }) G H h
+
+pub same-aggregate : (a : Aggregate) (G H : List Row) → SameCounts G H → aggregate a G ≡ aggregate a H
+same-aggregate by.CountRows G H h = ap (λ n. Int (pos n)) (same-fold length (λ x n. suc n) (record { first = λ x L. refl; swap = λ a x n. refl }) G H h)
+same-aggregate (by.Count c) G H h = ap (λ n. Int (pos n)) (same-fold (λ L. known (map (value_at c) L)) (λ x n. (if is_null (value_at c x) then 0 else 1) + n) (record { first = λ x L. refl; swap = λ a x n. omega arith }) G H h)
+same-aggregate (by.Sum c) G H h = same-together plus plus-swap c G H h
+same-aggregate (by.Min c) G H h = same-together lesser lesser-swap c G H h
+same-aggregate (by.Max c) G H h = same-together greater greater-swap c G H h
+
+same-item : (keys : List ℕ) (e : Env) (key : Row) (G H : List Row) → SameCounts G H → (i : Item) → item_of_group keys e (record { key = key; rows = G }) i ≡ item_of_group keys e (record { key = key; rows = H }) i
+same-item keys e key G H h (item.Column c) = refl
+same-item keys e key G H h (item.Aggregate n a) = same-aggregate a G H h
+
+same-group : (keys : List ℕ) (items : List Item) (e : Env) (key : Row) (G H : List Row) → SameCounts G H
+    → map (item_of_group keys e (record { key = key; rows = G })) items ≡ map (item_of_group keys e (record { key = key; rows = H })) items
+same-group keys [] e key G H h = refl
+same-group keys (i ∷ items) e key G H h = cc (same-item keys e key G H h i, same-group keys items e key G H h)
+
+-- ---- what a block shows
+
+map-groups : (f : Group → Row) (g : Row → Group) (K : List Row) → map f (map g K) ≡ map (λ key. f (g key)) K
+map-groups f g [] = refl
+map-groups f g (key ∷ K) = ap (λ r. f (g key) ∷ r) (map-groups f g K)
+
+-- the row of a key's group
+abbrev group_row : List ℕ → List Item → Env → List Row → Row → Row
+group_row keys items e L key = map (item_of_group keys e (group_of keys L key)) items
+
+same-all_shown : (grouped : Bool) (keys : List ℕ) (items : List Item) (e : Env) (L M : List Row) → SameCounts L M → SameCounts (all_shown grouped keys items e L) (all_shown grouped keys items e M)
+same-all_shown false keys items e L M h r = same-map (λ s. map (item_of_row e s) items) L M h r
+same-all_shown true [] items e L M h r = ap (λ s. count r (s ∷ [])) (same-group [] items e [] L M h)
+same-all_shown true (k ∷ ks) items e L M h r =
+    let keys : List ℕ = k ∷ ks in
+    let keys_of : List Row → List Row = λ X. distinct (map (values_at keys) X) in
+    let show : Group → Row = λ g. map (item_of_group keys e g) items in
+    let same_keys : SameCounts (keys_of L) (keys_of M) = same-distinct _ _ (same-map (values_at keys) L M h) in
+    let same_row : (key : Row) → group_row keys items e L key ≡ group_row keys items e M key =
+    λ key. same-group keys items e key _ _ (same-filter (λ s. same_rows key (values_at keys s)) L M h) in
+    ap (count r) (map-groups show (group_of keys L) (keys_of L) ∙ ap (λ (f : Row → Row). map f (keys_of L)) (λ i key. same_row key i))
+    ∙ same-map (group_row keys items e M) (keys_of L) (keys_of M) same_keys r
+    ∙ ap (count r) (sym (map-groups show (group_of keys M) (keys_of M)))
+
+pub same-number : (q : Block) (e : Env) (L M : List Row) → SameCounts L M → (r : Row) → number_shown q e L r ≡ number_shown q e M r
+same-number q e L M h r = ap (λ n. if q.distinct then min 1 n else n) (same-all_shown q.grouped q.keys q.items e L M h r)
+
+pub count-shown : (distinct' grouped : Bool) (keys : List ℕ) (items : List Item) (e : Env) (L : List Row) (r : Row)
+    → count r (shown distinct' grouped keys items e L) ≡ (let number = count r (all_shown grouped keys items e L) in if distinct' then min 1 number else number)
+count-shown false grouped keys items e L r = refl
+count-shown true grouped keys items e L r = count-distinct r (all_shown grouped keys items e L)

@@ -1,0 +1,11 @@
+pub mod Company
+pub mod Counting
+pub mod Equations
+pub mod Groups
+pub mod Obeys
+pub mod SameCounts
+pub mod Sources
+pub mod Truths
+pub mod Unique
+pub mod Widths
+pub mod Worked

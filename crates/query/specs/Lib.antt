@@ -1,0 +1,7 @@
+pub mod Aggregates
+pub mod Answer
+pub mod Bound
+pub mod Examples
+pub mod Laws
+pub mod Meaning
+pub mod Rows

@@ -1,0 +1,13 @@
+//! Bound queries, what they mean, and what an answer is.
+#![tactic(auto)]
+
+pub mod laws;
+pub mod query;
+
+pub use laws::{
+    answers_are_by_laws, laws_determine_meaning, meaning_obeys_laws, satisfying_databases_fit,
+    worked_rows_hold,
+};
+pub use query::{
+    Aggregate, Block, Column, Cond, From, Item, Occurrence, Query, SortKey, TableUse, Term,
+};
