@@ -6,8 +6,7 @@ use Rattle.values.specs.Faults.{Fails}
 use Rattle.schema.specs.declared.schema.Schema.{Schema}
 use Rattle.schema.specs.Databases.{Database, Satisfies}
 use Rattle.sql_parse.specs.declared.statement.Statement.{Statement}
-use Rattle.sql_parse.specs.declared.fault.ParseRefusal.{ParseRefusal}
-use Rattle.sql_parse.specs.Statements.{ReadsStatement, IsStatementFault}
+use Rattle.sql_parse.specs.Statements.{ReadsStatement}
 use Rattle.store.specs.Databases.{Stored}
 use Rattle.query.specs.declared.query.Query.{Query}
 use Rattle.binder.specs.declared.fault.BindRefusal.{BindRefusal}
@@ -18,7 +17,7 @@ use Rattle.query.specs.Bound.{IsBoundOver}
 use Rattle.pipeline.specs.declared.refusal.Refusal.{Refusal}
 use Rattle.pipeline.specs.declared.refusal.Refusal.TheVariants as refusal
 use Rattle.pipeline.specs.Refusals.{of_scope}
-use Rattle.pipeline.specs.EndToEnd.{Input, IsQuery, IsNoQuery, TablesTold, IsLoadFault, IsPrepared, IsUnprepared, IsDeviceFault, AreQuiet}
+use Rattle.pipeline.specs.EndToEnd.{Input, IsQuery, IsNoQuery, TablesTold, IsLoadFault, IsPrepared, IsUnprepared, IsDeviceFault}
 
 -- ---- the query
 
@@ -67,3 +66,7 @@ load_unprepared text S q inputs (refusal.Check r) is h = absurd h
 pub prepared : (text : List ℕ) (S : Schema) (q : Query) (inputs : List Input) (n : ℕ) (d : Stored) → IsQuery text S q → d.schema ≡ S → n ≡ length S.tables → TablesTold S inputs n d.tables
     → Satisfies d.schema d.tables → IsPrepared S text inputs q d
 prepared text S q inputs n d is over all told satisfies = record { is_query = is; is_over = over; told = rw (← all) told; satisfies = rw (← over) satisfies }
+
+-- a database satisfies its schema
+pub satisfied_by : (S : Schema) (D : Database) (d : Stored) → record { schema = S; tables = D } ≡ d → Satisfies S D → Satisfies d.schema d.tables
+satisfied_by S D d is h = rw (← is) h

@@ -6,7 +6,7 @@ ghost use Rattle.executor.specs.AnswerText.{HasFront};
 ghost use Rattle.pipeline.specs.EndToEnd.{HasTables, WithAnswer, WithPlanned, IsRefusedBy, IsBefore, IsDeviceFault, IsQuiet};
 
 use crate::answer::{answer_by_meaning, answer_by_plan};
-use crate::preparation::{Prepared, prepare};
+use crate::preparation::prepare;
 use crate::refusal::Refusal;
 use executor::AnswerOutput;
 use schema::Schema;
@@ -40,8 +40,8 @@ pub fn query<R: TableInput, W: AnswerOutput>(
     ensures quiet { OnOk result (IsQuiet (map R.failures tables.old) (map R.failures tables.new) (W.failures out.old) (W.failures out.new)) }
 {
     let schema = Schema::read(alloc, schema)?;
-    let Prepared { query, database } = prepare(alloc, &schema, text, tables)?;
-    answer_by_plan(alloc, &schema, &query, &database, out)
+    let ready = prepare(alloc, &schema, text, tables)?;
+    answer_by_plan(alloc, &schema, &ready.query, &ready.database, out)
 }
 
 /// Answers a query by the slow evaluator, with no plan: reads the schema, the text and the tables'
@@ -70,6 +70,6 @@ pub fn evaluate<R: TableInput, W: AnswerOutput>(
     ensures quiet { OnOk result (IsQuiet (map R.failures tables.old) (map R.failures tables.new) (W.failures out.old) (W.failures out.new)) }
 {
     let schema = Schema::read(alloc, schema)?;
-    let Prepared { query, database } = prepare(alloc, &schema, text, tables)?;
-    answer_by_meaning(alloc, &query, &database, out)
+    let ready = prepare(alloc, &schema, text, tables)?;
+    answer_by_meaning(alloc, &ready.query, &ready.database, out)
 }

@@ -45,7 +45,10 @@ fn bound_query(alloc: Global, schema: &Schema, text: &[u8]) -> Result<Query, Ref
     ensures fails { IfErr result (IsNoQuery text.now schema.now) }
 {
     let statement = parse_statement_bytes(alloc, text)?;
-    Ok(bind_statement(alloc, schema, &statement)?)
+    match bind_statement(alloc, schema, &statement) {
+        Ok(query) => Ok(query),
+        Err(fault) => Err(Refusal::from(fault)),
+    }
 }
 
 /// Reads the text and loads the tables, one input each in the order of the schema.
