@@ -2,12 +2,27 @@
 
 use sql_parse::Name;
 use sql_parse::statement::{
-    AggregateCall, AggregateFunction, Chain, ColumnName, Condition, ItemValue, Join, JoinKind,
+    AggregateCall, AggregateFunction, ColumnName, Condition, ItemValue, Join, JoinKind, Operator,
     OrderKey, Select, SelectItem, SelectList, Statement, TableName, Term,
 };
 use std::alloc::{AllocError, Global};
 use std::fmt::Write;
-use values::{Boxed, Comparison, Value};
+use values::{Comparison, Value};
+
+/// What is still to be told, the next one last, so that no function calls itself.
+#[derive(Clone, Copy)]
+enum Part<'a> {
+    Text(&'a str),
+    Table(&'a TableName),
+    Condition(&'a Condition),
+    Select(&'a Select),
+    Group(&'a [ColumnName]),
+}
+
+fn later<'a>(parts: &mut Vec<Part<'a>>, part: Part<'a>) -> Result<(), AllocError> {
+    parts.push(part)?;
+    Ok(())
+}
 
 fn push_name(told: &mut String, name: &Name) -> Result<(), AllocError> {
     write!(told, "{}@{}", name.text.as_str(), name.at)
@@ -57,79 +72,6 @@ fn push_term(told: &mut String, term: &Term) -> Result<(), AllocError> {
     }
 }
 
-#[cycle(shown)]
-fn push_conditions(
-    told: &mut String,
-    between: &str,
-    conditions: &[Condition],
-) -> Result<(), AllocError> {
-    told.push_str("(")?;
-    for condition in conditions {
-        push_condition(told, condition)?;
-        told.push_str(between)?;
-    }
-    told.push_str(")")
-}
-
-#[cycle(shown)]
-fn push_condition(told: &mut String, condition: &Condition) -> Result<(), AllocError> {
-    match condition {
-        Condition::Compare(left, by, right) => {
-            push_term(told, left)?;
-            write!(told, " {}@{} ", sign(by.comparison), by.at)?;
-            push_term(told, right)
-        }
-        Condition::IsNull(term) => {
-            push_term(told, term)?;
-            told.push_str(" IS NULL")
-        }
-        Condition::Not(inner) => {
-            told.push_str("NOT ")?;
-            push_condition(told, inner.get())
-        }
-        Condition::And(all) => push_conditions(told, " AND ", all.as_slice()),
-        Condition::Or(any) => push_conditions(told, " OR ", any.as_slice()),
-        Condition::Exists(query) => {
-            told.push_str("EXISTS ")?;
-            push_select(told, query.get())
-        }
-        Condition::In(term, at, query) => {
-            push_term(told, term)?;
-            write!(told, " IN@{at} ")?;
-            push_select(told, query.get())
-        }
-    }
-}
-
-fn push_table(told: &mut String, table: &TableName) -> Result<(), AllocError> {
-    push_name(told, &table.name)?;
-    push_alias(told, &table.alias)
-}
-
-#[cycle(shown)]
-fn push_joins(told: &mut String, joins: &[Join]) -> Result<(), AllocError> {
-    for join in joins {
-        told.push_str(match join.kind {
-            JoinKind::Inner => " JOIN ",
-            JoinKind::Left => " LEFT JOIN ",
-        })?;
-        push_table(told, &join.table)?;
-        told.push_str(" ON ")?;
-        push_condition(told, join.condition.get())?;
-    }
-    Ok(())
-}
-
-#[cycle(shown)]
-fn push_chains(told: &mut String, chains: &[Chain]) -> Result<(), AllocError> {
-    for chain in chains {
-        told.push_str(", ")?;
-        push_table(told, &chain.table)?;
-        push_joins(told, chain.joins.as_slice())?;
-    }
-    Ok(())
-}
-
 fn function_name(function: AggregateFunction) -> &'static str {
     match function {
         AggregateFunction::Count => "count",
@@ -171,33 +113,124 @@ fn push_list(told: &mut String, list: &SelectList) -> Result<(), AllocError> {
     }
 }
 
+/// The columns of GROUP BY, and the end of the SELECT.
 fn push_group(told: &mut String, group: &[ColumnName]) -> Result<(), AllocError> {
     for column in group {
         told.push_str(" BY ")?;
         push_column(told, column)?;
     }
+    told.push_str("}")
+}
+
+fn push_table(told: &mut String, table: &TableName) -> Result<(), AllocError> {
+    push_name(told, &table.name)?;
+    push_alias(told, &table.alias)
+}
+
+fn push_comparison(
+    told: &mut String,
+    left: &Term,
+    by: Operator,
+    right: &Term,
+) -> Result<(), AllocError> {
+    push_term(told, left)?;
+    write!(told, " {}@{} ", sign(by.comparison), by.at)?;
+    push_term(told, right)
+}
+
+/// The conditions, each with a text after it, between parentheses.
+fn push_conditions<'a>(
+    told: &mut String,
+    parts: &mut Vec<Part<'a>>,
+    conditions: &'a [Condition],
+    between: &'a str,
+) -> Result<(), AllocError> {
+    told.push_str("(")?;
+    later(parts, Part::Text(")"))?;
+    for condition in conditions.iter().rev() {
+        later(parts, Part::Text(between))?;
+        later(parts, Part::Condition(condition))?;
+    }
     Ok(())
 }
 
-#[cycle(shown)]
-fn push_filter(told: &mut String, filter: &Option<Boxed<Condition>>) -> Result<(), AllocError> {
-    match filter {
-        Some(condition) => {
-            told.push_str(" WHERE ")?;
-            push_condition(told, condition.get())
+fn push_condition<'a>(
+    told: &mut String,
+    parts: &mut Vec<Part<'a>>,
+    condition: &'a Condition,
+) -> Result<(), AllocError> {
+    match condition {
+        Condition::Compare(left, by, right) => push_comparison(told, left, *by, right),
+        Condition::IsNull(term) => {
+            push_term(told, term)?;
+            told.push_str(" IS NULL")
         }
-        None => Ok(()),
+        Condition::Not(inner) => {
+            told.push_str("NOT ")?;
+            later(parts, Part::Condition(inner.get()))
+        }
+        Condition::And(all) => push_conditions(told, parts, all.as_slice(), " AND "),
+        Condition::Or(any) => push_conditions(told, parts, any.as_slice(), " OR "),
+        Condition::Exists(query) => {
+            told.push_str("EXISTS ")?;
+            later(parts, Part::Select(query.get()))
+        }
+        Condition::In(term, at, query) => {
+            push_term(told, term)?;
+            write!(told, " IN@{at} ")?;
+            later(parts, Part::Select(query.get()))
+        }
     }
 }
 
-#[cycle(shown)]
-fn push_select(told: &mut String, select: &Select) -> Result<(), AllocError> {
+fn push_joins<'a>(parts: &mut Vec<Part<'a>>, joins: &'a [Join]) -> Result<(), AllocError> {
+    for join in joins.iter().rev() {
+        later(parts, Part::Condition(join.condition.get()))?;
+        later(parts, Part::Text(" ON "))?;
+        later(parts, Part::Table(&join.table))?;
+        later(
+            parts,
+            Part::Text(match join.kind {
+                JoinKind::Inner => " JOIN ",
+                JoinKind::Left => " LEFT JOIN ",
+            }),
+        )?;
+    }
+    Ok(())
+}
+
+fn push_select<'a>(
+    told: &mut String,
+    parts: &mut Vec<Part<'a>>,
+    select: &'a Select,
+) -> Result<(), AllocError> {
     told.push_str(if select.distinct { "{DISTINCT " } else { "{" })?;
     push_list(told, &select.list)?;
-    push_chains(told, select.from.as_slice())?;
-    push_filter(told, &select.filter)?;
-    push_group(told, select.group.as_slice())?;
-    told.push_str("}")
+    later(parts, Part::Group(select.group.as_slice()))?;
+    if let Some(filter) = &select.filter {
+        later(parts, Part::Condition(filter.get()))?;
+        later(parts, Part::Text(" WHERE "))?;
+    }
+    for chain in select.from.as_slice().iter().rev() {
+        push_joins(parts, chain.joins.as_slice())?;
+        later(parts, Part::Table(&chain.table))?;
+        later(parts, Part::Text(", "))?;
+    }
+    Ok(())
+}
+
+fn push_part<'a>(
+    told: &mut String,
+    parts: &mut Vec<Part<'a>>,
+    part: Part<'a>,
+) -> Result<(), AllocError> {
+    match part {
+        Part::Text(text) => told.push_str(text),
+        Part::Table(table) => push_table(told, table),
+        Part::Condition(condition) => push_condition(told, parts, condition),
+        Part::Select(select) => push_select(told, parts, select),
+        Part::Group(group) => push_group(told, group),
+    }
 }
 
 fn push_order(told: &mut String, order: &[OrderKey]) -> Result<(), AllocError> {
@@ -208,9 +241,19 @@ fn push_order(told: &mut String, order: &[OrderKey]) -> Result<(), AllocError> {
     Ok(())
 }
 
+/// The most parts of a tree that is told.
+const MOST_PARTS: usize = 10_000;
+
 pub fn statement_text(alloc: Global, statement: &Statement) -> Result<String, AllocError> {
     let mut told = String::new(alloc);
-    push_select(&mut told, &statement.select)?;
+    let mut parts = Vec::new(alloc);
+    later(&mut parts, Part::Select(&statement.select))?;
+    for _ in 0..MOST_PARTS {
+        let Some(part) = parts.pop() else {
+            break;
+        };
+        push_part(&mut told, &mut parts, part)?;
+    }
     push_order(&mut told, statement.order.as_slice())?;
     Ok(told)
 }
