@@ -23,7 +23,7 @@ use Rattle.binder.specs.BoundStatements.{plainness, filter_ons}
 use Rattle.binder.proofs.SelectParts.{select_at}
 use Rattle.binder.proofs.ExtentParts.{extent-select}
 use Rattle.binder.proofs.PlainParts.{ons-select}
-use Rattle.binder.proofs.ScopeEquations.{scope-Block}
+use Rattle.query.proofs.ScopeEquations.{scope-Block}
 use Rattle.binder.proofs.Given.{Given, and-then, given-from, given-at, given-ok}
 use Rattle.binder.proofs.Rising.{Rising, AreBelow, rising-bounds, rising-below, apart, none-among, none-among-append}
 use Rattle.binder.proofs.Growth.{Grown, Within, grown-none, grown-more, within-first, within-next}

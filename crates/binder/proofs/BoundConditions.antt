@@ -27,7 +27,7 @@ use Rattle.binder.specs.BoundStatements.{Plainness, plainness, all_plain, select
 use Rattle.binder.proofs.SelectParts.{compared, null_tested, negated, conjoined, disjoined, existing, contained}
 use Rattle.binder.proofs.ExtentParts.{extent-Compare, extent-IsNull, extent-Not, extent-And, extent-Or, extent-Exists, extent-In}
 use Rattle.binder.proofs.PlainParts.{plain-Compare, plain-IsNull, plain-Not, plain-And, plain-Or, plain-Exists, plain-In}
-use Rattle.binder.proofs.ScopeEquations.{scope-Compare, scope-IsNull, scope-Not, scope-And, scope-Or, scope-Exists, scope-In}
+use Rattle.query.proofs.ScopeEquations.{scope-Compare, scope-IsNull, scope-Not, scope-And, scope-Or, scope-Exists, scope-In}
 use Rattle.binder.proofs.Given.{Given, and-then, given-from, given-if, given-at, given-ok}
 use Rattle.binder.proofs.Growth.{Grown, Within, grown-none, grown-more, within-first, within-next}
 use Rattle.binder.proofs.NamesThere.{Around, IsNamed, around-more, meant-there}

@@ -25,7 +25,7 @@ use Rattle.binder.proofs.Indexes.{width-append}
 use Rattle.binder.proofs.SelectParts.{join_at, chain_at}
 use Rattle.binder.proofs.ExtentParts.{extent-join, extent-chain}
 use Rattle.binder.proofs.PlainParts.{ons-join, ons-chain}
-use Rattle.binder.proofs.ScopeEquations.{scope-Table, scope-Join, scope-LeftJoin, scope-Comma}
+use Rattle.query.proofs.ScopeEquations.{scope-Table, scope-Join, scope-LeftJoin, scope-Comma}
 use Rattle.binder.proofs.Given.{Given, and-then, given-at, weaker}
 use Rattle.binder.proofs.Rising.{Rising, rising-append, rising-to, rising-below}
 use Rattle.binder.proofs.Growth.{Grown, Within, Entered, grown-more, within-first, within-next, enter-gives}

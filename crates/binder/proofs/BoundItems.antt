@@ -29,7 +29,7 @@ use Rattle.binder.specs.Lent.{width}
 use Rattle.query.specs.Bound as numbers
 use Rattle.query.specs.Bound.{names, bound_aggregate, bound_item, bound_group_item, bound_items, aggregate_numbers, is_among}
 use Rattle.binder.proofs.Given.{Given, and-then, given-if}
-use Rattle.binder.proofs.Growth.{all-append}
+use Rattle.query.proofs.Lists.{all-append}
 use Rattle.binder.proofs.Rising.{Rising}
 use Rattle.binder.proofs.NamesThere.{Around, IsNamed, meant-there}
 

@@ -29,8 +29,9 @@ use Rattle.binder.specs.Extents.{of_select, is_within}
 use Rattle.binder.specs.Selects.{select_in}
 use Rattle.binder.specs.Ordering.{order_in}
 use Rattle.binder.specs.Queries.{at_start, bound_statement}
-use Rattle.query.specs.Bound.{block_scope, is_bound}
-use Rattle.binder.specs.BoundStatements.{select_ons, ons_are_plain, IsOver, StatementsAreBound, StatementsAreOver, StatementsAreWide}
+use Rattle.query.specs.Bound.{block_scope, is_bound, IsOver}
+use Rattle.query.proofs.TableUses.{uses-wide}
+use Rattle.binder.specs.BoundStatements.{select_ons, ons_are_plain, StatementsAreBound, StatementsAreOver, StatementsAreWide}
 use Rattle.binder.proofs.Given.{Given, and-then, given-from, given-if, given-ok}
 use Rattle.binder.proofs.BoundParts.{SelectIs, CondBound, JoinBound, ChainBound, SelectBound}
 use Rattle.binder.proofs.BoundConditions.{bound-Compare, bound-IsNull, bound-Not, bound-And, bound-Or, bound-Exists, bound-In}
@@ -123,16 +124,6 @@ statements_bound S s q plain is = (given-ok (IsKnown S s) (bound_statement S s) 
 
 pub statements_over : StatementsAreOver
 statements_over S s q is = (given-ok (IsKnown S s) (bound_statement S s) q is (statement-known S s)).1
-
-get-width : (tables : List Table) (k : ℕ) (entry : Table) → slice_get tables k ≡ Some entry → length entry.columns ≡ slice_index_or (map (λ t. length t.columns) tables) k 0
-get-width [] k entry is = cc is
-get-width (t ∷ tables) zero entry is = let same : t ≡ entry = cc is in ap (λ e. length e.columns) (sym same)
-get-width (t ∷ tables) (suc k) entry is = get-width tables k entry is
-
--- so they are as wide as the tables in each database of the schema
-pub uses-wide : (S : Schema) (D : Database) (uses : List TableUse) → AllByRecursion (IsOver S) uses → AllByRecursion (λ t. length t.entry.columns ≡ (tables_of S D).width t.table) uses
-uses-wide S D [] over = tt
-uses-wide S D (t ∷ uses) over = (get-width S.tables t.table t.entry over.0, uses-wide S D uses over.1)
 
 pub statements_wide : StatementsAreWide
 statements_wide S D s q is = uses-wide S D q.tables (statements_over S s q is)

@@ -17,8 +17,8 @@ use Rattle.binder.specs.Scopes.{Scope, is_taken, known_name}
 use Rattle.binder.specs.Numbers.{next_occurrence, entered, enter}
 use Rattle.binder.specs.Extents.{width_of, one_table}
 use Rattle.binder.specs.Lent.{width}
-use Rattle.binder.specs.BoundStatements.{IsOver}
-use Rattle.query.specs.Bound.{use_numbers, is_used, is_use_of}
+use Rattle.query.specs.Bound.{use_numbers, is_used, is_use_of, IsOver}
+use Rattle.query.proofs.Lists.{all-append}
 use Rattle.binder.proofs.Indexes.{width-append}
 use Rattle.binder.proofs.Given.{Given, and-then, given-wanted, given-if}
 use Rattle.binder.proofs.Rising.{Rising, rising-range}
@@ -31,10 +31,6 @@ Begins xs front = (more : List _) × (xs ≡ front ++ more)
 
 pub begins-again : {A : Type 0} (xs ys zs : List A) → Begins xs ys → Begins ys zs → Begins xs zs
 begins-again xs ys zs left right = (right.0 ++ left.0, left.1 ∙ ap (λ l. l ++ left.0) right.1 ∙ append_assoc zs right.0 left.0)
-
-pub all-append : {A : Type 0} (P : A → Type 0) (xs ys : List A) → AllByRecursion P xs → AllByRecursion P ys → AllByRecursion P (xs ++ ys)
-all-append P [] ys left right = right
-all-append P (x ∷ xs) ys left right = (left.0, all-append P xs ys left.1 right)
 
 get-next : {A : Type 0} (front : List A) (x : A) (more : List A) → slice_get (front ++ x ∷ more) (length front) ≡ Some x
 get-next [] x more = refl

@@ -17,7 +17,6 @@ pub mod OutputLoops
 pub mod PlainParts
 pub mod PlainStatements
 pub mod Rising
-pub mod ScopeEquations
 pub mod SelectExits
 pub mod SelectLoops
 pub mod SelectParts

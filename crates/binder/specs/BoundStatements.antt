@@ -1,7 +1,7 @@
 -- What is known of the query that a statement is (this project's profile of SQL): it is bound, and its table occurrences
 -- are tables of the schema. A tree can have a subquery in an ON, and no text has one there: so the first is told of trees
 -- whose ONs have none.
-use Rattle.std.specs.Prelude.{◌≡◌, Bool, true, false, ◌&&◌, List, length, Option, Some, None, Ok, slice_get}
+use Rattle.std.specs.Prelude.{◌≡◌, Bool, true, false, ◌&&◌, List, length, Option, Some, None, Ok}
 use Rattle.std.specs.List.{AllByRecursion, list_all}
 use Rattle.schema.specs.declared.schema.Schema.{Schema}
 use Rattle.schema.specs.Databases.{Database}
@@ -14,9 +14,8 @@ use Rattle.sql_parse.specs.declared.statement.Select.{Select}
 use Rattle.sql_parse.specs.declared.statement.Statement.{Statement}
 use Rattle.sql_parse.specs.Statements.{ReadsStatement}
 use Rattle.sql_parse.specs.Tokens.{Bytes}
-use Rattle.query.specs.declared.query.TableUse.{TableUse}
 use Rattle.query.specs.declared.query.Query.{Query}
-use Rattle.query.specs.Bound.{is_bound}
+use Rattle.query.specs.Bound.{is_bound, IsOver}
 use Rattle.query.specs.Rows.{tables_of}
 use Rattle.binder.specs.Queries.{bound_statement}
 
@@ -77,10 +76,6 @@ StatementsArePlain = (bytes : Bytes) (s : Statement) → ReadsStatement bytes s 
 -- all that the query names is there, and the columns that a condition can name have numbers of their own
 abbrev pub StatementsAreBound : Type 0
 StatementsAreBound = (S : Schema) (s : Statement) (q : Query) → ons_are_plain s ≡ true → bound_statement S s ≡ Ok q → is_bound q ≡ true
-
--- the occurrence is one of a table of the schema
-abbrev pub IsOver : Schema → TableUse → Type 0
-IsOver S t = slice_get S.tables t.table ≡ Some t.entry
 
 -- each table occurrence is one of a table of the schema
 abbrev pub StatementsAreOver : Type 0

@@ -9,8 +9,8 @@ ghost use Rattle.binder.specs.Chained.{scopes_of};
 
 use crate::fault::{BindFault, BindReason, refused};
 use crate::places::Places;
-use query::{Aggregate, Column, Item};
 use crate::scope::{Scope, Scopes, TypedColumn, meant, place_in_text};
+use query::{Aggregate, Column, Item};
 use schema::Kind;
 use sql_parse::statement::{
     AggregateCall, AggregateFunction, ColumnName, ItemValue, SelectItem, SelectList,

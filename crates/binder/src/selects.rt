@@ -7,9 +7,9 @@ ghost use Rattle.binder.specs.Chained.{scopes_of};
 
 use crate::fault::{BindFault, BindReason, refused};
 use crate::output::{Grouping, Output, aggregates, keys, outputs};
-use query::{Block, Cond, From, Item, Occurrence, Term};
 use crate::scope::{Scope, Scopes, meant};
 use crate::tables::{Numbered, enter};
+use query::{Block, Cond, From, Item, Occurrence, Term};
 use schema::{Kind, Schema};
 use sql_parse::statement as tree;
 use sql_parse::statement::{Chain, Condition, Join, JoinKind, Select};

@@ -5,8 +5,8 @@ ghost use Rattle.values.specs.Faults.{Gives};
 ghost use Rattle.binder.specs.Numbers as spec;
 
 use crate::fault::{BindFault, BindReason, refused};
-use query::{Occurrence, TableUse};
 use crate::scope::{Scope, find_table, known_name};
+use query::{Occurrence, TableUse};
 use schema::{Schema, Table};
 use sql_parse::statement::TableName;
 use std::alloc::{AllocError, Global};

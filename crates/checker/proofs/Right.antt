@@ -6,7 +6,7 @@ use Rattle.schema.specs.declared.schema.Schema.{Schema}
 use Rattle.schema.specs.Databases.{Row}
 use Rattle.query.specs.declared.query.Query.{Query}
 use Rattle.query.specs.Rows.{Tables, tables_of, same_rows, count}
-use Rattle.binder.proofs.BoundStatements.{uses-wide}
+use Rattle.query.proofs.TableUses.{uses-wide}
 use Rattle.query.proofs.Widths.{satisfying_fits}
 use Rattle.logical.specs.declared.expr.Expr.{Expr}
 use Rattle.logical.specs.Bags.{Env, SameRows, nulls, total}
@@ -22,7 +22,8 @@ use Rattle.checker.specs.declared.certificate.Line.{Line}
 use Rattle.checker.specs.declared.certificate.Certificate.{Certificate}
 use Rattle.checker.specs.declared.certificate.CheckRefusal.{CheckRefusal}
 use Rattle.checker.specs.declared.certificate.CheckReason.TheVariants.{UnsortedAnswer}
-use Rattle.checker.specs.Replay.{founding, refusal, lines_replay, node_fits, inputs_fit, plan_fits, is_delivered, root, replayed, IsBoundOver, IsChecked}
+use Rattle.query.specs.Bound.{IsBoundOver}
+use Rattle.checker.specs.Replay.{founding, refusal, lines_replay, node_fits, inputs_fit, plan_fits, is_delivered, root, replayed, IsChecked}
 use Rattle.checker.proofs.Chains.{both_ok, wanted_if_ok}
 use Rattle.checker.proofs.Fits.{plan_fits_out}
 use Rattle.checker.proofs.Founded.{begins, later, turned}

@@ -10,7 +10,6 @@ use Rattle.schema.specs.Databases.{Database, Satisfies}
 use Rattle.query.specs.declared.query.Query.{Query}
 use Rattle.query.specs.Rows.{tables_of}
 use Rattle.query.specs.Bound.{is_bound}
-use Rattle.binder.specs.BoundStatements.{IsOver}
 use Rattle.query.specs.Answer.{IsAnswer}
 use Rattle.logical.specs.declared.expr.Expr.{Expr}
 use Rattle.logical.specs.declared.expr.Expr.TheVariants.{Get, Select, Join, LeftJoin, Keep, Distinct, Group}
@@ -158,11 +157,6 @@ pub record Accepted : Type 0 where
   pub schema : Schema
   pub query : Query
   pub certificate : Certificate
-
--- all that the query names is there, and its table occurrences are of tables of the schema
-pub record IsBoundOver (S : Schema) (q : Query) : Type 0 where
-  pub bound : is_bound q ≡ true
-  pub over : AllByRecursion (IsOver S) q.tables
 
 -- the certificate replays, and in each database that satisfies the schema its plan gives an answer of the query
 pub record IsChecked (S : Schema) (q : Query) (c : Certificate) : Type 0 where

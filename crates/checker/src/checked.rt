@@ -2,13 +2,14 @@
 
 ghost use Rattle.std.specs.Prelude.{◌≡◌, IfOk};
 ghost use Rattle.values.specs.Faults.{Gives};
-ghost use Rattle.checker.specs.Replay.{replayed, IsBoundOver, IsChecked};
+ghost use Rattle.query.specs.Bound.{IsBoundOver};
+ghost use Rattle.checker.specs.Replay.{replayed, IsChecked};
 
 use crate::certificate::{Certificate, CheckFault};
 use crate::fit::{is_delivered, plan_fits};
 use crate::replay::replay;
-use query::Query;
 use logical::query_frame;
+use query::Query;
 use schema::Schema;
 use std::alloc::Global;
 use std::marker::Model;

@@ -10,9 +10,9 @@ ghost use Rattle.checker.specs.Replay as spec;
 
 use crate::certificate::{CheckFault, CheckReason, Line};
 use crate::replay::refused;
-use query::Query;
 use logical::{Columns, Expr, same_aggregations};
 use physical::{JoinKind, Node, OrderKey, Plan, delivers, query_order};
+use query::Query;
 use std::alloc::{AllocError, Global};
 use values::Fault;
 

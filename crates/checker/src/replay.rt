@@ -10,8 +10,8 @@ ghost use Rattle.logical.specs.FormedFrames.{group_aggregates, own_aggregates};
 ghost use Rattle.checker.specs.Replay as spec;
 
 use crate::certificate::{CheckFault, CheckReason, CheckRefusal, Line};
-use query::Query;
 use logical::{Aggregation, Columns, Expr};
+use query::Query;
 use std::alloc::{AllocError, Global};
 use values::Fault;
 

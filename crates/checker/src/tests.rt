@@ -1,14 +1,14 @@
 //! Certificates of worked queries.
 
 ghost use Rattle.std.specs.Prelude.{IfSome};
-ghost use Rattle.checker.specs.Replay.{IsBoundOver};
+ghost use Rattle.query.specs.Bound.{IsBoundOver};
 
 use crate::certificate::{Certificate, CheckFault, CheckReason, CheckRefusal, Line};
 use crate::checked::check;
 use binder::bind_statement;
-use query::Query;
 use logical::{Columns, Condition, Conjuncts, Expr, Term, query_frame};
 use physical::{JoinKind, Node, OrderKey, Plan};
+use query::Query;
 use schema::{Schema, SchemaFault};
 use sql_parse::parse_statement;
 use std::alloc::{AllocError, Global};

@@ -13,7 +13,7 @@ use Rattle.query.specs.declared.query.TableUse.{TableUse}
 use Rattle.query.specs.declared.query.Cond.{Cond}
 use Rattle.query.specs.declared.query.Block.{Block}
 use Rattle.query.specs.Bound.{Scope, BlockScope, number, number_at, names, is_among, all_differ, aggregate_numbers, bound_aggregate, bound_item, bound_group_item, bound_items, bound_filter, cond_scope, from_scope}
-use Rattle.binder.proofs.ScopeEquations.{scope-Block}
+use Rattle.query.proofs.ScopeEquations.{scope-Block}
 use Rattle.logical.specs.declared.expr.Aggregation.{Aggregation}
 use Rattle.logical.specs.declared.expr.Expr.{Expr}
 use Rattle.logical.specs.declared.expr.Expr.TheVariants.{Group}

@@ -10,7 +10,7 @@ use Rattle.query.specs.declared.query.Cond.{Cond}
 use Rattle.query.specs.declared.query.Cond.TheVariants as cond
 use Rattle.query.specs.declared.query.Block.{Block}
 use Rattle.query.specs.Bound.{Scope, CondScope, bound_term, cond_scope, block_scope}
-use Rattle.binder.proofs.ScopeEquations.{scope-Compare, scope-IsNull, scope-Not, scope-And, scope-Or, scope-Exists, scope-In}
+use Rattle.query.proofs.ScopeEquations.{scope-Compare, scope-IsNull, scope-Not, scope-And, scope-Or, scope-Exists, scope-In}
 use Rattle.logical.specs.declared.condition.Condition.{Condition}
 use Rattle.logical.specs.declared.expr.Aggregation.{Aggregation}
 use Rattle.logical.specs.declared.expr.Expr.{Expr}

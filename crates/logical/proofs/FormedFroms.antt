@@ -9,7 +9,7 @@ use Rattle.query.specs.declared.query.Cond.{Cond}
 use Rattle.query.specs.declared.query.From.{From}
 use Rattle.query.specs.declared.query.From.TheVariants as from
 use Rattle.query.specs.Bound.{Scope, FromScope, all_differ, is_use_of, is_used, use_numbers, cond_scope, from_scope, join_scope}
-use Rattle.binder.proofs.ScopeEquations.{scope-Table, scope-Join, scope-LeftJoin, scope-Comma}
+use Rattle.query.proofs.ScopeEquations.{scope-Table, scope-Join, scope-LeftJoin, scope-Comma}
 use Rattle.logical.specs.declared.condition.Condition.{Condition}
 use Rattle.logical.specs.declared.expr.Aggregation.{Aggregation}
 use Rattle.logical.specs.declared.expr.Expr.{Expr}

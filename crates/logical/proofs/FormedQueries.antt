@@ -11,8 +11,8 @@ use Rattle.query.specs.declared.query.Item.TheVariants as item
 use Rattle.query.specs.declared.query.TableUse.{TableUse}
 use Rattle.query.specs.declared.query.Block.{Block}
 use Rattle.query.specs.Bound.{Scope, names, is_among, bound_aggregate, bound_item, bound_group_item, bound_items, block_scope}
-use Rattle.binder.proofs.Growth.{all-append}
-use Rattle.binder.proofs.ScopeEquations.{scope-Block}
+use Rattle.query.proofs.Lists.{all-append}
+use Rattle.query.proofs.ScopeEquations.{scope-Block}
 use Rattle.logical.specs.declared.expr.Aggregation.{Aggregation}
 use Rattle.logical.specs.declared.expr.Expr.{Expr}
 use Rattle.logical.specs.declared.expr.Expr.TheVariants.{Keep, Distinct}

@@ -14,7 +14,7 @@ use Rattle.query.specs.Meaning as query
 use Rattle.query.specs.Meaning.{item_of_row, item_of_group, all_shown, passes_filter, source}
 use Rattle.query.specs.Bound.{Scope, bound_filter, bound_items, aggregate_numbers, all_differ, number_at, cond_scope, from_scope}
 use Rattle.query.proofs.Equations as meaning
-use Rattle.binder.proofs.ScopeEquations.{scope-Block}
+use Rattle.query.proofs.ScopeEquations.{scope-Block}
 use Rattle.query.proofs.Widths.{source_fits, length-nulls}
 use Rattle.logical.specs.declared.expr.Expr.{Expr}
 use Rattle.logical.specs.declared.expr.Expr.TheVariants.{Select, Group, Keep, Distinct}

@@ -20,7 +20,7 @@ use Rattle.query.specs.Meaning as query
 use Rattle.query.specs.Meaning.{all_of, any_of, equals_row}
 use Rattle.query.specs.Bound.{Scope, CondScope, bound_term, cond_scope, block_scope, number_at}
 use Rattle.query.proofs.Equations as meaning
-use Rattle.binder.proofs.ScopeEquations.{scope-Compare, scope-IsNull, scope-Not, scope-And, scope-Or, scope-Exists, scope-In}
+use Rattle.query.proofs.ScopeEquations.{scope-Compare, scope-IsNull, scope-Not, scope-And, scope-Or, scope-Exists, scope-In}
 use Rattle.logical.specs.declared.condition.Condition.{Condition}
 use Rattle.logical.specs.declared.expr.Expr.{Expr}
 use Rattle.logical.specs.Bags.{Env}

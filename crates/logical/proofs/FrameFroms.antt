@@ -15,7 +15,7 @@ use Rattle.query.specs.Meaning as query
 use Rattle.query.specs.Meaning.{from_width, pairs_of, passes, source}
 use Rattle.query.specs.Bound.{Scope, is_use_of, is_used, numbers_of_use, use_numbers, cond_scope, from_scope, join_scope}
 use Rattle.query.proofs.Equations as meaning
-use Rattle.binder.proofs.ScopeEquations.{scope-Table, scope-Join, scope-LeftJoin, scope-Comma}
+use Rattle.query.proofs.ScopeEquations.{scope-Table, scope-Join, scope-LeftJoin, scope-Comma}
 use Rattle.query.proofs.Widths.{source_fits}
 use Rattle.logical.specs.declared.condition.Condition.{Condition}
 use Rattle.logical.specs.declared.expr.Expr.{Expr}

@@ -15,7 +15,7 @@ use Rattle.query.specs.declared.query.From.{From}
 use Rattle.query.specs.declared.query.From.TheVariants as from
 use Rattle.query.specs.declared.query.Block.{Block}
 use Rattle.query.specs.Bound.{Scope, CondScope, FromScope, BlockScope, cond_scope, from_scope, block_scope, join_scope, is_used, numbers_of_use, use_numbers, is_single, are_new, aggregate_numbers, bound_filter, bound_items, block_scope_layer}
-use Rattle.binder.proofs.ScopeEquations.{scope-Compare, scope-IsNull, scope-Not, scope-And, scope-Or, scope-Exists, scope-In, scope-Table, scope-Join, scope-LeftJoin, scope-Comma, scope-Block, scoped}
+use Rattle.query.proofs.ScopeEquations.{scope-Compare, scope-IsNull, scope-Not, scope-And, scope-Or, scope-Exists, scope-In, scope-Table, scope-Join, scope-LeftJoin, scope-Comma, scope-Block, scoped}
 use Rattle.logical.specs.declared.condition.Condition.{Condition}
 use Rattle.logical.specs.declared.expr.Expr.{Expr}
 use Rattle.logical.specs.declared.expr.Expr.TheVariants.{Get, Select, Join, LeftJoin}

@@ -18,12 +18,9 @@ use Rattle.query.specs.Meaning.{CondMeaning, source, truth, or_else_row, pairs_o
 use Rattle.query.proofs.Equations.{source-Table, source-Join, source-LeftJoin, source-Comma}
 use Rattle.oracle.specs.Given.{IsShort, AreShort}
 use Rattle.oracle.proofs.Sums.{short-filter}
+use Rattle.query.proofs.Lists.{all-append}
 
 -- ---- lists
-
-all-append : {X : Type 0} (P : X → Type 0) (xs ys : List X) → AllByRecursion P xs → AllByRecursion P ys → AllByRecursion P (xs ++ ys)
-all-append P [] ys h k = k
-all-append P (x ∷ xs) ys h k = (h.0, all-append P xs ys h.1 k)
 
 short-flat_map : (f : Row → List Row) → ((l : Row) → AllByRecursion IsShort l → AreShort (f l)) → (L : List Row) → AreShort L → AreShort (flat_map f L)
 short-flat_map f each [] h = tt

@@ -8,6 +8,7 @@ use Rattle.std.proofs.lemmas.Cmp.{tied_itself}
 use Rattle.logical.specs.Bags.{Env, same_on, distinct_on}
 use Rattle.logical.proofs.Loops.{all-map, all-filter, all-each}
 use Rattle.physical.proofs.Sorting.{Precedes, Ascends, all-mapped}
+use Rattle.query.proofs.Lists.{all-append}
 
 -- an order that tells no elements apart
 pub ascends-any : {X : Type 0} (cmp : X → X → Ordering) → ((x y : X) → is_gt (cmp x y) ≡ false) → (xs : List X) → Ascends cmp xs
@@ -43,10 +44,6 @@ ascends-distinct_on cmp K (r ∷ rows) up =
     (all-filter _ (λ s. not (same_on K r s)) (distinct_on K rows) (all-distinct_on _ K rows up.0), ascends-filter cmp (λ s. not (same_on K r s)) (distinct_on K rows) (ascends-distinct_on cmp K rows up.1))
 
 -- ---- lists of lists
-
-pub all-append : {X : Type 0} (P : X → Type 0) (xs ys : List X) → AllByRecursion P xs → AllByRecursion P ys → AllByRecursion P (xs ++ ys)
-all-append P [] ys all rest = rest
-all-append P (x ∷ xs) ys all rest = (all.0, all-append P xs ys all.1 rest)
 
 ascends-append : {X : Type 0} (cmp : X → X → Ordering) (xs ys : List X) → Ascends cmp xs → AllByRecursion (λ x. Precedes cmp x ys) xs → Ascends cmp ys → Ascends cmp (xs ++ ys)
 ascends-append cmp [] ys up low rest = rest

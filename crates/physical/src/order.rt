@@ -6,8 +6,8 @@ ghost use Rattle.physical.specs.Orders as spec;
 ghost use Rattle.physical.specs.Plays as plays;
 
 use crate::plan::{Node, OrderKey, Plan};
-use query::{Query, SortKey, TableUse};
 use logical::{Columns, query_numbers};
+use query::{Query, SortKey, TableUse};
 use std::alloc::{AllocError, Global};
 
 // ---- columns

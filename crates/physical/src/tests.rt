@@ -2,8 +2,8 @@
 
 use crate::order::{delivers, query_order};
 use crate::plan::{JoinKind, Node, OrderKey, Plan};
-use query::{Block, Column, From, Item, Occurrence, Query, SortKey, TableUse};
 use logical::{Columns, Conjuncts};
+use query::{Block, Column, From, Item, Occurrence, Query, SortKey, TableUse};
 use schema::{Kind, Table};
 use std::alloc::{AllocError, Global};
 use std::fmt::Write;

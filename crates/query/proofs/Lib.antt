@@ -2,9 +2,12 @@ pub mod Company
 pub mod Counting
 pub mod Equations
 pub mod Groups
+pub mod Lists
 pub mod Obeys
 pub mod SameCounts
+pub mod ScopeEquations
 pub mod Sources
+pub mod TableUses
 pub mod Truths
 pub mod Unique
 pub mod Widths

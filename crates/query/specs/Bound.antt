@@ -1,7 +1,8 @@
 -- What is known of every bound query: what its blocks name is there, and the columns that a condition can name have numbers
 -- of their own. Columns by level and place, and their numbers, are this project's profile of SQL.
-use Rattle.std.specs.Prelude.{ℕ, Bool, true, false, not, ◌&&◌, ◌==◌, nat_lt, if◌then◌else◌, List, [], ◌∷◌, ◌++◌, length, slice_get, slice_index_or, Option, Some, None}
-use Rattle.std.specs.List.{list_any, list_all, range_with_len}
+use Rattle.std.specs.Prelude.{◌≡◌, ℕ, Bool, true, false, not, ◌&&◌, ◌==◌, nat_lt, if◌then◌else◌, List, [], ◌∷◌, ◌++◌, length, slice_get, slice_index_or, Option, Some, None}
+use Rattle.std.specs.List.{AllByRecursion, list_any, list_all, range_with_len}
+use Rattle.schema.specs.declared.schema.Schema.{Schema}
 use Rattle.query.specs.declared.query.Column.{Column}
 use Rattle.query.specs.declared.query.Term.{Term}
 use Rattle.query.specs.declared.query.Term.TheVariants as term
@@ -169,3 +170,14 @@ block_scope uses = fold-Block CondScope FromScope BlockScope cond_scope_layer (f
 -- all that the query names is there, and the columns that a condition can name have numbers of their own
 abbrev pub is_bound : Query → Bool
 is_bound q = (block_scope q.tables q.block).bound []
+
+-- ---- over a schema
+
+-- the table occurrence is one of a table of the schema
+abbrev pub IsOver : Schema → TableUse → Type 0
+IsOver S t = slice_get S.tables t.table ≡ Some t.entry
+
+-- the query is bound, and so are all its table occurrences
+pub record IsBoundOver (S : Schema) (q : Query) : Type 0 where
+  pub bound : is_bound q ≡ true
+  pub over : AllByRecursion (IsOver S) q.tables

@@ -1,5 +1,1 @@
-pub mod Canonical
-pub mod EndToEnd
-pub mod Lines
-pub mod Refusals
 pub mod Stops

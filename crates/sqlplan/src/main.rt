@@ -4,24 +4,14 @@
 ghost use Rattle.std.specs.Prelude.{◌≡◌, length, vec_len, IfOk, IfErr};
 ghost use Rattle.sqlplan.specs.Stops.{SaysFile, SaysTable};
 
-#[cfg(test)]
-mod answers;
-mod canonical;
-#[cfg(test)]
-mod canonical_tests;
 mod command;
-mod end_to_end;
-mod refusal;
 mod stop;
-#[cfg(test)]
-mod tests;
 
 use clap::ArgMatches;
 use clap::error::ErrorKind;
 use command::command;
-use end_to_end::{evaluate, query};
 use executor::CountedOutput;
-use refusal::Refusal;
+use pipeline::{Refusal, evaluate, query};
 use schema::Schema;
 use std::alloc::Global;
 use std::fs::File;

@@ -2,11 +2,11 @@
 
 ghost use Rattle.std.specs.Prelude.{◌≡◌};
 ghost use Rattle.std.specs.Option.{option_copied};
-ghost use Rattle.sqlplan.specs.Lines.{line_of};
-ghost use Rattle.sqlplan.specs.Refusals as refusals;
+ghost use Rattle.pipeline.specs.Lines.{line_of};
+ghost use Rattle.pipeline.specs.Refusals as refusals;
 ghost use Rattle.sqlplan.specs.Stops as spec;
 
-use crate::refusal::{Refusal, fault_line};
+use pipeline::{Refusal, fault_line};
 use schema::Schema;
 use std::alloc::{AllocError, AllocFailed, Global};
 use std::io;

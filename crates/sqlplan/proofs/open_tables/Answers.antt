@@ -2,7 +2,7 @@ use Rattle.std.proofs.Common.{◌∙◌, ap, length, Err, arith}
 use Rattle.std.proofs.lemmas.Result.{err_from_is_err_and}
 use Rattle.sqlplan.specs.declared.stop.Stop.TheVariants.{Memory}
 use Rattle.sqlplan.specs.Stops.{SaysTable}
-use Rattle.sqlplan.proofs.Queried.{of_fault}
+use Rattle.pipeline.proofs.Answered.{of_fault}
 use Rattle.sqlplan.proofs.open_tables.Goals as goal
 
 pub returns-in_err-path-clause-fails : goal.returns-in_err-path-clause-fails

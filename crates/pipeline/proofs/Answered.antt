@@ -1,0 +1,149 @@
+-- The answer of a query, and of a text.
+use Rattle.std.proofs.Common.{◌≡◌, ◌≢◌, refl, sym, ◌∙◌, ℕ, List, Result, Ok, Err, IfErr, OnErr}
+use Rattle.values.specs.declared.fault.Fault.{Fault}
+use Rattle.values.specs.declared.fault.Fault.TheVariants as fault
+use Rattle.values.specs.Faults.{Fails}
+use Rattle.schema.specs.declared.schema.Schema.{Schema}
+use Rattle.schema.specs.Reading.{schema_of}
+use Rattle.store.specs.Databases.{Stored}
+use Rattle.store.specs.Devices.{Rose}
+use Rattle.query.specs.declared.query.Query.{Query}
+use Rattle.query.specs.Rows.{tables_of}
+use Rattle.physical.specs.Plays.{answer}
+use Rattle.checker.specs.declared.certificate.Certificate.{Certificate}
+use Rattle.checker.specs.declared.certificate.CheckRefusal.{CheckRefusal}
+use Rattle.query.specs.Bound.{IsBoundOver}
+use Rattle.checker.specs.Replay.{Accepted, replayed}
+use Rattle.checker.proofs.Right.{checked}
+use Rattle.executor.specs.declared.output.OutputFailed.{OutputFailed}
+use Rattle.executor.specs.AnswerText.{answer_text}
+use Rattle.executor.specs.Execution.{plan_text}
+use Rattle.pipeline.specs.declared.refusal.Refusal.{Refusal}
+use Rattle.pipeline.specs.declared.refusal.Refusal.TheVariants as refusal
+use Rattle.pipeline.specs.Refusals.{of_check, of_answer}
+use Rattle.pipeline.specs.EndToEnd.{Input, IsPrepared, IsUnprepared, ByPlan, ByMeaning, IsAnswerFault, WithAnswer, WithPlanned, IsRefusedBy, IsBefore, IsDeviceFault, AreQuiet}
+
+-- ---- what holds of the fault that a call ends with
+
+pub of_fault : {A E : Type 0} (r : Result A E) (e : E) (P : E → Type 0) → r ≡ Err e → P e → IfErr r P
+of_fault r e P is h = rw is h
+
+pub on_fault : {A E : Type 0} (r : Result A E) (e : E) (P : Type 0) → r ≡ Err e → P → OnErr r P
+on_fault r e P is h = rw is h
+
+-- ---- the check
+
+-- the certificate that was checked is the one that replays
+pub same_certificate : (q : Query) (V W : Certificate) → replayed q V ≡ Ok V → replayed q V ≡ Ok W → W ≡ V
+same_certificate q V W one other = let e : Ok V ≡ Ok W = sym one ∙ other in cc
+
+-- the check of a certificate that replays fails for want of memory alone
+pub only_memory : (f : Fault CheckRefusal) (q : Query) (V : Certificate) → Fails f (replayed q V) → replayed q V ≡ Ok V → of_check f ≡ refusal.Memory
+only_memory fault.Memory q V fails ok = refl
+only_memory (fault.Refused r) q V fails ok = let e : Ok V ≡ Err r = sym ok ∙ fails in cc
+
+pub by_plan : (S : Schema) (q : Query) (d : Stored) (V : Certificate) (a : Accepted) (P : List ℕ → Type 0) → d.schema ≡ S → IsBoundOver S q → replayed q V ≡ Ok V
+    → a.query ≡ q → replayed q V ≡ Ok a.certificate → P (plan_text a d) → ByPlan S q d.tables P
+by_plan S q d V a P over bound replays query verdict p =
+    let same : plan_text a d ≡ answer_text q.names (answer q (tables_of S d.tables) V.plan) = rw (over, query, same_certificate q V a.certificate replays verdict) refl in
+    (V, checked S q bound V replays, rw same at p)
+
+-- ---- the answer
+
+pub answer_fault : (o p : ℕ) (f : Fault OutputFailed) → (f ≢ fault.Memory → Rose o p) → (f ≡ fault.Memory → p ≡ o) → IsAnswerFault o p (of_answer f)
+answer_fault o p fault.Memory rose same = same refl
+answer_fault o p (fault.Refused r) rose same = rose (λ e. cc e)
+
+-- ---- texts
+
+pub planned : (schema text : List ℕ) (inputs : List Input) (S : Schema) (q : Query) (d : Stored) (P : List ℕ → Type 0) → schema_of schema ≡ Ok S → IsPrepared S text inputs q d
+    → ByPlan S q d.tables P → WithPlanned schema text inputs P
+planned schema text inputs S q d P is ready by = (
+  answer_text q.names (answer q (tables_of S d.tables) by.0.plan),
+  record {
+    S = S;
+    query = q;
+    asks = record { is_schema = is; is_query = ready.is_query };
+    database = d.tables;
+    told = ready.told;
+    satisfies = ready.satisfies;
+    rows = answer q (tables_of S d.tables) by.0.plan;
+    answers = by.1.answers d.tables ready.satisfies;
+    written_is = refl;
+  },
+  record { certificate = by.0; checked = by.1; rows_are = refl },
+  by.2,
+)
+
+pub meant : (schema text : List ℕ) (inputs : List Input) (S : Schema) (q : Query) (d : Stored) (P : List ℕ → Type 0) → schema_of schema ≡ Ok S → IsPrepared S text inputs q d
+    → ByMeaning d.schema q d.tables P → WithAnswer schema text inputs P
+meant schema text inputs S q d P is ready by = (
+  answer_text q.names by.0,
+  record {
+    S = S;
+    query = q;
+    asks = record { is_schema = is; is_query = ready.is_query };
+    database = d.tables;
+    told = ready.told;
+    satisfies = ready.satisfies;
+    rows = by.0;
+    answers = rw (← ready.is_over) by.1;
+    written_is = refl;
+  },
+  by.2,
+)
+
+-- ---- refusals
+
+pub unprepared_refused : (schema text : List ℕ) (S : Schema) (inputs : List Input) (r : Refusal) → schema_of schema ≡ Ok S → IsUnprepared S text inputs r → IsRefusedBy schema text inputs r
+unprepared_refused schema text S inputs refusal.Memory is h = tt
+unprepared_refused schema text S inputs (refusal.Text r) is h = (S, is, h)
+unprepared_refused schema text S inputs (refusal.Scope r) is h = (S, is, h)
+unprepared_refused schema text S inputs (refusal.Table n r) is h = (S, h.0, record { is_schema = is; is_query = h.1 }, h.2)
+unprepared_refused schema text S inputs (refusal.TableDevice n) is h = (S, h.0, record { is_schema = is; is_query = h.1 }, tt)
+unprepared_refused schema text S inputs (refusal.Schema r) is h = absurd h
+unprepared_refused schema text S inputs (refusal.Check r) is h = absurd h
+unprepared_refused schema text S inputs refusal.Output is h = absurd h
+
+-- what is not prepared says nothing of the output
+pub unprepared_device : (text : List ℕ) (S : Schema) (inputs : List Input) (old new : List ℕ) (o : ℕ) (r : Refusal) → IsUnprepared S text inputs r → IsDeviceFault old new 0 0 r → IsDeviceFault old new o o r
+unprepared_device text S inputs old new o refusal.Memory h d = (d.0, refl)
+unprepared_device text S inputs old new o (refusal.Text r) h d = (d.0, refl)
+unprepared_device text S inputs old new o (refusal.Scope r) h d = (d.0, refl)
+unprepared_device text S inputs old new o (refusal.Table n r) h d = (d.0, refl)
+unprepared_device text S inputs old new o (refusal.TableDevice n) h d = (d.0, refl)
+unprepared_device text S inputs old new o (refusal.Schema r) h d = absurd h
+unprepared_device text S inputs old new o (refusal.Check r) h d = absurd h
+unprepared_device text S inputs old new o refusal.Output h d = absurd h
+
+pub answer_refused : (schema text : List ℕ) (S : Schema) (q : Query) (d : Stored) (inputs : List Input) (o p : ℕ) (r : Refusal) → schema_of schema ≡ Ok S → IsPrepared S text inputs q d
+    → IsAnswerFault o p r → IsRefusedBy schema text inputs r
+answer_refused schema text S q d inputs o p refusal.Memory is ready h = tt
+answer_refused schema text S q d inputs o p refusal.Output is ready h = (S, q, record { is_schema = is; is_query = ready.is_query }, tt)
+answer_refused schema text S q d inputs o p (refusal.Text r) is ready h = absurd h
+answer_refused schema text S q d inputs o p (refusal.Scope r) is ready h = absurd h
+answer_refused schema text S q d inputs o p (refusal.Table n r) is ready h = absurd h
+answer_refused schema text S q d inputs o p (refusal.TableDevice n) is ready h = absurd h
+answer_refused schema text S q d inputs o p (refusal.Schema r) is ready h = absurd h
+answer_refused schema text S q d inputs o p (refusal.Check r) is ready h = absurd h
+
+pub answer_device : (old new : List ℕ) (o p : ℕ) (r : Refusal) → AreQuiet old new → IsAnswerFault o p r → IsDeviceFault old new o p r
+answer_device old new o p refusal.Memory quiet h = (quiet, h)
+answer_device old new o p refusal.Output quiet h = (quiet, h)
+answer_device old new o p (refusal.Text r) quiet h = absurd h
+answer_device old new o p (refusal.Scope r) quiet h = absurd h
+answer_device old new o p (refusal.Table n r) quiet h = absurd h
+answer_device old new o p (refusal.TableDevice n) quiet h = absurd h
+answer_device old new o p (refusal.Schema r) quiet h = absurd h
+answer_device old new o p (refusal.Check r) quiet h = absurd h
+
+-- a fault of the answer comes after its beginning
+pub answer_after : (o p : ℕ) (r : Refusal) → IsAnswerFault o p r → IsBefore r → ⊥
+answer_after o p refusal.Memory h before = before
+answer_after o p refusal.Output h before = before
+answer_after o p (refusal.Text r) h before = h
+answer_after o p (refusal.Scope r) h before = h
+answer_after o p (refusal.Table n r) h before = h
+answer_after o p (refusal.TableDevice n) h before = h
+answer_after o p (refusal.Schema r) h before = h
+answer_after o p (refusal.Check r) h before = h

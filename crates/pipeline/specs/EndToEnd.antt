@@ -1,0 +1,188 @@
+-- From bytes to bytes.
+use Rattle.std.specs.Prelude.{◌≡◌, ◌<◌, ℕ, List, [], length, slice_get, slice_index_or, Option, Some, None, Result, Ok, Err}
+use Rattle.schema.specs.declared.schema.Schema.{Schema}
+use Rattle.schema.specs.declared.schema.Table.{Table}
+use Rattle.schema.specs.Databases.{Row, Database, Satisfies}
+use Rattle.schema.specs.Reading.{schema_of}
+use Rattle.sql_parse.specs.declared.statement.Statement.{Statement}
+use Rattle.sql_parse.specs.Statements.{ReadsStatement, IsStatementFault}
+use Rattle.store.specs.declared.fault.TableRefusal.{TableRefusal}
+use Rattle.store.specs.Databases.{Stored}
+use Rattle.store.specs.Devices.{Rose}
+use Rattle.store.specs.Tables.{records_of, IsTold}
+use Rattle.query.specs.declared.query.Query.{Query}
+use Rattle.binder.specs.declared.fault.BindRefusal.{BindRefusal}
+use Rattle.binder.specs.Queries.{bound_statement}
+use Rattle.query.specs.Rows.{tables_of}
+use Rattle.query.specs.Answer.{IsAnswer}
+use Rattle.checker.specs.declared.certificate.Certificate.{Certificate}
+use Rattle.physical.specs.Plays.{answer}
+use Rattle.checker.specs.Replay.{IsChecked}
+use Rattle.executor.specs.AnswerText.{answer_text}
+use Rattle.pipeline.specs.declared.refusal.Refusal.{Refusal}
+use Rattle.pipeline.specs.declared.refusal.Refusal.TheVariants as refusal
+
+-- ---- what is asked
+
+-- where the bytes are a schema, it has so many tables
+abbrev pub HasTables : List ℕ → ℕ → Type 0
+HasTables bytes n = (S : Schema) → schema_of bytes ≡ Ok S → n ≡ length S.tables
+
+-- the text is this query over the schema
+abbrev pub IsQuery : List ℕ → Schema → Query → Type 0
+IsQuery text S q = (tree : Statement) × ReadsStatement text tree × (bound_statement S tree ≡ Ok q)
+
+-- the text is a statement, which over the schema is no query for this cause
+abbrev pub IsUnbound : List ℕ → Schema → BindRefusal → Type 0
+IsUnbound text S r = (tree : Statement) × ReadsStatement text tree × (bound_statement S tree ≡ Err r)
+
+-- the bytes are a schema, and the text is a query over it
+pub record Asks (schema text : List ℕ) (S : Schema) (q : Query) : Type 0 where
+  pub is_schema : schema_of schema ≡ Ok S
+  pub is_query : IsQuery text S q
+
+-- ---- the tables' files
+
+-- the bytes that an input has still to give, where they are known
+abbrev pub Input : Type 0
+Input = Option (List ℕ)
+
+-- as the file of the table with this number, the input tells its rows or its first fault
+abbrev pub FileTells : Schema → List Input → ℕ → Result (List Row) TableRefusal → Type 0
+FileTells S inputs n told = (t : Table) (bytes : List ℕ) → slice_get S.tables n ≡ Some t → slice_index_or inputs n None ≡ Some bytes
+    → IsTold t (records_of bytes) told
+
+-- the inputs tell the rows of the first so many tables of the database
+abbrev pub TablesTold : Schema → List Input → ℕ → Database → Type 0
+TablesTold S inputs count D = (n : ℕ) → n < count → FileTells S inputs n (Ok (slice_index_or D n []))
+
+-- the fault is the first of the table's file, and the files of the tables before it tell rows
+pub record IsTableRefused (S : Schema) (inputs : List Input) (n : ℕ) (r : TableRefusal) : Type 0 where
+  pub earlier : Database
+  pub told : TablesTold S inputs n earlier
+  pub fault : FileTells S inputs n (Err r)
+
+-- why the tables were not loaded
+abbrev pub IsLoadFault : Schema → List Input → Refusal → Type 0
+IsLoadFault S inputs refusal.Memory = Unit {0}
+IsLoadFault S inputs (refusal.TableDevice n) = Unit {0}
+IsLoadFault S inputs (refusal.Table n r) = IsTableRefused S inputs n r
+IsLoadFault S inputs _ = ⊥
+
+-- ---- what is prepared
+
+-- why the text is no query over the schema
+abbrev pub IsNoQuery : List ℕ → Schema → Refusal → Type 0
+IsNoQuery text S refusal.Memory = Unit {0}
+IsNoQuery text S (refusal.Text r) = IsStatementFault text r
+IsNoQuery text S (refusal.Scope r) = IsUnbound text S r
+IsNoQuery text S _ = ⊥
+
+-- the query that the text is over the schema, and the rows that the files tell
+pub record IsPrepared (S : Schema) (text : List ℕ) (inputs : List Input) (q : Query) (d : Stored) : Type 0 where
+  pub is_query : IsQuery text S q
+  pub is_over : d.schema ≡ S
+  pub told : TablesTold S inputs (length S.tables) d.tables
+  pub satisfies : Satisfies S d.tables
+
+-- the text is a query, whose tables were not loaded for this cause
+abbrev pub IsNotLoaded : Schema → List ℕ → List Input → Refusal → Type 0
+IsNotLoaded S text inputs r = (q : Query) × IsQuery text S q × IsLoadFault S inputs r
+
+-- why they are not there: the first fault, in the order text, scope, tables
+abbrev pub IsUnprepared : Schema → List ℕ → List Input → Refusal → Type 0
+IsUnprepared S text inputs refusal.Memory = Unit {0}
+IsUnprepared S text inputs (refusal.Table n r) = IsNotLoaded S text inputs (refusal.Table n r)
+IsUnprepared S text inputs (refusal.TableDevice n) = IsNotLoaded S text inputs (refusal.TableDevice n)
+IsUnprepared S text inputs (refusal.Text r) = IsStatementFault text r
+IsUnprepared S text inputs (refusal.Scope r) = IsUnbound text S r
+IsUnprepared S text inputs _ = ⊥
+
+-- ---- the answer
+
+-- the text of the rows that the plan of a checked certificate gives over the database is as said
+abbrev pub ByPlan : Schema → Query → Database → (List ℕ → Type 0) → Type 0
+ByPlan S q D P = (c : Certificate) × IsChecked S q c × P (answer_text q.names (answer q (tables_of S D) c.plan))
+
+-- the text of rows that are an answer over the database is as said
+abbrev pub ByMeaning : Schema → Query → Database → (List ℕ → Type 0) → Type 0
+ByMeaning S q D P = (rows : List Row) × IsAnswer q (tables_of S D) rows × P (answer_text q.names rows)
+
+-- while the answer is made or written: memory ran out, or the output's count of failures rose between these
+abbrev pub IsAnswerFault : ℕ → ℕ → Refusal → Type 0
+IsAnswerFault out out' refusal.Memory = out' ≡ out
+IsAnswerFault out out' refusal.Output = Rose out out'
+IsAnswerFault out out' _ = ⊥
+
+-- the text of an answer of the query that is asked, over the rows that the files tell
+pub record IsAnswerText (schema text : List ℕ) (inputs : List Input) (written : List ℕ) : Type 0 where
+  pub S : Schema
+  pub query : Query
+  pub asks : Asks schema text S query
+  pub database : Database
+  pub told : TablesTold S inputs (length S.tables) database
+  pub satisfies : Satisfies S database
+  pub rows : List Row
+  pub answers : IsAnswer query (tables_of S database) rows
+  pub written_is : written ≡ answer_text query.names rows
+
+-- the rows of that text are those that the plan of a checked certificate gives
+pub record IsByPlan {schema text : List ℕ} {inputs : List Input} {written : List ℕ} (A : IsAnswerText schema text inputs written) : Type 0 where
+  pub certificate : Certificate
+  pub checked : IsChecked A.S A.query certificate
+  pub rows_are : A.rows ≡ answer A.query (tables_of A.S A.database) certificate.plan
+
+-- some such text is as said
+abbrev pub WithAnswer : List ℕ → List ℕ → List Input → (List ℕ → Type 0) → Type 0
+WithAnswer schema text inputs P = (written : List ℕ) × IsAnswerText schema text inputs written × P written
+
+-- some such text, whose rows are by a checked plan, is as said
+abbrev pub WithPlanned : List ℕ → List ℕ → List Input → (List ℕ → Type 0) → Type 0
+WithPlanned schema text inputs P = (written : List ℕ) × (A : IsAnswerText schema text inputs written) × IsByPlan A × P written
+
+-- ---- refusals
+
+-- some query is asked, over a schema that is as said
+abbrev pub WithQuery : List ℕ → List ℕ → (Schema → Type 0) → Type 0
+WithQuery schema text P = (S : Schema) × (q : Query) × Asks schema text S q × P S
+
+-- the first fault, in the order schema, text, scope, tables; no query is refused for its certificate
+abbrev pub IsRefusedBy : List ℕ → List ℕ → List Input → Refusal → Type 0
+IsRefusedBy schema text inputs refusal.Memory = Unit {0}
+IsRefusedBy schema text inputs (refusal.Schema r) = schema_of schema ≡ Err r
+IsRefusedBy schema text inputs (refusal.Text r) = (S : Schema) × (schema_of schema ≡ Ok S) × IsStatementFault text r
+IsRefusedBy schema text inputs (refusal.Scope r) = (S : Schema) × (schema_of schema ≡ Ok S) × IsUnbound text S r
+IsRefusedBy schema text inputs (refusal.Check r) = ⊥
+IsRefusedBy schema text inputs (refusal.Table n r) = WithQuery schema text (λ S. IsTableRefused S inputs n r)
+IsRefusedBy schema text inputs (refusal.TableDevice n) = WithQuery schema text (λ S. Unit {0})
+IsRefusedBy schema text inputs refusal.Output = WithQuery schema text (λ S. Unit {0})
+
+-- the refusal comes before anything is written
+abbrev pub IsBefore : Refusal → Type 0
+IsBefore refusal.Memory = ⊥
+IsBefore refusal.Output = ⊥
+IsBefore (refusal.Schema r) = Unit {0}
+IsBefore (refusal.Text r) = Unit {0}
+IsBefore (refusal.Scope r) = Unit {0}
+IsBefore (refusal.Check r) = Unit {0}
+IsBefore (refusal.Table n r) = Unit {0}
+IsBefore (refusal.TableDevice n) = Unit {0}
+
+-- the counts of failures stayed as they were
+abbrev pub AreQuiet : List ℕ → List ℕ → Type 0
+AreQuiet old new = (n : ℕ) → slice_index_or new n 0 ≡ slice_index_or old n 0
+
+-- so did those of the tables and that of the output
+abbrev pub IsQuiet : List ℕ → List ℕ → ℕ → ℕ → Type 0
+IsQuiet old new out out' = AreQuiet old new × (out' ≡ out)
+
+-- the device whose fault is told failed: its count of failures rose between these; where none is told, none failed
+abbrev pub IsDeviceFault : List ℕ → List ℕ → ℕ → ℕ → Refusal → Type 0
+IsDeviceFault old new out out' (refusal.TableDevice n) = Rose (slice_index_or old n 0) (slice_index_or new n 0) × (out' ≡ out)
+IsDeviceFault old new out out' refusal.Output = AreQuiet old new × Rose out out'
+IsDeviceFault old new out out' refusal.Memory = IsQuiet old new out out'
+IsDeviceFault old new out out' (refusal.Schema r) = IsQuiet old new out out'
+IsDeviceFault old new out out' (refusal.Text r) = IsQuiet old new out out'
+IsDeviceFault old new out out' (refusal.Scope r) = IsQuiet old new out out'
+IsDeviceFault old new out out' (refusal.Check r) = IsQuiet old new out out'
+IsDeviceFault old new out out' (refusal.Table n r) = IsQuiet old new out out'

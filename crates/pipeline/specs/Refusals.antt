@@ -1,0 +1,49 @@
+-- The refusal that each part's fault is, and the program's status for it.
+use Rattle.std.specs.Prelude.{ℕ}
+use Rattle.values.specs.declared.fault.Fault.{Fault}
+use Rattle.values.specs.declared.fault.Fault.TheVariants as fault
+use Rattle.schema.specs.declared.fault.SchemaRefusal.{SchemaRefusal}
+use Rattle.checker.specs.declared.certificate.CheckRefusal.{CheckRefusal}
+use Rattle.sql_parse.specs.declared.fault.ParseRefusal.{ParseRefusal}
+use Rattle.binder.specs.declared.fault.BindRefusal.{BindRefusal}
+use Rattle.executor.specs.declared.output.OutputFailed.{OutputFailed}
+use Rattle.store.specs.declared.fault.TableFault.{TableFault}
+use Rattle.store.specs.declared.fault.TableFault.TheVariants as table
+use Rattle.pipeline.specs.declared.refusal.Refusal.{Refusal}
+use Rattle.pipeline.specs.declared.refusal.Refusal.TheVariants.{Memory, Schema, Text, Scope, Check, Table, TableDevice, Output}
+
+abbrev pub of_schema : Fault SchemaRefusal → Refusal
+of_schema fault.Memory = Memory
+of_schema (fault.Refused r) = Schema r
+
+abbrev pub of_text : Fault ParseRefusal → Refusal
+of_text fault.Memory = Memory
+of_text (fault.Refused r) = Text r
+
+abbrev pub of_scope : Fault BindRefusal → Refusal
+of_scope fault.Memory = Memory
+of_scope (fault.Refused r) = Scope r
+
+abbrev pub of_check : Fault CheckRefusal → Refusal
+of_check fault.Memory = Memory
+of_check (fault.Refused r) = Check r
+
+abbrev pub of_answer : Fault OutputFailed → Refusal
+of_answer fault.Memory = Memory
+of_answer (fault.Refused r) = Output
+
+abbrev pub of_table : ℕ → TableFault → Refusal
+of_table t table.Memory = Memory
+of_table t table.Device = TableDevice t
+of_table t (table.Refused r) = Table t r
+
+-- 2 where what was handed in is refused, 3 where the machine failed
+abbrev pub status_of : Refusal → ℕ
+status_of Memory = 3
+status_of (Schema r) = 2
+status_of (Text r) = 2
+status_of (Scope r) = 2
+status_of (Check r) = 2
+status_of (Table t r) = 2
+status_of (TableDevice t) = 3
+status_of Output = 3

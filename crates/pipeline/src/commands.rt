@@ -1,0 +1,75 @@
+//! From the bytes of files to the bytes of an answer.
+
+ghost use Rattle.std.specs.Prelude.{◌≡◌, ◌⊎◌, [], length, map, IfErr, OnOk, OnErr};
+ghost use Rattle.std.specs.Io.KnownBytes.{Appends};
+ghost use Rattle.executor.specs.AnswerText.{HasFront};
+ghost use Rattle.pipeline.specs.EndToEnd.{HasTables, WithAnswer, WithPlanned, IsRefusedBy, IsBefore, IsDeviceFault, IsQuiet};
+
+use crate::answer::{answer_by_meaning, answer_by_plan};
+use crate::preparation::{Prepared, prepare};
+use crate::refusal::Refusal;
+use executor::AnswerOutput;
+use schema::Schema;
+use std::alloc::Global;
+use store::TableInput;
+
+/// Answers a query: reads the schema, the text and the tables' files, checks a plan and writes what it gives. The tables are
+/// one input each, in the order of the schema.
+///
+/// The first fault is told, in the order schema, text, scope, tables, and `out` is then as it was. During the answer
+/// memory or the output may fail, and then a beginning of the answer has been written. No search uses `_limit` yet.
+pub fn query<R: TableInput, W: AnswerOutput>(
+    alloc: Global,
+    schema: &[u8],
+    text: &[u8],
+    tables: &mut [R],
+    _limit: u32,
+    out: &mut W,
+) -> Result<(), Refusal>
+    requires { HasTables schema.now (length tables.old) }
+    // What is added to the output is the text of an answer.
+    ensures answered { OnOk result (WithPlanned schema.now text.now (map R.remaining tables.old) (Appends (W.contents out.old) (W.contents out.new))) }
+    // Nothing of it is held back.
+    ensures handed { OnOk result (W.held out.new ≡ []) }
+    ensures refused { IfErr result (IsRefusedBy schema.now text.now (map R.remaining tables.old)) }
+    ensures untouched { IfErr result (λ r. IsBefore r → out.new ≡ out.old) }
+    // A fault that comes later leaves a beginning of such a text.
+    ensures front { OnErr result ((out.new ≡ out.old) ⊎ WithPlanned schema.now text.now (map R.remaining tables.old) (HasFront (W.contents out.old) (W.contents out.new))) }
+    ensures device { IfErr result (IsDeviceFault (map R.failures tables.old) (map R.failures tables.new) (W.failures out.old) (W.failures out.new)) }
+    // No other call of a device failed, and none where there is an answer.
+    ensures quiet { OnOk result (IsQuiet (map R.failures tables.old) (map R.failures tables.new) (W.failures out.old) (W.failures out.new)) }
+{
+    let schema = Schema::read(alloc, schema)?;
+    let Prepared { query, database } = prepare(alloc, &schema, text, tables)?;
+    answer_by_plan(alloc, &schema, &query, &database, out)
+}
+
+/// Answers a query by the slow evaluator, with no plan: reads the schema, the text and the tables'
+/// files, and writes what the query means. The tables are one input each, in the order of the schema.
+///
+/// The first fault is told, in the order schema, text, scope, tables, and `out` is then as it was. Memory or the output may
+/// fail later, and then a beginning of the answer may have been written.
+pub fn evaluate<R: TableInput, W: AnswerOutput>(
+    alloc: Global,
+    schema: &[u8],
+    text: &[u8],
+    tables: &mut [R],
+    out: &mut W,
+) -> Result<(), Refusal>
+    requires { HasTables schema.now (length tables.old) }
+    // What is added to the output is the text of an answer.
+    ensures answered { OnOk result (WithAnswer schema.now text.now (map R.remaining tables.old) (Appends (W.contents out.old) (W.contents out.new))) }
+    // Nothing of it is held back.
+    ensures handed { OnOk result (W.held out.new ≡ []) }
+    ensures refused { IfErr result (IsRefusedBy schema.now text.now (map R.remaining tables.old)) }
+    ensures untouched { IfErr result (λ r. IsBefore r → out.new ≡ out.old) }
+    // A fault that comes later leaves a beginning of such a text.
+    ensures front { OnErr result ((out.new ≡ out.old) ⊎ WithAnswer schema.now text.now (map R.remaining tables.old) (HasFront (W.contents out.old) (W.contents out.new))) }
+    ensures device { IfErr result (IsDeviceFault (map R.failures tables.old) (map R.failures tables.new) (W.failures out.old) (W.failures out.new)) }
+    // No other call of a device failed, and none where there is an answer.
+    ensures quiet { OnOk result (IsQuiet (map R.failures tables.old) (map R.failures tables.new) (W.failures out.old) (W.failures out.new)) }
+{
+    let schema = Schema::read(alloc, schema)?;
+    let Prepared { query, database } = prepare(alloc, &schema, text, tables)?;
+    answer_by_meaning(alloc, &query, &database, out)
+}

@@ -1,0 +1,10 @@
+//! Queries from the bytes of files to the bytes of an answer, and the lines of refusals.
+#![tactic(auto)]
+
+mod answer;
+mod commands;
+mod preparation;
+mod refusal;
+
+pub use commands::{evaluate, query};
+pub use refusal::{Refusal, fault_line};

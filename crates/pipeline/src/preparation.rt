@@ -1,0 +1,68 @@
+//! What a query is asked of: its bound form, and the loaded tables.
+
+ghost use Rattle.std.specs.Prelude.{◌≡◌, ◌≤◌, length, map, IfOk, IfErr, OnOk};
+ghost use Rattle.pipeline.specs.EndToEnd.{IsQuery, IsNoQuery, TablesTold, IsLoadFault, IsPrepared, IsUnprepared, IsDeviceFault, AreQuiet};
+
+use crate::refusal::Refusal;
+use binder::bind_statement;
+use query::Query;
+use schema::Schema;
+use sql_parse::parse_statement_bytes;
+use std::alloc::Global;
+use store::{Database, TableInput};
+
+/// A query over the tables that its inputs gave.
+#[derive(Drop)]
+pub(crate) struct Prepared<'s> {
+    pub query: Query,
+    pub database: Database<'s>,
+}
+
+/// Loads the tables, one input each in the order of the schema.
+fn load_all<R: TableInput>(
+    alloc: Global,
+    database: &mut Database<'_>,
+    tables: &mut [R],
+) -> Result<(), Refusal>
+    requires { length tables.old ≤ length database.old.tables }
+    ensures schema { database.new.schema ≡ database.old.schema }
+    ensures told { OnOk result (TablesTold database.old.schema (map R.remaining tables.old) (length tables.old) database.new.tables) }
+    ensures fails { IfErr result (IsLoadFault database.old.schema (map R.remaining tables.old)) }
+    ensures device { IfErr result (IsDeviceFault (map R.failures tables.old) (map R.failures tables.new) 0 0) }
+    ensures quiet { OnOk result (AreQuiet (map R.failures tables.old) (map R.failures tables.new)) }
+{
+    for number in 0..tables.len() {
+        if let Err(fault) = database.load(alloc, number, &mut tables[number]) {
+            return Err(Refusal::of_table(number, fault));
+        }
+    }
+    Ok(())
+}
+
+/// The query that a text is.
+fn bound_query(alloc: Global, schema: &Schema, text: &[u8]) -> Result<Query, Refusal>
+    ensures ok { IfOk result (IsQuery text.now schema.now) }
+    ensures fails { IfErr result (IsNoQuery text.now schema.now) }
+{
+    let statement = parse_statement_bytes(alloc, text)?;
+    Ok(bind_statement(alloc, schema, &statement)?)
+}
+
+/// Reads the text and loads the tables, one input each in the order of the schema.
+pub(crate) fn prepare<'s, R: TableInput>(
+    alloc: Global,
+    schema: &'s Schema,
+    text: &[u8],
+    tables: &mut [R],
+) -> Result<Prepared<'s>, Refusal>
+    requires { length tables.old ≡ length schema.now.tables }
+    ensures prepared { IfOk result (λ p. IsPrepared schema.now text.now (map R.remaining tables.old) p.query p.database) }
+    ensures refused { IfErr result (IsUnprepared schema.now text.now (map R.remaining tables.old)) }
+    ensures device { IfErr result (IsDeviceFault (map R.failures tables.old) (map R.failures tables.new) 0 0) }
+    ensures quiet { OnOk result (AreQuiet (map R.failures tables.old) (map R.failures tables.new)) }
+{
+    let query = bound_query(alloc, schema, text)?;
+    let mut database = Database::new(alloc, schema)?;
+    load_all(alloc, &mut database, tables)?;
+    Ok(Prepared { query, database })
+}

@@ -1,0 +1,78 @@
+-- The plan of a class, of its node and the plans of its inputs.
+use Rattle.std.proofs.Common.{◌≡◌, refl, ap, ◌∙◌, ℕ, suc, ◌+◌, ◌<◌, nat_lt, Bool, true, false, not, List, [], ◌∷◌, ◌++◌, map, length, Some, Ok}
+use Rattle.std.specs.List.{slice_get, list_all}
+use Rattle.std.proofs.lemmas.Bool.{eq-eqb, ltb-true, and_from}
+use Rattle.values.specs.Faults.{◌>>=◌}
+use Rattle.logical.specs.declared.expr.Expr.{Expr}
+use Rattle.logical.specs.Expressions.{input_classes}
+use Rattle.logical.proofs.NamedClasses.{inputs-pass}
+use Rattle.physical.specs.declared.plan.Node.{Node}
+use Rattle.physical.specs.declared.plan.Plan.{Plan, roll-Plan, out-roll-Plan, fold-roll-Plan}
+use Rattle.checker.specs.Replay.{at_line, node_fits, inputs_fit, plan_fits}
+use Rattle.checker.proofs.Fits.{plan_fits_out}
+use Rattle.planner.specs.Canonical.{is_sort, unsorted_layer, is_unsorted, NameEarlier, IsNodeOf, IsPlanOf}
+use Rattle.planner.proofs.Passes.{passes_at}
+
+-- a plan by its node and inputs
+abbrev pub over : Node → List Plan → Plan
+over node inputs = roll-Plan (record { node = node; inputs = inputs })
+
+module _ (lines : List Expr) where
+  -- a plan for each class
+  abbrev pub ArePlansOf : List ℕ → List Plan → Type 0
+  ArePlansOf [] [] = Unit {0}
+  ArePlansOf [] (p ∷ plans) = ⊥
+  ArePlansOf (g ∷ classes) [] = ⊥
+  ArePlansOf (g ∷ classes) (p ∷ plans) = IsPlanOf lines g p × ArePlansOf classes plans
+
+  pub one_more : (classes : List ℕ) (plans : List Plan) (g : ℕ) (p : Plan) → ArePlansOf classes plans → IsPlanOf lines g p → ArePlansOf (classes ++ g ∷ []) (plans ++ p ∷ [])
+  one_more [] [] g p all is = (is, tt)
+  one_more [] (x ∷ plans) g p all is = absurd all
+  one_more (h ∷ classes) [] g p all is = absurd all
+  one_more (h ∷ classes) (x ∷ plans) g p all is = (all.0, one_more classes plans g p all.1 is)
+
+  as-many : (classes : List ℕ) (plans : List Plan) → ArePlansOf classes plans → length plans ≡ length classes
+  as-many [] [] all = refl
+  as-many [] (x ∷ plans) all = absurd all
+  as-many (h ∷ classes) [] all = absurd all
+  as-many (h ∷ classes) (x ∷ plans) all = ap suc (as-many classes plans all.1)
+
+  all-unsorted : (classes : List ℕ) (plans : List Plan) → ArePlansOf classes plans → list_all (λ b. b) (map is_unsorted plans) ≡ true
+  all-unsorted [] [] all = refl
+  all-unsorted [] (x ∷ plans) all = absurd all
+  all-unsorted (h ∷ classes) [] all = absurd all
+  all-unsorted (h ∷ classes) (x ∷ plans) all = and_from _ _ all.0.unsorted (all-unsorted classes plans all.1)
+
+  all-fit : (cols : ℕ → List ℕ) (classes : List ℕ) (plans : List Plan) → ArePlansOf classes plans → (n : ℕ) → (m : ℕ) × (inputs_fit (map (plan_fits lines cols) plans) classes n ≡ Ok m)
+  all-fit cols [] [] all n = (n, refl)
+  all-fit cols [] (x ∷ plans) all n = absurd all
+  all-fit cols (h ∷ classes) [] all n = absurd all
+  all-fit cols (h ∷ classes) (x ∷ plans) all n =
+      let first = all.0.fits cols n in
+      let rest = all-fit cols classes plans all.1 first.0 in
+      (rest.0, ap (λ r. r >>= (λ m. inputs_fit (map (plan_fits lines cols) plans) classes m)) first.1 ∙ rest.1)
+
+  node-fits : (cols : ℕ → List ℕ) (g : ℕ) (x : Expr) (node : Node) (n : ℕ) → slice_get lines g ≡ Some x → IsNodeOf g x node → node_fits lines cols node (length (input_classes x)) g n ≡ Ok (input_classes x)
+  node-fits cols g x node n at is =
+      ap (λ l. at_line l lines cols node (length (input_classes x)) g n) is.cites
+      ∙ rw (at, eq-eqb g g refl, is.computed, eq-eqb (length (input_classes x)) (length (input_classes x)) refl) refl
+
+  over-unsorted : (node : Node) (inputs : List Plan) → is_sort node ≡ false → list_all (λ b. b) (map is_unsorted inputs) ≡ true → is_unsorted (over node inputs) ≡ true
+  unfolding is_unsorted
+  over-unsorted node inputs none all = fold-roll-Plan Bool unsorted_layer (record { node = node; inputs = inputs }) ∙ and_from _ _ (ap not none) all
+
+  -- the node of the class's line, over plans of the classes that the line names
+  pub plan_of_class : (g : ℕ) (x : Expr) (node : Node) (inputs : List Plan) → slice_get lines g ≡ Some x → IsNodeOf g x node → ArePlansOf (input_classes x) inputs → IsPlanOf lines g (over node inputs)
+  plan_of_class g x node inputs at is all = record {
+    unsorted = over-unsorted node inputs is.unsorted (all-unsorted (input_classes x) inputs all);
+    fits = λ cols n.
+        let rest = all-fit cols (input_classes x) inputs all (n + 1) in (
+          rest.0,
+          plan_fits_out lines cols (over node inputs) true g n
+              ∙ rw (out-roll-Plan (record { node = node; inputs = inputs }), as-many (input_classes x) inputs all, node-fits cols g x node n at is) rest.1,
+        );
+  }
+
+  -- the classes of a line's inputs are earlier ones
+  pub earlier_input : (g : ℕ) (x : Expr) (i h : ℕ) → NameEarlier lines → slice_get lines g ≡ Some x → slice_get (input_classes x) i ≡ Some h → h < g
+  earlier_input g x i h earlier at named = ltb-true h g (passes_at (λ h. nat_lt h g) (input_classes x) i h (inputs-pass (λ h. nat_lt h g) x (earlier g x at).0) named)

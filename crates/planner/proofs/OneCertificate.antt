@@ -1,0 +1,238 @@
+-- One canonical certificate of a query replays.
+use Rattle.std.proofs.Common.{◌≡◌, refl, ap, sym, ◌∙◌, subst, ℕ, ◌+◌, Bool, true, false, not, ◌&&◌, ◌==◌, if◌then◌else◌, List, [], ◌∷◌, map, length, Some, Result, Ok, arith}
+use Rattle.std.specs.List.{slice_get, list_all}
+use Rattle.std.proofs.lemmas.Bool.{and_parts, eqb-true}
+use Rattle.values.specs.Faults.{◌>>=◌, wanted, wanted_if}
+use Rattle.query.specs.declared.query.Query.{Query}
+use Rattle.logical.specs.declared.expr.Expr.{Expr}
+use Rattle.logical.specs.declared.expr.Expr.TheVariants.{Get, Select, Join, LeftJoin, Keep, Distinct, Group}
+use Rattle.logical.specs.Columns.{has}
+use Rattle.logical.specs.Equality.{same_conditions, same_columns, same_aggregations}
+use Rattle.logical.specs.Expressions.{input_classes, is_plain}
+use Rattle.logical.specs.Classes.{class_columns}
+use Rattle.logical.specs.Frames.{query_frame}
+use Rattle.logical.proofs.Same.{equal_conditions, equal_columns, equal_aggregations}
+use Rattle.physical.specs.declared.plan.JoinKind.TheVariants.{Inner, Left}
+use Rattle.physical.specs.declared.plan.OrderKey.{OrderKey}
+use Rattle.physical.specs.declared.plan.Node.{Node}
+use Rattle.physical.specs.declared.plan.Node.TheVariants.{Scan, Filter, FilterSubqueries, Cut, Loop, Sort, HashGroup, HashDistinct}
+use Rattle.physical.specs.declared.plan.Plan.{Plan, roll-Plan, out-Plan, out-roll-Plan, roll-out-Plan, fold_out-Plan, ind-Plan, map-Plan}
+use Rattle.physical.specs.declared.plan.Plan.TheOpen.{Plan-F}
+use Rattle.physical.specs.Orders.{query_order}
+use Rattle.checker.specs.declared.certificate.Line.{Line}
+use Rattle.checker.specs.declared.certificate.Certificate.{Certificate}
+use Rattle.checker.specs.declared.certificate.CheckRefusal.{CheckRefusal}
+use Rattle.checker.specs.declared.certificate.CheckReason.TheVariants.{UnknownLine, IllFormed, OtherOperator, UnsortedAnswer}
+use Rattle.checker.specs.Replay.{refusal, founding, line_of, computes, sort_fits, operator_fits, at_line, node_fits, inputs_fit, plan_fits, lines_replay, is_delivered, root, replayed}
+use Rattle.checker.proofs.Chains.{both_ok, wanted_if_ok}
+use Rattle.checker.proofs.Fits.{plan_fits_out, operator-is}
+use Rattle.planner.specs.Canonical.{is_sort, unsorted_layer, is_unsorted, top, IsCanonical, IsOnlyCanonical}
+use Rattle.planner.proofs.Accepted.{founding_lines}
+
+-- ---- one node computes an expression
+
+-- the node of an expression at its line; frames have no semijoin and no antijoin
+abbrev node_for : ℕ → Expr → Node
+node_for g (Get o) = Scan g o
+node_for g (Select C x) = if is_plain C then Filter g C else FilterSubqueries g C
+node_for g (Join C a b) = Loop g Inner C
+node_for g (LeftJoin C a b) = Loop g Left C
+node_for g (Keep K x) = Cut g K
+node_for g (Group K G x) = HashGroup g K G
+node_for g x = HashDistinct g
+
+is-false : (b : Bool) → not b ≡ true → b ≡ false
+is-false true h = cc
+is-false false h = refl
+
+one-node : (g : ℕ) (node : Node) (x : Expr) → line_of node ≡ Some g → computes node x ≡ true → node ≡ node_for g x
+one-node g (Scan l o) (Get p) cites h = let e : l ≡ g = cc in rw (e, eqb-true o p h) refl
+one-node g (Filter l C) (Select D x) cites h = let e : l ≡ g = cc in let parts = and_parts (is_plain D) (same_conditions C D) h in rw (e, equal_conditions C D parts.1, parts.0) refl
+one-node g (FilterSubqueries l C) (Select D x) cites h =
+    let e : l ≡ g = cc in
+    let parts = and_parts (not (is_plain D)) (same_conditions C D) h in
+    rw (e, equal_conditions C D parts.1, is-false (is_plain D) parts.0) refl
+one-node g (Cut l K) (Keep L x) cites h = let e : l ≡ g = cc in rw (e, equal_columns K L h) refl
+one-node g (Loop l Inner C) (Join D a b) cites h = let e : l ≡ g = cc in rw (e, equal_conditions C D h) refl
+one-node g (Loop l Left C) (LeftJoin D a b) cites h = let e : l ≡ g = cc in rw (e, equal_conditions C D h) refl
+one-node g (HashGroup l K G) (Group L H x) cites h =
+    let e : l ≡ g = cc in
+    let parts = and_parts (same_columns K L) (same_aggregations G H) h in
+    rw (e, equal_columns K L parts.0, equal_aggregations G H parts.1) refl
+one-node g (HashDistinct l) (Distinct x) cites h = let e : l ≡ g = cc in rw (e) refl
+one-node g node x cites h = cc
+
+-- each operator but a sort cites a line
+line-there : (node : Node) → is_sort node ≡ false → (l : ℕ) × (line_of node ≡ Some l)
+line-there (Scan l o) none = (l, refl)
+line-there (Filter l C) none = (l, refl)
+line-there (FilterSubqueries l C) none = (l, refl)
+line-there (Cut l K) none = (l, refl)
+line-there (Loop l kind C) none = (l, refl)
+line-there (Sort keys) none = cc
+line-there (HashGroup l K G) none = (l, refl)
+line-there (HashDistinct l) none = (l, refl)
+
+-- ---- one plan without a sort computes a class
+
+module _ (lines : List Expr) where
+  -- the plan computes the class, in whatever columns, order and numbers
+  record Fits (g : ℕ) (p : Plan) : Type 0 where
+    cols : ℕ → List ℕ
+    ordered : Bool
+    number : ℕ
+    after : ℕ
+    fits : plan_fits lines cols p ordered g number ≡ Ok after
+
+  abbrev AllFit : List ℕ → List Plan → Type 0
+  AllFit [] [] = Unit {0}
+  AllFit [] (p ∷ plans) = ⊥
+  AllFit (g ∷ classes) [] = ⊥
+  AllFit (g ∷ classes) (p ∷ plans) = Fits g p × AllFit classes plans
+
+  all-fit : (cols : ℕ → List ℕ) (classes : List ℕ) (plans : List Plan) (n m : ℕ) → length plans ≡ length classes → inputs_fit (map (plan_fits lines cols) plans) classes n ≡ Ok m → AllFit classes plans
+  all-fit cols [] [] n m count fits = tt
+  all-fit cols [] (p ∷ plans) n m count fits = absurd (omega (arith, count))
+  all-fit cols (g ∷ classes) [] n m count fits = absurd (omega (arith, count))
+  all-fit cols (g ∷ classes) (p ∷ plans) n m count fits =
+      let steps = both_ok (plan_fits lines cols p true g n) (λ m. inputs_fit (map (plan_fits lines cols) plans) classes m) m fits in
+      (record { cols = cols; ordered = true; number = n; after = steps.0; fits = steps.1 }, all-fit cols classes plans steps.0 m (omega (arith, count)) steps.2)
+
+  -- a node that computes the expression of its class, over plans of the classes that it names
+  record FitsNode (g : ℕ) (node : Node) (inputs : List Plan) : Type 0 where
+    expr : Expr
+    at : slice_get lines g ≡ Some expr
+    is : node ≡ node_for g expr
+    all : AllFit (input_classes expr) inputs
+
+  line-is : (l : ℕ) (node : Node) (k g n : ℕ) (needed : List ℕ) → operator_fits lines l node k g n ≡ Ok needed → l ≡ g
+  line-is l node k g n needed e =
+      let test : Expr → Bool = λ x. l == g && computes node x && k == length (input_classes x) in
+      let steps = both_ok (wanted (refusal n UnknownLine) (slice_get lines l)) (λ x. wanted_if (refusal n OtherOperator) (test x) (input_classes x)) needed e in
+      let tests = wanted_if_ok (refusal n OtherOperator) (test steps.0) (input_classes steps.0) needed steps.2 in
+      eqb-true l g (and_parts _ _ (and_parts _ _ tests.0).0).0
+
+  -- what is left of a plan that fits behind its node
+  abbrev rest : (ℕ → List ℕ) → Plan → Bool → ℕ → List ℕ → Result ℕ CheckRefusal
+  rest cols p ordered n classes = wanted_if (refusal n UnsortedAnswer) ordered classes >>= λ classes. inputs_fit (map (plan_fits lines cols) (out-Plan p).inputs) classes (n + 1)
+
+  inputs-are : (cols : ℕ → List ℕ) (p : Plan) (ordered : Bool) (n m : ℕ) (needed : List ℕ) → length (out-Plan p).inputs ≡ length needed → rest cols p ordered n needed ≡ Ok m → AllFit needed (out-Plan p).inputs
+  inputs-are cols p ordered n m needed count e =
+      let steps = both_ok (wanted_if (refusal n UnsortedAnswer) ordered needed) (λ classes. inputs_fit (map (plan_fits lines cols) (out-Plan p).inputs) classes (n + 1)) m e in
+      let same = wanted_if_ok (refusal n UnsortedAnswer) ordered needed steps.0 steps.1 in
+      all-fit cols needed (out-Plan p).inputs (n + 1) m count (ap (λ classes. inputs_fit (map (plan_fits lines cols) (out-Plan p).inputs) classes (n + 1)) same.1 ∙ steps.2)
+
+  node-is : (p : Plan) (g : ℕ) → is_sort (out-Plan p).node ≡ false → Fits g p → FitsNode g (out-Plan p).node (out-Plan p).inputs
+  node-is p g none f =
+      let node : Node = (out-Plan p).node in
+      let k : ℕ = length (out-Plan p).inputs in
+      let n : ℕ = f.number in
+      let steps = both_ok (node_fits lines f.cols node k g n) (rest f.cols p f.ordered n) f.after (sym (plan_fits_out lines f.cols p f.ordered g n) ∙ f.fits) in
+      let line = line-there node none in
+      let operator : operator_fits lines line.0 node k g n ≡ Ok steps.0 = sym (ap (λ o. at_line o lines f.cols node k g n) line.1) ∙ steps.1 in
+      let found = operator-is lines line.0 node k g n steps.0 operator in
+      record {
+        expr = found.expr;
+        at = found.at;
+        is = one-node g node found.expr (line.1 ∙ ap Some (line-is line.0 node k g n steps.0 operator)) found.computed;
+        all = subst (λ L. AllFit L (out-Plan p).inputs) (sym found.needs) (inputs-are f.cols p f.ordered n f.after steps.0 found.count steps.2);
+      }
+
+  unsorted-out : (p : Plan) → is_unsorted p ≡ true → (is_sort (out-Plan p).node ≡ false) × (list_all (λ b. b) (map is_unsorted (out-Plan p).inputs) ≡ true)
+  unfolding is_unsorted
+  unsorted-out p none =
+      let parts = and_parts _ _ (sym (fold_out-Plan Bool unsorted_layer p) ∙ none) in
+      (is-false (is_sort (out-Plan p).node) parts.0, parts.1)
+
+  abbrev P : Plan → Type 0
+  P p = (other : Plan) (g : ℕ) → is_unsorted p ≡ true → is_unsorted other ≡ true → Fits g p → Fits g other → p ≡ other
+
+  abbrev Part : Type 0
+  Part = (p : Plan) × P p
+
+  abbrev plans_of : List Part → List Plan
+  plans_of parts = map (λ p. p.0) parts
+
+  all-one : (parts : List Part) (others : List Plan) (classes : List ℕ) → list_all (λ b. b) (map is_unsorted (plans_of parts)) ≡ true → list_all (λ b. b) (map is_unsorted others) ≡ true
+      → AllFit classes (plans_of parts) → AllFit classes others → plans_of parts ≡ others
+  all-one [] [] classes none none' all all' = refl
+  all-one [] (x ∷ others) [] none none' all all' = absurd all'
+  all-one [] (x ∷ others) (g ∷ classes) none none' all all' = absurd all
+  all-one (p ∷ parts) [] [] none none' all all' = absurd all
+  all-one (p ∷ parts) [] (g ∷ classes) none none' all all' = absurd all'
+  all-one (p ∷ parts) (x ∷ others) [] none none' all all' = absurd all
+  all-one (p ∷ parts) (x ∷ others) (g ∷ classes) none none' all all' =
+      let here = and_parts _ _ none in
+      let there = and_parts _ _ none' in
+      rw (p.1 x g here.0 there.0 all.0 all'.0, all-one parts others classes here.1 there.1 all.1 all'.1) refl
+
+  both : (y z : Plan-F Plan) → y.node ≡ z.node → y.inputs ≡ z.inputs → roll-Plan y ≡ roll-Plan z
+  both y z e f = two e f
+    where
+      two : {a b : Node} {xs ys : List Plan} → a ≡ b → xs ≡ ys → roll-Plan (record { node = a; inputs = xs }) ≡ roll-Plan (record { node = b; inputs = ys })
+      two e f = rw (e, f) refl
+
+  step : (y : Plan-F Part) → P (roll-Plan (map-Plan Part Plan (λ p. p.0) y))
+  step y other g none none' f f' =
+      let z : Plan-F Plan = map-Plan Part Plan (λ p. p.0) y in
+      let out : out-Plan (roll-Plan z) ≡ z = out-roll-Plan z in
+      let here = unsorted-out (roll-Plan z) none in
+      let there = unsorted-out other none' in
+      let one : FitsNode g z.node z.inputs = subst (λ w. FitsNode g w.node w.inputs) out (node-is (roll-Plan z) g here.0 f) in
+      let second = node-is other g there.0 f' in
+      let same : one.expr ≡ second.expr = let e : Some one.expr ≡ Some second.expr = sym one.at ∙ second.at in cc in
+      let inputs : z.inputs ≡ (out-Plan other).inputs = all-one y.inputs (out-Plan other).inputs (input_classes one.expr) (subst (λ w. list_all (λ b. b) (map is_unsorted w.inputs) ≡ true) out here.1) there.1 one.all
+      (subst (λ x. AllFit (input_classes x) (out-Plan other).inputs) (sym same) second.all) in
+      both z (out-Plan other) (one.is ∙ ap (node_for g) same ∙ sym second.is) inputs ∙ roll-out-Plan other
+
+  one-plan : (p : Plan) → P p
+  one-plan = ind-Plan P (λ x y is. subst (λ z. P (roll-Plan z)) is (step y))
+
+  -- a sort on top computes what the plan below does
+  below-fits : (keys : List OrderKey) (p : Plan) (g : ℕ) → Fits g (top keys p) → Fits g p
+  below-fits [] p g f = f
+  below-fits (k ∷ keys) p g f =
+      let n : ℕ = f.number in
+      let z : Plan-F Plan = record { node = Sort (k ∷ keys); inputs = p ∷ [] } in
+      let next : Plan-F Plan → List ℕ → Result ℕ CheckRefusal = λ w classes. wanted_if (refusal n UnsortedAnswer) f.ordered classes >>= λ classes. inputs_fit (map (plan_fits lines f.cols) w.inputs) classes (n + 1) in
+      let e : (sort_fits f.cols (k ∷ keys) 1 g n >>= next z) ≡ Ok f.after
+      = sym (ap (λ w. node_fits lines f.cols w.node (length w.inputs) g n >>= next w) (out-roll-Plan z)) ∙ sym (plan_fits_out lines f.cols (top (k ∷ keys) p) f.ordered g n) ∙ f.fits in
+      let steps = both_ok (sort_fits f.cols (k ∷ keys) 1 g n) (next z) f.after e in
+      let sorted = both_ok (wanted_if (refusal n IllFormed) (list_all (λ k. has (f.cols g) k.column) (k ∷ keys)) (g ∷ [])) (λ classes. wanted_if (refusal n OtherOperator) (1 == 1) classes) steps.0 steps.1 in
+      let needs : g ∷ [] ≡ steps.0 = (wanted_if_ok (refusal n IllFormed) _ (g ∷ []) sorted.0 sorted.1).1 ∙ (wanted_if_ok (refusal n OtherOperator) (1 == 1) sorted.0 steps.0 sorted.2).1 in
+      let inputs = both_ok (wanted_if (refusal n UnsortedAnswer) f.ordered steps.0) (λ classes. inputs_fit (plan_fits lines f.cols p ∷ []) classes (n + 1)) f.after steps.2 in
+      let given : g ∷ [] ≡ inputs.0 = needs ∙ (wanted_if_ok (refusal n UnsortedAnswer) f.ordered steps.0 inputs.0 inputs.1).1 in
+      let last = both_ok (plan_fits lines f.cols p true g (n + 1)) (λ m. inputs_fit [] [] m) f.after (ap (λ classes. inputs_fit (plan_fits lines f.cols p ∷ []) classes (n + 1)) given ∙ inputs.2) in
+      record { cols = f.cols; ordered = true; number = n + 1; after = last.0; fits = last.1 }
+
+-- ---- one certificate
+
+module _ (q : Query) where
+  fits-of : (V : Certificate) (is : IsCanonical q V) → replayed q V ≡ Ok V → Fits (query_frame q) (root q) is.below
+  unfolding replayed
+  fits-of V is replays =
+      let frame : List Expr = query_frame q in
+      let founded : map founding V.lines ≡ frame = ap (map founding) is.lines ∙ founding_lines frame in
+      let next : List Expr → Result Certificate CheckRefusal = λ E. plan_fits (map founding V.lines) (class_columns q.tables E) V.plan (is_delivered q V.plan) (root q) (length E) >>= λ n. Ok V in
+      let steps = both_ok (lines_replay q [] (map founding V.lines)) next V replays in
+      let E : List Expr = steps.0 in
+      let fits = both_ok (plan_fits (map founding V.lines) (class_columns q.tables E) V.plan (is_delivered q V.plan) (root q) (length E)) (λ n. Ok V) V steps.2 in
+      below-fits frame (query_order q) is.below (root q) (record {
+        cols = class_columns q.tables E;
+        ordered = is_delivered q V.plan;
+        number = length E;
+        after = fits.0;
+        fits = ap (λ p. plan_fits frame (class_columns q.tables E) p (is_delivered q V.plan) (root q) (length E)) (sym is.plan)
+            ∙ ap (λ L. plan_fits L (class_columns q.tables E) V.plan (is_delivered q V.plan) (root q) (length E)) (sym founded) ∙ fits.1;
+      })
+
+  pub one_certificate : (V : Certificate) → IsCanonical q V → replayed q V ≡ Ok V → IsOnlyCanonical q V
+  one_certificate V is replays W is' replays' =
+      let below : is'.below ≡ is.below = one-plan (query_frame q) is'.below is.below (root q) is'.unsorted is.unsorted (fits-of W is' replays') (fits-of V is replays) in
+      two (is'.lines ∙ sym is.lines) (is'.plan ∙ ap (top (query_order q)) below ∙ sym is.plan)
+    where
+      certificate : List Line → Plan → Certificate
+      certificate lines plan = record { lines = lines; plan = plan }
+
+      two : {ls ms : List Line} {p r : Plan} → ls ≡ ms → p ≡ r → certificate ls p ≡ certificate ms r
+      two e f = rw (e, f) refl

@@ -1,0 +1,67 @@
+-- The plan with the sort on top computes the same class, and delivers the ORDER BY.
+use Rattle.std.proofs.Common.{◌≡◌, refl, ap, sym, ◌∙◌, ℕ, ◌+◌, true, List, [], ◌∷◌, length, take, Option, Some, None, Ok}
+use Rattle.std.specs.List.{slice_get, list_all}
+use Rattle.std.specs.Coded.{coded_list}
+use Rattle.std.proofs.lemmas.Bool.{and_from}
+use Rattle.std.proofs.Math.Seq.{take-length}
+use Rattle.query.specs.declared.query.SortKey as order_by
+use Rattle.query.specs.declared.query.Query.{Query}
+use Rattle.logical.specs.declared.expr.Expr.{Expr}
+use Rattle.logical.specs.Columns.{has, within}
+use Rattle.logical.specs.Frames.{query_numbers}
+use Rattle.logical.proofs.Same.{tested}
+use Rattle.physical.specs.declared.plan.OrderKey.{OrderKey}
+use Rattle.physical.specs.contracts.plan.OrderKey as order_key
+use Rattle.physical.specs.declared.plan.Node.TheVariants.{Sort}
+use Rattle.physical.specs.declared.plan.Plan.{Plan, out-roll-Plan, fold-roll-Plan}
+use Rattle.physical.specs.Orders.{Delivered, ordered_column, ordered_columns, query_order, deliver_layer, delivered}
+use Rattle.checker.specs.Replay.{plan_fits, same_order, is_delivered}
+use Rattle.checker.proofs.Fits.{plan_fits_out}
+use Rattle.planner.specs.Canonical.{top, IsPlanOf}
+use Rattle.planner.proofs.Passes.{passes_at}
+
+-- the columns of the keys are among these
+abbrev pub AreColumns : List ℕ → List OrderKey → Type 0
+AreColumns columns keys = list_all (λ k. has columns k.column) keys ≡ true
+
+-- keys of an ORDER BY name columns of the items
+key-within : (numbers columns : List ℕ) (k : order_by.SortKey) (keys : List OrderKey) → within numbers columns ≡ true → AreColumns columns keys
+    → AreColumns columns (ordered_column (slice_get numbers k.item) k keys)
+key-within numbers columns k keys shown rest = by (slice_get numbers k.item) refl
+  where
+    by : (o : Option ℕ) → slice_get numbers k.item ≡ o → AreColumns columns (ordered_column o k keys)
+    by None at = rest
+    by (Some c) at = and_from _ _ (passes_at (has columns) numbers k.item c shown at) rest
+
+all-within : (numbers columns : List ℕ) (keys : List order_by.SortKey) → within numbers columns ≡ true → AreColumns columns (ordered_columns numbers keys)
+all-within numbers columns [] shown = refl
+all-within numbers columns (k ∷ keys) shown = key-within numbers columns k (ordered_columns numbers keys) shown (all-within numbers columns keys shown)
+
+same-order : (keys : List OrderKey) → same_order keys keys ≡ true
+unfolding same_order
+same-order keys = sym (tested (coded_list order_key.the_row.coded) true keys keys (λ _. refl, λ _. refl))
+
+-- a sort delivers its keys
+sort_delivers : (q : Query) (k : OrderKey) (keys : List OrderKey) (plan : Plan) → (delivered q.tables (top (k ∷ keys) plan)).order ≡ k ∷ keys
+unfolding delivered
+sort_delivers q k keys plan = ap (λ d. d.order) (fold-roll-Plan Delivered (deliver_layer q.tables) (record { node = Sort (k ∷ keys); inputs = plan ∷ [] }))
+
+-- no keys are delivered by any plan
+pub top_delivered : (q : Query) (plan : Plan) → is_delivered q (top (query_order q) plan) ≡ true
+top_delivered q plan = by (query_order q)
+  where
+    by : (keys : List OrderKey) → same_order (take (length keys) (delivered q.tables (top keys plan)).order) keys ≡ true
+    by [] = same-order []
+    by (k ∷ keys) = rw (sort_delivers q k keys plan, take-length (k ∷ keys)) (same-order (k ∷ keys))
+
+-- the sort computes the class that the plan below computes
+pub top_fits : (lines : List Expr) (cols : ℕ → List ℕ) (keys : List OrderKey) (plan : Plan) (g n : ℕ) → IsPlanOf lines g plan → AreColumns (cols g) keys
+    → (m : ℕ) × (plan_fits lines cols (top keys plan) true g n ≡ Ok m)
+top_fits lines cols [] plan g n is columns = is.fits cols n
+top_fits lines cols (k ∷ keys) plan g n is columns =
+    let input = is.fits cols (n + 1) in
+    (input.0, plan_fits_out lines cols (top (k ∷ keys) plan) true g n ∙ rw (out-roll-Plan (record { node = Sort (k ∷ keys); inputs = plan ∷ [] }), columns, input.1) refl)
+
+-- the ORDER BY is by columns of the class that shows the items
+pub order_within : (q : Query) (columns : List ℕ) → within (query_numbers q) columns ≡ true → AreColumns columns (query_order q)
+order_within q columns shown = all-within (query_numbers q) columns q.order shown

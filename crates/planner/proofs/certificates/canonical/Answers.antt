@@ -1,0 +1,36 @@
+use Rattle.std.proofs.Common.{◌≡◌, sym, ◌∙◌, ap, subst, ◌<◌, ◌-◌, map, length, arith}
+use Rattle.logical.specs.Frames.{query_frame}
+use Rattle.logical.proofs.FormedQueries.{frames_formed}
+use Rattle.checker.specs.declared.certificate.Line.TheVariants.{Founds}
+use Rattle.checker.specs.Replay.{root}
+use Rattle.planner.specs.Canonical.{NameEarlier, IsPlanOf}
+use Rattle.planner.proofs.FrameLines.{names_earlier}
+use Rattle.planner.proofs.OneCertificate.{one_certificate}
+use Rattle.planner.proofs.Accepted.{canonical_replays}
+use Rattle.planner.proofs.certificates.canonical.Goals as goal
+
+pub overflow_sub-len : goal.overflow_sub-len
+overflow_sub-len c =
+    let some : 0 < length (query_frame c.args.query.now) = (frames_formed c.args.query.now c.requires).some in
+    rw (c.len.ensures, c.in_ok-frame.ensures.lines) (omega (arith, some))
+
+pub plan_of-requires-clause-earlier : goal.plan_of-requires-clause-earlier
+plan_of-requires-clause-earlier c = subst NameEarlier (sym (c.as_slice.ensures ∙ c.in_ok-frame.ensures.lines)) (names_earlier c.args.query.now c.requires)
+
+pub plan_of-requires-clause-class : goal.plan_of-requires-clause-class
+plan_of-requires-clause-class c =
+    let some : 0 < length (query_frame c.args.query.now) = (frames_formed c.args.query.now c.requires).some in
+    rw (c.len.ensures, c.as_slice.ensures, c.in_ok-frame.ensures.lines) (omega (arith, some))
+
+pub returns-clause-replays : goal.returns-clause-replays
+returns-clause-replays c =
+    let q = c.args.query.now in
+    let frame : c.as_slice.result.now ≡ query_frame q = c.as_slice.ensures ∙ c.in_ok-frame.ensures.lines in
+    let below : IsPlanOf (query_frame q) (root q) c.in_ok-below.below = subst (λ g. IsPlanOf (query_frame q) g c.in_ok-below.below) (ap (λ n. n - 1) (c.len.ensures ∙ ap length c.in_ok-frame.ensures.lines)) (subst (λ L. IsPlanOf L (c.len.result - 1) c.in_ok-below.below) frame c.in_ok-below.ensures) in
+    canonical_replays q c.requires (record { lines = c.in_ok-lines.lines; plan = c.in_ok-plan.plan }) c.in_ok-below.below (c.in_ok-lines.ensures ∙ ap (map Founds) c.in_ok-frame.ensures.lines) c.in_ok-plan.ensures below
+
+pub returns-clause-only : goal.returns-clause-only
+returns-clause-only c =
+    one_certificate c.args.query.now (record { lines = c.in_ok-lines.lines; plan = c.in_ok-plan.plan })
+    (record { lines = c.in_ok-lines.ensures ∙ ap (map Founds) c.in_ok-frame.ensures.lines; below = c.in_ok-below.below; unsorted = c.in_ok-below.ensures.unsorted; plan = c.in_ok-plan.ensures })
+    (returns-clause-replays c)

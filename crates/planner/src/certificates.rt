@@ -1,0 +1,116 @@
+//! The certificate that follows a query's frame, operator by operator.
+
+ghost use Rattle.std.specs.Prelude.{◌≡◌, ◌<◌, IfOk, Ok, true, length, map};
+ghost use Rattle.query.specs.Bound.{is_bound};
+ghost use Rattle.logical.specs.Frames.{is_framed};
+ghost use Rattle.physical.specs.Orders as orders;
+ghost use Rattle.checker.specs.declared.certificate.Line.TheVariants.{Founds};
+ghost use Rattle.checker.specs.Replay.{replayed};
+ghost use Rattle.planner.specs.Canonical as spec;
+
+use query::Query;
+use checker::{Certificate, Line};
+use logical::{Expr, query_frame};
+use physical::{JoinKind, Node, Plan, query_order};
+use std::alloc::{AllocError, Global};
+use values::Items;
+
+/// The node that computes an expression, which is that of the line.
+fn node_of(alloc: Global, line: usize, expr: &Expr) -> Result<Node, AllocError>
+    requires { is_framed expr.now ≡ true }
+    ensures { IfOk result (spec.IsNodeOf line expr.now) }
+{
+    match expr {
+        Expr::Get(occurrence) => {
+            let occurrence = *occurrence;
+            Ok(Node::Scan { line, occurrence })
+        }
+        Expr::Select(own, _) => {
+            let conjuncts = own.copy(alloc)?;
+            if own.is_plain() {
+                Ok(Node::Filter { line, conjuncts })
+            } else {
+                Ok(Node::FilterSubqueries { line, conjuncts })
+            }
+        }
+        Expr::Join(own, _, _) => Ok(Node::Loop {
+            line,
+            kind: JoinKind::Inner,
+            conjuncts: own.copy(alloc)?,
+        }),
+        Expr::LeftJoin(own, _, _) => Ok(Node::Loop {
+            line,
+            kind: JoinKind::Left,
+            conjuncts: own.copy(alloc)?,
+        }),
+        Expr::Semi(_, _, _) | Expr::Anti(_, _, _, _) => unreachable!(),
+        Expr::Keep(own, _) => Ok(Node::Cut {
+            line,
+            columns: own.copy(alloc)?,
+        }),
+        Expr::Distinct(_) => Ok(Node::HashDistinct { line }),
+        Expr::Group(own, added, _) => Ok(Node::HashGroup {
+            line,
+            keys: own.copy(alloc)?,
+            added: Items::from_slice(alloc, added.as_slice())?,
+        }),
+    }
+}
+
+/// The plan of a class: the node of its line, over the plans of the classes that the line names.
+fn plan_of(alloc: Global, frame: &[Expr], class: usize) -> Result<Plan, AllocError>
+    requires earlier { spec.NameEarlier frame.now }
+    requires class { class < length frame.now }
+    ensures { IfOk result (spec.IsPlanOf frame.now class) }
+{
+    let expr = &frame[class];
+    let classes = expr.inputs(alloc)?;
+    let mut inputs = Items::new(alloc);
+    for input in classes.as_slice() {
+        inputs.push(plan_of(alloc, frame, *input)?)?;
+    }
+    let node = node_of(alloc, class, expr)?;
+    Ok(Plan { node, inputs })
+}
+
+/// The plan with the sort that the ORDER BY asks for.
+fn with_order(alloc: Global, query: &Query, plan: Plan) -> Result<Plan, AllocError>
+    ensures { IfOk result (λ sorted. sorted ≡ spec.top (orders.query_order query.now) plan) }
+{
+    let keys = Items::from_vec(query_order(alloc, query)?);
+    if keys.is_empty() {
+        return Ok(plan);
+    }
+    let mut inputs = Items::new(alloc);
+    inputs.push(plan)?;
+    Ok(Plan {
+        node: Node::Sort { keys },
+        inputs,
+    })
+}
+
+/// The lines that found a query's classes.
+fn lines_of(alloc: Global, frame: Items<Expr>) -> Result<Items<Line>, AllocError>
+    ensures { IfOk result (λ lines. lines ≡ map Founds frame) }
+{
+    let mut lines = Items::new(alloc);
+    let mut left = frame;
+    while !left.is_empty() {
+        lines.push(Line::Founds(left.remove(0)))?;
+    }
+    Ok(lines)
+}
+
+/// The certificate whose lines are the query's frame and whose plan follows it, with the sort of the ORDER BY on top.
+pub fn canonical(alloc: Global, query: &Query) -> Result<Certificate, AllocError>
+    requires { is_bound query.now ≡ true }
+    ensures canonical { IfOk result (spec.IsCanonical query.now) }
+    ensures replays { IfOk result (λ certificate. replayed query.now certificate ≡ Ok certificate) }
+    ensures only { IfOk result (spec.IsOnlyCanonical query.now) }
+{
+    let frame = query_frame(alloc, query)?;
+    let below = plan_of(alloc, frame.as_slice(), frame.len() - 1)?;
+    let plan = with_order(alloc, query, below)?;
+    let lines = lines_of(alloc, frame)?;
+    Ok(Certificate { lines, plan })
+}

@@ -1,9 +1,0 @@
-use Rattle.std.proofs.Common.{take}
-use Rattle.sqlplan.proofs.ClassPlans.{ArePlansOf}
-use Rattle.sqlplan.proofs.canonical.+plan_of.Given as goal
-
-abbrev pub decreases-plan_of : goal.decreases-plan_of
-decreases-plan_of l = l.class
-
-abbrev pub invariant-loop-input : goal.invariant-loop-input
-invariant-loop-input l = ArePlansOf l.frame (take l.input-index l.input-items) l.inputs
