@@ -1,10 +1,32 @@
 //! Worked queries over two small tables, with the answers that SQL gives.
 
-use fixtures::{COMPANY, DEPT, EMP, loaded, query_of, rows_text};
+use fixtures::{COMPANY, DEPT, EMP, drop_query, loaded, query_of, rows_text};
 use oracle::meaning;
+use query::Query;
 use schema::Schema;
 use std::alloc::{AllocError, Global};
 use std::process::Abort;
+use store::Database;
+
+fn rows_of(alloc: Global, query: &Query, database: &Database<'_>) -> Result<String, AllocError> {
+    rows_text(alloc, meaning(alloc, query, database)?.as_slice())
+}
+
+/// The rows of a text's query.
+fn told(
+    alloc: Global,
+    schema: &Schema,
+    database: &Database<'_>,
+    text: &str,
+) -> Result<String, AllocError> {
+    let query = query_of(alloc, schema, text);
+    let told = match &query {
+        Some(query) => rows_of(alloc, query, database),
+        None => String::from_str(alloc, "no query"),
+    };
+    drop_query(query);
+    told
+}
 
 /// Each line has a text, `=>`, and its rows, in the order of the tables' rows where the text has none.
 fn are_answered(rt: &impl Abort, alloc: Global, emp: &str, cases: &str) -> Result<(), AllocError> {
@@ -12,9 +34,7 @@ fn are_answered(rt: &impl Abort, alloc: Global, emp: &str, cases: &str) -> Resul
     let database = loaded(alloc, &schema, DEPT, emp)?;
     for case in cases.lines() {
         let (text, wanted) = case.split_once(" =>").expect(rt, "two parts");
-        let query = query_of(alloc, &schema, text).expect(rt, "a query");
-        let rows = meaning(alloc, &query, &database)?;
-        let told = rows_text(alloc, rows.as_slice())?;
+        let told = told(alloc, &schema, &database, text)?;
         assert_eq!(rt; told.as_str(), wanted.trim(), "{text}");
     }
     Ok(())

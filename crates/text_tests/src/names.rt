@@ -1,7 +1,7 @@
 //! Texts over a small schema, and the first fault of their names.
 
 use binder::bind_statement;
-use fixtures::{COMPANY, query_of, spelt};
+use fixtures::{COMPANY, drop_query, drop_tree, query_of, spelt};
 use query::{Aggregate, Block, Column, Cond, Item, Query, Term};
 use schema::Schema;
 use sql_parse::parse_statement_bytes;
@@ -12,17 +12,23 @@ use std::process::Abort;
 
 fn bound(alloc: Global, schema: &Schema, tree: &Statement) -> Result<String, AllocError> {
     match bind_statement(alloc, schema, tree) {
-        Ok(_) => String::from_str(alloc, "bound"),
+        Ok(query) => {
+            drop_query(Some(query));
+            String::from_str(alloc, "bound")
+        }
         Err(fault) => format!(in alloc; "{fault}"),
     }
 }
 
 /// `bound`, or the fault of a text.
 fn told(alloc: Global, schema: &Schema, text: &[u8]) -> Result<String, AllocError> {
-    match parse_statement_bytes(alloc, text) {
-        Ok(tree) => bound(alloc, schema, &tree),
+    let tree = parse_statement_bytes(alloc, text);
+    let told = match &tree {
+        Ok(tree) => bound(alloc, schema, tree),
         Err(fault) => format!(in alloc; "{fault}"),
-    }
+    };
+    drop_tree(tree);
+    told
 }
 
 /// Each line has what `spelt` takes, `=>`, and what is told of it.
@@ -286,9 +292,14 @@ fn parts_are_numbered(rt: HostRuntime) -> Result<(), AllocError> {
     let text =
         "SELECT COUNT(*), d.id k FROM dept d, dept x JOIN emp e ON e.id = x.boss WHERE d.id IN (SELECT MAX(f.pay) FROM emp f WHERE d.boss = f.id) GROUP BY d.id ORDER BY d.id, k DESC";
     let schema = Schema::read(rt.alloc(), COMPANY.as_bytes()).expect(&rt, "a schema");
-    let query = query_of(rt.alloc(), &schema, text).expect(&rt, "a query");
+    let query = query_of(rt.alloc(), &schema, text);
+    let told = match &query {
+        Some(query) => numbers(rt.alloc(), query),
+        None => String::from_str(rt.alloc(), "no query"),
+    };
+    drop_query(query);
     assert_eq!(rt;
-        numbers(rt.alloc(), &query)?.as_str(),
+        told?.as_str(),
         "d@0 x@3 e@6 f@10 items 14=count 0.0; keys 0; in items 15=max:2; keys 1.2 0.0; order 1; 2 names"
     );
     Ok(())

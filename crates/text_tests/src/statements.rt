@@ -1,7 +1,7 @@
 //! Texts, and the trees or the first faults that they have.
 
 use crate::trees::statement_text;
-use fixtures::spelt;
+use fixtures::{drop_tree, spelt};
 use sql_parse::statement::Statement;
 use sql_parse::{ParseFault, parse_statement, parse_statement_bytes};
 use std::alloc::{AllocError, Global};
@@ -9,13 +9,27 @@ use std::process::Abort;
 use std::str;
 
 /// The tree with the places of its parts, or the refusal; `~` stands for a line feed.
-fn shown(alloc: Global, outcome: Result<Statement, ParseFault>) -> Result<String, AllocError> {
-    match outcome {
-        Ok(tree) => statement_text(alloc, &tree)?
+fn shown(alloc: Global, tree: &Result<Statement, ParseFault>) -> Result<String, AllocError> {
+    match tree {
+        Ok(tree) => statement_text(alloc, tree)?
             .as_str()
             .replace(alloc, "\n", "~"),
         Err(fault) => format!(in alloc; "{fault}"),
     }
+}
+
+fn told_of_text(alloc: Global, text: &str) -> Result<String, AllocError> {
+    let tree = parse_statement(alloc, text);
+    let told = shown(alloc, &tree);
+    drop_tree(tree);
+    told
+}
+
+fn told_of_bytes(alloc: Global, bytes: &[u8]) -> Result<String, AllocError> {
+    let tree = parse_statement_bytes(alloc, bytes);
+    let told = shown(alloc, &tree);
+    drop_tree(tree);
+    told
 }
 
 /// Each line has what `spelt` takes, `=>`, and what is shown of it, handed over as bytes and, if it is one, as a text.
@@ -23,10 +37,10 @@ fn are_told(rt: &impl Abort, alloc: Global, cases: &str) -> Result<(), AllocErro
     for case in cases.lines() {
         let (text, wanted) = case.split_once(" => ").expect(rt, "two parts");
         let bytes = spelt(alloc, text)?;
-        let told = shown(alloc, parse_statement_bytes(alloc, bytes.as_slice()))?;
+        let told = told_of_bytes(alloc, bytes.as_slice())?;
         assert_eq!(rt; told.as_str(), wanted, "{text}");
         if let Ok(text) = str::from_utf8(bytes.as_slice()) {
-            let told = shown(alloc, parse_statement(alloc, text))?;
+            let told = told_of_text(alloc, text)?;
             assert_eq!(rt; told.as_str(), wanted, "{text}");
         }
     }
@@ -199,7 +213,7 @@ fn bytes_are_no_text(rt: HostRuntime) -> Result<(), AllocError> {
     const CASES: &str = "SELECT ^ FROM t => P01 at 7";
     are_told(&rt, rt.alloc(), CASES)?;
     // A character that is cut off.
-    let told = shown(rt.alloc(), parse_statement_bytes(rt.alloc(), b"# \xc3"))?;
+    let told = told_of_bytes(rt.alloc(), b"# \xc3")?;
     assert_eq!(rt; told.as_str(), "P01 at 2");
     Ok(())
 }
