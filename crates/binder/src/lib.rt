@@ -12,8 +12,6 @@ mod scope;
 mod selects;
 mod statement;
 mod tables;
-#[cfg(test)]
-mod tests;
 
 pub use fault::{BindFault, BindReason, BindRefusal};
 pub use laws::statements_are_bound;

@@ -5,8 +5,6 @@ pub mod certificate;
 pub mod checked;
 mod fit;
 mod replay;
-#[cfg(test)]
-mod tests;
 
 pub use certificate::{Certificate, CheckFault, CheckReason, CheckRefusal, Line};
 pub use checked::{Checked, check};

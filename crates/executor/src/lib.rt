@@ -12,8 +12,6 @@ mod keys;
 mod operators;
 pub mod output;
 mod play;
-#[cfg(test)]
-mod play_tests;
 mod relation;
 mod rows;
 mod shown;

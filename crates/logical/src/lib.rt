@@ -7,12 +7,10 @@
 
 pub mod columns;
 pub mod condition;
-mod condition_text;
+pub mod condition_text;
 mod conjunct_order;
 pub mod expr;
 pub mod formed;
-#[cfg(test)]
-mod frame_tests;
 mod frames;
 pub mod laws;
 mod lines;
@@ -20,8 +18,6 @@ mod named_classes;
 mod numbers;
 mod operator_columns;
 mod scope;
-#[cfg(test)]
-mod tests;
 
 pub use columns::Columns;
 pub use condition::{Condition, Conjuncts, Term};

@@ -7,8 +7,6 @@ mod blocks;
 mod environment;
 mod evaluate;
 mod rows;
-#[cfg(test)]
-mod tests;
 
 pub use answer::meaning;
 pub use rows::Row;

@@ -7,8 +7,6 @@
 pub mod laws;
 pub mod order;
 pub mod plan;
-#[cfg(test)]
-mod tests;
 
 pub use order::{delivers, query_order};
 pub use plan::{JoinKind, Node, OrderKey, Plan};

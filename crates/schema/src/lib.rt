@@ -10,8 +10,6 @@ mod names;
 mod places;
 mod reading;
 pub mod schema;
-#[cfg(test)]
-mod tests;
 
 pub use fault::{SchemaFault, SchemaRefusal};
 pub use schema::{Column, Kind, Schema, Table};

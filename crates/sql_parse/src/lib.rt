@@ -15,8 +15,3 @@ mod token;
 pub use fault::{ParseFault, ParseReason, ParseRefusal};
 pub use name::Name;
 pub use statement_parser::{parse_statement, parse_statement_bytes};
-
-#[cfg(test)]
-mod statement_tests;
-#[cfg(test)]
-mod tests;

@@ -11,8 +11,6 @@ mod key;
 mod records;
 pub mod source;
 pub mod table;
-#[cfg(test)]
-mod tests;
 mod texts;
 mod unique;
 

@@ -32,19 +32,3 @@ impl<R, T: Drop> From<AllocFailed<T>> for Fault<R> {
         Fault::Memory
     }
 }
-
-#[cfg(test)]
-mod tests {
-    use super::*;
-    use std::alloc::Global;
-
-    fn push(v: &mut Vec<u8>) -> Result<(), Fault<u8>> {
-        v.push(1)?;
-        Err(Fault::Refused(2))
-    }
-
-    #[test]
-    fn a_refusal_is_told(rt: HostRuntime) {
-        assert_eq!(rt; push(&mut Vec::new(rt.alloc())), Err(Fault::Refused(2)));
-    }
-}

@@ -7,8 +7,6 @@
 
 pub mod cell;
 pub mod fault;
-#[cfg(test)]
-mod tests;
 pub mod text;
 pub mod truth;
 pub mod value;

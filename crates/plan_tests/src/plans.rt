@@ -1,0 +1,163 @@
+//! Plans read from words, each node after its inputs, with `|` between nodes: `scan LINE OCCURRENCE`, `filter LINE`,
+//! `subqueries LINE COUNT`, `cut LINE: COLUMNS`, `loop LINE`, `left LINE`, `sort: KEYS`, `group LINE`, `distinct LINE`.
+//! What else a node holds is that of a line with its number.
+
+use logical::{Columns, Conjuncts, Expr};
+use physical::{JoinKind, Node, OrderKey, Plan};
+use std::alloc::{AllocError, Global};
+use values::Items;
+
+/// The words of a node.
+#[derive(Clone, Copy)]
+struct Words<'a> {
+    name: &'a str,
+    line: usize,
+    /// The number after the line.
+    more: usize,
+    /// What stands after `:`.
+    columns: &'a str,
+}
+
+fn number(word: &str) -> usize {
+    match word.parse() {
+        Ok(number) => number,
+        Err(_) => usize::MAX,
+    }
+}
+
+/// What stands before a text's first such sign, and after it.
+fn cut<'a>(text: &'a str, sign: &str) -> (&'a str, &'a str) {
+    match text.split_once(sign) {
+        Some(parts) => parts,
+        None => (text, ""),
+    }
+}
+
+fn node_words(text: &str) -> Words<'_> {
+    let (head, columns) = cut(text, ":");
+    let (name, numbers) = cut(head, " ");
+    let (line, more) = cut(numbers, " ");
+    Words {
+        name,
+        line: number(line),
+        more: number(more),
+        columns,
+    }
+}
+
+/// The set of the numbers of a text.
+pub fn columns_of(alloc: Global, text: &str) -> Result<Columns, AllocError> {
+    let mut columns = Vec::new(alloc);
+    for word in text.split_whitespace() {
+        columns.push(number(word))?;
+    }
+    Ok(Columns::from_vec(columns))
+}
+
+/// The keys of a text, a falling one with `d`.
+fn keys_of(alloc: Global, text: &str) -> Result<Items<OrderKey>, AllocError> {
+    let mut keys = Items::new(alloc);
+    for word in text.split_whitespace() {
+        let (column, _) = cut(word, "d");
+        keys.push(OrderKey {
+            column: number(column),
+            descending: column.len() < word.len(),
+        })?;
+    }
+    Ok(keys)
+}
+
+/// The conjuncts of a line; none if it has none.
+fn conjuncts_of(alloc: Global, lines: &[Expr], line: usize) -> Result<Conjuncts, AllocError> {
+    match lines.get(line) {
+        Some(Expr::Select(own, _)) => own.copy(alloc),
+        Some(Expr::Join(own, _, _)) => own.copy(alloc),
+        Some(Expr::LeftJoin(own, _, _)) => own.copy(alloc),
+        _ => Ok(Conjuncts::none(alloc)),
+    }
+}
+
+fn loop_of(alloc: Global, lines: &[Expr], line: usize, kind: JoinKind) -> Result<Node, AllocError> {
+    let conjuncts = conjuncts_of(alloc, lines, line)?;
+    Ok(Node::Loop {
+        line,
+        kind,
+        conjuncts,
+    })
+}
+
+/// The group of a line; by no key and without aggregates if the line is no group.
+fn group_of(alloc: Global, lines: &[Expr], line: usize) -> Result<Node, AllocError> {
+    let Some(Expr::Group(own, added, _)) = lines.get(line) else {
+        return Ok(Node::HashGroup {
+            line,
+            keys: Columns::from_vec(Vec::new(alloc)),
+            added: Items::new(alloc),
+        });
+    };
+    let keys = own.copy(alloc)?;
+    let added = Items::from_slice(alloc, added.as_slice())?;
+    Ok(Node::HashGroup { line, keys, added })
+}
+
+fn node_of(alloc: Global, lines: &[Expr], words: Words<'_>) -> Result<Node, AllocError> {
+    let line = words.line;
+    match words.name {
+        "filter" => Ok(Node::Filter {
+            line,
+            conjuncts: conjuncts_of(alloc, lines, line)?,
+        }),
+        "subqueries" => Ok(Node::FilterSubqueries {
+            line,
+            conjuncts: conjuncts_of(alloc, lines, line)?,
+        }),
+        "cut" => Ok(Node::Cut {
+            line,
+            columns: columns_of(alloc, words.columns)?,
+        }),
+        "loop" => loop_of(alloc, lines, line, JoinKind::Inner),
+        "left" => loop_of(alloc, lines, line, JoinKind::Left),
+        "sort" => Ok(Node::Sort {
+            keys: keys_of(alloc, words.columns)?,
+        }),
+        "group" => group_of(alloc, lines, line),
+        "distinct" => Ok(Node::HashDistinct { line }),
+        _ => Ok(Node::Scan {
+            line,
+            occurrence: words.more,
+        }),
+    }
+}
+
+/// How many plans a node has as inputs.
+fn inputs(words: Words<'_>) -> usize {
+    match words.name {
+        "scan" => 0,
+        "loop" | "left" => 2,
+        "subqueries" => words.more.saturating_add(1),
+        _ => 1,
+    }
+}
+
+/// Adds the plan of a node, whose inputs are the last plans.
+fn push_plan(
+    alloc: Global,
+    plans: &mut Vec<Plan>,
+    lines: &[Expr],
+    words: Words<'_>,
+) -> Result<(), AllocError> {
+    let first = plans.len().saturating_sub(inputs(words));
+    let inputs = Items::from_vec(plans.split_off(first)?);
+    let node = node_of(alloc, lines, words)?;
+    plans.push(Plan { node, inputs })?;
+    Ok(())
+}
+
+/// The plan of a text, over lines.
+pub fn plan_of(alloc: Global, lines: &[Expr], text: &str) -> Result<Option<Plan>, AllocError> {
+    let mut plans = Vec::new(alloc);
+    for node in text.split(" | ") {
+        push_plan(alloc, &mut plans, lines, node_words(node))?;
+    }
+    Ok(plans.pop())
+}

@@ -1,0 +1,206 @@
+//! Schemas read from JSON, and the codes of other bytes.
+
+use fixtures::{COMPANY, spelt};
+use schema::{Column, Kind, Schema, Table};
+use std::alloc::{AllocError, Global};
+use std::fmt::Write;
+use std::process::Abort;
+use values::{Fault, Items};
+
+// ---- schemas as texts
+
+fn push_column(told: &mut String, column: &Column) -> Result<(), AllocError> {
+    let kind = match column.kind {
+        Kind::Int => "INT",
+        Kind::Text => "TEXT",
+    };
+    let null = if column.not_null { " NOT NULL" } else { "" };
+    write!(told, " {} {kind}{null},", column.name.as_str())
+}
+
+/// The lists, each after ` (`.
+fn push_lists(told: &mut String, lists: &[Items<usize>]) -> Result<(), AllocError> {
+    for list in lists {
+        told.push_str(" (")?;
+        for place in list.as_slice() {
+            write!(told, " {place}")?;
+        }
+        told.push_str(" )")?;
+    }
+    Ok(())
+}
+
+fn push_table(told: &mut String, table: &Table) -> Result<(), AllocError> {
+    told.push_str(table.name.as_str())?;
+    told.push_str(":")?;
+    for column in table.columns.as_slice() {
+        push_column(told, column)?;
+    }
+    told.push_str(" unique")?;
+    push_lists(told, table.unique.as_slice())?;
+    told.push_str(", indexed")?;
+    push_lists(told, table.indexes.as_slice())?;
+    told.push_str("; ")
+}
+
+/// Copies of the tables, as a text.
+fn schema_text(alloc: Global, schema: &Schema) -> Result<String, AllocError> {
+    let mut told = String::new(alloc);
+    for table in schema.tables.as_slice() {
+        push_table(&mut told, &table.copy(alloc)?)?;
+    }
+    Ok(told)
+}
+
+#[test]
+fn a_schema_is_read(rt: HostRuntime) -> Result<(), AllocError> {
+    let schema = Schema::read(rt.alloc(), COMPANY.as_bytes()).expect(&rt, "a schema");
+    assert_eq!(rt;
+        schema_text(rt.alloc(), &schema)?.as_str(),
+        "dept: id INT NOT NULL, name TEXT NOT NULL, boss INT, unique ( 0 ), indexed; emp: id INT NOT NULL, dept INT, pay INT, badge INT, unique ( 0 ) ( 3 ), indexed ( 1 0 ); "
+    );
+    Ok(())
+}
+
+// ---- codes
+
+/// How a text reads: the code of its refusal, or `schema`.
+fn told(alloc: Global, bytes: &[u8]) -> &'static str {
+    match Schema::read(alloc, bytes) {
+        Ok(_) => "schema",
+        Err(Fault::Memory) => "memory",
+        Err(Fault::Refused(refusal)) => refusal.code(),
+    }
+}
+
+/// Each line has what `spelt` takes between the front and the back, `=>`, and what is told of all three.
+fn are_told(
+    rt: &impl Abort,
+    alloc: Global,
+    front: &str,
+    cases: &str,
+    back: &str,
+) -> Result<(), AllocError> {
+    for case in cases.lines() {
+        let (text, wanted) = case.split_once(" => ").expect(rt, "two parts");
+        let text = format!(in alloc; "{front}{text}{back}")?;
+        let bytes = spelt(alloc, text.as_str())?;
+        assert_eq!(rt; told(alloc, bytes.as_slice()), wanted, "{text}");
+    }
+    Ok(())
+}
+
+/// The last of two members with one key is the one that counts.
+#[test]
+fn other_bytes_are_refused(rt: HostRuntime) -> Result<(), AllocError> {
+    const CASES: &str = r#" => S01
+{"tables":[] => S01
+{"tables":["^"]} => S01
+{"tables":[]} 1 => S01
+{"tables":[]} => schema
+[] => S02
+{} => S02
+{"tables":{}} => S02
+{"tables":[],"views":[]} => S02
+{"tables":[1]} => S02
+{"tables":1,"tables":[]} => schema
+{"tables":[],"tables":1} => S02"#;
+    are_told(&rt, rt.alloc(), "", CASES, "")?;
+    assert_eq!(rt;
+        told(rt.alloc(), "\u{FEFF}{\"tables\":[]}".as_bytes()),
+        "S01"
+    );
+    Ok(())
+}
+
+#[test]
+fn other_names_are_refused(rt: HostRuntime) -> Result<(), AllocError> {
+    const FRONT: &str = r#"{"tables":[{"name":"#;
+    const CASES: &str = r#""t" => schema
+"_t1" => schema
+"T" => S02
+"1t" => S02
+"" => S02
+"t-" => S02
+"select" => S02
+"max" => S02
+"selects" => schema
+"a23456789012345678901234567890123456789012345678901234567890123" => schema
+"a234567890123456789012345678901234567890123456789012345678901234" => S02
+7 => S02"#;
+    const BACK: &str =
+        r#","columns":[{"name":"a","kind":"INT","not_null":true}],"unique":[],"indexes":[]}]}"#;
+    are_told(&rt, rt.alloc(), FRONT, CASES, BACK)
+}
+
+#[test]
+fn other_columns_are_refused(rt: HostRuntime) -> Result<(), AllocError> {
+    const FRONT: &str = r#"{"tables":[{"name":"t","columns":["#;
+    const CASES: &str = r#" => S02
+{"name":"order","kind":"INT","not_null":true} => S02
+{"name":"a","kind":"int","not_null":true} => S02
+{"name":"a","kind":"INT","not_null":1} => S02
+{"name":"a","kind":"INT"} => S02
+{"name":"a","kind":"INT","not_null":true,"x":1} => S02
+{"name":"a","kind":"INT","not_null":true},{"name":"a","kind":"TEXT","not_null":true} => S03"#;
+    const BACK: &str = r#"],"unique":[],"indexes":[]}]}"#;
+    are_told(&rt, rt.alloc(), FRONT, CASES, BACK)
+}
+
+/// A name that repeats is told before one that is unknown, and too many before either.
+#[test]
+fn other_lists_are_refused(rt: HostRuntime) -> Result<(), AllocError> {
+    const FRONT: &str =
+        r#"{"tables":[{"name":"t","columns":[{"name":"a","kind":"INT","not_null":true},{"name":"b","kind":"INT","not_null":true}],"#;
+    const CASES: &str = r#""unique":[["a"],["a"],["b","a"]],"indexes":[] => schema
+"unique":[],"indexes":[["b"]] => schema
+"unique":{},"indexes":[] => S02
+"unique":[[]],"indexes":[] => S02
+"unique":[],"indexes":[[]] => S02
+"unique":["a"],"indexes":[] => S02
+"unique":[["A"]],"indexes":[] => S02
+"unique":[["a","a"]],"indexes":[] => S03
+"unique":[],"indexes":[["b","a","b"]] => S03
+"unique":[["c"]],"indexes":[] => S04
+"unique":[],"indexes":[["a"],["b","c"]] => S04
+"unique":[["c"]],"indexes":[["a","a"]] => S03
+"unique":[["c"]],"indexes":[["a","b","a","b","a","b","a","b","a"]] => S05
+"unique":[["a","b","a","b","a","b","a","b","a"]],"indexes":[[]] => S02"#;
+    const BACK: &str = r#"}]}"#;
+    are_told(&rt, rt.alloc(), FRONT, CASES, BACK)
+}
+
+/// Each text has two faults, of which the first code in the order S01, S02, S05, S03, S04 is told.
+#[test]
+fn the_first_code_is_told(rt: HostRuntime) -> Result<(), AllocError> {
+    const FRONT: &str =
+        r#"{"tables":[{"name":"t","columns":[{"name":"a","kind":"INT","not_null":true},{"name":"b","kind":"INT","not_null":true}],"#;
+    const CASES: &str = r#""unique":[["A"]],"indexes":[} => S01
+"unique":[["A"]],"indexes":["a","b","a","b","a","b","a","b","a"] => S02
+"unique":[["a","a"]],"indexes":[["A"]] => S02
+"unique":[["c"]],"indexes":[["A"]] => S02
+"unique":[["a","a"]],"indexes":[["b","a","b","a","b","a","b","a","b"]] => S05
+"unique":[["c","b","c","b","c","b","c","b","c"]],"indexes":[] => S05
+"unique":[["c"]],"indexes":[["a","a"]] => S03
+"unique":[["c","c"]],"indexes":[] => S03
+"unique":[["c"]],"indexes":[["a"]] => S04"#;
+    const BACK: &str = r#"}]}"#;
+    are_told(&rt, rt.alloc(), FRONT, CASES, BACK)
+}
+
+#[test]
+fn sizes_are_bounded(rt: HostRuntime) -> Result<(), AllocError> {
+    const FRONT: &str = r#"{"tables":["#;
+    const CASES: &str =
+        r#"{"name":"t","columns":[{"name":"x","kind":"TEXT","not_null":false}],"unique":[],"indexes":[]}|63*,{"name":"t#","columns":[{"name":"x","kind":"TEXT","not_null":false}],"unique":[],"indexes":[]}| => schema
+{"name":"t","columns":[{"name":"x","kind":"TEXT","not_null":false}],"unique":[],"indexes":[]}|64*,{"name":"t#","columns":[{"name":"x","kind":"TEXT","not_null":false}],"unique":[],"indexes":[]}| => S05
+{"name":"t","columns":[{"name":"x","kind":"TEXT","not_null":false}|63*,{"name":"c#","kind":"TEXT","not_null":false}|],"unique":[],"indexes":[]} => schema
+{"name":"t","columns":[{"name":"x","kind":"TEXT","not_null":false}|64*,{"name":"c#","kind":"TEXT","not_null":false}|],"unique":[],"indexes":[]} => S05
+{"name":"t","columns":[{"name":"x","kind":"TEXT","not_null":false}],"unique":[["x"]|15*,["x"]|],"indexes":[["x"]|15*,["x"]|]} => schema
+{"name":"t","columns":[{"name":"x","kind":"TEXT","not_null":false}],"unique":[["x"]|16*,["x"]|],"indexes":[["x"]|16*,["x"]|]} => S05
+{"name":"t","columns":[{"name":"x","kind":"TEXT","not_null":false}|8*,{"name":"c#","kind":"TEXT","not_null":false}|],"unique":[["x"|7*,"c#"|]],"indexes":[["x"|7*,"c#"|]]} => schema
+{"name":"t","columns":[{"name":"x","kind":"TEXT","not_null":false}|8*,{"name":"c#","kind":"TEXT","not_null":false}|],"unique":[["x"|8*,"c#"|]],"indexes":[["x"|8*,"c#"|]]} => S05
+{"name":"t","columns":[{"name":"a","kind":"INT","not_null":true}],"unique":[["x"]],"indexes":[]},{"name":"t","columns":[{"name":"a","kind":"INT","not_null":true}],"unique":[],"indexes":[]} => S03"#;
+    const BACK: &str = r#"]}"#;
+    are_told(&rt, rt.alloc(), FRONT, CASES, BACK)
+}
