@@ -17,7 +17,7 @@ use std::alloc::{AllocError, Global};
 use values::{Boxed, Items, Value};
 
 /// A term, and its kind; NULL has either.
-#[derive(Debug, Drop)]
+#[derive(Drop)]
 pub struct BoundTerm {
     pub term: Term,
     pub kind: Option<Kind>,
