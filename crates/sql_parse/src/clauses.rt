@@ -10,7 +10,7 @@ ghost use Rattle.sql_parse.specs.StatementReading.{reads};
 
 use crate::class::Class;
 use crate::fault::ParseReason;
-use crate::reading::{Parsed, alias, column, columns, expect, fault, sees};
+use crate::reading::{Parsed, accept, alias, column, columns, expect, fault, sees};
 use crate::statement::{
     AggregateCall, AggregateFunction, ColumnName, ItemValue, OrderKey, SelectItem, SelectList,
 };
@@ -213,8 +213,7 @@ pub fn head(tokens: &[Token], end: usize, depth: usize) -> Parsed<'_, bool>
     ensures { Gives (λ x. (x.0, x.1.now)) result (reads end depth grammar.a_head tokens.now) }
 {
     let (_, rest) = expect(tokens, end, Class::Keyword(Keyword::Select))?;
-    if sees(rest, Class::Keyword(Keyword::Distinct)) {
-        let (_, rest) = expect(rest, end, Class::Keyword(Keyword::Distinct))?;
+    if let Some((_, rest)) = accept(rest, end, Class::Keyword(Keyword::Distinct)) {
         Ok((true, rest))
     } else {
         Ok((false, rest))
@@ -245,11 +244,9 @@ pub fn group(
 fn direction(tokens: &[Token], end: usize, depth: usize) -> Parsed<'_, bool>
     ensures { Gives (λ x. (x.0, x.1.now)) result (reads end depth grammar.a_direction tokens.now) }
 {
-    if sees(tokens, Class::Keyword(Keyword::Desc)) {
-        let (_, rest) = expect(tokens, end, Class::Keyword(Keyword::Desc))?;
+    if let Some((_, rest)) = accept(tokens, end, Class::Keyword(Keyword::Desc)) {
         Ok((true, rest))
-    } else if sees(tokens, Class::Keyword(Keyword::Asc)) {
-        let (_, rest) = expect(tokens, end, Class::Keyword(Keyword::Asc))?;
+    } else if let Some((_, rest)) = accept(tokens, end, Class::Keyword(Keyword::Asc)) {
         Ok((false, rest))
     } else {
         Ok((false, tokens))
