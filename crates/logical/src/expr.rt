@@ -9,7 +9,7 @@ use query::Aggregate;
 use values::Items;
 
 /// An aggregate in a column of its own. Here the aggregate names the column that it reads by its number.
-#[derive(Clone, Copy)]
+#[derive(Clone, Copy, PartialEq, Eq)]
 pub struct Aggregation {
     /// The new column.
     pub column: usize,

@@ -52,7 +52,7 @@ pub enum From {
 }
 
 /// An aggregate of a column of the block's own FROM, which is named by its place.
-#[derive(Clone, Copy)]
+#[derive(Clone, Copy, PartialEq, Eq)]
 pub enum Aggregate {
     CountRows,
     Count(usize),

@@ -11,7 +11,7 @@ ghost use Rattle.sql_parse.specs.StatementReading.{reads};
 use crate::class::{Class, Clause};
 use crate::clauses::{group, head, list};
 use crate::fault::ParseReason;
-use crate::reading::{Parsed, expect, fault, operator, sees, table, term};
+use crate::reading::{Parsed, accept, expect, fault, operator, sees, table, term};
 use crate::statement::{Chain, Condition, Join, JoinKind, Select, Term};
 use crate::token::{Keyword, Symbol, Token};
 use std::alloc::{AllocError, Global};
@@ -81,8 +81,7 @@ fn null_test(
     ensures { Gives (λ x. (x.0, x.1.now)) result (reads end depth (map (λ test. test left) grammar.a_null_test) tokens.now) }
 {
     let (_, rest) = expect(tokens, end, Class::Keyword(Keyword::Is))?;
-    if sees(rest, Class::Keyword(Keyword::Not)) {
-        let (_, rest) = expect(rest, end, Class::Keyword(Keyword::Not))?;
+    if let Some((_, rest)) = accept(rest, end, Class::Keyword(Keyword::Not)) {
         let (_, rest) = expect(rest, end, Class::Keyword(Keyword::Null))?;
         let test = Boxed::new(alloc, Condition::IsNull(left))?;
         Ok((Condition::Not(test), rest))
@@ -240,27 +239,12 @@ fn negation(
 ) -> Parsed<'_, Condition>
     ensures { Gives (λ x. (x.0, x.1.now)) result (reads end depth (grammar.a_negation clause) tokens.now) }
 {
-    if sees(tokens, Class::Keyword(Keyword::Not)) {
-        let (_, rest) = expect(tokens, end, Class::Keyword(Keyword::Not))?;
+    if let Some((_, rest)) = accept(tokens, end, Class::Keyword(Keyword::Not)) {
         let (found, rest) = primary(alloc, clause, rest, end, depth)?;
         Ok((Condition::Not(Boxed::new(alloc, found)?), rest))
     } else {
         primary(alloc, clause, tokens, end, depth)
     }
-}
-
-#[cycle(conditions)]
-fn next_negation(
-    alloc: Global,
-    clause: Clause,
-    tokens: &[Token],
-    end: usize,
-    depth: usize,
-) -> Parsed<'_, Condition>
-    ensures { Gives (λ x. (x.0, x.1.now)) result (reads end depth (after (grammar.keyword Keyword.And) (grammar.a_negation clause)) tokens.now) }
-{
-    let (_, rest) = expect(tokens, end, Class::Keyword(Keyword::And))?;
-    negation(alloc, clause, rest, end, depth)
 }
 
 /// `{AND negation}`
@@ -277,8 +261,8 @@ fn more_negations(
 {
     let mut all = first;
     let mut rest = tokens;
-    'negations: while sees(rest, Class::Keyword(Keyword::And)) {
-        let (found, behind) = next_negation(alloc, clause, rest, end, depth)?;
+    'negations: while let Some((_, next)) = accept(rest, end, Class::Keyword(Keyword::And)) {
+        let (found, behind) = negation(alloc, clause, next, end, depth)?;
         all.push(found)?;
         rest = behind;
     }
@@ -334,20 +318,6 @@ fn conjunction(
     Ok((all_of(items)?, rest))
 }
 
-#[cycle(conditions)]
-fn next_conjunction(
-    alloc: Global,
-    clause: Clause,
-    tokens: &[Token],
-    end: usize,
-    depth: usize,
-) -> Parsed<'_, Condition>
-    ensures { Gives (λ x. (x.0, x.1.now)) result (reads end depth (after (grammar.keyword Keyword.Or) (grammar.a_conjunction clause)) tokens.now) }
-{
-    let (_, rest) = expect(tokens, end, Class::Keyword(Keyword::Or))?;
-    conjunction(alloc, clause, rest, end, depth)
-}
-
 /// `{OR conjunction}`
 #[cycle(conditions)]
 fn more_conjunctions(
@@ -362,8 +332,8 @@ fn more_conjunctions(
 {
     let mut all = first;
     let mut rest = tokens;
-    'conjunctions: while sees(rest, Class::Keyword(Keyword::Or)) {
-        let (found, behind) = next_conjunction(alloc, clause, rest, end, depth)?;
+    'conjunctions: while let Some((_, next)) = accept(rest, end, Class::Keyword(Keyword::Or)) {
+        let (found, behind) = conjunction(alloc, clause, next, end, depth)?;
         all.push(found)?;
         rest = behind;
     }
@@ -400,8 +370,7 @@ fn filter(
 ) -> Parsed<'_, Option<Boxed<Condition>>>
     ensures { Gives (λ x. (x.0, x.1.now)) result (reads end depth grammar.a_filter tokens.now) }
 {
-    if sees(tokens, Class::Keyword(Keyword::Where)) {
-        let (_, rest) = expect(tokens, end, Class::Keyword(Keyword::Where))?;
+    if let Some((_, rest)) = accept(tokens, end, Class::Keyword(Keyword::Where)) {
         let (found, rest) = condition(alloc, Clause::Where, rest, end, depth)?;
         Ok((Some(Boxed::new(alloc, found)?), rest))
     } else {
@@ -414,23 +383,19 @@ fn filter(
 fn join_kind(tokens: &[Token], end: usize, depth: usize) -> Parsed<'_, JoinKind>
     ensures { Gives (λ x. (x.0, x.1.now)) result (reads end depth grammar.a_join_kind tokens.now) }
 {
-    if sees(tokens, Class::Keyword(Keyword::Join)) {
-        let (_, rest) = expect(tokens, end, Class::Keyword(Keyword::Join))?;
+    if let Some((_, rest)) = accept(tokens, end, Class::Keyword(Keyword::Join)) {
         Ok((JoinKind::Inner, rest))
-    } else if sees(tokens, Class::Keyword(Keyword::Inner)) {
-        let (_, rest) = expect(tokens, end, Class::Keyword(Keyword::Inner))?;
+    } else if let Some((_, rest)) = accept(tokens, end, Class::Keyword(Keyword::Inner)) {
         let (_, rest) = expect(rest, end, Class::Keyword(Keyword::Join))?;
         Ok((JoinKind::Inner, rest))
     } else {
         let (_, rest) = expect(tokens, end, Class::Keyword(Keyword::Left))?;
-        if sees(rest, Class::Keyword(Keyword::Outer)) {
-            let (_, rest) = expect(rest, end, Class::Keyword(Keyword::Outer))?;
-            let (_, rest) = expect(rest, end, Class::Keyword(Keyword::Join))?;
-            Ok((JoinKind::Left, rest))
-        } else {
-            let (_, rest) = expect(rest, end, Class::Keyword(Keyword::Join))?;
-            Ok((JoinKind::Left, rest))
-        }
+        let rest = match accept(rest, end, Class::Keyword(Keyword::Outer)) {
+            Some((_, behind)) => behind,
+            None => rest,
+        };
+        let (_, rest) = expect(rest, end, Class::Keyword(Keyword::Join))?;
+        Ok((JoinKind::Left, rest))
     }
 }
 
@@ -494,14 +459,6 @@ fn chain(alloc: Global, tokens: &[Token], end: usize, depth: usize) -> Parsed<'_
     Ok((Chain { table, joins }, rest))
 }
 
-#[cycle(conditions)]
-fn next_chain(alloc: Global, tokens: &[Token], end: usize, depth: usize) -> Parsed<'_, Chain>
-    ensures { Gives (λ x. (x.0, x.1.now)) result (reads end depth (after (grammar.symbol Symbol.Comma) grammar.a_chain) tokens.now) }
-{
-    let (_, rest) = expect(tokens, end, Class::Symbol(Symbol::Comma))?;
-    chain(alloc, rest, end, depth)
-}
-
 /// `{, chain}`
 #[cycle(conditions)]
 fn more_chains(
@@ -515,8 +472,8 @@ fn more_chains(
 {
     let mut all = first;
     let mut rest = tokens;
-    'chains: while sees(rest, Class::Symbol(Symbol::Comma)) {
-        let (found, behind) = next_chain(alloc, rest, end, depth)?;
+    'chains: while let Some((_, next)) = accept(rest, end, Class::Symbol(Symbol::Comma)) {
+        let (found, behind) = chain(alloc, next, end, depth)?;
         all.push(found)?;
         rest = behind;
     }

@@ -193,13 +193,6 @@ pub fn term(alloc: Global, tokens: &[Token], end: usize, depth: usize) -> Parsed
     }
 }
 
-fn next_column(alloc: Global, tokens: &[Token], end: usize, depth: usize) -> Parsed<'_, ColumnName>
-    ensures { Gives (λ x. (x.0, x.1.now)) result (reads end depth (after (grammar.symbol Symbol.Comma) grammar.a_column) tokens.now) }
-{
-    let (_, rest) = expect(tokens, end, Class::Symbol(Symbol::Comma))?;
-    column(alloc, rest, end, depth)
-}
-
 /// `{, column}`
 fn more_columns(
     alloc: Global,
@@ -212,8 +205,8 @@ fn more_columns(
 {
     let mut all = first;
     let mut rest = tokens;
-    'columns: while sees(rest, Class::Symbol(Symbol::Comma)) {
-        let (found, behind) = next_column(alloc, rest, end, depth)?;
+    'columns: while let Some((_, next)) = accept(rest, end, Class::Symbol(Symbol::Comma)) {
+        let (found, behind) = column(alloc, next, end, depth)?;
         all.push(found)?;
         rest = behind;
     }

@@ -13,7 +13,7 @@ use crate::clauses::order;
 use crate::conditions::select;
 use crate::fault::{ParseFault, ParseReason, refused};
 use crate::lexer::tokens;
-use crate::reading::{Parsed, expect, fault, sees};
+use crate::reading::{Parsed, accept, fault};
 use crate::statement::Statement;
 use crate::token::{Symbol, Token};
 use std::alloc::Global;
@@ -30,8 +30,7 @@ fn statement(alloc: Global, tokens: &[Token], end: usize, depth: usize) -> Parse
     let (select, rest) = select(alloc, tokens, end, depth)?;
     let (order, rest) = order(alloc, rest, end, depth)?;
     let statement = Statement { select, order };
-    if sees(rest, Class::Symbol(Symbol::Semicolon)) {
-        let (_, rest) = expect(rest, end, Class::Symbol(Symbol::Semicolon))?;
+    if let Some((_, rest)) = accept(rest, end, Class::Symbol(Symbol::Semicolon)) {
         Ok((statement, rest))
     } else {
         Ok((statement, rest))
