@@ -23,7 +23,7 @@ pub struct Certificate {
 }
 
 /// Why a line or a node is refused.
-#[derive(Clone, Copy)]
+#[derive(Clone, Copy, Debug)]
 pub enum CheckReason {
     /// A number names no earlier line, or as a class a line that founds none.
     UnknownLine,

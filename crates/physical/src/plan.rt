@@ -11,7 +11,7 @@ pub enum JoinKind {
 }
 
 /// A column by which rows are ordered.
-#[derive(Clone, Copy)]
+#[derive(Clone, Copy, PartialEq, Eq)]
 pub struct OrderKey {
     pub column: usize,
     pub descending: bool,
