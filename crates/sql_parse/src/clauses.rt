@@ -10,7 +10,7 @@ ghost use Rattle.sql_parse.specs.StatementReading.{reads};
 
 use crate::class::Class;
 use crate::fault::ParseReason;
-use crate::reading::{Parsed, accept, alias, column, columns, expect, fault, sees};
+use crate::reading::{Parsed, accept, alias, column, columns, expect, fault, followed, sees};
 use crate::statement::{
     AggregateCall, AggregateFunction, ColumnName, ItemValue, OrderKey, SelectItem, SelectList,
 };
@@ -51,7 +51,7 @@ fn count_argument(
         return Err(fault(ParseReason::TooDeep, tokens, end));
     }
     let (found, rest) = counted(alloc, rest, end, depth - 1)?;
-    let (_, rest) = expect(rest, end, Class::Symbol(Symbol::CloseParenthesis))?;
+    let ((found, _), rest) = followed(found, rest, end, Class::Symbol(Symbol::CloseParenthesis))?;
     Ok((found, rest))
 }
 
@@ -70,7 +70,7 @@ fn column_argument(
         return Err(fault(ParseReason::TooDeep, tokens, end));
     }
     let (found, rest) = column(alloc, rest, end, depth - 1)?;
-    let (_, rest) = expect(rest, end, Class::Symbol(Symbol::CloseParenthesis))?;
+    let ((found, _), rest) = followed(found, rest, end, Class::Symbol(Symbol::CloseParenthesis))?;
     Ok((found, rest))
 }
 

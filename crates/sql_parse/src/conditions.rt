@@ -11,7 +11,7 @@ ghost use Rattle.sql_parse.specs.StatementReading.{reads};
 use crate::class::{Class, Clause};
 use crate::clauses::{group, head, list};
 use crate::fault::ParseReason;
-use crate::reading::{Parsed, accept, expect, fault, operator, sees, table, term};
+use crate::reading::{Parsed, accept, expect, fault, followed, operator, sees, table, term};
 use crate::statement::{Chain, Condition, Join, JoinKind, Select, Term};
 use crate::token::{Keyword, Symbol, Token};
 use std::alloc::{AllocError, Global};
@@ -34,14 +34,19 @@ fn nested_condition(
         return Err(fault(ParseReason::TooDeep, tokens, end));
     }
     let (found, rest) = condition(alloc, clause, rest, end, depth - 1)?;
-    let (_, rest) = expect(rest, end, Class::Symbol(Symbol::CloseParenthesis))?;
+    let ((found, _), rest) = followed(found, rest, end, Class::Symbol(Symbol::CloseParenthesis))?;
     Ok((found, rest))
 }
 
 /// `( select )`
 #[cycle(conditions)]
 #[tactic(auto, using(crate::proofs::SqlLoops::opened))]
-fn nested_select(alloc: Global, tokens: &[Token], end: usize, depth: usize) -> Parsed<'_, Select>
+fn nested_select(
+    alloc: Global,
+    tokens: &[Token],
+    end: usize,
+    depth: usize,
+) -> Parsed<'_, Boxed<Select>>
     ensures { Gives (λ x. (x.0, x.1.now)) result (reads end depth (nested of_select) tokens.now) }
 {
     let (_, rest) = expect(tokens, end, Class::Symbol(Symbol::OpenParenthesis))?;
@@ -49,8 +54,8 @@ fn nested_select(alloc: Global, tokens: &[Token], end: usize, depth: usize) -> P
         return Err(fault(ParseReason::TooDeep, tokens, end));
     }
     let (found, rest) = select(alloc, rest, end, depth - 1)?;
-    let (_, rest) = expect(rest, end, Class::Symbol(Symbol::CloseParenthesis))?;
-    Ok((found, rest))
+    let ((found, _), rest) = followed(found, rest, end, Class::Symbol(Symbol::CloseParenthesis))?;
+    Ok((Boxed::new(alloc, found)?, rest))
 }
 
 /// `operator term`
@@ -80,13 +85,13 @@ fn null_test(
 ) -> Parsed<'_, Condition>
     ensures { Gives (λ x. (x.0, x.1.now)) result (reads end depth (map (λ test. test left) grammar.a_null_test) tokens.now) }
 {
-    let (_, rest) = expect(tokens, end, Class::Keyword(Keyword::Is))?;
+    let ((left, _), rest) = followed(left, tokens, end, Class::Keyword(Keyword::Is))?;
     if let Some((_, rest)) = accept(rest, end, Class::Keyword(Keyword::Not)) {
-        let (_, rest) = expect(rest, end, Class::Keyword(Keyword::Null))?;
+        let ((left, _), rest) = followed(left, rest, end, Class::Keyword(Keyword::Null))?;
         let test = Boxed::new(alloc, Condition::IsNull(left))?;
         Ok((Condition::Not(test), rest))
     } else {
-        let (_, rest) = expect(rest, end, Class::Keyword(Keyword::Null))?;
+        let ((left, _), rest) = followed(left, rest, end, Class::Keyword(Keyword::Null))?;
         Ok((Condition::IsNull(left), rest))
     }
 }
@@ -103,9 +108,8 @@ fn membership(
 ) -> Parsed<'_, Condition>
     ensures { Gives (λ x. (x.0, x.1.now)) result (reads end depth (map (λ test. test left) grammar.a_membership) tokens.now) }
 {
-    let (token, rest) = expect(tokens, end, Class::Keyword(Keyword::In))?;
+    let ((left, token), rest) = followed(left, tokens, end, Class::Keyword(Keyword::In))?;
     let (query, rest) = nested_select(alloc, rest, end, depth)?;
-    let query = Boxed::new(alloc, query)?;
     Ok((Condition::In(left, token.at, query), rest))
 }
 
@@ -121,10 +125,9 @@ fn missing(
 ) -> Parsed<'_, Condition>
     ensures { Gives (λ x. (x.0, x.1.now)) result (reads end depth (map (λ test. test left) grammar.a_missing) tokens.now) }
 {
-    let (_, rest) = expect(tokens, end, Class::Keyword(Keyword::Not))?;
-    let (token, rest) = expect(rest, end, Class::Keyword(Keyword::In))?;
+    let ((left, _), rest) = followed(left, tokens, end, Class::Keyword(Keyword::Not))?;
+    let ((left, token), rest) = followed(left, rest, end, Class::Keyword(Keyword::In))?;
     let (query, rest) = nested_select(alloc, rest, end, depth)?;
-    let query = Boxed::new(alloc, query)?;
     let test = Boxed::new(alloc, Condition::In(left, token.at, query))?;
     Ok((Condition::Not(test), rest))
 }
@@ -197,7 +200,7 @@ fn existence(alloc: Global, tokens: &[Token], end: usize, depth: usize) -> Parse
 {
     let (_, rest) = expect(tokens, end, Class::Keyword(Keyword::Exists))?;
     let (query, rest) = nested_select(alloc, rest, end, depth)?;
-    Ok((Condition::Exists(Boxed::new(alloc, query)?), rest))
+    Ok((Condition::Exists(query), rest))
 }
 
 /// `( condition ) | EXISTS ( select ) | term test`, EXISTS in a WHERE alone.
@@ -417,7 +420,7 @@ fn join(alloc: Global, tokens: &[Token], end: usize, depth: usize) -> Parsed<'_,
 {
     let (kind, rest) = join_kind(tokens, end, depth)?;
     let (table, rest) = table(alloc, rest, end, depth)?;
-    let (_, rest) = expect(rest, end, Class::Keyword(Keyword::On))?;
+    let ((table, _), rest) = followed(table, rest, end, Class::Keyword(Keyword::On))?;
     let (condition, rest) = condition(alloc, Clause::On, rest, end, depth)?;
     let join = Join {
         kind,

@@ -64,6 +64,20 @@ pub fn expect(tokens: &[Token], end: usize, class: Class) -> Parsed<'_, &Token>
     }
 }
 
+/// What was read, and the next token, which has to be of the class.
+pub fn followed<T: Drop>(
+    found: T,
+    tokens: &[Token],
+    end: usize,
+    class: Class,
+) -> Parsed<'_, (T, &Token)>
+    ensures found { IfOk result (λ x. x.0.0 ≡ found) }
+    ensures next { Gives (λ x. (x.0.1.now, x.1.now)) result (one sql (told end) (class_number class) tokens.now) }
+{
+    let (token, rest) = expect(tokens, end, class)?;
+    Ok(((found, token), rest))
+}
+
 /// The name that a name token is.
 fn name_of(alloc: Global, token: &Token) -> Result<Name, AllocError>
     ensures { IfOk result (λ name. name ≡ grammar.name_of token.now) }

@@ -1,7 +1,7 @@
 //! From a text to the tree of a statement of the whole language.
 
 ghost use Rattle.std.specs.Prelude.{◌≡◌, IfOk, IfErr};
-ghost use Rattle.grammar.specs.Readers.{whole};
+ghost use Rattle.grammar.specs.Readers.{finished as with_nothing_behind, whole};
 ghost use Rattle.values.specs.Faults.{Gives};
 ghost use Rattle.sql_parse.specs.ReadingFaults.{IfRefused};
 ghost use Rattle.sql_parse.specs.Sql.{sql, a_statement};
@@ -37,6 +37,16 @@ fn statement(alloc: Global, tokens: &[Token], end: usize, depth: usize) -> Parse
     }
 }
 
+/// A tree, if nothing stands behind it.
+fn finished<T: Drop>(found: T, rest: &[Token], end: usize) -> Result<T, ParseFault>
+    ensures { Gives (λ tree. tree) result (with_nothing_behind sql (told end) (found, rest.now)) }
+{
+    match rest {
+        [] => Ok(found),
+        [_, ..] => Err(fault(ParseReason::Unexpected, rest, end)),
+    }
+}
+
 /// A statement, and nothing more.
 fn whole_statement(
     alloc: Global,
@@ -47,10 +57,7 @@ fn whole_statement(
     ensures { Gives (λ tree. tree) result (whole sql (told end) depth a_statement tokens.now) }
 {
     let (found, rest) = statement(alloc, tokens, end, depth)?;
-    match rest {
-        [] => Ok(found),
-        [_, ..] => Err(fault(ParseReason::Unexpected, rest, end)),
-    }
+    finished(found, rest, end)
 }
 
 /// The most parentheses that may be open at once.
