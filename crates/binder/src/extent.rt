@@ -17,7 +17,7 @@ pub const MAX_LEVELS: usize = 8;
 pub const MAX_TESTS: usize = 1024;
 
 /// The size of a part of a statement.
-#[derive(Clone, Copy, Debug, PartialEq, Eq)]
+#[derive(Clone, Copy)]
 pub struct Extent {
     /// Table occurrences.
     pub tables: usize,

@@ -7,7 +7,7 @@ use thiserror::Error;
 use values::Fault;
 
 /// Why a tree is refused.
-#[derive(Clone, Copy, Debug, PartialEq, Eq)]
+#[derive(Clone, Copy, Debug)]
 pub enum BindReason {
     /// B01: no table of this name.
     UnknownTable,
@@ -55,7 +55,7 @@ impl BindReason {
 }
 
 /// What is wrong with a tree, and at which byte of its text.
-#[derive(Clone, Copy, Debug, PartialEq, Eq, Drop, Error)]
+#[derive(Clone, Copy, Debug, Drop, Error)]
 #[error("{} at {at}", .reason.code())]
 pub struct BindRefusal {
     pub reason: BindReason,

@@ -11,7 +11,7 @@ use std::collections::HashMap;
 use std::marker::Model;
 
 /// What an item has in common with those that are the same column.
-#[derive(Clone, Copy, Debug, PartialEq, Eq, Hash)]
+#[derive(Clone, Copy, PartialEq, Eq, Hash)]
 pub enum Identity {
     /// A level, and a place of its row.
     Column(usize, usize),
@@ -20,7 +20,7 @@ pub enum Identity {
 }
 
 /// What an output name means, if it means anything.
-#[derive(Clone, Copy, Debug, PartialEq, Eq)]
+#[derive(Clone, Copy)]
 pub enum Sense {
     One(Item),
     Several,

@@ -19,7 +19,7 @@ use std::alloc::{AllocError, Global};
 use values::{Items, Text};
 
 /// An output column.
-#[derive(Debug, Drop)]
+#[derive(Drop)]
 pub struct Output {
     pub name: Text,
     pub item: Item,

@@ -18,14 +18,14 @@ use std::collections::HashMap;
 use std::marker::Model;
 
 /// A column that a name means, and its kind.
-#[derive(Clone, Copy, Debug, PartialEq, Eq)]
+#[derive(Clone, Copy)]
 pub struct TypedColumn {
     pub column: Column,
     pub kind: Kind,
 }
 
 /// What a plain name means in one FROM, if it means anything there.
-#[derive(Clone, Copy, Debug, PartialEq, Eq)]
+#[derive(Clone, Copy)]
 pub enum Meaning {
     /// The column at a place of the FROM's row.
     One(usize, Kind),

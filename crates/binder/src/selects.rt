@@ -17,7 +17,7 @@ use std::alloc::{AllocError, Global};
 use values::{Boxed, Items, Value};
 
 /// A term, and its kind; NULL has either.
-#[derive(Debug, Drop)]
+#[derive(Drop)]
 pub struct BoundTerm {
     pub term: Term,
     pub kind: Option<Kind>,
@@ -26,7 +26,7 @@ pub struct BoundTerm {
 /// A SELECT: its block, what it shows, and the tables of its FROM.
 #[derive(Drop)]
 pub struct BoundSelect<'s> {
-    pub block: Block,
+    pub block: Boxed<Block>,
     pub outputs: Items<Output>,
     pub scope: Scope<'s>,
 }
@@ -87,12 +87,7 @@ fn comparison(
 }
 
 /// `left IN query`
-fn membership(
-    alloc: Global,
-    left: BoundTerm,
-    at: usize,
-    query: BoundSelect<'_>,
-) -> Result<Cond, BindFault>
+fn membership(left: BoundTerm, at: usize, query: BoundSelect<'_>) -> Result<Cond, BindFault>
     ensures { Gives (λ bound. bound) result (spec.membership_in left at query.entry) }
 {
     let [output] = query.outputs.as_slice() else {
@@ -101,7 +96,7 @@ fn membership(
     if !are_comparable(left.kind, Some(output.kind)) {
         return Err(refused(BindReason::MixedKinds, at));
     }
-    Ok(Cond::In(left.term, Boxed::new(alloc, query.block)?))
+    Ok(Cond::In(left.term, query.block))
 }
 
 #[cycle(selects)]
@@ -131,12 +126,12 @@ fn condition<'s>(
         }
         Condition::Exists(query) => {
             let query = select(alloc, schema, query.get(), scopes, numbered)?;
-            Ok(Cond::Exists(Boxed::new(alloc, query.block)?))
+            Ok(Cond::Exists(query.block))
         }
         Condition::In(tested, at, query) => {
             let left = term(alloc, tested, scopes)?;
             let query = select(alloc, schema, query.get(), scopes, numbered)?;
-            membership(alloc, left, *at, query)
+            membership(left, *at, query)
         }
     }
 }
@@ -178,17 +173,16 @@ fn filter<'s>(
 fn joined(
     alloc: Global,
     kind: JoinKind,
-    left: From,
+    left: Boxed<From>,
     right: Occurrence,
     on: Cond,
-) -> Result<From, AllocError>
+) -> Result<Boxed<From>, AllocError>
     ensures { IfOk result (λ from. from ≡ spec.joined kind left right on) }
 {
-    let left = Boxed::new(alloc, left)?;
     let on = Boxed::new(alloc, on)?;
     match kind {
-        JoinKind::Inner => Ok(From::Join(left, right, on)),
-        JoinKind::Left => Ok(From::LeftJoin(left, right, on)),
+        JoinKind::Inner => Boxed::new(alloc, From::Join(left, right, on)),
+        JoinKind::Left => Boxed::new(alloc, From::LeftJoin(left, right, on)),
     }
 }
 
@@ -200,9 +194,9 @@ fn join<'s>(
     part: &'s Join,
     outer: &Scopes<'_, 's>,
     before: &Scope<'s>,
-    left: (From, Scope<'s>),
+    left: (Boxed<From>, Scope<'s>),
     numbered: &mut Numbered,
-) -> Result<(From, Scope<'s>), BindFault>
+) -> Result<(Boxed<From>, Scope<'s>), BindFault>
     ensures { Gives (λ x. (x.0, x.1, numbered.new)) result (spec.join_in schema.entry.now part.entry.now (scopes_of outer.now) before.now (left.entry.0, left.entry.1, numbered.old)) }
 {
     let (left, chain) = left;
@@ -220,9 +214,9 @@ fn joins<'s>(
     parts: &'s [Join],
     outer: &Scopes<'_, 's>,
     before: &Scope<'s>,
-    first: (From, Scope<'s>),
+    first: (Boxed<From>, Scope<'s>),
     numbered: &mut Numbered,
-) -> Result<(From, Scope<'s>), BindFault>
+) -> Result<(Boxed<From>, Scope<'s>), BindFault>
     ensures { Gives (λ x. (x.0, x.1, numbered.new)) result (spec.through (map (spec.join_in schema.entry.now) parts.entry.now) (scopes_of outer.now) before.now (first.entry.0, first.entry.1, numbered.old)) }
 {
     let mut left = first;
@@ -241,12 +235,12 @@ fn chain<'s>(
     outer: &Scopes<'_, 's>,
     before: &Scope<'s>,
     numbered: &mut Numbered,
-) -> Result<(From, Scope<'s>), BindFault>
+) -> Result<(Boxed<From>, Scope<'s>), BindFault>
     ensures { Gives (λ x. (x.0, x.1, numbered.new)) result (spec.chain_in schema.entry.now part.entry.now (scopes_of outer.now) before.now numbered.old) }
 {
     let none = Scope::new(alloc);
     let (first, scope) = enter(alloc, schema, before, none, &part.table, numbered)?;
-    let first = (From::Table(first), scope);
+    let first = (Boxed::new(alloc, From::Table(first))?, scope);
     joins(
         alloc,
         schema,
@@ -266,7 +260,7 @@ fn sources<'s>(
     parts: &'s [Chain],
     outer: &Scopes<'_, 's>,
     numbered: &mut Numbered,
-) -> Result<(From, Scope<'s>), BindFault>
+) -> Result<(Boxed<From>, Scope<'s>), BindFault>
     ensures { Gives (λ x. (x.0, x.1, numbered.new)) result (spec.from_in (map (spec.chain_in schema.entry.now) parts.entry.now) (scopes_of outer.now) numbered.old) }
 {
     let [first, others @ ..] = parts else {
@@ -276,7 +270,7 @@ fn sources<'s>(
     let (mut left, mut scope) = chain(alloc, schema, first, outer, &none, numbered)?;
     for part in others {
         let (right, tables) = chain(alloc, schema, part, outer, &scope, numbered)?;
-        left = From::Comma(Boxed::new(alloc, left)?, Boxed::new(alloc, right)?);
+        left = Boxed::new(alloc, From::Comma(left, right))?;
         scope = scope.append(&tables)?;
     }
     Ok((left, scope))
@@ -317,7 +311,7 @@ pub fn select<'s>(
     };
     let outputs = outputs(alloc, &part.list, first_number, grouping, &scope, &scopes)?;
     let block = Block {
-        from,
+        from: from.into_inner(),
         filter,
         grouped,
         keys: keys.into_items(),
@@ -325,7 +319,7 @@ pub fn select<'s>(
         distinct: part.distinct,
     };
     Ok(BoundSelect {
-        block,
+        block: Boxed::new(alloc, block)?,
         outputs,
         scope,
     })

@@ -59,7 +59,7 @@ pub fn bind_statement(
     let names = names(alloc, bound.outputs.as_slice())?;
     Ok(Query {
         tables: numbered.tables,
-        block: bound.block,
+        block: bound.block.into_inner(),
         names,
         order,
     })

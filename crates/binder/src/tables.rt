@@ -13,7 +13,7 @@ use std::alloc::{AllocError, Global};
 use values::{Items, Text};
 
 /// What has a number so far.
-#[derive(Debug, Drop)]
+#[derive(Drop)]
 pub struct Numbered {
     /// The table occurrences, in the order of the text.
     pub tables: Items<TableUse>,

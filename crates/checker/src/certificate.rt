@@ -9,21 +9,21 @@ use thiserror::Error;
 use values::{Fault, Items};
 
 /// A line of a derivation. Lines are numbered from 0.
-#[derive(Debug, Drop)]
+#[derive(Drop)]
 pub enum Line {
     /// Founds a class, which is named by this line's number.
     Founds(Expr),
 }
 
 /// A plan, and the derivation that ties it to its query.
-#[derive(Debug, Drop)]
+#[derive(Drop)]
 pub struct Certificate {
     pub lines: Items<Line>,
     pub plan: Plan,
 }
 
 /// Why a line or a node is refused.
-#[derive(Clone, Copy, Debug, PartialEq, Eq)]
+#[derive(Clone, Copy, Debug)]
 pub enum CheckReason {
     /// A number names no earlier line, or as a class a line that founds none.
     UnknownLine,
@@ -62,7 +62,7 @@ impl CheckReason {
 }
 
 /// The first fault of a certificate.
-#[derive(Clone, Copy, Debug, PartialEq, Eq, Error)]
+#[derive(Clone, Copy, Debug, Error)]
 #[error("{} line {line}", .reason.code())]
 pub struct CheckRefusal {
     /// The number of the faulty line, or of the faulty node: nodes are numbered on from the lines, each before its inputs.

@@ -51,7 +51,7 @@ pub fn check<'a>(
 }
 
 /// A certificate that was checked against its query: its plan gives answers of the query.
-#[derive(Debug, Drop)]
+#[derive(Drop)]
 pub struct Checked<'a> {
     schema: &'a Schema,
     query: &'a Query,

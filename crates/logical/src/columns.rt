@@ -11,7 +11,7 @@ use std::marker::Model;
 use values::Items;
 
 /// A set of column numbers, which contracts see as their strictly rising list.
-#[derive(Debug, Drop)]
+#[derive(Drop)]
 pub struct Columns {
     columns: Items<usize>,
 }

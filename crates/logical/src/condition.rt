@@ -7,7 +7,7 @@ use std::alloc::{AllocError, Global};
 use std::marker::Model;
 use values::{Boxed, Comparison, Items, Value, same};
 
-#[derive(Debug, Drop)]
+#[derive(Drop)]
 pub enum Term {
     /// A column by its number, read in the row or else in the environment around it.
     Column(usize),
@@ -15,7 +15,7 @@ pub enum Term {
 }
 
 /// A condition. Its subqueries are classes, whose rows are taken in the environment overlaid with the row.
-#[derive(Debug, Drop)]
+#[derive(Drop)]
 pub enum Condition {
     Compare(Comparison, Term, Term),
     IsNull(Term),
@@ -29,7 +29,7 @@ pub enum Condition {
 }
 
 /// Conditions that must all be true.
-#[derive(Debug, Drop)]
+#[derive(Drop)]
 pub struct Conjuncts {
     conditions: Items<Condition>,
 }

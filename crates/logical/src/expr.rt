@@ -9,7 +9,7 @@ use query::Aggregate;
 use values::Items;
 
 /// An aggregate in a column of its own. Here the aggregate names the column that it reads by its number.
-#[derive(Clone, Copy, Debug, PartialEq, Eq)]
+#[derive(Clone, Copy, PartialEq, Eq)]
 pub struct Aggregation {
     /// The new column.
     pub column: usize,
@@ -17,7 +17,7 @@ pub struct Aggregation {
 }
 
 /// An operator of the algebra over classes, which come last.
-#[derive(Debug, Drop)]
+#[derive(Drop)]
 pub enum Expr {
     /// The rows of a table occurrence.
     Get(usize),

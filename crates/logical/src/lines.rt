@@ -9,7 +9,7 @@ use std::marker::Model;
 use values::Items;
 
 /// Lines, each founding a class. Contracts see the last one first.
-#[derive(Debug, Drop)]
+#[derive(Drop)]
 pub struct Lines {
     lines: Items<Expr>,
 }

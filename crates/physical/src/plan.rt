@@ -4,14 +4,14 @@ use logical::{Aggregation, Columns, Conjuncts};
 use values::Items;
 
 /// Whether a join pads the left rows that have no match.
-#[derive(Clone, Copy, Debug, PartialEq, Eq)]
+#[derive(Clone, Copy)]
 pub enum JoinKind {
     Inner,
     Left,
 }
 
 /// A column by which rows are ordered.
-#[derive(Clone, Copy, Debug, PartialEq, Eq)]
+#[derive(Clone, Copy, PartialEq, Eq)]
 pub struct OrderKey {
     pub column: usize,
     pub descending: bool,
@@ -19,7 +19,7 @@ pub struct OrderKey {
 
 /// An operator of a plan. Its `line` is the line of the derivation whose expression it computes; a sort computes what its
 /// input does.
-#[derive(Debug, Drop)]
+#[derive(Drop)]
 pub enum Node {
     /// The rows of a table occurrence, in the order of the table.
     Scan {
@@ -64,7 +64,7 @@ pub enum Node {
     },
 }
 
-#[derive(Debug, Drop)]
+#[derive(Drop)]
 pub struct Plan {
     pub node: Node,
     pub inputs: Items<Plan>,

@@ -5,13 +5,13 @@ use values::{Boxed, Comparison, Items, Text, Value};
 
 /// The column at a place of the row at a level. Level 0 is the innermost row: that of the block's own FROM, and in an ON
 /// the row of the join's two sides. Level 1 is the row of the enclosing block, and so on.
-#[derive(Clone, Copy, Debug, PartialEq, Eq)]
+#[derive(Clone, Copy)]
 pub struct Column {
     pub level: usize,
     pub place: usize,
 }
 
-#[derive(Debug, Drop)]
+#[derive(Drop)]
 pub enum Term {
     Column(Column),
     Literal(Value),
@@ -19,7 +19,7 @@ pub enum Term {
 
 /// A condition. `x IS NOT NULL` is `Not` of `IsNull`, and `x NOT IN Q` is `Not` of `In`.
 #[cycle(block)]
-#[derive(Debug, Drop)]
+#[derive(Drop)]
 pub enum Cond {
     Compare(Comparison, Term, Term),
     IsNull(Term),
@@ -32,7 +32,7 @@ pub enum Cond {
 
 /// A table of the schema, where it stands in the text. Occurrences are numbered from 0 as they stand there, those in
 /// subqueries among them.
-#[derive(Clone, Copy, Debug, PartialEq, Eq)]
+#[derive(Clone, Copy)]
 pub struct Occurrence {
     pub number: usize,
     /// The table's place in the schema.
@@ -40,7 +40,7 @@ pub struct Occurrence {
 }
 
 #[cycle(block)]
-#[derive(Debug, Drop)]
+#[derive(Drop)]
 pub enum From {
     Table(Occurrence),
     /// `FROM .. JOIN table ON condition`
@@ -52,7 +52,7 @@ pub enum From {
 }
 
 /// An aggregate of a column of the block's own FROM, which is named by its place.
-#[derive(Clone, Copy, Debug, PartialEq, Eq)]
+#[derive(Clone, Copy, PartialEq, Eq)]
 pub enum Aggregate {
     CountRows,
     Count(usize),
@@ -61,7 +61,7 @@ pub enum Aggregate {
     Max(usize),
 }
 
-#[derive(Clone, Copy, Debug, PartialEq, Eq)]
+#[derive(Clone, Copy)]
 pub enum Item {
     Column(Column),
     /// An aggregate, and the column number that it has: those of the text's aggregates follow those of its tables.
@@ -70,7 +70,7 @@ pub enum Item {
 
 /// A SELECT without its ORDER BY: a query block, which may also stand as a subquery.
 #[cycle(block)]
-#[derive(Debug, Drop)]
+#[derive(Drop)]
 pub struct Block {
     pub from: From,
     pub filter: Option<Boxed<Cond>>,
@@ -83,14 +83,14 @@ pub struct Block {
 }
 
 /// A key of ORDER BY: the place of an item, which is a column.
-#[derive(Clone, Copy, Debug, PartialEq, Eq)]
+#[derive(Clone, Copy)]
 pub struct SortKey {
     pub item: usize,
     pub descending: bool,
 }
 
 /// What the text says of a table occurrence.
-#[derive(Debug, Drop)]
+#[derive(Drop)]
 pub struct TableUse {
     /// The table's place in the schema.
     pub table: usize,
@@ -103,7 +103,7 @@ pub struct TableUse {
 }
 
 /// A bound query.
-#[derive(Debug, Drop)]
+#[derive(Drop)]
 pub struct Query {
     /// Of each occurrence, by its number.
     pub tables: Items<TableUse>,

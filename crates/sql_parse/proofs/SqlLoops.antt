@@ -1,7 +1,7 @@
 -- The lists of the grammar, item by item, and parentheses that are opened.
-use Rattle.std.proofs.Common.{◌≡◌, ℕ, ◌-◌, ◌<◌, true, List, [], ◌∷◌, ◌++◌, length, Result, Ok, refl}
-use Rattle.grammar.specs.Grammars.{many, after, closed}
-use Rattle.grammar.specs.Readers.{decides, paired, sees, first, parse, inside, with_front}
+use Rattle.std.proofs.Common.{◌≡◌, ℕ, ◌-◌, ◌<◌, true, List, [], ◌∷◌, ◌++◌, length, Result, Ok, refl, sym}
+use Rattle.grammar.specs.Grammars.{tok, many, after, closed}
+use Rattle.grammar.specs.Readers.{decides, paired, one, sees, first, parse, inside, with_front}
 use Rattle.grammar.proofs.Turns.{inside_opened, turn_ok as turn_ok_of, less as less_of}
 use Rattle.sql_parse.specs.declared.class.Clause.{Clause}
 use Rattle.sql_parse.specs.declared.class.Clause.TheVariants as clauses
@@ -9,6 +9,7 @@ use Rattle.sql_parse.specs.declared.fault.ParseRefusal.{ParseRefusal}
 use Rattle.sql_parse.specs.declared.token.Keyword.TheVariants as k
 use Rattle.sql_parse.specs.declared.token.Symbol.TheVariants as s
 use Rattle.sql_parse.specs.declared.token.Token.{Token}
+use Rattle.sql_parse.specs.Classes.{kind_number}
 use Rattle.sql_parse.specs.Sql.{Place, Sql, symbol, keyword, a_name, a_literal, an_operator, a_column, an_alias, a_table, a_term, a_comparison, a_null_test, a_membership, a_missing, a_test, a_tested, an_existence, a_primary, a_negation, a_conjunction, a_condition, a_join_kind, a_join, a_chain, an_aggregate, an_item_value, an_item, a_direction, a_key, sql}
 use Rattle.sql_parse.specs.StatementReading.{told, reads}
 use Rattle.sql_parse.proofs.SqlDecided.{is_decided}
@@ -57,6 +58,23 @@ pub turn_ok : (end depth : ℕ) {A : Type 0} (g : Sql A) → IsLoop g → (front
     → sees sql (first sql g) ts ≡ true → reads end depth g ts ≡ Ok (v, r)
     → with_front front (reads end depth (many g) ts) ≡ z → with_front (front ++ v ∷ []) (reads end depth (many g) r) ≡ z
 turn_ok end depth g is = turn_ok_of sql is_decided (told end) depth g is.decided is.pairs
+
+-- what stands behind a separator
+behind_ok : (end depth : ℕ) {A : Type 0} (s : Token) (g : Sql A) (ts : List Token) (t : Token) (next : List Token) (v : A) (r : List Token)
+    → one sql (told end) (kind_number s.kind) ts ≡ Ok (t, next) → reads end depth g next ≡ Ok (v, r) → reads end depth (after (tok s) g) ts ≡ Ok (v, r)
+behind_ok end depth s g ts t next v r is of = rw (is, of) refl
+
+-- a separator and an item take a token
+pub less_behind : (end depth : ℕ) {A : Type 0} (s : Token) (g : Sql A) → IsLoop (after (tok s) g) → (ts : List Token) (t : Token) (next : List Token) (v : A) (r : List Token)
+    → one sql (told end) (kind_number s.kind) ts ≡ Ok (t, next) → reads end depth g next ≡ Ok (v, r) → length r < length ts
+less_behind end depth s g loop ts t next v r is of = less end depth (after (tok s) g) loop ts v r (behind_ok end depth s g ts t next v r is of)
+
+-- an item more, behind a separator
+pub turn_behind : (end depth : ℕ) {A : Type 0} (s : Token) (g : Sql A) → IsLoop (after (tok s) g) → (front : List A) (ts : List Token) (t : Token) (next : List Token) (v : A) (r : List Token)
+    (z : Result (List A × List Token) ParseRefusal)
+    → true ≡ sees sql (kind_number s.kind ∷ []) ts → one sql (told end) (kind_number s.kind) ts ≡ Ok (t, next) → reads end depth g next ≡ Ok (v, r)
+    → with_front front (reads end depth (many (after (tok s) g)) ts) ≡ z → with_front (front ++ v ∷ []) (reads end depth (many (after (tok s) g)) r) ≡ z
+turn_behind end depth s g loop front ts t next v r z seen is of at = turn_ok end depth (after (tok s) g) loop front ts v r z (sym seen) (behind_ok end depth s g ts t next v r is of) at
 
 -- a parenthesis less may be opened
 pub opened : (end depth : ℕ) (A : Type 0) (p : Place A) (from ts : List Token) → 0 < depth

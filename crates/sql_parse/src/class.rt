@@ -6,7 +6,7 @@ ghost use Rattle.sql_parse.specs.Classes.{keyword_number, symbol_number, class_n
 use crate::token::{Keyword, Symbol, TokenKind};
 
 /// What the grammar sees of a token.
-#[derive(Clone, Copy, Debug)]
+#[derive(Clone, Copy)]
 pub enum Class {
     Keyword(Keyword),
     Symbol(Symbol),
@@ -19,39 +19,7 @@ pub enum Class {
 fn number_of_keyword(keyword: Keyword) -> u8
     ensures { result ≡ keyword_number keyword }
 {
-    match keyword {
-        Keyword::And => 0,
-        Keyword::As => 1,
-        Keyword::Asc => 2,
-        Keyword::Count => 3,
-        Keyword::Cross => 4,
-        Keyword::Desc => 5,
-        Keyword::Distinct => 6,
-        Keyword::Exists => 7,
-        Keyword::From => 8,
-        Keyword::Full => 9,
-        Keyword::Group => 10,
-        Keyword::By => 11,
-        Keyword::Having => 12,
-        Keyword::In => 13,
-        Keyword::Inner => 14,
-        Keyword::Is => 15,
-        Keyword::Join => 16,
-        Keyword::Left => 17,
-        Keyword::Max => 18,
-        Keyword::Min => 19,
-        Keyword::Natural => 20,
-        Keyword::Not => 21,
-        Keyword::Null => 22,
-        Keyword::On => 23,
-        Keyword::Or => 24,
-        Keyword::Order => 25,
-        Keyword::Outer => 26,
-        Keyword::Right => 27,
-        Keyword::Select => 28,
-        Keyword::Sum => 29,
-        Keyword::Where => 30,
-    }
+    keyword as u8
 }
 
 fn number_of_symbol(symbol: Symbol) -> u8
@@ -98,7 +66,7 @@ pub fn number_of(kind: &TokenKind) -> u8
 }
 
 /// The clause in which a condition stands. An ON has no subqueries.
-#[derive(Clone, Copy, Debug)]
+#[derive(Clone, Copy)]
 pub enum Clause {
     Where,
     On,

@@ -10,7 +10,7 @@ ghost use Rattle.sql_parse.specs.StatementReading.{reads};
 
 use crate::class::Class;
 use crate::fault::ParseReason;
-use crate::reading::{Parsed, alias, column, columns, expect, fault, sees};
+use crate::reading::{Parsed, accept, alias, column, columns, expect, fault, followed, sees};
 use crate::statement::{
     AggregateCall, AggregateFunction, ColumnName, ItemValue, OrderKey, SelectItem, SelectList,
 };
@@ -28,8 +28,7 @@ fn counted(
 ) -> Parsed<'_, Option<ColumnName>>
     ensures { Gives (λ x. (x.0, x.1.now)) result (reads end depth grammar.a_count tokens.now) }
 {
-    if sees(tokens, Class::Symbol(Symbol::Star)) {
-        let (_, rest) = expect(tokens, end, Class::Symbol(Symbol::Star))?;
+    if let Some((_, rest)) = accept(tokens, end, Class::Symbol(Symbol::Star)) {
         Ok((None, rest))
     } else {
         let (found, rest) = column(alloc, tokens, end, depth)?;
@@ -52,7 +51,7 @@ fn count_argument(
         return Err(fault(ParseReason::TooDeep, tokens, end));
     }
     let (found, rest) = counted(alloc, rest, end, depth - 1)?;
-    let (_, rest) = expect(rest, end, Class::Symbol(Symbol::CloseParenthesis))?;
+    let ((found, _), rest) = followed(found, rest, end, Class::Symbol(Symbol::CloseParenthesis))?;
     Ok((found, rest))
 }
 
@@ -71,7 +70,7 @@ fn column_argument(
         return Err(fault(ParseReason::TooDeep, tokens, end));
     }
     let (found, rest) = column(alloc, rest, end, depth - 1)?;
-    let (_, rest) = expect(rest, end, Class::Symbol(Symbol::CloseParenthesis))?;
+    let ((found, _), rest) = followed(found, rest, end, Class::Symbol(Symbol::CloseParenthesis))?;
     Ok((found, rest))
 }
 
@@ -100,8 +99,7 @@ fn aggregate_by(
 fn aggregate(alloc: Global, tokens: &[Token], end: usize, depth: usize) -> Parsed<'_, AggregateCall>
     ensures { Gives (λ x. (x.0, x.1.now)) result (reads end depth grammar.an_aggregate tokens.now) }
 {
-    if sees(tokens, Class::Keyword(Keyword::Count)) {
-        let (token, rest) = expect(tokens, end, Class::Keyword(Keyword::Count))?;
+    if let Some((token, rest)) = accept(tokens, end, Class::Keyword(Keyword::Count)) {
         let (column, rest) = count_argument(alloc, rest, end, depth)?;
         let call = AggregateCall {
             function: AggregateFunction::Count,
@@ -163,13 +161,6 @@ fn item(alloc: Global, tokens: &[Token], end: usize, depth: usize) -> Parsed<'_,
     Ok((SelectItem { value, alias }, rest))
 }
 
-fn next_item(alloc: Global, tokens: &[Token], end: usize, depth: usize) -> Parsed<'_, SelectItem>
-    ensures { Gives (λ x. (x.0, x.1.now)) result (reads end depth (after (grammar.symbol Symbol.Comma) grammar.an_item) tokens.now) }
-{
-    let (_, rest) = expect(tokens, end, Class::Symbol(Symbol::Comma))?;
-    item(alloc, rest, end, depth)
-}
-
 /// `{, item}`
 fn more_items(
     alloc: Global,
@@ -182,8 +173,8 @@ fn more_items(
 {
     let mut all = first;
     let mut rest = tokens;
-    'items: while sees(rest, Class::Symbol(Symbol::Comma)) {
-        let (found, behind) = next_item(alloc, rest, end, depth)?;
+    'items: while let Some((_, next)) = accept(rest, end, Class::Symbol(Symbol::Comma)) {
+        let (found, behind) = item(alloc, next, end, depth)?;
         all.push(found)?;
         rest = behind;
     }
@@ -195,8 +186,7 @@ fn more_items(
 pub fn list(alloc: Global, tokens: &[Token], end: usize, depth: usize) -> Parsed<'_, SelectList>
     ensures { Gives (λ x. (x.0, x.1.now)) result (reads end depth grammar.a_list tokens.now) }
 {
-    if sees(tokens, Class::Symbol(Symbol::Star)) {
-        let (token, rest) = expect(tokens, end, Class::Symbol(Symbol::Star))?;
+    if let Some((token, rest)) = accept(tokens, end, Class::Symbol(Symbol::Star)) {
         Ok((SelectList::Star(token.at), rest))
     } else {
         let (found, rest) = item(alloc, tokens, end, depth)?;
@@ -213,8 +203,7 @@ pub fn head(tokens: &[Token], end: usize, depth: usize) -> Parsed<'_, bool>
     ensures { Gives (λ x. (x.0, x.1.now)) result (reads end depth grammar.a_head tokens.now) }
 {
     let (_, rest) = expect(tokens, end, Class::Keyword(Keyword::Select))?;
-    if sees(rest, Class::Keyword(Keyword::Distinct)) {
-        let (_, rest) = expect(rest, end, Class::Keyword(Keyword::Distinct))?;
+    if let Some((_, rest)) = accept(rest, end, Class::Keyword(Keyword::Distinct)) {
         Ok((true, rest))
     } else {
         Ok((false, rest))
@@ -231,8 +220,7 @@ pub fn group(
 ) -> Parsed<'_, Items<ColumnName>>
     ensures { Gives (λ x. (x.0, x.1.now)) result (reads end depth grammar.a_group tokens.now) }
 {
-    if sees(tokens, Class::Keyword(Keyword::Group)) {
-        let (_, rest) = expect(tokens, end, Class::Keyword(Keyword::Group))?;
+    if let Some((_, rest)) = accept(tokens, end, Class::Keyword(Keyword::Group)) {
         let (_, rest) = expect(rest, end, Class::Keyword(Keyword::By))?;
         columns(alloc, rest, end, depth)
     } else {
@@ -245,11 +233,9 @@ pub fn group(
 fn direction(tokens: &[Token], end: usize, depth: usize) -> Parsed<'_, bool>
     ensures { Gives (λ x. (x.0, x.1.now)) result (reads end depth grammar.a_direction tokens.now) }
 {
-    if sees(tokens, Class::Keyword(Keyword::Desc)) {
-        let (_, rest) = expect(tokens, end, Class::Keyword(Keyword::Desc))?;
+    if let Some((_, rest)) = accept(tokens, end, Class::Keyword(Keyword::Desc)) {
         Ok((true, rest))
-    } else if sees(tokens, Class::Keyword(Keyword::Asc)) {
-        let (_, rest) = expect(tokens, end, Class::Keyword(Keyword::Asc))?;
+    } else if let Some((_, rest)) = accept(tokens, end, Class::Keyword(Keyword::Asc)) {
         Ok((false, rest))
     } else {
         Ok((false, tokens))
@@ -266,13 +252,6 @@ fn key(alloc: Global, tokens: &[Token], end: usize, depth: usize) -> Parsed<'_, 
     Ok((OrderKey { column, descending }, rest))
 }
 
-fn next_key(alloc: Global, tokens: &[Token], end: usize, depth: usize) -> Parsed<'_, OrderKey>
-    ensures { Gives (λ x. (x.0, x.1.now)) result (reads end depth (after (grammar.symbol Symbol.Comma) grammar.a_key) tokens.now) }
-{
-    let (_, rest) = expect(tokens, end, Class::Symbol(Symbol::Comma))?;
-    key(alloc, rest, end, depth)
-}
-
 /// `{, key}`
 fn more_keys(
     alloc: Global,
@@ -285,8 +264,8 @@ fn more_keys(
 {
     let mut all = first;
     let mut rest = tokens;
-    'keys: while sees(rest, Class::Symbol(Symbol::Comma)) {
-        let (found, behind) = next_key(alloc, rest, end, depth)?;
+    'keys: while let Some((_, next)) = accept(rest, end, Class::Symbol(Symbol::Comma)) {
+        let (found, behind) = key(alloc, next, end, depth)?;
         all.push(found)?;
         rest = behind;
     }
@@ -303,8 +282,7 @@ pub fn order(
 ) -> Parsed<'_, Items<OrderKey>>
     ensures { Gives (λ x. (x.0, x.1.now)) result (reads end depth grammar.an_order tokens.now) }
 {
-    if sees(tokens, Class::Keyword(Keyword::Order)) {
-        let (_, rest) = expect(tokens, end, Class::Keyword(Keyword::Order))?;
+    if let Some((_, rest)) = accept(tokens, end, Class::Keyword(Keyword::Order)) {
         let (_, rest) = expect(rest, end, Class::Keyword(Keyword::By))?;
         let (found, rest) = key(alloc, rest, end, depth)?;
         let mut first = Items::new(alloc);

@@ -11,7 +11,7 @@ ghost use Rattle.sql_parse.specs.StatementReading.{reads};
 use crate::class::{Class, Clause};
 use crate::clauses::{group, head, list};
 use crate::fault::ParseReason;
-use crate::reading::{Parsed, expect, fault, operator, sees, table, term};
+use crate::reading::{Parsed, accept, expect, fault, followed, operator, sees, table, term};
 use crate::statement::{Chain, Condition, Join, JoinKind, Select, Term};
 use crate::token::{Keyword, Symbol, Token};
 use std::alloc::{AllocError, Global};
@@ -34,14 +34,19 @@ fn nested_condition(
         return Err(fault(ParseReason::TooDeep, tokens, end));
     }
     let (found, rest) = condition(alloc, clause, rest, end, depth - 1)?;
-    let (_, rest) = expect(rest, end, Class::Symbol(Symbol::CloseParenthesis))?;
+    let ((found, _), rest) = followed(found, rest, end, Class::Symbol(Symbol::CloseParenthesis))?;
     Ok((found, rest))
 }
 
 /// `( select )`
 #[cycle(conditions)]
 #[tactic(auto, using(crate::proofs::SqlLoops::opened))]
-fn nested_select(alloc: Global, tokens: &[Token], end: usize, depth: usize) -> Parsed<'_, Select>
+fn nested_select(
+    alloc: Global,
+    tokens: &[Token],
+    end: usize,
+    depth: usize,
+) -> Parsed<'_, Boxed<Select>>
     ensures { Gives (λ x. (x.0, x.1.now)) result (reads end depth (nested of_select) tokens.now) }
 {
     let (_, rest) = expect(tokens, end, Class::Symbol(Symbol::OpenParenthesis))?;
@@ -49,8 +54,8 @@ fn nested_select(alloc: Global, tokens: &[Token], end: usize, depth: usize) -> P
         return Err(fault(ParseReason::TooDeep, tokens, end));
     }
     let (found, rest) = select(alloc, rest, end, depth - 1)?;
-    let (_, rest) = expect(rest, end, Class::Symbol(Symbol::CloseParenthesis))?;
-    Ok((found, rest))
+    let ((found, _), rest) = followed(found, rest, end, Class::Symbol(Symbol::CloseParenthesis))?;
+    Ok((Boxed::new(alloc, found)?, rest))
 }
 
 /// `operator term`
@@ -80,14 +85,13 @@ fn null_test(
 ) -> Parsed<'_, Condition>
     ensures { Gives (λ x. (x.0, x.1.now)) result (reads end depth (map (λ test. test left) grammar.a_null_test) tokens.now) }
 {
-    let (_, rest) = expect(tokens, end, Class::Keyword(Keyword::Is))?;
-    if sees(rest, Class::Keyword(Keyword::Not)) {
-        let (_, rest) = expect(rest, end, Class::Keyword(Keyword::Not))?;
-        let (_, rest) = expect(rest, end, Class::Keyword(Keyword::Null))?;
+    let ((left, _), rest) = followed(left, tokens, end, Class::Keyword(Keyword::Is))?;
+    if let Some((_, rest)) = accept(rest, end, Class::Keyword(Keyword::Not)) {
+        let ((left, _), rest) = followed(left, rest, end, Class::Keyword(Keyword::Null))?;
         let test = Boxed::new(alloc, Condition::IsNull(left))?;
         Ok((Condition::Not(test), rest))
     } else {
-        let (_, rest) = expect(rest, end, Class::Keyword(Keyword::Null))?;
+        let ((left, _), rest) = followed(left, rest, end, Class::Keyword(Keyword::Null))?;
         Ok((Condition::IsNull(left), rest))
     }
 }
@@ -104,9 +108,8 @@ fn membership(
 ) -> Parsed<'_, Condition>
     ensures { Gives (λ x. (x.0, x.1.now)) result (reads end depth (map (λ test. test left) grammar.a_membership) tokens.now) }
 {
-    let (token, rest) = expect(tokens, end, Class::Keyword(Keyword::In))?;
+    let ((left, token), rest) = followed(left, tokens, end, Class::Keyword(Keyword::In))?;
     let (query, rest) = nested_select(alloc, rest, end, depth)?;
-    let query = Boxed::new(alloc, query)?;
     Ok((Condition::In(left, token.at, query), rest))
 }
 
@@ -122,10 +125,9 @@ fn missing(
 ) -> Parsed<'_, Condition>
     ensures { Gives (λ x. (x.0, x.1.now)) result (reads end depth (map (λ test. test left) grammar.a_missing) tokens.now) }
 {
-    let (_, rest) = expect(tokens, end, Class::Keyword(Keyword::Not))?;
-    let (token, rest) = expect(rest, end, Class::Keyword(Keyword::In))?;
+    let ((left, _), rest) = followed(left, tokens, end, Class::Keyword(Keyword::Not))?;
+    let ((left, token), rest) = followed(left, rest, end, Class::Keyword(Keyword::In))?;
     let (query, rest) = nested_select(alloc, rest, end, depth)?;
-    let query = Boxed::new(alloc, query)?;
     let test = Boxed::new(alloc, Condition::In(left, token.at, query))?;
     Ok((Condition::Not(test), rest))
 }
@@ -198,7 +200,7 @@ fn existence(alloc: Global, tokens: &[Token], end: usize, depth: usize) -> Parse
 {
     let (_, rest) = expect(tokens, end, Class::Keyword(Keyword::Exists))?;
     let (query, rest) = nested_select(alloc, rest, end, depth)?;
-    Ok((Condition::Exists(Boxed::new(alloc, query)?), rest))
+    Ok((Condition::Exists(query), rest))
 }
 
 /// `( condition ) | EXISTS ( select ) | term test`, EXISTS in a WHERE alone.
@@ -240,27 +242,12 @@ fn negation(
 ) -> Parsed<'_, Condition>
     ensures { Gives (λ x. (x.0, x.1.now)) result (reads end depth (grammar.a_negation clause) tokens.now) }
 {
-    if sees(tokens, Class::Keyword(Keyword::Not)) {
-        let (_, rest) = expect(tokens, end, Class::Keyword(Keyword::Not))?;
+    if let Some((_, rest)) = accept(tokens, end, Class::Keyword(Keyword::Not)) {
         let (found, rest) = primary(alloc, clause, rest, end, depth)?;
         Ok((Condition::Not(Boxed::new(alloc, found)?), rest))
     } else {
         primary(alloc, clause, tokens, end, depth)
     }
-}
-
-#[cycle(conditions)]
-fn next_negation(
-    alloc: Global,
-    clause: Clause,
-    tokens: &[Token],
-    end: usize,
-    depth: usize,
-) -> Parsed<'_, Condition>
-    ensures { Gives (λ x. (x.0, x.1.now)) result (reads end depth (after (grammar.keyword Keyword.And) (grammar.a_negation clause)) tokens.now) }
-{
-    let (_, rest) = expect(tokens, end, Class::Keyword(Keyword::And))?;
-    negation(alloc, clause, rest, end, depth)
 }
 
 /// `{AND negation}`
@@ -277,8 +264,8 @@ fn more_negations(
 {
     let mut all = first;
     let mut rest = tokens;
-    'negations: while sees(rest, Class::Keyword(Keyword::And)) {
-        let (found, behind) = next_negation(alloc, clause, rest, end, depth)?;
+    'negations: while let Some((_, next)) = accept(rest, end, Class::Keyword(Keyword::And)) {
+        let (found, behind) = negation(alloc, clause, next, end, depth)?;
         all.push(found)?;
         rest = behind;
     }
@@ -334,20 +321,6 @@ fn conjunction(
     Ok((all_of(items)?, rest))
 }
 
-#[cycle(conditions)]
-fn next_conjunction(
-    alloc: Global,
-    clause: Clause,
-    tokens: &[Token],
-    end: usize,
-    depth: usize,
-) -> Parsed<'_, Condition>
-    ensures { Gives (λ x. (x.0, x.1.now)) result (reads end depth (after (grammar.keyword Keyword.Or) (grammar.a_conjunction clause)) tokens.now) }
-{
-    let (_, rest) = expect(tokens, end, Class::Keyword(Keyword::Or))?;
-    conjunction(alloc, clause, rest, end, depth)
-}
-
 /// `{OR conjunction}`
 #[cycle(conditions)]
 fn more_conjunctions(
@@ -362,8 +335,8 @@ fn more_conjunctions(
 {
     let mut all = first;
     let mut rest = tokens;
-    'conjunctions: while sees(rest, Class::Keyword(Keyword::Or)) {
-        let (found, behind) = next_conjunction(alloc, clause, rest, end, depth)?;
+    'conjunctions: while let Some((_, next)) = accept(rest, end, Class::Keyword(Keyword::Or)) {
+        let (found, behind) = conjunction(alloc, clause, next, end, depth)?;
         all.push(found)?;
         rest = behind;
     }
@@ -400,8 +373,7 @@ fn filter(
 ) -> Parsed<'_, Option<Boxed<Condition>>>
     ensures { Gives (λ x. (x.0, x.1.now)) result (reads end depth grammar.a_filter tokens.now) }
 {
-    if sees(tokens, Class::Keyword(Keyword::Where)) {
-        let (_, rest) = expect(tokens, end, Class::Keyword(Keyword::Where))?;
+    if let Some((_, rest)) = accept(tokens, end, Class::Keyword(Keyword::Where)) {
         let (found, rest) = condition(alloc, Clause::Where, rest, end, depth)?;
         Ok((Some(Boxed::new(alloc, found)?), rest))
     } else {
@@ -414,23 +386,19 @@ fn filter(
 fn join_kind(tokens: &[Token], end: usize, depth: usize) -> Parsed<'_, JoinKind>
     ensures { Gives (λ x. (x.0, x.1.now)) result (reads end depth grammar.a_join_kind tokens.now) }
 {
-    if sees(tokens, Class::Keyword(Keyword::Join)) {
-        let (_, rest) = expect(tokens, end, Class::Keyword(Keyword::Join))?;
+    if let Some((_, rest)) = accept(tokens, end, Class::Keyword(Keyword::Join)) {
         Ok((JoinKind::Inner, rest))
-    } else if sees(tokens, Class::Keyword(Keyword::Inner)) {
-        let (_, rest) = expect(tokens, end, Class::Keyword(Keyword::Inner))?;
+    } else if let Some((_, rest)) = accept(tokens, end, Class::Keyword(Keyword::Inner)) {
         let (_, rest) = expect(rest, end, Class::Keyword(Keyword::Join))?;
         Ok((JoinKind::Inner, rest))
     } else {
         let (_, rest) = expect(tokens, end, Class::Keyword(Keyword::Left))?;
-        if sees(rest, Class::Keyword(Keyword::Outer)) {
-            let (_, rest) = expect(rest, end, Class::Keyword(Keyword::Outer))?;
-            let (_, rest) = expect(rest, end, Class::Keyword(Keyword::Join))?;
-            Ok((JoinKind::Left, rest))
-        } else {
-            let (_, rest) = expect(rest, end, Class::Keyword(Keyword::Join))?;
-            Ok((JoinKind::Left, rest))
-        }
+        let rest = match accept(rest, end, Class::Keyword(Keyword::Outer)) {
+            Some((_, behind)) => behind,
+            None => rest,
+        };
+        let (_, rest) = expect(rest, end, Class::Keyword(Keyword::Join))?;
+        Ok((JoinKind::Left, rest))
     }
 }
 
@@ -452,7 +420,7 @@ fn join(alloc: Global, tokens: &[Token], end: usize, depth: usize) -> Parsed<'_,
 {
     let (kind, rest) = join_kind(tokens, end, depth)?;
     let (table, rest) = table(alloc, rest, end, depth)?;
-    let (_, rest) = expect(rest, end, Class::Keyword(Keyword::On))?;
+    let ((table, _), rest) = followed(table, rest, end, Class::Keyword(Keyword::On))?;
     let (condition, rest) = condition(alloc, Clause::On, rest, end, depth)?;
     let join = Join {
         kind,
@@ -494,14 +462,6 @@ fn chain(alloc: Global, tokens: &[Token], end: usize, depth: usize) -> Parsed<'_
     Ok((Chain { table, joins }, rest))
 }
 
-#[cycle(conditions)]
-fn next_chain(alloc: Global, tokens: &[Token], end: usize, depth: usize) -> Parsed<'_, Chain>
-    ensures { Gives (λ x. (x.0, x.1.now)) result (reads end depth (after (grammar.symbol Symbol.Comma) grammar.a_chain) tokens.now) }
-{
-    let (_, rest) = expect(tokens, end, Class::Symbol(Symbol::Comma))?;
-    chain(alloc, rest, end, depth)
-}
-
 /// `{, chain}`
 #[cycle(conditions)]
 fn more_chains(
@@ -515,8 +475,8 @@ fn more_chains(
 {
     let mut all = first;
     let mut rest = tokens;
-    'chains: while sees(rest, Class::Symbol(Symbol::Comma)) {
-        let (found, behind) = next_chain(alloc, rest, end, depth)?;
+    'chains: while let Some((_, next)) = accept(rest, end, Class::Symbol(Symbol::Comma)) {
+        let (found, behind) = chain(alloc, next, end, depth)?;
         all.push(found)?;
         rest = behind;
     }

@@ -7,7 +7,7 @@ use thiserror::Error;
 use values::Fault;
 
 /// Why a text is refused.
-#[derive(Clone, Copy, Debug, PartialEq, Eq)]
+#[derive(Clone, Copy, Debug)]
 pub enum ParseReason {
     /// P01: a character at which no token begins.
     NoToken,
@@ -40,7 +40,7 @@ impl ParseReason {
 }
 
 /// What is wrong with a text, and at which of its bytes.
-#[derive(Clone, Copy, Debug, PartialEq, Eq, Drop, Error)]
+#[derive(Clone, Copy, Debug, Drop, Error)]
 #[error("{} at {at}", .reason.code())]
 pub struct ParseRefusal {
     pub reason: ParseReason,

@@ -3,7 +3,7 @@
 use values::Text;
 
 /// A name of the text.
-#[derive(Debug, Drop)]
+#[derive(Drop)]
 pub struct Name {
     /// In lower case.
     pub text: Text,

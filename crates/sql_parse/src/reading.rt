@@ -1,7 +1,7 @@
 //! From tokens to the parts of a statement that hold no condition. The readers take the tokens that are left, `end`, the
 //! place of the text's end, and `depth`, how many parentheses may still be opened.
 
-ghost use Rattle.std.specs.Prelude.{◌≡◌, ◌∷◌, [], IfOk};
+ghost use Rattle.std.specs.Prelude.{◌≡◌, ◌∷◌, [], is_some, IfOk, IfSome, Ok};
 ghost use Rattle.grammar.specs.Grammars.{after, many, nested, tok};
 ghost use Rattle.grammar.specs.Readers.{one, sees as sees_next, with_front};
 ghost use Rattle.values.specs.Faults.{Gives};
@@ -43,6 +43,17 @@ pub fn sees(tokens: &[Token], class: Class) -> bool
     }
 }
 
+/// The next token and those behind it, if it is of the class.
+pub fn accept(tokens: &[Token], end: usize, class: Class) -> Option<(&Token, &[Token])>
+    ensures sees { is_some result ≡ sees_next sql (class_number class ∷ []) tokens.now }
+    ensures next { IfSome result (λ x. one sql (told end) (class_number class) tokens.now ≡ Ok (x.0.now, x.1.now)) }
+{
+    match tokens {
+        [token, behind @ ..] if number_of(&token.kind) == class.number() => Some((token, behind)),
+        _ => None,
+    }
+}
+
 /// The next token, which has to be of the class.
 pub fn expect(tokens: &[Token], end: usize, class: Class) -> Parsed<'_, &Token>
     ensures { Gives (λ x. (x.0.now, x.1.now)) result (one sql (told end) (class_number class) tokens.now) }
@@ -51,6 +62,20 @@ pub fn expect(tokens: &[Token], end: usize, class: Class) -> Parsed<'_, &Token>
         [token, behind @ ..] if number_of(&token.kind) == class.number() => Ok((token, behind)),
         _ => Err(fault(ParseReason::Unexpected, tokens, end)),
     }
+}
+
+/// What was read, and the next token, which has to be of the class.
+pub fn followed<T: Drop>(
+    found: T,
+    tokens: &[Token],
+    end: usize,
+    class: Class,
+) -> Parsed<'_, (T, &Token)>
+    ensures found { IfOk result (λ x. x.0.0 ≡ found) }
+    ensures next { Gives (λ x. (x.0.1.now, x.1.now)) result (one sql (told end) (class_number class) tokens.now) }
+{
+    let (token, rest) = expect(tokens, end, class)?;
+    Ok(((found, token), rest))
 }
 
 /// The name that a name token is.
@@ -98,11 +123,9 @@ pub fn name(alloc: Global, tokens: &[Token], end: usize, depth: usize) -> Parsed
 fn literal(alloc: Global, tokens: &[Token], end: usize, depth: usize) -> Parsed<'_, Value>
     ensures { Gives (λ x. (x.0, x.1.now)) result (reads end depth grammar.a_literal tokens.now) }
 {
-    if sees(tokens, Class::Number) {
-        let (token, rest) = expect(tokens, end, Class::Number)?;
+    if let Some((token, rest)) = accept(tokens, end, Class::Number) {
         Ok((value_in(alloc, &token.kind)?, rest))
-    } else if sees(tokens, Class::Text) {
-        let (token, rest) = expect(tokens, end, Class::Text)?;
+    } else if let Some((token, rest)) = accept(tokens, end, Class::Text) {
         Ok((value_in(alloc, &token.kind)?, rest))
     } else {
         let (_, rest) = expect(tokens, end, Class::Keyword(Keyword::Null))?;
@@ -128,8 +151,7 @@ pub fn column(alloc: Global, tokens: &[Token], end: usize, depth: usize) -> Pars
     ensures { Gives (λ x. (x.0, x.1.now)) result (reads end depth grammar.a_column tokens.now) }
 {
     let (first, rest) = name(alloc, tokens, end, depth)?;
-    if sees(rest, Class::Symbol(Symbol::Dot)) {
-        let (_, rest) = expect(rest, end, Class::Symbol(Symbol::Dot))?;
+    if let Some((_, rest)) = accept(rest, end, Class::Symbol(Symbol::Dot)) {
         let (second, rest) = name(alloc, rest, end, depth)?;
         let column = ColumnName {
             table: Some(first),
@@ -150,8 +172,7 @@ pub fn column(alloc: Global, tokens: &[Token], end: usize, depth: usize) -> Pars
 pub fn alias(alloc: Global, tokens: &[Token], end: usize, depth: usize) -> Parsed<'_, Option<Name>>
     ensures { Gives (λ x. (x.0, x.1.now)) result (reads end depth grammar.an_alias tokens.now) }
 {
-    if sees(tokens, Class::Keyword(Keyword::As)) {
-        let (_, rest) = expect(tokens, end, Class::Keyword(Keyword::As))?;
+    if let Some((_, rest)) = accept(tokens, end, Class::Keyword(Keyword::As)) {
         let (found, rest) = name(alloc, rest, end, depth)?;
         Ok((Some(found), rest))
     } else if sees(tokens, Class::Name) {
@@ -186,13 +207,6 @@ pub fn term(alloc: Global, tokens: &[Token], end: usize, depth: usize) -> Parsed
     }
 }
 
-fn next_column(alloc: Global, tokens: &[Token], end: usize, depth: usize) -> Parsed<'_, ColumnName>
-    ensures { Gives (λ x. (x.0, x.1.now)) result (reads end depth (after (grammar.symbol Symbol.Comma) grammar.a_column) tokens.now) }
-{
-    let (_, rest) = expect(tokens, end, Class::Symbol(Symbol::Comma))?;
-    column(alloc, rest, end, depth)
-}
-
 /// `{, column}`
 fn more_columns(
     alloc: Global,
@@ -205,8 +219,8 @@ fn more_columns(
 {
     let mut all = first;
     let mut rest = tokens;
-    'columns: while sees(rest, Class::Symbol(Symbol::Comma)) {
-        let (found, behind) = next_column(alloc, rest, end, depth)?;
+    'columns: while let Some((_, next)) = accept(rest, end, Class::Symbol(Symbol::Comma)) {
+        let (found, behind) = column(alloc, next, end, depth)?;
         all.push(found)?;
         rest = behind;
     }

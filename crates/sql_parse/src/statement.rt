@@ -4,19 +4,19 @@ use crate::name::Name;
 use values::{Boxed, Comparison, Items, Value};
 
 /// `name` or `table.name`
-#[derive(Debug, Drop)]
+#[derive(Drop)]
 pub struct ColumnName {
     pub table: Option<Name>,
     pub name: Name,
 }
 
-#[derive(Debug, Drop)]
+#[derive(Drop)]
 pub enum Term {
     Column(ColumnName),
     Literal(Value),
 }
 
-#[derive(Clone, Copy, Debug, PartialEq, Eq)]
+#[derive(Clone, Copy)]
 pub struct Operator {
     pub comparison: Comparison,
     /// Its first byte in the text.
@@ -26,7 +26,7 @@ pub struct Operator {
 /// A condition. `x IS NOT NULL` is `Not` of `IsNull`, and `x NOT IN Q` is `Not` of `In`. AND and OR have at least two
 /// sides.
 #[cycle(tree)]
-#[derive(Debug, Drop)]
+#[derive(Drop)]
 pub enum Condition {
     Compare(Term, Operator, Term),
     IsNull(Term),
@@ -38,7 +38,7 @@ pub enum Condition {
     In(Term, usize, Boxed<Select>),
 }
 
-#[derive(Clone, Copy, Debug, PartialEq, Eq)]
+#[derive(Clone, Copy)]
 pub enum AggregateFunction {
     Count,
     Sum,
@@ -46,7 +46,7 @@ pub enum AggregateFunction {
     Max,
 }
 
-#[derive(Debug, Drop)]
+#[derive(Drop)]
 pub struct AggregateCall {
     pub function: AggregateFunction,
     /// Its first byte in the text.
@@ -55,21 +55,21 @@ pub struct AggregateCall {
     pub column: Option<ColumnName>,
 }
 
-#[derive(Debug, Drop)]
+#[derive(Drop)]
 pub enum ItemValue {
     Column(ColumnName),
     Aggregate(AggregateCall),
 }
 
 /// `value [[AS] alias]`
-#[derive(Debug, Drop)]
+#[derive(Drop)]
 pub struct SelectItem {
     pub value: ItemValue,
     pub alias: Option<Name>,
 }
 
 /// What stands behind SELECT.
-#[derive(Debug, Drop)]
+#[derive(Drop)]
 pub enum SelectList {
     /// `*`, and its byte in the text.
     Star(usize),
@@ -77,13 +77,13 @@ pub enum SelectList {
 }
 
 /// `table [[AS] alias]`
-#[derive(Debug, Drop)]
+#[derive(Drop)]
 pub struct TableName {
     pub name: Name,
     pub alias: Option<Name>,
 }
 
-#[derive(Clone, Copy, Debug, PartialEq, Eq)]
+#[derive(Clone, Copy)]
 pub enum JoinKind {
     Inner,
     Left,
@@ -91,7 +91,7 @@ pub enum JoinKind {
 
 /// `JOIN table ON condition`
 #[cycle(tree)]
-#[derive(Debug, Drop)]
+#[derive(Drop)]
 pub struct Join {
     pub kind: JoinKind,
     pub table: TableName,
@@ -100,7 +100,7 @@ pub struct Join {
 
 /// A table and what is joined to it, from the left.
 #[cycle(tree)]
-#[derive(Debug, Drop)]
+#[derive(Drop)]
 pub struct Chain {
     pub table: TableName,
     pub joins: Items<Join>,
@@ -108,7 +108,7 @@ pub struct Chain {
 
 /// `SELECT .. FROM .. WHERE .. GROUP BY ..`, which may also stand as a subquery.
 #[cycle(tree)]
-#[derive(Debug, Drop)]
+#[derive(Drop)]
 pub struct Select {
     pub distinct: bool,
     pub list: SelectList,
@@ -118,13 +118,13 @@ pub struct Select {
 }
 
 /// A key of ORDER BY.
-#[derive(Debug, Drop)]
+#[derive(Drop)]
 pub struct OrderKey {
     pub column: ColumnName,
     pub descending: bool,
 }
 
-#[derive(Debug, Drop)]
+#[derive(Drop)]
 pub struct Statement {
     pub select: Select,
     pub order: Items<OrderKey>,

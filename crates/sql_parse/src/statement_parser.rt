@@ -1,7 +1,7 @@
 //! From a text to the tree of a statement of the whole language.
 
 ghost use Rattle.std.specs.Prelude.{◌≡◌, IfOk, IfErr};
-ghost use Rattle.grammar.specs.Readers.{whole};
+ghost use Rattle.grammar.specs.Readers.{finished as with_nothing_behind, whole};
 ghost use Rattle.values.specs.Faults.{Gives};
 ghost use Rattle.sql_parse.specs.ReadingFaults.{IfRefused};
 ghost use Rattle.sql_parse.specs.Sql.{sql, a_statement};
@@ -13,7 +13,7 @@ use crate::clauses::order;
 use crate::conditions::select;
 use crate::fault::{ParseFault, ParseReason, refused};
 use crate::lexer::tokens;
-use crate::reading::{Parsed, expect, fault, sees};
+use crate::reading::{Parsed, accept, fault};
 use crate::statement::Statement;
 use crate::token::{Symbol, Token};
 use std::alloc::Global;
@@ -30,11 +30,20 @@ fn statement(alloc: Global, tokens: &[Token], end: usize, depth: usize) -> Parse
     let (select, rest) = select(alloc, tokens, end, depth)?;
     let (order, rest) = order(alloc, rest, end, depth)?;
     let statement = Statement { select, order };
-    if sees(rest, Class::Symbol(Symbol::Semicolon)) {
-        let (_, rest) = expect(rest, end, Class::Symbol(Symbol::Semicolon))?;
+    if let Some((_, rest)) = accept(rest, end, Class::Symbol(Symbol::Semicolon)) {
         Ok((statement, rest))
     } else {
         Ok((statement, rest))
+    }
+}
+
+/// A tree, if nothing stands behind it.
+fn finished<T: Drop>(found: T, rest: &[Token], end: usize) -> Result<T, ParseFault>
+    ensures { Gives (λ tree. tree) result (with_nothing_behind sql (told end) (found, rest.now)) }
+{
+    match rest {
+        [] => Ok(found),
+        [_, ..] => Err(fault(ParseReason::Unexpected, rest, end)),
     }
 }
 
@@ -48,10 +57,7 @@ fn whole_statement(
     ensures { Gives (λ tree. tree) result (whole sql (told end) depth a_statement tokens.now) }
 {
     let (found, rest) = statement(alloc, tokens, end, depth)?;
-    match rest {
-        [] => Ok(found),
-        [_, ..] => Err(fault(ParseReason::Unexpected, rest, end)),
-    }
+    finished(found, rest, end)
 }
 
 /// The most parentheses that may be open at once.

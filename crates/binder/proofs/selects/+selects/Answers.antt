@@ -59,8 +59,8 @@ condition-returns-in_err-query-in-Exists t c =
     let p = err_from_is_err_and c.from_residual-in_err-query-in-Exists.result c.from_residual-in_err-query-in-Exists.ensures.1 in
     rw (p.1, p.2) (told c.in_err-query-in-Exists.field-0.0 _ _ _ (existing c.args.schema.now c.args.part.now c.in-Exists.query c.get-in-Exists.result.now (scopes_of c.args.scopes.now) c.args.numbered.now c.in-Exists.is c.get-in-Exists.ensures) c.in_err-query-in-Exists.ensures)
 
-pub condition-returns-in_ok-new-in-Exists : goal.condition-returns-in_ok-new-in-Exists
-condition-returns-in_ok-new-in-Exists t c = handed _ _ _ _ (existing c.args.schema.now c.args.part.now c.in-Exists.query c.get-in-Exists.result.now (scopes_of c.args.scopes.now) c.args.numbered.now c.in-Exists.is c.get-in-Exists.ensures) c.in_ok-query-in-Exists.ensures ∙ ap (λ (q : Block). Ok (cond.Exists q, c.select.new.numbered)) (sym c.in_ok-new-in-Exists.ensures)
+pub condition-returns-in_ok-query-in-Exists : goal.condition-returns-in_ok-query-in-Exists
+condition-returns-in_ok-query-in-Exists t c = handed _ _ _ _ (existing c.args.schema.now c.args.part.now c.in-Exists.query c.get-in-Exists.result.now (scopes_of c.args.scopes.now) c.args.numbered.now c.in-Exists.is c.get-in-Exists.ensures) c.in_ok-query-in-Exists.ensures
 
 pub condition-returns-in_err-left-in-In : goal.condition-returns-in_err-left-in-In
 condition-returns-in_err-left-in-In t c =
@@ -99,7 +99,8 @@ chain-returns-in_err-first t c =
 
 pub chain-returns : goal.chain-returns
 chain-returns t c =
-    let is = handed _ _ _ _ (chain_at c.args.schema.now c.args.part.now (scopes_of c.args.outer.now) c.args.before.now c.args.numbered.now c.new-none.result c.as_slice.result.now c.new-none.ensures c.as_slice.ensures) c.in_ok-first.ensures in
+    let is = handed _ _ _ _ (chain_at c.args.schema.now c.args.part.now (scopes_of c.args.outer.now) c.args.before.now c.args.numbered.now c.new-none.result c.as_slice.result.now c.new-none.ensures c.as_slice.ensures) c.in_ok-first.ensures
+        ∙ ap (λ (from : From). spec.through (map (spec.join_in c.args.schema.now) c.as_slice.result.now) (scopes_of c.args.outer.now) c.args.before.now (from, c.in_ok-first.scope, c.enter.new.numbered)) (sym c.in_ok-new.ensures) in
     same (λ (x : From × Scope). (x.0, x.1, c.joins.new.numbered)) c.joins.result _ _ is c.joins.ensures
 
 pub select-returns-in_err-from : goal.select-returns-in_err-from
@@ -144,13 +145,13 @@ select-returns t c =
           w.grouped-is ∙ grouped_by_aggregates c.in_ok-keys.keys q.list c.len.result c.aggregates-own_aggregates.result c.len.ensures w.if-len-gt0.false c.aggregates-own_aggregates.ensures
     ] in
     let items : c.in_ok-items.field-0 ≡ map (λ (o : Output). o.item) c.in_ok-outputs.outputs = c.in_ok-items.ensures ∙ ap (map (λ (o : Output). o.item)) c.as_slice-3.ensures in
-    rw c.into_items.ensures (select_is c.args.schema.now c.args.part.now (scopes_of c.args.outer.now) c.args.numbered.now c.push_aggregates.new.self c.as_slice.result.now c.as_slice-2.result.now
+    rw (c.in_ok-new.ensures, c.into_items.ensures, c.into_inner.ensures) (select_is c.args.schema.now c.args.part.now (scopes_of c.args.outer.now) c.args.numbered.now c.push_aggregates.new.self c.as_slice.result.now c.as_slice-2.result.now
     (c.in_ok-push_aggregates.ensures ∙ ap (with_aggregates c.args.numbered.now) c.aggregates-own_aggregates.ensures) c.as_slice.ensures c.as_slice-2.ensures
     (c.in_ok-from.from, c.in_ok-from.scope, c.sources.new.numbered) (c.in_ok-filter.filter, c.filter.new.numbered) c.in_ok-keys.keys c.if-len-gt0.grouped c.in_ok-outputs.outputs c.in_ok-items.field-0 c.in_ok-from.ensures c.in_ok-filter.ensures c.in_ok-keys.ensures grouped c.in_ok-outputs.ensures items)
 
 pub sources-loop-part-preserved : goal.sources-loop-part-preserved
 sources-loop-part-preserved t c =
-    rw (c.in_ok-new.ensures, c.in_ok-new-2.ensures, c.in_ok-scope.ensures) (chains_on (spec.chain_in c.args.schema.now) (scopes_of c.args.outer.now)
+    rw (c.in_ok-left-2.ensures, c.in_ok-scope.ensures) (chains_on (spec.chain_in c.args.schema.now) (scopes_of c.args.outer.now)
     (take (length c.args.parts.now - 1) (drop 1 c.args.parts.now)) c.loop-part.part-index c.part-item.result c.loop-part.left c.in_ok-right.right c.loop-part.scope c.in_ok-right.tables
     c.loop-part.numbered c.chain-in-loop-part.new.numbered (spec.from_in (map (spec.chain_in c.args.schema.now) c.args.parts.now) (scopes_of c.args.outer.now) c.args.numbered.now)
     (omega arith) c.part-item.is c.in_ok-right.ensures c.loop-part.invariant)

@@ -34,17 +34,11 @@ decreases-primary l = 32 * l.depth + 5
 abbrev pub decreases-negation : goal.decreases-negation
 decreases-negation l = 32 * l.depth + 6
 
-abbrev pub decreases-next_negation : goal.decreases-next_negation
-decreases-next_negation l = 32 * l.depth + 7
-
 abbrev pub decreases-more_negations : goal.decreases-more_negations
 decreases-more_negations l = 32 * l.depth + 8
 
 abbrev pub decreases-conjunction : goal.decreases-conjunction
 decreases-conjunction l = 32 * l.depth + 9
-
-abbrev pub decreases-next_conjunction : goal.decreases-next_conjunction
-decreases-next_conjunction l = 32 * l.depth + 10
 
 abbrev pub decreases-more_conjunctions : goal.decreases-more_conjunctions
 decreases-more_conjunctions l = 32 * l.depth + 11
@@ -63,9 +57,6 @@ decreases-more_joins l = 32 * l.depth + 14
 
 abbrev pub decreases-chain : goal.decreases-chain
 decreases-chain l = 32 * l.depth + 15
-
-abbrev pub decreases-next_chain : goal.decreases-next_chain
-decreases-next_chain l = 32 * l.depth + 16
 
 abbrev pub decreases-more_chains : goal.decreases-more_chains
 decreases-more_chains l = 32 * l.depth + 17
