@@ -17,8 +17,8 @@ use crate::headings::Heading;
 use crate::keys::{Group, RowRef, groups_of};
 use crate::relation::Relation;
 use crate::rows::RowData;
-use query::Aggregate;
 use logical::{Aggregation, Columns};
+use query::Aggregate;
 use std::alloc::{AllocError, Global};
 use values::Cell;
 

@@ -14,8 +14,8 @@ use crate::headings::Heading;
 use crate::relation::Relation;
 use crate::rows::{RowData, stored_rows};
 use crate::truth::{Subqueries, holds};
-use query::TableUse;
 use logical::{Columns, Condition};
+use query::TableUse;
 use std::alloc::{AllocError, Global};
 use store::Table;
 

@@ -9,9 +9,9 @@ ghost use Rattle.executor.specs.AnswerText.{rows_text, answer_text, HasFront};
 ghost use Rattle.store.specs.Fields.{escaped, field_of};
 
 use crate::output::{AnswerOutput, OutputFailed, send};
-use query::Query;
 use csv::{StringRecord, Writer};
 use itoa::Buffer;
+use query::Query;
 use std::alloc::{AllocError, Global};
 use values::{Fault, Items, Text, Value};
 

@@ -8,10 +8,10 @@ ghost use Rattle.checker.specs.declared.certificate.Line.TheVariants.{Founds};
 ghost use Rattle.checker.specs.Replay.{replayed};
 ghost use Rattle.planner.specs.Canonical as spec;
 
-use query::Query;
 use checker::{Certificate, Line};
 use logical::{Expr, query_frame};
 use physical::{JoinKind, Node, Plan, query_order};
+use query::Query;
 use std::alloc::{AllocError, Global};
 use values::Items;
 

@@ -100,7 +100,7 @@ chain-returns-in_err-first t c =
 pub chain-returns : goal.chain-returns
 chain-returns t c =
     let is = handed _ _ _ _ (chain_at c.args.schema.now c.args.part.now (scopes_of c.args.outer.now) c.args.before.now c.args.numbered.now c.new-none.result c.as_slice.result.now c.new-none.ensures c.as_slice.ensures) c.in_ok-first.ensures
-        ∙ ap (λ (from : From). spec.through (map (spec.join_in c.args.schema.now) c.as_slice.result.now) (scopes_of c.args.outer.now) c.args.before.now (from, c.in_ok-first.scope, c.enter.new.numbered)) (sym c.in_ok-new.ensures) in
+    ∙ ap (λ (from : From). spec.through (map (spec.join_in c.args.schema.now) c.as_slice.result.now) (scopes_of c.args.outer.now) c.args.before.now (from, c.in_ok-first.scope, c.enter.new.numbered)) (sym c.in_ok-new.ensures) in
     same (λ (x : From × Scope). (x.0, x.1, c.joins.new.numbered)) c.joins.result _ _ is c.joins.ensures
 
 pub select-returns-in_err-from : goal.select-returns-in_err-from
