@@ -53,10 +53,10 @@ fn told(
 
 #[test]
 fn plans_deliver_orders(rt: HostRuntime) -> Result<(), AllocError> {
-    // The third line joins the two occurrences, whose columns are 0 and 1, and 2 and 3.
+    // The third line joins the two occurrences, whose columns are 0 and 1, and 2 and 3; the first one has no conjuncts.
     const TEXT: &str = "SELECT x.boss, x.id FROM dept x, dept y";
     const CASES: &str = "scan 0 0 =>
-scan 0 0 | sort: 1d 0 | filter 2 => 1d 0
+scan 0 0 | sort: 1d 0 | filter 0 => 1d 0
 scan 0 0 | sort: 1d 0 | cut 0: 1 => 1d
 scan 0 0 | sort: 1d 0 | cut 0: 0 =>
 scan 0 0 | sort: 1d 0 | scan 0 1 | left 2 => 1d 0

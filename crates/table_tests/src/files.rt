@@ -8,16 +8,19 @@ use std::process::Abort;
 use store::{CountedInput, Database, RowSource, Table, TableFault, TableRefusal};
 use values::Cell;
 
-/// The refusal's code with its row, the earlier row and the column.
-fn push_refusal(told: &mut String, refusal: TableRefusal) -> Result<(), AllocError> {
-    write!(told, "{} {}", refusal.code(), refusal.row)?;
-    if let Some(earlier) = refusal.earlier() {
-        write!(told, " {earlier}")?;
-    }
-    match refusal.column() {
-        Some(column) => write!(told, " in {column}"),
+fn push_number(told: &mut String, before: &str, number: Option<usize>) -> Result<(), AllocError> {
+    match number {
+        Some(number) => write!(told, "{before}{number}"),
         None => Ok(()),
     }
+}
+
+/// The refusal's code with its row, the earlier row and the column.
+fn push_refusal(told: &mut String, refusal: TableRefusal) -> Result<(), AllocError> {
+    told.push_str(refusal.code())?;
+    push_number(told, " ", Some(refusal.row))?;
+    push_number(told, " ", refusal.earlier())?;
+    push_number(told, " in ", refusal.column())
 }
 
 /// How a load went.
@@ -78,20 +81,34 @@ pub fn told(
     told.as_str().replace(alloc, "\n", "~")
 }
 
-/// Each line has what `spelt` takes, `=>`, and what is told of it as the file of an empty table.
-fn are_told(
-    rt: &impl Abort,
+/// How a file is loaded as an empty table, and the table's rows then.
+fn told_of(
     alloc: Global,
-    schema: &[u8],
+    schema: &Schema,
     table: usize,
-    cases: &str,
-) -> Result<(), AllocError> {
-    let schema = Schema::read(alloc, schema).expect(rt, "a schema");
+    file: &[u8],
+) -> Result<String, AllocError> {
+    let mut database = Database::new(alloc, schema)?;
+    told(alloc, &mut database, table, file)
+}
+
+/// The same of a file as `spelt` takes it.
+fn told_of_case(
+    alloc: Global,
+    schema: &Schema,
+    table: usize,
+    case: &str,
+) -> Result<String, AllocError> {
+    let file = spelt(alloc, case)?;
+    told_of(alloc, schema, table, file.as_slice())
+}
+
+/// Each line has what `spelt` takes, `=>`, and what is told of it as the file of an empty table.
+fn are_told(rt: &impl Abort, alloc: Global, table: usize, cases: &str) -> Result<(), AllocError> {
+    let schema = Schema::read(alloc, COMPANY.as_bytes()).expect(rt, "a schema");
     for case in cases.lines() {
         let (file, wanted) = case.split_once(" => ").expect(rt, "two parts");
-        let bytes = spelt(alloc, file)?;
-        let mut database = Database::new(alloc, &schema)?;
-        let told = told(alloc, &mut database, table, bytes.as_slice())?;
+        let told = told_of_case(alloc, &schema, table, file)?;
         assert_eq!(rt; told.as_str(), wanted, "{file}");
     }
     Ok(())
@@ -128,7 +145,7 @@ id,dept,pay,badge~1,9223372036854775808,500,7~ => T03 1 in 1
 id,dept,pay,badge~1,-9223372036854775809,500,7~ => T03 1 in 1
 id,dept,pay,badge~-9223372036854775808,9223372036854775807,0,-7~ => loaded / -9223372036854775808 9223372036854775807 0 -7
 id,dept,pay,badge~1,^,500,7~ => T03 1 in 1";
-    are_told(&rt, rt.alloc(), COMPANY.as_bytes(), 1, CASES)
+    are_told(&rt, rt.alloc(), 1, CASES)
 }
 
 #[test]
@@ -147,7 +164,7 @@ id,name,boss~1,\\NN,10~ => T04 1 in 1
 id,name,boss~1,\\N,10~ => T05 1 in 1
 id,name,boss~7,a,10~8,a,10~7,a,10~ => T06 3 1
 id,name,boss~1,^,10~ => T01 1 in 1";
-    are_told(&rt, rt.alloc(), COMPANY.as_bytes(), 0, CASES)
+    are_told(&rt, rt.alloc(), 0, CASES)
 }
 
 /// The outcome that is wanted of a file that is cut there, where each line holds up to its cut.
@@ -179,26 +196,38 @@ fn a_file_is_cut(rt: HostRuntime) -> Result<(), AllocError> {
     let schema = Schema::read(rt.alloc(), COMPANY.as_bytes()).expect(&rt, "a schema");
     for cut in 0..=FILE.len() {
         let bytes = FILE.get(..cut).expect(&rt, "a cut");
-        let mut database = Database::new(rt.alloc(), &schema)?;
-        let told = told(rt.alloc(), &mut database, 1, bytes)?;
+        let told = told_of(rt.alloc(), &schema, 1, bytes)?;
         assert_eq!(rt; told.as_str(), wanted_at(CASES, cut), "after {cut} bytes");
     }
     Ok(())
+}
+
+/// How a file as `spelt` takes it is loaded as the first table, and how many rows that has then.
+fn rows_after(
+    alloc: Global,
+    database: &mut Database<'_>,
+    case: &str,
+) -> Result<String, AllocError> {
+    let file = spelt(alloc, case)?;
+    let mut told = outcome(alloc, database, 0, file.as_slice())?;
+    if 0 < database.tables().len() {
+        write!(told, ", {} rows", database.table(0).len())?;
+    }
+    Ok(told)
 }
 
 #[test]
 fn a_table_is_bounded(rt: HostRuntime) -> Result<(), AllocError> {
     const SCHEMA: &str =
         r#"{"tables":[{"name":"t","columns":[{"name":"a","kind":"INT","not_null":true}],"unique":[],"indexes":[]}]}"#;
+    const CASES: &str = "a~|1000000*1~ => loaded, 1000000 rows
+a~|1000000*1~|x~ => T07 1000001, 1000000 rows";
     let schema = Schema::read(rt.alloc(), SCHEMA.as_bytes()).expect(&rt, "a schema");
     let mut database = Database::new(rt.alloc(), &schema)?;
-    let most = spelt(rt.alloc(), "a~|1000000*1~")?;
-    let loaded = outcome(rt.alloc(), &mut database, 0, most.as_slice())?;
-    assert_eq!(rt; loaded.as_str(), "loaded");
-    let more = spelt(rt.alloc(), "a~|1000000*1~|x~")?;
-    let refused = outcome(rt.alloc(), &mut database, 0, more.as_slice())?;
-    assert_eq!(rt; refused.as_str(), "T07 1000001");
-    assert!(rt; 0 < database.tables().len());
-    assert_eq!(rt; database.table(0).len(), 1_000_000);
+    for case in CASES.lines() {
+        let (file, wanted) = case.split_once(" => ").expect(&rt, "two parts");
+        let told = rows_after(rt.alloc(), &mut database, file)?;
+        assert_eq!(rt; told.as_str(), wanted, "{file}");
+    }
     Ok(())
 }
