@@ -1,12 +1,9 @@
 -- The query that a statement is over a schema is bound, and its table occurrences are tables of the schema.
-use Rattle.std.proofs.Common.{◌≡◌, refl, ap, sym, subst, ℕ, true, List, [], ◌∷◌, map, length, slice_index_or, nat_le, Option, Some, None, arith}
-use Prim.Native.Nat.{zero, suc}
-use Rattle.std.specs.List.{AllByRecursion, slice_get}
+use Rattle.std.proofs.Common.{◌≡◌, refl, ap, sym, subst, ℕ, true, List, [], map, nat_le, Option, Some, None, arith}
+use Rattle.std.specs.List.{AllByRecursion}
 use Rattle.std.proofs.lemmas.List.{append-nil}
 use Rattle.values.specs.Faults.{wanted_if}
-use Rattle.schema.specs.declared.schema.Table.{Table}
 use Rattle.schema.specs.declared.schema.Schema.{Schema}
-use Rattle.schema.specs.Databases.{Database}
 use Rattle.sql_parse.specs.declared.statement.Condition.{Condition, roll-Condition}
 use Rattle.sql_parse.specs.declared.statement.Condition.TheVariants as tree
 use Rattle.sql_parse.specs.declared.statement.Condition.TheOpen.{Condition-F, Join-F, Chain-F, Select-F}
@@ -24,7 +21,6 @@ use Rattle.binder.specs.declared.selects.BoundSelect.{BoundSelect}
 use Rattle.binder.specs.declared.statement.TheConstants.{MAX_COLUMNS}
 use Rattle.binder.specs.declared.fault.BindReason.TheVariants.{TooLarge}
 use Rattle.binder.specs.Lookups.{refusal}
-use Rattle.query.specs.Rows.{tables_of}
 use Rattle.binder.specs.Extents.{of_select, is_within}
 use Rattle.binder.specs.Selects.{select_in}
 use Rattle.binder.specs.Ordering.{order_in}

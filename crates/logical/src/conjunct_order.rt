@@ -87,6 +87,7 @@ fn put_in_order(mut order: Vec<Spelt>, new: Spelt) -> Result<Vec<Spelt>, AllocEr
     let place = place_of(order.as_slice(), &new);
     if let Some(other) = order.get(place) {
         if new.same(other) {
+            drop(new);
             return Ok(order);
         }
     }

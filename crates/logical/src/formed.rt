@@ -118,20 +118,16 @@ impl Expr {
         match self {
             Expr::Get(_) => true,
             Expr::Select(c, x) => *x < bound && all_name_below(c.as_slice(), bound),
-            Expr::Join(c, a, b) => *a < bound && *b < bound && all_name_below(c.as_slice(), bound),
-            Expr::LeftJoin(c, a, b) => *a < bound
-                && *b < bound
-                && all_name_below(c.as_slice(), bound),
-            Expr::Semi(c, a, b) => *a < bound && *b < bound && all_name_below(c.as_slice(), bound),
+            Expr::Join(c, a, b) | Expr::LeftJoin(c, a, b) | Expr::Semi(c, a, b) => {
+                *a < bound && *b < bound && all_name_below(c.as_slice(), bound)
+            }
             Expr::Anti(s, m, a, b) => {
                 *a < bound
                     && *b < bound
                     && all_name_below(s.as_slice(), bound)
                     && all_name_below(m.as_slice(), bound)
             }
-            Expr::Keep(_, x) => *x < bound,
-            Expr::Distinct(x) => *x < bound,
-            Expr::Group(_, _, x) => *x < bound,
+            Expr::Keep(_, x) | Expr::Distinct(x) | Expr::Group(_, _, x) => *x < bound,
         }
     }
 
@@ -144,9 +140,9 @@ impl Expr {
         match self {
             Expr::Get(o) => *o < uses.len(),
             Expr::Select(c, _) => all_name_own(c.as_slice(), uses, own),
-            Expr::Join(c, a, b) => joins_formed(c, &columns[*a], &columns[*b], uses, own),
-            Expr::LeftJoin(c, a, b) => joins_formed(c, &columns[*a], &columns[*b], uses, own),
-            Expr::Semi(c, a, b) => joins_formed(c, &columns[*a], &columns[*b], uses, own),
+            Expr::Join(c, a, b) | Expr::LeftJoin(c, a, b) | Expr::Semi(c, a, b) => {
+                joins_formed(c, &columns[*a], &columns[*b], uses, own)
+            }
             Expr::Anti(s, m, a, b) => {
                 joins_formed(s, &columns[*a], &columns[*b], uses, own)
                     && joins_formed(m, &columns[*a], &columns[*b], uses, own)
@@ -172,13 +168,10 @@ impl Expr {
     {
         match self {
             Expr::Get(o) => Columns::of_occurrence(alloc, uses, *o),
-            Expr::Select(_, x) => columns[*x].copy(alloc),
-            Expr::Join(_, a, b) => columns[*a].union(alloc, &columns[*b]),
-            Expr::LeftJoin(_, a, b) => columns[*a].union(alloc, &columns[*b]),
-            Expr::Semi(_, a, _) => columns[*a].copy(alloc),
-            Expr::Anti(_, _, a, _) => columns[*a].copy(alloc),
+            Expr::Join(_, a, b) | Expr::LeftJoin(_, a, b) => columns[*a].union(alloc, &columns[*b]),
+            Expr::Select(_, x) | Expr::Semi(_, x, _) | Expr::Anti(_, _, x, _) | Expr::Distinct(x) =>
+                columns[*x].copy(alloc),
             Expr::Keep(k, _) => k.copy(alloc),
-            Expr::Distinct(x) => columns[*x].copy(alloc),
             Expr::Group(k, added, _) => Columns::of_groups(alloc, k, added.as_slice()),
         }
     }
@@ -215,10 +208,9 @@ fn reads_within(aggregate: Aggregate, columns: &Columns) -> bool
 {
     match aggregate {
         Aggregate::CountRows => true,
-        Aggregate::Count(k) => columns.contains(k),
-        Aggregate::Sum(k) => columns.contains(k),
-        Aggregate::Min(k) => columns.contains(k),
-        Aggregate::Max(k) => columns.contains(k),
+        Aggregate::Count(k) | Aggregate::Sum(k) | Aggregate::Min(k) | Aggregate::Max(k) => {
+            columns.contains(k)
+        }
     }
 }
 

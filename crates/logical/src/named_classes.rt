@@ -65,13 +65,11 @@ impl Expr {
                 classes.extend_from_slice(named.as_slice())?;
                 Ok(classes)
             }
-            Expr::Join(_, a, b) => listed(alloc, &[*a, *b]),
-            Expr::LeftJoin(_, a, b) => listed(alloc, &[*a, *b]),
-            Expr::Semi(_, a, b) => listed(alloc, &[*a, *b]),
-            Expr::Anti(_, _, a, b) => listed(alloc, &[*a, *b]),
-            Expr::Keep(_, x) => listed(alloc, &[*x]),
-            Expr::Distinct(x) => listed(alloc, &[*x]),
-            Expr::Group(_, _, x) => listed(alloc, &[*x]),
+            Expr::Join(_, a, b)
+            | Expr::LeftJoin(_, a, b)
+            | Expr::Semi(_, a, b)
+            | Expr::Anti(_, _, a, b) => listed(alloc, &[*a, *b]),
+            Expr::Keep(_, x) | Expr::Distinct(x) | Expr::Group(_, _, x) => listed(alloc, &[*x]),
         }
     }
 }

@@ -4,7 +4,6 @@ use Rattle.sql_parse.specs.declared.statement.Chain.{out-Chain}
 use Rattle.sql_parse.specs.declared.statement.Select.{out-Select}
 use Rattle.query.specs.declared.query.Cond.{Cond}
 use Rattle.query.specs.declared.query.Cond.TheVariants as cond
-use Rattle.query.specs.declared.query.Block.{Block}
 use Rattle.query.specs.declared.query.From.{From}
 use Rattle.binder.specs.declared.output.Output.{Output}
 use Rattle.binder.specs.Numbers.{with_aggregates}
