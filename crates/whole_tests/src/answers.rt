@@ -1,7 +1,10 @@
 //! Queries by both commands, over the tables of `examples/hr`. Each line has a text, `=>`, and the lines that it is answered with,
 //! with `;` between them. The answers are sqlite3's: bench/answers.py reads this file and asks it.
 
-use crate::commands::{answers_are, hr};
+use crate::commands::answer_is;
+use fixtures::{COMPANY, DEPT, EMP, spelt};
+use std::alloc::Global;
+use std::process::Abort;
 use std::test::Fail;
 
 /// Queries of one table. A comparison with NULL is unknown, and so is its opposite.
@@ -162,6 +165,17 @@ SELECT id, nam FROM dept => refused B02 at 11
 SELECT nam FROM dept WHERE bos = 1 => refused B02 at 27
 SELECT id FROM dept WHERE name <> 1 => refused B05 at 31";
 
+/// Each line has a query's text, `=>`, and the lines that it is answered with over the files of `examples/hr`.
+fn answers_are(rt: &impl Abort, alloc: Global, cases: &str) -> Result<(), Fail> {
+    let (schema, dept, emp) = (COMPANY.as_bytes(), DEPT.as_bytes(), EMP.as_bytes());
+    for case in cases.lines() {
+        let (text, lines) = case.split_once(" => ").expect(rt, "two parts");
+        let text = spelt(alloc, text)?;
+        answer_is(rt, alloc, text.as_slice(), schema, dept, emp, lines)?;
+    }
+    Ok(())
+}
+
 #[test]
 fn both_commands_answer_as_sql_does(rt: HostRuntime) -> Result<(), Fail> {
     let tables = [
@@ -169,7 +183,7 @@ fn both_commands_answer_as_sql_does(rt: HostRuntime) -> Result<(), Fail> {
         REFUSED,
     ];
     for cases in tables {
-        answers_are(&rt, rt.alloc(), hr(), cases)?;
+        answers_are(&rt, rt.alloc(), cases)?;
     }
     Ok(())
 }

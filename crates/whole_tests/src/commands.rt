@@ -1,7 +1,6 @@
 //! Whole queries by both commands, from bytes to bytes.
 
 use executor::CountedOutput;
-use fixtures::{COMPANY, DEPT, EMP, spelt};
 use pipeline::{evaluate, fault_line, query};
 use schema::Schema;
 use std::alloc::{AllocError, Global};
@@ -10,23 +9,6 @@ use std::process::Abort;
 use std::test::Fail;
 use store::CountedInput;
 use values::Fault;
-
-/// What a command reads beside the text of the query.
-#[derive(Clone, Copy)]
-pub struct Files<'f> {
-    pub schema: &'f [u8],
-    pub dept: &'f [u8],
-    pub emp: &'f [u8],
-}
-
-/// The files of `examples/hr`.
-pub fn hr() -> Files<'static> {
-    Files {
-        schema: COMPANY.as_bytes(),
-        dept: DEPT.as_bytes(),
-        emp: EMP.as_bytes(),
-    }
-}
 
 /// By what a query is answered.
 #[derive(Clone, Copy)]
@@ -40,11 +22,13 @@ fn written_by(
     rt: &impl Abort,
     alloc: Global,
     way: Way,
-    files: Files<'_>,
     text: &[u8],
+    schema_bytes: &[u8],
+    dept: &[u8],
+    emp: &[u8],
 ) -> Result<String, Fail> {
-    let mut tables = vec![in alloc; CountedInput::new(files.dept), CountedInput::new(files.emp)]?;
-    let schema = match Schema::read(alloc, files.schema) {
+    let mut tables = vec![in alloc; CountedInput::new(dept), CountedInput::new(emp)]?;
+    let schema = match Schema::read(alloc, schema_bytes) {
         Ok(schema) => {
             assert_eq!(rt; schema.tables.len(), tables.len());
             Some(schema)
@@ -55,8 +39,8 @@ fn written_by(
     let mut out = CountedOutput::new(BufWriter::new(alloc, Vec::new(alloc))?);
     let inputs = tables.as_mut_slice();
     let outcome = match way {
-        Way::Plan => query(alloc, files.schema, text, inputs, 20000, &mut out),
-        Way::Meaning => evaluate(alloc, files.schema, text, inputs, &mut out),
+        Way::Plan => query(alloc, schema_bytes, text, inputs, 20000, &mut out),
+        Way::Meaning => evaluate(alloc, schema_bytes, text, inputs, &mut out),
     };
     // What is still in the buffer was not handed on.
     let (written, _) = out.into_inner().into_parts();
@@ -85,28 +69,15 @@ fn in_a_line(alloc: Global, text: &str) -> Result<String, Fail> {
 pub fn answer_is(
     rt: &impl Abort,
     alloc: Global,
-    files: Files<'_>,
     text: &[u8],
+    schema: &[u8],
+    dept: &[u8],
+    emp: &[u8],
     lines: &str,
 ) -> Result<(), Fail> {
     for way in [Way::Plan, Way::Meaning] {
-        let written = written_by(rt, alloc, way, files, text)?;
+        let written = written_by(rt, alloc, way, text, schema, dept, emp)?;
         assert_eq!(rt; in_a_line(alloc, written.as_str())?.as_str(), lines);
-    }
-    Ok(())
-}
-
-/// Each line has a query's text, `=>`, and the lines that it is answered with.
-pub fn answers_are(
-    rt: &impl Abort,
-    alloc: Global,
-    files: Files<'_>,
-    cases: &str,
-) -> Result<(), Fail> {
-    for case in cases.lines() {
-        let (text, lines) = case.split_once(" => ").expect(rt, "two parts");
-        let text = spelt(alloc, text)?;
-        answer_is(rt, alloc, files, text.as_slice(), lines)?;
     }
     Ok(())
 }

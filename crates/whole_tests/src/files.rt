@@ -1,7 +1,7 @@
 //! Files that are read and files that are refused.
 
-use crate::commands::{Files, answer_is, hr};
-use fixtures::spelt;
+use crate::commands::answer_is;
+use fixtures::{COMPANY, DEPT, EMP, spelt};
 use std::alloc::Global;
 use std::process::Abort;
 use std::test::Fail;
@@ -42,16 +42,6 @@ enum Place {
     Emp,
 }
 
-fn files_with(place: Place, file: &[u8]) -> Files<'_> {
-    let mut files = hr();
-    match place {
-        Place::Schema => files.schema = file,
-        Place::Dept => files.dept = file,
-        Place::Emp => files.emp = file,
-    }
-    files
-}
-
 /// Each line has a file, `=>`, and the lines that the query is answered with.
 fn files_are(
     rt: &impl Abort,
@@ -63,8 +53,13 @@ fn files_are(
     for case in cases.lines() {
         let (file, lines) = case.split_once(" => ").expect(rt, "two parts");
         let file = spelt(alloc, file)?;
-        let files = files_with(place, file.as_slice());
-        answer_is(rt, alloc, files, text.as_bytes(), lines)?;
+        let (file, text) = (file.as_slice(), text.as_bytes());
+        let (schema, dept, emp) = (COMPANY.as_bytes(), DEPT.as_bytes(), EMP.as_bytes());
+        match place {
+            Place::Schema => answer_is(rt, alloc, text, file, dept, emp, lines)?,
+            Place::Dept => answer_is(rt, alloc, text, schema, file, emp, lines)?,
+            Place::Emp => answer_is(rt, alloc, text, schema, dept, file, lines)?,
+        }
     }
     Ok(())
 }
@@ -87,22 +82,25 @@ fn files_are_read_or_refused(rt: HostRuntime) -> Result<(), Fail> {
 #[test]
 fn the_first_refusal_is_reported(rt: HostRuntime) -> Result<(), Fail> {
     let alloc = rt.alloc();
-    let mut files = hr();
-    files.emp = b"";
+    let (schema, dept, none) = (COMPANY.as_bytes(), DEPT.as_bytes(), "".as_bytes());
+    let text = "SELECT id FROM dept".as_bytes();
     answer_is(
         &rt,
         alloc,
-        files,
-        b"SELECT id FROM dept",
+        text,
+        schema,
+        dept,
+        none,
         "refused T02 emp row 0",
     )?;
-    files.dept = b"";
     answer_is(
         &rt,
         alloc,
-        files,
-        b"SELECT id FROM emp",
+        text,
+        schema,
+        none,
+        none,
         "refused T02 dept row 0",
     )?;
-    answer_is(&rt, alloc, files, b"", "refused P04 at 0")
+    answer_is(&rt, alloc, none, schema, none, none, "refused P04 at 0")
 }
