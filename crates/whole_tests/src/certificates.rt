@@ -182,16 +182,21 @@ fn plan_over(alloc: Global, query: &Query, exprs: &[Expr]) -> Result<String, Fai
 
 // ---- three queries
 
+fn push_filter(alloc: Global, lines: &mut Vec<Expr>) -> Result<(), Fail> {
+    let number = Term::Literal(Value::Int(500));
+    let own_pay = one_condition(alloc, Comparison::NotEqual, 2, number)?;
+    lines.push(Expr::Get(0))?;
+    lines.push(Expr::Select(own_pay, 0))?;
+    lines.push(Expr::Keep(set_of(alloc, &[0])?, 1))?;
+    Ok(())
+}
+
 #[test]
 fn a_table_with_a_filter(rt: HostRuntime) -> Result<(), Fail> {
     let alloc = rt.alloc();
     let query = asked(&rt, alloc, "SELECT id FROM emp WHERE pay <> 500");
-    let number = Term::Literal(Value::Int(500));
-    let lines = vec![in alloc;
-        Expr::Get(0),
-        Expr::Select(one_condition(alloc, Comparison::NotEqual, 2, number)?, 0),
-        Expr::Keep(set_of(alloc, &[0])?, 1),
-    ]?;
+    let mut lines = Vec::new(alloc);
+    push_filter(alloc, &mut lines)?;
     let plan = plan_over(alloc, &query, lines.as_slice())?;
     assert_eq!(rt; plan.as_str(), "cut 2: c0 (filter 1 (scan 0 of 0))");
     Ok(())
@@ -233,6 +238,19 @@ fn a_left_join_and_a_subquery_in_order(rt: HostRuntime) -> Result<(), Fail> {
     Ok(())
 }
 
+fn push_groups(alloc: Global, lines: &mut Vec<Expr>) -> Result<(), Fail> {
+    let count = Aggregation {
+        column: 4,
+        aggregate: Aggregate::CountRows,
+    };
+    let added = Items::from_slice(alloc, &[count])?;
+    lines.push(Expr::Get(0))?;
+    lines.push(Expr::Group(set_of(alloc, &[1])?, added, 0))?;
+    lines.push(Expr::Keep(set_of(alloc, &[1, 4])?, 1))?;
+    lines.push(Expr::Distinct(2))?;
+    Ok(())
+}
+
 #[test]
 fn distinct_groups(rt: HostRuntime) -> Result<(), Fail> {
     let alloc = rt.alloc();
@@ -241,16 +259,8 @@ fn distinct_groups(rt: HostRuntime) -> Result<(), Fail> {
         alloc,
         "SELECT DISTINCT dept, COUNT(*) FROM emp GROUP BY dept",
     );
-    let count = Aggregation {
-        column: 4,
-        aggregate: Aggregate::CountRows,
-    };
-    let lines = vec![in alloc;
-        Expr::Get(0),
-        Expr::Group(set_of(alloc, &[1])?, Items::from_slice(alloc, &[count])?, 0),
-        Expr::Keep(set_of(alloc, &[1, 4])?, 1),
-        Expr::Distinct(2),
-    ]?;
+    let mut lines = Vec::new(alloc);
+    push_groups(alloc, &mut lines)?;
     let plan = plan_over(alloc, &query, lines.as_slice())?;
     assert_eq!(rt;
         plan.as_str(),
