@@ -3,14 +3,13 @@
 ghost use Rattle.std.specs.Prelude.{◌≡◌, ◌<◌, IfOk, Ok, true, length, map};
 ghost use Rattle.query.specs.Bound.{is_bound};
 ghost use Rattle.logical.specs.Frames.{is_framed};
-ghost use Rattle.physical.specs.Orders as orders;
 ghost use Rattle.checker.specs.declared.certificate.Line.TheVariants.{Founds};
 ghost use Rattle.checker.specs.Replay.{replayed};
 ghost use Rattle.planner.specs.Canonical as spec;
 
 use checker::{Certificate, Line};
 use logical::{Expr, query_frame};
-use physical::{JoinKind, Node, Plan, query_order};
+use physical::{JoinKind, Node, OrderKey, Plan, query_order};
 use query::Query;
 use std::alloc::{AllocError, Global};
 use values::Items;
@@ -73,11 +72,10 @@ fn plan_of(alloc: Global, frame: &[Expr], class: usize) -> Result<Plan, AllocErr
     Ok(Plan { node, inputs })
 }
 
-/// The plan with the sort that the ORDER BY asks for.
-fn with_order(alloc: Global, query: &Query, plan: Plan) -> Result<Plan, AllocError>
-    ensures { IfOk result (λ sorted. sorted ≡ spec.top (orders.query_order query.now) plan) }
+/// The plan with a sort by the keys, if there are any.
+fn sorted(alloc: Global, keys: Items<OrderKey>, plan: Plan) -> Result<Plan, AllocError>
+    ensures { IfOk result (λ sorted. sorted ≡ spec.top keys plan) }
 {
-    let keys = Items::from_vec(query_order(alloc, query)?);
     if keys.is_empty() {
         return Ok(plan);
     }
@@ -108,9 +106,10 @@ pub fn canonical(alloc: Global, query: &Query) -> Result<Certificate, AllocError
     ensures replays { IfOk result (λ certificate. replayed query.now certificate ≡ Ok certificate) }
     ensures only { IfOk result (spec.IsOnlyCanonical query.now) }
 {
+    let order = query_order(alloc, query)?;
     let frame = query_frame(alloc, query)?;
     let below = plan_of(alloc, frame.as_slice(), frame.len() - 1)?;
-    let plan = with_order(alloc, query, below)?;
+    let plan = sorted(alloc, Items::from_vec(order), below)?;
     let lines = lines_of(alloc, frame)?;
     Ok(Certificate { lines, plan })
 }

@@ -15,7 +15,7 @@ use std::alloc::Global;
 use values::{Items, Text};
 
 /// A table's entry whose lists name columns.
-#[derive(Debug, Drop)]
+#[derive(Drop)]
 pub struct TableEntry {
     pub name: Text,
     pub columns: Items<Column>,

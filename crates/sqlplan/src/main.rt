@@ -65,36 +65,62 @@ enum Way {
     Meaning,
 }
 
+/// Where a query's schema, its text and its tables are.
+struct Paths<'a> {
+    schema: &'a str,
+    query: &'a str,
+    folder: &'a str,
+}
+
+fn paths_of<'a>(arguments: &'a ArgMatches<'_>) -> Option<Paths<'a>> {
+    Some(Paths {
+        schema: arguments.get_str("SCHEMA")?,
+        query: arguments.get_str("QUERY")?,
+        folder: arguments.get_str("DIR")?,
+    })
+}
+
+/// Answers the query over the tables on standard output.
+fn write_to_output(
+    rt: &HostRuntime,
+    way: Way,
+    schema: &[u8],
+    text: &[u8],
+    tables: &mut [CountedInput<File>],
+) -> Result<(), Refusal> {
+    let alloc = rt.alloc();
+    let mut out = CountedOutput::new(BufWriter::new(alloc, io::writer(rt))?);
+    match way {
+        Way::Plan => query(alloc, schema, text, tables, LIMIT, &mut out),
+        Way::Meaning => evaluate(alloc, schema, text, tables, &mut out),
+    }
+}
+
+/// Answers a query over a schema that was read from its bytes.
+fn answer_over(
+    rt: &HostRuntime,
+    way: Way,
+    bytes: &[u8],
+    schema: &Schema,
+    paths: Paths<'_>,
+) -> Result<(), Stop> {
+    let text = bytes_of(rt, paths.query)?;
+    let mut tables = open_tables(rt, schema, paths.folder)?;
+    match write_to_output(rt, way, bytes, text.as_slice(), tables.as_mut_slice()) {
+        Ok(()) => Ok(()),
+        Err(refusal) => Err(Stop::of_refusal(rt.alloc(), &refusal, Some(schema))),
+    }
+}
+
 /// The commands `query` and `meaning`. The schema is read and tested before any other file is opened.
 fn answer(rt: &HostRuntime, way: Way, arguments: &ArgMatches<'_>) -> Result<(), Stop> {
-    let alloc = rt.alloc();
-    let (Some(schema_path), Some(query_path), Some(folder)) = (
-        arguments.get_str("SCHEMA"),
-        arguments.get_str("QUERY"),
-        arguments.get_str("DIR"),
-    ) else {
+    let Some(paths) = paths_of(arguments) else {
         return Err(Stop::Usage);
     };
-    let schema_bytes = bytes_of(rt, schema_path)?;
-    let schema = match Schema::read(alloc, schema_bytes.as_slice()) {
-        Ok(schema) => schema,
-        Err(fault) => return Err(Stop::of_refusal(alloc, &Refusal::from(fault), None)),
-    };
-    let text = bytes_of(rt, query_path)?;
-    let mut tables = open_tables(rt, &schema, folder)?;
-    let (bytes, text, tables) = (
-        schema_bytes.as_slice(),
-        text.as_slice(),
-        tables.as_mut_slice(),
-    );
-    let mut out = CountedOutput::new(BufWriter::new(alloc, io::writer(rt))?);
-    let answered = match way {
-        Way::Plan => query(alloc, bytes, text, tables, LIMIT, &mut out),
-        Way::Meaning => evaluate(alloc, bytes, text, tables, &mut out),
-    };
-    match answered {
-        Ok(()) => Ok(()),
-        Err(refusal) => Err(Stop::of_refusal(alloc, &refusal, Some(&schema))),
+    let bytes = bytes_of(rt, paths.schema)?;
+    match Schema::read(rt.alloc(), bytes.as_slice()) {
+        Ok(schema) => answer_over(rt, way, bytes.as_slice(), &schema, paths),
+        Err(fault) => Err(Stop::of_refusal(rt.alloc(), &Refusal::from(fault), None)),
     }
 }
 

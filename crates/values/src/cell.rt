@@ -13,7 +13,7 @@ use std::cmp::Ordering;
 
 /// A value whose text is lent, so that a table hands out its values without a copy. Its derived comparisons and hash
 /// are those of `Value`.
-#[derive(Clone, Copy, Debug, PartialEq, Eq, PartialOrd, Ord, Hash)]
+#[derive(Clone, Copy, PartialEq, Eq, PartialOrd, Ord, Hash)]
 pub enum Cell<'a> {
     Null,
     Int(i128),

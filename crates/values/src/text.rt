@@ -15,7 +15,7 @@ use std::hash::{Hash, Hasher};
 use std::marker::Model;
 
 /// A text, which contracts see as its bytes. Its order is that of the bytes.
-#[derive(Debug, Drop)]
+#[derive(Drop)]
 pub struct Text {
     text: String,
 }

@@ -6,7 +6,7 @@ ghost use Rattle.values.specs.Truth as spec;
 use std::cmp::Ordering;
 
 /// The truth of a condition, in SQL's logic of three values.
-#[derive(Clone, Copy, Debug, PartialEq, Eq, Hash)]
+#[derive(Clone, Copy, PartialEq, Eq)]
 pub enum Truth {
     False,
     Unknown,
@@ -61,7 +61,7 @@ impl From<bool> for Truth {
 }
 
 /// A comparison operator of SQL: `=`, `<>`, `<`, `<=`, `>`, `>=`.
-#[derive(Clone, Copy, Debug, PartialEq, Eq, Hash)]
+#[derive(Clone, Copy, PartialEq, Eq)]
 pub enum Comparison {
     Equal,
     NotEqual,

@@ -10,7 +10,7 @@ use std::alloc::{AllocError, Global};
 /// A value. The derived comparisons and hash are those of the total order: the variants stand in its order.
 ///
 /// A table holds `Int`s of 64 bits; a sum of them goes past that, and is exact.
-#[derive(Debug, Drop, PartialEq, Eq, PartialOrd, Ord, Hash)]
+#[derive(Drop, PartialEq, Eq, PartialOrd, Ord, Hash)]
 pub enum Value {
     Null,
     Int(i128),

@@ -3,7 +3,7 @@ use Rattle.logical.specs.Frames.{query_frame}
 use Rattle.logical.proofs.FormedQueries.{frames_formed}
 use Rattle.checker.specs.declared.certificate.Line.TheVariants.{Founds}
 use Rattle.checker.specs.Replay.{root}
-use Rattle.planner.specs.Canonical.{NameEarlier, IsPlanOf}
+use Rattle.planner.specs.Canonical.{NameEarlier, IsPlanOf, top}
 use Rattle.planner.proofs.FrameLines.{names_earlier}
 use Rattle.planner.proofs.OneCertificate.{one_certificate}
 use Rattle.planner.proofs.Accepted.{canonical_replays}
@@ -27,10 +27,10 @@ returns-clause-replays c =
     let q = c.args.query.now in
     let frame : c.as_slice.result.now ≡ query_frame q = c.as_slice.ensures ∙ c.in_ok-frame.ensures.lines in
     let below : IsPlanOf (query_frame q) (root q) c.in_ok-below.below = subst (λ g. IsPlanOf (query_frame q) g c.in_ok-below.below) (ap (λ n. n - 1) (c.len.ensures ∙ ap length c.in_ok-frame.ensures.lines)) (subst (λ L. IsPlanOf L (c.len.result - 1) c.in_ok-below.below) frame c.in_ok-below.ensures) in
-    canonical_replays q c.requires (record { lines = c.in_ok-lines.lines; plan = c.in_ok-plan.plan }) c.in_ok-below.below (c.in_ok-lines.ensures ∙ ap (map Founds) c.in_ok-frame.ensures.lines) c.in_ok-plan.ensures below
+    canonical_replays q c.requires (record { lines = c.in_ok-lines.lines; plan = c.in_ok-plan.plan }) c.in_ok-below.below (c.in_ok-lines.ensures ∙ ap (map Founds) c.in_ok-frame.ensures.lines) (c.in_ok-plan.ensures ∙ ap (λ ks. top ks c.in_ok-below.below) (c.from_vec.ensures ∙ c.in_ok-order.ensures)) below
 
 pub returns-clause-only : goal.returns-clause-only
 returns-clause-only c =
     one_certificate c.args.query.now (record { lines = c.in_ok-lines.lines; plan = c.in_ok-plan.plan })
-    (record { lines = c.in_ok-lines.ensures ∙ ap (map Founds) c.in_ok-frame.ensures.lines; below = c.in_ok-below.below; unsorted = c.in_ok-below.ensures.unsorted; plan = c.in_ok-plan.ensures })
+    (record { lines = c.in_ok-lines.ensures ∙ ap (map Founds) c.in_ok-frame.ensures.lines; below = c.in_ok-below.below; unsorted = c.in_ok-below.ensures.unsorted; plan = c.in_ok-plan.ensures ∙ ap (λ ks. top ks c.in_ok-below.below) (c.from_vec.ensures ∙ c.in_ok-order.ensures) })
     (returns-clause-replays c)
