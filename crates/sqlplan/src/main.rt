@@ -1,7 +1,9 @@
 //! Answers queries over tables in files, by checked plans.
 #![tactic(auto)]
 
-ghost use Rattle.std.specs.Prelude.{◌≡◌, length, vec_len, IfOk, IfErr};
+ghost use Rattle.std.specs.Prelude.{◌≡◌, Ok, length, vec_len, IfOk, IfErr};
+ghost use Rattle.schema.specs.Reading.{schema_of};
+ghost use Rattle.pipeline.specs.EndToEnd.{HasTables};
 ghost use Rattle.sqlplan.specs.Stops.{SaysFile, SaysTable};
 
 mod command;
@@ -66,6 +68,7 @@ enum Way {
 }
 
 /// Where a query's schema, its text and its tables are.
+#[derive(Clone, Copy)]
 struct Paths<'a> {
     schema: &'a str,
     query: &'a str,
@@ -80,36 +83,49 @@ fn paths_of<'a>(arguments: &'a ArgMatches<'_>) -> Option<Paths<'a>> {
     })
 }
 
-/// Answers the query over the tables on standard output.
-fn write_to_output(
+/// Answers a query on standard output. The schema is that of the bytes.
+fn answer_tables(
     rt: &HostRuntime,
     way: Way,
-    schema: &[u8],
+    bytes: &[u8],
+    schema: &Schema,
     text: &[u8],
     tables: &mut [CountedInput<File>],
-) -> Result<(), Refusal> {
+) -> Result<(), Stop>
+    requires { HasTables bytes.now (length tables.old) }
+{
     let alloc = rt.alloc();
     let mut out = CountedOutput::new(BufWriter::new(alloc, io::writer(rt))?);
-    match way {
-        Way::Plan => query(alloc, schema, text, tables, LIMIT, &mut out),
-        Way::Meaning => evaluate(alloc, schema, text, tables, &mut out),
+    let answered = match way {
+        Way::Plan => query(alloc, bytes, text, tables, LIMIT, &mut out),
+        Way::Meaning => evaluate(alloc, bytes, text, tables, &mut out),
+    };
+    match answered {
+        Ok(()) => Ok(()),
+        Err(refusal) => Err(Stop::of_refusal(alloc, &refusal, Some(schema))),
     }
 }
 
-/// Answers a query over a schema that was read from its bytes.
-fn answer_over(
+/// Opens the files of a query and its tables, and answers it.
+fn answer_files(
     rt: &HostRuntime,
     way: Way,
     bytes: &[u8],
     schema: &Schema,
     paths: Paths<'_>,
-) -> Result<(), Stop> {
+) -> Result<(), Stop>
+    requires { schema_of bytes.now ≡ Ok schema.now }
+{
     let text = bytes_of(rt, paths.query)?;
     let mut tables = open_tables(rt, schema, paths.folder)?;
-    match write_to_output(rt, way, bytes, text.as_slice(), tables.as_mut_slice()) {
-        Ok(()) => Ok(()),
-        Err(refusal) => Err(Stop::of_refusal(rt.alloc(), &refusal, Some(schema))),
-    }
+    answer_tables(
+        rt,
+        way,
+        bytes,
+        schema,
+        text.as_slice(),
+        tables.as_mut_slice(),
+    )
 }
 
 /// The commands `query` and `meaning`. The schema is read and tested before any other file is opened.
@@ -119,7 +135,7 @@ fn answer(rt: &HostRuntime, way: Way, arguments: &ArgMatches<'_>) -> Result<(), 
     };
     let bytes = bytes_of(rt, paths.schema)?;
     match Schema::read(rt.alloc(), bytes.as_slice()) {
-        Ok(schema) => answer_over(rt, way, bytes.as_slice(), &schema, paths),
+        Ok(schema) => answer_files(rt, way, bytes.as_slice(), &schema, paths),
         Err(fault) => Err(Stop::of_refusal(rt.alloc(), &Refusal::from(fault), None)),
     }
 }
