@@ -1,6 +1,6 @@
 //! Rows by their values at some places.
 
-ghost use Rattle.std.specs.Prelude.{◌≡◌, ◌<◌, length, slice_index_or, map, IfOk, OnOk};
+ghost use Rattle.std.specs.Prelude.{◌≡◌, ◌<◌, length, slice_index_or, map, [], ◌∷◌, Some, IfOk, OnOk};
 ghost use Rattle.std.specs.Cmp.{partial_equiv_from_equiv};
 ghost use Rattle.values.specs.Cells.{value_of};
 ghost use Rattle.values.specs.declared.value.Value.TheVariants as value;
@@ -93,6 +93,18 @@ pub struct Group<'a, 't> {
     pub rows: Vec<RowRef<'a, 't>>,
 }
 
+/// A group of one row.
+fn founded<'a, 't>(alloc: Global, row: &'a RowData<'t>) -> Result<Group<'a, 't>, AllocError>
+    ensures { IfOk result (λ group. spec.group_of group ≡ record { first = Some row.entry.now; rows = row.entry.now ∷ [] }) }
+{
+    let mut rows = Vec::new(alloc);
+    rows.push(RowRef { row })?;
+    Ok(Group {
+        first: Some(row),
+        rows,
+    })
+}
+
 /// Adds a row to the group with this number; it founds one where there is none.
 fn add_row<'a, 't>(
     alloc: Global,
@@ -106,12 +118,7 @@ fn add_row<'a, 't>(
         groups[number].rows.push(RowRef { row })?;
         return Ok(());
     }
-    let mut rows = Vec::new(alloc);
-    rows.push(RowRef { row })?;
-    groups.push(Group {
-        first: Some(row),
-        rows,
-    })?;
+    groups.push(founded(alloc, row)?)?;
     Ok(())
 }
 
