@@ -1,6 +1,6 @@
 //! Scans, filters and cuts.
 
-ghost use Rattle.std.specs.Prelude.{◌≡◌, [], filter, map, slice_get, slice_index_or, IfOk};
+ghost use Rattle.std.specs.Prelude.{◌≡◌, [], map, slice_get, slice_index_or, IfOk};
 ghost use Rattle.schema.specs.declared.schema.Schema.{Schema};
 ghost use Rattle.query.specs.Rows.{tables_of};
 ghost use Rattle.logical.specs.Bags as bags;
