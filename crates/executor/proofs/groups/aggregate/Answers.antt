@@ -1,9 +1,8 @@
-use Rattle.std.proofs.Common.{◌≡◌, ap, sym, subst, ◌∙◌, List, ℕ, map, length, pos, IfOk}
+use Rattle.std.proofs.Common.{◌≡◌, ap, sym, subst, ◌∙◌, List, map, length, pos, IfOk}
 use Rattle.logical.specs.Bags.{Env}
 use Rattle.values.specs.Cells.{value_of}
 use Rattle.values.specs.declared.value.Value.{Value}
 use Rattle.values.specs.declared.value.Value.TheVariants.{Int}
-use Rattle.query.specs.declared.query.Aggregate.{Aggregate}
 use Rattle.query.specs.Aggregates.{aggregate_of, known, together, lesser, greater, plus}
 use Rattle.executor.specs.Relations.{env_of}
 use Rattle.executor.specs.Groups.{values_in, group_of, member_envs}

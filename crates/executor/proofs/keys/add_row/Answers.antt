@@ -1,4 +1,4 @@
-use Rattle.std.proofs.Common.{◌≡◌, ap, sym, ◌∙◌, arith, ◌∷◌, [], List, map, option_map}
+use Rattle.std.proofs.Common.{ap, sym, ◌∙◌, arith, ◌∷◌, [], List, map, option_map}
 use Rattle.logical.proofs.Loops.{map-append}
 use Rattle.executor.specs.declared.keys.RowRef.{RowRef}
 use Rattle.executor.specs.declared.rows.RowData.{RowData}

@@ -1,4 +1,4 @@
-use Rattle.std.proofs.Common.{ap, sym, subst, ◌∙◌, List, map, OnOk, ◌≡◌}
+use Rattle.std.proofs.Common.{ap, subst, List, map, OnOk, ◌≡◌}
 use Rattle.executor.specs.declared.rows.RowData.{RowData}
 use Rattle.executor.specs.Groups.{GroupOf, group_of, added_at}
 use Rattle.executor.proofs.keys.place_row.Goals as goal

@@ -1,7 +1,5 @@
 use Rattle.executor.proofs.RelationRows.{made-rows}
 use Rattle.executor.proofs.relation.Relation.new.Goals as goal
-use Rattle.std.proofs.Common.{ap, ◌∙◌, length}
-use Rattle.std.specs.List.{range_with_len}
 
 pub returns : goal.returns
 returns c = λ made e values.
