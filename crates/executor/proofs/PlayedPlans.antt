@@ -53,6 +53,9 @@ plays-second (p ∷ q ∷ inputs) e r h = h
 pub retell : {E : Type 0} (result : Result Relation E) (K L : List ℕ) (X Y : List Env) (e : Env) → K ≡ L → X ≡ Y → IfOk result (IsPlayed K X e) → IfOk result (IsPlayed L Y e)
 retell result K L X Y e columns rows told = subst (λ M. IfOk result (IsPlayed M Y e)) columns (subst (λ Z. IfOk result (IsPlayed K Z e)) rows told)
 
+pub retold : (r : Relation) (K L : List ℕ) (X Y : List Env) (e : Env) → K ≡ L → X ≡ Y → IsPlayed K X e r → IsPlayed L Y e r
+retold r K L X Y e columns rows told = record { columns_are = told.columns_are ∙ columns; rows_are = told.rows_are ∙ rows }
+
 -- one more input is played
 pub played-more : (inputs : List Played) (p : Played) (e : Env) (relations : List Relation) (r : Relation) → ArePlayed inputs e relations → IsPlayed p.columns (p.rows e) e r → ArePlayed (inputs ++ p ∷ []) e (relations ++ r ∷ [])
 played-more [] p e [] r all more = (more, tt)

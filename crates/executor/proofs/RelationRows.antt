@@ -1,6 +1,10 @@
 -- Lists of rows under headings.
-use Rattle.std.proofs.Common.{◌≡◌, refl, ap, ◌∙◌, ℕ, ◌-◌, Bool, true, false, if◌then◌else◌, List, [], ◌∷◌, length, map, filter, zero-add}
+use Rattle.std.proofs.Common.{◌≡◌, Bor, refl, ap, ◌∙◌, ℕ, ◌-◌, Bool, true, false, if◌then◌else◌, List, [], ◌∷◌, length, map, filter, zero-add}
 use Rattle.std.specs.List.{range_with_len}
+use denote.Param.Members.{Mut}
+use Rattle.std.specs.Fn.{Called, CalledAt}
+use Rattle.std.specs.List.Retain.{IsFiltered}
+use Rattle.std.proofs.lemmas.Fn.{filter_same}
 use Rattle.schema.specs.Databases.{Row}
 use Rattle.query.specs.declared.query.TableUse.{TableUse}
 use Rattle.query.specs.Rows.{value_at}
@@ -55,6 +59,10 @@ cut-rows h g K (r ∷ rows) e columns places whole =
     let front : row_env g r e ≡ lay (has K) (row_env h r e) e = cut-row h g K r e columns places whole in
     let later = cut-rows h g K rows e columns places whole in
     cc
+
+-- what is kept by a closure that tests
+pub kept-by : {X F : Type 0} {g : Mut F (Bor X × Unit {0}) Bool} {f : F} (test : X → Bool) (xs ys : List X) → IsFiltered (CalledAt g) f xs ys → ((a : Bor X × Unit {0}) (b : Bool) (f' : F) → Called g f a b f' → (b ≡ test a.0.now) × (f' ≡ f)) → ys ≡ filter test xs
+kept-by {g = g} {f = f} test xs ys kept says = filter_same (CalledAt g) test f (λ x b f' k. ((says (k.shown, tt) b f' k.called).0 ∙ ap test k.shows, (says (k.shown, tt) b f' k.called).1)) xs ys kept
 
 -- a filter passes over a map
 pub filter-map : {X Y : Type 0} (p : Y → Bool) (f : X → Y) (xs : List X) → filter p (map f xs) ≡ map f (filter (λ x. p (f x)) xs)

@@ -8,6 +8,8 @@ use Rattle.logical.specs.Expressions.{with_aggregates}
 use Rattle.executor.specs.declared.rows.RowData.{RowData}
 use Rattle.executor.specs.declared.relation.Relation.{Relation}
 use Rattle.executor.specs.declared.keys.Group as lent
+use Rattle.executor.specs.declared.keys.RowRef.{RowRef}
+use Rattle.values.specs.declared.value.Value.{Value}
 use Rattle.executor.specs.declared.headings.Heading.{Heading}
 use Rattle.executor.specs.declared.groups.Grouping.{Grouping}
 use Rattle.executor.specs.Relations.{values_of, row_env, column_places}
@@ -52,6 +54,10 @@ group_of g = record { first = option_map (λ r. r.now) g.first; rows = map (λ r
 -- the rows of a group
 abbrev pub member_envs : Heading → GroupOf RowData → Env → List Env
 member_envs h group e = map (λ r. row_env h r e) group.rows
+
+-- the values of rows in a column
+abbrev pub values_in : Heading → List RowRef → Env → ℕ → List Value
+values_in h rows e column = map (λ r. row_env h r.row.now e column) rows
 
 -- the first row of a group; the environment where it has none
 abbrev pub first_env : Heading → Option RowData → Env → Env

@@ -1,10 +1,15 @@
-//! Aggregates of a list of values.
+//! Aggregates of the rows of a group in a column.
 
-ghost use Rattle.std.specs.Prelude.{◌≡◌, if◌then◌else◌, map, IfOk};
+ghost use Rattle.std.specs.Prelude.{◌≡◌, if◌then◌else◌, IfOk};
 ghost use Rattle.values.specs.Cells.{value_of};
 ghost use Rattle.values.specs.Truth.{is_null};
 ghost use Rattle.query.specs.Aggregates as spec;
+ghost use Rattle.executor.specs.Groups.{values_in};
+ghost use Rattle.executor.specs.Relations.{env_of};
 
+use crate::environment::{Env, row_cell};
+use crate::headings::Heading;
+use crate::keys::RowRef;
 use std::alloc::AllocError;
 use std::cmp::Ordering;
 use values::{Cell, order};
@@ -20,14 +25,19 @@ fn counted(cell: Cell<'_>) -> usize
 }
 
 /// How many of the values aren't Null.
-pub fn known(cells: &[Cell<'_>]) -> usize
-    ensures { result ≡ spec.known (map value_of cells.now) }
+pub fn known<'t>(
+    heading: &Heading,
+    rows: &[RowRef<'_, 't>],
+    env: &Env<'_, 't>,
+    column: usize,
+) -> usize
+    ensures { result ≡ spec.known (values_in heading.now rows.now (env_of env.now) column) }
 {
     let mut count = 0;
-    let mut left = cells.len();
+    let mut left = rows.len();
     while left > 0 {
         left -= 1;
-        count += counted(cells[left]);
+        count += counted(row_cell(heading, rows[left].row, env, column));
     }
     count
 }
@@ -59,27 +69,37 @@ fn greater<'t>(v: Cell<'t>, w: Cell<'t>) -> Cell<'t>
 }
 
 /// The least of the values, Nulls aside.
-pub fn least<'t>(cells: &[Cell<'t>]) -> Cell<'t>
-    ensures { value_of result ≡ spec.together spec.lesser (map value_of cells.entry.now) }
+pub fn least<'t>(
+    heading: &Heading,
+    rows: &[RowRef<'_, 't>],
+    env: &Env<'_, 't>,
+    column: usize,
+) -> Cell<'t>
+    ensures { value_of result ≡ spec.together spec.lesser (values_in heading.now rows.now (env_of env.now) column) }
 {
     let mut least = Cell::Null;
-    let mut left = cells.len();
+    let mut left = rows.len();
     while left > 0 {
         left -= 1;
-        least = lesser(cells[left], least);
+        least = lesser(row_cell(heading, rows[left].row, env, column), least);
     }
     least
 }
 
 /// The greatest of the values.
-pub fn greatest<'t>(cells: &[Cell<'t>]) -> Cell<'t>
-    ensures { value_of result ≡ spec.together spec.greater (map value_of cells.entry.now) }
+pub fn greatest<'t>(
+    heading: &Heading,
+    rows: &[RowRef<'_, 't>],
+    env: &Env<'_, 't>,
+    column: usize,
+) -> Cell<'t>
+    ensures { value_of result ≡ spec.together spec.greater (values_in heading.now rows.now (env_of env.now) column) }
 {
     let mut greatest = Cell::Null;
-    let mut left = cells.len();
+    let mut left = rows.len();
     while left > 0 {
         left -= 1;
-        greatest = greater(cells[left], greatest);
+        greatest = greater(row_cell(heading, rows[left].row, env, column), greatest);
     }
     greatest
 }
@@ -96,14 +116,19 @@ fn plus<'t>(v: Cell<'t>, w: Cell<'t>) -> Result<Cell<'t>, AllocError>
 }
 
 /// The sum of the numbers.
-pub fn sum<'t>(cells: &[Cell<'t>]) -> Result<Cell<'t>, AllocError>
-    ensures { IfOk result (λ total. value_of total ≡ spec.together spec.plus (map value_of cells.entry.now)) }
+pub fn sum<'t>(
+    heading: &Heading,
+    rows: &[RowRef<'_, 't>],
+    env: &Env<'_, 't>,
+    column: usize,
+) -> Result<Cell<'t>, AllocError>
+    ensures { IfOk result (λ total. value_of total ≡ spec.together spec.plus (values_in heading.now rows.now (env_of env.now) column)) }
 {
     let mut total = Cell::Null;
-    let mut left = cells.len();
+    let mut left = rows.len();
     while left > 0 {
         left -= 1;
-        total = plus(cells[left], total)?;
+        total = plus(row_cell(heading, rows[left].row, env, column), total)?;
     }
     Ok(total)
 }

@@ -9,7 +9,7 @@ ghost use Rattle.logical.specs.Columns.{rising};
 ghost use Rattle.logical.specs.Expressions as expressions;
 ghost use Rattle.executor.specs.Relations.{IsPlayed, env_of, rows_of, values_of};
 ghost use Rattle.executor.specs.Groups as spec_groups;
-ghost use Rattle.executor.specs.Groups.{first_env, first_of, first_seen, group_env, group_of, member_envs, relation_groups, same_at};
+ghost use Rattle.executor.specs.Groups.{first_env, first_of, first_seen, firsts_of, group_env, group_of, member_envs, relation_groups, same_at};
 
 use crate::aggregates::{greatest, known, least, sum};
 use crate::environment::{Env, row_cell};
@@ -36,6 +36,17 @@ fn push_first<'t>(
     Ok(())
 }
 
+/// The rows that were seen first in the groups.
+fn firsts<'t>(alloc: Global, groups: &[Group<'_, 't>]) -> Result<Vec<RowData<'t>>, AllocError>
+    ensures { IfOk result (λ kept. map values_of kept.items ≡ map values_of (firsts_of (map group_of groups.now))) }
+{
+    let mut kept = Vec::with_capacity(alloc, groups.len())?;
+    for group in groups {
+        push_first(alloc, &mut kept, group)?;
+    }
+    Ok(kept)
+}
+
 /// The rows that were seen first of those that are the same at the places.
 fn first_rows<'t>(
     alloc: Global,
@@ -45,11 +56,7 @@ fn first_rows<'t>(
     ensures { IfOk result (λ kept. map values_of kept.items ≡ map values_of (first_seen (same_at places.now) rows.now)) }
 {
     let groups = groups_of(alloc, rows, places)?;
-    let mut kept = Vec::with_capacity(alloc, groups.len())?;
-    for group in groups.as_slice() {
-        push_first(alloc, &mut kept, group)?;
-    }
-    Ok(kept)
+    firsts(alloc, groups.as_slice())
 }
 
 /// One of each row, as first seen.
@@ -62,23 +69,6 @@ pub fn distinct<'t>(alloc: Global, input: Relation<'t>) -> Result<Relation<'t>, 
     Ok(Relation { heading, rows })
 }
 
-/// The values of the rows in a column.
-fn column_cells<'t>(
-    alloc: Global,
-    heading: &Heading,
-    group: &Group<'_, 't>,
-    env: &Env<'_, 't>,
-    column: usize,
-) -> Result<Vec<Cell<'t>>, AllocError>
-    ensures { IfOk result (λ cells. map value_of cells.items ≡ map (λ r. r column) (member_envs heading.now (group_of group.now) (env_of env.now))) }
-{
-    let mut cells = Vec::with_capacity(alloc, group.rows.len())?;
-    for row in group.rows.as_slice() {
-        cells.push(row_cell(heading, row.row, env, column))?;
-    }
-    Ok(cells)
-}
-
 /// A number of rows.
 fn number<'t>(count: usize) -> Cell<'t>
     ensures { value_of result ≡ value.Int (pos count) }
@@ -88,7 +78,6 @@ fn number<'t>(count: usize) -> Cell<'t>
 
 /// An aggregate of the rows.
 fn aggregate<'t>(
-    alloc: Global,
     heading: &Heading,
     group: &Group<'_, 't>,
     env: &Env<'_, 't>,
@@ -96,24 +85,13 @@ fn aggregate<'t>(
 ) -> Result<Cell<'t>, AllocError>
     ensures { IfOk result (λ cell. value_of cell ≡ spec.aggregate_of of (length (member_envs heading.now (group_of group.now) (env_of env.now))) (λ k. map (λ r. r k) (member_envs heading.now (group_of group.now) (env_of env.now)))) }
 {
+    let rows = group.rows.as_slice();
     match of {
-        Aggregate::CountRows => Ok(number(group.rows.len())),
-        Aggregate::Count(k) => {
-            let cells = column_cells(alloc, heading, group, env, k)?;
-            Ok(number(known(cells.as_slice())))
-        }
-        Aggregate::Sum(k) => {
-            let cells = column_cells(alloc, heading, group, env, k)?;
-            sum(cells.as_slice())
-        }
-        Aggregate::Min(k) => {
-            let cells = column_cells(alloc, heading, group, env, k)?;
-            Ok(least(cells.as_slice()))
-        }
-        Aggregate::Max(k) => {
-            let cells = column_cells(alloc, heading, group, env, k)?;
-            Ok(greatest(cells.as_slice()))
-        }
+        Aggregate::CountRows => Ok(number(rows.len())),
+        Aggregate::Count(k) => Ok(number(known(heading, rows, env, k))),
+        Aggregate::Sum(k) => sum(heading, rows, env, k),
+        Aggregate::Min(k) => Ok(least(heading, rows, env, k)),
+        Aggregate::Max(k) => Ok(greatest(heading, rows, env, k)),
     }
 }
 
@@ -126,7 +104,6 @@ struct Grouping<'a> {
 
 /// What a column of a group is: an aggregate, or else as the first row has it.
 fn group_cell<'t>(
-    alloc: Global,
     grouping: Grouping<'_>,
     heading: &Heading,
     group: &Group<'_, 't>,
@@ -137,7 +114,7 @@ fn group_cell<'t>(
 {
     for added in grouping.added {
         if added.column == column {
-            return aggregate(alloc, heading, group, env, added.aggregate);
+            return aggregate(heading, group, env, added.aggregate);
         }
     }
     if grouping.keys.contains(column) {
@@ -175,7 +152,7 @@ fn group_row<'t>(
 {
     let mut cells = Vec::with_capacity(alloc, columns.as_slice().len())?;
     for column in columns.as_slice() {
-        cells.push(group_cell(alloc, grouping, heading, group, env, *column)?)?;
+        cells.push(group_cell(grouping, heading, group, env, *column)?)?;
     }
     Ok(RowData::Made(cells))
 }
@@ -210,12 +187,25 @@ fn row_of_all<'t>(
     columns: &Columns,
     input: &Relation<'t>,
     env: &Env<'_, 't>,
+) -> Result<RowData<'t>, AllocError>
+    ensures { IfOk result (λ row. values_of row ≡ map (group_env grouping.entry input.now.heading (env_of env.now) (spec_groups.all_of input.now)) columns.now) }
+{
+    let group = all_of(alloc, input)?;
+    group_row(alloc, grouping, columns, &input.heading, &group, env)
+}
+
+/// The same as a list.
+fn rows_of_all<'t>(
+    alloc: Global,
+    grouping: Grouping<'_>,
+    columns: &Columns,
+    input: &Relation<'t>,
+    env: &Env<'_, 't>,
 ) -> Result<Vec<RowData<'t>>, AllocError>
     ensures { IfOk result (λ rows. map values_of rows.items ≡ map (group_env grouping.entry input.now.heading (env_of env.now) (spec_groups.all_of input.now)) columns.now ∷ []) }
 {
-    let group = all_of(alloc, input)?;
+    let row = row_of_all(alloc, grouping, columns, input, env)?;
     let mut rows = Vec::new(alloc);
-    let row = group_row(alloc, grouping, columns, &input.heading, &group, env)?;
     rows.push(row)?;
     Ok(rows)
 }
@@ -232,10 +222,30 @@ fn rows_of_groups<'t>(
 {
     let places = input.heading.places_of(alloc, grouping.keys.as_slice())?;
     let groups = groups_of(alloc, input.rows.as_slice(), places.as_slice())?;
+    shown_groups(
+        alloc,
+        grouping,
+        columns,
+        &input.heading,
+        groups.as_slice(),
+        env,
+    )
+}
+
+/// The row of each group.
+fn shown_groups<'t>(
+    alloc: Global,
+    grouping: Grouping<'_>,
+    columns: &Columns,
+    heading: &Heading,
+    groups: &[Group<'_, 't>],
+    env: &Env<'_, 't>,
+) -> Result<Vec<RowData<'t>>, AllocError>
+    ensures { IfOk result (λ rows. map values_of rows.items ≡ map (λ g. map (group_env grouping.entry heading.now (env_of env.now) g) columns.now) (map group_of groups.now)) }
+{
     let mut rows = Vec::with_capacity(alloc, groups.len())?;
-    for group in groups.as_slice() {
-        let row = group_row(alloc, grouping, columns, &input.heading, group, env)?;
-        rows.push(row)?;
+    for group in groups {
+        rows.push(group_row(alloc, grouping, columns, heading, group, env)?)?;
     }
     Ok(rows)
 }
@@ -250,7 +260,7 @@ fn group_rows<'t>(
     ensures { IfOk result (λ rows. map values_of rows.items ≡ map (λ r. map r columns.now) (bags.group grouping.entry.keys.now (expressions.with_aggregates grouping.entry.added.now) (rows_of input.now) (env_of env.now))) }
 {
     if grouping.keys.as_slice().len() == 0 {
-        return row_of_all(alloc, grouping, columns, input, env);
+        return rows_of_all(alloc, grouping, columns, input, env);
     }
     rows_of_groups(alloc, grouping, columns, input, env)
 }
@@ -268,8 +278,5 @@ pub fn grouped<'g, 't>(
     let grouping = Grouping { keys, added };
     let columns = Columns::of_groups(alloc, keys, added)?;
     let rows = group_rows(alloc, grouping, &columns, input, env)?;
-    Ok(Relation {
-        heading: Heading::new(alloc, columns)?,
-        rows,
-    })
+    Relation::new(alloc, columns, rows)
 }

@@ -1,9 +1,13 @@
 //! Rows by their values at some places.
 
-ghost use Rattle.std.specs.Prelude.{◌≡◌, ◌<◌, length, slice_index_or, map, IfOk, OnOk};
+ghost use Rattle.std.specs.Prelude.{◌≡◌, ◌<◌, length, slice_index_or, map, [], ◌∷◌, Some, IfOk, OnOk};
 ghost use Rattle.std.specs.Cmp.{partial_equiv_from_equiv};
 ghost use Rattle.values.specs.Cells.{value_of};
 ghost use Rattle.values.specs.declared.value.Value.TheVariants as value;
+ghost use Rattle.std.specs.List.{position_or_len};
+ghost use Rattle.indexmap.specs.IndexSet.{insert_key};
+ghost use Rattle.schema.specs.Databases.{values_at};
+ghost use Rattle.executor.specs.Relations.{values_of};
 ghost use Rattle.store.specs.Keys.{key_eq, key_writes, key_equiv, key_alike};
 ghost use Rattle.executor.specs.Groups as spec;
 
@@ -93,6 +97,18 @@ pub struct Group<'a, 't> {
     pub rows: Vec<RowRef<'a, 't>>,
 }
 
+/// A group of one row.
+fn founded<'a, 't>(alloc: Global, row: &'a RowData<'t>) -> Result<Group<'a, 't>, AllocError>
+    ensures { IfOk result (λ group. spec.group_of group ≡ record { first = Some row.entry.now; rows = row.entry.now ∷ [] }) }
+{
+    let mut rows = Vec::new(alloc);
+    rows.push(RowRef { row })?;
+    Ok(Group {
+        first: Some(row),
+        rows,
+    })
+}
+
 /// Adds a row to the group with this number; it founds one where there is none.
 fn add_row<'a, 't>(
     alloc: Global,
@@ -106,13 +122,23 @@ fn add_row<'a, 't>(
         groups[number].rows.push(RowRef { row })?;
         return Ok(());
     }
-    let mut rows = Vec::new(alloc);
-    rows.push(RowRef { row })?;
-    groups.push(Group {
-        first: Some(row),
-        rows,
-    })?;
+    groups.push(founded(alloc, row)?)?;
     Ok(())
+}
+
+/// Adds a row to the group of its values at the places; each group has a key, by its number.
+fn place_row<'a, 't>(
+    alloc: Global,
+    keys: &mut IndexSet<RowKey<'a, 't>>,
+    groups: &mut Vec<Group<'a, 't>>,
+    row: &'a RowData<'t>,
+    places: &'a [usize],
+) -> Result<(), AllocError>
+    ensures keys { OnOk result (keys.new.keys ≡ insert_key key_eq keys.old.keys (values_at places.entry.now (values_of row.entry.now))) }
+    ensures groups { OnOk result (map spec.group_of groups.new.items ≡ spec.added_at (position_or_len (key_eq (values_at places.entry.now (values_of row.entry.now))) keys.old.keys) row.entry.now (map spec.group_of groups.old.items)) }
+{
+    let (number, _) = keys.insert_full(RowKey { row, places })?;
+    add_row(alloc, groups, number, row)
 }
 
 /// The rows that are the same at the places, in the order in which they were first seen.
@@ -126,8 +152,7 @@ pub fn groups_of<'a, 't>(
     let mut keys = IndexSet::new(alloc);
     let mut groups = Vec::new(alloc);
     for row in rows {
-        let (number, _) = keys.insert_full(RowKey { row, places })?;
-        add_row(alloc, &mut groups, number, row)?;
+        place_row(alloc, &mut keys, &mut groups, row, places)?;
     }
     Ok(groups)
 }

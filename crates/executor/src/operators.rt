@@ -1,6 +1,6 @@
 //! Scans, filters and cuts.
 
-ghost use Rattle.std.specs.Prelude.{◌≡◌, [], filter, map, slice_get, slice_index_or, IfOk};
+ghost use Rattle.std.specs.Prelude.{◌≡◌, [], map, slice_get, slice_index_or, IfOk};
 ghost use Rattle.schema.specs.declared.schema.Schema.{Schema};
 ghost use Rattle.query.specs.Rows.{tables_of};
 ghost use Rattle.logical.specs.Bags as bags;
@@ -52,41 +52,30 @@ pub fn scanned<'t>(
     })
 }
 
-fn passing<'t>(
-    alloc: Global,
-    conditions: &[Condition],
-    subqueries: Subqueries<'_, '_>,
-    heading: &Heading,
-    rows: Vec<RowData<'t>>,
-    env: &Env<'_, '_>,
-) -> Result<Vec<RowData<'t>>, AllocError>
-    ensures { IfOk result (λ kept. kept.items ≡ filter (λ row. spec.holds (subqueries_given subqueries.entry) conditions.now (row_env heading.now row (env_of env.now))) rows.entry.items) }
-{
-    let mut kept = Vec::new(alloc);
-    for row in rows {
-        if holds(conditions, subqueries, &Env::Inner(&*heading, &row, &*env)) {
-            kept.push(row)?;
-        }
-    }
-    Ok(kept)
-}
-
 /// The rows at which all conditions are true.
 pub fn filtered<'t>(
-    alloc: Global,
     conditions: &[Condition],
     subqueries: Subqueries<'_, '_>,
     input: Relation<'t>,
     env: &Env<'_, '_>,
-) -> Result<Relation<'t>, AllocError>
-    ensures { IfOk result (IsPlayed input.entry.heading.columns (bags.select (spec.holds (subqueries_given subqueries.entry) conditions.now) (rows_of input.entry) (env_of env.now)) (env_of env.now)) }
+) -> Relation<'t>
+    ensures { IsPlayed input.entry.heading.columns (bags.select (spec.holds (subqueries_given subqueries.entry) conditions.now) (rows_of input.entry) (env_of env.now)) (env_of env.now) result }
 {
-    let Relation { heading, rows } = input;
-    let kept = passing(alloc, conditions, subqueries, &heading, rows, env)?;
-    Ok(Relation {
-        heading,
-        rows: kept,
-    })
+    let Relation { heading, mut rows } = input;
+    rows.retain(|row| row_holds(conditions, subqueries, &heading, row, env));
+    Relation { heading, rows }
+}
+
+fn row_holds(
+    conditions: &[Condition],
+    subqueries: Subqueries<'_, '_>,
+    heading: &Heading,
+    row: &RowData<'_>,
+    env: &Env<'_, '_>,
+) -> bool
+    ensures { result ≡ spec.holds (subqueries_given subqueries.entry) conditions.now (row_env heading.now row.now (env_of env.now)) }
+{
+    holds(conditions, subqueries, &Env::Inner(&*heading, &*row, &*env))
 }
 
 /// The rows cut to the columns.
@@ -121,12 +110,23 @@ fn copied<'t>(
 ) -> Result<Relation<'t>, AllocError>
     ensures { IfOk result (IsPlayed columns.now (bags.keep (has columns.now) (rows_of input.now) (env_of env.now)) (env_of env.now)) }
 {
+    let rows = copies(alloc, columns.as_slice(), input, env)?;
+    let columns = columns.copy(alloc)?;
+    Relation::new(alloc, columns, rows)
+}
+
+/// The rows with the columns as they are in the environment of each.
+fn copies<'t>(
+    alloc: Global,
+    columns: &[usize],
+    input: &Relation<'t>,
+    env: &Env<'_, 't>,
+) -> Result<Vec<RowData<'t>>, AllocError>
+    ensures { IfOk result (λ rows. map values_of rows.items ≡ map (λ f. map f columns.now) (rows_of input.now (env_of env.now))) }
+{
     let mut rows = Vec::with_capacity(alloc, input.rows.len())?;
     for row in input.rows.as_slice() {
-        rows.push(Env::Inner(&input.heading, &*row, &*env).row(alloc, columns.as_slice())?)?;
+        rows.push(Env::Inner(&input.heading, &*row, &*env).row(alloc, columns)?)?;
     }
-    Ok(Relation {
-        heading: Heading::new(alloc, columns.copy(alloc)?)?,
-        rows,
-    })
+    Ok(rows)
 }

@@ -1,8 +1,9 @@
 //! Relations: rows under a heading.
 
-ghost use Rattle.std.specs.Prelude.{◌≡◌, [], IfOk};
-ghost use Rattle.logical.specs.Bags.{Env};
-ghost use Rattle.executor.specs.Relations.{IsPlayed};
+ghost use Rattle.std.specs.Prelude.{◌≡◌, List, [], map, IfOk};
+ghost use Rattle.logical.specs.Bags.{Env, lay};
+ghost use Rattle.logical.specs.Columns.{has};
+ghost use Rattle.executor.specs.Relations.{IsPlayed, values_of};
 
 use crate::headings::Heading;
 use crate::rows::RowData;
@@ -17,6 +18,18 @@ pub struct Relation<'t> {
 }
 
 impl<'t> Relation<'t> {
+    /// Rows that were made with the columns.
+    pub fn new(
+        alloc: Global,
+        columns: Columns,
+        rows: Vec<RowData<'t>>,
+    ) -> Result<Relation<'t>, AllocError>
+        ensures { (made : List Env) (e : Env) → map values_of rows.entry.items ≡ map (λ f. map f columns) made → IfOk result (IsPlayed columns (map (λ f. lay (has columns) f e) made) e) }
+    {
+        let heading = Heading::new(alloc, columns)?;
+        Ok(Relation { heading, rows })
+    }
+
     /// No rows and no columns.
     pub fn none(alloc: Global) -> Result<Relation<'t>, AllocError>
         ensures { (e : Env) → IfOk result (IsPlayed [] [] e) }

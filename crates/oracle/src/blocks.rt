@@ -93,6 +93,14 @@ fn group_keys(alloc: Global, keys: &[usize], source: &[Row]) -> Result<Vec<Row>,
     distinct(alloc, row_keys(alloc, keys, source)?)
 }
 
+/// Whether a row has this key.
+fn has_key(alloc: Global, keys: &[usize], row: &[Value], key: &[Value]) -> Result<bool, AllocError>
+    ensures { IfOk result (λ b. b ≡ rows.same_rows key.now (databases.values_at keys.now row.now)) }
+{
+    let own = values_at(alloc, keys, row)?;
+    Ok(same_rows(key, own.as_slice()))
+}
+
 /// The rows with this key.
 fn members<'s>(
     alloc: Global,
@@ -104,8 +112,7 @@ fn members<'s>(
 {
     let mut found = Vec::new(alloc);
     for row in source {
-        let own = values_at(alloc, keys, row.as_slice())?;
-        if same_rows(key, own.as_slice()) {
+        if has_key(alloc, keys, row.as_slice(), key)? {
             found.push(row)?;
         }
     }

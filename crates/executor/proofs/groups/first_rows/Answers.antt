@@ -1,5 +1,4 @@
-use Rattle.std.proofs.Common.{ap, ◌∙◌, map, arith}
-use Rattle.std.proofs.lemmas.List.{take_all}
+use Rattle.std.proofs.Common.{◌≡◌, ap, subst, ◌∙◌, List, map, IfOk}
 use Rattle.schema.specs.Databases.{Row, values_at}
 use Rattle.store.specs.Keys.{key_eq, key_equiv}
 use Rattle.executor.specs.declared.rows.RowData.{RowData}
@@ -11,7 +10,7 @@ use Rattle.executor.proofs.groups.first_rows.Goals as goal
 pub returns : goal.returns
 returns c =
     let key : RowData → Row = λ r. values_at c.args.places.now (values_of r) in
-    c.loop-group.invariant
-    ∙ ap (λ gs. map values_of (firsts_of (map group_of gs))) (take_all c.loop-group.group-index c.as_slice-group-items.result.now (omega arith) ∙ c.as_slice-group-items.ensures.value)
+    let is = ap (λ gs. map values_of (firsts_of (map group_of gs))) c.as_slice.ensures.value
     ∙ ap (λ gs. map values_of (firsts_of gs)) c.in_ok-groups.ensures
-    ∙ ap (map values_of) (firsts-groups key key_eq key_equiv c.args.rows.now (first_seen (same_at c.args.places.now) c.args.rows.now))
+    ∙ ap (map values_of) (firsts-groups key key_eq key_equiv c.args.rows.now (first_seen (same_at c.args.places.now) c.args.rows.now)) in
+    subst (λ (z : List Row). IfOk c.firsts.result (λ kept. map values_of kept.items ≡ z)) is c.firsts.ensures

@@ -1,4 +1,4 @@
-use Rattle.std.proofs.Common.{◌≡◌, ap, sym, ◌∙◌, arith, rules, ◌∷◌, [], List, map, Some, option_map}
+use Rattle.std.proofs.Common.{ap, sym, ◌∙◌, arith, ◌∷◌, [], List, map, option_map}
 use Rattle.logical.proofs.Loops.{map-append}
 use Rattle.executor.specs.declared.keys.RowRef.{RowRef}
 use Rattle.executor.specs.declared.rows.RowData.{RowData}
@@ -15,7 +15,5 @@ returns-then-number-len c =
 
 pub returns : goal.returns
 returns c =
-    let rows : c.push-2.new.self.items ≡ record { row = c.args.row } ∷ [] = search rules in
-    ap (map group_of) c.in_ok-push-3.ensures.items
-    ∙ added-past c.args.groups.now.items c.args.number c.args.row.now (record { first = Some c.args.row; rows = c.push-2.new.self }) (omega (arith, c.if-number-len.false, c.len.ensures))
-    (ap (λ (l : List RowRef). record { first = Some c.args.row.now; rows = map (λ r. r.row.now) l }) rows)
+    ap (map group_of) c.in_ok-push-2.ensures.items
+    ∙ added-past c.args.groups.now.items c.args.number c.args.row.now c.in_ok-founded.field-0 (omega (arith, c.if-number-len.false, c.len.ensures)) c.in_ok-founded.ensures

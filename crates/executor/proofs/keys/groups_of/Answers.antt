@@ -19,9 +19,9 @@ loop-row-preserved c =
     let next = take-more c.args.rows.now c.loop-row.row-index x (omega arith) c.row-item.is in
     let number = ap (position_or_len (key_eq (key x))) c.loop-row.invariant.keys in
     record {
-      keys = c.in_ok-number.ensures.keys ∙ ap (λ ks. insert_key key_eq ks (key x)) c.loop-row.invariant.keys ∙ keys-more key key_eq key_equiv done x ∙ ap (λ l. map key (first_seen alike l)) (sym next);
-      groups = c.in_ok-add_row.ensures
-          ∙ ap (λ n. added_at n x (map group_of c.loop-row.groups.items)) (c.in_ok-number.ensures.index ∙ number)
+      keys = c.in_ok-place_row.ensures.keys ∙ ap (λ ks. insert_key key_eq ks (key x)) c.loop-row.invariant.keys ∙ keys-more key key_eq key_equiv done x ∙ ap (λ l. map key (first_seen alike l)) (sym next);
+      groups = c.in_ok-place_row.ensures.groups
+          ∙ ap (λ n. added_at n x (map group_of c.loop-row.groups.items)) number
           ∙ ap (added_at (position_or_len (key_eq (key x)) (map key (first_seen alike done))) x) c.loop-row.invariant.groups
           ∙ put-at key key_eq key_equiv done x (first_seen alike done)
           ∙ sym (groups-more key key_eq key_equiv done x) ∙ ap (groups_by alike) (sym next);

@@ -1,15 +1,17 @@
-use Rattle.std.proofs.Common.{refl, ap, sym, ◌∙◌, map}
+use Rattle.std.proofs.Common.{refl, ap, sym, ◌∙◌, map, rules, Bool}
 use Rattle.logical.specs.Bags.{Env}
 use Rattle.logical.specs.Conditions.{holds}
 use Rattle.executor.specs.declared.rows.RowData.{RowData}
 use Rattle.executor.specs.Relations.{env_of, row_env, subqueries_given}
-use Rattle.executor.proofs.RelationRows.{filter-map}
+use Rattle.executor.proofs.RelationRows.{kept-by, filter-map}
 use Rattle.executor.proofs.operators.filtered.Goals as goal
 
 pub returns : goal.returns
 returns c =
     let row : RowData → Env = λ r. row_env c.args.input.heading r (env_of c.args.env.now) in
+    let test : RowData → Bool = λ r. holds (subqueries_given c.args.subqueries) c.args.conditions.now (row r) in
+    let kept = kept-by test c.args.input.rows.items c.retain.new.self.items c.retain.ensures.filtered (λ a b f' k. search rules) in
     record {
       columns_are = refl;
-      rows_are = ap (map row) c.in_ok-kept.ensures ∙ sym (filter-map (holds (subqueries_given c.args.subqueries) c.args.conditions.now) row c.args.input.rows.items);
+      rows_are = ap (map row) kept ∙ sym (filter-map (holds (subqueries_given c.args.subqueries) c.args.conditions.now) row c.args.input.rows.items);
     }

@@ -1,4 +1,5 @@
 use Rattle.std.proofs.Common.{◌≡◌, ◌∙◌, ap, sym, subst, List, [], ◌∷◌, ◌++◌, map, filter, take, arith}
+use Rattle.std.proofs.lemmas.List.{take_all}
 use Rattle.schema.specs.Databases.{Row, values_at}
 use Rattle.query.specs.Rows.{same_rows}
 use Rattle.query.specs.Aggregates.{Group, group_of}
@@ -29,3 +30,11 @@ pub items_of_group-requires : goal.items_of_group-requires
 items_of_group-requires c =
     let is = ap rows_at c.as_slice-in-loop-key-2.ensures.value ∙ c.in_ok-members.ensures in
     subst AreShort (sym is) (short-filter (λ r. same_rows c.as_slice.result.now (values_at c.args.keys.now r)) c.args.source.now c.requires)
+
+pub returns : goal.returns
+returns c =
+    let group : Row → Group = group_of c.args.keys.now c.args.source.now in
+    let shown : Group → Row = λ g. map (item_of_group c.args.keys.now (env_of c.args.env.now) g) c.args.items.now in
+    c.loop-key.invariant
+    ∙ ap (λ (keys : List Row). map shown (map group keys)) (take_all c.loop-key.key-index c.as_slice-key-items.result.now (omega arith) ∙ c.as_slice-key-items.ensures.value)
+    ∙ ap (map shown) c.in_ok-group_keys.ensures
