@@ -1,7 +1,7 @@
 //! From tokens to conditions and SELECTs, which hold one another between parentheses.
 
-ghost use Rattle.std.specs.Prelude.{◌≡◌, ◌∷◌, [], IfOk};
-ghost use Rattle.grammar.specs.Grammars.{after, many, map, nested};
+ghost use Rattle.std.specs.Prelude.{◌≡◌};
+ghost use Rattle.grammar.specs.Grammars.{many, map, nested};
 ghost use Rattle.grammar.specs.Readers.{sees as sees_next, first, with_front};
 ghost use Rattle.values.specs.Faults.{Gives};
 ghost use Rattle.sql_parse.specs.Sql as grammar;
@@ -14,7 +14,7 @@ use crate::fault::ParseReason;
 use crate::reading::{Parsed, accept, expect, fault, followed, operator, sees, table, term};
 use crate::statement::{Chain, Condition, Join, JoinKind, Select, Term};
 use crate::token::{Keyword, Symbol, Token};
-use std::alloc::{AllocError, Global};
+use std::alloc::Global;
 use values::{Boxed, Items};
 
 /// `( condition )`
@@ -34,8 +34,7 @@ fn nested_condition(
         return Err(fault(ParseReason::TooDeep, tokens, end));
     }
     let (found, rest) = condition(alloc, clause, rest, end, depth - 1)?;
-    let ((found, _), rest) = followed(found, rest, end, Class::Symbol(Symbol::CloseParenthesis))?;
-    Ok((found, rest))
+    followed(found, rest, end, Class::Symbol(Symbol::CloseParenthesis))
 }
 
 /// `( select )`
@@ -54,8 +53,8 @@ fn nested_select(
         return Err(fault(ParseReason::TooDeep, tokens, end));
     }
     let (found, rest) = select(alloc, rest, end, depth - 1)?;
-    let ((found, _), rest) = followed(found, rest, end, Class::Symbol(Symbol::CloseParenthesis))?;
-    Ok((Boxed::new(alloc, found)?, rest))
+    let found = Boxed::new(alloc, found)?;
+    followed(found, rest, end, Class::Symbol(Symbol::CloseParenthesis))
 }
 
 /// `operator term`
@@ -85,14 +84,13 @@ fn null_test(
 ) -> Parsed<'_, Condition>
     ensures { Gives (λ x. (x.0, x.1.now)) result (reads end depth (map (λ test. test left) grammar.a_null_test) tokens.now) }
 {
-    let ((left, _), rest) = followed(left, tokens, end, Class::Keyword(Keyword::Is))?;
+    let test = Condition::IsNull(left);
+    let (test, rest) = followed(test, tokens, end, Class::Keyword(Keyword::Is))?;
     if let Some((_, rest)) = accept(rest, end, Class::Keyword(Keyword::Not)) {
-        let ((left, _), rest) = followed(left, rest, end, Class::Keyword(Keyword::Null))?;
-        let test = Boxed::new(alloc, Condition::IsNull(left))?;
-        Ok((Condition::Not(test), rest))
+        let test = Condition::Not(Boxed::new(alloc, test)?);
+        followed(test, rest, end, Class::Keyword(Keyword::Null))
     } else {
-        let ((left, _), rest) = followed(left, rest, end, Class::Keyword(Keyword::Null))?;
-        Ok((Condition::IsNull(left), rest))
+        followed(test, rest, end, Class::Keyword(Keyword::Null))
     }
 }
 
@@ -108,7 +106,7 @@ fn membership(
 ) -> Parsed<'_, Condition>
     ensures { Gives (λ x. (x.0, x.1.now)) result (reads end depth (map (λ test. test left) grammar.a_membership) tokens.now) }
 {
-    let ((left, token), rest) = followed(left, tokens, end, Class::Keyword(Keyword::In))?;
+    let (token, rest) = expect(tokens, end, Class::Keyword(Keyword::In))?;
     let (query, rest) = nested_select(alloc, rest, end, depth)?;
     Ok((Condition::In(left, token.at, query), rest))
 }
@@ -125,11 +123,9 @@ fn missing(
 ) -> Parsed<'_, Condition>
     ensures { Gives (λ x. (x.0, x.1.now)) result (reads end depth (map (λ test. test left) grammar.a_missing) tokens.now) }
 {
-    let ((left, _), rest) = followed(left, tokens, end, Class::Keyword(Keyword::Not))?;
-    let ((left, token), rest) = followed(left, rest, end, Class::Keyword(Keyword::In))?;
-    let (query, rest) = nested_select(alloc, rest, end, depth)?;
-    let test = Boxed::new(alloc, Condition::In(left, token.at, query))?;
-    Ok((Condition::Not(test), rest))
+    let (left, rest) = followed(left, tokens, end, Class::Keyword(Keyword::Not))?;
+    let (test, rest) = membership(alloc, left, rest, end, depth)?;
+    Ok((Condition::Not(Boxed::new(alloc, test)?), rest))
 }
 
 /// What stands behind a term in a WHERE.
@@ -250,55 +246,31 @@ fn negation(
     }
 }
 
-/// `{AND negation}`
-#[cycle(conditions)]
-fn more_negations(
-    alloc: Global,
-    clause: Clause,
-    first: Items<Condition>,
-    tokens: &[Token],
-    end: usize,
-    depth: usize,
-) -> Parsed<'_, Items<Condition>>
-    ensures { Gives (λ x. (x.0, x.1.now)) result (with_front first (reads end depth (many (after (grammar.keyword Keyword.And) (grammar.a_negation clause))) tokens.now)) }
-{
-    let mut all = first;
-    let mut rest = tokens;
-    'negations: while let Some((_, next)) = accept(rest, end, Class::Keyword(Keyword::And)) {
-        let (found, behind) = negation(alloc, clause, next, end, depth)?;
-        all.push(found)?;
-        rest = behind;
-    }
-    Ok((all, rest))
-}
-
 /// The one condition, or all of them.
-fn all_of(items: Items<Condition>) -> Result<Condition, AllocError>
-    ensures { IfOk result (λ found. found ≡ grammar.all_of items) }
+fn all_of(mut items: Items<Condition>) -> Condition
+    ensures { result ≡ grammar.all_of items }
 {
-    let mut items = items;
     if items.len() == 1 {
         match items.pop() {
-            Some(only) => Ok(only),
-            None => Ok(Condition::And(items)),
+            Some(only) => only,
+            None => Condition::And(items),
         }
     } else {
-        Ok(Condition::And(items))
+        Condition::And(items)
     }
 }
 
 /// The one condition, or any of them.
-fn any_of(items: Items<Condition>) -> Result<Condition, AllocError>
-    ensures { IfOk result (λ found. found ≡ grammar.any_of items) }
+fn any_of(mut items: Items<Condition>) -> Condition
+    ensures { result ≡ grammar.any_of items }
 {
-    let mut items = items;
     if items.len() == 1 {
         match items.pop() {
-            Some(only) => Ok(only),
-            None => Ok(Condition::Or(items)),
+            Some(only) => only,
+            None => Condition::Or(items),
         }
     } else {
-        Ok(Condition::Or(items))
+        Condition::Or(items)
     }
 }
 
@@ -314,33 +286,16 @@ fn conjunction(
 ) -> Parsed<'_, Condition>
     ensures { Gives (λ x. (x.0, x.1.now)) result (reads end depth (grammar.a_conjunction clause) tokens.now) }
 {
-    let (found, rest) = negation(alloc, clause, tokens, end, depth)?;
-    let mut first = Items::new(alloc);
-    first.push(found)?;
-    let (items, rest) = more_negations(alloc, clause, first, rest, end, depth)?;
-    Ok((all_of(items)?, rest))
-}
-
-/// `{OR conjunction}`
-#[cycle(conditions)]
-fn more_conjunctions(
-    alloc: Global,
-    clause: Clause,
-    first: Items<Condition>,
-    tokens: &[Token],
-    end: usize,
-    depth: usize,
-) -> Parsed<'_, Items<Condition>>
-    ensures { Gives (λ x. (x.0, x.1.now)) result (with_front first (reads end depth (many (after (grammar.keyword Keyword.Or) (grammar.a_conjunction clause))) tokens.now)) }
-{
-    let mut all = first;
+    let mut all = Items::new(alloc);
     let mut rest = tokens;
-    'conjunctions: while let Some((_, next)) = accept(rest, end, Class::Keyword(Keyword::Or)) {
-        let (found, behind) = conjunction(alloc, clause, next, end, depth)?;
+    'negations: loop {
+        let (found, behind) = negation(alloc, clause, rest, end, depth)?;
         all.push(found)?;
-        rest = behind;
+        match accept(behind, end, Class::Keyword(Keyword::And)) {
+            Some((_, next)) => rest = next,
+            None => return Ok((all_of(all), behind)),
+        }
     }
-    Ok((all, rest))
 }
 
 /// `conjunction {OR conjunction}`
@@ -355,11 +310,16 @@ fn condition(
 ) -> Parsed<'_, Condition>
     ensures { Gives (λ x. (x.0, x.1.now)) result (reads end depth (grammar.a_condition clause) tokens.now) }
 {
-    let (found, rest) = conjunction(alloc, clause, tokens, end, depth)?;
-    let mut first = Items::new(alloc);
-    first.push(found)?;
-    let (items, rest) = more_conjunctions(alloc, clause, first, rest, end, depth)?;
-    Ok((any_of(items)?, rest))
+    let mut all = Items::new(alloc);
+    let mut rest = tokens;
+    'conjunctions: loop {
+        let (found, behind) = conjunction(alloc, clause, rest, end, depth)?;
+        all.push(found)?;
+        match accept(behind, end, Class::Keyword(Keyword::Or)) {
+            Some((_, next)) => rest = next,
+            None => return Ok((any_of(all), behind)),
+        }
+    }
 }
 
 /// `[WHERE condition]`
@@ -420,7 +380,7 @@ fn join(alloc: Global, tokens: &[Token], end: usize, depth: usize) -> Parsed<'_,
 {
     let (kind, rest) = join_kind(tokens, end, depth)?;
     let (table, rest) = table(alloc, rest, end, depth)?;
-    let ((table, _), rest) = followed(table, rest, end, Class::Keyword(Keyword::On))?;
+    let (table, rest) = followed(table, rest, end, Class::Keyword(Keyword::On))?;
     let (condition, rest) = condition(alloc, Clause::On, rest, end, depth)?;
     let join = Join {
         kind,
@@ -462,38 +422,22 @@ fn chain(alloc: Global, tokens: &[Token], end: usize, depth: usize) -> Parsed<'_
     Ok((Chain { table, joins }, rest))
 }
 
-/// `{, chain}`
-#[cycle(conditions)]
-fn more_chains(
-    alloc: Global,
-    first: Items<Chain>,
-    tokens: &[Token],
-    end: usize,
-    depth: usize,
-) -> Parsed<'_, Items<Chain>>
-    ensures { Gives (λ x. (x.0, x.1.now)) result (with_front first (reads end depth (many (after (grammar.symbol Symbol.Comma) grammar.a_chain)) tokens.now)) }
-{
-    let mut all = first;
-    let mut rest = tokens;
-    'chains: while let Some((_, next)) = accept(rest, end, Class::Symbol(Symbol::Comma)) {
-        let (found, behind) = chain(alloc, next, end, depth)?;
-        all.push(found)?;
-        rest = behind;
-    }
-    Ok((all, rest))
-}
-
 /// `FROM chain {, chain}`
 #[cycle(conditions)]
 #[tactic(auto, unfolding(crate::specs::Sql::a_from))]
 fn from(alloc: Global, tokens: &[Token], end: usize, depth: usize) -> Parsed<'_, Items<Chain>>
     ensures { Gives (λ x. (x.0, x.1.now)) result (reads end depth grammar.a_from tokens.now) }
 {
-    let (_, rest) = expect(tokens, end, Class::Keyword(Keyword::From))?;
-    let (found, rest) = chain(alloc, rest, end, depth)?;
-    let mut first = Items::new(alloc);
-    first.push(found)?;
-    more_chains(alloc, first, rest, end, depth)
+    let (_, mut rest) = expect(tokens, end, Class::Keyword(Keyword::From))?;
+    let mut all = Items::new(alloc);
+    'chains: loop {
+        let (found, behind) = chain(alloc, rest, end, depth)?;
+        all.push(found)?;
+        match accept(behind, end, Class::Symbol(Symbol::Comma)) {
+            Some((_, next)) => rest = next,
+            None => return Ok((all, behind)),
+        }
+    }
 }
 
 /// `SELECT .. FROM .. [WHERE ..] [GROUP BY ..]`
