@@ -1,5 +1,5 @@
 -- The lists of the grammar, item by item, and parentheses that are opened.
-use Rattle.std.proofs.Common.{◌≡◌, ℕ, suc, ◌-◌, ◌<◌, ◌==◌, Bool, true, false, List, [], ◌∷◌, ◌++◌, length, Result, Ok, Err, refl, sym, ap, ◌∙◌, append_assoc, arith, if◌then◌else◌}
+use Rattle.std.proofs.Common.{◌≡◌, ℕ, ◌-◌, ◌<◌, ◌==◌, Bool, true, false, List, [], ◌∷◌, ◌++◌, length, Result, Ok, Err, refl, sym, ap, ◌∙◌, append_assoc, arith, if◌then◌else◌}
 use Rattle.grammar.specs.Grammars.{tok, many, after, closed, separated}
 use Rattle.grammar.specs.Readers.{◌>>=◌, null, decides, paired, one, sees, first, parse, inside, with_front}
 use Rattle.grammar.proofs.Turns.{inside_opened, takes, turn_ok as turn_ok_of, turn_err as turn_err_of, less as less_of}
@@ -14,7 +14,7 @@ use Rattle.sql_parse.specs.declared.token.Symbol.TheVariants as s
 use Rattle.sql_parse.specs.declared.token.Token.{Token}
 use Rattle.sql_parse.specs.declared.token.TokenKind.TheVariants as token
 use Rattle.sql_parse.specs.Classes.{kind_number}
-use Rattle.sql_parse.specs.Sql.{Place, Sql, sample, symbol, keyword, a_name, a_literal, an_operator, a_column, an_alias, a_table, a_term, a_comparison, a_null_test, a_membership, a_missing, a_test, a_tested, an_existence, a_primary, a_negation, a_conjunction, a_condition, a_join_kind, a_join, a_chain, an_aggregate, an_item_value, an_item, a_direction, a_key, sql}
+use Rattle.sql_parse.specs.Sql.{Place, Sql, sample, a_name, a_literal, an_operator, a_column, an_alias, a_table, a_term, a_comparison, a_null_test, a_membership, a_missing, a_test, a_tested, an_existence, a_primary, a_negation, a_conjunction, a_condition, a_join_kind, a_join, a_chain, an_aggregate, an_item_value, an_item, a_direction, a_key, sql}
 use Rattle.sql_parse.specs.StatementReading.{told, reads}
 use Rattle.sql_parse.proofs.SqlDecided.{is_decided}
 

@@ -1,8 +1,8 @@
 //! From tokens to conditions and SELECTs, which hold one another between parentheses.
 
 ghost use Rattle.std.specs.Prelude.{◌≡◌};
-ghost use Rattle.grammar.specs.Grammars.{many, map, nested};
-ghost use Rattle.grammar.specs.Readers.{sees as sees_next, first, with_front};
+ghost use Rattle.grammar.specs.Grammars.{map, nested};
+ghost use Rattle.grammar.specs.Readers.{sees as sees_next, first};
 ghost use Rattle.values.specs.Faults.{Gives};
 ghost use Rattle.sql_parse.specs.Sql as grammar;
 ghost use Rattle.sql_parse.specs.Sql.{sql, of_condition, of_select};
@@ -11,8 +11,8 @@ ghost use Rattle.sql_parse.specs.StatementReading.{reads};
 use crate::class::{Class, Clause};
 use crate::clauses::{group, head, list};
 use crate::fault::ParseReason;
-use crate::reading::{Parsed, accept, expect, fault, followed, operator, sees, table, term};
-use crate::statement::{Chain, Condition, Join, JoinKind, Select, Term};
+use crate::reading::{Parsed, accept, expect, fault, followed, operator_of, sees, table, term};
+use crate::statement::{Chain, Condition, Join, JoinKind, Operator, Select, Term};
 use crate::token::{Keyword, Symbol, Token};
 use std::alloc::Global;
 use values::{Boxed, Items};
@@ -57,19 +57,18 @@ fn nested_select(
     followed(found, rest, end, Class::Symbol(Symbol::CloseParenthesis))
 }
 
-/// `operator term`
-#[tactic(auto, unfolding(crate::specs::Sql::a_comparison))]
+/// A comparison, from behind its operator.
 fn comparison(
     alloc: Global,
     left: Term,
+    by: Operator,
     tokens: &[Token],
     end: usize,
     depth: usize,
 ) -> Parsed<'_, Condition>
-    ensures { Gives (λ x. (x.0, x.1.now)) result (reads end depth (map (λ test. test left) grammar.a_comparison) tokens.now) }
+    ensures { Gives (λ x. (x.0, x.1.now)) result (reads end depth (map (λ right. Condition.Compare left by right) grammar.a_term) tokens.now) }
 {
-    let (by, rest) = operator(tokens, end, depth)?;
-    let (right, rest) = term(alloc, rest, end, depth)?;
+    let (right, rest) = term(alloc, tokens, end, depth)?;
     Ok((Condition::Compare(left, by, right), rest))
 }
 
@@ -140,8 +139,8 @@ fn filter_test(
 ) -> Parsed<'_, Condition>
     ensures { Gives (λ x. (x.0, x.1.now)) result (reads end depth (map (λ test. test left) (grammar.a_test Clause.Where)) tokens.now) }
 {
-    if sees(tokens, Class::Comparison) {
-        comparison(alloc, left, tokens, end, depth)
+    if let Some((token, rest)) = accept(tokens, end, Class::Comparison) {
+        comparison(alloc, left, operator_of(token), rest, end, depth)
     } else if sees(tokens, Class::Keyword(Keyword::Is)) {
         null_test(alloc, left, tokens, end, depth)
     } else if sees(tokens, Class::Keyword(Keyword::Not)) {
@@ -162,8 +161,8 @@ fn join_test(
 ) -> Parsed<'_, Condition>
     ensures { Gives (λ x. (x.0, x.1.now)) result (reads end depth (map (λ test. test left) (grammar.a_test Clause.On)) tokens.now) }
 {
-    if sees(tokens, Class::Comparison) {
-        comparison(alloc, left, tokens, end, depth)
+    if let Some((token, rest)) = accept(tokens, end, Class::Comparison) {
+        comparison(alloc, left, operator_of(token), rest, end, depth)
     } else {
         null_test(alloc, left, tokens, end, depth)
     }
@@ -347,19 +346,24 @@ fn join_kind(tokens: &[Token], end: usize, depth: usize) -> Parsed<'_, JoinKind>
     ensures { Gives (λ x. (x.0, x.1.now)) result (reads end depth grammar.a_join_kind tokens.now) }
 {
     if let Some((_, rest)) = accept(tokens, end, Class::Keyword(Keyword::Join)) {
-        Ok((JoinKind::Inner, rest))
-    } else if let Some((_, rest)) = accept(tokens, end, Class::Keyword(Keyword::Inner)) {
-        let (_, rest) = expect(rest, end, Class::Keyword(Keyword::Join))?;
-        Ok((JoinKind::Inner, rest))
+        return Ok((JoinKind::Inner, rest));
+    }
+    let (kind, rest) = if let Some((_, rest)) = accept(
+        tokens,
+        end,
+        Class::Keyword(Keyword::Inner),
+    ) {
+        (JoinKind::Inner, rest)
     } else {
         let (_, rest) = expect(tokens, end, Class::Keyword(Keyword::Left))?;
         let rest = match accept(rest, end, Class::Keyword(Keyword::Outer)) {
             Some((_, behind)) => behind,
             None => rest,
         };
-        let (_, rest) = expect(rest, end, Class::Keyword(Keyword::Join))?;
-        Ok((JoinKind::Left, rest))
-    }
+        (JoinKind::Left, rest)
+    };
+    let (_, rest) = expect(rest, end, Class::Keyword(Keyword::Join))?;
+    Ok((kind, rest))
 }
 
 /// Whether a join comes next.
@@ -390,35 +394,19 @@ fn join(alloc: Global, tokens: &[Token], end: usize, depth: usize) -> Parsed<'_,
     Ok((join, rest))
 }
 
-/// `{join}`
-#[cycle(conditions)]
-fn more_joins(
-    alloc: Global,
-    first: Items<Join>,
-    tokens: &[Token],
-    end: usize,
-    depth: usize,
-) -> Parsed<'_, Items<Join>>
-    ensures { Gives (λ x. (x.0, x.1.now)) result (with_front first (reads end depth (many grammar.a_join) tokens.now)) }
-{
-    let mut all = first;
-    let mut rest = tokens;
-    'joins: while sees_join(rest) {
-        let (found, behind) = join(alloc, rest, end, depth)?;
-        all.push(found)?;
-        rest = behind;
-    }
-    Ok((all, rest))
-}
-
 /// `table {join}`
 #[cycle(conditions)]
 #[tactic(auto, unfolding(crate::specs::Sql::a_chain))]
 fn chain(alloc: Global, tokens: &[Token], end: usize, depth: usize) -> Parsed<'_, Chain>
     ensures { Gives (λ x. (x.0, x.1.now)) result (reads end depth grammar.a_chain tokens.now) }
 {
-    let (table, rest) = table(alloc, tokens, end, depth)?;
-    let (joins, rest) = more_joins(alloc, Items::new(alloc), rest, end, depth)?;
+    let (table, mut rest) = table(alloc, tokens, end, depth)?;
+    let mut joins = Items::new(alloc);
+    'joins: while sees_join(rest) {
+        let (found, behind) = join(alloc, rest, end, depth)?;
+        joins.push(found)?;
+        rest = behind;
+    }
     Ok((Chain { table, joins }, rest))
 }
 

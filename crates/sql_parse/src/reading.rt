@@ -133,16 +133,14 @@ fn literal(alloc: Global, tokens: &[Token], end: usize, depth: usize) -> Parsed<
     }
 }
 
-#[tactic(auto, unfolding(crate::specs::Sql::an_operator))]
-pub fn operator(tokens: &[Token], end: usize, depth: usize) -> Parsed<'_, Operator>
-    ensures { Gives (λ x. (x.0, x.1.now)) result (reads end depth grammar.an_operator tokens.now) }
+/// The operator that a comparison token is.
+pub fn operator_of(token: &Token) -> Operator
+    ensures { result ≡ record { comparison = grammar.comparison_in token.now.kind; at = token.now.at } }
 {
-    let (token, rest) = expect(tokens, end, Class::Comparison)?;
-    let operator = Operator {
+    Operator {
         comparison: comparison_in(&token.kind),
         at: token.at,
-    };
-    Ok((operator, rest))
+    }
 }
 
 /// `name [. name]`
@@ -172,15 +170,13 @@ pub fn column(alloc: Global, tokens: &[Token], end: usize, depth: usize) -> Pars
 pub fn alias(alloc: Global, tokens: &[Token], end: usize, depth: usize) -> Parsed<'_, Option<Name>>
     ensures { Gives (λ x. (x.0, x.1.now)) result (reads end depth grammar.an_alias tokens.now) }
 {
-    if let Some((_, rest)) = accept(tokens, end, Class::Keyword(Keyword::As)) {
-        let (found, rest) = name(alloc, rest, end, depth)?;
-        Ok((Some(found), rest))
-    } else if sees(tokens, Class::Name) {
-        let (found, rest) = name(alloc, tokens, end, depth)?;
-        Ok((Some(found), rest))
-    } else {
-        Ok((None, tokens))
-    }
+    let rest = match accept(tokens, end, Class::Keyword(Keyword::As)) {
+        Some((_, rest)) => rest,
+        None if sees(tokens, Class::Name) => tokens,
+        None => return Ok((None, tokens)),
+    };
+    let (found, rest) = name(alloc, rest, end, depth)?;
+    Ok((Some(found), rest))
 }
 
 /// `name [[AS] name]`

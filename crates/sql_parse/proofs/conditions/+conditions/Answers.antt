@@ -27,9 +27,9 @@ pub from-chains-preserved : goal.from-chains-preserved
 from-chains-preserved t c = rw c.in_ok-push.ensures.ok (list_on c.args.end c.args.depth (sample (token.Symbol s.Comma)) a_chain chains_list c.chains.all c.chains.rest.now c.in_ok-found.found c.in_ok-found.behind.now c.in-Some.field-0-0.now c.in-Some.next.now _
     c.in_ok-found.ensures c.in-Some.ensures.sees c.in-Some.ensures.next c.chains.invariant)
 
-pub more_joins-joins-smaller : goal.more_joins-joins-smaller
-more_joins-joins-smaller t c = less c.args.end c.args.depth a_join joins_loop c.joins.rest.now c.in_ok-found.found c.in_ok-found.behind.now c.in_ok-found.ensures
+pub chain-joins-smaller : goal.chain-joins-smaller
+chain-joins-smaller t c = less c.args.end c.args.depth a_join joins_loop c.joins.rest.now c.in_ok-found.found c.in_ok-found.behind.now c.in_ok-found.ensures
 
-pub more_joins-joins-preserved : goal.more_joins-joins-preserved
-more_joins-joins-preserved t c = rw c.in_ok-push.ensures.ok (turn_ok c.args.end c.args.depth a_join joins_loop c.joins.all c.joins.rest.now c.in_ok-found.found c.in_ok-found.behind.now _
+pub chain-joins-preserved : goal.chain-joins-preserved
+chain-joins-preserved t c = rw c.in_ok-push.ensures.ok (turn_ok c.args.end c.args.depth a_join joins_loop c.joins.joins c.joins.rest.now c.in_ok-found.found c.in_ok-found.behind.now _
     (sym c.sees_join.ensures ∙ c.joins-test.true) c.in_ok-found.ensures c.joins.invariant)

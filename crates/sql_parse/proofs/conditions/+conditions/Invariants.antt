@@ -47,9 +47,6 @@ decreases-filter l = 32 * l.depth + 13
 abbrev pub decreases-join : goal.decreases-join
 decreases-join l = 32 * l.depth + 13
 
-abbrev pub decreases-more_joins : goal.decreases-more_joins
-decreases-more_joins l = 32 * l.depth + 14
-
 abbrev pub decreases-chain : goal.decreases-chain
 decreases-chain l = 32 * l.depth + 15
 
@@ -83,8 +80,8 @@ invariant-from-chains l =
 abbrev pub decreases-from-chains : goal.decreases-from-chains
 decreases-from-chains l = length l.rest
 
-abbrev pub invariant-more_joins-joins : goal.invariant-more_joins-joins
-invariant-more_joins-joins l = with_front l.all (reads l.fn.end l.fn.depth (many a_join) l.rest) ≡ with_front l.fn.first (reads l.fn.end l.fn.depth (many a_join) l.fn.tokens)
+abbrev pub invariant-chain-joins : goal.invariant-chain-joins
+invariant-chain-joins l = with_front l.joins (reads l.fn.end l.fn.depth (many a_join) l.rest) ≡ with_front [] (reads l.fn.end l.fn.depth (many a_join) l.initial.rest)
 
-abbrev pub decreases-more_joins-joins : goal.decreases-more_joins-joins
-decreases-more_joins-joins l = length l.rest
+abbrev pub decreases-chain-joins : goal.decreases-chain-joins
+decreases-chain-joins l = length l.rest
