@@ -47,12 +47,23 @@ pub struct Placed<'s> {
 }
 
 /// Table occurrences, and what names mean among them.
-#[derive(Drop)]
 struct Index<'s> {
     tables: Vec<LentTable<'s>>,
     by_name: HashMap<&'s str, Placed<'s>>,
     columns: HashMap<&'s str, Meaning>,
     width: usize,
+}
+
+// By hand, so that where an index is dropped is one call.
+impl Drop for Index<'_> {
+    fn drop(self) {
+        let Index {
+            tables: _,
+            by_name: _,
+            columns: _,
+            width: _,
+        } = self;
+    }
 }
 
 /// The table occurrences of a FROM, or of the sides of a join, by name, and their columns by name.
