@@ -1,6 +1,6 @@
 -- How a statement's tokens are read. `end` is where the end of the text stands.
-use Rattle.std.specs.Prelude.{ℕ, List, [], ◌∷◌, Ok}
-use Rattle.grammar.specs.Readers.{◌>>=◌, Reader, Told, one, parse, inside}
+use Rattle.std.specs.Prelude.{ℕ, List, [], ◌∷◌}
+use Rattle.grammar.specs.Readers.{Reader, Told, parse, inside}
 use Rattle.sql_parse.specs.declared.fault.ParseReason.TheVariants.{Unexpected, TooDeep}
 use Rattle.sql_parse.specs.declared.fault.ParseRefusal.{ParseRefusal}
 use Rattle.sql_parse.specs.declared.token.Token.{Token}
@@ -18,7 +18,3 @@ told end = record { unexpected = λ r. refusal Unexpected (place end r); too_dee
 -- the reader of a production, where so many parentheses may still be opened
 abbrev pub reads : ℕ → ℕ → {A : Type 0} → Sql A → Reader Token ParseRefusal A
 reads end depth g = parse sql (told end) (inside sql (told end) depth) g
-
--- what was found, and the tokens behind the next one, which has to be of the class
-abbrev pub followed : ℕ → ℕ → {A : Type 0} → A → Reader Token ParseRefusal A
-followed end class found ts = one sql (told end) class ts >>= λ x. Ok (found, x.1)

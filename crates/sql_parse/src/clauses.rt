@@ -50,7 +50,8 @@ fn count_argument(
         return Err(fault(ParseReason::TooDeep, tokens, end));
     }
     let (found, rest) = counted(alloc, rest, end, depth - 1)?;
-    followed(found, rest, end, Class::Symbol(Symbol::CloseParenthesis))
+    let ((found, _), rest) = followed(found, rest, end, Class::Symbol(Symbol::CloseParenthesis))?;
+    Ok((found, rest))
 }
 
 /// `( column )`
@@ -68,7 +69,8 @@ fn column_argument(
         return Err(fault(ParseReason::TooDeep, tokens, end));
     }
     let (found, rest) = column(alloc, rest, end, depth - 1)?;
-    followed(found, rest, end, Class::Symbol(Symbol::CloseParenthesis))
+    let ((found, _), rest) = followed(found, rest, end, Class::Symbol(Symbol::CloseParenthesis))?;
+    Ok((found, rest))
 }
 
 /// `SUM ( column )` and its like.

@@ -34,7 +34,8 @@ fn nested_condition(
         return Err(fault(ParseReason::TooDeep, tokens, end));
     }
     let (found, rest) = condition(alloc, clause, rest, end, depth - 1)?;
-    followed(found, rest, end, Class::Symbol(Symbol::CloseParenthesis))
+    let ((found, _), rest) = followed(found, rest, end, Class::Symbol(Symbol::CloseParenthesis))?;
+    Ok((found, rest))
 }
 
 /// `( select )`
@@ -53,8 +54,8 @@ fn nested_select(
         return Err(fault(ParseReason::TooDeep, tokens, end));
     }
     let (found, rest) = select(alloc, rest, end, depth - 1)?;
-    let found = Boxed::new(alloc, found)?;
-    followed(found, rest, end, Class::Symbol(Symbol::CloseParenthesis))
+    let ((found, _), rest) = followed(found, rest, end, Class::Symbol(Symbol::CloseParenthesis))?;
+    Ok((Boxed::new(alloc, found)?, rest))
 }
 
 /// A comparison, from behind its operator.
@@ -83,13 +84,14 @@ fn null_test(
 ) -> Parsed<'_, Condition>
     ensures { Gives (λ x. (x.0, x.1.now)) result (reads end depth (map (λ test. test left) grammar.a_null_test) tokens.now) }
 {
-    let test = Condition::IsNull(left);
-    let (test, rest) = followed(test, tokens, end, Class::Keyword(Keyword::Is))?;
+    let ((left, _), rest) = followed(left, tokens, end, Class::Keyword(Keyword::Is))?;
     if let Some((_, rest)) = accept(rest, end, Class::Keyword(Keyword::Not)) {
-        let test = Condition::Not(Boxed::new(alloc, test)?);
-        followed(test, rest, end, Class::Keyword(Keyword::Null))
+        let ((left, _), rest) = followed(left, rest, end, Class::Keyword(Keyword::Null))?;
+        let test = Boxed::new(alloc, Condition::IsNull(left))?;
+        Ok((Condition::Not(test), rest))
     } else {
-        followed(test, rest, end, Class::Keyword(Keyword::Null))
+        let ((left, _), rest) = followed(left, rest, end, Class::Keyword(Keyword::Null))?;
+        Ok((Condition::IsNull(left), rest))
     }
 }
 
@@ -122,7 +124,7 @@ fn missing(
 ) -> Parsed<'_, Condition>
     ensures { Gives (λ x. (x.0, x.1.now)) result (reads end depth (map (λ test. test left) grammar.a_missing) tokens.now) }
 {
-    let (left, rest) = followed(left, tokens, end, Class::Keyword(Keyword::Not))?;
+    let ((left, _), rest) = followed(left, tokens, end, Class::Keyword(Keyword::Not))?;
     let (test, rest) = membership(alloc, left, rest, end, depth)?;
     Ok((Condition::Not(Boxed::new(alloc, test)?), rest))
 }
@@ -384,7 +386,7 @@ fn join(alloc: Global, tokens: &[Token], end: usize, depth: usize) -> Parsed<'_,
 {
     let (kind, rest) = join_kind(tokens, end, depth)?;
     let (table, rest) = table(alloc, rest, end, depth)?;
-    let (table, rest) = followed(table, rest, end, Class::Keyword(Keyword::On))?;
+    let ((table, _), rest) = followed(table, rest, end, Class::Keyword(Keyword::On))?;
     let (condition, rest) = condition(alloc, Clause::On, rest, end, depth)?;
     let join = Join {
         kind,

@@ -63,12 +63,18 @@ pub fn expect(tokens: &[Token], end: usize, class: Class) -> Parsed<'_, &Token>
     }
 }
 
-/// What was read, behind which the next token has to be of the class.
-pub fn followed<T: Drop>(found: T, tokens: &[Token], end: usize, class: Class) -> Parsed<'_, T>
-    ensures { Gives (λ x. (x.0, x.1.now)) result (spec.followed end (class_number class) found tokens.now) }
+/// What was read, and the next token, which has to be of the class.
+pub fn followed<T: Drop>(
+    found: T,
+    tokens: &[Token],
+    end: usize,
+    class: Class,
+) -> Parsed<'_, (T, &Token)>
+    ensures found { IfOk result (λ x. x.0.0 ≡ found) }
+    ensures next { Gives (λ x. (x.0.1.now, x.1.now)) result (one sql (told end) (class_number class) tokens.now) }
 {
-    let (_, rest) = expect(tokens, end, class)?;
-    Ok((found, rest))
+    let (token, rest) = expect(tokens, end, class)?;
+    Ok(((found, token), rest))
 }
 
 /// The name that a name token is.
