@@ -1,6 +1,6 @@
 //! What a name means: the tables of a FROM by name, and the FROMs around a place.
 
-ghost use Rattle.std.specs.Prelude.{◌≡◌, ◌+◌, ◌++◌, ◌∷◌, [], ℕ, List, IfOk, bytes_eq, length, map, option_map};
+ghost use Rattle.std.specs.Prelude.{◌≡◌, ◌+◌, ◌++◌, ◌∷◌, [], ℕ, List, IfOk, OnOk, bytes_eq, length, map, option_map};
 ghost use Rattle.std.specs.HashMap as hash;
 ghost use Rattle.values.specs.Faults.{Gives};
 ghost use Rattle.binder.specs.Lookups as listed;
@@ -46,13 +46,30 @@ pub struct Placed<'s> {
     pub entry: &'s Table,
 }
 
-/// The table occurrences of a FROM, or of the sides of a join, by name, and their columns by name.
-#[derive(Drop)]
-pub struct Scope<'s> {
+/// Table occurrences, and what names mean among them.
+struct Index<'s> {
     tables: Vec<LentTable<'s>>,
     by_name: HashMap<&'s str, Placed<'s>>,
     columns: HashMap<&'s str, Meaning>,
     width: usize,
+}
+
+// By hand, so that where an index is dropped is one call.
+impl Drop for Index<'_> {
+    fn drop(self) {
+        let Index {
+            tables: _,
+            by_name: _,
+            columns: _,
+            width: _,
+        } = self;
+    }
+}
+
+/// The table occurrences of a FROM, or of the sides of a join, by name, and their columns by name.
+#[derive(Drop)]
+pub struct Scope<'s> {
+    index: Index<'s>,
 }
 
 impl<'s> Model for Scope<'s> {
@@ -62,59 +79,50 @@ impl<'s> Model for Scope<'s> {
 
     ghost use Rattle.binder.specs.Lent.{scope_of};
 
-    ghost view = { λ s. scope_of s.tables.items };
+    ghost view = { λ s. scope_of s.index.tables.items };
 
     ghost use Rattle.binder.specs.Lent.{IsIndexed, scope_of};
 
-    ghost invariant = { λ s. IsIndexed (scope_of s.tables.items) s.by_name s.columns s.width };
+    ghost invariant = { λ s. IsIndexed (scope_of s.index.tables.items) s.index.by_name s.index.columns s.index.width };
 }
 
 impl<'s> Scope<'s> {
     pub fn new(alloc: Global) -> Scope<'s>
         ensures { result ≡ [] }
     {
-        Scope {
+        let index = Index {
             tables: Vec::new(alloc),
             by_name: HashMap::new(alloc),
             columns: HashMap::new(alloc),
             width: 0,
-        }
+        };
+        Scope { index }
     }
 
     pub fn tables(&self) -> &[LentTable<'s>]
         ensures { map known_of result.now ≡ self.now }
     {
-        self.tables.as_slice()
+        self.index.tables.as_slice()
     }
 
     pub fn has(&self, name: &str) -> bool
         ensures { result ≡ spec.is_taken name.now self.now }
     {
-        self.by_name.get(name).is_some()
+        self.index.by_name.get(name).is_some()
     }
 
     /// Adds a table occurrence to the right. Of two with one name the first is found.
     pub fn with(self, name: &'s str, entry: &'s Table) -> Result<Scope<'s>, AllocError>
         ensures { IfOk result (λ scope. scope ≡ self.entry ++ record { name = name.now; entry = entry.now } ∷ []) }
     {
-        let Scope {
-            mut tables,
-            mut by_name,
-            columns,
-            width,
-        } = self;
-        tables.push(LentTable { name, entry })?;
-        if by_name.get(name).is_none() {
-            let first_place = width;
-            by_name.insert(name, Placed { first_place, entry })?;
+        let mut index = self.index;
+        index.tables.push(LentTable { name, entry })?;
+        let first_place = index.width;
+        if index.by_name.get(name).is_none() {
+            index.by_name.insert(name, Placed { first_place, entry })?;
         }
-        let (columns, width) = with_columns(columns, width, entry.columns.as_slice())?;
-        Ok(Scope {
-            tables,
-            by_name,
-            columns,
-            width,
-        })
+        index.width = add_columns(&mut index.columns, first_place, entry.columns.as_slice())?;
+        Ok(Scope { index })
     }
 
     /// Adds the tables of a scope to the right.
@@ -131,25 +139,25 @@ impl<'s> Scope<'s> {
     fn plain(&self, name: &str) -> Option<Meaning>
         ensures { result ≡ meaning_of (spec.named_in name.now 0 self.now) }
     {
-        self.columns.get(name).copied()
+        self.index.columns.get(name).copied()
     }
 
     fn table(&self, name: &str) -> Option<Placed<'s>>
         ensures { option_map placed_of result ≡ spec.occurrence_named name.now 0 self.now }
     {
-        self.by_name.get(name).copied()
+        self.index.by_name.get(name).copied()
     }
 }
 
-/// Columns by name, after those of one more table, and the place behind them.
-fn with_columns<'s>(
-    mut by_name: HashMap<&'s str, Meaning>,
+/// Adds the columns of one more table by name, and tells the place behind them.
+fn add_columns<'s>(
+    by_name: &mut HashMap<&'s str, Meaning>,
     first_place: usize,
     columns: &'s [schema::Column],
-) -> Result<(HashMap<&'s str, Meaning>, usize), AllocError>
-    ensures place { IfOk result (λ x. x.1 ≡ first_place + length columns.entry.now) }
-    ensures names { IfOk result (λ x. (q : List ℕ) → hash.get_by (λ k. bytes_eq q k.now) x.0
-        ≡ with_more (hash.get_by (λ k. bytes_eq q k.now) by_name.entry) (spec.columns_named q first_place columns.entry.now)) }
+) -> Result<usize, AllocError>
+    ensures place { IfOk result (λ place. place ≡ first_place + length columns.entry.now) }
+    ensures names { OnOk result ((q : List ℕ) → hash.get_by (λ k. bytes_eq q k.now) by_name.new
+        ≡ with_more (hash.get_by (λ k. bytes_eq q k.now) by_name.old) (spec.columns_named q first_place columns.entry.now)) }
 {
     let mut place = first_place;
     for column in columns {
@@ -161,7 +169,7 @@ fn with_columns<'s>(
         by_name.insert(name, meaning)?;
         place = place.checked_add(1).ok_or(AllocError)?;
     }
-    Ok((by_name, place))
+    Ok(place)
 }
 
 /// The FROMs around a place, the innermost first.

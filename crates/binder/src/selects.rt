@@ -266,8 +266,10 @@ fn sources<'s>(
     let [first, others @ ..] = parts else {
         return Err(refused(BindReason::UnknownTable, 0));
     };
-    let none = Scope::new(alloc);
-    let (mut left, mut scope) = chain(alloc, schema, first, outer, &none, numbered)?;
+    let (mut left, mut scope) = {
+        let none = Scope::new(alloc);
+        chain(alloc, schema, first, outer, &none, numbered)?
+    };
     for part in others {
         let (right, tables) = chain(alloc, schema, part, outer, &scope, numbered)?;
         left = Boxed::new(alloc, From::Comma(left, right))?;
@@ -310,12 +312,13 @@ pub fn select<'s>(
         keys: &keys,
     };
     let outputs = outputs(alloc, &part.list, first_number, grouping, &scope, &scopes)?;
+    let items = items(alloc, outputs.as_slice())?;
     let block = Block {
         from: from.into_inner(),
         filter,
         grouped,
         keys: keys.into_items(),
-        items: items(alloc, outputs.as_slice())?,
+        items,
         distinct: part.distinct,
     };
     Ok(BoundSelect {

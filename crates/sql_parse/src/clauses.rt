@@ -1,8 +1,7 @@
 //! From tokens to what stands behind SELECT, GROUP BY and ORDER BY.
 
 ghost use Rattle.std.specs.Prelude.{◌≡◌};
-ghost use Rattle.grammar.specs.Grammars.{after, many, nested};
-ghost use Rattle.grammar.specs.Readers.{with_front};
+ghost use Rattle.grammar.specs.Grammars.{nested};
 ghost use Rattle.values.specs.Faults.{Gives};
 ghost use Rattle.sql_parse.specs.Sql as grammar;
 ghost use Rattle.sql_parse.specs.Sql.{of_count, of_column};
@@ -161,39 +160,23 @@ fn item(alloc: Global, tokens: &[Token], end: usize, depth: usize) -> Parsed<'_,
     Ok((SelectItem { value, alias }, rest))
 }
 
-/// `{, item}`
-fn more_items(
-    alloc: Global,
-    first: Items<SelectItem>,
-    tokens: &[Token],
-    end: usize,
-    depth: usize,
-) -> Parsed<'_, Items<SelectItem>>
-    ensures { Gives (λ x. (x.0, x.1.now)) result (with_front first (reads end depth (many (after (grammar.symbol Symbol.Comma) grammar.an_item)) tokens.now)) }
-{
-    let mut all = first;
-    let mut rest = tokens;
-    'items: while let Some((_, next)) = accept(rest, end, Class::Symbol(Symbol::Comma)) {
-        let (found, behind) = item(alloc, next, end, depth)?;
-        all.push(found)?;
-        rest = behind;
-    }
-    Ok((all, rest))
-}
-
 /// `* | item {, item}`
 #[tactic(auto, unfolding(crate::specs::Sql::a_list))]
 pub fn list(alloc: Global, tokens: &[Token], end: usize, depth: usize) -> Parsed<'_, SelectList>
     ensures { Gives (λ x. (x.0, x.1.now)) result (reads end depth grammar.a_list tokens.now) }
 {
     if let Some((token, rest)) = accept(tokens, end, Class::Symbol(Symbol::Star)) {
-        Ok((SelectList::Star(token.at), rest))
-    } else {
-        let (found, rest) = item(alloc, tokens, end, depth)?;
-        let mut first = Items::new(alloc);
-        first.push(found)?;
-        let (items, rest) = more_items(alloc, first, rest, end, depth)?;
-        Ok((SelectList::Items(items), rest))
+        return Ok((SelectList::Star(token.at), rest));
+    }
+    let mut all = Items::new(alloc);
+    let mut rest = tokens;
+    'items: loop {
+        let (found, behind) = item(alloc, rest, end, depth)?;
+        all.push(found)?;
+        match accept(behind, end, Class::Symbol(Symbol::Comma)) {
+            Some((_, next)) => rest = next,
+            None => return Ok((SelectList::Items(all), behind)),
+        }
     }
 }
 
@@ -252,26 +235,6 @@ fn key(alloc: Global, tokens: &[Token], end: usize, depth: usize) -> Parsed<'_, 
     Ok((OrderKey { column, descending }, rest))
 }
 
-/// `{, key}`
-fn more_keys(
-    alloc: Global,
-    first: Items<OrderKey>,
-    tokens: &[Token],
-    end: usize,
-    depth: usize,
-) -> Parsed<'_, Items<OrderKey>>
-    ensures { Gives (λ x. (x.0, x.1.now)) result (with_front first (reads end depth (many (after (grammar.symbol Symbol.Comma) grammar.a_key)) tokens.now)) }
-{
-    let mut all = first;
-    let mut rest = tokens;
-    'keys: while let Some((_, next)) = accept(rest, end, Class::Symbol(Symbol::Comma)) {
-        let (found, behind) = key(alloc, next, end, depth)?;
-        all.push(found)?;
-        rest = behind;
-    }
-    Ok((all, rest))
-}
-
 /// `[ORDER BY key {, key}]`
 #[tactic(auto, unfolding(crate::specs::Sql::an_order))]
 pub fn order(
@@ -282,13 +245,17 @@ pub fn order(
 ) -> Parsed<'_, Items<OrderKey>>
     ensures { Gives (λ x. (x.0, x.1.now)) result (reads end depth grammar.an_order tokens.now) }
 {
-    if let Some((_, rest)) = accept(tokens, end, Class::Keyword(Keyword::Order)) {
-        let (_, rest) = expect(rest, end, Class::Keyword(Keyword::By))?;
-        let (found, rest) = key(alloc, rest, end, depth)?;
-        let mut first = Items::new(alloc);
-        first.push(found)?;
-        more_keys(alloc, first, rest, end, depth)
-    } else {
-        Ok((Items::new(alloc), tokens))
+    let Some((_, rest)) = accept(tokens, end, Class::Keyword(Keyword::Order)) else {
+        return Ok((Items::new(alloc), tokens));
+    };
+    let (_, mut rest) = expect(rest, end, Class::Keyword(Keyword::By))?;
+    let mut all = Items::new(alloc);
+    'keys: loop {
+        let (found, behind) = key(alloc, rest, end, depth)?;
+        all.push(found)?;
+        match accept(behind, end, Class::Symbol(Symbol::Comma)) {
+            Some((_, next)) => rest = next,
+            None => return Ok((all, behind)),
+        }
     }
 }

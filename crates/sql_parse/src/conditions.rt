@@ -1,8 +1,8 @@
 //! From tokens to conditions and SELECTs, which hold one another between parentheses.
 
-ghost use Rattle.std.specs.Prelude.{◌≡◌, ◌∷◌, [], IfOk};
-ghost use Rattle.grammar.specs.Grammars.{after, many, map, nested};
-ghost use Rattle.grammar.specs.Readers.{sees as sees_next, first, with_front};
+ghost use Rattle.std.specs.Prelude.{◌≡◌};
+ghost use Rattle.grammar.specs.Grammars.{map, nested};
+ghost use Rattle.grammar.specs.Readers.{sees as sees_next, first};
 ghost use Rattle.values.specs.Faults.{Gives};
 ghost use Rattle.sql_parse.specs.Sql as grammar;
 ghost use Rattle.sql_parse.specs.Sql.{sql, of_condition, of_select};
@@ -11,10 +11,10 @@ ghost use Rattle.sql_parse.specs.StatementReading.{reads};
 use crate::class::{Class, Clause};
 use crate::clauses::{group, head, list};
 use crate::fault::ParseReason;
-use crate::reading::{Parsed, accept, expect, fault, followed, operator, sees, table, term};
-use crate::statement::{Chain, Condition, Join, JoinKind, Select, Term};
+use crate::reading::{Parsed, accept, expect, fault, followed, operator_of, sees, table, term};
+use crate::statement::{Chain, Condition, Join, JoinKind, Operator, Select, Term};
 use crate::token::{Keyword, Symbol, Token};
-use std::alloc::{AllocError, Global};
+use std::alloc::Global;
 use values::{Boxed, Items};
 
 /// `( condition )`
@@ -58,19 +58,18 @@ fn nested_select(
     Ok((Boxed::new(alloc, found)?, rest))
 }
 
-/// `operator term`
-#[tactic(auto, unfolding(crate::specs::Sql::a_comparison))]
+/// A comparison, from behind its operator.
 fn comparison(
     alloc: Global,
     left: Term,
+    by: Operator,
     tokens: &[Token],
     end: usize,
     depth: usize,
 ) -> Parsed<'_, Condition>
-    ensures { Gives (λ x. (x.0, x.1.now)) result (reads end depth (map (λ test. test left) grammar.a_comparison) tokens.now) }
+    ensures { Gives (λ x. (x.0, x.1.now)) result (reads end depth (map (λ right. Condition.Compare left by right) grammar.a_term) tokens.now) }
 {
-    let (by, rest) = operator(tokens, end, depth)?;
-    let (right, rest) = term(alloc, rest, end, depth)?;
+    let (right, rest) = term(alloc, tokens, end, depth)?;
     Ok((Condition::Compare(left, by, right), rest))
 }
 
@@ -108,7 +107,7 @@ fn membership(
 ) -> Parsed<'_, Condition>
     ensures { Gives (λ x. (x.0, x.1.now)) result (reads end depth (map (λ test. test left) grammar.a_membership) tokens.now) }
 {
-    let ((left, token), rest) = followed(left, tokens, end, Class::Keyword(Keyword::In))?;
+    let (token, rest) = expect(tokens, end, Class::Keyword(Keyword::In))?;
     let (query, rest) = nested_select(alloc, rest, end, depth)?;
     Ok((Condition::In(left, token.at, query), rest))
 }
@@ -126,10 +125,8 @@ fn missing(
     ensures { Gives (λ x. (x.0, x.1.now)) result (reads end depth (map (λ test. test left) grammar.a_missing) tokens.now) }
 {
     let ((left, _), rest) = followed(left, tokens, end, Class::Keyword(Keyword::Not))?;
-    let ((left, token), rest) = followed(left, rest, end, Class::Keyword(Keyword::In))?;
-    let (query, rest) = nested_select(alloc, rest, end, depth)?;
-    let test = Boxed::new(alloc, Condition::In(left, token.at, query))?;
-    Ok((Condition::Not(test), rest))
+    let (test, rest) = membership(alloc, left, rest, end, depth)?;
+    Ok((Condition::Not(Boxed::new(alloc, test)?), rest))
 }
 
 /// What stands behind a term in a WHERE.
@@ -144,8 +141,8 @@ fn filter_test(
 ) -> Parsed<'_, Condition>
     ensures { Gives (λ x. (x.0, x.1.now)) result (reads end depth (map (λ test. test left) (grammar.a_test Clause.Where)) tokens.now) }
 {
-    if sees(tokens, Class::Comparison) {
-        comparison(alloc, left, tokens, end, depth)
+    if let Some((token, rest)) = accept(tokens, end, Class::Comparison) {
+        comparison(alloc, left, operator_of(token), rest, end, depth)
     } else if sees(tokens, Class::Keyword(Keyword::Is)) {
         null_test(alloc, left, tokens, end, depth)
     } else if sees(tokens, Class::Keyword(Keyword::Not)) {
@@ -166,8 +163,8 @@ fn join_test(
 ) -> Parsed<'_, Condition>
     ensures { Gives (λ x. (x.0, x.1.now)) result (reads end depth (map (λ test. test left) (grammar.a_test Clause.On)) tokens.now) }
 {
-    if sees(tokens, Class::Comparison) {
-        comparison(alloc, left, tokens, end, depth)
+    if let Some((token, rest)) = accept(tokens, end, Class::Comparison) {
+        comparison(alloc, left, operator_of(token), rest, end, depth)
     } else {
         null_test(alloc, left, tokens, end, depth)
     }
@@ -250,55 +247,31 @@ fn negation(
     }
 }
 
-/// `{AND negation}`
-#[cycle(conditions)]
-fn more_negations(
-    alloc: Global,
-    clause: Clause,
-    first: Items<Condition>,
-    tokens: &[Token],
-    end: usize,
-    depth: usize,
-) -> Parsed<'_, Items<Condition>>
-    ensures { Gives (λ x. (x.0, x.1.now)) result (with_front first (reads end depth (many (after (grammar.keyword Keyword.And) (grammar.a_negation clause))) tokens.now)) }
-{
-    let mut all = first;
-    let mut rest = tokens;
-    'negations: while let Some((_, next)) = accept(rest, end, Class::Keyword(Keyword::And)) {
-        let (found, behind) = negation(alloc, clause, next, end, depth)?;
-        all.push(found)?;
-        rest = behind;
-    }
-    Ok((all, rest))
-}
-
 /// The one condition, or all of them.
-fn all_of(items: Items<Condition>) -> Result<Condition, AllocError>
-    ensures { IfOk result (λ found. found ≡ grammar.all_of items) }
+fn all_of(mut items: Items<Condition>) -> Condition
+    ensures { result ≡ grammar.all_of items }
 {
-    let mut items = items;
     if items.len() == 1 {
         match items.pop() {
-            Some(only) => Ok(only),
-            None => Ok(Condition::And(items)),
+            Some(only) => only,
+            None => Condition::And(items),
         }
     } else {
-        Ok(Condition::And(items))
+        Condition::And(items)
     }
 }
 
 /// The one condition, or any of them.
-fn any_of(items: Items<Condition>) -> Result<Condition, AllocError>
-    ensures { IfOk result (λ found. found ≡ grammar.any_of items) }
+fn any_of(mut items: Items<Condition>) -> Condition
+    ensures { result ≡ grammar.any_of items }
 {
-    let mut items = items;
     if items.len() == 1 {
         match items.pop() {
-            Some(only) => Ok(only),
-            None => Ok(Condition::Or(items)),
+            Some(only) => only,
+            None => Condition::Or(items),
         }
     } else {
-        Ok(Condition::Or(items))
+        Condition::Or(items)
     }
 }
 
@@ -314,33 +287,16 @@ fn conjunction(
 ) -> Parsed<'_, Condition>
     ensures { Gives (λ x. (x.0, x.1.now)) result (reads end depth (grammar.a_conjunction clause) tokens.now) }
 {
-    let (found, rest) = negation(alloc, clause, tokens, end, depth)?;
-    let mut first = Items::new(alloc);
-    first.push(found)?;
-    let (items, rest) = more_negations(alloc, clause, first, rest, end, depth)?;
-    Ok((all_of(items)?, rest))
-}
-
-/// `{OR conjunction}`
-#[cycle(conditions)]
-fn more_conjunctions(
-    alloc: Global,
-    clause: Clause,
-    first: Items<Condition>,
-    tokens: &[Token],
-    end: usize,
-    depth: usize,
-) -> Parsed<'_, Items<Condition>>
-    ensures { Gives (λ x. (x.0, x.1.now)) result (with_front first (reads end depth (many (after (grammar.keyword Keyword.Or) (grammar.a_conjunction clause))) tokens.now)) }
-{
-    let mut all = first;
+    let mut all = Items::new(alloc);
     let mut rest = tokens;
-    'conjunctions: while let Some((_, next)) = accept(rest, end, Class::Keyword(Keyword::Or)) {
-        let (found, behind) = conjunction(alloc, clause, next, end, depth)?;
+    'negations: loop {
+        let (found, behind) = negation(alloc, clause, rest, end, depth)?;
         all.push(found)?;
-        rest = behind;
+        match accept(behind, end, Class::Keyword(Keyword::And)) {
+            Some((_, next)) => rest = next,
+            None => return Ok((all_of(all), behind)),
+        }
     }
-    Ok((all, rest))
 }
 
 /// `conjunction {OR conjunction}`
@@ -355,11 +311,16 @@ fn condition(
 ) -> Parsed<'_, Condition>
     ensures { Gives (λ x. (x.0, x.1.now)) result (reads end depth (grammar.a_condition clause) tokens.now) }
 {
-    let (found, rest) = conjunction(alloc, clause, tokens, end, depth)?;
-    let mut first = Items::new(alloc);
-    first.push(found)?;
-    let (items, rest) = more_conjunctions(alloc, clause, first, rest, end, depth)?;
-    Ok((any_of(items)?, rest))
+    let mut all = Items::new(alloc);
+    let mut rest = tokens;
+    'conjunctions: loop {
+        let (found, behind) = conjunction(alloc, clause, rest, end, depth)?;
+        all.push(found)?;
+        match accept(behind, end, Class::Keyword(Keyword::Or)) {
+            Some((_, next)) => rest = next,
+            None => return Ok((any_of(all), behind)),
+        }
+    }
 }
 
 /// `[WHERE condition]`
@@ -387,19 +348,24 @@ fn join_kind(tokens: &[Token], end: usize, depth: usize) -> Parsed<'_, JoinKind>
     ensures { Gives (λ x. (x.0, x.1.now)) result (reads end depth grammar.a_join_kind tokens.now) }
 {
     if let Some((_, rest)) = accept(tokens, end, Class::Keyword(Keyword::Join)) {
-        Ok((JoinKind::Inner, rest))
-    } else if let Some((_, rest)) = accept(tokens, end, Class::Keyword(Keyword::Inner)) {
-        let (_, rest) = expect(rest, end, Class::Keyword(Keyword::Join))?;
-        Ok((JoinKind::Inner, rest))
+        return Ok((JoinKind::Inner, rest));
+    }
+    let (kind, rest) = if let Some((_, rest)) = accept(
+        tokens,
+        end,
+        Class::Keyword(Keyword::Inner),
+    ) {
+        (JoinKind::Inner, rest)
     } else {
         let (_, rest) = expect(tokens, end, Class::Keyword(Keyword::Left))?;
         let rest = match accept(rest, end, Class::Keyword(Keyword::Outer)) {
             Some((_, behind)) => behind,
             None => rest,
         };
-        let (_, rest) = expect(rest, end, Class::Keyword(Keyword::Join))?;
-        Ok((JoinKind::Left, rest))
-    }
+        (JoinKind::Left, rest)
+    };
+    let (_, rest) = expect(rest, end, Class::Keyword(Keyword::Join))?;
+    Ok((kind, rest))
 }
 
 /// Whether a join comes next.
@@ -430,57 +396,20 @@ fn join(alloc: Global, tokens: &[Token], end: usize, depth: usize) -> Parsed<'_,
     Ok((join, rest))
 }
 
-/// `{join}`
-#[cycle(conditions)]
-fn more_joins(
-    alloc: Global,
-    first: Items<Join>,
-    tokens: &[Token],
-    end: usize,
-    depth: usize,
-) -> Parsed<'_, Items<Join>>
-    ensures { Gives (λ x. (x.0, x.1.now)) result (with_front first (reads end depth (many grammar.a_join) tokens.now)) }
-{
-    let mut all = first;
-    let mut rest = tokens;
-    'joins: while sees_join(rest) {
-        let (found, behind) = join(alloc, rest, end, depth)?;
-        all.push(found)?;
-        rest = behind;
-    }
-    Ok((all, rest))
-}
-
 /// `table {join}`
 #[cycle(conditions)]
 #[tactic(auto, unfolding(crate::specs::Sql::a_chain))]
 fn chain(alloc: Global, tokens: &[Token], end: usize, depth: usize) -> Parsed<'_, Chain>
     ensures { Gives (λ x. (x.0, x.1.now)) result (reads end depth grammar.a_chain tokens.now) }
 {
-    let (table, rest) = table(alloc, tokens, end, depth)?;
-    let (joins, rest) = more_joins(alloc, Items::new(alloc), rest, end, depth)?;
-    Ok((Chain { table, joins }, rest))
-}
-
-/// `{, chain}`
-#[cycle(conditions)]
-fn more_chains(
-    alloc: Global,
-    first: Items<Chain>,
-    tokens: &[Token],
-    end: usize,
-    depth: usize,
-) -> Parsed<'_, Items<Chain>>
-    ensures { Gives (λ x. (x.0, x.1.now)) result (with_front first (reads end depth (many (after (grammar.symbol Symbol.Comma) grammar.a_chain)) tokens.now)) }
-{
-    let mut all = first;
-    let mut rest = tokens;
-    'chains: while let Some((_, next)) = accept(rest, end, Class::Symbol(Symbol::Comma)) {
-        let (found, behind) = chain(alloc, next, end, depth)?;
-        all.push(found)?;
+    let (table, mut rest) = table(alloc, tokens, end, depth)?;
+    let mut joins = Items::new(alloc);
+    'joins: while sees_join(rest) {
+        let (found, behind) = join(alloc, rest, end, depth)?;
+        joins.push(found)?;
         rest = behind;
     }
-    Ok((all, rest))
+    Ok((Chain { table, joins }, rest))
 }
 
 /// `FROM chain {, chain}`
@@ -489,11 +418,16 @@ fn more_chains(
 fn from(alloc: Global, tokens: &[Token], end: usize, depth: usize) -> Parsed<'_, Items<Chain>>
     ensures { Gives (λ x. (x.0, x.1.now)) result (reads end depth grammar.a_from tokens.now) }
 {
-    let (_, rest) = expect(tokens, end, Class::Keyword(Keyword::From))?;
-    let (found, rest) = chain(alloc, rest, end, depth)?;
-    let mut first = Items::new(alloc);
-    first.push(found)?;
-    more_chains(alloc, first, rest, end, depth)
+    let (_, mut rest) = expect(tokens, end, Class::Keyword(Keyword::From))?;
+    let mut all = Items::new(alloc);
+    'chains: loop {
+        let (found, behind) = chain(alloc, rest, end, depth)?;
+        all.push(found)?;
+        match accept(behind, end, Class::Symbol(Symbol::Comma)) {
+            Some((_, next)) => rest = next,
+            None => return Ok((all, behind)),
+        }
+    }
 }
 
 /// `SELECT .. FROM .. [WHERE ..] [GROUP BY ..]`

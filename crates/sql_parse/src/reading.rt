@@ -2,13 +2,12 @@
 //! place of the text's end, and `depth`, how many parentheses may still be opened.
 
 ghost use Rattle.std.specs.Prelude.{◌≡◌, ◌∷◌, [], is_some, IfOk, IfSome, Ok};
-ghost use Rattle.grammar.specs.Grammars.{after, many, nested, tok};
-ghost use Rattle.grammar.specs.Readers.{one, sees as sees_next, with_front};
+ghost use Rattle.grammar.specs.Readers.{one, sees as sees_next, first, member};
 ghost use Rattle.values.specs.Faults.{Gives};
 ghost use Rattle.values.specs.declared.fault.Fault.TheVariants.{Refused};
-ghost use Rattle.sql_parse.specs.Classes.{class_number};
+ghost use Rattle.sql_parse.specs.Classes.{class_number, kind_number};
 ghost use Rattle.sql_parse.specs.Sql as grammar;
-ghost use Rattle.sql_parse.specs.Sql.{sql, of_count, of_column};
+ghost use Rattle.sql_parse.specs.Sql.{sql, a_literal};
 ghost use Rattle.sql_parse.specs.StatementReading as spec;
 ghost use Rattle.sql_parse.specs.StatementReading.{told, reads};
 
@@ -100,6 +99,17 @@ fn value_in(alloc: Global, kind: &TokenKind) -> Result<Value, AllocError>
     }
 }
 
+/// Whether a token is a literal.
+#[tactic(auto, unfolding(crate::specs::Sql::a_literal))]
+fn is_literal(kind: &TokenKind) -> bool
+    ensures { result ≡ member (kind_number kind.now) (first sql a_literal) }
+{
+    matches!(
+        kind,
+        TokenKind::Number(_) | TokenKind::Text(_) | TokenKind::Keyword(Keyword::Null)
+    )
+}
+
 /// The comparison that a comparison token is.
 fn comparison_in(kind: &TokenKind) -> Comparison
     ensures { result ≡ grammar.comparison_in kind.now }
@@ -123,26 +133,20 @@ pub fn name(alloc: Global, tokens: &[Token], end: usize, depth: usize) -> Parsed
 fn literal(alloc: Global, tokens: &[Token], end: usize, depth: usize) -> Parsed<'_, Value>
     ensures { Gives (λ x. (x.0, x.1.now)) result (reads end depth grammar.a_literal tokens.now) }
 {
-    if let Some((token, rest)) = accept(tokens, end, Class::Number) {
-        Ok((value_in(alloc, &token.kind)?, rest))
-    } else if let Some((token, rest)) = accept(tokens, end, Class::Text) {
-        Ok((value_in(alloc, &token.kind)?, rest))
-    } else {
-        let (_, rest) = expect(tokens, end, Class::Keyword(Keyword::Null))?;
-        Ok((Value::Null, rest))
+    match tokens {
+        [token, rest @ ..] if is_literal(&token.kind) => Ok((value_in(alloc, &token.kind)?, rest)),
+        _ => Err(fault(ParseReason::Unexpected, tokens, end)),
     }
 }
 
-#[tactic(auto, unfolding(crate::specs::Sql::an_operator))]
-pub fn operator(tokens: &[Token], end: usize, depth: usize) -> Parsed<'_, Operator>
-    ensures { Gives (λ x. (x.0, x.1.now)) result (reads end depth grammar.an_operator tokens.now) }
+/// The operator that a comparison token is.
+pub fn operator_of(token: &Token) -> Operator
+    ensures { result ≡ record { comparison = grammar.comparison_in token.now.kind; at = token.now.at } }
 {
-    let (token, rest) = expect(tokens, end, Class::Comparison)?;
-    let operator = Operator {
+    Operator {
         comparison: comparison_in(&token.kind),
         at: token.at,
-    };
-    Ok((operator, rest))
+    }
 }
 
 /// `name [. name]`
@@ -172,15 +176,13 @@ pub fn column(alloc: Global, tokens: &[Token], end: usize, depth: usize) -> Pars
 pub fn alias(alloc: Global, tokens: &[Token], end: usize, depth: usize) -> Parsed<'_, Option<Name>>
     ensures { Gives (λ x. (x.0, x.1.now)) result (reads end depth grammar.an_alias tokens.now) }
 {
-    if let Some((_, rest)) = accept(tokens, end, Class::Keyword(Keyword::As)) {
-        let (found, rest) = name(alloc, rest, end, depth)?;
-        Ok((Some(found), rest))
-    } else if sees(tokens, Class::Name) {
-        let (found, rest) = name(alloc, tokens, end, depth)?;
-        Ok((Some(found), rest))
-    } else {
-        Ok((None, tokens))
-    }
+    let rest = match accept(tokens, end, Class::Keyword(Keyword::As)) {
+        Some((_, rest)) => rest,
+        None if sees(tokens, Class::Name) => tokens,
+        None => return Ok((None, tokens)),
+    };
+    let (found, rest) = name(alloc, rest, end, depth)?;
+    Ok((Some(found), rest))
 }
 
 /// `name [[AS] name]`
@@ -207,26 +209,6 @@ pub fn term(alloc: Global, tokens: &[Token], end: usize, depth: usize) -> Parsed
     }
 }
 
-/// `{, column}`
-fn more_columns(
-    alloc: Global,
-    first: Items<ColumnName>,
-    tokens: &[Token],
-    end: usize,
-    depth: usize,
-) -> Parsed<'_, Items<ColumnName>>
-    ensures { Gives (λ x. (x.0, x.1.now)) result (with_front first (reads end depth (many (after (grammar.symbol Symbol.Comma) grammar.a_column)) tokens.now)) }
-{
-    let mut all = first;
-    let mut rest = tokens;
-    'columns: while let Some((_, next)) = accept(rest, end, Class::Symbol(Symbol::Comma)) {
-        let (found, behind) = column(alloc, next, end, depth)?;
-        all.push(found)?;
-        rest = behind;
-    }
-    Ok((all, rest))
-}
-
 /// `column {, column}`
 #[tactic(auto, unfolding(crate::specs::Sql::the_columns))]
 pub fn columns(
@@ -237,8 +219,14 @@ pub fn columns(
 ) -> Parsed<'_, Items<ColumnName>>
     ensures { Gives (λ x. (x.0, x.1.now)) result (reads end depth grammar.the_columns tokens.now) }
 {
-    let (found, rest) = column(alloc, tokens, end, depth)?;
-    let mut first = Items::new(alloc);
-    first.push(found)?;
-    more_columns(alloc, first, rest, end, depth)
+    let mut all = Items::new(alloc);
+    let mut rest = tokens;
+    'columns: loop {
+        let (found, behind) = column(alloc, rest, end, depth)?;
+        all.push(found)?;
+        match accept(behind, end, Class::Symbol(Symbol::Comma)) {
+            Some((_, next)) => rest = next,
+            None => return Ok((all, behind)),
+        }
+    }
 }

@@ -29,12 +29,11 @@ fn statement(alloc: Global, tokens: &[Token], end: usize, depth: usize) -> Parse
 {
     let (select, rest) = select(alloc, tokens, end, depth)?;
     let (order, rest) = order(alloc, rest, end, depth)?;
-    let statement = Statement { select, order };
-    if let Some((_, rest)) = accept(rest, end, Class::Symbol(Symbol::Semicolon)) {
-        Ok((statement, rest))
-    } else {
-        Ok((statement, rest))
-    }
+    let rest = match accept(rest, end, Class::Symbol(Symbol::Semicolon)) {
+        Some((_, behind)) => behind,
+        None => rest,
+    };
+    Ok((Statement { select, order }, rest))
 }
 
 /// A tree, if nothing stands behind it.

@@ -143,10 +143,10 @@ select-returns t c =
       | select-else-len-gt0 w ↦
           w.grouped-is ∙ grouped_by_aggregates c.in_ok-keys.keys q.list c.len.result c.aggregates-own_aggregates.result c.len.ensures w.if-len-gt0.false c.aggregates-own_aggregates.ensures
     ] in
-    let items : c.in_ok-items.field-0 ≡ map (λ (o : Output). o.item) c.in_ok-outputs.outputs = c.in_ok-items.ensures ∙ ap (map (λ (o : Output). o.item)) c.as_slice-3.ensures in
+    let items : c.in_ok-items.items ≡ map (λ (o : Output). o.item) c.in_ok-outputs.outputs = c.in_ok-items.ensures ∙ ap (map (λ (o : Output). o.item)) c.as_slice-3.ensures in
     rw (c.in_ok-new.ensures, c.into_items.ensures, c.into_inner.ensures) (select_is c.args.schema.now c.args.part.now (scopes_of c.args.outer.now) c.args.numbered.now c.push_aggregates.new.self c.as_slice.result.now c.as_slice-2.result.now
     (c.in_ok-push_aggregates.ensures ∙ ap (with_aggregates c.args.numbered.now) c.aggregates-own_aggregates.ensures) c.as_slice.ensures c.as_slice-2.ensures
-    (c.in_ok-from.from, c.in_ok-from.scope, c.sources.new.numbered) (c.in_ok-filter.filter, c.filter.new.numbered) c.in_ok-keys.keys c.if-len-gt0.grouped c.in_ok-outputs.outputs c.in_ok-items.field-0 c.in_ok-from.ensures c.in_ok-filter.ensures c.in_ok-keys.ensures grouped c.in_ok-outputs.ensures items)
+    (c.in_ok-from.from, c.in_ok-from.scope, c.sources.new.numbered) (c.in_ok-filter.filter, c.filter.new.numbered) c.in_ok-keys.keys c.if-len-gt0.grouped c.in_ok-outputs.outputs c.in_ok-items.items c.in_ok-from.ensures c.in_ok-filter.ensures c.in_ok-keys.ensures grouped c.in_ok-outputs.ensures items)
 
 pub sources-loop-part-preserved : goal.sources-loop-part-preserved
 sources-loop-part-preserved t c =

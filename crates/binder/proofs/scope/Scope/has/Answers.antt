@@ -12,5 +12,5 @@ returns c =
     ∙ ap is_some c.get.ensures.value
     ∙ sym (is_some-map placed_of _)
     ∙ ap is_some (c.self.invariant.finds_tables name)
-    ∙ sym (taken-occurrence name 0 (scope_of c.self.inside.tables.items))
+    ∙ sym (taken-occurrence name 0 (scope_of c.self.inside.index.tables.items))
     ∙ ap (is_taken name) c.self.view_is

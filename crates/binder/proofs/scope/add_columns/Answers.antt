@@ -2,8 +2,8 @@ use Rattle.std.proofs.Common.{◌≡◌, ◌+◌, ◌∙◌, ap, Some, bytes_eq,
 use Rattle.std.specs.HashMap as hash
 use Rattle.binder.specs.Lent.{one_more}
 use Rattle.binder.proofs.Indexes.{column-push}
-use Rattle.binder.proofs.scope.with_columns.Goals as goal
-use Rattle.binder.proofs.scope.with_columns.Goals.{in-None, in-Some}
+use Rattle.binder.proofs.scope.add_columns.Goals as goal
+use Rattle.binder.proofs.scope.add_columns.Goals.{in-None, in-Some}
 
 pub loop-column-preserved : goal.loop-column-preserved
 loop-column-preserved c =

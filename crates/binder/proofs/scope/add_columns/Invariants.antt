@@ -2,7 +2,7 @@ use Rattle.std.proofs.Common.{◌≡◌, ℕ, ◌+◌, List, drop, bytes_eq}
 use Rattle.std.specs.HashMap as hash
 use Rattle.binder.specs.Lent.{with_more}
 use Rattle.binder.specs.Scopes.{columns_named}
-use Rattle.binder.proofs.scope.with_columns.Given as goal
+use Rattle.binder.proofs.scope.add_columns.Given as goal
 
 abbrev pub invariant-loop-column : goal.invariant-loop-column
 invariant-loop-column l = record {

@@ -1,0 +1,12 @@
+use Rattle.sql_parse.specs.declared.token.Symbol.TheVariants as s
+use Rattle.sql_parse.specs.declared.token.TokenKind.TheVariants as token
+use Rattle.sql_parse.specs.Sql.{sample, an_item}
+use Rattle.sql_parse.proofs.SqlLoops.{items_list, list_less, list_on}
+use Rattle.sql_parse.proofs.clauses.list.Goals as goal
+
+pub items-smaller : goal.items-smaller
+items-smaller c = list_less c.args.end c.args.depth (sample (token.Symbol s.Comma)) an_item items_list c.items.rest.now c.in_ok-found.found c.in_ok-found.behind.now c.in-Some-accept.field-0-0.now c.in-Some-accept.next.now c.in_ok-found.ensures c.in-Some-accept.ensures.next
+
+pub items-preserved : goal.items-preserved
+items-preserved c = rw c.in_ok-push.ensures.ok (list_on c.args.end c.args.depth (sample (token.Symbol s.Comma)) an_item items_list c.items.all c.items.rest.now c.in_ok-found.found c.in_ok-found.behind.now c.in-Some-accept.field-0-0.now c.in-Some-accept.next.now _
+    c.in_ok-found.ensures c.in-Some-accept.ensures.sees c.in-Some-accept.ensures.next c.items.invariant)
