@@ -13,7 +13,13 @@ use std::alloc::{AllocError, Global};
 use store::Database;
 use values::{Comparison, Value};
 
-/// Tells the set of the numbers of a text, whether 9 is in it, and its union with the numbers 4 and 5.
+/// The union with the numbers 4 and 5.
+fn push_union(alloc: Global, told: &mut String, set: &Columns) -> Result<(), AllocError> {
+    let union = Columns::run(alloc, 4, 2)?.union(alloc, set)?;
+    push_columns(told, union.as_slice())
+}
+
+/// Tells the set of the numbers of a text, whether 9 is in it, and its union.
 struct Sets;
 
 impl Telling for Sets {
@@ -22,9 +28,7 @@ impl Telling for Sets {
         told.push_str(if set.contains(9) { "with" } else { "without" })?;
         push_columns(told, set.as_slice())?;
         told.push_str(";")?;
-        let run = Columns::run(alloc, 4, 2)?;
-        let union = run.union(alloc, &set)?;
-        push_columns(told, union.as_slice())
+        push_union(alloc, told, &set)
     }
 }
 
@@ -41,20 +45,22 @@ const SUM_OF_BOSSES: Aggregation = Aggregation {
     aggregate: Aggregate::Sum(1),
 };
 
-/// The columns of an occurrence, and of groups by the first column with the sum.
-fn push_operators(
+/// The columns of groups by the first column with the sum.
+fn push_groups(alloc: Global, told: &mut String) -> Result<(), AllocError> {
+    let keys = columns_of(alloc, "0")?;
+    let groups = Columns::of_groups(alloc, &keys, &[SUM_OF_BOSSES])?;
+    push_columns(told, groups.as_slice())
+}
+
+/// The columns of an occurrence.
+fn push_occurrence(
     alloc: Global,
     told: &mut String,
     uses: &[TableUse],
     occurrence: usize,
 ) -> Result<(), AllocError> {
     let own = Columns::of_occurrence(alloc, uses, occurrence)?;
-    told.push_str("columns")?;
-    push_columns(told, own.as_slice())?;
-    let keys = columns_of(alloc, "0")?;
-    let groups = Columns::of_groups(alloc, &keys, &[SUM_OF_BOSSES])?;
-    told.push_str("; groups")?;
-    push_columns(told, groups.as_slice())
+    push_columns(told, own.as_slice())
 }
 
 /// The columns of the classes of `get 0` and of a `keep 2`.
@@ -88,7 +94,7 @@ fn expr_of(alloc: Global, text: &str) -> Result<Expr, AllocError> {
     Ok(Expr::Join(conjuncts, 0, class))
 }
 
-/// Tells the columns of an occurrence, or whether an expression is well formed.
+/// Tells the columns of an occurrence or of groups, or whether an expression is well formed.
 struct Expressions;
 
 impl QueryTelling for Expressions {
@@ -102,7 +108,10 @@ impl QueryTelling for Expressions {
     ) -> Result<(), AllocError> {
         let uses = query.tables.as_slice();
         if let Some(occurrence) = more.strip_prefix("columns ") {
-            return push_operators(alloc, told, uses, number(occurrence));
+            return push_occurrence(alloc, told, uses, number(occurrence));
+        }
+        if more == "groups" {
+            return push_groups(alloc, told);
         }
         let expr = expr_of(alloc, more)?;
         told.push_str(if is_formed(alloc, uses, &expr)? {
@@ -116,8 +125,9 @@ impl QueryTelling for Expressions {
 /// A keep is of columns that are there, and the sides of a join share no column.
 #[test]
 fn expressions_are_well_formed(rt: HostRuntime) {
-    const CASES: &str = "SELECT SUM(boss) FROM dept => columns 0 => columns 0 1; groups 0 2
-SELECT SUM(boss) FROM dept => columns 1 => columns; groups 0 2
+    const CASES: &str = "SELECT SUM(boss) FROM dept => columns 0 =>  0 1
+SELECT SUM(boss) FROM dept => columns 1 =>
+SELECT SUM(boss) FROM dept => groups =>  0 2
 SELECT SUM(boss) FROM dept => keep 0: 0 1 => formed
 SELECT SUM(boss) FROM dept => keep 0: 0 2 => not formed
 SELECT SUM(boss) FROM dept => keep 1: 0 1 => not formed

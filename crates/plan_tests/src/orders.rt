@@ -6,10 +6,16 @@ use crate::plans::plan_of;
 use crate::tables::TABLES;
 use fixtures::QueryTelling;
 use logical::query_frame;
-use physical::{delivers, query_order};
+use physical::{Plan, delivers, query_order};
 use query::Query;
 use std::alloc::{AllocError, Global};
 use store::Database;
+
+/// A plan in words, over the query's frame.
+fn plan_over(alloc: Global, query: &Query, plan: &str) -> Result<Option<Plan>, AllocError> {
+    let frame = query_frame(alloc, query)?;
+    plan_of(alloc, frame.as_slice(), plan)
+}
 
 /// The order that a plan of the query delivers.
 fn push_delivered(
@@ -18,8 +24,7 @@ fn push_delivered(
     query: &Query,
     plan: &str,
 ) -> Result<(), AllocError> {
-    let frame = query_frame(alloc, query)?;
-    match &plan_of(alloc, frame.as_slice(), plan)? {
+    match &plan_over(alloc, query, plan)? {
         Some(plan) => push_keys(told, delivers(alloc, query, plan)?.as_slice()),
         None => told.push_str(" no plan"),
     }
