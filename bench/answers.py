@@ -1,5 +1,5 @@
 #!/usr/bin/env python3
-"""Asks sqlite3 the queries of crates/whole_tests/src/answers.rt, and says where its answers differ.
+"""Asks sqlite3 the queries of crates/plan_tests/src/answers.rt, and says where its answers differ.
 
 Rows are compared up to order, and in order where the query has an ORDER BY. sqlite3 agrees with this project's SQL on what
 that needs: Nulls are first under ASC and last under DESC, and texts are compared byte by byte (collation BINARY).
@@ -10,7 +10,7 @@ import re
 import sqlite3
 
 ROOT = pathlib.Path(__file__).resolve().parent.parent
-TESTS = ROOT / "crates/whole_tests/src/answers.rt"
+TESTS = ROOT / "crates/plan_tests/src/answers.rt"
 
 
 def worked():

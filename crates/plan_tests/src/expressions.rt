@@ -2,32 +2,41 @@
 
 ghost use Rattle.std.specs.Prelude.{◌≡◌, IfOk, length};
 
+use crate::judged::{are_told, queries_are_told};
 use crate::lines::push_columns;
-use crate::plans::columns_of;
-use crate::tables::SCHEMA;
-use fixtures::{drop_query, query_of};
+use crate::plans::{columns_of, cut, number};
+use crate::tables::TABLES;
+use fixtures::{QueryTelling, Telling};
 use logical::{Aggregation, Columns, Condition, Conjuncts, Expr, Term};
-use query::{Aggregate, TableUse};
-use schema::Schema;
+use query::{Aggregate, Query, TableUse};
 use std::alloc::{AllocError, Global};
+use store::Database;
 use values::{Comparison, Value};
 
-/// The set of the numbers of a text, and its union with the numbers 4 and 5.
-fn sets(alloc: Global, text: &str) -> Result<String, AllocError> {
-    let mut told = String::new(alloc);
-    let set = columns_of(alloc, text)?;
-    push_columns(&mut told, set.as_slice())?;
-    told.push_str(if set.contains(9) { " with" } else { " without" })?;
-    let union = Columns::run(alloc, 4, 2)?.union(alloc, &set)?;
-    push_columns(&mut told, union.as_slice())?;
-    Ok(told)
+/// The union with the numbers 4 and 5.
+fn push_union(alloc: Global, told: &mut String, set: &Columns) -> Result<(), AllocError> {
+    let union = Columns::run(alloc, 4, 2)?.union(alloc, set)?;
+    push_columns(told, union.as_slice())
+}
+
+/// Tells the set of the numbers of a text, whether 9 is in it, and its union.
+struct Sets;
+
+impl Telling for Sets {
+    fn tell(&self, alloc: Global, text: &str, told: &mut String) -> Result<(), AllocError> {
+        let set = columns_of(alloc, text)?;
+        told.push_str(if set.contains(9) { "with" } else { "without" })?;
+        push_columns(told, set.as_slice())?;
+        told.push_str(";")?;
+        push_union(alloc, told, &set)
+    }
 }
 
 #[test]
-fn sets_rise(rt: HostRuntime) -> Result<(), AllocError> {
-    assert_eq!(rt; sets(rt.alloc(), "5 4 5")?.as_str(), " 4 5 without 4 5");
-    assert_eq!(rt; sets(rt.alloc(), "9 5")?.as_str(), " 5 9 with 4 5 9");
-    Ok(())
+fn sets_rise(rt: HostRuntime) {
+    const CASES: &str = "5 4 5 => without 4 5; 4 5
+9 5 => with 5 9; 4 5 9";
+    are_told(&rt, rt.alloc(), &[CASES], &Sets);
 }
 
 /// `2=sum:1`
@@ -36,17 +45,22 @@ const SUM_OF_BOSSES: Aggregation = Aggregation {
     aggregate: Aggregate::Sum(1),
 };
 
-/// The columns of an occurrence, and of groups by the first column with the sum.
-fn operators(alloc: Global, uses: &[TableUse], occurrence: usize) -> Result<String, AllocError> {
-    let mut told = String::new(alloc);
-    push_columns(
-        &mut told,
-        Columns::of_occurrence(alloc, uses, occurrence)?.as_slice(),
-    )?;
-    told.push_str(";")?;
-    let groups = Columns::of_groups(alloc, &columns_of(alloc, "0")?, &[SUM_OF_BOSSES])?;
-    push_columns(&mut told, groups.as_slice())?;
-    Ok(told)
+/// The columns of groups by the first column with the sum.
+fn push_groups(alloc: Global, told: &mut String) -> Result<(), AllocError> {
+    let keys = columns_of(alloc, "0")?;
+    let groups = Columns::of_groups(alloc, &keys, &[SUM_OF_BOSSES])?;
+    push_columns(told, groups.as_slice())
+}
+
+/// The columns of an occurrence.
+fn push_occurrence(
+    alloc: Global,
+    told: &mut String,
+    uses: &[TableUse],
+    occurrence: usize,
+) -> Result<(), AllocError> {
+    let own = Columns::of_occurrence(alloc, uses, occurrence)?;
+    push_columns(told, own.as_slice())
 }
 
 /// The columns of the classes of `get 0` and of a `keep 2`.
@@ -54,8 +68,10 @@ fn classes(alloc: Global, uses: &[TableUse]) -> Result<Vec<Columns>, AllocError>
     ensures { IfOk result (λ v. length v.items ≡ 2) }
 {
     let mut classes = Vec::new(alloc);
-    classes.push(Expr::Get(0).columns(alloc, uses, &[])?)?;
-    classes.push(columns_of(alloc, "2 2")?)?;
+    let first = Expr::Get(0).columns(alloc, uses, &[])?;
+    classes.push(first)?;
+    let second = columns_of(alloc, "2 2")?;
+    classes.push(second)?;
     Ok(classes)
 }
 
@@ -65,46 +81,58 @@ fn is_formed(alloc: Global, uses: &[TableUse], expr: &Expr) -> Result<bool, Allo
     Ok(expr.names_below(2) && expr.is_formed(uses, &[SUM_OF_BOSSES], classes.as_slice()))
 }
 
-fn keeps(
-    alloc: Global,
-    uses: &[TableUse],
-    columns: &str,
-    class: usize,
-) -> Result<bool, AllocError> {
-    is_formed(alloc, uses, &Expr::Keep(columns_of(alloc, columns)?, class))
-}
-
-/// A join of the first class whose condition reads the sum.
-fn joins(alloc: Global, uses: &[TableUse], right: usize) -> Result<bool, AllocError> {
+/// `keep CLASS: COLUMNS`, or `join CLASS`: a join of the first class with that one, whose condition reads the sum.
+fn expr_of(alloc: Global, text: &str) -> Result<Expr, AllocError> {
+    let (name, rest) = cut(text, " ");
+    let (class, columns) = cut(rest, ": ");
+    let class = number(class);
+    if name == "keep" {
+        return Ok(Expr::Keep(columns_of(alloc, columns)?, class));
+    }
     let (sum, number) = (Term::Column(2), Term::Literal(Value::Int(7)));
     let conjuncts = Conjuncts::one(alloc, Condition::Compare(Comparison::Less, sum, number))?;
-    is_formed(alloc, uses, &Expr::Join(conjuncts, 0, right))
+    Ok(Expr::Join(conjuncts, 0, class))
+}
+
+/// Tells the columns of an occurrence or of groups, or whether an expression is well formed.
+struct Expressions;
+
+impl QueryTelling for Expressions {
+    fn tell(
+        &self,
+        alloc: Global,
+        _database: &Database<'_>,
+        query: &Query,
+        more: &str,
+        told: &mut String,
+    ) -> Result<(), AllocError> {
+        let uses = query.tables.as_slice();
+        if let Some(occurrence) = more.strip_prefix("columns ") {
+            return push_occurrence(alloc, told, uses, number(occurrence));
+        }
+        if more == "groups" {
+            return push_groups(alloc, told);
+        }
+        let expr = expr_of(alloc, more)?;
+        told.push_str(if is_formed(alloc, uses, &expr)? {
+            "formed"
+        } else {
+            "not formed"
+        })
+    }
 }
 
 /// A keep is of columns that are there, and the sides of a join share no column.
-fn forms(alloc: Global, uses: &[TableUse]) -> Result<bool, AllocError> {
-    Ok(
-        keeps(alloc, uses, "0 1", 0)?
-            && !keeps(alloc, uses, "0 2", 0)?
-            && !keeps(alloc, uses, "0 1", 1)?
-            && joins(alloc, uses, 1)?
-            && !joins(alloc, uses, 0)?
-            && !joins(alloc, uses, 2)?,
-    )
-}
-
 #[test]
-fn expressions_are_well_formed(rt: HostRuntime) -> Result<(), AllocError> {
-    const TEXT: &str = "SELECT SUM(boss) FROM dept";
-    let schema = Schema::read(rt.alloc(), SCHEMA.as_bytes()).expect(&rt, "a schema");
-    let query = query_of(rt.alloc(), &schema, TEXT);
-    if let Some(query) = &query {
-        let uses = query.tables.as_slice();
-        assert_eq!(rt; operators(rt.alloc(), uses, 0).as_deref(), Ok(" 0 1; 0 2"));
-        assert_eq!(rt; operators(rt.alloc(), uses, 1).as_deref(), Ok("; 0 2"));
-        assert_eq!(rt; forms(rt.alloc(), uses), Ok(true));
-    }
-    assert!(rt; query.is_some());
-    drop_query(query);
-    Ok(())
+fn expressions_are_well_formed(rt: HostRuntime) {
+    const CASES: &str = "SELECT SUM(boss) FROM dept => columns 0 =>  0 1
+SELECT SUM(boss) FROM dept => columns 1 =>
+SELECT SUM(boss) FROM dept => groups =>  0 2
+SELECT SUM(boss) FROM dept => keep 0: 0 1 => formed
+SELECT SUM(boss) FROM dept => keep 0: 0 2 => not formed
+SELECT SUM(boss) FROM dept => keep 1: 0 1 => not formed
+SELECT SUM(boss) FROM dept => join 1 => formed
+SELECT SUM(boss) FROM dept => join 0 => not formed
+SELECT SUM(boss) FROM dept => join 2 => not formed";
+    queries_are_told(&rt, rt.alloc(), TABLES, &[CASES], &Expressions);
 }

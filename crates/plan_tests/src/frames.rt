@@ -1,22 +1,13 @@
 //! Frames of queries of each form.
 
+use crate::judged::queries_are_told;
 use crate::lines::push_line;
-use crate::tables::SCHEMA;
-use fixtures::{drop_query, query_of};
+use crate::tables::TABLES;
+use fixtures::QueryTelling;
 use logical::{Aggregation, Columns, Conjuncts, Expr, query_frame};
 use query::{Query, TableUse};
-use schema::Schema;
 use std::alloc::{AllocError, Global};
-
-/// The frame's lines, with `; ` between them.
-fn frame_text(alloc: Global, frame: &[Expr]) -> Result<String, AllocError> {
-    let mut told = String::new(alloc);
-    for (number, line) in frame.iter().enumerate() {
-        told.push_str(if number == 0 { "" } else { "; " })?;
-        push_line(alloc, &mut told, line)?;
-    }
-    Ok(told)
-}
+use store::Database;
 
 fn is_copied(alloc: Global, conjuncts: &Conjuncts) -> Result<bool, AllocError> {
     Ok(conjuncts.copy(alloc)?.same(conjuncts))
@@ -72,28 +63,32 @@ fn are_formed(alloc: Global, query: &Query, frame: &[Expr]) -> Result<bool, Allo
     Ok(true)
 }
 
-/// The frame, if its lines are well formed and their copies the same.
-fn frame_told(alloc: Global, query: &Query) -> Result<String, AllocError> {
-    let frame = query_frame(alloc, query)?;
-    if are_formed(alloc, query, frame.as_slice())? {
-        frame_text(alloc, frame.as_slice())
-    } else {
-        String::from_str(alloc, "not well formed")
+/// Tells the frame's lines, with `; ` between them, if they are well formed and their copies the same.
+struct Frames;
+
+impl QueryTelling for Frames {
+    fn tell(
+        &self,
+        alloc: Global,
+        _database: &Database<'_>,
+        query: &Query,
+        _more: &str,
+        told: &mut String,
+    ) -> Result<(), AllocError> {
+        let frame = query_frame(alloc, query)?;
+        if !are_formed(alloc, query, frame.as_slice())? {
+            told.push_str("not well formed: ")?;
+        }
+        for (number, line) in frame.as_slice().iter().enumerate() {
+            told.push_str(if number == 0 { "" } else { "; " })?;
+            push_line(alloc, told, line)?;
+        }
+        Ok(())
     }
 }
 
-fn told(alloc: Global, schema: &Schema, text: &str) -> Result<String, AllocError> {
-    let query = query_of(alloc, schema, text);
-    let told = match &query {
-        Some(query) => frame_told(alloc, query),
-        None => String::from_str(alloc, "no query"),
-    };
-    drop_query(query);
-    told
-}
-
 #[test]
-fn queries_have_frames(rt: HostRuntime) -> Result<(), AllocError> {
+fn queries_have_frames(rt: HostRuntime) {
     const CASES: &str =
         "SELECT boss, id FROM dept WHERE boss < 7 => get 0; select 0 [<(c1,i7)]; keep 1: 0 1
 SELECT boss FROM dept => get 0; keep 0: 1
@@ -105,10 +100,5 @@ SELECT COUNT(*) FROM dept => get 0; group 0:; 2=count; keep 1: 2
 SELECT DISTINCT boss FROM dept WHERE (boss < 7 AND id < 9) AND boss < 7 => get 0; select 0 [<(c0,i9),<(c1,i7)]; keep 1: 1; distinct 2
 SELECT id FROM dept WHERE NOT boss < 7 OR boss IS NULL AND NULL = 3 => get 0; select 0 [or(not(<(c1,i7)),and(null(c1),=(n,i3)))]; keep 1: 0
 SELECT a FROM t, u WHERE d >= 'y' => get 0; get 1; join 0 1 []; select 2 [>=(c3,t79)]; keep 3: 0";
-    let schema = Schema::read(rt.alloc(), SCHEMA.as_bytes()).expect(&rt, "a schema");
-    for case in CASES.lines() {
-        let (text, wanted) = case.split_once(" => ").expect(&rt, "two parts");
-        assert_eq!(rt; told(rt.alloc(), &schema, text)?.as_str(), wanted, "{text}");
-    }
-    Ok(())
+    queries_are_told(&rt, rt.alloc(), TABLES, &[CASES], &Frames);
 }

@@ -1,13 +1,22 @@
-//! Tests of expressions, frames, plans and certificates, and of plans at work: `logical`, `physical`, `checker` and
-//! `executor`.
+//! Tests of plans, and of the whole way: `logical`, `physical`, `checker`, `executor`, `planner` and `pipeline`.
 #![tactic(auto)]
 
 #[cfg(test)]
+mod answers;
+#[cfg(test)]
+mod canonical;
+#[cfg(test)]
 mod certificates;
+#[cfg(test)]
+mod commands;
 #[cfg(test)]
 mod expressions;
 #[cfg(test)]
+mod files;
+#[cfg(test)]
 mod frames;
+#[cfg(test)]
+mod judged;
 #[cfg(test)]
 mod lines;
 #[cfg(test)]

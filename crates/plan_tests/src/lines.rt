@@ -1,10 +1,11 @@
-//! Lines of frames as texts.
+//! Lines of frames, and keys, as texts.
 
+use fixtures::push_number;
 use logical::condition_text::condition_text;
 use logical::{Aggregation, Conjuncts, Expr};
+use physical::OrderKey;
 use query::Aggregate;
 use std::alloc::{AllocError, Global};
-use std::fmt::Write;
 
 fn push_conjuncts(
     alloc: Global,
@@ -21,7 +22,7 @@ fn push_conjuncts(
 
 pub fn push_columns(told: &mut String, columns: &[usize]) -> Result<(), AllocError> {
     for column in columns {
-        write!(told, " {column}")?;
+        push_number(told, " ", *column)?;
     }
     Ok(())
 }
@@ -29,44 +30,59 @@ pub fn push_columns(told: &mut String, columns: &[usize]) -> Result<(), AllocErr
 fn push_aggregate(told: &mut String, aggregate: Aggregate) -> Result<(), AllocError> {
     match aggregate {
         Aggregate::CountRows => told.push_str("count"),
-        Aggregate::Count(read) => write!(told, "count:{read}"),
-        Aggregate::Sum(read) => write!(told, "sum:{read}"),
-        Aggregate::Min(read) => write!(told, "min:{read}"),
-        Aggregate::Max(read) => write!(told, "max:{read}"),
+        Aggregate::Count(read) => push_number(told, "count:", read),
+        Aggregate::Sum(read) => push_number(told, "sum:", read),
+        Aggregate::Min(read) => push_number(told, "min:", read),
+        Aggregate::Max(read) => push_number(told, "max:", read),
     }
 }
 
-fn push_aggregates(told: &mut String, added: &[Aggregation]) -> Result<(), AllocError> {
+/// The aggregates after `;`, each after its column.
+pub fn push_aggregates(told: &mut String, added: &[Aggregation]) -> Result<(), AllocError> {
     told.push_str(";")?;
     for own in added {
-        write!(told, " {}=", own.column)?;
+        push_number(told, " ", own.column)?;
+        told.push_str("=")?;
         push_aggregate(told, own.aggregate)?;
+    }
+    Ok(())
+}
+
+/// The columns of an order, a falling one with `d`.
+pub fn push_keys(told: &mut String, keys: &[OrderKey]) -> Result<(), AllocError> {
+    for key in keys {
+        push_number(told, " ", key.column)?;
+        told.push_str(if key.descending { "d" } else { "" })?;
     }
     Ok(())
 }
 
 pub fn push_line(alloc: Global, told: &mut String, line: &Expr) -> Result<(), AllocError> {
     match line {
-        Expr::Get(occurrence) => write!(told, "get {occurrence}"),
+        Expr::Get(occurrence) => push_number(told, "get ", *occurrence),
         Expr::Select(conjuncts, input) => {
-            write!(told, "select {input}")?;
+            push_number(told, "select ", *input)?;
             push_conjuncts(alloc, told, conjuncts)
         }
         Expr::Join(conjuncts, left, right) => {
-            write!(told, "join {left} {right}")?;
+            push_number(told, "join ", *left)?;
+            push_number(told, " ", *right)?;
             push_conjuncts(alloc, told, conjuncts)
         }
         Expr::LeftJoin(conjuncts, left, right) => {
-            write!(told, "left {left} {right}")?;
+            push_number(told, "left ", *left)?;
+            push_number(told, " ", *right)?;
             push_conjuncts(alloc, told, conjuncts)
         }
         Expr::Keep(columns, input) => {
-            write!(told, "keep {input}:")?;
+            push_number(told, "keep ", *input)?;
+            told.push_str(":")?;
             push_columns(told, columns.as_slice())
         }
-        Expr::Distinct(input) => write!(told, "distinct {input}"),
+        Expr::Distinct(input) => push_number(told, "distinct ", *input),
         Expr::Group(keys, added, input) => {
-            write!(told, "group {input}:")?;
+            push_number(told, "group ", *input)?;
+            told.push_str(":")?;
             push_columns(told, keys.as_slice())?;
             push_aggregates(told, added.as_slice())
         }

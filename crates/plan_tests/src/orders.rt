@@ -1,78 +1,67 @@
 //! The orders that plans deliver, and that queries ask for.
 
+use crate::judged::queries_are_told;
+use crate::lines::push_keys;
 use crate::plans::plan_of;
-use crate::tables::SCHEMA;
-use fixtures::{drop_query, query_of};
+use crate::tables::TABLES;
+use fixtures::QueryTelling;
 use logical::query_frame;
-use physical::{OrderKey, delivers, query_order};
+use physical::{Plan, delivers, query_order};
 use query::Query;
-use schema::Schema;
 use std::alloc::{AllocError, Global};
-use std::fmt::Write;
+use store::Database;
 
-/// The columns after spaces, a falling one with `d`.
-fn order_text(alloc: Global, order: &[OrderKey]) -> Result<String, AllocError> {
-    let mut told = String::new(alloc);
-    for key in order {
-        write!(told, " {}", key.column)?;
-        told.push_str(if key.descending { "d" } else { "" })?;
-    }
-    Ok(told)
-}
-
-/// The order that the query asks for.
-fn wanted(alloc: Global, query: &Query) -> Result<String, AllocError> {
-    order_text(alloc, query_order(alloc, query)?.as_slice())
+/// A plan in words, over the query's frame.
+fn plan_over(alloc: Global, query: &Query, plan: &str) -> Result<Option<Plan>, AllocError> {
+    let frame = query_frame(alloc, query)?;
+    plan_of(alloc, frame.as_slice(), plan)
 }
 
 /// The order that a plan of the query delivers.
-fn delivered(alloc: Global, query: &Query, text: &str) -> Result<String, AllocError> {
-    let frame = query_frame(alloc, query)?;
-    let Some(plan) = plan_of(alloc, frame.as_slice(), text)? else {
-        return String::from_str(alloc, " no plan");
-    };
-    order_text(alloc, delivers(alloc, query, &plan)?.as_slice())
+fn push_delivered(
+    alloc: Global,
+    told: &mut String,
+    query: &Query,
+    plan: &str,
+) -> Result<(), AllocError> {
+    match &plan_over(alloc, query, plan)? {
+        Some(plan) => push_keys(told, delivers(alloc, query, plan)?.as_slice()),
+        None => told.push_str(" no plan"),
+    }
 }
 
-/// What is told of a text's query: the order that it asks for, or that a plan of it delivers.
-fn told(
-    alloc: Global,
-    schema: &Schema,
-    text: &str,
-    plan: Option<&str>,
-) -> Result<String, AllocError> {
-    let query = query_of(alloc, schema, text);
-    let told = match (&query, plan) {
-        (Some(query), Some(plan)) => delivered(alloc, query, plan),
-        (Some(query), None) => wanted(alloc, query),
-        (None, _) => String::from_str(alloc, " no query"),
-    };
-    drop_query(query);
-    told
+/// Tells the order that a plan of the query delivers; without a plan, that it asks for.
+struct Orders;
+
+impl QueryTelling for Orders {
+    fn tell(
+        &self,
+        alloc: Global,
+        _database: &Database<'_>,
+        query: &Query,
+        plan: &str,
+        told: &mut String,
+    ) -> Result<(), AllocError> {
+        told.push_str("order")?;
+        if plan.is_empty() {
+            push_keys(told, query_order(alloc, query)?.as_slice())
+        } else {
+            push_delivered(alloc, told, query, plan)
+        }
+    }
 }
 
 #[test]
-fn plans_deliver_orders(rt: HostRuntime) -> Result<(), AllocError> {
+fn plans_deliver_orders(rt: HostRuntime) {
     // The third line joins the two occurrences, whose columns are 0 and 1, and 2 and 3; the first one has no conjuncts.
-    const TEXT: &str = "SELECT x.boss, x.id FROM dept x, dept y";
-    const CASES: &str = "scan 0 0 =>
-scan 0 0 | sort: 1d 0 | filter 0 => 1d 0
-scan 0 0 | sort: 1d 0 | cut 0: 1 => 1d
-scan 0 0 | sort: 1d 0 | cut 0: 0 =>
-scan 0 0 | sort: 1d 0 | scan 0 1 | left 2 => 1d 0
-scan 0 0 | sort: 1d 2 | scan 0 1 | loop 2 => 1d
-scan 0 0 | sort: 1d 0 | cut 0: 1 | distinct 0 => 1d
-scan 0 0 | sort: 1d 0 | group 0 =>";
-    let schema = Schema::read(rt.alloc(), SCHEMA.as_bytes()).expect(&rt, "a schema");
-    for case in CASES.lines() {
-        let (plan, wanted) = case.split_once(" =>").expect(&rt, "two parts");
-        assert_eq!(rt;
-            told(rt.alloc(), &schema, TEXT, Some(plan))?.as_str(),
-            wanted,
-            "{plan}"
-        );
-    }
-    const ORDERED: &str = "SELECT boss, id FROM dept ORDER BY id DESC, boss";
-    assert_eq!(rt; told(rt.alloc(), &schema, ORDERED, None)?.as_str(), " 0d 1");
-    Ok(())
+    const CASES: &str = "SELECT x.boss, x.id FROM dept x, dept y => scan 0 0 => order
+SELECT x.boss, x.id FROM dept x, dept y => scan 0 0 | sort: 1d 0 | filter 0 => order 1d 0
+SELECT x.boss, x.id FROM dept x, dept y => scan 0 0 | sort: 1d 0 | cut 0: 1 => order 1d
+SELECT x.boss, x.id FROM dept x, dept y => scan 0 0 | sort: 1d 0 | cut 0: 0 => order
+SELECT x.boss, x.id FROM dept x, dept y => scan 0 0 | sort: 1d 0 | scan 0 1 | left 2 => order 1d 0
+SELECT x.boss, x.id FROM dept x, dept y => scan 0 0 | sort: 1d 2 | scan 0 1 | loop 2 => order 1d
+SELECT x.boss, x.id FROM dept x, dept y => scan 0 0 | sort: 1d 0 | cut 0: 1 | distinct 0 => order 1d
+SELECT x.boss, x.id FROM dept x, dept y => scan 0 0 | sort: 1d 0 | group 0 => order
+SELECT boss, id FROM dept ORDER BY id DESC, boss => order 0d 1";
+    queries_are_told(&rt, rt.alloc(), TABLES, &[CASES], &Orders);
 }

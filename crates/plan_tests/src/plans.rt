@@ -18,7 +18,8 @@ struct Words<'a> {
     columns: &'a str,
 }
 
-fn number(word: &str) -> usize {
+/// The number of a word; the greatest if it is none.
+pub fn number(word: &str) -> usize {
     match word.parse() {
         Ok(number) => number,
         Err(_) => usize::MAX,
@@ -26,7 +27,7 @@ fn number(word: &str) -> usize {
 }
 
 /// What stands before a text's first such sign, and after it.
-fn cut<'a>(text: &'a str, sign: &str) -> (&'a str, &'a str) {
+pub fn cut<'a>(text: &'a str, sign: &str) -> (&'a str, &'a str) {
     match text.split_once(sign) {
         Some(parts) => parts,
         None => (text, ""),

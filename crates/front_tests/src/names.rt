@@ -1,52 +1,30 @@
 //! Texts over a small schema, and the first fault of their names.
 
-use binder::bind_statement;
-use fixtures::{COMPANY, drop_query, drop_tree, query_of, spelt};
+ghost use Rattle.query.specs.Bound.{IsBoundOver};
+
+use crate::judged::{are_told, queries_are_told};
+use fixtures::{COMPANY, DEPT, EMP, QueryTelling, Tables, Telling, push_names, push_number, spelt};
 use query::{Aggregate, Block, Column, Cond, Item, Query, Term};
-use schema::Schema;
-use sql_parse::parse_statement_bytes;
-use sql_parse::statement::Statement;
 use std::alloc::{AllocError, Global};
 use std::fmt::Write;
-use std::process::Abort;
+use store::Database;
 
-fn bound(alloc: Global, schema: &Schema, tree: &Statement) -> Result<String, AllocError> {
-    match bind_statement(alloc, schema, tree) {
-        Ok(query) => {
-            drop_query(Some(query));
-            String::from_str(alloc, "bound")
-        }
-        Err(fault) => format!(in alloc; "{fault}"),
-    }
+/// Tells `bound`, or the fault of a text over a schema. Both are spelt.
+#[derive(Drop)]
+struct Names<'a> {
+    schema: &'a str,
 }
 
-/// `bound`, or the fault of a text.
-fn told(alloc: Global, schema: &Schema, text: &[u8]) -> Result<String, AllocError> {
-    let tree = parse_statement_bytes(alloc, text);
-    let told = match &tree {
-        Ok(tree) => bound(alloc, schema, tree),
-        Err(fault) => format!(in alloc; "{fault}"),
-    };
-    drop_tree(tree);
-    told
-}
-
-/// Each line has what `spelt` takes, `=>`, and what is told of it.
-fn are_told(rt: &impl Abort, alloc: Global, schema: &[u8], cases: &str) -> Result<(), AllocError> {
-    let schema = Schema::read(alloc, schema).expect(rt, "a schema");
-    for case in cases.lines() {
-        let (text, wanted) = case.split_once(" => ").expect(rt, "two parts");
+impl Telling for Names<'_> {
+    fn tell(&self, alloc: Global, text: &str, told: &mut String) -> Result<(), AllocError> {
+        let schema = spelt(alloc, self.schema)?;
         let bytes = spelt(alloc, text)?;
-        let told = told(alloc, &schema, bytes.as_slice())?;
-        assert_eq!(rt; told.as_str(), wanted, "{text}");
+        push_names(alloc, told, schema.as_slice(), bytes.as_slice())
     }
-    Ok(())
 }
 
 /// B01 and B04, in FROM.
-#[test]
-fn tables_are_named(rt: HostRuntime) -> Result<(), AllocError> {
-    const CASES: &str = "SELECT id FROM nope => B01 at 15
+const TABLES: &str = "SELECT id FROM nope => B01 at 15
 SELECT id FROM dept d JOIN nope n ON n.id = d.id => B01 at 27
 SELECT id FROM dept, emp e, nope => B01 at 28
 SELECT d.id FROM dept d WHERE EXISTS (SELECT * FROM nope) => B01 at 52
@@ -57,13 +35,9 @@ SELECT e.id FROM dept, emp AS e JOIN dept e ON e.id = 1 => B04 at 42
 SELECT e.id FROM dept emp, dept e LEFT JOIN emp ON e.id = 1 => B04 at 44
 SELECT d.id FROM dept d WHERE EXISTS (SELECT * FROM emp d, dept d) => B04 at 64
 SELECT id FROM emp nope, nope => B01 at 25";
-    are_told(&rt, rt.alloc(), COMPANY.as_bytes(), CASES)
-}
 
 /// B02 and B03.
-#[test]
-fn columns_are_named(rt: HostRuntime) -> Result<(), AllocError> {
-    const CASES: &str = "SELECT nope FROM emp => B02 at 7
+const COLUMNS: &str = "SELECT nope FROM emp => B02 at 7
 SELECT id, nope, pay FROM emp => B02 at 11
 SELECT id, pay, nope.id FROM emp => B02 at 16
 SELECT id, emp.name FROM emp => B02 at 11
@@ -91,13 +65,9 @@ SELECT d.id FROM dept d, dept e WHERE EXISTS (SELECT * FROM emp f WHERE boss = 1
 SELECT id, pay AS id FROM emp ORDER BY id => B03 at 39
 SELECT COUNT(id) n, COUNT(pay) n FROM emp ORDER BY n => B03 at 51
 SELECT pay, dept, badge pay FROM emp ORDER BY dept, pay DESC => B03 at 52";
-    are_told(&rt, rt.alloc(), COMPANY.as_bytes(), CASES)
-}
 
 /// B05 and B08.
-#[test]
-fn kinds_agree(rt: HostRuntime) -> Result<(), AllocError> {
-    const CASES: &str = "SELECT id FROM emp WHERE id = 'x' => B05 at 28
+const KINDS: &str = "SELECT id FROM emp WHERE id = 'x' => B05 at 28
 SELECT id FROM emp WHERE 'x' <> 1 => B05 at 29
 SELECT id FROM emp WHERE id = 1 AND pay = 2 AND 'x' >= dept => B05 at 52
 SELECT d.id FROM dept d JOIN emp e ON e.id = d.id AND e.id < d.name => B05 at 59
@@ -109,13 +79,9 @@ SELECT id FROM emp WHERE id IN (SELECT MIN(name) FROM dept) => B05 at 28
 SELECT id FROM emp WHERE id IN (SELECT * FROM dept) => B08 at 28
 SELECT id FROM emp WHERE 1 = 1 OR id NOT IN (SELECT id, name FROM dept) => B08 at 41
 SELECT id FROM dept WHERE EXISTS (SELECT * FROM emp WHERE pay IN (SELECT name, id FROM dept)) => B08 at 62";
-    are_told(&rt, rt.alloc(), COMPANY.as_bytes(), CASES)
-}
 
 /// B06, B07 and B11.
-#[test]
-fn groups_are_closed(rt: HostRuntime) -> Result<(), AllocError> {
-    const CASES: &str = "SELECT name, COUNT(*) FROM dept => B06 at 7
+const GROUPS: &str = "SELECT name, COUNT(*) FROM dept => B06 at 7
 SELECT COUNT(*), name FROM dept => B06 at 17
 SELECT dept, pay, id FROM emp GROUP BY pay, dept => B06 at 18
 SELECT dept, COUNT(*), emp.pay p FROM emp GROUP BY dept => B06 at 23
@@ -129,27 +95,19 @@ SELECT id FROM emp WHERE id IN (SELECT SUM(name) FROM dept) => B07 at 39
 SELECT d.id FROM dept d WHERE d.id IN (SELECT MAX(d.id) FROM emp e) => B11 at 46
 SELECT d.id FROM dept d WHERE EXISTS (SELECT COUNT(*), SUM(d.name) FROM emp e) => B11 at 55
 SELECT d.id FROM dept d WHERE EXISTS (SELECT COUNT(boss), name FROM emp) => B11 at 45";
-    are_told(&rt, rt.alloc(), COMPANY.as_bytes(), CASES)
-}
 
 /// B09.
-#[test]
-fn orders_are_of_outputs(rt: HostRuntime) -> Result<(), AllocError> {
-    const CASES: &str = "SELECT id FROM emp ORDER BY pay => B09 at 28
+const ORDERS: &str = "SELECT id FROM emp ORDER BY pay => B09 at 28
 SELECT id, pay FROM emp ORDER BY pay, dept DESC, id => B09 at 38
 SELECT id, pay FROM emp ORDER BY id, pay, emp.dept => B09 at 42
 SELECT id FROM emp ORDER BY nope.id => B09 at 28
 SELECT id FROM emp ORDER BY emp.nope => B09 at 28
 SELECT id AS key FROM emp ORDER BY id => B09 at 35
 SELECT COUNT(id) FROM emp ORDER BY emp.id => B09 at 35";
-    are_told(&rt, rt.alloc(), COMPANY.as_bytes(), CASES)
-}
 
 /// Which of several faults is told.
-#[test]
-fn the_first_fault_is_told(rt: HostRuntime) -> Result<(), AllocError> {
-    const CASES: &str =
-        "SELECT nope FROM emp, gone WHERE id = 'x' GROUP BY none ORDER BY never => B01 at 22
+const FIRST: &str =
+    "SELECT nope FROM emp, gone WHERE id = 'x' GROUP BY none ORDER BY never => B01 at 22
 SELECT nope FROM emp WHERE id = 'x' GROUP BY none ORDER BY never => B05 at 30
 SELECT nope FROM emp GROUP BY none ORDER BY never => B02 at 30
 SELECT nope FROM emp ORDER BY never => B02 at 7
@@ -163,13 +121,9 @@ SELECT d.id FROM dept d WHERE EXISTS (SELECT SUM(d.name), nope FROM emp) => B11 
 SELECT SUM(name), nope FROM dept => B07 at 7
 SELECT id, SUM(name) FROM dept => B06 at 7
 SELECT id FROM emp ORDER BY pay, nope => B09 at 28";
-    are_told(&rt, rt.alloc(), COMPANY.as_bytes(), CASES)
-}
 
 /// Texts that bind.
-#[test]
-fn texts_are_bound(rt: HostRuntime) -> Result<(), AllocError> {
-    const CASES: &str = "SELECT id FROM emp => bound
+const BOUND: &str = "SELECT id FROM emp => bound
 SELECT * FROM dept, emp e => bound
 SELECT e.id FROM emp e WHERE NULL = 'x' AND NULL = 1 AND NULL IS NULL => bound
 SELECT d.id FROM dept d, emp e WHERE EXISTS (SELECT * FROM emp d WHERE d.pay = boss) => bound
@@ -181,13 +135,9 @@ SELECT id, id FROM emp ORDER BY id, emp.id DESC => bound
 SELECT id i, pay FROM emp ORDER BY emp.id, i DESC, pay => bound
 SELECT MAX(name), COUNT(name) FROM dept => bound
 SELECT emp.id FROM dept emp, emp dept => bound";
-    are_told(&rt, rt.alloc(), COMPANY.as_bytes(), CASES)
-}
 
 /// At most 24 table occurrences, 8 queries in one another and 1,024 tests; more are told before an unknown table.
-#[test]
-fn sizes_are_bounded(rt: HostRuntime) -> Result<(), AllocError> {
-    const CASES: &str = "SELECT t.id FROM dept t|23*, dept t# => bound
+const SIZES: &str = "SELECT t.id FROM dept t|23*, dept t# => bound
 SELECT t.id FROM dept t|24*, dept t# => B10 at 0
 SELECT t.id FROM dept t|24*, nope t# => B10 at 0
 SELECT id FROM dept|7* WHERE EXISTS (SELECT * FROM dept|7*) => bound
@@ -195,19 +145,22 @@ SELECT id FROM dept|8* WHERE EXISTS (SELECT * FROM dept|8*) => B10 at 0
 SELECT id FROM dept WHERE id IN (SELECT boss FROM dept WHERE id IS NULL)|1022* OR 1 = 2 => bound
 SELECT id FROM dept WHERE id IN (SELECT boss FROM dept WHERE id IS NULL)|1023* OR 1 = 2 => B10 at 0
 SELECT a FROM t WHERE a = b|7278* OR a = b|7*  => B10 at 0";
-    are_told(&rt, rt.alloc(), COMPANY.as_bytes(), CASES)
-}
 
 /// At most 512 columns with numbers; more are told after all other faults.
-#[test]
-fn columns_are_bounded(rt: HostRuntime) -> Result<(), AllocError> {
-    const WIDE: &str =
-        r#"{"tables":[{"name":"w","columns":[{"name":"a","kind":"INT","not_null":false}|63*,{"name":"a#","kind":"INT","not_null":false}|],"unique":[],"indexes":[]}]}"#;
-    const CASES: &str = "SELECT w.a FROM w|7*, w w# => bound
+const WIDTHS: &str = "SELECT w.a FROM w|7*, w w# => bound
 SELECT COUNT(*) FROM w|7*, w w# => B10 at 0
 SELECT COUNT(nope) FROM w|7*, w w# => B02 at 13
 SELECT COUNT(*) n FROM w|7*, w w#| ORDER BY nope => B09 at 76";
-    are_told(&rt, rt.alloc(), spelt(rt.alloc(), WIDE)?.as_slice(), CASES)
+
+/// The schema of these.
+const WIDE: &str =
+    r#"{"tables":[{"name":"w","columns":[{"name":"a","kind":"INT","not_null":false}|63*,{"name":"a#","kind":"INT","not_null":false}|],"unique":[],"indexes":[]}]}"#;
+
+#[test]
+fn names_are_bound(rt: HostRuntime) {
+    let lists = [TABLES, COLUMNS, KINDS, GROUPS, ORDERS, FIRST, BOUND, SIZES];
+    are_told(&rt, rt.alloc(), &lists, &Names { schema: COMPANY });
+    are_told(&rt, rt.alloc(), &[WIDTHS], &Names { schema: WIDE });
 }
 
 // ---- the numbers of a query's parts
@@ -228,7 +181,7 @@ fn push_block(told: &mut String, block: &Block) -> Result<(), AllocError> {
     }
     told.push_str("; keys")?;
     for key in block.keys.as_slice() {
-        write!(told, " {key}")?;
+        push_number(told, " ", *key)?;
     }
     Ok(())
 }
@@ -262,8 +215,9 @@ fn push_filter(told: &mut String, block: &Block) -> Result<(), AllocError> {
 
 fn push_tables(told: &mut String, query: &Query) -> Result<(), AllocError> {
     for table in query.tables.as_slice() {
-        let name = table.name.as_str();
-        write!(told, "{name}@{} ", table.first_column)?;
+        told.push_str(table.name.as_str())?;
+        push_number(told, "@", table.first_column)?;
+        told.push_str(" ")?;
     }
     Ok(())
 }
@@ -271,36 +225,40 @@ fn push_tables(told: &mut String, query: &Query) -> Result<(), AllocError> {
 fn push_order(told: &mut String, query: &Query) -> Result<(), AllocError> {
     told.push_str("; order")?;
     for key in query.order.as_slice() {
-        write!(told, " {}", key.item)?;
+        push_number(told, " ", key.item)?;
         told.push_str(if key.descending { "d" } else { "" })?;
     }
-    write!(told, "; {} names", query.names.len())
+    push_number(told, "; names ", query.names.len())
 }
 
-fn numbers(alloc: Global, query: &Query) -> Result<String, AllocError> {
-    let mut told = String::new(alloc);
-    push_tables(&mut told, query)?;
-    push_block(&mut told, &query.block)?;
-    push_filter(&mut told, &query.block)?;
-    push_order(&mut told, query)?;
-    Ok(told)
+/// Tells the numbers of a query's parts.
+struct Numbers;
+
+impl QueryTelling for Numbers {
+    fn tell(
+        &self,
+        _alloc: Global,
+        _database: &Database<'_>,
+        query: &Query,
+        _more: &str,
+        told: &mut String,
+    ) -> Result<(), AllocError> {
+        push_tables(told, query)?;
+        push_block(told, &query.block)?;
+        push_filter(told, &query.block)?;
+        push_order(told, query)
+    }
 }
 
 /// Occurrences, columns and aggregates are numbered in the order of the text.
 #[test]
-fn parts_are_numbered(rt: HostRuntime) -> Result<(), AllocError> {
-    let text =
-        "SELECT COUNT(*), d.id k FROM dept d, dept x JOIN emp e ON e.id = x.boss WHERE d.id IN (SELECT MAX(f.pay) FROM emp f WHERE d.boss = f.id) GROUP BY d.id ORDER BY d.id, k DESC";
-    let schema = Schema::read(rt.alloc(), COMPANY.as_bytes()).expect(&rt, "a schema");
-    let query = query_of(rt.alloc(), &schema, text);
-    let told = match &query {
-        Some(query) => numbers(rt.alloc(), query),
-        None => String::from_str(rt.alloc(), "no query"),
+fn parts_are_numbered(rt: HostRuntime) {
+    const CASES: &str =
+        "SELECT COUNT(*), d.id k FROM dept d, dept x JOIN emp e ON e.id = x.boss WHERE d.id IN (SELECT MAX(f.pay) FROM emp f WHERE d.boss = f.id) GROUP BY d.id ORDER BY d.id, k DESC => d@0 x@3 e@6 f@10 items 14=count 0.0; keys 0; in items 15=max:2; keys 1.2 0.0; order 1; names 2";
+    let company = Tables {
+        schema: COMPANY,
+        first: DEPT,
+        second: EMP,
     };
-    drop_query(query);
-    assert_eq!(rt;
-        told?.as_str(),
-        "d@0 x@3 e@6 f@10 items 14=count 0.0; keys 0; in items 15=max:2; keys 1.2 0.0; order 1; 2 names"
-    );
-    Ok(())
+    queries_are_told(&rt, rt.alloc(), company, &[CASES], &Numbers);
 }

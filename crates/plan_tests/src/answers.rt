@@ -1,11 +1,10 @@
 //! Queries by both commands, over the tables of `examples/hr`. Each line has a text, `=>`, and the lines that it is answered with,
 //! with `;` between them. The answers are sqlite3's: bench/answers.py reads this file and asks it.
 
-use crate::commands::answer_is;
-use fixtures::{COMPANY, DEPT, EMP, spelt};
-use std::alloc::Global;
-use std::process::Abort;
-use std::test::Fail;
+use crate::commands::{Files, Way, push_answer};
+use crate::judged::are_told;
+use fixtures::{COMPANY, DEPT, EMP, Telling, spelt};
+use std::alloc::{AllocError, Global};
 
 /// Queries of one table. A comparison with NULL is unknown, and so is its opposite.
 const ONE_TABLE: &str = r"SELECT id FROM emp WHERE pay != 500; => id;12
@@ -165,25 +164,33 @@ SELECT id, nam FROM dept => refused B02 at 11
 SELECT nam FROM dept WHERE bos = 1 => refused B02 at 27
 SELECT id FROM dept WHERE name <> 1 => refused B05 at 31";
 
-/// Each line has a query's text, `=>`, and the lines that it is answered with over the files of `examples/hr`.
-fn answers_are(rt: &impl Abort, alloc: Global, cases: &str) -> Result<(), Fail> {
-    let (schema, dept, emp) = (COMPANY.as_bytes(), DEPT.as_bytes(), EMP.as_bytes());
-    for case in cases.lines() {
-        let (text, lines) = case.split_once(" => ").expect(rt, "two parts");
-        let text = spelt(alloc, text)?;
-        answer_is(rt, alloc, text.as_slice(), schema, dept, emp, lines)?;
-    }
-    Ok(())
+/// Tells what a command answers over the files of `examples/hr`. The text is spelt.
+#[derive(Drop)]
+struct Answers {
+    way: Way,
 }
 
+impl Telling for Answers {
+    fn tell(&self, alloc: Global, text: &str, told: &mut String) -> Result<(), AllocError> {
+        let text = spelt(alloc, text)?;
+        let files = Files {
+            schema: COMPANY.as_bytes(),
+            text: text.as_slice(),
+            dept: DEPT.as_bytes(),
+            emp: EMP.as_bytes(),
+        };
+        push_answer(alloc, told, self.way, files)
+    }
+}
+
+/// Both commands answer alike, so the canonical plan gives the rows in the evaluator's order.
 #[test]
-fn both_commands_answer_as_sql_does(rt: HostRuntime) -> Result<(), Fail> {
+fn both_commands_answer_as_sql_does(rt: HostRuntime) {
     let tables = [
         ONE_TABLE, WORKED, UNKNOWN, MEMBERSHIP, SUBQUERIES, JOINS, GROUPS, DISTINCT, ORDERS, SPELT,
         REFUSED,
     ];
-    for cases in tables {
-        answers_are(&rt, rt.alloc(), cases)?;
-    }
-    Ok(())
+    let (plan, meaning) = (Way::Plan, Way::Meaning);
+    are_told(&rt, rt.alloc(), &tables, &Answers { way: plan });
+    are_told(&rt, rt.alloc(), &tables, &Answers { way: meaning });
 }

@@ -1,55 +1,58 @@
 //! Texts, and the trees or the first faults that they have.
 
-use crate::trees::statement_text;
-use fixtures::{drop_tree, spelt};
+use crate::judged::are_told;
+use crate::trees::push_statement;
+use fixtures::{Telling, drop_tree, spelt};
 use sql_parse::statement::Statement;
 use sql_parse::{ParseFault, parse_statement, parse_statement_bytes};
 use std::alloc::{AllocError, Global};
-use std::process::Abort;
+use std::fmt::Write;
 use std::str;
 
-/// The tree with the places of its parts, or the refusal; `~` stands for a line feed.
-fn shown(alloc: Global, tree: &Result<Statement, ParseFault>) -> Result<String, AllocError> {
+/// As what a text is handed over.
+#[derive(Clone, Copy)]
+enum Handed {
+    Bytes,
+    /// As bytes where it is no text.
+    Text,
+}
+
+fn parsed(alloc: Global, handed: Handed, bytes: &[u8]) -> Result<Statement, ParseFault> {
+    match (handed, str::from_utf8(bytes)) {
+        (Handed::Text, Ok(text)) => parse_statement(alloc, text),
+        (_, _) => parse_statement_bytes(alloc, bytes),
+    }
+}
+
+fn push_tree(
+    alloc: Global,
+    told: &mut String,
+    tree: &Result<Statement, ParseFault>,
+) -> Result<(), AllocError> {
     match tree {
-        Ok(tree) => statement_text(alloc, tree)?
-            .as_str()
-            .replace(alloc, "\n", "~"),
-        Err(fault) => format!(in alloc; "{fault}"),
+        Ok(tree) => push_statement(alloc, told, tree),
+        Err(fault) => write!(told, "{fault}"),
     }
 }
 
-fn told_of_text(alloc: Global, text: &str) -> Result<String, AllocError> {
-    let tree = parse_statement(alloc, text);
-    let told = shown(alloc, &tree);
-    drop_tree(tree);
-    told
+/// Tells the tree with the places of its parts, or the refusal. The text is spelt.
+#[derive(Drop)]
+struct Trees {
+    handed: Handed,
 }
 
-fn told_of_bytes(alloc: Global, bytes: &[u8]) -> Result<String, AllocError> {
-    let tree = parse_statement_bytes(alloc, bytes);
-    let told = shown(alloc, &tree);
-    drop_tree(tree);
-    told
-}
-
-/// Each line has what `spelt` takes, `=>`, and what is shown of it, handed over as bytes and, if it is one, as a text.
-fn are_told(rt: &impl Abort, alloc: Global, cases: &str) -> Result<(), AllocError> {
-    for case in cases.lines() {
-        let (text, wanted) = case.split_once(" => ").expect(rt, "two parts");
+impl Telling for Trees {
+    fn tell(&self, alloc: Global, text: &str, told: &mut String) -> Result<(), AllocError> {
         let bytes = spelt(alloc, text)?;
-        let told = told_of_bytes(alloc, bytes.as_slice())?;
-        assert_eq!(rt; told.as_str(), wanted, "{text}");
-        if let Ok(text) = str::from_utf8(bytes.as_slice()) {
-            let told = told_of_text(alloc, text)?;
-            assert_eq!(rt; told.as_str(), wanted, "{text}");
-        }
+        let tree = parsed(alloc, self.handed, bytes.as_slice());
+        let pushed = push_tree(alloc, told, &tree);
+        drop_tree(tree);
+        pushed
     }
-    Ok(())
 }
 
-#[test]
-fn statements_have_trees(rt: HostRuntime) -> Result<(), AllocError> {
-    const CASES: &str = "SELECT id FROM emp => {id@7 , emp@15}
+/// Statements have trees.
+const STATEMENTS: &str = "SELECT id FROM emp => {id@7 , emp@15}
 select ID , Pay\tFROM\r~Emp; => {id@7 pay@12 , emp@22}
 ~ SELECT _a1,b FROM T_2 ; \r~ => {_a1@9 b@13 , t_2@20}
 SELECT a FROM t WHERE b = 1 => {a@7 , t@14 WHERE b@22 =@24 1}
@@ -62,25 +65,19 @@ SELECT a FROM t JOIN u ON a = b INNER JOIN v ON c < d, w => {a@7 , t@14 JOIN u@2
 SELECT a FROM t LEFT JOIN u y ON a = b LEFT OUTER JOIN v ON NOT (c IS NULL) => {a@7 , t@14 LEFT JOIN u@26 AS y@28 ON a@33 =@35 b@37 LEFT JOIN v@55 ON NOT c@65 IS NULL}
 SELECT a FROM t GROUP BY a, t.b => {a@7 , t@14 BY a@25 BY t@28.b@30}
 SELECT a FROM t ORDER BY a, t.b DESC, c ASC => {a@7 , t@14} ASC a@25 DESC t@28.b@30 ASC c@38";
-    are_told(&rt, rt.alloc(), CASES)
-}
 
-#[test]
-fn conditions_have_trees(rt: HostRuntime) -> Result<(), AllocError> {
-    const CASES: &str =
-        "SELECT a FROM t WHERE a = 1 OR b = 2 AND c = 3 => {a@7 , t@14 WHERE (a@22 =@24 1 OR (b@31 =@33 2 AND c@41 =@43 3 AND ) OR )}
+/// Conditions have trees.
+const CONDITIONS: &str =
+    "SELECT a FROM t WHERE a = 1 OR b = 2 AND c = 3 => {a@7 , t@14 WHERE (a@22 =@24 1 OR (b@31 =@33 2 AND c@41 =@43 3 AND ) OR )}
 SELECT a FROM t WHERE (a = 1 OR b = 2) AND NOT c = 3 AND d = 4 => {a@7 , t@14 WHERE ((a@23 =@25 1 OR b@32 =@34 2 OR ) AND NOT c@47 =@49 3 AND d@57 =@59 4 AND )}
 SELECT a FROM t WHERE a != 'it''s' => {a@7 , t@14 WHERE a@22 <>@24 <it's>}
 SELECT a FROM t WHERE 1 <= NULL AND a IS NOT NULL => {a@7 , t@14 WHERE (1 <=@24 null AND NOT a@36 IS NULL AND )}
 SELECT a FROM t WHERE a IN (SELECT b FROM u) OR -1 NOT IN (SELECT c FROM v) => {a@7 , t@14 WHERE (a@22 IN@24 {b@35 , u@42} OR NOT -1 IN@55 {c@66 , v@73} OR )}
 SELECT a FROM t WHERE NOT EXISTS (SELECT * FROM u WHERE a = b GROUP BY c) => {a@7 , t@14 WHERE NOT EXISTS {*@41, u@48 WHERE a@56 =@58 b@60 BY c@71}}
 SELECT a FROM t JOIN u ON a = b AND (c > 1 OR d IS NULL) => {a@7 , t@14 JOIN u@21 ON (a@26 =@28 b@30 AND (c@37 >@39 1 OR d@46 IS NULL OR ) AND )}";
-    are_told(&rt, rt.alloc(), CASES)
-}
 
-#[test]
-fn each_operator_is_the_longest(rt: HostRuntime) -> Result<(), AllocError> {
-    const CASES: &str = "SELECT a FROM t WHERE b=1 => {a@7 , t@14 WHERE b@22 =@23 1}
+/// Each operator is the longest.
+const OPERATORS: &str = "SELECT a FROM t WHERE b=1 => {a@7 , t@14 WHERE b@22 =@23 1}
 SELECT a FROM t WHERE b<>1 => {a@7 , t@14 WHERE b@22 <>@23 1}
 SELECT a FROM t WHERE b!=1 => {a@7 , t@14 WHERE b@22 <>@23 1}
 SELECT a FROM t WHERE b<1 => {a@7 , t@14 WHERE b@22 <@23 1}
@@ -89,35 +86,26 @@ SELECT a FROM t WHERE b>1 => {a@7 , t@14 WHERE b@22 >@23 1}
 SELECT a FROM t WHERE b>=1 => {a@7 , t@14 WHERE b@22 >=@23 1}
 SELECT a FROM t WHERE b<-1 => {a@7 , t@14 WHERE b@22 <@23 -1}
 SELECT a FROM t WHERE b = >1 => P04 at 26";
-    are_told(&rt, rt.alloc(), CASES)
-}
 
-#[test]
-fn numbers_have_64_bits(rt: HostRuntime) -> Result<(), AllocError> {
-    const CASES: &str =
-        "SELECT a FROM t WHERE b = 9223372036854775807 => {a@7 , t@14 WHERE b@22 =@24 9223372036854775807}
+/// Numbers have 64 bits.
+const NUMBERS: &str =
+    "SELECT a FROM t WHERE b = 9223372036854775807 => {a@7 , t@14 WHERE b@22 =@24 9223372036854775807}
 SELECT a FROM t WHERE b = -9223372036854775808 => {a@7 , t@14 WHERE b@22 =@24 -9223372036854775808}
 SELECT a FROM t WHERE b = 9223372036854775808 => P03 at 26
 SELECT a FROM t WHERE b = -9223372036854775809 => P03 at 26
 SELECT a FROM t WHERE b = 0000000000000000000000000007 => {a@7 , t@14 WHERE b@22 =@24 7}
 SELECT a FROM t WHERE b = -0 => {a@7 , t@14 WHERE b@22 =@24 0}";
-    are_told(&rt, rt.alloc(), CASES)
-}
 
-#[test]
-fn texts_double_their_quotes(rt: HostRuntime) -> Result<(), AllocError> {
-    const CASES: &str = "SELECT a FROM t WHERE b = 'it''s' => {a@7 , t@14 WHERE b@22 =@24 <it's>}
+/// Texts double their quotes.
+const QUOTES: &str = "SELECT a FROM t WHERE b = 'it''s' => {a@7 , t@14 WHERE b@22 =@24 <it's>}
 SELECT a FROM t WHERE b = ''; => {a@7 , t@14 WHERE b@22 =@24 <>}
 SELECT a FROM t WHERE b = '''' => {a@7 , t@14 WHERE b@22 =@24 <'>}
 SELECT a FROM t WHERE b = 'Ä~#' => {a@7 , t@14 WHERE b@22 =@24 <Ä~#>}
 SELECT a FROM t WHERE b = 'x => P02 at 26
 SELECT a FROM t WHERE b = 'x'' => P02 at 26";
-    are_told(&rt, rt.alloc(), CASES)
-}
 
-#[test]
-fn faults_of_tokens_go_first(rt: HostRuntime) -> Result<(), AllocError> {
-    const CASES: &str = "SELECT a FROM t WHERE b ! 1 => P01 at 24
+/// Faults of tokens go first.
+const TOKENS: &str = "SELECT a FROM t WHERE b ! 1 => P01 at 24
 SELECT # FROM t => P01 at 7
 SELECT a FROM t WHERE b = - 1 => P01 at 26
 SELECT é FROM t => P01 at 7
@@ -136,12 +124,9 @@ SELECT SELECT # 9223372036854775808 => P01 at 14
 FROM 'x => P02 at 5
 9223372036854775808 'x # => P03 at 0
 'x # 9223372036854775808 => P02 at 0";
-    are_told(&rt, rt.alloc(), CASES)
-}
 
-#[test]
-fn tokens_out_of_place(rt: HostRuntime) -> Result<(), AllocError> {
-    const CASES: &str = " => P04 at 0
+/// Tokens out of place.
+const OUT_OF_PLACE: &str = " => P04 at 0
 id => P04 at 0
 SELECT => P04 at 6
 SELECT id FROM emp LIMIT 1 => P04 at 25
@@ -184,36 +169,41 @@ SELECT a FROM t WHERE => P04 at 21
 SELECT a FROM t WHERE b = 1 AND => P04 at 31
 SELECT a FROM t WHERE sum = 1 => P04 at 22
 SELECT a FROM t;; => P04 at 16";
-    are_told(&rt, rt.alloc(), CASES)
-}
 
-#[test]
-fn parentheses_have_a_limit(rt: HostRuntime) -> Result<(), AllocError> {
-    const CASES: &str =
-        "SELECT id FROM emp WHERE |64*(|id = 1|64*) => {id@7 , emp@15 WHERE id@89 =@92 1}
+/// Parentheses have a limit.
+const PARENTHESES: &str =
+    "SELECT id FROM emp WHERE |64*(|id = 1|64*) => {id@7 , emp@15 WHERE id@89 =@92 1}
 SELECT id FROM emp WHERE |64*(|id = 1|64*)|2* AND (id = 2) => {id@7 , emp@15 WHERE (id@89 =@92 1 AND id@165 =@168 2 AND id@178 =@181 2 AND )}
 SELECT id FROM emp WHERE |65*(|id = 1|65*) => P05 at 89
 SELECT id FROM emp WHERE = |65*( => P04 at 25
 SELECT id FROM emp WHERE |64*(|id = ( => P04 at 94
 SELECT id FROM emp WHERE |63*(|EXISTS (SELECT COUNT( => P05 at 108
 SELECT id FROM emp JOIN dept ON |65*( => P05 at 96";
-    are_told(&rt, rt.alloc(), CASES)
-}
 
-#[test]
-fn texts_have_a_limit(rt: HostRuntime) -> Result<(), AllocError> {
-    const CASES: &str = "SELECT a FROM t|65521*  => {a@7 , t@14}
+/// Texts have a limit.
+const LIMIT: &str = "SELECT a FROM t|65521*  => {a@7 , t@14}
 SELECT a FROM t|65521* |# => P06 at 65536
 SELECT a FROM t WHERE a = b|7278* OR a = b|7* |# => P06 at 65536";
-    are_told(&rt, rt.alloc(), CASES)
-}
+
+/// Bytes that are no text, the last a character that is cut off.
+const NO_TEXT: &str = "SELECT ^ FROM t => P01 at 7
+# ` => P01 at 2";
 
 #[test]
-fn bytes_are_no_text(rt: HostRuntime) -> Result<(), AllocError> {
-    const CASES: &str = "SELECT ^ FROM t => P01 at 7";
-    are_told(&rt, rt.alloc(), CASES)?;
-    // A character that is cut off.
-    let told = told_of_bytes(rt.alloc(), b"# \xc3")?;
-    assert_eq!(rt; told.as_str(), "P01 at 2");
-    Ok(())
+fn texts_have_trees_or_faults(rt: HostRuntime) {
+    let tables = [
+        STATEMENTS,
+        CONDITIONS,
+        OPERATORS,
+        NUMBERS,
+        QUOTES,
+        TOKENS,
+        OUT_OF_PLACE,
+        PARENTHESES,
+        LIMIT,
+        NO_TEXT,
+    ];
+    let (bytes, text) = (Handed::Bytes, Handed::Text);
+    are_told(&rt, rt.alloc(), &tables, &Trees { handed: bytes });
+    are_told(&rt, rt.alloc(), &tables, &Trees { handed: text });
 }

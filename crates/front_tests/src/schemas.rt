@@ -1,21 +1,22 @@
 //! Schemas read from JSON, and the codes of other bytes.
 
-use fixtures::{COMPANY, spelt};
+use crate::judged::are_told;
+use fixtures::{COMPANY, Telling, push_number, schema_of, spelt};
 use schema::{Column, Kind, Schema, Table};
 use std::alloc::{AllocError, Global};
-use std::fmt::Write;
 use std::process::Abort;
 use values::{Fault, Items};
 
 // ---- schemas as texts
 
 fn push_column(told: &mut String, column: &Column) -> Result<(), AllocError> {
-    let kind = match column.kind {
-        Kind::Int => "INT",
-        Kind::Text => "TEXT",
-    };
-    let null = if column.not_null { " NOT NULL" } else { "" };
-    write!(told, " {} {kind}{null},", column.name.as_str())
+    told.push_str(" ")?;
+    told.push_str(column.name.as_str())?;
+    told.push_str(match column.kind {
+        Kind::Int => " INT",
+        Kind::Text => " TEXT",
+    })?;
+    told.push_str(if column.not_null { " NOT NULL," } else { "," })
 }
 
 /// The lists, each after ` (`.
@@ -23,7 +24,7 @@ fn push_lists(told: &mut String, lists: &[Items<usize>]) -> Result<(), AllocErro
     for list in lists {
         told.push_str(" (")?;
         for place in list.as_slice() {
-            write!(told, " {place}")?;
+            push_number(told, " ", *place)?;
         }
         told.push_str(" )")?;
     }
@@ -43,29 +44,36 @@ fn push_table(told: &mut String, table: &Table) -> Result<(), AllocError> {
     told.push_str("; ")
 }
 
-/// Copies of the tables, as a text.
-fn schema_text(alloc: Global, schema: &Schema) -> Result<String, AllocError> {
-    let mut told = String::new(alloc);
+/// Tells copies of a schema's tables.
+fn push_schema(alloc: Global, told: &mut String, schema: &Schema) -> Result<(), AllocError> {
     for table in schema.tables.as_slice() {
-        push_table(&mut told, &table.copy(alloc)?)?;
+        let copy = table.copy(alloc)?;
+        push_table(told, &copy)?;
     }
+    Ok(())
+}
+
+fn company_told(alloc: Global) -> Result<String, AllocError> {
+    let mut told = String::new(alloc);
+    let schema = schema_of(alloc, COMPANY)?;
+    push_schema(alloc, &mut told, &schema)?;
     Ok(told)
 }
 
 #[test]
-fn a_schema_is_read(rt: HostRuntime) -> Result<(), AllocError> {
-    let schema = Schema::read(rt.alloc(), COMPANY.as_bytes()).expect(&rt, "a schema");
+fn a_schema_is_read(rt: HostRuntime) {
     assert_eq!(rt;
-        schema_text(rt.alloc(), &schema)?.as_str(),
-        "dept: id INT NOT NULL, name TEXT NOT NULL, boss INT, unique ( 0 ), indexed; emp: id INT NOT NULL, dept INT, pay INT, badge INT, unique ( 0 ) ( 3 ), indexed ( 1 0 ); "
+        company_told(rt.alloc()).as_deref(),
+        Ok(
+            "dept: id INT NOT NULL, name TEXT NOT NULL, boss INT, unique ( 0 ), indexed; emp: id INT NOT NULL, dept INT, pay INT, badge INT, unique ( 0 ) ( 3 ), indexed ( 1 0 ); "
+        )
     );
-    Ok(())
 }
 
 // ---- codes
 
 /// How a text reads: the code of its refusal, or `schema`.
-fn told(alloc: Global, bytes: &[u8]) -> &'static str {
+fn code_of(alloc: Global, bytes: &[u8]) -> &'static str {
     match Schema::read(alloc, bytes) {
         Ok(_) => "schema",
         Err(Fault::Memory) => "memory",
@@ -73,26 +81,29 @@ fn told(alloc: Global, bytes: &[u8]) -> &'static str {
     }
 }
 
-/// Each line has what `spelt` takes between the front and the back, `=>`, and what is told of all three.
-fn are_told(
-    rt: &impl Abort,
-    alloc: Global,
-    front: &str,
-    cases: &str,
-    back: &str,
-) -> Result<(), AllocError> {
-    for case in cases.lines() {
-        let (text, wanted) = case.split_once(" => ").expect(rt, "two parts");
-        let text = format!(in alloc; "{front}{text}{back}")?;
-        let bytes = spelt(alloc, text.as_str())?;
-        assert_eq!(rt; told(alloc, bytes.as_slice()), wanted, "{text}");
+/// Tells how what a text spells reads between two other texts.
+#[derive(Drop)]
+struct Codes<'a> {
+    front: &'a str,
+    back: &'a str,
+}
+
+impl Telling for Codes<'_> {
+    fn tell(&self, alloc: Global, text: &str, told: &mut String) -> Result<(), AllocError> {
+        let mut bytes = spelt(alloc, self.front)?;
+        bytes.extend_from_slice(spelt(alloc, text)?.as_slice())?;
+        bytes.extend_from_slice(self.back.as_bytes())?;
+        told.push_str(code_of(alloc, bytes.as_slice()))
     }
-    Ok(())
+}
+
+fn are_read(rt: &impl Abort, alloc: Global, front: &str, cases: &str, back: &str) {
+    are_told(rt, alloc, &[cases], &Codes { front, back });
 }
 
 /// The last of two members with one key is the one that counts.
 #[test]
-fn other_bytes_are_refused(rt: HostRuntime) -> Result<(), AllocError> {
+fn other_bytes_are_refused(rt: HostRuntime) {
     const CASES: &str = r#" => S01
 {"tables":[] => S01
 {"tables":["^"]} => S01
@@ -105,16 +116,13 @@ fn other_bytes_are_refused(rt: HostRuntime) -> Result<(), AllocError> {
 {"tables":[1]} => S02
 {"tables":1,"tables":[]} => schema
 {"tables":[],"tables":1} => S02"#;
-    are_told(&rt, rt.alloc(), "", CASES, "")?;
-    assert_eq!(rt;
-        told(rt.alloc(), "\u{FEFF}{\"tables\":[]}".as_bytes()),
-        "S01"
-    );
-    Ok(())
+    const MARKED: &str = "\u{FEFF}{\"tables\":[]} => S01";
+    are_read(&rt, rt.alloc(), "", CASES, "");
+    are_read(&rt, rt.alloc(), "", MARKED, "");
 }
 
 #[test]
-fn other_names_are_refused(rt: HostRuntime) -> Result<(), AllocError> {
+fn other_names_are_refused(rt: HostRuntime) {
     const FRONT: &str = r#"{"tables":[{"name":"#;
     const CASES: &str = r#""t" => schema
 "_t1" => schema
@@ -130,11 +138,11 @@ fn other_names_are_refused(rt: HostRuntime) -> Result<(), AllocError> {
 7 => S02"#;
     const BACK: &str =
         r#","columns":[{"name":"a","kind":"INT","not_null":true}],"unique":[],"indexes":[]}]}"#;
-    are_told(&rt, rt.alloc(), FRONT, CASES, BACK)
+    are_read(&rt, rt.alloc(), FRONT, CASES, BACK);
 }
 
 #[test]
-fn other_columns_are_refused(rt: HostRuntime) -> Result<(), AllocError> {
+fn other_columns_are_refused(rt: HostRuntime) {
     const FRONT: &str = r#"{"tables":[{"name":"t","columns":["#;
     const CASES: &str = r#" => S02
 {"name":"order","kind":"INT","not_null":true} => S02
@@ -144,12 +152,12 @@ fn other_columns_are_refused(rt: HostRuntime) -> Result<(), AllocError> {
 {"name":"a","kind":"INT","not_null":true,"x":1} => S02
 {"name":"a","kind":"INT","not_null":true},{"name":"a","kind":"TEXT","not_null":true} => S03"#;
     const BACK: &str = r#"],"unique":[],"indexes":[]}]}"#;
-    are_told(&rt, rt.alloc(), FRONT, CASES, BACK)
+    are_read(&rt, rt.alloc(), FRONT, CASES, BACK);
 }
 
 /// A name that repeats is told before one that is unknown, and too many before either.
 #[test]
-fn other_lists_are_refused(rt: HostRuntime) -> Result<(), AllocError> {
+fn other_lists_are_refused(rt: HostRuntime) {
     const FRONT: &str =
         r#"{"tables":[{"name":"t","columns":[{"name":"a","kind":"INT","not_null":true},{"name":"b","kind":"INT","not_null":true}],"#;
     const CASES: &str = r#""unique":[["a"],["a"],["b","a"]],"indexes":[] => schema
@@ -167,12 +175,12 @@ fn other_lists_are_refused(rt: HostRuntime) -> Result<(), AllocError> {
 "unique":[["c"]],"indexes":[["a","b","a","b","a","b","a","b","a"]] => S05
 "unique":[["a","b","a","b","a","b","a","b","a"]],"indexes":[[]] => S02"#;
     const BACK: &str = r#"}]}"#;
-    are_told(&rt, rt.alloc(), FRONT, CASES, BACK)
+    are_read(&rt, rt.alloc(), FRONT, CASES, BACK);
 }
 
 /// Each text has two faults, of which the first code in the order S01, S02, S05, S03, S04 is told.
 #[test]
-fn the_first_code_is_told(rt: HostRuntime) -> Result<(), AllocError> {
+fn the_first_code_is_told(rt: HostRuntime) {
     const FRONT: &str =
         r#"{"tables":[{"name":"t","columns":[{"name":"a","kind":"INT","not_null":true},{"name":"b","kind":"INT","not_null":true}],"#;
     const CASES: &str = r#""unique":[["A"]],"indexes":[} => S01
@@ -185,11 +193,11 @@ fn the_first_code_is_told(rt: HostRuntime) -> Result<(), AllocError> {
 "unique":[["c","c"]],"indexes":[] => S03
 "unique":[["c"]],"indexes":[["a"]] => S04"#;
     const BACK: &str = r#"}]}"#;
-    are_told(&rt, rt.alloc(), FRONT, CASES, BACK)
+    are_read(&rt, rt.alloc(), FRONT, CASES, BACK);
 }
 
 #[test]
-fn sizes_are_bounded(rt: HostRuntime) -> Result<(), AllocError> {
+fn sizes_are_bounded(rt: HostRuntime) {
     const FRONT: &str = r#"{"tables":["#;
     const CASES: &str =
         r#"{"name":"t","columns":[{"name":"x","kind":"TEXT","not_null":false}],"unique":[],"indexes":[]}|63*,{"name":"t#","columns":[{"name":"x","kind":"TEXT","not_null":false}],"unique":[],"indexes":[]}| => schema
@@ -202,5 +210,5 @@ fn sizes_are_bounded(rt: HostRuntime) -> Result<(), AllocError> {
 {"name":"t","columns":[{"name":"x","kind":"TEXT","not_null":false}|8*,{"name":"c#","kind":"TEXT","not_null":false}|],"unique":[["x"|8*,"c#"|]],"indexes":[["x"|8*,"c#"|]]} => S05
 {"name":"t","columns":[{"name":"a","kind":"INT","not_null":true}],"unique":[["x"]],"indexes":[]},{"name":"t","columns":[{"name":"a","kind":"INT","not_null":true}],"unique":[],"indexes":[]} => S03"#;
     const BACK: &str = r#"]}"#;
-    are_told(&rt, rt.alloc(), FRONT, CASES, BACK)
+    are_read(&rt, rt.alloc(), FRONT, CASES, BACK);
 }

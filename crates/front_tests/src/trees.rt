@@ -1,5 +1,6 @@
 //! Trees of statements as texts, with the places of their parts.
 
+use fixtures::{push_lines, push_number};
 use sql_parse::Name;
 use sql_parse::statement::{
     AggregateCall, AggregateFunction, ColumnName, Condition, ItemValue, Join, JoinKind, Operator,
@@ -25,7 +26,8 @@ fn later<'a>(parts: &mut Vec<Part<'a>>, part: Part<'a>) -> Result<(), AllocError
 }
 
 fn push_name(told: &mut String, name: &Name) -> Result<(), AllocError> {
-    write!(told, "{}@{}", name.text.as_str(), name.at)
+    told.push_str(name.text.as_str())?;
+    push_number(told, "@", name.at)
 }
 
 fn push_alias(told: &mut String, alias: &Option<Name>) -> Result<(), AllocError> {
@@ -48,20 +50,27 @@ fn push_column(told: &mut String, column: &ColumnName) -> Result<(), AllocError>
 
 fn sign(comparison: Comparison) -> &'static str {
     match comparison {
-        Comparison::Equal => "=",
-        Comparison::NotEqual => "<>",
-        Comparison::Less => "<",
-        Comparison::LessOrEqual => "<=",
-        Comparison::Greater => ">",
-        Comparison::GreaterOrEqual => ">=",
+        Comparison::Equal => " =",
+        Comparison::NotEqual => " <>",
+        Comparison::Less => " <",
+        Comparison::LessOrEqual => " <=",
+        Comparison::Greater => " >",
+        Comparison::GreaterOrEqual => " >=",
     }
+}
+
+/// A text between `<` and `>`, with `~` for a line feed.
+fn push_quoted(told: &mut String, text: &str) -> Result<(), AllocError> {
+    told.push_str("<")?;
+    push_lines(told, text, "~")?;
+    told.push_str(">")
 }
 
 fn push_literal(told: &mut String, value: &Value) -> Result<(), AllocError> {
     match value {
         Value::Null => told.push_str("null"),
         Value::Int(number) => write!(told, "{number}"),
-        Value::Text(text) => write!(told, "<{}>", text.as_str()),
+        Value::Text(text) => push_quoted(told, text.as_str()),
     }
 }
 
@@ -82,7 +91,9 @@ fn function_name(function: AggregateFunction) -> &'static str {
 }
 
 fn push_call(told: &mut String, call: &AggregateCall) -> Result<(), AllocError> {
-    write!(told, "{}@{}(", function_name(call.function), call.at)?;
+    told.push_str(function_name(call.function))?;
+    push_number(told, "@", call.at)?;
+    told.push_str("(")?;
     match &call.column {
         Some(column) => push_column(told, column)?,
         None => told.push_str("*")?,
@@ -108,7 +119,7 @@ fn push_items(told: &mut String, items: &[SelectItem]) -> Result<(), AllocError>
 
 fn push_list(told: &mut String, list: &SelectList) -> Result<(), AllocError> {
     match list {
-        SelectList::Star(at) => write!(told, "*@{at}"),
+        SelectList::Star(at) => push_number(told, "*@", *at),
         SelectList::Items(items) => push_items(told, items.as_slice()),
     }
 }
@@ -134,7 +145,9 @@ fn push_comparison(
     right: &Term,
 ) -> Result<(), AllocError> {
     push_term(told, left)?;
-    write!(told, " {}@{} ", sign(by.comparison), by.at)?;
+    told.push_str(sign(by.comparison))?;
+    push_number(told, "@", by.at)?;
+    told.push_str(" ")?;
     push_term(told, right)
 }
 
@@ -177,7 +190,8 @@ fn push_condition<'a>(
         }
         Condition::In(term, at, query) => {
             push_term(told, term)?;
-            write!(told, " IN@{at} ")?;
+            push_number(told, " IN@", *at)?;
+            told.push_str(" ")?;
             later(parts, Part::Select(query.get()))
         }
     }
@@ -244,16 +258,19 @@ fn push_order(told: &mut String, order: &[OrderKey]) -> Result<(), AllocError> {
 /// The most parts of a tree that is told.
 const MOST_PARTS: usize = 10_000;
 
-pub fn statement_text(alloc: Global, statement: &Statement) -> Result<String, AllocError> {
-    let mut told = String::new(alloc);
+/// Adds a statement's tree.
+pub fn push_statement(
+    alloc: Global,
+    told: &mut String,
+    statement: &Statement,
+) -> Result<(), AllocError> {
     let mut parts = Vec::new(alloc);
     later(&mut parts, Part::Select(&statement.select))?;
     for _ in 0..MOST_PARTS {
         let Some(part) = parts.pop() else {
             break;
         };
-        push_part(&mut told, &mut parts, part)?;
+        push_part(told, &mut parts, part)?;
     }
-    push_order(&mut told, statement.order.as_slice())?;
-    Ok(told)
+    push_order(told, statement.order.as_slice())
 }

@@ -1,0 +1,92 @@
+//! Worked queries over two small tables, with the answers that SQL gives.
+
+ghost use Rattle.query.specs.Bound.{IsBoundOver};
+
+use crate::judged::queries_are_told;
+use fixtures::{COMPANY, DEPT, EMP, QueryTelling, Tables, push_rows};
+use oracle::meaning;
+use query::Query;
+use std::alloc::{AllocError, Global};
+use store::Database;
+
+/// Tells the rows that a query means, in the order of the tables' rows where the text has none.
+struct Meaning;
+
+impl QueryTelling for Meaning {
+    fn tell(
+        &self,
+        alloc: Global,
+        database: &Database<'_>,
+        query: &Query,
+        _more: &str,
+        told: &mut String,
+    ) -> Result<(), AllocError> {
+        push_rows(told, meaning(alloc, query, database)?.as_slice())
+    }
+}
+
+/// Comparisons have three truths.
+const COMPARISONS: &str = "SELECT id FROM emp WHERE pay <> 500 => ;12,
+SELECT name, id FROM dept WHERE id >= 2 => ;lab,2,;dev,3,
+SELECT id FROM emp WHERE pay = NULL =>
+SELECT id FROM dept => ;1,;2,;3,
+SELECT id FROM emp WHERE (badge IS NULL OR pay = 500) AND NOT pay = 400 => ;10,;13,";
+
+/// One Null spoils a NOT IN, and none is in an empty subquery. The innermost block names the outermost one's row.
+const SUBQUERIES: &str = "SELECT id FROM dept WHERE id NOT IN (SELECT dept FROM emp) =>
+SELECT id FROM dept WHERE id NOT IN (SELECT dept FROM emp WHERE dept IS NOT NULL) => ;2,
+SELECT id FROM dept WHERE id IN (SELECT dept FROM emp) => ;1,;3,
+SELECT boss FROM dept WHERE boss NOT IN (SELECT id FROM emp WHERE pay > 1000) => ;10,;-,;12,
+SELECT id FROM dept d WHERE NOT EXISTS (SELECT id FROM emp e WHERE e.dept = d.id) => ;2,
+SELECT id FROM dept d WHERE EXISTS (SELECT id FROM dept x WHERE EXISTS (SELECT id FROM emp e WHERE d.boss = e.id)) => ;1,;3,";
+
+/// Left joins pad what has no match.
+const JOINS: &str =
+    "SELECT d.id, e.id FROM dept d LEFT JOIN emp e ON e.dept = d.id => ;1,10,;1,11,;2,-,;3,12,
+SELECT d.id, e.id FROM dept d LEFT JOIN emp e ON e.dept = d.id WHERE e.pay > 0 => ;1,10,;3,12,
+SELECT d.id, e.id FROM dept d LEFT JOIN emp e ON e.dept = d.id WHERE e.pay IS NULL => ;1,11,;2,-,
+SELECT d.id, e.id, f.id FROM dept d, emp e JOIN dept f ON f.id = e.dept WHERE d.id = 2 => ;2,10,1,;2,11,1,;2,12,3,";
+
+/// With GROUP BY no rows give no groups.
+const AGGREGATES: &str =
+    "SELECT COUNT(*), COUNT(pay), SUM(pay), MIN(pay), MAX(pay) FROM emp => ;4,3,1400,400,500,
+SELECT COUNT(*), COUNT(pay), SUM(pay), MIN(pay), MAX(pay) FROM emp WHERE id < 0 => ;0,0,-,-,-,
+SELECT COUNT(*), COUNT(pay), SUM(pay), MIN(pay), MAX(pay) FROM emp WHERE id < 0 GROUP BY dept =>
+SELECT MIN(name), MAX(name) FROM dept => ;dev,ops,
+SELECT dept, SUM(pay) FROM emp GROUP BY dept ORDER BY dept DESC => ;3,400,;1,500,;-,500,
+SELECT dept, SUM(pay) FROM emp GROUP BY dept ORDER BY dept => ;-,500,;1,500,;3,400,
+SELECT DISTINCT SUM(pay) s FROM emp GROUP BY dept ORDER BY s => ;400,;500,";
+
+/// Nulls come first, and DISTINCT leaves one of each.
+const DISTINCT_AND_ORDER: &str = "SELECT DISTINCT badge FROM emp ORDER BY badge => ;-,;7,;9,
+SELECT pay, id FROM emp ORDER BY pay, id DESC => ;-,11,;400,12,;500,13,;500,10,
+SELECT pay, id FROM emp ORDER BY pay DESC, id => ;500,10,;500,13,;400,12,;-,11,";
+
+/// Two pays whose sum is past 64 bits.
+const RICH: &str = "id,dept,pay,badge\n1,1,9223372036854775807,\\N\n2,1,9223372036854775807,\\N\n";
+
+const SUM: &str =
+    "SELECT MAX(pay), SUM(pay) FROM emp => ;9223372036854775807,18446744073709551614,";
+
+#[test]
+fn worked_queries(rt: HostRuntime) {
+    let lists = [
+        COMPARISONS,
+        SUBQUERIES,
+        JOINS,
+        AGGREGATES,
+        DISTINCT_AND_ORDER,
+    ];
+    let company = Tables {
+        schema: COMPANY,
+        first: DEPT,
+        second: EMP,
+    };
+    let rich = Tables {
+        schema: COMPANY,
+        first: DEPT,
+        second: RICH,
+    };
+    queries_are_told(&rt, rt.alloc(), company, &lists, &Meaning);
+    queries_are_told(&rt, rt.alloc(), rich, &[SUM], &Meaning);
+}

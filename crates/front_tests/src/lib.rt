@@ -1,0 +1,21 @@
+//! Tests of what comes before a plan: `values`, `schema`, `sql_parse`, `binder`, `store` and `oracle`.
+#![tactic(auto)]
+
+#[cfg(test)]
+mod answers;
+#[cfg(test)]
+mod cells;
+#[cfg(test)]
+mod copies;
+#[cfg(test)]
+mod files;
+#[cfg(test)]
+mod judged;
+#[cfg(test)]
+mod names;
+#[cfg(test)]
+mod schemas;
+#[cfg(test)]
+mod statements;
+#[cfg(test)]
+mod trees;

@@ -1,0 +1,97 @@
+//! Whole queries by both commands, from bytes to bytes.
+
+ghost use Rattle.pipeline.specs.EndToEnd.{HasTables};
+
+use executor::CountedOutput;
+use fixtures::push_lines;
+use pipeline::{Refusal, evaluate, fault_line, query};
+use schema::Schema;
+use std::alloc::{AllocError, Global};
+use std::io::BufWriter;
+use std::str;
+use store::CountedInput;
+use values::Fault;
+
+/// By what a query is answered.
+#[derive(Clone, Copy)]
+pub enum Way {
+    Plan,
+    Meaning,
+}
+
+/// What a command reads.
+#[derive(Clone, Copy)]
+pub struct Files<'a> {
+    pub schema: &'a [u8],
+    pub text: &'a [u8],
+    pub dept: &'a [u8],
+    pub emp: &'a [u8],
+}
+
+/// Runs a command over the two tables.
+fn answer(
+    alloc: Global,
+    way: Way,
+    files: Files<'_>,
+    out: &mut CountedOutput<BufWriter<Vec<u8>>>,
+) -> Result<(), Refusal>
+    requires { HasTables files.schema.now 2 }
+{
+    let mut tables = [CountedInput::new(files.dept), CountedInput::new(files.emp)];
+    match way {
+        Way::Plan => query(alloc, files.schema, files.text, &mut tables, 20000, out),
+        Way::Meaning => evaluate(alloc, files.schema, files.text, &mut tables, out),
+    }
+}
+
+/// The lines of what was written, with `;` between them, and the line that reports a refusal.
+fn push_outcome(
+    alloc: Global,
+    told: &mut String,
+    written: &[u8],
+    outcome: &Result<(), Refusal>,
+    schema: Option<&Schema>,
+) -> Result<(), AllocError> {
+    let written = str::from_utf8(written).unwrap_or("no text");
+    push_lines(told, written.strip_suffix("\n").unwrap_or(written), ";")?;
+    match outcome {
+        Ok(()) => Ok(()),
+        Err(refusal) => told.push_str(fault_line(alloc, refusal, schema)?.as_str()),
+    }
+}
+
+/// What a command writes and reports. What is still in the buffer was not handed on.
+fn push_written(
+    alloc: Global,
+    told: &mut String,
+    way: Way,
+    files: Files<'_>,
+    schema: Option<&Schema>,
+) -> Result<(), AllocError>
+    requires { HasTables files.schema.now 2 }
+{
+    let Ok(buffer) = BufWriter::new(alloc, Vec::new(alloc)) else {
+        return Err(AllocError);
+    };
+    let mut out = CountedOutput::new(buffer);
+    let outcome = answer(alloc, way, files, &mut out);
+    let (written, _) = out.into_inner().into_parts();
+    push_outcome(alloc, told, written.as_slice(), &outcome, schema)
+}
+
+/// Adds what a command writes, or the line that reports its refusal, before which nothing is written.
+pub fn push_answer(
+    alloc: Global,
+    told: &mut String,
+    way: Way,
+    files: Files<'_>,
+) -> Result<(), AllocError> {
+    match &Schema::read(alloc, files.schema) {
+        Ok(schema) if schema.tables.len() == 2 => {
+            push_written(alloc, told, way, files, Some(schema))
+        }
+        Ok(_) => told.push_str("not two tables"),
+        Err(Fault::Refused(_)) => push_written(alloc, told, way, files, None),
+        Err(Fault::Memory) => Err(AllocError),
+    }
+}
