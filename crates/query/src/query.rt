@@ -103,7 +103,6 @@ pub struct TableUse {
 }
 
 /// A bound query.
-#[derive(Drop)]
 pub struct Query {
     /// Of each occurrence, by its number.
     pub tables: Items<TableUse>,
@@ -111,4 +110,16 @@ pub struct Query {
     /// The items' output names.
     pub names: Items<Text>,
     pub order: Items<SortKey>,
+}
+
+// By hand, so that crates above drop a query by one call.
+impl Drop for Query {
+    fn drop(self) {
+        let Query {
+            tables: _,
+            block: _,
+            names: _,
+            order: _,
+        } = self;
+    }
 }

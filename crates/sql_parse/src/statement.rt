@@ -124,8 +124,17 @@ pub struct OrderKey {
     pub descending: bool,
 }
 
-#[derive(Drop)]
 pub struct Statement {
     pub select: Select,
     pub order: Items<OrderKey>,
+}
+
+// By hand, so that crates above drop a statement by one call.
+impl Drop for Statement {
+    fn drop(self) {
+        let Statement {
+            select: _,
+            order: _,
+        } = self;
+    }
 }
