@@ -10,7 +10,7 @@ pub enum Kind {
     Text,
 }
 
-#[derive(Debug, Drop)]
+#[derive(Drop)]
 pub struct Column {
     pub name: Text,
     pub kind: Kind,
@@ -19,7 +19,7 @@ pub struct Column {
 }
 
 /// A table's entry. Its lists name columns by their places, from 0 in the order of `columns`.
-#[derive(Debug, Drop)]
+#[derive(Drop)]
 pub struct Table {
     pub name: Text,
     pub columns: Items<Column>,
@@ -30,7 +30,7 @@ pub struct Table {
 }
 
 /// The tables that a query may name.
-#[derive(Debug, Drop)]
+#[derive(Drop)]
 pub struct Schema {
     pub tables: Items<Table>,
 }
