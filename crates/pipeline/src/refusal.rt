@@ -21,13 +21,13 @@ use values::Fault;
 pub enum Refusal {
     #[error("out of memory")]
     Memory,
-    #[error("schema: {0}")]
+    #[error(transparent)]
     Schema(SchemaRefusal),
-    #[error("text: {0}")]
+    #[error(transparent)]
     Text(ParseRefusal),
-    #[error("scope: {0}")]
+    #[error(transparent)]
     Scope(BindRefusal),
-    #[error("certificate: {0}")]
+    #[error(transparent)]
     Check(CheckRefusal),
     /// The table by its place in the schema.
     #[error("table {0}: {1}")]
@@ -169,6 +169,13 @@ fn table_line(alloc: Global, name: &str, refusal: TableRefusal) -> Result<String
     }
 }
 
+/// The line of a refusal at a place of the text.
+fn place_line(alloc: Global, code: &str, at: usize) -> Result<String, AllocError>
+    ensures { IfOk result (λ line. string_bytes line ≡ codes "refused " ++ (code.now ++ (codes " at " ++ decimal at))) }
+{
+    format!(in alloc; "refused {code} at {at}")
+}
+
 /// The line that tells a refusal, without its line end. The schema names the table of a table's fault.
 pub fn fault_line(
     alloc: Global,
@@ -183,16 +190,8 @@ pub fn fault_line(
             let code = refusal.code();
             format!(in alloc; "refused {code}")
         }
-        Refusal::Text(refusal) => {
-            let code = refusal.reason.code();
-            let at = refusal.at;
-            format!(in alloc; "refused {code} at {at}")
-        }
-        Refusal::Scope(refusal) => {
-            let code = refusal.reason.code();
-            let at = refusal.at;
-            format!(in alloc; "refused {code} at {at}")
-        }
+        Refusal::Text(refusal) => place_line(alloc, refusal.reason.code(), refusal.at),
+        Refusal::Scope(refusal) => place_line(alloc, refusal.reason.code(), refusal.at),
         Refusal::Check(refusal) => {
             let code = refusal.reason.code();
             let line = refusal.line;

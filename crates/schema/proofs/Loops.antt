@@ -47,9 +47,3 @@ pub each_seen : {A B C R : Type 0} (f : B → Result C R) (see : A → B) (xs : 
 unfolding each
 each_seen f see [] = refl
 each_seen f see (x ∷ xs) = rw (each_seen f see xs) refl
-
--- items that are read as themselves
-pub each_copies : {A R : Type 0} (xs : List A) → each {R = R} (λ x. Ok x) xs ≡ Ok xs
-unfolding each
-each_copies {R = R} [] = refl
-each_copies {R = R} (x ∷ xs) = rw (each_copies {R = R} xs) refl

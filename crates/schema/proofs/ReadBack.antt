@@ -1,5 +1,5 @@
 -- Bytes that spell a schema are read as it.
-use Rattle.std.proofs.Common.{◌≡◌, ◌≢◌, ℕ, zero, suc, ◌<◌, ◌≤◌, ◌&&◌, List, [], ◌∷◌, length, get_or, map, Bool, true, false, ◌⊎◌, inl, inr, Some, Result, Ok, slice_index_or, refl, sym, ap, ◌∙◌, subst, arith, bytes_eq, ◌==◌, nat_le, nat_lt}
+use Rattle.std.proofs.Common.{◌≡◌, ◌≢◌, ℕ, zero, suc, ◌<◌, ◌≤◌, ◌&&◌, List, [], ◌∷◌, length, get_or, map, Bool, true, false, ◌⊎◌, inl, inr, Some, Result, Ok, slice_index_or, refl, sym, ap, ◌∙◌, subst, arith, bytes_eq, codes, ◌==◌, nat_le, nat_lt}
 use Rattle.std.proofs.lemmas.Bool.{le-leb}
 use Rattle.std.proofs.lemmas.Bool.Decides.{nat_tests}
 use Rattle.std.proofs.lemmas.List.{length-map}
@@ -10,7 +10,7 @@ use Rattle.std.specs.Option.{is_none}
 use Rattle.serde_json.specs.Data.{Data, Items}
 use Rattle.serde_json.specs.Events.{members_len}
 use Rattle.serde_json.specs.Read as json
-use Rattle.serde_json.specs.Find.{as_array}
+use Rattle.serde_json.specs.Find.{as_array, as_bool, get}
 use Rattle.values.specs.declared.fault.Fault.{Fault}
 use Rattle.values.specs.Faults.{Gives}
 use Rattle.values.specs.Faults as faults
@@ -24,11 +24,11 @@ use Rattle.schema.specs.declared.entries.TableEntry.{TableEntry}
 use Rattle.schema.specs.Each.{each, Pairs}
 use Rattle.schema.specs.Names.{Name, is_name, place_of, are_different}
 use Rattle.schema.specs.Limits.{is_short, lists_are_few, parts_are_few, are_few, lists_differ, parts_differ, names_differ}
-use Rattle.schema.specs.Entries.{keys_in, kind_in, name_in, names_in, column_in, columns_in, lists_in, table_in, entries_in, some_of, items_in, list_of}
+use Rattle.schema.specs.Entries.{keys_in, kind_in, member_kind, name_in, member_name, member_flag, names_in, column_in, columns_in, lists_in, table_in, tables_in, entries_in, some_of, items_in, member_items, list_of}
 use Rattle.schema.specs.Places.{place_in, places_in, placed}
 use Rattle.schema.specs.Reading.{schema_of}
 use Rattle.schema.specs.Schemas.{AreDifferent, IsColumnList, AreLists, IsTable}
-use Rattle.schema.specs.Spelling.{HasKeys, IsText, IsArray, word_of, IsColumnText, name_in_place, IsListText, IsTableText, IsSchemaText}
+use Rattle.schema.specs.Spelling.{HasKeys, HasMember, IsText, IsArray, word_of, IsColumnText, name_in_place, IsListText, IsTableText, IsSchemaText}
 use Rattle.schema.proofs.Json.{json_ok}
 use Rattle.schema.proofs.Steps.{name_at}
 
@@ -50,9 +50,25 @@ unfolding kind_in
 kind_read d Int t = rw t refl
 kind_read d Text t = rw t refl
 
+member_name_read : (d : Data) (name : Name) → HasMember (codes "name") (λ m. IsText m name) d → is_name name ≡ true → member_name d ≡ Ok name
+unfolding member_name
+member_name_read d name (m, is, text) named = rw (is, name_read m name text named) refl
+
+member_kind_read : (d : Data) (k : Kind) → HasMember (codes "kind") (λ m. IsText m (word_of k)) d → member_kind d ≡ Ok k
+unfolding member_kind
+member_kind_read d k (m, is, text) = rw (is, kind_read m k text) refl
+
+member_flag_read : (key : Name) (d : Data) (b : Bool) → HasMember key (λ m. as_bool m ≡ Some b) d → member_flag key d ≡ Ok b
+unfolding member_flag
+member_flag_read key d b (m, is, flag) = rw (is, flag) refl
+
 items_read : (d : Data) (items : Items) → as_array d ≡ Some items → items_in d ≡ Ok (list_of items)
 unfolding items_in
 items_read d items e = rw e refl
+
+member_items_read : (key : Name) (d m : Data) (items : Items) → get key d ≡ Some m → as_array m ≡ Some items → member_items key d ≡ Ok (list_of items)
+unfolding member_items
+member_items_read key d m items is e = rw (is, items_read m items e) refl
 
 each_read : {A B R : Type 0} (f : A → Result B R) (xs : List A) (ys : List B) → Pairs (λ x y. f x ≡ Ok y) xs ys → each f xs ≡ Ok ys
 unfolding each
@@ -81,15 +97,12 @@ some_read (x ∷ xs) lt = let z : (suc (length xs) == 0) ≡ false = grind (arit
 column_read : (d : Data) (c : Column) → IsColumnText d c → is_name c.name ≡ true → column_in d ≡ Ok c
 unfolding column_in
 column_read d c h named =
-    let (n, n_is, n_text) = h.name in
-    let (k, k_is, k_text) = h.kind in
-    let (b, b_is, b_flag) = h.not_null in
-    rw (keys_read 3 d h.keys, n_is, name_read n c.name n_text named, k_is, kind_read k c.kind k_text, b_is, b_flag) refl
+    rw (keys_read 3 d h.keys, member_name_read d c.name h.name named, member_kind_read d c.kind h.kind, member_flag_read (codes "not_null") d c.not_null h.not_null) refl
 
-columns_read : (d : Data) (cs : List Column) → IsArray IsColumnText d cs → AllByRecursion (λ c. is_name c.name ≡ true) cs → 0 < length cs → columns_in d ≡ Ok cs
+columns_read : (d : Data) (cs : List Column) → HasMember (codes "columns") (λ m. IsArray IsColumnText m cs) d → AllByRecursion (λ c. is_name c.name ≡ true) cs → 0 < length cs → columns_in d ≡ Ok cs
 unfolding columns_in
-columns_read d cs (items, is, pairs) named some =
-    rw (items_read d items is, each_read column_in (list_of items) cs (pairs_with column_read (list_of items) cs pairs named)) (some_read cs some)
+columns_read d cs (m, m_is, (items, is, pairs)) named some =
+    rw (member_items_read (codes "columns") d m items m_is is, each_read column_in (list_of items) cs (pairs_with column_read (list_of items) cs pairs named)) (some_read cs some)
 
 -- ---- lists of columns
 
@@ -109,10 +122,10 @@ list_read cs d places named (items, is, pairs) list =
     rw (items_read d items is, each_read name_in (list_of items) (map (name_in_place cs) places) (pairs_image (λ x n. name_in x ≡ Ok n) (name_in_place cs) (λ x p t lt. name_read x (name_in_place cs p) t (named_there cs p named lt)) (list_of items) places pairs list.below))
     (some_read (map (name_in_place cs) places) (omega arith))
 
-lists_read : (cs : List Column) (d : Data) (lists : List (List ℕ)) → AllByRecursion (λ c. is_name c.name ≡ true) cs → IsArray (IsListText cs) d lists → AllByRecursion (IsColumnList (length cs)) lists → lists_in d ≡ Ok (map (names_of_places cs) lists)
+lists_read : (cs : List Column) (key : Name) (d : Data) (lists : List (List ℕ)) → AllByRecursion (λ c. is_name c.name ≡ true) cs → HasMember key (λ m. IsArray (IsListText cs) m lists) d → AllByRecursion (IsColumnList (length cs)) lists → lists_in key d ≡ Ok (map (names_of_places cs) lists)
 unfolding lists_in
-lists_read cs d lists named (items, is, pairs) all =
-    rw (items_read d items is) (each_read names_in (list_of items) (map (names_of_places cs) lists) (pairs_image (λ x n. names_in x ≡ Ok n) (names_of_places cs) (λ x ps t l. list_read cs x ps named t l) (list_of items) lists pairs all))
+lists_read cs key d lists named (m, m_is, (items, is, pairs)) all =
+    rw (member_items_read key d m items m_is is) (each_read names_in (list_of items) (map (names_of_places cs) lists) (pairs_image (λ x n. names_in x ≡ Ok n) (names_of_places cs) (λ x ps t l. list_read cs x ps named t l) (list_of items) lists pairs all))
 
 false_by : (b : Bool) → (b ≡ true → ⊥) → b ≡ false
 false_by true h = absurd (h refl)
@@ -171,11 +184,7 @@ entry_of u = record { name = u.name; columns = u.columns; unique = map (names_of
 table_read : (d : Data) (u : Table) → IsTableText d u → IsTable u → table_in d ≡ Ok (entry_of u)
 unfolding table_in entry_of
 table_read d u h t =
-    let (n, n_is, n_text) = h.name in
-    let (cs, cs_is, cs_text) = h.columns in
-    let (us, us_is, us_text) = h.unique in
-    let (xs, xs_is, xs_text) = h.indexes in
-    rw (keys_read 4 d h.keys, n_is, name_read n u.name n_text t.named, cs_is, columns_read cs u.columns cs_text t.columns_named t.some, us_is, lists_read u.columns us u.unique t.columns_named us_text t.unique.each, xs_is, lists_read u.columns xs u.indexes t.columns_named xs_text t.indexes.each) refl
+    rw (keys_read 4 d h.keys, member_name_read d u.name h.name t.named, columns_read d u.columns h.columns t.columns_named t.some, lists_read u.columns (codes "unique") d u.unique t.columns_named h.unique t.unique.each, lists_read u.columns (codes "indexes") d u.indexes t.columns_named h.indexes t.indexes.each) refl
 
 table_placed : (u : Table) → IsTable u → placed (entry_of u) ≡ Ok u
 unfolding placed entry_of
@@ -293,10 +302,10 @@ tables_differ us h all = and_true (are_different (λ t. t.name) (map entry_of us
 -- ---- the bytes
 
 entries_read : (bytes : List ℕ) (s : Schema) → IsSchemaText bytes s → entries_in bytes ≡ Ok (map entry_of s.tables)
-unfolding entries_in
+unfolding entries_in tables_in
 entries_read bytes s h =
     let (m, m_is, (items, is, pairs)) = h.tables in
-    rw (json_ok bytes h.value h.text h.json, keys_read 1 h.value h.keys, m_is, items_read m items is) (each_read table_in (list_of items) (map entry_of s.tables) (pairs_image (λ x n. table_in x ≡ Ok n) entry_of (λ d u. table_read d u) (list_of items) s.tables pairs h.whole.tables))
+    rw (json_ok bytes h.value h.text h.json, keys_read 1 h.value h.keys, member_items_read (codes "tables") h.value m items m_is is) (each_read table_in (list_of items) (map entry_of s.tables) (pairs_image (λ x n. table_in x ≡ Ok n) entry_of (λ d u. table_read d u) (list_of items) s.tables pairs h.whole.tables))
 
 pub read_back : (bytes : List ℕ) (s : Schema) → IsSchemaText bytes s → schema_of bytes ≡ Ok s
 unfolding schema_of

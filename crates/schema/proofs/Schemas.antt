@@ -13,7 +13,7 @@ use Rattle.schema.specs.declared.schema.Table.{Table}
 use Rattle.schema.specs.declared.entries.TableEntry.{TableEntry}
 use Rattle.schema.specs.Each.{each, Pairs}
 use Rattle.schema.specs.Names.{Name, is_name, are_different}
-use Rattle.schema.specs.Entries.{wanted, json_in, keys_in, field_in, flag_in, kind_in, name_in, names_in, column_in, columns_in, lists_in, table_in, entries_in, some_of, items_in}
+use Rattle.schema.specs.Entries.{wanted, json_in, keys_in, field_in, member_flag, member_kind, name_in, member_name, names_in, column_in, columns_in, lists_in, table_in, tables_in, entries_in, some_of, items_in, member_items}
 use Rattle.schema.specs.Limits.{is_short, lists_are_few, parts_are_few, are_few, lists_differ, parts_differ, names_differ}
 use Rattle.schema.specs.Places.{place_in, places_in, placed}
 use Rattle.schema.specs.Schemas.{AreDifferent, IsColumnList, AreLists, IsTable, IsSchema}
@@ -41,29 +41,32 @@ names_ok d names e =
     let r = some_ok read names v in
     rw (← r.1) r.0
 
-lists_ok : (d : Data) (lists : List (List Name)) → lists_in d ≡ Ok lists → AllByRecursion (λ names. 0 < length names) lists
+member_name_ok : (d : Data) (name : Name) → member_name d ≡ Ok name → is_name name ≡ true
+unfolding member_name
+member_name_ok d name e =
+    let (m, p, q) = bind_ok (field_in (codes "name") d) _ name e in
+    name_ok m name q
+
+lists_ok : (key : Name) (d : Data) (lists : List (List Name)) → lists_in key d ≡ Ok lists → AllByRecursion (λ names. 0 < length names) lists
 unfolding lists_in
-lists_ok d lists e =
-    let (ds, p, q) = bind_ok (items_in d) _ lists e in
+lists_ok key d lists e =
+    let (ds, p, q) = bind_ok (member_items key d) _ lists e in
     pairs_right names_ok ds lists (each_ok names_in ds lists q)
 
 column_ok : (d : Data) (c : Column) → column_in d ≡ Ok c → is_name c.name ≡ true
 unfolding column_in
 column_ok d c e =
     let (keys, p0, q0) = bind_ok (keys_in 3 d) _ c e in
-    let (n, p1, q1) = bind_ok (field_in (codes "name") d) _ c q0 in
-    let (name, p2, q2) = bind_ok (name_in n) _ c q1 in
-    let (k, p3, q3) = bind_ok (field_in (codes "kind") d) _ c q2 in
-    let (kind, p4, q4) = bind_ok (kind_in k) _ c q3 in
-    let (b, p5, q5) = bind_ok (field_in (codes "not_null") d) _ c q4 in
-    let (flag, p6, q6) = bind_ok (flag_in b) _ c q5 in
-    let same : name ≡ c.name = ap (λ (x : Result Column SchemaRefusal). elim x [ Ok y ↦ y.name | Err z ↦ [] ]) q6 in
-    rw (← same) (name_ok n name p2)
+    let (name, p1, q1) = bind_ok (member_name d) _ c q0 in
+    let (kind, p2, q2) = bind_ok (member_kind d) _ c q1 in
+    let (flag, p3, q3) = bind_ok (member_flag (codes "not_null") d) _ c q2 in
+    let same : name ≡ c.name = ap (λ (x : Result Column SchemaRefusal). elim x [ Ok y ↦ y.name | Err z ↦ [] ]) q3 in
+    rw (← same) (member_name_ok d name p1)
 
 columns_ok : (d : Data) (columns : List Column) → columns_in d ≡ Ok columns → (0 < length columns) × AllByRecursion (λ c. is_name c.name ≡ true) columns
 unfolding columns_in
 columns_ok d columns e =
-    let (ds, p, q) = bind_ok (items_in d) _ columns e in
+    let (ds, p, q) = bind_ok (member_items (codes "columns") d) _ columns e in
     let (read, u, v) = bind_ok (each column_in ds) _ columns q in
     let r = some_ok read columns v in
     let named = pairs_right {Q = λ c. is_name c.name ≡ true} column_ok ds read (each_ok column_in ds read u) in
@@ -80,26 +83,21 @@ table_ok : (d : Data) (t : TableEntry) → table_in d ≡ Ok t → IsEntry t
 unfolding table_in
 table_ok d t e =
     let (keys, p0, q0) = bind_ok (keys_in 4 d) _ t e in
-    let (n, p1, q1) = bind_ok (field_in (codes "name") d) _ t q0 in
-    let (name, p2, q2) = bind_ok (name_in n) _ t q1 in
-    let (cs, p3, q3) = bind_ok (field_in (codes "columns") d) _ t q2 in
-    let (columns, p4, q4) = bind_ok (columns_in cs) _ t q3 in
-    let (us, p5, q5) = bind_ok (field_in (codes "unique") d) _ t q4 in
-    let (unique, p6, q6) = bind_ok (lists_in us) _ t q5 in
-    let (is, p7, q7) = bind_ok (field_in (codes "indexes") d) _ t q6 in
-    let (indexes, p8, q8) = bind_ok (lists_in is) _ t q7 in
-    let c = columns_ok cs columns p4 in
-    let whole : IsEntry (record { name = name; columns = columns; unique = unique; indexes = indexes }) = record { named = name_ok n name p2; some = c.0; columns_named = c.1; unique = lists_ok us unique p6; indexes = lists_ok is indexes p8 } in
-    subst IsEntry (cc q8) whole
+    let (name, p1, q1) = bind_ok (member_name d) _ t q0 in
+    let (columns, p2, q2) = bind_ok (columns_in d) _ t q1 in
+    let (unique, p3, q3) = bind_ok (lists_in (codes "unique") d) _ t q2 in
+    let (indexes, p4, q4) = bind_ok (lists_in (codes "indexes") d) _ t q3 in
+    let c = columns_ok d columns p2 in
+    let whole : IsEntry (record { name = name; columns = columns; unique = unique; indexes = indexes }) = record { named = member_name_ok d name p1; some = c.0; columns_named = c.1; unique = lists_ok (codes "unique") d unique p3; indexes = lists_ok (codes "indexes") d indexes p4 } in
+    subst IsEntry (cc q4) whole
 
 entries_ok : (bytes : List ℕ) (ts : List TableEntry) → entries_in bytes ≡ Ok ts → AllByRecursion IsEntry ts
-unfolding entries_in
+unfolding entries_in tables_in
 entries_ok bytes ts e =
     let (d, p0, q0) = bind_ok (json_in bytes) _ ts e in
     let (keys, p1, q1) = bind_ok (keys_in 1 d) _ ts q0 in
-    let (t, p2, q2) = bind_ok (field_in (codes "tables") d) _ ts q1 in
-    let (ds, p3, q3) = bind_ok (items_in t) _ ts q2 in
-    pairs_right table_ok ds ts (each_ok table_in ds ts q3)
+    let (ds, p2, q2) = bind_ok (member_items (codes "tables") d) _ ts q1 in
+    pairs_right table_ok ds ts (each_ok table_in ds ts q2)
 
 -- ---- places
 

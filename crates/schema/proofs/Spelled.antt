@@ -7,7 +7,7 @@ use Rattle.std.proofs.lemmas.Str.{IsUtf8-from_is_utf8}
 use Rattle.serde_json.specs.Data.{Data, Items}
 use Rattle.serde_json.specs.Events.{members_len}
 use Rattle.serde_json.specs.Read as json
-use Rattle.serde_json.specs.Find.{as_str, as_array, as_object}
+use Rattle.serde_json.specs.Find.{as_str, as_bool, as_array, as_object}
 use Rattle.values.specs.Faults as faults
 use Rattle.schema.specs.declared.fault.SchemaRefusal.{SchemaRefusal}
 use Rattle.schema.specs.declared.fault.SchemaRefusal.TheVariants.{NotJson, Shape, UnknownColumn}
@@ -18,10 +18,10 @@ use Rattle.schema.specs.declared.schema.Table.{Table}
 use Rattle.schema.specs.declared.entries.TableEntry.{TableEntry}
 use Rattle.schema.specs.Each.{each, Pairs}
 use Rattle.schema.specs.Names.{Name, is_name}
-use Rattle.schema.specs.Entries.{wanted, json_in, keys_in, field_in, flag_in, kind_in, name_in, names_in, column_in, columns_in, lists_in, table_in, entries_in, items_in, list_of}
+use Rattle.schema.specs.Entries.{wanted, json_in, keys_in, field_in, member_flag, kind_in, member_kind, name_in, member_name, names_in, column_in, columns_in, lists_in, table_in, tables_in, entries_in, items_in, member_items, list_of}
 use Rattle.schema.specs.Places.{place_in, places_in, placed}
 use Rattle.schema.specs.Schemas.{IsSchema}
-use Rattle.schema.specs.Spelling.{HasKeys, IsText, IsArray, word_of, IsColumnText, name_in_place, IsListText, IsTableText, IsSchemaText}
+use Rattle.schema.specs.Spelling.{HasKeys, HasMember, IsText, IsArray, word_of, IsColumnText, name_in_place, IsListText, IsTableText, IsSchemaText}
 use Rattle.schema.proofs.Steps.{bind_ok, wanted_ok, wanted_if_ok, each_ok, place_ok}
 use Rattle.schema.proofs.Schemas.{some_ok}
 
@@ -57,6 +57,18 @@ name_spelt d name e =
     let (text, p, q) = bind_ok (wanted (as_str d)) _ name e in
     wanted_ok Shape (as_str d) text p ∙ ap Some (wanted_if_ok Shape (is_name text) text name q).1
 
+member_name_spelt : (d : Data) (name : Name) → member_name d ≡ Ok name → HasMember (codes "name") (λ m. IsText m name) d
+unfolding member_name
+member_name_spelt d name e =
+    let (m, p, q) = bind_ok (field_in (codes "name") d) _ name e in
+    (m, wanted_ok Shape _ m p, name_spelt m name q)
+
+member_flag_spelt : (key : Name) (d : Data) (flag : Bool) → member_flag key d ≡ Ok flag → HasMember key (λ m. as_bool m ≡ Some flag) d
+unfolding member_flag
+member_flag_spelt key d flag e =
+    let (m, p, q) = bind_ok (field_in key d) _ flag e in
+    (m, wanted_ok Shape _ m p, wanted_ok Shape _ flag q)
+
 by_word : (is_int is_text : Bool) (text : List ℕ) (k : Kind) → bytes_eq text (codes "INT") ≡ is_int → bytes_eq text (codes "TEXT") ≡ is_text → cond is_int (Ok Int) (cond is_text (Ok Text) (Err Shape)) ≡ Ok k → text ≡ word_of k
 by_word true is_text text Int p q e = (bytes_eq-Decides text (codes "INT")).0 p
 by_word true is_text text Text p q e = cc e
@@ -70,6 +82,12 @@ kind_spelt d k e =
     let (text, p, q) = bind_ok (wanted (as_str d)) _ k e in
     wanted_ok Shape (as_str d) text p ∙ ap Some (by_word (bytes_eq text (codes "INT")) (bytes_eq text (codes "TEXT")) text k refl refl q)
 
+member_kind_spelt : (d : Data) (k : Kind) → member_kind d ≡ Ok k → HasMember (codes "kind") (λ m. IsText m (word_of k)) d
+unfolding member_kind
+member_kind_spelt d k e =
+    let (m, p, q) = bind_ok (field_in (codes "kind") d) _ k e in
+    (m, wanted_ok Shape _ m p, kind_spelt m k q)
+
 items_spelt : (d : Data) (ds : List Data) → items_in d ≡ Ok ds → (items : Items) × (as_array d ≡ Some items) × (list_of items ≡ ds)
 unfolding items_in
 items_spelt d ds e =
@@ -81,30 +99,33 @@ array_spelt P d ds xs e h =
     let (items, is, same) = items_spelt d ds e in
     (items, is, rw same h)
 
+member_array_spelt : {A : Type 0} (P : Data → A → Type 0) (key : Name) (d : Data) (ds : List Data) (xs : List A) → member_items key d ≡ Ok ds → Pairs P ds xs → HasMember key (λ m. IsArray P m xs) d
+unfolding member_items
+member_array_spelt P key d ds xs e h =
+    let (m, p, q) = bind_ok (field_in key d) _ ds e in
+    (m, wanted_ok Shape _ m p, array_spelt P m ds xs q h)
+
 column_spelt : (d : Data) (c : Column) → column_in d ≡ Ok c → IsColumnText d c
 unfolding column_in
 column_spelt d c e =
     let (keys, p0, q0) = bind_ok (keys_in 3 d) _ c e in
-    let (n, p1, q1) = bind_ok (field_in (codes "name") d) _ c q0 in
-    let (name, p2, q2) = bind_ok (name_in n) _ c q1 in
-    let (k, p3, q3) = bind_ok (field_in (codes "kind") d) _ c q2 in
-    let (kind, p4, q4) = bind_ok (kind_in k) _ c q3 in
-    let (b, p5, q5) = bind_ok (field_in (codes "not_null") d) _ c q4 in
-    let (flag, p6, q6) = bind_ok (flag_in b) _ c q5 in
+    let (name, p1, q1) = bind_ok (member_name d) _ c q0 in
+    let (kind, p2, q2) = bind_ok (member_kind d) _ c q1 in
+    let (flag, p3, q3) = bind_ok (member_flag (codes "not_null") d) _ c q2 in
     let made : IsColumnText d (record { name = name; kind = kind; not_null = flag }) = record {
       keys = keys_spelt 3 d keys p0;
-      name = (n, wanted_ok Shape _ n p1, name_spelt n name p2);
-      kind = (k, wanted_ok Shape _ k p3, kind_spelt k kind p4);
-      not_null = (b, wanted_ok Shape _ b p5, wanted_ok Shape _ flag p6);
+      name = member_name_spelt d name p1;
+      kind = member_kind_spelt d kind p2;
+      not_null = member_flag_spelt (codes "not_null") d flag p3;
     } in
-    subst (IsColumnText d) (ok_same _ c q6) made
+    subst (IsColumnText d) (ok_same _ c q3) made
 
-columns_spelt : (d : Data) (columns : List Column) → columns_in d ≡ Ok columns → IsArray IsColumnText d columns
+columns_spelt : (d : Data) (columns : List Column) → columns_in d ≡ Ok columns → HasMember (codes "columns") (λ m. IsArray IsColumnText m columns) d
 unfolding columns_in
 columns_spelt d columns e =
-    let (ds, p, q) = bind_ok (items_in d) _ columns e in
+    let (ds, p, q) = bind_ok (member_items (codes "columns") d) _ columns e in
     let (read, u, v) = bind_ok (each column_in ds) _ columns q in
-    array_spelt IsColumnText d ds columns p (subst (Pairs IsColumnText ds) (some_ok read columns v).1 (pairs_map column_spelt ds read (each_ok column_in ds read u)))
+    member_array_spelt IsColumnText (codes "columns") d ds columns p (subst (Pairs IsColumnText ds) (some_ok read columns v).1 (pairs_map column_spelt ds read (each_ok column_in ds read u)))
 
 place_spelt : (columns : List Column) (d : Data) (name : Name) (place : ℕ) → name_in d ≡ Ok name → place_in columns name ≡ Ok place → IsText d (name_in_place columns place)
 place_spelt columns d name place e is =
@@ -119,38 +140,39 @@ list_spelt columns d names places e is =
     array_spelt (λ x place. IsText x (name_in_place columns place)) d ds places p
     (pairs_through (place_spelt columns) ds names places named (each_ok (place_in columns) names places is))
 
-lists_spelt : (columns : List Column) (d : Data) (lists : List (List Name)) (places : List (List ℕ)) → lists_in d ≡ Ok lists → each (places_in columns) lists ≡ Ok places → IsArray (IsListText columns) d places
+lists_spelt : (columns : List Column) (key : Name) (d : Data) (lists : List (List Name)) (places : List (List ℕ)) → lists_in key d ≡ Ok lists → each (places_in columns) lists ≡ Ok places → HasMember key (λ m. IsArray (IsListText columns) m places) d
 unfolding lists_in
-lists_spelt columns d lists places e is =
-    let (ds, p, q) = bind_ok (items_in d) _ lists e in
-    array_spelt (IsListText columns) d ds places p
+lists_spelt columns key d lists places e is =
+    let (ds, p, q) = bind_ok (member_items key d) _ lists e in
+    member_array_spelt (IsListText columns) key d ds places p
     (pairs_through (list_spelt columns) ds lists places (each_ok names_in ds lists q) (each_ok (places_in columns) lists places is))
 
+-- an entry's parts, and the places of its columns
+placed_spelt : (d : Data) (t : TableEntry) (u : Table) → HasKeys 4 d → member_name d ≡ Ok t.name → columns_in d ≡ Ok t.columns → lists_in (codes "unique") d ≡ Ok t.unique → lists_in (codes "indexes") d ≡ Ok t.indexes → placed t ≡ Ok u → IsTableText d u
+unfolding placed
+placed_spelt d t u keys name columns unique indexes is =
+    let (us, p, q) = bind_ok (each (places_in t.columns) t.unique) _ u is in
+    let (xs, r, v) = bind_ok (each (places_in t.columns) t.indexes) _ u q in
+    let made : IsTableText d (record { name = t.name; columns = t.columns; unique = us; indexes = xs }) = record {
+      keys = keys;
+      name = member_name_spelt d t.name name;
+      columns = columns_spelt d t.columns columns;
+      unique = lists_spelt t.columns (codes "unique") d t.unique us unique p;
+      indexes = lists_spelt t.columns (codes "indexes") d t.indexes xs indexes r;
+    } in
+    subst (IsTableText d) (ok_same _ u v) made
+
 table_spelt : (d : Data) (t : TableEntry) (u : Table) → table_in d ≡ Ok t → placed t ≡ Ok u → IsTableText d u
-unfolding table_in placed
+unfolding table_in
 table_spelt d t u e is =
     let (keys, p0, q0) = bind_ok (keys_in 4 d) _ t e in
-    let (n, p1, q1) = bind_ok (field_in (codes "name") d) _ t q0 in
-    let (name, p2, q2) = bind_ok (name_in n) _ t q1 in
-    let (cs, p3, q3) = bind_ok (field_in (codes "columns") d) _ t q2 in
-    let (columns, p4, q4) = bind_ok (columns_in cs) _ t q3 in
-    let (us, p5, q5) = bind_ok (field_in (codes "unique") d) _ t q4 in
-    let (unique, p6, q6) = bind_ok (lists_in us) _ t q5 in
-    let (is', p7, q7) = bind_ok (field_in (codes "indexes") d) _ t q6 in
-    let (indexes, p8, q8) = bind_ok (lists_in is') _ t q7 in
+    let (name, p1, q1) = bind_ok (member_name d) _ t q0 in
+    let (columns, p2, q2) = bind_ok (columns_in d) _ t q1 in
+    let (unique, p3, q3) = bind_ok (lists_in (codes "unique") d) _ t q2 in
+    let (indexes, p4, q4) = bind_ok (lists_in (codes "indexes") d) _ t q3 in
     let entry : TableEntry = record { name = name; columns = columns; unique = unique; indexes = indexes } in
-    let same : t ≡ entry = sym (ok_same entry t q8) in
-    let at : placed entry ≡ Ok u = rw same at is in
-    let (us2, r0, s0) = bind_ok (each (places_in columns) unique) _ u at in
-    let (is2, r1, s1) = bind_ok (each (places_in columns) indexes) _ u s0 in
-    let made : IsTableText d (record { name = name; columns = columns; unique = us2; indexes = is2 }) = record {
-      keys = keys_spelt 4 d keys p0;
-      name = (n, wanted_ok Shape _ n p1, name_spelt n name p2);
-      columns = (cs, wanted_ok Shape _ cs p3, columns_spelt cs columns p4);
-      unique = (us, wanted_ok Shape _ us p5, lists_spelt columns us unique us2 p6 r0);
-      indexes = (is', wanted_ok Shape _ is' p7, lists_spelt columns is' indexes is2 p8 r1);
-    } in
-    subst (IsTableText d) (ok_same _ u s1) made
+    let at : placed entry ≡ Ok u = ap placed (ok_same entry t q4) ∙ is in
+    placed_spelt d entry u (keys_spelt 4 d keys p0) p1 p2 p3 p4 at
 
 by_utf8 : (b : Bool) (bytes : List ℕ) (x : Result Data SchemaRefusal) (d : Data) → is_utf8 bytes ≡ b → cond b x (Err NotJson) ≡ Ok d → IsUtf8 bytes × (x ≡ Ok d)
 by_utf8 true bytes x d p e = (IsUtf8-from_is_utf8 bytes p, e)
@@ -163,18 +185,17 @@ json_spelt bytes d e =
     (r.0, wanted_ok NotJson (json.read bytes) d r.1)
 
 pub schema_spelt : (bytes : List ℕ) (ts : List TableEntry) (us : List Table) → entries_in bytes ≡ Ok ts → each placed ts ≡ Ok us → IsSchema (record { tables = us }) → IsSchemaText bytes (record { tables = us })
-unfolding entries_in
+unfolding entries_in tables_in
 schema_spelt bytes ts us e is whole =
     let (d, p0, q0) = bind_ok (json_in bytes) _ ts e in
     let (keys, p1, q1) = bind_ok (keys_in 1 d) _ ts q0 in
-    let (m, p2, q2) = bind_ok (field_in (codes "tables") d) _ ts q1 in
-    let (ds, p3, q3) = bind_ok (items_in m) _ ts q2 in
+    let (ds, p2, q2) = bind_ok (member_items (codes "tables") d) _ ts q1 in
     let text = json_spelt bytes d p0 in
     record {
       text = text.0;
       value = d;
       json = text.1;
       keys = keys_spelt 1 d keys p1;
-      tables = (m, wanted_ok Shape _ m p2, array_spelt IsTableText m ds us p3 (pairs_through table_spelt ds ts us (each_ok table_in ds ts q3) (each_ok placed ts us is)));
+      tables = member_array_spelt IsTableText (codes "tables") d ds us p2 (pairs_through table_spelt ds ts us (each_ok table_in ds ts q2) (each_ok placed ts us is));
       whole = whole;
     }

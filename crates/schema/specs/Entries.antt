@@ -35,8 +35,11 @@ keys_in n d = do
 abbrev pub field_in : Name → Data → Result Data SchemaRefusal
 field_in name d = wanted (get name d)
 
-abbrev pub flag_in : Data → Result Bool SchemaRefusal
-flag_in d = wanted (as_bool d)
+-- the flag that a member is
+unfoldable pub member_flag : Name → Data → Result Bool SchemaRefusal
+member_flag name d = do
+  b ← field_in name d
+  wanted (as_bool b)
 
 -- an array's items as a list
 unfoldable pub list_of : Items → List Data
@@ -48,6 +51,12 @@ items_in d = do
   ds ← wanted (as_array d)
   Ok (list_of ds)
 
+-- the items of the array that a member is
+unfoldable pub member_items : Name → Data → Result (List Data) SchemaRefusal
+member_items name d = do
+  a ← field_in name d
+  items_in a
+
 -- a list with an item at least
 abbrev pub some_of : {A : Type 0} → List A → Result (List A) SchemaRefusal
 some_of xs = if length xs == 0 then Err Shape else Ok xs
@@ -57,10 +66,22 @@ name_in d = do
   text ← wanted (as_str d)
   wanted_if (is_name text) text
 
+-- the name that the member `name` is
+unfoldable pub member_name : Data → Result Name SchemaRefusal
+member_name d = do
+  n ← field_in (codes "name") d
+  name_in n
+
 unfoldable pub kind_in : Data → Result Kind SchemaRefusal
 kind_in d = do
   text ← wanted (as_str d)
   if bytes_eq text (codes "INT") then Ok Int else (if bytes_eq text (codes "TEXT") then Ok Text else Err Shape)
+
+-- the kind that the member `kind` is
+unfoldable pub member_kind : Data → Result Kind SchemaRefusal
+member_kind d = do
+  k ← field_in (codes "kind") d
+  kind_in k
 
 -- at least one name
 unfoldable pub names_in : Data → Result (List Name) SchemaRefusal
@@ -72,43 +93,41 @@ names_in d = do
 unfoldable pub column_in : Data → Result Column SchemaRefusal
 column_in d = do
   _ ← keys_in 3 d
-  n ← field_in (codes "name") d
-  name ← name_in n
-  k ← field_in (codes "kind") d
-  kind ← kind_in k
-  b ← field_in (codes "not_null") d
-  not_null ← flag_in b
+  name ← member_name d
+  kind ← member_kind d
+  not_null ← member_flag (codes "not_null") d
   Ok (record { name = name; kind = kind; not_null = not_null })
 
--- at least one column
+-- a table's columns, at least one
 unfoldable pub columns_in : Data → Result (List Column) SchemaRefusal
 columns_in d = do
-  ds ← items_in d
+  ds ← member_items (codes "columns") d
   columns ← each column_in ds
   some_of columns
 
-unfoldable pub lists_in : Data → Result (List (List Name)) SchemaRefusal
-lists_in d = do
-  ds ← items_in d
+-- the lists of names that a member of a table is
+unfoldable pub lists_in : Name → Data → Result (List (List Name)) SchemaRefusal
+lists_in name d = do
+  ds ← member_items name d
   each names_in ds
 
 unfoldable pub table_in : Data → Result TableEntry SchemaRefusal
 table_in d = do
   _ ← keys_in 4 d
-  n ← field_in (codes "name") d
-  name ← name_in n
-  cs ← field_in (codes "columns") d
-  columns ← columns_in cs
-  us ← field_in (codes "unique") d
-  unique ← lists_in us
-  is ← field_in (codes "indexes") d
-  indexes ← lists_in is
+  name ← member_name d
+  columns ← columns_in d
+  unique ← lists_in (codes "unique") d
+  indexes ← lists_in (codes "indexes") d
   Ok (record { name = name; columns = columns; unique = unique; indexes = indexes })
+
+-- the tables of a schema
+unfoldable pub tables_in : Data → Result (List TableEntry) SchemaRefusal
+tables_in d = do
+  _ ← keys_in 1 d
+  ds ← member_items (codes "tables") d
+  each table_in ds
 
 unfoldable pub entries_in : List ℕ → Result (List TableEntry) SchemaRefusal
 entries_in bytes = do
   d ← json_in bytes
-  _ ← keys_in 1 d
-  ts ← field_in (codes "tables") d
-  ds ← items_in ts
-  each table_in ds
+  tables_in d

@@ -31,7 +31,7 @@ impl Table {
     }
 }
 
-fn copy_columns(alloc: Global, columns: &[Column]) -> Result<Items<Column>, AllocError>
+pub fn copy_columns(alloc: Global, columns: &[Column]) -> Result<Items<Column>, AllocError>
     ensures { IfOk result (λ copied. copied ≡ columns.now) }
 {
     let mut copied = Items::new(alloc);

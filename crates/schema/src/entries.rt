@@ -67,15 +67,6 @@ fn field<'v>(value: &'v Value, name: &str) -> Result<&'v Value, SchemaFault>
     }
 }
 
-fn flag_of(value: &Value) -> Result<bool, SchemaFault>
-    ensures { Gives (λ b. b) result (spec.flag_in (view value.now)) }
-{
-    match value.as_bool() {
-        Some(flag) => Ok(flag),
-        None => Err(shape()),
-    }
-}
-
 #[tactic(auto, unfolding(crate::specs::Entries::items_in))]
 fn items_of(value: &Value) -> Result<&[Value], SchemaFault>
     ensures { Gives (λ v. map view v.now) result (spec.items_in (view value.now)) }
@@ -84,6 +75,14 @@ fn items_of(value: &Value) -> Result<&[Value], SchemaFault>
         Some(items) => Ok(items.as_slice()),
         None => Err(shape()),
     }
+}
+
+/// The items of the array that a member is.
+#[tactic(auto, unfolding(crate::specs::Entries::member_items))]
+fn member_items<'v>(value: &'v Value, name: &str) -> Result<&'v [Value], SchemaFault>
+    ensures { Gives (λ v. map view v.now) result (spec.member_items name.now (view value.now)) }
+{
+    items_of(field(value, name)?)
 }
 
 fn some_of<T: Drop>(items: Items<T>) -> Result<Items<T>, SchemaFault>
@@ -108,6 +107,14 @@ fn name_of(alloc: Global, value: &Value) -> Result<Text, SchemaFault>
     Ok(Text::from_str(alloc, text)?)
 }
 
+/// The name that the member `name` is.
+#[tactic(auto, unfolding(crate::specs::Entries::member_name))]
+fn member_name(alloc: Global, value: &Value) -> Result<Text, SchemaFault>
+    ensures { Gives (λ x. x) result (spec.member_name (view value.now)) }
+{
+    name_of(alloc, field(value, "name")?)
+}
+
 #[tactic(auto, unfolding(crate::specs::Entries::kind_in))]
 fn kind_of(value: &Value) -> Result<Kind, SchemaFault>
     ensures { Gives (λ k. k) result (spec.kind_in (view value.now)) }
@@ -122,6 +129,25 @@ fn kind_of(value: &Value) -> Result<Kind, SchemaFault>
         return Ok(Kind::Text);
     }
     Err(shape())
+}
+
+/// The kind that the member `kind` is.
+#[tactic(auto, unfolding(crate::specs::Entries::member_kind))]
+fn member_kind(value: &Value) -> Result<Kind, SchemaFault>
+    ensures { Gives (λ k. k) result (spec.member_kind (view value.now)) }
+{
+    kind_of(field(value, "kind")?)
+}
+
+/// The flag that a member is.
+#[tactic(auto, unfolding(crate::specs::Entries::member_flag))]
+fn member_flag(value: &Value, name: &str) -> Result<bool, SchemaFault>
+    ensures { Gives (λ b. b) result (spec.member_flag name.now (view value.now)) }
+{
+    match field(value, name)?.as_bool() {
+        Some(flag) => Ok(flag),
+        None => Err(shape()),
+    }
 }
 
 /// Reads a name.
@@ -193,9 +219,9 @@ fn column_of(alloc: Global, value: &Value) -> Result<Column, SchemaFault>
     ensures { Gives (λ x. x) result (spec.column_in (view value.now)) }
 {
     has_keys(value, 3)?;
-    let name = name_of(alloc, field(value, "name")?)?;
-    let kind = kind_of(field(value, "kind")?)?;
-    let not_null = flag_of(field(value, "not_null")?)?;
+    let name = member_name(alloc, value)?;
+    let kind = member_kind(value)?;
+    let not_null = member_flag(value, "not_null")?;
     Ok(Column {
         name,
         kind,
@@ -203,19 +229,21 @@ fn column_of(alloc: Global, value: &Value) -> Result<Column, SchemaFault>
     })
 }
 
+/// The columns of a table.
 #[tactic(auto, unfolding(crate::specs::Entries::columns_in), using(crate::proofs::Loops::each_seen))]
-fn columns_of(alloc: Global, value: &Value) -> Result<Items<Column>, SchemaFault>
-    ensures { Gives (λ x. x) result (spec.columns_in (view value.now)) }
+fn columns_of(alloc: Global, table: &Value) -> Result<Items<Column>, SchemaFault>
+    ensures { Gives (λ x. x) result (spec.columns_in (view table.now)) }
 {
-    let columns = each(alloc, &ColumnReader, items_of(value)?)?;
+    let columns = each(alloc, &ColumnReader, member_items(table, "columns")?)?;
     some_of(columns)
 }
 
+/// The lists of names that a member of a table is.
 #[tactic(auto, unfolding(crate::specs::Entries::lists_in), using(crate::proofs::Loops::each_seen))]
-fn lists_of(alloc: Global, value: &Value) -> Result<Items<Items<Text>>, SchemaFault>
-    ensures { Gives (λ x. x) result (spec.lists_in (view value.now)) }
+fn lists_of(alloc: Global, table: &Value, name: &str) -> Result<Items<Items<Text>>, SchemaFault>
+    ensures { Gives (λ x. x) result (spec.lists_in name.now (view table.now)) }
 {
-    each(alloc, &ListReader, items_of(value)?)
+    each(alloc, &ListReader, member_items(table, name)?)
 }
 
 #[tactic(auto, unfolding(crate::specs::Entries::table_in))]
@@ -223,10 +251,10 @@ fn table_of(alloc: Global, value: &Value) -> Result<TableEntry, SchemaFault>
     ensures { Gives (λ x. x) result (spec.table_in (view value.now)) }
 {
     has_keys(value, 4)?;
-    let name = name_of(alloc, field(value, "name")?)?;
-    let columns = columns_of(alloc, field(value, "columns")?)?;
-    let unique = lists_of(alloc, field(value, "unique")?)?;
-    let indexes = lists_of(alloc, field(value, "indexes")?)?;
+    let name = member_name(alloc, value)?;
+    let columns = columns_of(alloc, value)?;
+    let unique = lists_of(alloc, value, "unique")?;
+    let indexes = lists_of(alloc, value, "indexes")?;
     Ok(TableEntry {
         name,
         columns,
@@ -235,11 +263,19 @@ fn table_of(alloc: Global, value: &Value) -> Result<TableEntry, SchemaFault>
     })
 }
 
-#[tactic(auto, unfolding(crate::specs::Entries::entries_in), using(crate::proofs::Loops::each_seen))]
+/// The entries of the tables of a schema.
+#[tactic(auto, unfolding(crate::specs::Entries::tables_in), using(crate::proofs::Loops::each_seen))]
+fn tables_of(alloc: Global, schema: &Value) -> Result<Items<TableEntry>, SchemaFault>
+    ensures { Gives (λ x. x) result (spec.tables_in (view schema.now)) }
+{
+    has_keys(schema, 1)?;
+    each(alloc, &TableReader, member_items(schema, "tables")?)
+}
+
+#[tactic(auto, unfolding(crate::specs::Entries::entries_in))]
 pub fn entries_of(alloc: Global, bytes: &[u8]) -> Result<Items<TableEntry>, SchemaFault>
     ensures { Gives (λ x. x) result (spec.entries_in bytes.now) }
 {
     let value = json_of(alloc, bytes)?;
-    has_keys(&value, 1)?;
-    each(alloc, &TableReader, items_of(field(&value, "tables")?)?)
+    tables_of(alloc, &value)
 }

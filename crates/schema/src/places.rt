@@ -1,9 +1,9 @@
 //! Lists of columns by their places.
 
-ghost use Rattle.std.specs.Prelude.{Ok};
 ghost use Rattle.values.specs.Faults.{Gives};
 ghost use Rattle.schema.specs.Places as spec;
 
+use crate::copies::copy_columns;
 use crate::each::{ReadsItem, each};
 use crate::entries::TableEntry;
 use crate::fault::{SchemaFault, SchemaRefusal};
@@ -41,24 +41,6 @@ impl ReadsItem<Items<Text>> for PlaceReader<'_> {
     }
 }
 
-/// Copies a column.
-#[derive(Drop)]
-struct ColumnCopier;
-
-impl ReadsItem<Column> for ColumnCopier {
-    type Output = Column;
-
-    ghost item_in = { λ _ column. Ok column };
-
-    fn read_item(&self, alloc: Global, item: &Column) -> Result<Column, SchemaFault> {
-        Ok(Column {
-            name: item.name.copy(alloc)?,
-            kind: item.kind,
-            not_null: item.not_null,
-        })
-    }
-}
-
 /// Finds the columns of each table.
 #[derive(Drop)]
 pub struct TablePlacer;
@@ -73,7 +55,7 @@ impl ReadsItem<TableEntry> for TablePlacer {
     }
 }
 
-#[tactic(auto, unfolding(crate::specs::Places::placed), using(crate::proofs::Loops::each_copies))]
+#[tactic(auto, unfolding(crate::specs::Places::placed))]
 fn placed(alloc: Global, entry: &TableEntry) -> Result<Table, SchemaFault>
     ensures { Gives (λ x. x) result (spec.placed entry.now) }
 {
@@ -82,7 +64,7 @@ fn placed(alloc: Global, entry: &TableEntry) -> Result<Table, SchemaFault>
     };
     let unique = each(alloc, &reader, entry.unique.as_slice())?;
     let indexes = each(alloc, &reader, entry.indexes.as_slice())?;
-    let columns = each(alloc, &ColumnCopier, entry.columns.as_slice())?;
+    let columns = copy_columns(alloc, entry.columns.as_slice())?;
     Ok(Table {
         name: entry.name.copy(alloc)?,
         columns,

@@ -1,5 +1,5 @@
 -- Records and the rows that they stand for.
-use Rattle.std.proofs.Common.{◌≡◌, ◌≢◌, ℕ, zero, suc, ◌+◌, ◌<◌, ◌≤◌, List, [], ◌∷◌, ◌++◌, length, take, get_or, map, Bool, true, false, Option, Some, None, refl, sym, ap, ◌∙◌, subst, arith, append_assoc, Result, Ok, Err, IfOk, bytes_eq, inl}
+use Rattle.std.proofs.Common.{◌≡◌, ◌≢◌, ℕ, zero, suc, ◌+◌, ◌<◌, ◌≤◌, List, [], ◌∷◌, ◌++◌, length, take, get_or, map, Bool, true, false, Option, Some, None, refl, sym, ap, ◌∙◌, subst, arith, append_assoc, Result, Ok, Err, IfOk, bytes_eq, inl, inr}
 use Rattle.std.specs.List.{AllByRecursion}
 use Rattle.std.proofs.lemmas.List.{map-append}
 use Rattle.csv.specs.Records.{field_at}
@@ -165,6 +165,11 @@ stands_next cs fs i vs c v f lt at here so_far more =
 pub after_header : {E : Type 0} (cs : List Column) (all rest : List Record) (r : Result Parsed E) → all ≡ names_of cs ∷ rest → IfOk r (Parses cs rest) → IfOk r (ParsesFile cs all)
 after_header cs all rest (Ok p) e h = inl (rest, e, h)
 after_header cs all rest (Err x) e h = tt
+
+pub no_header_parses : {E : Type 0} (cs : List Column) (all : List Record) (r : Result Parsed E) → ((rest : List Record) → all ≢ names_of cs ∷ rest)
+    → IfOk r (λ p. p ≡ record { rows = []; fault = Some (record { row = 0; cause = OtherHeader }) }) → IfOk r (ParsesFile cs all)
+no_header_parses cs all (Ok p) other is = rw is (inr (other, refl, refl))
+no_header_parses cs all (Err x) other is = tt
 
 takes : (c : Column) (v : Value) → FitsColumn c v → Takes c.kind v
 takes c value.Null h = tt

@@ -6,7 +6,7 @@ ghost use Rattle.store.specs.Faults.{code_of, column_of, earlier_of};
 use thiserror::Error;
 
 /// What is wrong with a field. A bad escape is tested first.
-#[derive(Clone, Copy, Debug, PartialEq, Eq, Error)]
+#[derive(Clone, Copy, Debug, Error)]
 pub enum FieldFault {
     #[error("a field begins with a backslash and is neither Null nor an escaped text")]
     BadEscape,
@@ -19,7 +19,7 @@ pub enum FieldFault {
 }
 
 /// What is wrong with a record. Columns and earlier rows are told by their places, columns from 0 and rows from 1.
-#[derive(Clone, Copy, Debug, PartialEq, Eq, Error)]
+#[derive(Clone, Copy, Debug, Error)]
 pub enum TableCause {
     #[error("the first record is not the names of the columns")]
     OtherHeader,
@@ -34,7 +34,7 @@ pub enum TableCause {
 }
 
 /// The first fault of a table's file. Rows are numbered from 1; the header is row 0.
-#[derive(Clone, Copy, Debug, PartialEq, Eq, Error)]
+#[derive(Clone, Copy, Debug, Error)]
 #[error("row {row}: {cause}")]
 pub struct TableRefusal {
     pub row: usize,
@@ -85,6 +85,6 @@ pub enum TableFault {
     Memory,
     #[error("the device failed")]
     Device,
-    #[error("{0}")]
+    #[error(transparent)]
     Refused(TableRefusal),
 }

@@ -58,7 +58,7 @@ impl<R: Read> TableInput for CountedInput<R> {
 }
 
 /// Why an input was not read to its end.
-#[derive(Clone, Copy, Debug, PartialEq, Eq)]
+#[derive(Clone, Copy)]
 pub enum InputFault {
     Memory,
     Device,

@@ -116,61 +116,62 @@ fn whole(rows: Columns) -> Parsed
     }
 }
 
-/// The rows of the records that are left.
+/// The rows of the records that are left, each read into `fields`.
 fn rows_of<R: Read>(
     alloc: Global,
     columns: &[Column],
     reader: &mut Reader<R>,
+    fields: &mut ByteRecord,
 ) -> Result<Parsed, AllocError>
     ensures { (rest : List Record) → Remains R.remaining reader.old rest → IfOk result (Parses columns.now rest) }
 {
-    let mut fields = ByteRecord::new(alloc);
     let mut rows = Columns::new(alloc, columns)?;
     while rows.len() < MOST_ROWS {
-        if !next_of(reader, &mut fields)? {
+        if !next_of(reader, fields)? {
             return Ok(whole(rows));
         }
-        match row_of(alloc, columns, &fields) {
+        match row_of(alloc, columns, fields) {
             Ok(row) => rows = rows.with_row(row.as_slice())?,
             Err(Fault::Memory) => return Err(AllocError),
             Err(Fault::Refused(cause)) => return Ok(stopped(rows, cause)),
         }
     }
-    if !next_of(reader, &mut fields)? {
+    if !next_of(reader, fields)? {
         return Ok(whole(rows));
     }
     Ok(stopped(rows, TableCause::TooMany))
 }
 
 /// What is parsed of a file that doesn't begin with the names of the columns: no row.
-fn no_header(none: Columns) -> Parsed
-    ensures { result ≡ record { rows = none.rows; fault = Some (record { row = 0; cause = TableCause.OtherHeader }) } }
+fn no_header(alloc: Global, columns: &[Column]) -> Result<Parsed, AllocError>
+    ensures { IfOk result (λ p. p ≡ record { rows = []; fault = Some (record { row = 0; cause = TableCause.OtherHeader }) }) }
 {
-    Parsed {
+    let none = Columns::new(alloc, columns)?;
+    Ok(Parsed {
         rows: Table::new(none),
         fault: Some(TableRefusal {
             row: 0,
             cause: TableCause::OtherHeader,
         }),
-    }
+    })
 }
 
-/// The rows of the records after the header.
+/// The rows of the records after the header, each read into `fields`.
 fn file_of<R: Read>(
     alloc: Global,
     columns: &[Column],
     reader: &mut Reader<R>,
+    fields: &mut ByteRecord,
 ) -> Result<Parsed, AllocError>
     ensures { (all : List Record) → Remains R.remaining reader.old all → IfOk result (ParsesFile columns.now all) }
 {
-    let mut fields = ByteRecord::new(alloc);
-    if !next_of(reader, &mut fields)? {
-        return Ok(no_header(Columns::new(alloc, columns)?));
+    if !next_of(reader, fields)? {
+        return no_header(alloc, columns);
     }
-    if !is_header(columns, &fields) {
-        return Ok(no_header(Columns::new(alloc, columns)?));
+    if !is_header(columns, fields) {
+        return no_header(alloc, columns);
     }
-    rows_of(alloc, columns, reader)
+    rows_of(alloc, columns, reader, fields)
 }
 
 /// The rows of a table's file, up to the first record that is at fault for itself alone.
@@ -181,5 +182,6 @@ pub fn parse(alloc: Global, columns: &[Column], bytes: &[u8]) -> Result<Parsed, 
         .has_headers(false)
         .flexible(true)
         .from_reader(alloc, bytes);
-    file_of(alloc, columns, &mut reader)
+    let mut fields = ByteRecord::new(alloc);
+    file_of(alloc, columns, &mut reader, &mut fields)
 }

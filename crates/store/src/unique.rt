@@ -16,7 +16,7 @@ use std::collections::HashMap;
 use values::Items;
 
 /// A row and the earlier one that it repeats, both from 0.
-#[derive(Clone, Copy, Debug, PartialEq, Eq)]
+#[derive(Clone, Copy)]
 pub struct Repeat {
     pub row: usize,
     pub earlier: usize,
