@@ -21,13 +21,13 @@ use values::Fault;
 pub enum Refusal {
     #[error("out of memory")]
     Memory,
-    #[error(transparent)]
+    #[error("schema: {0}")]
     Schema(SchemaRefusal),
-    #[error(transparent)]
+    #[error("text: {0}")]
     Text(ParseRefusal),
-    #[error(transparent)]
+    #[error("scope: {0}")]
     Scope(BindRefusal),
-    #[error(transparent)]
+    #[error("certificate: {0}")]
     Check(CheckRefusal),
     /// The table by its place in the schema.
     #[error("table {0}: {1}")]
