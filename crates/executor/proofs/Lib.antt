@@ -3,6 +3,7 @@ pub mod FirstSeen
 pub mod GroupEnvs
 pub mod GroupRows
 pub mod JoinRows
+pub mod KeyWrites
 pub mod Plans
 pub mod PlayedPlans
 pub mod RelationRows

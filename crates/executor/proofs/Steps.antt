@@ -1,9 +1,12 @@
 -- One more item of a list, in a list that is made of those so far.
-use Rattle.std.proofs.Common.{◌≡◌, refl, ap, sym, ◌∙◌, zero, suc, ℕ, ◌+◌, ◌<◌, Bool, List, [], ◌∷◌, ◌++◌, length, get_or, map, filter, take, arith}
+use Rattle.std.proofs.Common.{◌≡◌, refl, ap, sym, ◌∙◌, zero, suc, ℕ, ◌+◌, ◌<◌, Bool, List, [], ◌∷◌, ◌++◌, append-nil, length, get_or, map, flat_map, fold, filter, take, arith}
 use Rattle.std.specs.Iterator.{Yields}
 use Rattle.std.specs.Vec.Iter.{into_iter_items, into_iter_len, into_iter_steps}
 use Rattle.std.specs.declared.vec.IntoIter.{IntoIter}
+use Rattle.std.proofs.lemmas.List.{get_or_default}
+use Rattle.std.proofs.lemmas.List.Concat.{flat_map-append}
 use Rattle.std.proofs.lemmas.List.Elements.{filter-append}
+use Rattle.std.proofs.lemmas.List.Sums.{fold-append}
 use Rattle.logical.proofs.Loops.{map-append}
 
 take-suc : {X : Type 0} (xs : List X) (i : ℕ) (x : X) → i < length xs → x ≡ get_or xs i x → take (suc i) xs ≡ take i xs ++ x ∷ []
@@ -16,6 +19,15 @@ take-more xs i x h is = let e : i + 1 ≡ suc i = omega arith in ap (λ n. take 
 
 pub map-more : {X Y : Type 0} (f : X → Y) (xs : List X) (i : ℕ) (x : X) → i < length xs → x ≡ get_or xs i x → map f (take (i + 1) xs) ≡ map f (take i xs) ++ f x ∷ []
 map-more f xs i x h is = ap (map f) (take-more xs i x h is) ∙ map-append f (take i xs) (x ∷ [])
+
+-- the next item read at any default
+pub flat_map-next : {X Y : Type 0} (f : X → List Y) (xs : List X) (i : ℕ) (d : X) → i < length xs → flat_map f (take (i + 1) xs) ≡ flat_map f (take i xs) ++ f (get_or xs i d)
+flat_map-next f xs i d h =
+    let x = get_or xs i d in
+    ap (flat_map f) (take-more xs i x h (get_or_default xs i d x h)) ∙ flat_map-append f (take i xs) (x ∷ []) ∙ ap (λ l. flat_map f (take i xs) ++ l) (append-nil (f x))
+
+pub fold-more : {X Y Z : Type 0} (f : Z → Y → Z) (a : Z) (g : X → Y) (xs : List X) (i : ℕ) (x : X) → i < length xs → x ≡ get_or xs i x → fold f a (map g (take (i + 1) xs)) ≡ f (fold f a (map g (take i xs))) (g x)
+fold-more f a g xs i x h is = ap (fold f a) (map-more g xs i x h is) ∙ fold-append f a (map g (take i xs)) (g x ∷ [])
 
 pub filter-more : {X Y Z : Type 0} (g : Y → Z) (p : Y → Bool) (f : X → Y) (xs : List X) (i : ℕ) (x : X) → i < length xs → x ≡ get_or xs i x
     → map g (filter p (map f (take (i + 1) xs))) ≡ map g (filter p (map f (take i xs))) ++ map g (filter p (f x ∷ []))

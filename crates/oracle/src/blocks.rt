@@ -112,7 +112,8 @@ fn members<'s>(
 {
     let mut found = Vec::new(alloc);
     for row in source {
-        if has_key(alloc, keys, row.as_slice(), key)? {
+        let shared = has_key(alloc, keys, row.as_slice(), key)?;
+        if shared {
             found.push(row)?;
         }
     }

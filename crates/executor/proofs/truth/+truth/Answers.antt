@@ -1,13 +1,17 @@
-use Rattle.std.proofs.Common.{◌≡◌, ◌≢◌, ◌∙◌, refl, ap, sym, map, false}
+use Rattle.std.proofs.Common.{◌≡◌, ◌≢◌, ◌∙◌, refl, ap, sym, map, take, arith, false}
 use Rattle.values.specs.Cells.{value_of}
 use Rattle.values.specs.declared.cell.Cell.{Cell}
 use Rattle.values.specs.declared.cell.Cell.TheVariants.{Null, Int, Text}
 use Rattle.values.specs.declared.truth.Comparison.TheVariants as by
-use Rattle.values.specs.Truth.{truth_of, is_null, compare}
-use Rattle.query.specs.Meaning.{any_of}
+use Rattle.values.specs.declared.truth.Truth.{Truth}
+use Rattle.values.specs.declared.truth.Truth.TheVariants.{True, False}
+use Rattle.values.specs.Truth.{truth_of, is_null, compare, conjunction, disjunction}
+use Rattle.query.specs.Meaning.{all_of, any_of}
+use Rattle.logical.specs.declared.condition.Condition.{Condition}
 use Rattle.logical.specs.Conditions.{truth}
 use Rattle.logical.proofs.Truths.{truth-Compare, truth-IsNull, truth-Not, truth-And, truth-Or, truth-Exists, truth-In}
 use Rattle.executor.specs.Relations.{env_of, subqueries_given}
+use Rattle.executor.proofs.Steps.{fold-more}
 use Rattle.executor.proofs.truth.+truth.Goals.{truth-in-Null, truth-in_default}
 use Rattle.executor.proofs.truth.+truth.Goals as goal
 
@@ -51,3 +55,21 @@ truth-returns-in-In t c =
     c.is_among.ensures
     ∙ ap (λ v. any_of (map (λ s. compare by.Equal v (s c.in-In.column)) (W c.in-In.class r))) c.term_cell-in-In.ensures
     ∙ sym (truth-In c.in-In.term c.in-In.class c.in-In.column W r) ∙ ap (λ d. truth d W r) (sym c.in-In.is)
+
+pub all-loop-condition-preserved : goal.all-loop-condition-preserved
+all-loop-condition-preserved t c =
+    let true_of : Condition → Truth = λ d. truth d (subqueries_given c.args.subqueries) (env_of c.args.env.now) in
+    let i = c.loop-condition.condition-index in
+    c.and-all.ensures
+    ∙ ap (λ (a : Truth). conjunction a c.truth.result) c.loop-condition.invariant
+    ∙ ap (conjunction (all_of (map true_of (take i c.args.conditions.now)))) c.truth.ensures
+    ∙ sym (fold-more conjunction True true_of c.args.conditions.now i c.condition-item.result (omega arith) c.condition-item.is)
+
+pub any-loop-condition-preserved : goal.any-loop-condition-preserved
+any-loop-condition-preserved t c =
+    let true_of : Condition → Truth = λ d. truth d (subqueries_given c.args.subqueries) (env_of c.args.env.now) in
+    let i = c.loop-condition.condition-index in
+    c.or-any.ensures
+    ∙ ap (λ (a : Truth). disjunction a c.truth.result) c.loop-condition.invariant
+    ∙ ap (disjunction (any_of (map true_of (take i c.args.conditions.now)))) c.truth.ensures
+    ∙ sym (fold-more disjunction False true_of c.args.conditions.now i c.condition-item.result (omega arith) c.condition-item.is)
