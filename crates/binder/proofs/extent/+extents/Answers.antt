@@ -1,11 +1,12 @@
-use Rattle.std.proofs.Common.{◌≡◌, ℕ, ◌∙◌, ap, sym, subst, IfOk, List, map, option_map}
+use Rattle.std.proofs.Common.{◌≡◌, refl, ℕ, ◌∙◌, ap, sym, subst, IfOk, List, map, option_map, arith}
+use Rattle.std.proofs.lemmas.Result.{err_from_is_err_and}
 use Rattle.sql_parse.specs.declared.statement.Condition.{Condition}
 use Rattle.sql_parse.specs.declared.statement.Join.{Join, out-Join}
 use Rattle.sql_parse.specs.declared.statement.Chain.{Chain, out-Chain}
 use Rattle.sql_parse.specs.declared.statement.Select.{out-Select}
 use Rattle.binder.specs.declared.extent.Extent.{Extent}
 use Rattle.binder.specs.Extents as spec
-use Rattle.binder.proofs.ExtentParts.{extent-Compare, extent-IsNull, extent-Not, extent-And, extent-Or, extent-Exists, extent-In, extent-join, extent-chain, extent-select}
+use Rattle.binder.proofs.ExtentParts.{extent-Compare, extent-IsNull, extent-Not, extent-And, extent-Or, extent-Exists, extent-In, extent-join, extent-chain, extent-select, all_more, all_done}
 use Rattle.binder.proofs.extent.+extents.Goals as goal
 
 pub of_condition-returns-in-Compare : goal.of_condition-returns-in-Compare
@@ -71,3 +72,122 @@ of_select-returns t c =
     c.in_ok-inside.ensures ∙ ap (λ (x : Extent). spec.beside x c.in_ok-of_filter.field-0) from ∙ ap (spec.beside (spec.all_of (map (spec.of_chain S) q.from))) filter in
     let levels = ap (λ (n : ℕ). record c.in_ok-inside.inside { levels = n }) c.in_ok-sum.ensures in
     levels ∙ ap spec.one_level_more inside ∙ sym (extent-select S c.args.select.now)
+
+pub of_condition-returns-in_err-of_select-in-Exists : goal.of_condition-returns-in_err-of_select-in-Exists
+of_condition-returns-in_err-of_select-in-Exists t c =
+    let p = err_from_is_err_and c.from_residual.result c.from_residual.ensures.1 in
+    rw p.1 tt
+
+pub of_condition-returns-in_err-of_select-in-In : goal.of_condition-returns-in_err-of_select-in-In
+of_condition-returns-in_err-of_select-in-In t c =
+    let p = err_from_is_err_and c.from_residual-in_err-of_select-in-In.result c.from_residual-in_err-of_select-in-In.ensures.1 in
+    rw p.1 tt
+
+pub of_join-returns-in_err-of_condition : goal.of_join-returns-in_err-of_condition
+of_join-returns-in_err-of_condition t c =
+    let p = err_from_is_err_and c.from_residual.result c.from_residual.ensures.1 in
+    rw p.1 tt
+
+pub of_chain-returns-in_err-of_joins : goal.of_chain-returns-in_err-of_joins
+of_chain-returns-in_err-of_joins t c =
+    let p = err_from_is_err_and c.from_residual.result c.from_residual.ensures.1 in
+    rw p.1 tt
+
+pub of_select-returns-in_err-from : goal.of_select-returns-in_err-from
+of_select-returns-in_err-from t c =
+    let p = err_from_is_err_and c.from_residual.result c.from_residual.ensures.1 in
+    rw p.1 tt
+
+pub of_select-returns-in_err-of_filter : goal.of_select-returns-in_err-of_filter
+of_select-returns-in_err-of_filter t c =
+    let p = err_from_is_err_and c.from_residual-in_err-of_filter.result c.from_residual-in_err-of_filter.ensures.1 in
+    rw p.1 tt
+
+pub of_select-returns-in_err-inside : goal.of_select-returns-in_err-inside
+of_select-returns-in_err-inside t c =
+    let p = err_from_is_err_and c.from_residual-in_err-inside.result c.from_residual-in_err-inside.ensures.1 in
+    rw p.1 tt
+
+pub of_select-returns-in_err-sum : goal.of_select-returns-in_err-sum
+of_select-returns-in_err-sum t c =
+    let p = err_from_is_err_and c.from_residual-in_err-sum.result c.from_residual-in_err-sum.ensures.1 in
+    rw p.1 tt
+
+pub of_conditions-loop-condition-init : goal.of_conditions-loop-condition-init
+of_conditions-loop-condition-init t c =
+    refl
+
+pub of_conditions-returns-in_err-of_condition : goal.of_conditions-returns-in_err-of_condition
+of_conditions-returns-in_err-of_condition t c =
+    let p = err_from_is_err_and c.from_residual.result c.from_residual.ensures.1 in
+    rw p.1 tt
+
+pub of_conditions-returns-in_err-all : goal.of_conditions-returns-in_err-all
+of_conditions-returns-in_err-all t c =
+    let p = err_from_is_err_and c.from_residual-in_err-all.result c.from_residual-in_err-all.ensures.1 in
+    rw p.1 tt
+
+pub of_conditions-loop-condition-preserved : goal.of_conditions-loop-condition-preserved
+of_conditions-loop-condition-preserved t c =
+    all_more (spec.of_condition c.args.schema.now) c.args.conditions.now c.loop-condition.condition-index c.condition-item.result c.loop-condition.all c.in_ok-of_condition.field-0 c.in_ok-all.all
+    c.loop-condition-test.true c.condition-item.is c.loop-condition.invariant c.in_ok-of_condition.ensures c.in_ok-all.ensures
+
+pub of_conditions-returns : goal.of_conditions-returns
+of_conditions-returns t c =
+    all_done (spec.of_condition c.args.schema.now) c.args.conditions.now c.loop-condition.condition-index c.loop-condition.all (omega arith) c.loop-condition.invariant
+
+pub of_joins-loop-join-init : goal.of_joins-loop-join-init
+of_joins-loop-join-init t c =
+    refl
+
+pub of_joins-returns-in_err-of_join : goal.of_joins-returns-in_err-of_join
+of_joins-returns-in_err-of_join t c =
+    let p = err_from_is_err_and c.from_residual.result c.from_residual.ensures.1 in
+    rw p.1 tt
+
+pub of_joins-returns-in_err-all : goal.of_joins-returns-in_err-all
+of_joins-returns-in_err-all t c =
+    let p = err_from_is_err_and c.from_residual-in_err-all.result c.from_residual-in_err-all.ensures.1 in
+    rw p.1 tt
+
+pub of_joins-loop-join-preserved : goal.of_joins-loop-join-preserved
+of_joins-loop-join-preserved t c =
+    all_more (spec.of_join c.args.schema.now) c.args.joins.now c.loop-join.join-index c.join-item.result c.loop-join.all c.in_ok-of_join.field-0 c.in_ok-all.all
+    c.loop-join-test.true c.join-item.is c.loop-join.invariant c.in_ok-of_join.ensures c.in_ok-all.ensures
+
+pub of_joins-returns : goal.of_joins-returns
+of_joins-returns t c =
+    all_done (spec.of_join c.args.schema.now) c.args.joins.now c.loop-join.join-index c.loop-join.all (omega arith) c.loop-join.invariant
+
+pub of_chains-loop-chain-init : goal.of_chains-loop-chain-init
+of_chains-loop-chain-init t c =
+    refl
+
+pub of_chains-returns-in_err-of_chain : goal.of_chains-returns-in_err-of_chain
+of_chains-returns-in_err-of_chain t c =
+    let p = err_from_is_err_and c.from_residual.result c.from_residual.ensures.1 in
+    rw p.1 tt
+
+pub of_chains-returns-in_err-all : goal.of_chains-returns-in_err-all
+of_chains-returns-in_err-all t c =
+    let p = err_from_is_err_and c.from_residual-in_err-all.result c.from_residual-in_err-all.ensures.1 in
+    rw p.1 tt
+
+pub of_chains-loop-chain-preserved : goal.of_chains-loop-chain-preserved
+of_chains-loop-chain-preserved t c =
+    all_more (spec.of_chain c.args.schema.now) c.args.chains.now c.loop-chain.chain-index c.chain-item.result c.loop-chain.all c.in_ok-of_chain.field-0 c.in_ok-all.all
+    c.loop-chain-test.true c.chain-item.is c.loop-chain.invariant c.in_ok-of_chain.ensures c.in_ok-all.ensures
+
+pub of_chains-returns : goal.of_chains-returns
+of_chains-returns t c =
+    all_done (spec.of_chain c.args.schema.now) c.args.chains.now c.loop-chain.chain-index c.loop-chain.all (omega arith) c.loop-chain.invariant
+
+pub of_filter-returns-in-None : goal.of_filter-returns-in-None
+of_filter-returns-in-None t c =
+    rw c.in-None.is refl
+
+pub of_filter-returns-in-Some : goal.of_filter-returns-in-Some
+of_filter-returns-in-Some t c =
+    let S = c.args.schema.now in
+    let is : spec.of_condition S c.get.result.now ≡ spec.of_filter (option_map (spec.of_condition S) c.args.filter.now) = rw (c.in-Some.is, c.get.ensures) refl in
+    subst (λ (z : Extent). IfOk c.of_condition.result (λ extent. extent ≡ z)) is c.of_condition.ensures

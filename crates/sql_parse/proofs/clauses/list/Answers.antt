@@ -1,3 +1,4 @@
+use Rattle.std.proofs.lemmas.Result.{err_from_is_err_and}
 use Rattle.sql_parse.specs.declared.token.Symbol.TheVariants as s
 use Rattle.sql_parse.specs.declared.token.TokenKind.TheVariants as token
 use Rattle.sql_parse.specs.Sql.{sample, an_item}
@@ -10,3 +11,8 @@ items-smaller c = list_less c.args.end c.args.depth (sample (token.Symbol s.Comm
 pub items-preserved : goal.items-preserved
 items-preserved c = rw c.in_ok-push.ensures.ok (list_on c.args.end c.args.depth (sample (token.Symbol s.Comma)) an_item items_list c.items.all c.items.rest.now c.in_ok-found.found c.in_ok-found.behind.now c.in-Some-accept.field-0-0.now c.in-Some-accept.next.now _
     c.in_ok-found.ensures c.in-Some-accept.ensures.sees c.in-Some-accept.ensures.next c.items.invariant)
+
+pub returns-in_err-push : goal.returns-in_err-push
+returns-in_err-push c =
+    let p = err_from_is_err_and c.from_residual-in_err-push.result c.from_residual-in_err-push.ensures.1 in
+    rw (p.1, p.2) tt

@@ -2,6 +2,7 @@ use Rattle.sql_parse.specs.declared.token.Keyword.TheVariants as k
 use Rattle.sql_parse.specs.declared.token.Symbol.TheVariants as s
 use Rattle.sql_parse.specs.declared.token.TokenKind.TheVariants as token
 use Rattle.std.proofs.Common.{sym, ◌∙◌}
+use Rattle.std.proofs.lemmas.Result.{err_from_is_err_and}
 use Rattle.sql_parse.specs.Sql.{sample, a_negation, a_conjunction, a_join, a_chain}
 use Rattle.sql_parse.proofs.SqlLoops.{negations_list, conjunctions_list, joins_loop, chains_list, less, turn_ok, list_less, list_on}
 use Rattle.sql_parse.proofs.conditions.+conditions.Goals as goal
@@ -33,3 +34,48 @@ chain-joins-smaller t c = less c.args.end c.args.depth a_join joins_loop c.joins
 pub chain-joins-preserved : goal.chain-joins-preserved
 chain-joins-preserved t c = rw c.in_ok-push.ensures.ok (turn_ok c.args.end c.args.depth a_join joins_loop c.joins.joins c.joins.rest.now c.in_ok-found.found c.in_ok-found.behind.now _
     (sym c.sees_join.ensures ∙ c.joins-test.true) c.in_ok-found.ensures c.joins.invariant)
+
+pub nested_select-returns-in_err-new : goal.nested_select-returns-in_err-new
+nested_select-returns-in_err-new t c =
+    let p = err_from_is_err_and c.from_residual-in_err-new.result c.from_residual-in_err-new.ensures.1 in
+    rw (p.1, p.2) tt
+
+pub missing-returns-in_err-new : goal.missing-returns-in_err-new
+missing-returns-in_err-new t c =
+    let p = err_from_is_err_and c.from_residual-in_err-new.result c.from_residual-in_err-new.ensures.1 in
+    rw (p.1, p.2) tt
+
+pub negation-returns-in_err-new : goal.negation-returns-in_err-new
+negation-returns-in_err-new t c =
+    let p = err_from_is_err_and c.from_residual-in_err-new.result c.from_residual-in_err-new.ensures.1 in
+    rw (p.1, p.2) tt
+
+pub conjunction-returns-in_err-push : goal.conjunction-returns-in_err-push
+conjunction-returns-in_err-push t c =
+    let p = err_from_is_err_and c.from_residual-in_err-push.result c.from_residual-in_err-push.ensures.1 in
+    rw (p.1, p.2) tt
+
+pub condition-returns-in_err-push : goal.condition-returns-in_err-push
+condition-returns-in_err-push t c =
+    let p = err_from_is_err_and c.from_residual-in_err-push.result c.from_residual-in_err-push.ensures.1 in
+    rw (p.1, p.2) tt
+
+pub filter-returns-in_err-new : goal.filter-returns-in_err-new
+filter-returns-in_err-new t c =
+    let p = err_from_is_err_and c.from_residual-in_err-new.result c.from_residual-in_err-new.ensures.1 in
+    rw (p.1, p.2) tt
+
+pub join-returns-in_err-new : goal.join-returns-in_err-new
+join-returns-in_err-new t c =
+    let p = err_from_is_err_and c.from_residual-in_err-new.result c.from_residual-in_err-new.ensures.1 in
+    rw (p.1, p.2) tt
+
+pub chain-returns-in_err-push : goal.chain-returns-in_err-push
+chain-returns-in_err-push t c =
+    let p = err_from_is_err_and c.from_residual-in_err-push.result c.from_residual-in_err-push.ensures.1 in
+    rw (p.1, p.2) tt
+
+pub from-returns-in_err-push : goal.from-returns-in_err-push
+from-returns-in_err-push t c =
+    let p = err_from_is_err_and c.from_residual-in_err-push.result c.from_residual-in_err-push.ensures.1 in
+    rw (p.1, p.2) tt
