@@ -1,4 +1,5 @@
 use Rattle.std.proofs.Common.{arith}
+use Rattle.values.proofs.Exits.{no_change, no_value}
 use Rattle.logical.specs.Frames as spec
 use Rattle.logical.specs.Lent.{scope_of}
 use Rattle.logical.proofs.FrameLoops.{conditions_on, conjuncts_on, lines_on, conditions_end, conjuncts_end, lines_end}
@@ -124,3 +125,190 @@ add_block-returns t c =
       lines = block_lines_are uses scope c.args.lines.now c.args.block.now c.in_ok-numbers.numbers.items c.as_slice.result.now c.as_slice-2.result.now c.add_from.new.lines c.add_filter.new.lines c.add_group.new.lines
           c.add_end.new.lines n.numbers c.as_slice.ensures.value c.as_slice-2.ensures.value n.lines c.in_ok-add_filter.ensures c.in_ok-add_group.ensures c.in_ok-add_end.ensures;
     }
+
+-- ---- exits
+
+pub add_block-returns-in_err-numbers : goal.add_block-returns-in_err-numbers
+add_block-returns-in_err-numbers t c =
+    let exit = c.from_residual in
+    record { shown = no_value exit.result _ _ exit.ensures.1; lines = no_change exit.result _ _ exit.ensures.1 }
+
+pub add_block-returns-in_err-add_filter : goal.add_block-returns-in_err-add_filter
+add_block-returns-in_err-add_filter t c =
+    let exit = c.from_residual-in_err-add_filter in
+    record { shown = no_value exit.result _ _ exit.ensures.1; lines = no_change exit.result _ _ exit.ensures.1 }
+
+pub add_block-returns-in_err-add_group : goal.add_block-returns-in_err-add_group
+add_block-returns-in_err-add_group t c =
+    let exit = c.from_residual-in_err-add_group in
+    record { shown = no_value exit.result _ _ exit.ensures.1; lines = no_change exit.result _ _ exit.ensures.1 }
+
+pub add_block-returns-in_err-add_end : goal.add_block-returns-in_err-add_end
+add_block-returns-in_err-add_end t c =
+    let exit = c.from_residual-in_err-add_end in
+    record { shown = no_value exit.result _ _ exit.ensures.1; lines = no_change exit.result _ _ exit.ensures.1 }
+
+pub add_conjuncts-returns-in_err-add_conjuncts-in-And : goal.add_conjuncts-returns-in_err-add_conjuncts-in-And
+add_conjuncts-returns-in_err-add_conjuncts-in-And t c =
+    let exit = c.from_residual in
+    record { conjuncts = no_change exit.result _ _ exit.ensures.1; lines = no_change exit.result _ _ exit.ensures.1 }
+
+pub add_conjuncts-returns-in_err-framed-in_default : goal.add_conjuncts-returns-in_err-framed-in_default
+add_conjuncts-returns-in_err-framed-in_default t c =
+    let exit = c.from_residual-in_err-framed-in_default in
+    record { conjuncts = no_change exit.result _ _ exit.ensures.1; lines = no_change exit.result _ _ exit.ensures.1 }
+
+pub add_conjuncts-returns-in_err-push-in_default : goal.add_conjuncts-returns-in_err-push-in_default
+add_conjuncts-returns-in_err-push-in_default t c =
+    let exit = c.from_residual-in_err-push-in_default in
+    record { conjuncts = no_change exit.result _ _ exit.ensures.1; lines = no_change exit.result _ _ exit.ensures.1 }
+
+pub add_filter-returns-in_err-conjuncts : goal.add_filter-returns-in_err-conjuncts
+add_filter-returns-in_err-conjuncts t c =
+    let exit = c.from_residual in
+    no_change exit.result _ _ exit.ensures.1
+
+pub add_from-returns-in_err-numbers-in-Table : goal.add_from-returns-in_err-numbers-in-Table
+add_from-returns-in_err-numbers-in-Table t c =
+    let exit = c.from_residual in
+    record { numbers = no_value exit.result _ _ exit.ensures.1; lines = no_change exit.result _ _ exit.ensures.1 }
+
+pub add_from-returns-in_err-push-in-Table : goal.add_from-returns-in_err-push-in-Table
+add_from-returns-in_err-push-in-Table t c =
+    let exit = c.from_residual-in_err-push-in-Table in
+    record { numbers = no_value exit.result _ _ exit.ensures.1; lines = no_change exit.result _ _ exit.ensures.1 }
+
+pub add_from-returns-in_err-numbers-in-Join : goal.add_from-returns-in_err-numbers-in-Join
+add_from-returns-in_err-numbers-in-Join t c =
+    let exit = c.from_residual-in_err-numbers-in-Join in
+    record { numbers = no_value exit.result _ _ exit.ensures.1; lines = no_change exit.result _ _ exit.ensures.1 }
+
+pub add_from-returns-in_err-sides-in-Join : goal.add_from-returns-in_err-sides-in-Join
+add_from-returns-in_err-sides-in-Join t c =
+    let exit = c.from_residual-in_err-sides-in-Join in
+    record { numbers = no_value exit.result _ _ exit.ensures.1; lines = no_change exit.result _ _ exit.ensures.1 }
+
+pub add_from-returns-in_err-push-in-Join : goal.add_from-returns-in_err-push-in-Join
+add_from-returns-in_err-push-in-Join t c =
+    let exit = c.from_residual-in_err-push-in-Join in
+    record { numbers = no_value exit.result _ _ exit.ensures.1; lines = no_change exit.result _ _ exit.ensures.1 }
+
+pub add_from-returns-in_err-numbers-in-LeftJoin : goal.add_from-returns-in_err-numbers-in-LeftJoin
+add_from-returns-in_err-numbers-in-LeftJoin t c =
+    let exit = c.from_residual-in_err-numbers-in-LeftJoin in
+    record { numbers = no_value exit.result _ _ exit.ensures.1; lines = no_change exit.result _ _ exit.ensures.1 }
+
+pub add_from-returns-in_err-sides-in-LeftJoin : goal.add_from-returns-in_err-sides-in-LeftJoin
+add_from-returns-in_err-sides-in-LeftJoin t c =
+    let exit = c.from_residual-in_err-sides-in-LeftJoin in
+    record { numbers = no_value exit.result _ _ exit.ensures.1; lines = no_change exit.result _ _ exit.ensures.1 }
+
+pub add_from-returns-in_err-push-in-LeftJoin : goal.add_from-returns-in_err-push-in-LeftJoin
+add_from-returns-in_err-push-in-LeftJoin t c =
+    let exit = c.from_residual-in_err-push-in-LeftJoin in
+    record { numbers = no_value exit.result _ _ exit.ensures.1; lines = no_change exit.result _ _ exit.ensures.1 }
+
+pub add_from-returns-in_err-numbers-in-Comma : goal.add_from-returns-in_err-numbers-in-Comma
+add_from-returns-in_err-numbers-in-Comma t c =
+    let exit = c.from_residual-in_err-numbers-in-Comma in
+    record { numbers = no_value exit.result _ _ exit.ensures.1; lines = no_change exit.result _ _ exit.ensures.1 }
+
+pub add_from-returns-in_err-more-in-Comma : goal.add_from-returns-in_err-more-in-Comma
+add_from-returns-in_err-more-in-Comma t c =
+    let exit = c.from_residual-in_err-more-in-Comma in
+    record { numbers = no_value exit.result _ _ exit.ensures.1; lines = no_change exit.result _ _ exit.ensures.1 }
+
+pub add_from-returns-in_err-extend_from_slice-in-Comma : goal.add_from-returns-in_err-extend_from_slice-in-Comma
+add_from-returns-in_err-extend_from_slice-in-Comma t c =
+    let exit = c.from_residual-in_err-extend_from_slice-in-Comma in
+    record { numbers = no_value exit.result _ _ exit.ensures.1; lines = no_change exit.result _ _ exit.ensures.1 }
+
+pub add_from-returns-in_err-push-in-Comma : goal.add_from-returns-in_err-push-in-Comma
+add_from-returns-in_err-push-in-Comma t c =
+    let exit = c.from_residual-in_err-push-in-Comma in
+    record { numbers = no_value exit.result _ _ exit.ensures.1; lines = no_change exit.result _ _ exit.ensures.1 }
+
+pub condition-returns-in_err-left-in-Compare : goal.condition-returns-in_err-left-in-Compare
+condition-returns-in_err-left-in-Compare t c =
+    let exit = c.from_residual in
+    record { condition = no_value exit.result _ _ exit.ensures.1; lines = no_change exit.result _ _ exit.ensures.1 }
+
+pub condition-returns-in_err-right-in-Compare : goal.condition-returns-in_err-right-in-Compare
+condition-returns-in_err-right-in-Compare t c =
+    let exit = c.from_residual-in_err-right-in-Compare in
+    record { condition = no_value exit.result _ _ exit.ensures.1; lines = no_change exit.result _ _ exit.ensures.1 }
+
+pub condition-returns-in_err-numbered-in-IsNull : goal.condition-returns-in_err-numbered-in-IsNull
+condition-returns-in_err-numbered-in-IsNull t c =
+    let exit = c.from_residual-in_err-numbered-in-IsNull in
+    record { condition = no_value exit.result _ _ exit.ensures.1; lines = no_change exit.result _ _ exit.ensures.1 }
+
+pub condition-returns-in_err-part-in-Not : goal.condition-returns-in_err-part-in-Not
+condition-returns-in_err-part-in-Not t c =
+    let exit = c.from_residual-in_err-part-in-Not in
+    record { condition = no_value exit.result _ _ exit.ensures.1; lines = no_change exit.result _ _ exit.ensures.1 }
+
+pub condition-returns-in_err-new-in-Not : goal.condition-returns-in_err-new-in-Not
+condition-returns-in_err-new-in-Not t c =
+    let exit = c.from_residual-in_err-new-in-Not in
+    record { condition = no_value exit.result _ _ exit.ensures.1; lines = no_change exit.result _ _ exit.ensures.1 }
+
+pub condition-returns-in_err-parts-in-And : goal.condition-returns-in_err-parts-in-And
+condition-returns-in_err-parts-in-And t c =
+    let exit = c.from_residual-in_err-parts-in-And in
+    record { condition = no_value exit.result _ _ exit.ensures.1; lines = no_change exit.result _ _ exit.ensures.1 }
+
+pub condition-returns-in_err-parts-in-Or : goal.condition-returns-in_err-parts-in-Or
+condition-returns-in_err-parts-in-Or t c =
+    let exit = c.from_residual-in_err-parts-in-Or in
+    record { condition = no_value exit.result _ _ exit.ensures.1; lines = no_change exit.result _ _ exit.ensures.1 }
+
+pub condition-returns-in_err-add_block-in-Exists : goal.condition-returns-in_err-add_block-in-Exists
+condition-returns-in_err-add_block-in-Exists t c =
+    let exit = c.from_residual-in_err-add_block-in-Exists in
+    record { condition = no_value exit.result _ _ exit.ensures.1; lines = no_change exit.result _ _ exit.ensures.1 }
+
+pub condition-returns-in_err-term-in-In : goal.condition-returns-in_err-term-in-In
+condition-returns-in_err-term-in-In t c =
+    let exit = c.from_residual-in_err-term-in-In in
+    record { condition = no_value exit.result _ _ exit.ensures.1; lines = no_change exit.result _ _ exit.ensures.1 }
+
+pub condition-returns-in_err-shown-in-In : goal.condition-returns-in_err-shown-in-In
+condition-returns-in_err-shown-in-In t c =
+    let exit = c.from_residual-in_err-shown-in-In in
+    record { condition = no_value exit.result _ _ exit.ensures.1; lines = no_change exit.result _ _ exit.ensures.1 }
+
+pub conditions-returns-in_err-condition : goal.conditions-returns-in_err-condition
+conditions-returns-in_err-condition t c =
+    let exit = c.from_residual in
+    record { conditions = no_value exit.result _ _ exit.ensures.1; lines = no_change exit.result _ _ exit.ensures.1 }
+
+pub conditions-returns-in_err-push : goal.conditions-returns-in_err-push
+conditions-returns-in_err-push t c =
+    let exit = c.from_residual-in_err-push in
+    record { conditions = no_value exit.result _ _ exit.ensures.1; lines = no_change exit.result _ _ exit.ensures.1 }
+
+pub conjuncts-returns-in_err-add_conjuncts : goal.conjuncts-returns-in_err-add_conjuncts
+conjuncts-returns-in_err-add_conjuncts t c =
+    let exit = c.from_residual in
+    record { conjuncts = no_value exit.result _ _ exit.ensures.1; lines = no_change exit.result _ _ exit.ensures.1 }
+
+pub join_sides-returns-in_err-more : goal.join_sides-returns-in_err-more
+join_sides-returns-in_err-more t c =
+    let exit = c.from_residual in
+    record { numbers = no_value exit.result _ _ exit.ensures.1; on = no_value exit.result _ _ exit.ensures.1; classes = no_value exit.result _ _ exit.ensures.1; lines = no_change exit.result _ _ exit.ensures.1 }
+
+pub join_sides-returns-in_err-extend_from_slice : goal.join_sides-returns-in_err-extend_from_slice
+join_sides-returns-in_err-extend_from_slice t c =
+    let exit = c.from_residual-in_err-extend_from_slice in
+    record { numbers = no_value exit.result _ _ exit.ensures.1; on = no_value exit.result _ _ exit.ensures.1; classes = no_value exit.result _ _ exit.ensures.1; lines = no_change exit.result _ _ exit.ensures.1 }
+
+pub join_sides-returns-in_err-push : goal.join_sides-returns-in_err-push
+join_sides-returns-in_err-push t c =
+    let exit = c.from_residual-in_err-push in
+    record { numbers = no_value exit.result _ _ exit.ensures.1; on = no_value exit.result _ _ exit.ensures.1; classes = no_value exit.result _ _ exit.ensures.1; lines = no_change exit.result _ _ exit.ensures.1 }
+
+pub join_sides-returns-in_err-on : goal.join_sides-returns-in_err-on
+join_sides-returns-in_err-on t c =
+    let exit = c.from_residual-in_err-on in
+    record { numbers = no_value exit.result _ _ exit.ensures.1; on = no_value exit.result _ _ exit.ensures.1; classes = no_value exit.result _ _ exit.ensures.1; lines = no_change exit.result _ _ exit.ensures.1 }
