@@ -8,7 +8,7 @@ use Rattle.schema.specs.Each.{each}
 use Rattle.sql_parse.specs.declared.statement.Condition.{Condition}
 use Rattle.sql_parse.specs.declared.statement.SelectList.{SelectList}
 use Rattle.sql_parse.specs.declared.statement.Select.{Select, out-Select}
-use Rattle.query.specs.declared.query.TableUse.{TableUse}
+use Rattle.query.specs.declared.query.TableInstance.{TableInstance}
 use Rattle.query.specs.declared.query.Cond.{Cond}
 use Rattle.binder.specs.declared.tables.Numbered.{Numbered}
 use Rattle.binder.specs.declared.output.Output.{Output}
@@ -48,7 +48,7 @@ numbers-new a b c d scopes rows xs ys fits columns others le =
     and_from _ _ (apart a b c d xs ys others columns le)
     (new-among a scopes rows (xs ++ ys) fits (λ row below. none-among-append xs ys row (none-among c d a xs row others below (omega (arith, bounds, le))) (none-among a b a ys row columns below (omega arith))))
 
-module _ (S : Schema) (uses : List TableUse) (T : ℕ) where
+module _ (S : Schema) (uses : List TableInstance) (T : ℕ) where
   -- ---- WHERE
 
   pub record FilterIs (more : ℕ) (ons : Bool) (scopes : Scopes) (n : Numbered) (o : Option CondScope) (m : Numbered) : Type 0 where

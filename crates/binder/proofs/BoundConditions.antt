@@ -9,7 +9,7 @@ use Rattle.sql_parse.specs.declared.statement.Operator.{Operator}
 use Rattle.sql_parse.specs.declared.statement.Condition.{Condition}
 use Rattle.sql_parse.specs.declared.statement.Condition.TheVariants.{Compare, IsNull, Not, And, Or, Exists, In}
 use Rattle.sql_parse.specs.declared.statement.Select.{Select}
-use Rattle.query.specs.declared.query.TableUse.{TableUse}
+use Rattle.query.specs.declared.query.TableInstance.{TableInstance}
 use Rattle.query.specs.declared.query.Cond.{Cond}
 use Rattle.query.specs.declared.query.Cond.TheVariants as cond
 use Rattle.binder.specs.declared.tables.Numbered.{Numbered}
@@ -60,7 +60,7 @@ columns-fold e (f ∷ extents) = columns-fold (beside e f) extents ∙ omega ari
 pub columns-all : (extents : List Extent) → (all_of extents).columns ≡ columns_of extents
 columns-all extents = columns-fold nothing extents ∙ omega arith
 
-module _ (S : Schema) (uses : List TableUse) (T : ℕ) where
+module _ (S : Schema) (uses : List TableInstance) (T : ℕ) where
   abbrev plain_one : Plainness
   plain_one = record { plain = true; ons = true }
 

@@ -8,7 +8,7 @@ use Rattle.sql_parse.specs.declared.statement.JoinKind.{JoinKind}
 use Rattle.sql_parse.specs.declared.statement.JoinKind.TheVariants as by
 use Rattle.sql_parse.specs.declared.statement.Join.{Join, out-Join}
 use Rattle.sql_parse.specs.declared.statement.Chain.{Chain, out-Chain}
-use Rattle.query.specs.declared.query.TableUse.{TableUse}
+use Rattle.query.specs.declared.query.TableInstance.{TableInstance}
 use Rattle.query.specs.declared.query.Occurrence.{Occurrence}
 use Rattle.query.specs.declared.query.Cond.{Cond}
 use Rattle.query.specs.declared.query.From.{From}
@@ -44,7 +44,7 @@ and-again false b c = refl
 sum : (a b c : ℕ) → a + (b + c) ≡ (a + b) + c
 sum a b c = omega arith
 
-module _ (S : Schema) (uses : List TableUse) (T : ℕ) where
+module _ (S : Schema) (uses : List TableInstance) (T : ℕ) where
   -- ---- a table, and what is joined to it
 
   table-is : (outer : Scopes) (t : TableName) (n : Numbered) (r : Occurrence × Scope × Numbered) → Entered S uses T [] t n r

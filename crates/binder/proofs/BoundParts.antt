@@ -5,7 +5,7 @@ use Rattle.sql_parse.specs.declared.statement.Condition.{Condition}
 use Rattle.sql_parse.specs.declared.statement.Join.{Join}
 use Rattle.sql_parse.specs.declared.statement.Chain.{Chain}
 use Rattle.sql_parse.specs.declared.statement.Select.{Select}
-use Rattle.query.specs.declared.query.TableUse.{TableUse}
+use Rattle.query.specs.declared.query.TableInstance.{TableInstance}
 use Rattle.binder.specs.declared.tables.Numbered.{Numbered}
 use Rattle.binder.specs.declared.output.Output.{Output}
 use Rattle.binder.specs.Scopes.{Scope, Scopes}
@@ -20,7 +20,7 @@ use Rattle.binder.proofs.Growth.{Grown, Within}
 use Rattle.binder.proofs.NamesThere.{Around}
 use Rattle.binder.proofs.Rising.{Rising}
 
-module _ (S : Schema) (uses : List TableUse) (T : ℕ) where
+module _ (S : Schema) (uses : List TableInstance) (T : ℕ) where
   -- a condition of so many columns, which became one of this scope, while what has numbers went from n to m
   pub record CondIs (more : ℕ) (p : Plainness) (scopes : Scopes) (n : Numbered) (s : CondScope) (m : Numbered) : Type 0 where
     pub grown : Grown S n m more

@@ -1,4 +1,4 @@
--- The query that a statement is over a schema is bound, and its table occurrences are tables of the schema.
+-- The query that a statement is over a schema is bound, and its table instances are tables of the schema.
 use Rattle.std.proofs.Common.{◌≡◌, refl, ap, sym, subst, ℕ, true, List, [], map, nat_le, Option, Some, None, arith}
 use Rattle.std.specs.List.{AllByRecursion}
 use Rattle.std.proofs.lemmas.List.{append-nil}
@@ -12,7 +12,7 @@ use Rattle.sql_parse.specs.declared.statement.Join.{Join, roll-Join, out-roll-Jo
 use Rattle.sql_parse.specs.declared.statement.Chain.{Chain, roll-Chain, out-roll-Chain}
 use Rattle.sql_parse.specs.declared.statement.Select.{Select, roll-Select, out-roll-Select}
 use Rattle.sql_parse.specs.declared.statement.Statement.{Statement}
-use Rattle.query.specs.declared.query.TableUse.{TableUse}
+use Rattle.query.specs.declared.query.TableInstance.{TableInstance}
 use Rattle.query.specs.declared.query.SortKey.{SortKey}
 use Rattle.query.specs.declared.query.Query.{Query}
 use Rattle.binder.specs.declared.extent.Extent.{Extent}
@@ -34,7 +34,7 @@ use Rattle.binder.proofs.BoundConditions.{bound-Compare, bound-IsNull, bound-Not
 use Rattle.binder.proofs.BoundFroms.{bound-join, bound-chain}
 use Rattle.binder.proofs.BoundBlocks.{bound-select}
 
-module _ (S : Schema) (uses : List TableUse) (T : ℕ) where
+module _ (S : Schema) (uses : List TableInstance) (T : ℕ) where
   abbrev ProvedCondition : Type 0
   ProvedCondition = (c : Condition) × CondBound S uses T c
 
@@ -92,7 +92,7 @@ module _ (S : Schema) (uses : List TableUse) (T : ℕ) where
 abbrev IsKnown : Schema → Statement → Query → Type 0
 IsKnown S s q = (ons_are_plain s ≡ true → is_bound q ≡ true) × AllByRecursion (IsOver S) q.tables
 
--- the SELECT of a statement, whose table occurrences are all that have numbers after it
+-- the SELECT of a statement, whose table instances are all that have numbers after it
 select-known : (S : Schema) (s : Statement) (extent : Extent) (r : BoundSelect × Numbered) (names : List (List ℕ)) (order : List SortKey) → extent ≡ of_select S s.select
     → SelectIs S r.1.tables extent.columns (of_select S s.select).columns (select_ons s.select) [] (at_start extent) (block_scope r.1.tables r.0.block) r.0.outputs r.1
     → IsKnown S s (record { tables = r.1.tables; block = r.0.block; names = names; order = order })

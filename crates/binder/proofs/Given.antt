@@ -24,7 +24,7 @@ pub given-if : {A R : Type 0} (P : A → Type 0) (e : R) (b : Bool) (x : A) → 
 given-if P e true x holds = holds refl
 given-if P e false x holds = tt
 
--- the result may be told by an equation
+-- the result may be given by an equation
 pub given-at : {A R : Type 0} (P : A → Type 0) (r s : Result A R) → r ≡ s → Given P s → Given P r
 given-at P r s is given = rw is given
 

@@ -1,4 +1,4 @@
--- What gets numbers while a statement is bound: table occurrences are added behind those before, each of a table of the
+-- What gets numbers while a statement is bound: table instances are added behind those before, each of a table of the
 -- schema, and so are columns and aggregates.
 use Rattle.std.proofs.Common.{◌≡◌, refl, ap, sym, ◌∙◌, ℕ, ◌+◌, ◌≤◌, Bool, true, false, not, if◌then◌else◌, List, [], ◌∷◌, ◌++◌, length, Some, bytes_eq, arith, append_assoc}
 use Prim.Native.Nat.{zero, suc}
@@ -8,7 +8,7 @@ use Rattle.std.proofs.lemmas.List.FromFn.{length-range_with_len}
 use Rattle.schema.specs.declared.schema.Table.{Table}
 use Rattle.schema.specs.declared.schema.Schema.{Schema}
 use Rattle.sql_parse.specs.declared.statement.TableName.{TableName}
-use Rattle.query.specs.declared.query.TableUse.{TableUse}
+use Rattle.query.specs.declared.query.TableInstance.{TableInstance}
 use Rattle.query.specs.declared.query.Occurrence.{Occurrence}
 use Rattle.binder.specs.declared.tables.Numbered.{Numbered}
 use Rattle.binder.specs.declared.fault.BindReason.TheVariants.{RepeatedName, UnknownTable}
@@ -23,7 +23,7 @@ use Rattle.binder.proofs.Indexes.{width-append}
 use Rattle.binder.proofs.Given.{Given, and-then, given-wanted, given-if}
 use Rattle.binder.proofs.Rising.{Rising, rising-range}
 
--- ---- table occurrences
+-- ---- table instances
 
 -- the list goes on from the other
 abbrev pub Begins : {A : Type 0} → List A → List A → Type 0
@@ -61,12 +61,12 @@ grown-more S n k m a b c first next sum = record {
 }
 
 -- the part from n to m is one of a text whose occurrences are these, and whose aggregates are numbered from T on
-pub record Within (uses : List TableUse) (T : ℕ) (n m : Numbered) : Type 0 where
+pub record Within (uses : List TableInstance) (T : ℕ) (n m : Numbered) : Type 0 where
   pub tables : Begins uses m.tables
   pub columns : m.next_column ≤ T
   pub aggregates : T ≤ n.next_aggregate
 
-module _ (S : Schema) (uses : List TableUse) (T : ℕ) (n k m : Numbered) (a b : ℕ) where
+module _ (S : Schema) (uses : List TableInstance) (T : ℕ) (n k m : Numbered) (a b : ℕ) where
   pub within-first : Grown S k m b → Within uses T n m → Within uses T n k
   within-first next all = record {
     tables = begins-again uses m.tables k.tables all.tables next.tables;
@@ -100,20 +100,20 @@ find-is ts name found is =
     rw at there.2
 
 -- a table that has entered a FROM
-pub record Entered (S : Schema) (uses : List TableUse) (T : ℕ) (chain : Scope) (t : TableName) (n : Numbered) (r : Occurrence × Scope × Numbered) : Type 0 where
+pub record Entered (S : Schema) (uses : List TableInstance) (T : ℕ) (chain : Scope) (t : TableName) (n : Numbered) (r : Occurrence × Scope × Numbered) : Type 0 where
   pub grown : Grown S n r.2 (one_table S t).columns
   pub used : Within uses T n r.2 → is_used uses r.0 ≡ true
   pub rises : Within uses T n r.2 → Rising n.next_column r.2.next_column (use_numbers uses r.0)
   pub wide : Within uses T n r.2 → width r.1 ≡ width chain + length (use_numbers uses r.0)
 
 -- the occurrence that gets the next number
-abbrev next_use : Numbered → ℕ → Table → List ℕ → TableUse
+abbrev next_use : Numbered → ℕ → Table → List ℕ → TableInstance
 next_use n place entry name = record { table = place; entry = entry; name = name; first_column = n.next_column }
 
-used-next : (uses : List TableUse) (n : Numbered) (t : TableUse) → Begins uses (n.tables ++ t ∷ []) → slice_get uses (length n.tables) ≡ Some t
+used-next : (uses : List TableInstance) (n : Numbered) (t : TableInstance) → Begins uses (n.tables ++ t ∷ []) → slice_get uses (length n.tables) ≡ Some t
 used-next uses n t begins = ap (λ l. slice_get l (length n.tables)) (begins.1 ∙ append_assoc n.tables (t ∷ []) begins.0) ∙ get-next n.tables t begins.0
 
-module _ (S : Schema) (uses : List TableUse) (T : ℕ) (chain : Scope) (t : TableName) (n : Numbered) where
+module _ (S : Schema) (uses : List TableInstance) (T : ℕ) (chain : Scope) (t : TableName) (n : Numbered) where
   enters : (found : ℕ × Table) → find_table 0 S.tables t.name.text ≡ Some found → Entered S uses T chain t n (entered chain t n found)
   enters found is =
       let next = next_use n found.0 found.1 (known_name t).text in

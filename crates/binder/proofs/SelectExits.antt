@@ -26,19 +26,19 @@ use Rattle.binder.specs.Numbers.{enter, with_aggregates}
 use Rattle.binder.specs.Outputs.{aggregates, is_grouped, key_in, outputs_in}
 use Rattle.binder.specs.Selects.{FromSoFar, condition_in, join_in, chain_in, joined, select_in, membership_in, term_in, from_in, filter_in, block_of}
 use Rattle.binder.proofs.SelectParts.{contained, join_at, select_at}
-use Rattle.binder.proofs.Steps.{told, handed, seen}
+use Rattle.binder.proofs.Steps.{reported, handed, seen}
 
 -- ---- `left IN query`
 
 module _ (S : Schema) (c : Condition) (a : tree.Term) (at : ℕ) (q lent : Select) (scopes : Scopes) (n : Numbered) (is : c ≡ In a at q) (same : lent ≡ q) where
   pub left_fails : (e : Fault BindRefusal) → Fails e (term_in scopes a) → Fails e (condition_in S c scopes n)
-  left_fails e = told e _ _ _ (contained S c a at q lent scopes n is same)
+  left_fails e = reported e _ _ _ (contained S c a at q lent scopes n is same)
 
   with_left : (left : BoundTerm) → term_in scopes a ≡ Ok left → condition_in S c scopes n ≡ (select_in S lent scopes n >>= λ query. membership_in left at query.0 >>= λ bound. Ok (bound, query.1))
   with_left left found = handed _ _ _ _ (contained S c a at q lent scopes n is same) found
 
   pub query_fails : (e : Fault BindRefusal) (left : BoundTerm) → term_in scopes a ≡ Ok left → Fails e (select_in S lent scopes n) → Fails e (condition_in S c scopes n)
-  query_fails e left found = told e _ _ _ (with_left left found)
+  query_fails e left found = reported e _ _ _ (with_left left found)
 
   pub membership_gives : (left : BoundTerm) (query : BoundSelect) (m : Numbered) (answer : Result Cond (Fault BindRefusal)) → term_in scopes a ≡ Ok left → select_in S lent scopes n ≡ Ok (query, m)
       → Gives (λ (bound : Cond). bound) answer (membership_in left at query) → Gives (λ (bound : Cond). (bound, m)) answer (condition_in S c scopes n)
@@ -49,7 +49,7 @@ module _ (S : Schema) (c : Condition) (a : tree.Term) (at : ℕ) (q lent : Selec
 
 module _ (S : Schema) (j : Join) (outer : Scopes) (before : Scope) (left : FromSoFar) where
   pub right_fails : (e : Fault BindRefusal) → Fails e (enter S before left.1 (out-Join j).table left.2) → Fails e (join_in S j outer before left)
-  right_fails e = told e _ _ _ (join_at S j outer before left (out-Join j).condition refl)
+  right_fails e = reported e _ _ _ (join_at S j outer before left (out-Join j).condition refl)
 
   with_right : (lent : Condition) (right : Occurrence × Scope × Numbered) → lent ≡ (out-Join j).condition → enter S before left.1 (out-Join j).table left.2 ≡ Ok right → join_in S j outer before left
       ≡ (condition_in S lent (right.1 ∷ outer) right.2 >>= λ on. Ok (joined (out-Join j).kind left.0 right.0 on.0, right.1, on.1))
@@ -57,7 +57,7 @@ module _ (S : Schema) (j : Join) (outer : Scopes) (before : Scope) (left : FromS
 
   pub on_fails : (e : Fault BindRefusal) (lent : Condition) (right : Occurrence × Scope × Numbered) → lent ≡ (out-Join j).condition → enter S before left.1 (out-Join j).table left.2 ≡ Ok right
       → Fails e (condition_in S lent (right.1 ∷ outer) right.2) → Fails e (join_in S j outer before left)
-  on_fails e lent right at entered = told e _ _ _ (with_right lent right at entered)
+  on_fails e lent right at entered = reported e _ _ _ (with_right lent right at entered)
 
   pub join_is : (lent : Condition) (right : Occurrence × Scope × Numbered) (on : Cond × Numbered) (f : From) → lent ≡ (out-Join j).condition → enter S before left.1 (out-Join j).table left.2 ≡ Ok right
       → condition_in S lent (right.1 ∷ outer) right.2 ≡ Ok on → f ≡ joined (out-Join j).kind left.0 right.0 on.0 → join_in S j outer before left ≡ Ok (f, right.1, on.1)
@@ -67,7 +67,7 @@ module _ (S : Schema) (j : Join) (outer : Scopes) (before : Scope) (left : FromS
 
 module _ (S : Schema) (q : Select) (outer : Scopes) (n m : Numbered) (chains : List Chain) (group : List ColumnName) (counted : m ≡ with_aggregates n (aggregates (out-Select q).list)) (at : chains ≡ (out-Select q).from) (by : group ≡ (out-Select q).group) where
   pub from_fails : (e : Fault BindRefusal) → Fails e (from_in (map (chain_in S) chains) outer m) → Fails e (select_in S q outer n)
-  from_fails e = told e _ _ _ (select_at S q outer n m chains group counted at by)
+  from_fails e = reported e _ _ _ (select_at S q outer n m chains group counted at by)
 
   with_from : (sources : FromSoFar) → from_in (map (chain_in S) chains) outer m ≡ Ok sources → select_in S q outer n
       ≡ (filter_in (option_map (condition_in S) (out-Select q).filter) (sources.1 ∷ outer) sources.2
@@ -78,7 +78,7 @@ module _ (S : Schema) (q : Select) (outer : Scopes) (n m : Numbered) (chains : L
 
   pub filter_fails : (e : Fault BindRefusal) (sources : FromSoFar) → from_in (map (chain_in S) chains) outer m ≡ Ok sources
       → Fails e (filter_in (option_map (condition_in S) (out-Select q).filter) (sources.1 ∷ outer) sources.2) → Fails e (select_in S q outer n)
-  filter_fails e sources found = told e _ _ _ (with_from sources found)
+  filter_fails e sources found = reported e _ _ _ (with_from sources found)
 
   with_filter : (sources : FromSoFar) (filter : Option Cond × Numbered) → from_in (map (chain_in S) chains) outer m ≡ Ok sources
       → filter_in (option_map (condition_in S) (out-Select q).filter) (sources.1 ∷ outer) sources.2 ≡ Ok filter → select_in S q outer n
@@ -90,14 +90,14 @@ module _ (S : Schema) (q : Select) (outer : Scopes) (n m : Numbered) (chains : L
   pub keys_fail : (e : Fault BindRefusal) (sources : FromSoFar) (filter : Option Cond × Numbered) → from_in (map (chain_in S) chains) outer m ≡ Ok sources
       → filter_in (option_map (condition_in S) (out-Select q).filter) (sources.1 ∷ outer) sources.2 ≡ Ok filter
       → Fails e (each (key_in (sources.1 ∷ outer)) group) → Fails e (select_in S q outer n)
-  keys_fail e sources filter found bound = told e _ _ _ (with_filter sources filter found bound)
+  keys_fail e sources filter found bound = reported e _ _ _ (with_filter sources filter found bound)
 
   pub outputs_fail : (e : Fault BindRefusal) (sources : FromSoFar) (filter : Option Cond × Numbered) (keys : List ℕ) (grouped : Bool) → from_in (map (chain_in S) chains) outer m ≡ Ok sources
       → filter_in (option_map (condition_in S) (out-Select q).filter) (sources.1 ∷ outer) sources.2 ≡ Ok filter
       → each (key_in (sources.1 ∷ outer)) group ≡ Ok keys → grouped ≡ is_grouped keys (out-Select q).list
       → Fails e (outputs_in sources.1 (sources.1 ∷ outer) grouped keys n.next_aggregate (out-Select q).list) → Fails e (select_in S q outer n)
   outputs_fail e sources filter keys grouped found bound kept by_group h =
-      told e _ _ _ (handed _ _ _ _ (with_filter sources filter found bound) kept)
+      reported e _ _ _ (handed _ _ _ _ (with_filter sources filter found bound) kept)
       (subst (λ by. Fails e (outputs_in sources.1 (sources.1 ∷ outer) by keys n.next_aggregate (out-Select q).list)) by_group h)
 
   pub select_is : (sources : FromSoFar) (filter : Option Cond × Numbered) (keys : List ℕ) (grouped : Bool) (outputs : List Output) (items : List Item) → from_in (map (chain_in S) chains) outer m ≡ Ok sources

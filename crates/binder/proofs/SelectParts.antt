@@ -1,4 +1,4 @@
--- What becomes of each form of condition, join, chain and SELECT: one equation for each, of parts that are told by equations.
+-- What becomes of each form of condition, join, chain and SELECT: one equation for each, of parts that are given by equations.
 use Rattle.std.proofs.Common.{◌≡◌, refl, ℕ, ◌<◌, ◌≤◌, Bool, true, false, ◌||◌, nat_lt, List, [], ◌∷◌, length, map, Option, Some, None, Ok, ap, sym, ◌∙◌, option_map, arith}
 use Rattle.std.proofs.lemmas.Bool.Decides.{nat_tests}
 use Rattle.values.specs.Faults.{◌>>=◌}

@@ -1,5 +1,5 @@
--- What is known of the query that a statement is (this project's profile of SQL): it is bound, and its table occurrences
--- are tables of the schema. A tree can have a subquery in an ON, and no text has one there: so the first is told of trees
+-- What is known of the query that a statement is (this project's profile of SQL): it is bound, and its table instances
+-- are tables of the schema. A tree can have a subquery in an ON, and no text has one there: so the first is said of trees
 -- whose ONs have none.
 use Rattle.std.specs.Prelude.{◌≡◌, Bool, true, false, ◌&&◌, List, length, Option, Some, None, Ok}
 use Rattle.std.specs.List.{AllByRecursion, list_all}
@@ -77,7 +77,7 @@ StatementsArePlain = (bytes : Bytes) (s : Statement) → ReadsStatement bytes s 
 abbrev pub StatementsAreBound : Type 0
 StatementsAreBound = (S : Schema) (s : Statement) (q : Query) → ons_are_plain s ≡ true → bound_statement S s ≡ Ok q → is_bound q ≡ true
 
--- each table occurrence is one of a table of the schema
+-- each table instance is one of a table of the schema
 abbrev pub StatementsAreOver : Type 0
 StatementsAreOver = (S : Schema) (s : Statement) (q : Query) → bound_statement S s ≡ Ok q → AllByRecursion (IsOver S) q.tables
 

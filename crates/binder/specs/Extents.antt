@@ -83,6 +83,6 @@ of_chain S = fold-Chain Extent Extent Extent Extent condition_layer (chain_layer
 unfoldable pub of_select : Schema → Select → Extent
 of_select S = fold-Select Extent Extent Extent Extent condition_layer (chain_layer S) (join_layer S) select_layer
 
--- at most so many table occurrences, queries in one another, and tests
+-- at most so many table instances, queries in one another, and tests
 abbrev pub is_within : Extent → Bool
 is_within e = nat_le e.tables MAX_TABLES && nat_le e.levels MAX_LEVELS && nat_le e.tests MAX_TESTS

@@ -1,4 +1,4 @@
--- Table occurrences, and the numbers that they get in the order of the text (this project's profile of SQL).
+-- Table instances, and the numbers that they get in the order of the text (this project's profile of SQL).
 use Rattle.std.specs.Prelude.{◌+◌, ℕ, not, List, [], ◌∷◌, ◌++◌, length, Result}
 use Rattle.values.specs.Faults.{◌>>=◌, wanted_if}
 use Rattle.schema.specs.declared.schema.Table.{Table}

@@ -15,12 +15,12 @@ use Rattle.binder.specs.Lookups.{find_column, refusal}
 
 -- ---- scopes
 
--- a table occurrence: the name by which columns name it, and its entry in the schema
+-- a table instance: the name by which columns name it, and its entry in the schema
 pub record Known : Type 0 where
   pub name : List ℕ
   pub entry : Table
 
--- the table occurrences of a FROM, or of the sides of a join, as they stand in the text
+-- the table instances of a FROM, or of the sides of a join, as they stand in the text
 abbrev pub Scope : Type 0
 Scope = List Known
 
@@ -99,6 +99,6 @@ front_of (Some front) name = front
 abbrev pub place_in_text : ColumnName → ℕ
 place_in_text c = (front_of c.table c.name).at
 
--- the name by which a table occurrence is known: its alias, or else its table's
+-- the name by which a table instance is known: its alias, or else its table's
 abbrev pub known_name : TableName → Name
 known_name t = front_of t.alias t.name

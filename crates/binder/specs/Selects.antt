@@ -1,5 +1,5 @@
 -- Conditions, joins, FROMs and SELECTs over a schema, with the first fault of each (this project's profile of SQL). Each
--- layer takes its parts in the order in which faults are told, which for table occurrences is that of the text.
+-- layer takes its parts in the order in which faults are reported, which for table instances is that of the text.
 use Rattle.std.specs.Prelude.{ℕ, Bool, true, false, List, [], ◌∷◌, ◌++◌, map, Option, Some, None, Result, Ok, Err}
 use Rattle.values.specs.declared.value.Value.{Value}
 use Rattle.values.specs.declared.value.Value.TheVariants as value

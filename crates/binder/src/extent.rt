@@ -9,7 +9,7 @@ use sql_parse::statement::{Chain, Condition, Join, Select, TableName};
 use std::alloc::AllocError;
 use values::Boxed;
 
-/// The most table occurrences of a statement, those in subqueries among them.
+/// The most table instances of a statement, those in subqueries among them.
 pub const MAX_TABLES: usize = 24;
 /// The most queries that stand in one another; the outermost is one of them.
 pub const MAX_LEVELS: usize = 8;
@@ -19,7 +19,7 @@ pub const MAX_TESTS: usize = 1024;
 /// The size of a part of a statement.
 #[derive(Clone, Copy)]
 pub struct Extent {
-    /// Table occurrences.
+    /// Table instances.
     pub tables: usize,
     /// The columns of those tables that the schema has.
     pub columns: usize,
@@ -43,7 +43,7 @@ const ONE_TEST: Extent = Extent {
     tests: 1,
 };
 
-/// A sum. No text is long enough for one that isn't a number of the machine; it is told as want of memory.
+/// A sum. No text is long enough for one that isn't a number of the machine; it is reported as out of memory.
 fn sum(a: usize, b: usize) -> Result<usize, AllocError>
     ensures { IfOk result (λ total. total ≡ a + b) }
 {

@@ -15,7 +15,7 @@ pub enum BindReason {
     UnknownColumn,
     /// B03: a name of several columns.
     AmbiguousName,
-    /// B04: the name of another table occurrence of the same FROM.
+    /// B04: the name of another table instance of the same FROM.
     RepeatedName,
     /// B05: a number is compared with a text.
     MixedKinds,
@@ -34,7 +34,7 @@ pub enum BindReason {
 }
 
 impl BindReason {
-    /// The code by which the program tells it.
+    /// The code by which the program reports it.
     pub fn code(self) -> &'static str
         ensures { result.now ≡ code_of self }
     {

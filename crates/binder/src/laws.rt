@@ -8,7 +8,7 @@ ghost use Rattle.binder.specs.BoundStatements.{
 };
 
 /// No text is a statement with a subquery in an ON. What the query of any other statement names is there, and the columns
-/// that a condition can name have numbers of their own. Each table occurrence is one of a table of the schema, and as wide.
+/// that a condition can name have numbers of their own. Each table instance is one of a table of the schema, and as wide.
 pub fn statements_are_bound()
     ensures plain { StatementsArePlain }
     ensures bound { StatementsAreBound }

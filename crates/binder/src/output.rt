@@ -205,7 +205,7 @@ fn outputs_of_items(
     Ok(outputs)
 }
 
-/// Adds all columns of a table, and tells the place behind them.
+/// Adds all columns of a table, and gives the place behind them.
 fn push_columns(
     alloc: Global,
     columns: &[schema::Column],

@@ -32,7 +32,7 @@ pub enum Meaning {
     Several,
 }
 
-/// A table occurrence, by the name by which columns name it.
+/// A table instance, by the name by which columns name it.
 #[derive(Clone, Copy)]
 pub struct LentTable<'s> {
     pub name: &'s str,
@@ -46,7 +46,7 @@ pub struct Placed<'s> {
     pub entry: &'s Table,
 }
 
-/// Table occurrences, and what names mean among them.
+/// Table instances, and what names mean among them.
 struct Index<'s> {
     tables: Vec<LentTable<'s>>,
     by_name: HashMap<&'s str, Placed<'s>>,
@@ -66,7 +66,7 @@ impl Drop for Index<'_> {
     }
 }
 
-/// The table occurrences of a FROM, or of the sides of a join, by name, and their columns by name.
+/// The table instances of a FROM, or of the sides of a join, by name, and their columns by name.
 #[derive(Drop)]
 pub struct Scope<'s> {
     index: Index<'s>,
@@ -111,7 +111,7 @@ impl<'s> Scope<'s> {
         self.index.by_name.get(name).is_some()
     }
 
-    /// Adds a table occurrence to the right. Of two with one name the first is found.
+    /// Adds a table instance to the right. Of two with one name the first is found.
     pub fn with(self, name: &'s str, entry: &'s Table) -> Result<Scope<'s>, AllocError>
         ensures { IfOk result (λ scope. scope ≡ self.entry ++ record { name = name.now; entry = entry.now } ∷ []) }
     {
@@ -149,7 +149,7 @@ impl<'s> Scope<'s> {
     }
 }
 
-/// Adds the columns of one more table by name, and tells the place behind them.
+/// Adds the columns of one more table by name, and gives the place behind them.
 fn add_columns<'s>(
     by_name: &mut HashMap<&'s str, Meaning>,
     first_place: usize,
@@ -203,7 +203,7 @@ fn find_column<'s>(columns: &'s [schema::Column], name: &str) -> Option<(usize, 
     None
 }
 
-/// The sum of two places. No FROM has so many columns that it is no number of the machine; it is told as want of memory.
+/// The sum of two places. No FROM has so many columns that it is no number of the machine; it is reported as out of memory.
 fn sum(a: usize, b: usize) -> Result<usize, AllocError>
     ensures { IfOk result (λ total. total ≡ a + b) }
 {
@@ -297,7 +297,7 @@ pub fn place_in_text(name: &ColumnName) -> usize
     }
 }
 
-/// The name by which a table occurrence is known: its alias, or else its table's.
+/// The name by which a table instance is known: its alias, or else its table's.
 pub fn known_name(table: &TableName) -> &Name
     ensures { result.now ≡ spec.known_name table.entry.now }
 {

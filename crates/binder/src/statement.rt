@@ -17,7 +17,7 @@ use sql_parse::statement::Statement;
 use std::alloc::{AllocError, Global};
 use values::{Items, Text};
 
-/// The most columns that the table occurrences and aggregates of a query may have together.
+/// The most columns that the table instances and aggregates of a query may have together.
 pub const MAX_COLUMNS: usize = 512;
 
 fn names(alloc: Global, outputs: &[Output]) -> Result<Items<Text>, AllocError>
@@ -30,7 +30,7 @@ fn names(alloc: Global, outputs: &[Output]) -> Result<Items<Text>, AllocError>
     Ok(names)
 }
 
-/// The query that a statement is over a schema, or its first fault. First of all are counted its table occurrences, the
+/// The query that a statement is over a schema, or its first fault. First of all are counted its table instances, the
 /// SELECTs in one another and its tests, and last of all its columns.
 #[tactic(auto, unfolding(crate::specs::Queries::bound_statement))]
 pub fn bind_statement(

@@ -1,4 +1,4 @@
-//! Table occurrences, and the numbers that they and the aggregates of a text get.
+//! Table instances, and the numbers that they and the aggregates of a text get.
 
 ghost use Rattle.std.specs.Prelude.{◌≡◌, IfOk, OnOk};
 ghost use Rattle.values.specs.Faults.{Gives};
@@ -6,7 +6,7 @@ ghost use Rattle.binder.specs.Numbers as spec;
 
 use crate::fault::{BindFault, BindReason, refused};
 use crate::scope::{Scope, find_table, known_name};
-use query::{Occurrence, TableUse};
+use query::{Occurrence, TableInstance};
 use schema::{Schema, Table};
 use sql_parse::statement::TableName;
 use std::alloc::{AllocError, Global};
@@ -15,8 +15,8 @@ use values::{Items, Text};
 /// What has a number so far.
 #[derive(Drop)]
 pub struct Numbered {
-    /// The table occurrences, in the order of the text.
-    pub tables: Items<TableUse>,
+    /// The table instances, in the order of the text.
+    pub tables: Items<TableInstance>,
     /// The number of the next occurrence's first column.
     pub next_column: usize,
     /// The number of the next aggregate.
@@ -24,7 +24,7 @@ pub struct Numbered {
 }
 
 impl Numbered {
-    /// A table occurrence gets its number, and its columns theirs.
+    /// A table instance gets its number, and its columns theirs.
     fn push(
         &mut self,
         alloc: Global,
@@ -36,7 +36,7 @@ impl Numbered {
         ensures pushed { OnOk result (self.new ≡ spec.with_table self.old table entry.now name.now) }
     {
         let number = self.tables.len();
-        self.tables.push(TableUse {
+        self.tables.push(TableInstance {
             table,
             entry: entry.copy(alloc)?,
             name: name.copy(alloc)?,

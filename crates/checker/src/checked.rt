@@ -3,21 +3,21 @@
 ghost use Rattle.std.specs.Prelude.{◌≡◌, IfOk};
 ghost use Rattle.values.specs.Faults.{Gives};
 ghost use Rattle.query.specs.Bound.{IsBoundOver};
-ghost use Rattle.checker.specs.Replay.{replayed, IsChecked};
+ghost use Rattle.derivation.specs.Replay.{replayed, IsChecked};
 
-use crate::certificate::{Certificate, CheckFault};
 use crate::fit::{is_delivered, plan_fits};
 use crate::replay::replay;
+use derivation::{Certificate, CheckFault};
 use logical::query_frame;
 use query::Query;
 use schema::Schema;
 use std::alloc::Global;
 use std::marker::Model;
 
-/// Checks that each line of a certificate may stand where it does, that each node of its plan computes the class that is
-/// wanted of it, and that the plan delivers the ORDER BY. Else the first fault is told; lines go before nodes. A plan with
-/// more nodes than there are numbers has no room in memory, and is told so.
-#[tactic(auto, unfolding(crate::specs::Replay::replayed))]
+/// Checks that each line of a certificate may stand where it does, that each node of its plan is of the class that is wanted
+/// of it, and that the plan delivers the ORDER BY. Else the first fault is reported; lines go before nodes. A plan with
+/// more nodes than there are numbers has no room in memory, and is reported so.
+#[tactic(auto, unfolding(derivation::specs::Replay::replayed))]
 pub fn check<'a>(
     alloc: Global,
     schema: &'a Schema,
@@ -65,9 +65,10 @@ impl<'a> Model for Checked<'a> {
     ghost use Rattle.schema.specs.contracts.schema.Schema as s;
     ghost use Rattle.query.specs.declared.query.Query.{Query};
     ghost use Rattle.query.specs.contracts.query.Query as q;
-    ghost use Rattle.checker.specs.declared.certificate.Certificate.{Certificate};
-    ghost use Rattle.checker.specs.contracts.certificate.Certificate as c;
-    ghost use Rattle.checker.specs.Replay.{Accepted, IsChecked};
+    ghost use Rattle.derivation.specs.declared.certificate.Certificate.{Certificate};
+    ghost use Rattle.derivation.specs.contracts.certificate.Certificate as c;
+    ghost use Rattle.derivation.specs.Replay.{IsChecked};
+    ghost use Rattle.checker.specs.Accepted.{Accepted};
 
     ghost Value = { Accepted };
 

@@ -3,72 +3,46 @@
 ghost use Rattle.std.specs.Prelude.{◌≡◌, ◌↔◌, ◌+◌, ◌==◌, ◌∷◌, [], IfOk, IsTrue, length, map, take};
 ghost use Rattle.std.specs.List.{list_all};
 ghost use Rattle.values.specs.Faults.{Gives, wanted_if};
-ghost use Rattle.logical.specs.Columns.{has, columns_at};
-ghost use Rattle.checker.specs.declared.certificate.CheckReason.TheVariants.{OtherOperator};
-ghost use Rattle.checker.specs.declared.certificate.CheckRefusal.{CheckRefusal};
-ghost use Rattle.checker.specs.Replay as spec;
+ghost use Rattle.algebra.specs.Columns.{has, columns_at};
+ghost use Rattle.derivation.specs.declared.certificate.CheckReason.TheVariants.{OtherOperator};
+ghost use Rattle.derivation.specs.declared.certificate.CheckRefusal.{CheckRefusal};
+ghost use Rattle.derivation.specs.Replay as spec;
 
-use crate::certificate::{CheckFault, CheckReason, Line};
 use crate::replay::refused;
-use logical::{Columns, Expr, same_aggregations};
-use physical::{JoinKind, Node, OrderKey, Plan, delivers, query_order};
-use query::Query;
+use algebra::{ClassId, Columns, Expr, LineId, same_aggregations};
+use derivation::{CheckFault, CheckReason, Line, query_order};
+use physical::{JoinKind, Node, Operator, OrderKey, Plan, delivers};
+use query::{ColumnId, Query};
 use std::alloc::{AllocError, Global};
 use values::Fault;
 
-/// The line whose expression a node computes. A sort has none of its own.
-fn line_of(node: &Node) -> Option<usize>
-    ensures { result ≡ spec.line_of node.now }
+/// Whether an operator computes an expression from what its inputs produce.
+fn implements(operator: &Operator, expr: &Expr) -> bool
+    ensures { result ≡ spec.implements operator.now expr.now }
 {
-    match node {
-        Node::Scan { line, .. } => Some(*line),
-        Node::Filter { line, .. } => Some(*line),
-        Node::FilterSubqueries { line, .. } => Some(*line),
-        Node::Cut { line, .. } => Some(*line),
-        Node::Loop { line, .. } => Some(*line),
-        Node::Sort { .. } => None,
-        Node::HashGroup { line, .. } => Some(*line),
-        Node::HashDistinct { line } => Some(*line),
-    }
-}
-
-/// Whether a node computes an expression from what its inputs compute.
-fn computes(node: &Node, expr: &Expr) -> bool
-    ensures { result ≡ spec.computes node.now expr.now }
-{
-    match (node, expr) {
-        (Node::Scan { occurrence, .. }, Expr::Get(own)) => *occurrence == *own,
-        (Node::Filter { conjuncts, .. }, Expr::Select(own, _)) => own.is_plain()
+    match (operator, expr) {
+        (Operator::Scan { occurrence }, Expr::Get(own)) => *occurrence == *own,
+        (Operator::Filter { conjuncts }, Expr::Select(own, _)) => own.is_plain()
             && conjuncts.same(own),
-        (Node::FilterSubqueries { conjuncts, .. }, Expr::Select(own, _)) => !own.is_plain()
+        (Operator::FilterSubqueries { conjuncts }, Expr::Select(own, _)) => !own.is_plain()
             && conjuncts.same(own),
-        (Node::Cut { columns, .. }, Expr::Keep(own, _)) => columns.same(own),
-        (
-            Node::Loop {
-                kind,
-                conjuncts,
-                ..
-            },
-            Expr::Join(own, _, _),
-        ) => *kind == JoinKind::Inner && conjuncts.same(own),
-        (
-            Node::Loop {
-                kind,
-                conjuncts,
-                ..
-            },
-            Expr::LeftJoin(own, _, _),
-        ) => *kind == JoinKind::Left && conjuncts.same(own),
-        (Node::HashGroup { keys, added, .. }, Expr::Group(own, others, _)) => {
+        (Operator::Projection { columns }, Expr::Keep(own, _)) => columns.same(own),
+        (Operator::NestedLoopJoin { kind, conjuncts }, Expr::Join(own, _, _)) => {
+            *kind == JoinKind::Inner && conjuncts.same(own)
+        }
+        (Operator::NestedLoopJoin { kind, conjuncts }, Expr::LeftJoin(own, _, _)) => {
+            *kind == JoinKind::Left && conjuncts.same(own)
+        }
+        (Operator::HashGroup { keys, added }, Expr::Group(own, others, _)) => {
             keys.same(own) && same_aggregations(added.as_slice(), others.as_slice())
         }
-        (Node::HashDistinct { .. }, Expr::Distinct(_)) => true,
+        (Operator::HashDistinct, Expr::Distinct(_)) => true,
         _ => false,
     }
 }
 
 /// Whether the class has the column.
-fn is_column(columns: &[Columns], class: usize, column: usize) -> bool
+fn is_column(columns: &[Columns], class: ClassId, column: ColumnId) -> bool
     ensures { result ≡ has (columns_at columns.now class) column }
 {
     match columns.get(class) {
@@ -78,7 +52,7 @@ fn is_column(columns: &[Columns], class: usize, column: usize) -> bool
 }
 
 /// Whether the class has the columns of the keys.
-fn are_columns(columns: &[Columns], class: usize, keys: &[OrderKey]) -> bool
+fn are_columns(columns: &[Columns], class: ClassId, keys: &[OrderKey]) -> bool
     ensures { result ≡ list_all (λ k. has (columns_at columns.now class) k.column) keys.now }
 {
     keys.iter().all(|key| is_column(columns, class, key.column))
@@ -90,7 +64,7 @@ fn sort_fits(
     columns: &[Columns],
     keys: &[OrderKey],
     inputs: usize,
-    class: usize,
+    class: ClassId,
     number: usize,
 ) -> Result<Vec<usize>, CheckFault>
     ensures classes { Gives (λ classes. classes.items) result (spec.sort_fits (columns_at columns.now) keys.now inputs class number) }
@@ -106,7 +80,7 @@ fn sort_fits(
 fn only_input(
     alloc: Global,
     inputs: usize,
-    class: usize,
+    class: ClassId,
     number: usize,
 ) -> Result<Vec<usize>, CheckFault>
     ensures classes { Gives (λ classes. classes.items) result (wanted_if (spec.refusal number OtherOperator) (inputs == 1) (class ∷ [])) }
@@ -120,24 +94,24 @@ fn only_input(
     Ok(classes)
 }
 
-/// The classes of the inputs that an operator with this line needs, where it computes the class.
+/// The classes of the inputs that an operator needs, where it implements this line of the class.
 fn operator_fits(
     alloc: Global,
     lines: &[Line],
-    line: usize,
-    node: &Node,
+    line: LineId,
+    operator: &Operator,
     inputs: usize,
-    class: usize,
+    class: ClassId,
     number: usize,
 ) -> Result<Vec<usize>, CheckFault>
-    ensures classes { Gives (λ classes. classes.items) result (spec.operator_fits (map spec.founding lines.now) line node.now inputs class number) }
+    ensures classes { Gives (λ classes. classes.items) result (spec.operator_fits (map spec.founding lines.now) line operator.now inputs class number) }
     ensures count { IfOk result (λ classes. length classes.items ≡ inputs) }
 {
     let expr = match lines.get(line) {
         Some(line) => line.founding(),
         None => return Err(refused(number, CheckReason::UnknownLine)),
     };
-    if line != class || !computes(node, expr) {
+    if line != class || !implements(operator, expr) {
         return Err(refused(number, CheckReason::OtherOperator));
     }
     let classes = expr.inputs(alloc)?;
@@ -148,25 +122,24 @@ fn operator_fits(
     }
 }
 
-/// The classes of the inputs that a node needs, where it computes the class.
+/// The classes of the inputs that a node needs, where it is of the class.
 fn node_fits(
     alloc: Global,
     lines: &[Line],
     columns: &[Columns],
     node: &Node,
     inputs: usize,
-    class: usize,
+    class: ClassId,
     number: usize,
 ) -> Result<Vec<usize>, CheckFault>
     ensures classes { Gives (λ classes. classes.items) result (spec.node_fits (map spec.founding lines.now) (columns_at columns.now) node.now inputs class number) }
     ensures count { IfOk result (λ classes. length classes.items ≡ inputs) }
 {
     match node {
+        Node::Implements { line, operator } => {
+            operator_fits(alloc, lines, *line, operator, inputs, class, number)
+        }
         Node::Sort { keys } => sort_fits(alloc, columns, keys.as_slice(), inputs, class, number),
-        _ => match line_of(node) {
-            Some(line) => operator_fits(alloc, lines, line, node, inputs, class, number),
-            None => unreachable!(),
-        },
     }
 }
 
@@ -212,17 +185,17 @@ fn are_same(keys: &[OrderKey], others: &[OrderKey]) -> bool
     true
 }
 
-/// Checks that the plan computes the class, its nodes being numbered from a number on, and that it is ordered as is wanted.
+/// Checks that the plan is of the class, its nodes being numbered from a number on, and that it is ordered as is wanted.
 /// Gives the number after them.
 #[cycle(fits)]
-#[tactic(auto, using(crate::proofs::Fits::plan_fits_out))]
+#[tactic(auto, using(derivation::proofs::Fits::plan_fits_out))]
 pub fn plan_fits(
     alloc: Global,
     lines: &[Line],
     columns: &[Columns],
     plan: &Plan,
     ordered: bool,
-    class: usize,
+    class: ClassId,
     number: usize,
 ) -> Result<usize, CheckFault>
     ensures { Gives (λ n. n) result (spec.plan_fits (map spec.founding lines.now) (columns_at columns.now) plan.now ordered class number) }

@@ -3,28 +3,17 @@
 ghost use Rattle.std.specs.Prelude.{◌≡◌, [], length, map, reverse, option_map, flat_map, IfOk};
 ghost use Rattle.values.specs.Faults.{Gives};
 ghost use Rattle.values.specs.declared.fault.Fault.TheVariants.{Refused};
-ghost use Rattle.logical.specs.Classes.{class_columns};
-ghost use Rattle.logical.specs.Columns.{columns_at};
+ghost use Rattle.algebra.specs.Classes.{class_columns};
+ghost use Rattle.algebra.specs.Columns.{columns_at};
 ghost use Rattle.logical.specs.Frames.{query_frame};
 ghost use Rattle.logical.specs.FormedFrames.{group_aggregates, own_aggregates};
-ghost use Rattle.checker.specs.Replay as spec;
+ghost use Rattle.derivation.specs.Replay as spec;
 
-use crate::certificate::{CheckFault, CheckReason, CheckRefusal, Line};
-use logical::{Aggregation, Columns, Expr};
+use algebra::{Aggregation, Columns, Expr};
+use derivation::{CheckFault, CheckReason, CheckRefusal, Line};
 use query::Query;
 use std::alloc::{AllocError, Global};
 use values::Fault;
-
-impl Line {
-    /// The expression that the line founds its class with.
-    pub fn founding(&self) -> &Expr
-        ensures { result.now ≡ spec.founding self.now }
-    {
-        match self {
-            Line::Founds(expr) => expr,
-        }
-    }
-}
 
 /// What a fault of a line or node is.
 pub fn refused(line: usize, reason: CheckReason) -> CheckFault

@@ -1,12 +1,2 @@
-pub mod ColumnPlaces
-pub mod FirstSeen
-pub mod GroupEnvs
-pub mod GroupRows
-pub mod JoinRows
-pub mod KeyWrites
 pub mod Plans
-pub mod PlayedPlans
-pub mod RelationRows
 pub mod Sent
-pub mod Steps
-pub mod Widths

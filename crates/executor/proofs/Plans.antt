@@ -2,20 +2,23 @@
 use Rattle.std.proofs.Common.{◌≡◌, ap, subst, ◌∙◌, ℕ, List, map}
 use Rattle.schema.specs.declared.schema.Schema.{Schema}
 use Rattle.schema.specs.Databases.{Database, Satisfies}
+use Rattle.query.specs.declared.query.TableInstance.{TableInstance}
 use Rattle.query.specs.declared.query.Query.{Query}
 use Rattle.query.specs.Answer.{IsAnswer}
 use Rattle.query.specs.Rows.{tables_of}
-use Rattle.checker.specs.declared.certificate.Certificate.{Certificate}
-use Rattle.logical.specs.Bags.{Env, nulls}
+use Rattle.derivation.specs.declared.certificate.Certificate.{Certificate}
+use Rattle.algebra.specs.Bags.{nulls}
 use Rattle.logical.specs.Frames.{query_numbers}
-use Rattle.physical.specs.Plays.{play, answer}
-use Rattle.checker.specs.Replay.{IsChecked}
+use Rattle.physical.specs.Outputs.{output_rows}
+use Rattle.derivation.specs.QueryOrders.{answer}
+use Rattle.derivation.specs.Replay.{IsChecked}
 
--- the rows that a plan plays, cut to the query's columns, are its answer
-pub answer_of : (q r : Query) (U V : Certificate) (S : Schema) (tables D : Database) (columns : List ℕ) (rows : List Env) → columns ≡ query_numbers q → rows ≡ play q.tables (tables_of S tables) U.plan nulls → q ≡ r → U ≡ V
-    → tables ≡ D → map (λ e. map e columns) rows ≡ answer r (tables_of S D) V.plan
-answer_of q r U V S tables D columns rows shows plays same proof given =
-    ap (λ cs. map (λ e. map e cs) rows) shows ∙ ap (map (λ e. map e (query_numbers q))) plays ∙ ap (λ p. answer p (tables_of S tables) U.plan) same
+-- the rows that a plan produces, read in the query's columns, are its answer
+pub answer_of : (q r : Query) (U V : Certificate) (S : Schema) (tables D : Database) (columns : List ℕ) (uses : List TableInstance) → columns ≡ query_numbers q → uses ≡ q.tables → q ≡ r → U ≡ V
+    → tables ≡ D → map (λ e. map e columns) (output_rows uses (tables_of S tables) U.plan nulls) ≡ answer r (tables_of S D) V.plan
+answer_of q r U V S tables D columns uses shows instances same proof given =
+    ap (λ cs. map (λ e. map e cs) (output_rows uses (tables_of S tables) U.plan nulls)) shows
+    ∙ ap (λ us. map (λ e. map e (query_numbers q)) (output_rows us (tables_of S tables) U.plan nulls)) instances ∙ ap (λ p. answer p (tables_of S tables) U.plan) same
     ∙ ap (λ (W : Certificate). answer r (tables_of S tables) W.plan) proof ∙ ap (λ ts. answer r (tables_of S ts) V.plan) given
 
 -- in a database of the schema that it was checked with it answers the query

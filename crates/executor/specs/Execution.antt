@@ -2,8 +2,8 @@
 use Rattle.std.specs.Prelude.{ℕ, List}
 use Rattle.schema.specs.Databases.{Row}
 use Rattle.query.specs.Rows.{Tables, tables_of}
-use Rattle.physical.specs.Plays.{answer}
-use Rattle.checker.specs.Replay.{Accepted}
+use Rattle.derivation.specs.QueryOrders.{answer}
+use Rattle.checker.specs.Accepted.{Accepted}
 use Rattle.executor.specs.AnswerText.{answer_text}
 use Rattle.store.specs.Databases.{Stored}
 
@@ -12,9 +12,9 @@ abbrev pub tables_in : Stored → Tables
 tables_in d = tables_of d.schema d.tables
 
 -- the rows that an accepted plan gives
-abbrev pub plan_rows : Accepted → Stored → List Row
-plan_rows a d = answer a.query (tables_in d) a.certificate.plan
+abbrev pub accepted_rows : Accepted → Stored → List Row
+accepted_rows a d = answer a.query (tables_in d) a.certificate.plan
 
 -- their text
-abbrev pub plan_text : Accepted → Stored → List ℕ
-plan_text a d = answer_text a.query.names (plan_rows a d)
+abbrev pub accepted_text : Accepted → Stored → List ℕ
+accepted_text a d = answer_text a.query.names (accepted_rows a d)

@@ -1,6 +1,2 @@
 pub mod AnswerText
 pub mod Execution
-pub mod Groups
-pub mod Joins
-pub mod Places
-pub mod Relations

@@ -5,7 +5,7 @@ ghost use Rattle.std.specs.Io.KnownBytes.{Appends};
 ghost use Rattle.query.specs.Answer.{IsAnswer};
 ghost use Rattle.store.specs.Devices.{Rose};
 ghost use Rattle.executor.specs.AnswerText.{HasFront};
-ghost use Rattle.executor.specs.Execution.{tables_in, plan_rows, plan_text};
+ghost use Rattle.executor.specs.Execution.{tables_in, accepted_rows, accepted_text};
 
 use crate::execution::run;
 use crate::output::AnswerOutput;
@@ -23,13 +23,13 @@ pub fn write_answer<W: AnswerOutput>(
     out: &mut W,
 ) -> Result<(), AnswerFault>
     requires { database.now.schema ≡ checked.now.schema }
-    ensures ok { OnOk result (Appends (W.contents out.old) (W.contents out.new) (plan_text checked.now database.now)) }
+    ensures ok { OnOk result (Appends (W.contents out.old) (W.contents out.new) (accepted_text checked.now database.now)) }
     // Nothing of it is held back.
     ensures handed { OnOk result (W.held out.new ≡ []) }
     // After a fault a beginning of the text has been written.
-    ensures front { OnErr result (HasFront (W.contents out.old) (W.contents out.new) (plan_text checked.now database.now)) }
+    ensures front { OnErr result (HasFront (W.contents out.old) (W.contents out.new) (accepted_text checked.now database.now)) }
     // These rows are an answer of the query.
-    ensures answer { OnOk result (IsAnswer checked.now.query (tables_in database.now) (plan_rows checked.now database.now)) }
+    ensures answer { OnOk result (IsAnswer checked.now.query (tables_in database.now) (accepted_rows checked.now database.now)) }
     ensures device { IsErrAnd result (λ e. e ≢ Fault.Memory) → Rose (W.failures out.old) (W.failures out.new) }
     // No other call failed.
     ensures quiet { OnOk result (W.failures out.new ≡ W.failures out.old) }

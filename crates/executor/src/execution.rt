@@ -2,20 +2,14 @@
 
 ghost use Rattle.std.specs.Prelude.{◌≡◌, IfOk};
 ghost use Rattle.query.specs.Answer.{IsAnswer};
-ghost use Rattle.physical.specs.Plays.{answer};
+ghost use Rattle.derivation.specs.QueryOrders.{answer};
 ghost use Rattle.executor.specs.Execution.{tables_in};
 
-use crate::environment::Env;
-use crate::play::{Sources, play};
-use crate::shown::answer_rows;
 use checker::Checked;
 use logical::query_numbers;
+use operators::{Row, Sources, plan_rows};
 use std::alloc::{AllocError, Global};
 use store::Database;
-use values::{Items, Value};
-
-/// A row of an answer, item by item.
-pub type Row = Items<Value>;
 
 /// The rows that a checked plan gives, item by item. They answer its query, where the database is one of the schema that
 /// the plan was checked with.
@@ -34,6 +28,5 @@ pub fn run(
         uses: query.tables.as_slice(),
         tables: database.tables(),
     };
-    let found = play(alloc, plan, sources, &Env::Empty)?;
-    answer_rows(alloc, columns.as_slice(), &found)
+    plan_rows(alloc, plan, sources, columns.as_slice())
 }

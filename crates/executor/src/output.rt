@@ -24,7 +24,7 @@ pub trait AnswerOutput {
     /// How many calls failed.
     ghost failures: { Self → ℕ };
 
-    /// Writes some of the bytes from the front, and tells how many. To take none of them is to fail.
+    /// Writes some of the bytes from the front, and says how many. To take none of them is to fail.
     fn write_some(&mut self, bytes: &[u8]) -> Result<usize, OutputFailed>
         requires { 0 < length bytes.now }
         ensures some { IfOk result (λ n. (0 < n) × (n ≤ length bytes.now)) }

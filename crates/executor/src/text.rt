@@ -64,7 +64,7 @@ fn push_names(fields: &mut StringRecord, names: &[Text]) -> Result<(), AllocErro
 fn record_text(alloc: Global, fields: &StringRecord) -> Result<Vec<u8>, AllocError>
     ensures { IfOk result (λ text. text.items ≡ row_text default_writer (fields_of fields.now)) }
 {
-    // A writer over memory fails for want of memory alone.
+    // A writer over memory fails only by running out of memory.
     let mut writer = Writer::from_writer(Vec::new(alloc));
     let Ok(()) = writer.write_byte_record(fields.as_byte_record()) else {
         return Err(AllocError);

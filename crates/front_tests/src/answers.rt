@@ -2,26 +2,26 @@
 
 ghost use Rattle.query.specs.Bound.{IsBoundOver};
 
-use crate::judged::queries_are_told;
-use fixtures::{COMPANY, DEPT, EMP, QueryTelling, Tables, push_rows};
+use crate::judged::queries_are_reported;
+use fixtures::{COMPANY, DEPT, EMP, QueryReporting, Tables, push_rows};
 use oracle::meaning;
 use query::Query;
 use std::alloc::{AllocError, Global};
 use store::Database;
 
-/// Tells the rows that a query means, in the order of the tables' rows where the text has none.
+/// Reports the rows that a query means, in the order of the tables' rows where the text has none.
 struct Meaning;
 
-impl QueryTelling for Meaning {
-    fn tell(
+impl QueryReporting for Meaning {
+    fn report(
         &self,
         alloc: Global,
         database: &Database<'_>,
         query: &Query,
         _more: &str,
-        told: &mut String,
+        reported: &mut String,
     ) -> Result<(), AllocError> {
-        push_rows(told, meaning(alloc, query, database)?.as_slice())
+        push_rows(reported, meaning(alloc, query, database)?.as_slice())
     }
 }
 
@@ -87,6 +87,6 @@ fn worked_queries(rt: HostRuntime) {
         first: DEPT,
         second: RICH,
     };
-    queries_are_told(&rt, rt.alloc(), company, &lists, &Meaning);
-    queries_are_told(&rt, rt.alloc(), rich, &[SUM], &Meaning);
+    queries_are_reported(&rt, rt.alloc(), company, &lists, &Meaning);
+    queries_are_reported(&rt, rt.alloc(), rich, &[SUM], &Meaning);
 }

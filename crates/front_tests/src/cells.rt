@@ -1,7 +1,7 @@
 //! The order of values, comparisons and truths.
 
-use crate::judged::are_told;
-use fixtures::Telling;
+use crate::judged::are_reported;
+use fixtures::Reporting;
 use std::alloc::{AllocError, Global};
 use std::cmp::Ordering;
 use values::{Cell, Comparison, Truth, compare, order, same};
@@ -34,17 +34,17 @@ fn stand_in(alloc: Global, wanted: Ordering, a: Cell<'_>, b: Cell<'_>) -> Result
 /// Words whose values rise.
 const RISING: &str = "- -3 20 ' 'B 'Ba 'a 'é";
 
-/// Tells how a word's value stands to each of those that rise.
+/// Reports how a word's value stands to each of those that rise.
 struct Orders;
 
-impl Telling for Orders {
-    fn tell(&self, alloc: Global, word: &str, told: &mut String) -> Result<(), AllocError> {
+impl Reporting for Orders {
+    fn report(&self, alloc: Global, word: &str, reported: &mut String) -> Result<(), AllocError> {
         let a = cell(word);
         for other in RISING.split(" ") {
             let b = cell(other);
             let found = order(a, b);
             let agreed = stand_in(alloc, found, a, b)?;
-            told.push_str(match (agreed, found) {
+            reported.push_str(match (agreed, found) {
                 (false, _) => "?",
                 (true, Ordering::Less) => "<",
                 (true, Ordering::Equal) => "=",
@@ -65,7 +65,7 @@ fn values_stand_in_order(rt: HostRuntime) {
 'Ba => >>>>>=<<
 'a => >>>>>>=<
 'é => >>>>>>>=";
-    are_told(&rt, rt.alloc(), &[CASES], &Orders);
+    are_reported(&rt, rt.alloc(), &[CASES], &Orders);
 }
 
 fn comparison(sign: &str) -> Option<Comparison> {
@@ -101,14 +101,14 @@ fn halves(text: &str) -> (&str, &str) {
     text.split_once(" ").unwrap_or((text, ""))
 }
 
-/// Tells the truth of a comparison of two words.
+/// Reports the truth of a comparison of two words.
 struct Comparisons;
 
-impl Telling for Comparisons {
-    fn tell(&self, _alloc: Global, text: &str, told: &mut String) -> Result<(), AllocError> {
+impl Reporting for Comparisons {
+    fn report(&self, _alloc: Global, text: &str, reported: &mut String) -> Result<(), AllocError> {
         let (a, rest) = halves(text);
         let (sign, b) = halves(rest);
-        told.push_str(match comparison(sign) {
+        reported.push_str(match comparison(sign) {
             Some(sign) => name(compare(sign, cell(a), cell(b))),
             None => "no comparison",
         })
@@ -126,22 +126,22 @@ fn null_compares_as_unknown(rt: HostRuntime) {
 'b <= 'ab => false
 'b > 'ab => true
 2 >= 2 => true";
-    are_told(&rt, rt.alloc(), &[CASES], &Comparisons);
+    are_reported(&rt, rt.alloc(), &[CASES], &Comparisons);
     assert!(rt; Comparison::NotEqual.admits(Ordering::Less));
 }
 
-/// Tells NOT of the first of two, their AND and their OR.
+/// Reports NOT of the first of two, their AND and their OR.
 struct Connectives;
 
-impl Telling for Connectives {
-    fn tell(&self, _alloc: Global, text: &str, told: &mut String) -> Result<(), AllocError> {
+impl Reporting for Connectives {
+    fn report(&self, _alloc: Global, text: &str, reported: &mut String) -> Result<(), AllocError> {
         let (a, b) = halves(text);
         let (a, b) = (truth(a), truth(b));
-        told.push_str(name(a.not()))?;
-        told.push_str(" ")?;
-        told.push_str(name(a.and(b)))?;
-        told.push_str(" ")?;
-        told.push_str(name(a.or(b)))
+        reported.push_str(name(a.not()))?;
+        reported.push_str(" ")?;
+        reported.push_str(name(a.and(b)))?;
+        reported.push_str(" ")?;
+        reported.push_str(name(a.or(b)))
     }
 }
 
@@ -156,6 +156,6 @@ unknown true => unknown unknown true
 true false => false false true
 true unknown => false unknown true
 true true => false true true";
-    are_told(&rt, rt.alloc(), &[CASES], &Connectives);
+    are_reported(&rt, rt.alloc(), &[CASES], &Connectives);
     assert!(rt; truth("true").is_true() && !truth("unknown").is_true());
 }

@@ -76,6 +76,6 @@ fn refused(alloc: Global) -> Result<(), Fault<u8>> {
 }
 
 #[test]
-fn a_refusal_is_told(rt: HostRuntime) {
+fn a_refusal_is_reported(rt: HostRuntime) {
     assert!(rt; matches!(refused(rt.alloc()), Err(Fault::Refused(2))));
 }

@@ -1,8 +1,8 @@
 //! Tables loaded from CSV files, one after another, and by devices that fail.
 
-use crate::judged::are_told;
+use crate::judged::are_reported;
 use fixtures::{
-    COMPANY, StepTelling, Telling, push_cell, push_lines, push_number, spelt, tell_steps,
+    COMPANY, StepReporting, Reporting, push_cell, push_lines, push_number, spelt, report_steps,
 };
 use std::alloc::{AllocError, Global};
 use std::io;
@@ -12,50 +12,50 @@ use values::Cell;
 
 // ---- loads as texts
 
-fn push_optional(told: &mut String, before: &str, number: Option<usize>) -> Result<(), AllocError> {
+fn push_optional(reported: &mut String, before: &str, number: Option<usize>) -> Result<(), AllocError> {
     match number {
-        Some(number) => push_number(told, before, number),
+        Some(number) => push_number(reported, before, number),
         None => Ok(()),
     }
 }
 
 /// The refusal's code with its row, the earlier row and the column.
-fn push_refusal(told: &mut String, refusal: TableRefusal) -> Result<(), AllocError> {
-    told.push_str(refusal.code())?;
-    push_number(told, " ", refusal.row)?;
-    push_optional(told, " ", refusal.earlier())?;
-    push_optional(told, " in ", refusal.column())
+fn push_refusal(reported: &mut String, refusal: TableRefusal) -> Result<(), AllocError> {
+    reported.push_str(refusal.code())?;
+    push_number(reported, " ", refusal.row)?;
+    push_optional(reported, " ", refusal.earlier())?;
+    push_optional(reported, " in ", refusal.column())
 }
 
 /// How a load went.
-fn push_outcome(told: &mut String, outcome: Result<(), TableFault>) -> Result<(), AllocError> {
+fn push_outcome(reported: &mut String, outcome: Result<(), TableFault>) -> Result<(), AllocError> {
     match outcome {
-        Ok(()) => told.push_str("loaded"),
-        Err(TableFault::Memory) => told.push_str("memory"),
-        Err(TableFault::Device) => told.push_str("device"),
-        Err(TableFault::Refused(refusal)) => push_refusal(told, refusal),
+        Ok(()) => reported.push_str("loaded"),
+        Err(TableFault::Memory) => reported.push_str("memory"),
+        Err(TableFault::Device) => reported.push_str("device"),
+        Err(TableFault::Refused(refusal)) => push_refusal(reported, refusal),
     }
 }
 
-fn push_field(told: &mut String, cell: Cell<'_>) -> Result<(), AllocError> {
+fn push_field(reported: &mut String, cell: Cell<'_>) -> Result<(), AllocError> {
     if let Cell::Text(text) = cell {
-        told.push_str(" <")?;
-        push_lines(told, text, "~")?;
-        return told.push_str(">");
+        reported.push_str(" <")?;
+        push_lines(reported, text, "~")?;
+        return reported.push_str(">");
     }
-    told.push_str(" ")?;
-    push_cell(told, cell)
+    reported.push_str(" ")?;
+    push_cell(reported, cell)
 }
 
 /// A table's rows, each after ` /`, or how many they are if that is more than a few.
-fn push_table(told: &mut String, table: &Table) -> Result<(), AllocError> {
+fn push_table(reported: &mut String, table: &Table) -> Result<(), AllocError> {
     if table.len() > 9 {
-        return push_number(told, " with rows ", table.len());
+        return push_number(reported, " with rows ", table.len());
     }
     for row in 0..table.len() {
-        told.push_str(" /")?;
+        reported.push_str(" /")?;
         for column in 0..table.width() {
-            push_field(told, table.cell(row, column))?;
+            push_field(reported, table.cell(row, column))?;
         }
     }
     Ok(())
@@ -112,7 +112,7 @@ fn outcome(
 
 // ---- files
 
-/// Tells of files, with ` ; ` between them, how each is loaded in the place of the one before as a table of the schema; and
+/// Reports on files, with ` ; ` between them, how each is loaded in the place of the one before as a table of the schema; and
 /// the table's rows then. A file is spelt, and ` by ` a number stands behind it if the device fails at that call.
 #[derive(Drop)]
 struct Loads<'a> {
@@ -120,13 +120,13 @@ struct Loads<'a> {
     table: usize,
 }
 
-impl StepTelling for Loads<'_> {
-    fn tell(
+impl StepReporting for Loads<'_> {
+    fn report(
         &self,
         alloc: Global,
         database: &mut Database<'_>,
         load: &str,
-        told: &mut String,
+        reported: &mut String,
     ) -> Result<(), AllocError> {
         let (file, call) = load.split_once(" by ").unwrap_or((load, ""));
         let bytes = spelt(alloc, file)?;
@@ -137,21 +137,21 @@ impl StepTelling for Loads<'_> {
             bytes.as_slice(),
             call.parse().ok(),
         );
-        push_outcome(told, outcome)?;
+        push_outcome(reported, outcome)?;
         match database.tables().get(self.table) {
-            Some(table) => push_table(told, table),
-            None => told.push_str(" no table"),
+            Some(table) => push_table(reported, table),
+            None => reported.push_str(" no table"),
         }
     }
 }
 
-impl Telling for Loads<'_> {
-    fn tell(&self, alloc: Global, text: &str, told: &mut String) -> Result<(), AllocError> {
-        tell_steps(alloc, told, self.schema, text, self)
+impl Reporting for Loads<'_> {
+    fn report(&self, alloc: Global, text: &str, reported: &mut String) -> Result<(), AllocError> {
+        report_steps(alloc, reported, self.schema, text, self)
     }
 }
 
-/// The first faulty record is told, whatever its fault. In one record a bad field goes before a repeated list, and of two
+/// The first faulty record is reported, whatever its fault. In one record a bad field goes before a repeated list, and of two
 /// lists the first.
 #[test]
 fn tables_of_emp(rt: HostRuntime) {
@@ -186,10 +186,10 @@ id,dept,pay,badge~1,^,500,7~ => T03 1 in 1";
         schema: COMPANY,
         table: 1,
     };
-    are_told(&rt, rt.alloc(), &[CASES], &loads);
+    are_reported(&rt, rt.alloc(), &[CASES], &loads);
 }
 
-/// A device that fails is told before a fault of what was read, and leaves the table as it was.
+/// A device that fails is reported before a fault of what was read, and leaves the table as it was.
 #[test]
 fn tables_of_dept(rt: HostRuntime) {
     const CASES: &str = "id,name,boss~1,ops,10~2,lab,\\N~ => loaded / 1 <ops> 10 / 2 <lab> -
@@ -215,7 +215,7 @@ id,name,boss~1,ops,10~ ; id,name,boss~ by 6 ; id~ => loaded / 1 <ops> 10 ; loade
         schema: COMPANY,
         table: 0,
     };
-    are_told(&rt, rt.alloc(), &[CASES, DEVICES], &loads);
+    are_reported(&rt, rt.alloc(), &[CASES, DEVICES], &loads);
 }
 
 #[test]
@@ -228,41 +228,41 @@ fn a_table_is_bounded(rt: HostRuntime) {
         schema: SCHEMA,
         table: 0,
     };
-    are_told(&rt, rt.alloc(), &[CASES], &loads);
+    are_reported(&rt, rt.alloc(), &[CASES], &loads);
 }
 
 // ---- files that are cut
 
-/// Tells what `emp` is by a file that ends after so many of its bytes as the text says, from the one number to the other:
+/// Reports what `emp` is by a file that ends after so many of its bytes as the text says, from the one number to the other:
 /// once if it is the same after each.
 struct Cuts;
 
 impl Cuts {
     const FILE: &'static str = "id,dept,pay,badge~10,1,500,7~11,1,\\N,\\N~";
 
-    fn tell_cut(alloc: Global, cut: usize, told: &mut String) -> Result<(), AllocError> {
+    fn report_cut(alloc: Global, cut: usize, reported: &mut String) -> Result<(), AllocError> {
         let mut own = String::new(alloc);
         let loads = Loads {
             schema: COMPANY,
             table: 1,
         };
         let file = Cuts::FILE.get(..cut).unwrap_or("no cut");
-        Telling::tell(&loads, alloc, file, &mut own)?;
-        if own != *told {
-            told.push_str(own.as_str())?;
+        Reporting::report(&loads, alloc, file, &mut own)?;
+        if own != *reported {
+            reported.push_str(own.as_str())?;
         }
         Ok(())
     }
 }
 
-impl Telling for Cuts {
-    fn tell(&self, alloc: Global, text: &str, told: &mut String) -> Result<(), AllocError> {
+impl Reporting for Cuts {
+    fn report(&self, alloc: Global, text: &str, reported: &mut String) -> Result<(), AllocError> {
         let (first, last) = text.split_once(" ").unwrap_or((text, text));
         let (Ok(first), Ok(last)) = (first.parse::<usize>(), last.parse::<usize>()) else {
-            return told.push_str("no numbers");
+            return reported.push_str("no numbers");
         };
         for cut in first..=last {
-            Cuts::tell_cut(alloc, cut, told)?;
+            Cuts::report_cut(alloc, cut, reported)?;
         }
         Ok(())
     }
@@ -279,5 +279,5 @@ fn a_file_is_cut(rt: HostRuntime) {
 37 37 => T03 2 in 3
 38 38 => T04 2 in 3
 39 40 => loaded / 10 1 500 7 / 11 1 - -";
-    are_told(&rt, rt.alloc(), &[CASES], &Cuts);
+    are_reported(&rt, rt.alloc(), &[CASES], &Cuts);
 }

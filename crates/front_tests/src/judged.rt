@@ -1,6 +1,6 @@
 //! The judgement on cases that are data.
 
-use fixtures::{QueryTelling, Tables, Telling, differences, query_differences};
+use fixtures::{QueryReporting, Tables, Reporting, differences, query_differences};
 use std::alloc::{AllocError, Global};
 use std::process::Abort;
 
@@ -8,15 +8,15 @@ fn is_none(rt: &impl Abort, differences: Result<String, AllocError>) {
     assert_eq!(rt; differences.as_deref(), Ok(""));
 }
 
-/// Each case of the lists is told as it says.
-pub fn are_told<T: Telling>(rt: &impl Abort, alloc: Global, lists: &[&str], by: &T) {
+/// Each case of the lists is reported as it says.
+pub fn are_reported<T: Reporting>(rt: &impl Abort, alloc: Global, lists: &[&str], by: &T) {
     for cases in lists {
         is_none(rt, differences(alloc, cases, by));
     }
 }
 
-/// Each case of the lists, a query over the tables, is told as it says.
-pub fn queries_are_told<T: QueryTelling>(
+/// Each case of the lists, a query over the tables, is reported as it says.
+pub fn queries_are_reported<T: QueryReporting>(
     rt: &impl Abort,
     alloc: Global,
     tables: Tables<'_>,

@@ -2,24 +2,24 @@
 
 ghost use Rattle.query.specs.Bound.{IsBoundOver};
 
-use crate::judged::{are_told, queries_are_told};
-use fixtures::{COMPANY, DEPT, EMP, QueryTelling, Tables, Telling, push_names, push_number, spelt};
+use crate::judged::{are_reported, queries_are_reported};
+use fixtures::{COMPANY, DEPT, EMP, QueryReporting, Tables, Reporting, push_names, push_number, spelt};
 use query::{Aggregate, Block, Column, Cond, Item, Query, Term};
 use std::alloc::{AllocError, Global};
 use std::fmt::Write;
 use store::Database;
 
-/// Tells `bound`, or the fault of a text over a schema. Both are spelt.
+/// Reports `bound`, or the fault of a text over a schema. Both are spelt.
 #[derive(Drop)]
 struct Names<'a> {
     schema: &'a str,
 }
 
-impl Telling for Names<'_> {
-    fn tell(&self, alloc: Global, text: &str, told: &mut String) -> Result<(), AllocError> {
+impl Reporting for Names<'_> {
+    fn report(&self, alloc: Global, text: &str, reported: &mut String) -> Result<(), AllocError> {
         let schema = spelt(alloc, self.schema)?;
         let bytes = spelt(alloc, text)?;
-        push_names(alloc, told, schema.as_slice(), bytes.as_slice())
+        push_names(alloc, reported, schema.as_slice(), bytes.as_slice())
     }
 }
 
@@ -105,7 +105,7 @@ SELECT id FROM emp ORDER BY emp.nope => B09 at 28
 SELECT id AS key FROM emp ORDER BY id => B09 at 35
 SELECT COUNT(id) FROM emp ORDER BY emp.id => B09 at 35";
 
-/// Which of several faults is told.
+/// Which of several faults is reported.
 const FIRST: &str =
     "SELECT nope FROM emp, gone WHERE id = 'x' GROUP BY none ORDER BY never => B01 at 22
 SELECT nope FROM emp WHERE id = 'x' GROUP BY none ORDER BY never => B05 at 30
@@ -136,7 +136,7 @@ SELECT id i, pay FROM emp ORDER BY emp.id, i DESC, pay => bound
 SELECT MAX(name), COUNT(name) FROM dept => bound
 SELECT emp.id FROM dept emp, emp dept => bound";
 
-/// At most 24 table occurrences, 8 queries in one another and 1,024 tests; more are told before an unknown table.
+/// At most 24 table instances, 8 queries in one another and 1,024 tests; more are reported before an unknown table.
 const SIZES: &str = "SELECT t.id FROM dept t|23*, dept t# => bound
 SELECT t.id FROM dept t|24*, dept t# => B10 at 0
 SELECT t.id FROM dept t|24*, nope t# => B10 at 0
@@ -146,7 +146,7 @@ SELECT id FROM dept WHERE id IN (SELECT boss FROM dept WHERE id IS NULL)|1022* O
 SELECT id FROM dept WHERE id IN (SELECT boss FROM dept WHERE id IS NULL)|1023* OR 1 = 2 => B10 at 0
 SELECT a FROM t WHERE a = b|7278* OR a = b|7*  => B10 at 0";
 
-/// At most 512 columns with numbers; more are told after all other faults.
+/// At most 512 columns with numbers; more are reported after all other faults.
 const WIDTHS: &str = "SELECT w.a FROM w|7*, w w# => bound
 SELECT COUNT(*) FROM w|7*, w w# => B10 at 0
 SELECT COUNT(nope) FROM w|7*, w w# => B02 at 13
@@ -159,94 +159,94 @@ const WIDE: &str =
 #[test]
 fn names_are_bound(rt: HostRuntime) {
     let lists = [TABLES, COLUMNS, KINDS, GROUPS, ORDERS, FIRST, BOUND, SIZES];
-    are_told(&rt, rt.alloc(), &lists, &Names { schema: COMPANY });
-    are_told(&rt, rt.alloc(), &[WIDTHS], &Names { schema: WIDE });
+    are_reported(&rt, rt.alloc(), &lists, &Names { schema: COMPANY });
+    are_reported(&rt, rt.alloc(), &[WIDTHS], &Names { schema: WIDE });
 }
 
 // ---- the numbers of a query's parts
 
-fn push_item(told: &mut String, item: Item) -> Result<(), AllocError> {
+fn push_item(reported: &mut String, item: Item) -> Result<(), AllocError> {
     match item {
-        Item::Column(Column { level, place }) => write!(told, " {level}.{place}"),
-        Item::Aggregate(number, Aggregate::CountRows) => write!(told, " {number}=count"),
-        Item::Aggregate(number, Aggregate::Max(place)) => write!(told, " {number}=max:{place}"),
-        Item::Aggregate(_, _) => told.push_str(" another aggregate"),
+        Item::Column(Column { level, place }) => write!(reported, " {level}.{place}"),
+        Item::Aggregate(number, Aggregate::CountRows) => write!(reported, " {number}=count"),
+        Item::Aggregate(number, Aggregate::Max(place)) => write!(reported, " {number}=max:{place}"),
+        Item::Aggregate(_, _) => reported.push_str(" another aggregate"),
     }
 }
 
-fn push_block(told: &mut String, block: &Block) -> Result<(), AllocError> {
-    told.push_str("items")?;
+fn push_block(reported: &mut String, block: &Block) -> Result<(), AllocError> {
+    reported.push_str("items")?;
     for item in block.items.as_slice() {
-        push_item(told, *item)?;
+        push_item(reported, *item)?;
     }
-    told.push_str("; keys")?;
+    reported.push_str("; keys")?;
     for key in block.keys.as_slice() {
-        push_number(told, " ", *key)?;
+        push_number(reported, " ", *key)?;
     }
     Ok(())
 }
 
 /// The columns that a comparison compares.
-fn push_comparison(told: &mut String, condition: &Cond) -> Result<(), AllocError> {
+fn push_comparison(reported: &mut String, condition: &Cond) -> Result<(), AllocError> {
     match condition {
         Cond::Compare(_, Term::Column(left), Term::Column(right)) => {
-            push_item(told, Item::Column(*left))?;
-            push_item(told, Item::Column(*right))
+            push_item(reported, Item::Column(*left))?;
+            push_item(reported, Item::Column(*right))
         }
-        _ => told.push_str(" no comparison"),
+        _ => reported.push_str(" no comparison"),
     }
 }
 
 /// The subquery of an IN, and the comparison that it is filtered by.
-fn push_filter(told: &mut String, block: &Block) -> Result<(), AllocError> {
+fn push_filter(reported: &mut String, block: &Block) -> Result<(), AllocError> {
     let Some(filter) = &block.filter else {
-        return told.push_str("; no filter");
+        return reported.push_str("; no filter");
     };
     let Cond::In(_, inner) = filter.get() else {
-        return told.push_str("; no IN");
+        return reported.push_str("; no IN");
     };
-    told.push_str("; in ")?;
-    push_block(told, inner.get())?;
+    reported.push_str("; in ")?;
+    push_block(reported, inner.get())?;
     match &inner.get().filter {
-        Some(filter) => push_comparison(told, filter.get()),
-        None => told.push_str("; no filter"),
+        Some(filter) => push_comparison(reported, filter.get()),
+        None => reported.push_str("; no filter"),
     }
 }
 
-fn push_tables(told: &mut String, query: &Query) -> Result<(), AllocError> {
+fn push_tables(reported: &mut String, query: &Query) -> Result<(), AllocError> {
     for table in query.tables.as_slice() {
-        told.push_str(table.name.as_str())?;
-        push_number(told, "@", table.first_column)?;
-        told.push_str(" ")?;
+        reported.push_str(table.name.as_str())?;
+        push_number(reported, "@", table.first_column)?;
+        reported.push_str(" ")?;
     }
     Ok(())
 }
 
-fn push_order(told: &mut String, query: &Query) -> Result<(), AllocError> {
-    told.push_str("; order")?;
+fn push_order(reported: &mut String, query: &Query) -> Result<(), AllocError> {
+    reported.push_str("; order")?;
     for key in query.order.as_slice() {
-        push_number(told, " ", key.item)?;
-        told.push_str(if key.descending { "d" } else { "" })?;
+        push_number(reported, " ", key.item)?;
+        reported.push_str(if key.descending { "d" } else { "" })?;
     }
-    push_number(told, "; names ", query.names.len())
+    push_number(reported, "; names ", query.names.len())
 }
 
-/// Tells the numbers of a query's parts.
+/// Reports the numbers of a query's parts.
 struct Numbers;
 
-impl QueryTelling for Numbers {
-    fn tell(
+impl QueryReporting for Numbers {
+    fn report(
         &self,
         _alloc: Global,
         _database: &Database<'_>,
         query: &Query,
         _more: &str,
-        told: &mut String,
+        reported: &mut String,
     ) -> Result<(), AllocError> {
-        push_tables(told, query)?;
-        push_block(told, &query.block)?;
-        push_filter(told, &query.block)?;
-        push_order(told, query)
+        push_tables(reported, query)?;
+        push_block(reported, &query.block)?;
+        push_filter(reported, &query.block)?;
+        push_order(reported, query)
     }
 }
 
@@ -260,5 +260,5 @@ fn parts_are_numbered(rt: HostRuntime) {
         first: DEPT,
         second: EMP,
     };
-    queries_are_told(&rt, rt.alloc(), company, &[CASES], &Numbers);
+    queries_are_reported(&rt, rt.alloc(), company, &[CASES], &Numbers);
 }

@@ -1,7 +1,7 @@
 //! Schemas read from JSON, and the codes of other bytes.
 
-use crate::judged::are_told;
-use fixtures::{COMPANY, Telling, push_number, schema_of, spelt};
+use crate::judged::are_reported;
+use fixtures::{COMPANY, Reporting, push_number, schema_of, spelt};
 use schema::{Column, Kind, Schema, Table};
 use std::alloc::{AllocError, Global};
 use std::process::Abort;
@@ -9,61 +9,61 @@ use values::{Fault, Items};
 
 // ---- schemas as texts
 
-fn push_column(told: &mut String, column: &Column) -> Result<(), AllocError> {
-    told.push_str(" ")?;
-    told.push_str(column.name.as_str())?;
-    told.push_str(match column.kind {
+fn push_column(reported: &mut String, column: &Column) -> Result<(), AllocError> {
+    reported.push_str(" ")?;
+    reported.push_str(column.name.as_str())?;
+    reported.push_str(match column.kind {
         Kind::Int => " INT",
         Kind::Text => " TEXT",
     })?;
-    told.push_str(if column.not_null { " NOT NULL," } else { "," })
+    reported.push_str(if column.not_null { " NOT NULL," } else { "," })
 }
 
 /// The lists, each after ` (`.
-fn push_lists(told: &mut String, lists: &[Items<usize>]) -> Result<(), AllocError> {
+fn push_lists(reported: &mut String, lists: &[Items<usize>]) -> Result<(), AllocError> {
     for list in lists {
-        told.push_str(" (")?;
+        reported.push_str(" (")?;
         for place in list.as_slice() {
-            push_number(told, " ", *place)?;
+            push_number(reported, " ", *place)?;
         }
-        told.push_str(" )")?;
+        reported.push_str(" )")?;
     }
     Ok(())
 }
 
-fn push_table(told: &mut String, table: &Table) -> Result<(), AllocError> {
-    told.push_str(table.name.as_str())?;
-    told.push_str(":")?;
+fn push_table(reported: &mut String, table: &Table) -> Result<(), AllocError> {
+    reported.push_str(table.name.as_str())?;
+    reported.push_str(":")?;
     for column in table.columns.as_slice() {
-        push_column(told, column)?;
+        push_column(reported, column)?;
     }
-    told.push_str(" unique")?;
-    push_lists(told, table.unique.as_slice())?;
-    told.push_str(", indexed")?;
-    push_lists(told, table.indexes.as_slice())?;
-    told.push_str("; ")
+    reported.push_str(" unique")?;
+    push_lists(reported, table.unique.as_slice())?;
+    reported.push_str(", indexed")?;
+    push_lists(reported, table.indexes.as_slice())?;
+    reported.push_str("; ")
 }
 
-/// Tells copies of a schema's tables.
-fn push_schema(alloc: Global, told: &mut String, schema: &Schema) -> Result<(), AllocError> {
+/// Reports copies of a schema's tables.
+fn push_schema(alloc: Global, reported: &mut String, schema: &Schema) -> Result<(), AllocError> {
     for table in schema.tables.as_slice() {
         let copy = table.copy(alloc)?;
-        push_table(told, &copy)?;
+        push_table(reported, &copy)?;
     }
     Ok(())
 }
 
-fn company_told(alloc: Global) -> Result<String, AllocError> {
-    let mut told = String::new(alloc);
+fn company_reported(alloc: Global) -> Result<String, AllocError> {
+    let mut reported = String::new(alloc);
     let schema = schema_of(alloc, COMPANY)?;
-    push_schema(alloc, &mut told, &schema)?;
-    Ok(told)
+    push_schema(alloc, &mut reported, &schema)?;
+    Ok(reported)
 }
 
 #[test]
 fn a_schema_is_read(rt: HostRuntime) {
     assert_eq!(rt;
-        company_told(rt.alloc()).as_deref(),
+        company_reported(rt.alloc()).as_deref(),
         Ok(
             "dept: id INT NOT NULL, name TEXT NOT NULL, boss INT, unique ( 0 ), indexed; emp: id INT NOT NULL, dept INT, pay INT, badge INT, unique ( 0 ) ( 3 ), indexed ( 1 0 ); "
         )
@@ -81,24 +81,24 @@ fn code_of(alloc: Global, bytes: &[u8]) -> &'static str {
     }
 }
 
-/// Tells how what a text spells reads between two other texts.
+/// Reports how what a text spells reads between two other texts.
 #[derive(Drop)]
 struct Codes<'a> {
     front: &'a str,
     back: &'a str,
 }
 
-impl Telling for Codes<'_> {
-    fn tell(&self, alloc: Global, text: &str, told: &mut String) -> Result<(), AllocError> {
+impl Reporting for Codes<'_> {
+    fn report(&self, alloc: Global, text: &str, reported: &mut String) -> Result<(), AllocError> {
         let mut bytes = spelt(alloc, self.front)?;
         bytes.extend_from_slice(spelt(alloc, text)?.as_slice())?;
         bytes.extend_from_slice(self.back.as_bytes())?;
-        told.push_str(code_of(alloc, bytes.as_slice()))
+        reported.push_str(code_of(alloc, bytes.as_slice()))
     }
 }
 
 fn are_read(rt: &impl Abort, alloc: Global, front: &str, cases: &str, back: &str) {
-    are_told(rt, alloc, &[cases], &Codes { front, back });
+    are_reported(rt, alloc, &[cases], &Codes { front, back });
 }
 
 /// The last of two members with one key is the one that counts.
@@ -155,7 +155,7 @@ fn other_columns_are_refused(rt: HostRuntime) {
     are_read(&rt, rt.alloc(), FRONT, CASES, BACK);
 }
 
-/// A name that repeats is told before one that is unknown, and too many before either.
+/// A name that repeats is reported before one that is unknown, and too many before either.
 #[test]
 fn other_lists_are_refused(rt: HostRuntime) {
     const FRONT: &str =
@@ -178,9 +178,9 @@ fn other_lists_are_refused(rt: HostRuntime) {
     are_read(&rt, rt.alloc(), FRONT, CASES, BACK);
 }
 
-/// Each text has two faults, of which the first code in the order S01, S02, S05, S03, S04 is told.
+/// Each text has two faults, of which the first code in the order S01, S02, S05, S03, S04 is reported.
 #[test]
-fn the_first_code_is_told(rt: HostRuntime) {
+fn the_first_code_is_reported(rt: HostRuntime) {
     const FRONT: &str =
         r#"{"tables":[{"name":"t","columns":[{"name":"a","kind":"INT","not_null":true},{"name":"b","kind":"INT","not_null":true}],"#;
     const CASES: &str = r#""unique":[["A"]],"indexes":[} => S01

@@ -1,8 +1,8 @@
 //! Texts, and the trees or the first faults that they have.
 
-use crate::judged::are_told;
+use crate::judged::are_reported;
 use crate::trees::push_statement;
-use fixtures::{Telling, drop_tree, spelt};
+use fixtures::{Reporting, drop_tree, spelt};
 use sql_parse::statement::Statement;
 use sql_parse::{ParseFault, parse_statement, parse_statement_bytes};
 use std::alloc::{AllocError, Global};
@@ -26,26 +26,26 @@ fn parsed(alloc: Global, handed: Handed, bytes: &[u8]) -> Result<Statement, Pars
 
 fn push_tree(
     alloc: Global,
-    told: &mut String,
+    reported: &mut String,
     tree: &Result<Statement, ParseFault>,
 ) -> Result<(), AllocError> {
     match tree {
-        Ok(tree) => push_statement(alloc, told, tree),
-        Err(fault) => write!(told, "{fault}"),
+        Ok(tree) => push_statement(alloc, reported, tree),
+        Err(fault) => write!(reported, "{fault}"),
     }
 }
 
-/// Tells the tree with the places of its parts, or the refusal. The text is spelt.
+/// Reports the tree with the places of its parts, or the refusal. The text is spelt.
 #[derive(Drop)]
 struct Trees {
     handed: Handed,
 }
 
-impl Telling for Trees {
-    fn tell(&self, alloc: Global, text: &str, told: &mut String) -> Result<(), AllocError> {
+impl Reporting for Trees {
+    fn report(&self, alloc: Global, text: &str, reported: &mut String) -> Result<(), AllocError> {
         let bytes = spelt(alloc, text)?;
         let tree = parsed(alloc, self.handed, bytes.as_slice());
-        let pushed = push_tree(alloc, told, &tree);
+        let pushed = push_tree(alloc, reported, &tree);
         drop_tree(tree);
         pushed
     }
@@ -204,6 +204,6 @@ fn texts_have_trees_or_faults(rt: HostRuntime) {
         NO_TEXT,
     ];
     let (bytes, text) = (Handed::Bytes, Handed::Text);
-    are_told(&rt, rt.alloc(), &tables, &Trees { handed: bytes });
-    are_told(&rt, rt.alloc(), &tables, &Trees { handed: text });
+    are_reported(&rt, rt.alloc(), &tables, &Trees { handed: bytes });
+    are_reported(&rt, rt.alloc(), &tables, &Trees { handed: text });
 }

@@ -10,7 +10,7 @@ use std::alloc::{AllocError, Global};
 use std::fmt::Write;
 use values::{Comparison, Value};
 
-/// What is still to be told, the next one last, so that no function calls itself.
+/// What is still to be reported, the next one last, so that no function calls itself.
 #[derive(Clone, Copy)]
 enum Part<'a> {
     Text(&'a str),
@@ -25,27 +25,27 @@ fn later<'a>(parts: &mut Vec<Part<'a>>, part: Part<'a>) -> Result<(), AllocError
     Ok(())
 }
 
-fn push_name(told: &mut String, name: &Name) -> Result<(), AllocError> {
-    told.push_str(name.text.as_str())?;
-    push_number(told, "@", name.at)
+fn push_name(reported: &mut String, name: &Name) -> Result<(), AllocError> {
+    reported.push_str(name.text.as_str())?;
+    push_number(reported, "@", name.at)
 }
 
-fn push_alias(told: &mut String, alias: &Option<Name>) -> Result<(), AllocError> {
+fn push_alias(reported: &mut String, alias: &Option<Name>) -> Result<(), AllocError> {
     match alias {
         Some(name) => {
-            told.push_str(" AS ")?;
-            push_name(told, name)
+            reported.push_str(" AS ")?;
+            push_name(reported, name)
         }
         None => Ok(()),
     }
 }
 
-fn push_column(told: &mut String, column: &ColumnName) -> Result<(), AllocError> {
+fn push_column(reported: &mut String, column: &ColumnName) -> Result<(), AllocError> {
     if let Some(table) = &column.table {
-        push_name(told, table)?;
-        told.push_str(".")?;
+        push_name(reported, table)?;
+        reported.push_str(".")?;
     }
-    push_name(told, &column.name)
+    push_name(reported, &column.name)
 }
 
 fn sign(comparison: Comparison) -> &'static str {
@@ -60,24 +60,24 @@ fn sign(comparison: Comparison) -> &'static str {
 }
 
 /// A text between `<` and `>`, with `~` for a line feed.
-fn push_quoted(told: &mut String, text: &str) -> Result<(), AllocError> {
-    told.push_str("<")?;
-    push_lines(told, text, "~")?;
-    told.push_str(">")
+fn push_quoted(reported: &mut String, text: &str) -> Result<(), AllocError> {
+    reported.push_str("<")?;
+    push_lines(reported, text, "~")?;
+    reported.push_str(">")
 }
 
-fn push_literal(told: &mut String, value: &Value) -> Result<(), AllocError> {
+fn push_literal(reported: &mut String, value: &Value) -> Result<(), AllocError> {
     match value {
-        Value::Null => told.push_str("null"),
-        Value::Int(number) => write!(told, "{number}"),
-        Value::Text(text) => push_quoted(told, text.as_str()),
+        Value::Null => reported.push_str("null"),
+        Value::Int(number) => write!(reported, "{number}"),
+        Value::Text(text) => push_quoted(reported, text.as_str()),
     }
 }
 
-fn push_term(told: &mut String, term: &Term) -> Result<(), AllocError> {
+fn push_term(reported: &mut String, term: &Term) -> Result<(), AllocError> {
     match term {
-        Term::Column(column) => push_column(told, column),
-        Term::Literal(value) => push_literal(told, value),
+        Term::Column(column) => push_column(reported, column),
+        Term::Literal(value) => push_literal(reported, value),
     }
 }
 
@@ -90,75 +90,75 @@ fn function_name(function: AggregateFunction) -> &'static str {
     }
 }
 
-fn push_call(told: &mut String, call: &AggregateCall) -> Result<(), AllocError> {
-    told.push_str(function_name(call.function))?;
-    push_number(told, "@", call.at)?;
-    told.push_str("(")?;
+fn push_call(reported: &mut String, call: &AggregateCall) -> Result<(), AllocError> {
+    reported.push_str(function_name(call.function))?;
+    push_number(reported, "@", call.at)?;
+    reported.push_str("(")?;
     match &call.column {
-        Some(column) => push_column(told, column)?,
-        None => told.push_str("*")?,
+        Some(column) => push_column(reported, column)?,
+        None => reported.push_str("*")?,
     }
-    told.push_str(")")
+    reported.push_str(")")
 }
 
-fn push_value(told: &mut String, value: &ItemValue) -> Result<(), AllocError> {
+fn push_value(reported: &mut String, value: &ItemValue) -> Result<(), AllocError> {
     match value {
-        ItemValue::Column(column) => push_column(told, column),
-        ItemValue::Aggregate(call) => push_call(told, call),
+        ItemValue::Column(column) => push_column(reported, column),
+        ItemValue::Aggregate(call) => push_call(reported, call),
     }
 }
 
-fn push_items(told: &mut String, items: &[SelectItem]) -> Result<(), AllocError> {
+fn push_items(reported: &mut String, items: &[SelectItem]) -> Result<(), AllocError> {
     for item in items {
-        push_value(told, &item.value)?;
-        push_alias(told, &item.alias)?;
-        told.push_str(" ")?;
+        push_value(reported, &item.value)?;
+        push_alias(reported, &item.alias)?;
+        reported.push_str(" ")?;
     }
     Ok(())
 }
 
-fn push_list(told: &mut String, list: &SelectList) -> Result<(), AllocError> {
+fn push_list(reported: &mut String, list: &SelectList) -> Result<(), AllocError> {
     match list {
-        SelectList::Star(at) => push_number(told, "*@", *at),
-        SelectList::Items(items) => push_items(told, items.as_slice()),
+        SelectList::Star(at) => push_number(reported, "*@", *at),
+        SelectList::Items(items) => push_items(reported, items.as_slice()),
     }
 }
 
 /// The columns of GROUP BY, and the end of the SELECT.
-fn push_group(told: &mut String, group: &[ColumnName]) -> Result<(), AllocError> {
+fn push_group(reported: &mut String, group: &[ColumnName]) -> Result<(), AllocError> {
     for column in group {
-        told.push_str(" BY ")?;
-        push_column(told, column)?;
+        reported.push_str(" BY ")?;
+        push_column(reported, column)?;
     }
-    told.push_str("}")
+    reported.push_str("}")
 }
 
-fn push_table(told: &mut String, table: &TableName) -> Result<(), AllocError> {
-    push_name(told, &table.name)?;
-    push_alias(told, &table.alias)
+fn push_table(reported: &mut String, table: &TableName) -> Result<(), AllocError> {
+    push_name(reported, &table.name)?;
+    push_alias(reported, &table.alias)
 }
 
 fn push_comparison(
-    told: &mut String,
+    reported: &mut String,
     left: &Term,
     by: Operator,
     right: &Term,
 ) -> Result<(), AllocError> {
-    push_term(told, left)?;
-    told.push_str(sign(by.comparison))?;
-    push_number(told, "@", by.at)?;
-    told.push_str(" ")?;
-    push_term(told, right)
+    push_term(reported, left)?;
+    reported.push_str(sign(by.comparison))?;
+    push_number(reported, "@", by.at)?;
+    reported.push_str(" ")?;
+    push_term(reported, right)
 }
 
 /// The conditions, each with a text after it, between parentheses.
 fn push_conditions<'a>(
-    told: &mut String,
+    reported: &mut String,
     parts: &mut Vec<Part<'a>>,
     conditions: &'a [Condition],
     between: &'a str,
 ) -> Result<(), AllocError> {
-    told.push_str("(")?;
+    reported.push_str("(")?;
     later(parts, Part::Text(")"))?;
     for condition in conditions.iter().rev() {
         later(parts, Part::Text(between))?;
@@ -168,30 +168,30 @@ fn push_conditions<'a>(
 }
 
 fn push_condition<'a>(
-    told: &mut String,
+    reported: &mut String,
     parts: &mut Vec<Part<'a>>,
     condition: &'a Condition,
 ) -> Result<(), AllocError> {
     match condition {
-        Condition::Compare(left, by, right) => push_comparison(told, left, *by, right),
+        Condition::Compare(left, by, right) => push_comparison(reported, left, *by, right),
         Condition::IsNull(term) => {
-            push_term(told, term)?;
-            told.push_str(" IS NULL")
+            push_term(reported, term)?;
+            reported.push_str(" IS NULL")
         }
         Condition::Not(inner) => {
-            told.push_str("NOT ")?;
+            reported.push_str("NOT ")?;
             later(parts, Part::Condition(inner.get()))
         }
-        Condition::And(all) => push_conditions(told, parts, all.as_slice(), " AND "),
-        Condition::Or(any) => push_conditions(told, parts, any.as_slice(), " OR "),
+        Condition::And(all) => push_conditions(reported, parts, all.as_slice(), " AND "),
+        Condition::Or(any) => push_conditions(reported, parts, any.as_slice(), " OR "),
         Condition::Exists(query) => {
-            told.push_str("EXISTS ")?;
+            reported.push_str("EXISTS ")?;
             later(parts, Part::Select(query.get()))
         }
         Condition::In(term, at, query) => {
-            push_term(told, term)?;
-            push_number(told, " IN@", *at)?;
-            told.push_str(" ")?;
+            push_term(reported, term)?;
+            push_number(reported, " IN@", *at)?;
+            reported.push_str(" ")?;
             later(parts, Part::Select(query.get()))
         }
     }
@@ -214,12 +214,12 @@ fn push_joins<'a>(parts: &mut Vec<Part<'a>>, joins: &'a [Join]) -> Result<(), Al
 }
 
 fn push_select<'a>(
-    told: &mut String,
+    reported: &mut String,
     parts: &mut Vec<Part<'a>>,
     select: &'a Select,
 ) -> Result<(), AllocError> {
-    told.push_str(if select.distinct { "{DISTINCT " } else { "{" })?;
-    push_list(told, &select.list)?;
+    reported.push_str(if select.distinct { "{DISTINCT " } else { "{" })?;
+    push_list(reported, &select.list)?;
     later(parts, Part::Group(select.group.as_slice()))?;
     if let Some(filter) = &select.filter {
         later(parts, Part::Condition(filter.get()))?;
@@ -234,34 +234,34 @@ fn push_select<'a>(
 }
 
 fn push_part<'a>(
-    told: &mut String,
+    reported: &mut String,
     parts: &mut Vec<Part<'a>>,
     part: Part<'a>,
 ) -> Result<(), AllocError> {
     match part {
-        Part::Text(text) => told.push_str(text),
-        Part::Table(table) => push_table(told, table),
-        Part::Condition(condition) => push_condition(told, parts, condition),
-        Part::Select(select) => push_select(told, parts, select),
-        Part::Group(group) => push_group(told, group),
+        Part::Text(text) => reported.push_str(text),
+        Part::Table(table) => push_table(reported, table),
+        Part::Condition(condition) => push_condition(reported, parts, condition),
+        Part::Select(select) => push_select(reported, parts, select),
+        Part::Group(group) => push_group(reported, group),
     }
 }
 
-fn push_order(told: &mut String, order: &[OrderKey]) -> Result<(), AllocError> {
+fn push_order(reported: &mut String, order: &[OrderKey]) -> Result<(), AllocError> {
     for key in order {
-        told.push_str(if key.descending { " DESC " } else { " ASC " })?;
-        push_column(told, &key.column)?;
+        reported.push_str(if key.descending { " DESC " } else { " ASC " })?;
+        push_column(reported, &key.column)?;
     }
     Ok(())
 }
 
-/// The most parts of a tree that is told.
+/// The most parts of a tree that is reported.
 const MOST_PARTS: usize = 10_000;
 
 /// Adds a statement's tree.
 pub fn push_statement(
     alloc: Global,
-    told: &mut String,
+    reported: &mut String,
     statement: &Statement,
 ) -> Result<(), AllocError> {
     let mut parts = Vec::new(alloc);
@@ -270,7 +270,7 @@ pub fn push_statement(
         let Some(part) = parts.pop() else {
             break;
         };
-        push_part(told, &mut parts, part)?;
+        push_part(reported, &mut parts, part)?;
     }
-    push_order(told, statement.order.as_slice())
+    push_order(reported, statement.order.as_slice())
 }

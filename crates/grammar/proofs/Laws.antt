@@ -1,4 +1,4 @@
--- What the reader of each grammar tells, by the grammar's constructs.
+-- What the reader of each grammar reports, by the grammar's constructs.
 use Rattle.std.proofs.Common.{◌≡◌, ℕ, zero, suc, ◌≤◌, inl, inr, Bool, true, false, ◌==◌, if◌then◌else◌, List, [], ◌∷◌, ◌++◌, length, Some, Result, Ok, Err, refl, sym, ◌∙◌, ap, subst, append_assoc, arith, length-append}
 use Rattle.grammar.specs.Grammars.{Grammar, tok, pure, seq, map, alt, many, nested, Language, closed}
 use Rattle.grammar.specs.Words.{Repeats, In, Nested}
@@ -8,14 +8,14 @@ use Rattle.grammar.proofs.Tests.{equal, and_left, and_right, not_and}
 use Rattle.grammar.proofs.Samples.{none_left, nulls, raise, up, word_of, behind}
 use Rattle.grammar.proofs.Rooms.{room_append, room_opened, even}
 use Rattle.grammar.proofs.Outcomes.{Alike, alike_split, sees_alike, Read, Law, stop_behind}
-use Rattle.grammar.proofs.Telling.{plain}
+use Rattle.grammar.proofs.Reporting.{plain}
 
 module _ {T : Type 0} {P : Type 0 → Type 1} (L : Language T P) where
   -- the reader with so much room, at these tokens
   abbrev pub By : ℕ → {A : Type 0} → Grammar T P A → List T → Result (A × List T) (Fault T) → Type 0
   By e g ts z = parse L plain (inside L plain e) g ts ≡ z
 
-  -- Read with room d; a fault there is told with room e as well.
+  -- Read with room d; a fault there is reported with room e as well.
   abbrev pub LawOf : ℕ → ℕ → {A : Type 0} → Grammar T P A → List T → Result (A × List T) (Fault T) → Type 0
   LawOf d e g ts z = Law L (By e g) (In L (Nested L d) g) (In L (Nested L (suc d)) g) d ts z
 
@@ -122,7 +122,7 @@ module _ {T : Type 0} {P : Type 0 → Type 1} (L : Language T P) where
       abbrev again_by : ℕ → List T → Result (List A × List T) (Fault T)
       again_by m ts = repeat L plain m (first L g) (parse L plain (inside L plain e) g) ts
 
-      -- told by as many turns as there are tokens, or more
+      -- reported by as many turns as there are tokens, or more
       abbrev Enough : List T → Result (List A × List T) (Fault T) → Type 0
       Enough ts z = (m : ℕ) → length ts ≤ m → again_by m ts ≡ z
 
@@ -288,7 +288,7 @@ module _ {T : Type 0} {P : Type 0 → Type 1} (L : Language T P) where
     nested_law (suc d) zero l A p (t ∷ ts) = absurd (omega arith)
     nested_law (suc d) (suc e) l A p (t ∷ ts) = room_law d e (nested_law d e (omega arith)) A p t ts (L.class t == L.class L.opening) refl
 
-    -- what the reader with room d tells, any reader with more room tells too
+    -- what the reader with room d reports, any reader with more room reports too
     pub law_at : (d e : ℕ) → d ≤ e → {A : Type 0} (g : Grammar T P A) (follow : List ℕ) → decides L follow g ≡ true → paired L g ≡ true
         → (ts : List T) → LawOf d e g ts (parse L plain (inside L plain d) g ts)
     law_at d e l g follow c p ts = law is d e (nested_law d e l) g follow c p ts

@@ -1,9 +1,9 @@
 pub mod Complete
 pub mod Laws
 pub mod Outcomes
+pub mod Reporting
 pub mod Rooms
 pub mod Samples
-pub mod Telling
 pub mod Tests
 pub mod Turns
 pub mod Verdicts

@@ -1,4 +1,4 @@
--- What a reader tells of the tokens it is given, and how it is told of more of them.
+-- What a reader reports of the tokens it is given, and how it is reported of more of them.
 use Rattle.std.proofs.Common.{◌≡◌, ℕ, List, [], ◌∷◌, ◌++◌, Some, Result, Ok, Err, refl, sym, ◌∙◌, ap, subst, append_assoc}
 use Rattle.grammar.specs.Grammars.{Language}
 use Rattle.grammar.specs.Readers.{member, sees}

@@ -3,14 +3,14 @@ use Rattle.std.proofs.Common.{◌≡◌, ℕ, zero, suc, ◌+◌, ◌-◌, ◌�
 use Rattle.std.proofs.lemmas.List.{append_cancel_right}
 use Rattle.grammar.specs.Grammars.{Grammar, Language}
 use Rattle.grammar.specs.Words.{Nested, Within, Reads, Begins}
-use Rattle.grammar.specs.Readers.{◌>>=◌, Told, decides, paired, parse, inside, finished, whole, IsDecided}
+use Rattle.grammar.specs.Readers.{◌>>=◌, Reported, decides, paired, parse, inside, finished, whole, IsDecided}
 use Rattle.grammar.specs.Faults.{Fault, Unexpected, TooDeep, room, IsWithin, Halts, IsUnexpected, IsTooDeep, IsFirstFault}
 use Rattle.grammar.proofs.Samples.{none_left, raise, up}
 use Rattle.grammar.proofs.Rooms.{even, lower}
 use Rattle.grammar.proofs.Outcomes.{Alike}
 use Rattle.grammar.proofs.Complete.{whole_complete}
 use Rattle.grammar.proofs.Laws.{LawOf, law_at}
-use Rattle.grammar.proofs.Telling.{plain, tell, retold, whole_told}
+use Rattle.grammar.proofs.Reporting.{plain, report, reported_again, whole_reported}
 
 module _ {T : Type 0} {P : Type 0 → Type 1} (L : Language T P) (is : IsDecided L) {A : Type 0} (g : Grammar T P A) (decided : decides L [] g ≡ true) (pairs : paired L g ≡ true) where
   above : (k d : ℕ) (w : List T) (v : A) → Within L d g w v → Within L (k + d) g w v
@@ -54,7 +54,7 @@ module _ {T : Type 0} {P : Type 0 → Type 1} (L : Language T P) (is : IsDecided
   IsVerdict d ts (Ok v) = Within L d g ts v
   IsVerdict d ts (Err f) = IsFirstFault L g d ts f
 
-  -- the fault of the reader with room d, told by a reader with room e
+  -- the fault of the reader with room d, reported by a reader with room e
   again_at : (d e : ℕ) (ts w r s : List T) → ts ≡ w ++ r → LawOf L d e g ts (Err (Unexpected r)) → Alike r s → parse L plain (inside L plain e) g (w ++ s) ≡ Err (Unexpected s)
   again_at d e ts w r s p k i =
       let same : k.w ≡ w = append_cancel_right k.w w r (sym k.split ∙ p) in
@@ -123,23 +123,23 @@ module _ {T : Type 0} {P : Type 0 → Type 1} (L : Language T P) (is : IsDecided
       let q : whole L plain (d + e) g w ≡ Ok b = whole_complete L plain is g decided (d + e) w b (within_more e (d + e) (omega arith) w b y) in
       cc
 
-  module _ {E : Type 0} (told : Told T E) where
+  module _ {E : Type 0} (reported : Reported T E) where
     -- a tree that is found is the word's, and its parentheses are within the limit
-    pub found : (d : ℕ) (ts : List T) (v : A) → whole L told d g ts ≡ Ok v → Reads L g ts v × IsWithin L d ts
-    found d ts v h = by (whole L plain d g ts) (sym (whole_told told L d g ts) ∙ h) (verdict d ts)
+    pub found : (d : ℕ) (ts : List T) (v : A) → whole L reported d g ts ≡ Ok v → Reads L g ts v × IsWithin L d ts
+    found d ts v h = by (whole L plain d g ts) (sym (whole_reported reported L d g ts) ∙ h) (verdict d ts)
       where
-        by : (z : Result A (Fault T)) → retold told z ≡ Ok v → IsVerdict d ts z → Reads L g ts v × IsWithin L d ts
+        by : (z : Result A (Fault T)) → reported_again reported z ≡ Ok v → IsVerdict d ts z → Reads L g ts v × IsWithin L d ts
         by (Ok u) e k = let same : u ≡ v = cc in ((d, subst (λ z. Within L d g ts z) same k), (d, even L is d g pairs ts u k d (omega arith)))
         by (Err f) e k = cc
 
     -- a word whose parentheses are within the limit is found
-    pub only : (d : ℕ) (ts : List T) (v : A) → Reads L g ts v → IsWithin L d ts → whole L told d g ts ≡ Ok v
-    only d ts v (e, h) (m, r) = whole_complete L told is g decided d ts v (lower L is e g pairs ts v h d m r)
+    pub only : (d : ℕ) (ts : List T) (v : A) → Reads L g ts v → IsWithin L d ts → whole L reported d g ts ≡ Ok v
+    only d ts v (e, h) (m, r) = whole_complete L reported is g decided d ts v (lower L is e g pairs ts v h d m r)
 
     -- a fault is the first
-    pub refused : (d : ℕ) (ts : List T) (x : E) → whole L told d g ts ≡ Err x → (f : Fault T) × (x ≡ tell told f) × IsFirstFault L g d ts f
-    refused d ts x h = by (whole L plain d g ts) (sym (whole_told told L d g ts) ∙ h) (verdict d ts)
+    pub refused : (d : ℕ) (ts : List T) (x : E) → whole L reported d g ts ≡ Err x → (f : Fault T) × (x ≡ report reported f) × IsFirstFault L g d ts f
+    refused d ts x h = by (whole L plain d g ts) (sym (whole_reported reported L d g ts) ∙ h) (verdict d ts)
       where
-        by : (z : Result A (Fault T)) → retold told z ≡ Err x → IsVerdict d ts z → (f : Fault T) × (x ≡ tell told f) × IsFirstFault L g d ts f
+        by : (z : Result A (Fault T)) → reported_again reported z ≡ Err x → IsVerdict d ts z → (f : Fault T) × (x ≡ report reported f) × IsFirstFault L g d ts f
         by (Ok u) e k = cc
-        by (Err f) e k = let same : tell told f ≡ x = cc in (f, sym same, k)
+        by (Err f) e k = let same : report reported f ≡ x = cc in (f, sym same, k)

@@ -1,4 +1,4 @@
--- The first fault of a list of tokens that is no word, or opens too many parentheses. It is told at the first token that no
+-- The first fault of a list of tokens that is no word, or opens too many parentheses. It is reported at the first token that no
 -- word has there: the viable-prefix property (Aho, Lam, Sethi and Ullman, Compilers, section 4.1).
 use Rattle.std.specs.Prelude.{◌≡◌, ℕ, zero, suc, ◌==◌, if◌then◌else◌, List, [], ◌∷◌, ◌++◌, Option, Some, None}
 use Rattle.grammar.specs.Grammars.{Grammar, Language}

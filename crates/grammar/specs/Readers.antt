@@ -23,8 +23,8 @@ apart (x ∷ xs) ys = not (member x ys) && apart xs ys
 abbrev pub Reader : Type 0 → Type 0 → Type 0 → Type 0
 Reader T E A = List T → Result (A × List T) E
 
--- How a fault is told, from the tokens from its place on: a token that can't stand there, or a parenthesis too many.
-pub record Told (T E : Type 0) : Type 0 where
+-- How a fault is reported, from the tokens from its place on: a token that can't stand there, or a parenthesis too many.
+pub record Reported (T E : Type 0) : Type 0 where
   pub unexpected : List T → E
   pub too_deep : List T → E
 
@@ -75,11 +75,11 @@ module _ {T : Type 0} {P : Type 0 → Type 1} (L : Language T P) where
   paired (many g) = paired g
   paired (nested p) = true
 
-module _ {T : Type 0} {P : Type 0 → Type 1} (L : Language T P) {E : Type 0} (told : Told T E) where
+module _ {T : Type 0} {P : Type 0 → Type 1} (L : Language T P) {E : Type 0} (reported : Reported T E) where
   -- one token of a class
   abbrev pub one : ℕ → Reader T E T
-  one class [] = Err (told.unexpected [])
-  one class (t ∷ ts) = if L.class t == class then Ok (t, ts) else Err (told.unexpected (t ∷ ts))
+  one class [] = Err (reported.unexpected [])
+  one class (t ∷ ts) = if L.class t == class then Ok (t, ts) else Err (reported.unexpected (t ∷ ts))
 
   -- as long as the next token is of these classes; n is as many times as there are tokens
   abbrev pub repeat : {A : Type 0} → ℕ → List ℕ → Reader T E A → Reader T E (List A)
@@ -98,13 +98,13 @@ module _ {T : Type 0} {P : Type 0 → Type 1} (L : Language T P) {E : Type 0} (t
 
   -- behind an opening parenthesis, where so many might have been opened
   abbrev pub inside : ℕ → (A : Type 0) → P A → List T → Reader T E A
-  inside zero A p from ts = Err (told.too_deep from)
+  inside zero A p from ts = Err (reported.too_deep from)
   inside (suc d) A p from ts = parse (inside d) (closed L A p) ts
 
   -- nothing is left
   abbrev pub finished : {A : Type 0} → A × List T → Result A E
   finished (v, []) = Ok v
-  finished (v, t ∷ ts) = Err (told.unexpected (t ∷ ts))
+  finished (v, t ∷ ts) = Err (reported.unexpected (t ∷ ts))
 
   -- all of the tokens, with at most so many parentheses open
   abbrev pub whole : ℕ → {A : Type 0} → Grammar T P A → List T → Result A E

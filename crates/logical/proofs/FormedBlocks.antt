@@ -9,20 +9,19 @@ use Rattle.query.specs.declared.query.Aggregate.{Aggregate}
 use Rattle.query.specs.declared.query.Aggregate.TheVariants as by
 use Rattle.query.specs.declared.query.Item.{Item}
 use Rattle.query.specs.declared.query.Item.TheVariants as item
-use Rattle.query.specs.declared.query.TableUse.{TableUse}
+use Rattle.query.specs.declared.query.TableInstance.{TableInstance}
 use Rattle.query.specs.declared.query.Cond.{Cond}
 use Rattle.query.specs.declared.query.Block.{Block}
 use Rattle.query.specs.Bound.{Scope, BlockScope, number, number_at, names, is_among, all_differ, aggregate_numbers, bound_aggregate, bound_item, bound_group_item, bound_items, bound_filter, cond_scope, from_scope}
 use Rattle.query.proofs.ScopeEquations.{scope-Block}
-use Rattle.logical.specs.declared.expr.Aggregation.{Aggregation}
-use Rattle.logical.specs.declared.expr.Expr.{Expr}
-use Rattle.logical.specs.declared.expr.Expr.TheVariants.{Group}
-use Rattle.logical.specs.Columns.{has, within, rising}
-use Rattle.logical.specs.Conditions.{all_classes, all_columns}
-use Rattle.logical.specs.Equality.{same_aggregation}
-use Rattle.logical.specs.Expressions.{is_own, is_formed, aggregate_reads, aggregate_columns, aggregation_formed, are_different}
-use Rattle.logical.specs.Classes.{class_columns}
-use Rattle.logical.specs.FormedFrames.{AreFormed}
+use Rattle.algebra.specs.declared.expr.Aggregation.{Aggregation}
+use Rattle.algebra.specs.declared.expr.Expr.{Expr}
+use Rattle.algebra.specs.declared.expr.Expr.TheVariants.{Group}
+use Rattle.algebra.specs.Columns.{has, is_subset, rising}
+use Rattle.algebra.specs.Conditions.{all_classes, all_columns}
+use Rattle.algebra.specs.Equality.{same_aggregation}
+use Rattle.algebra.specs.Expressions.{is_own, is_formed, aggregate_reads, aggregate_columns, aggregation_formed, are_different}
+use Rattle.algebra.specs.Classes.{class_columns, AreFormed}
 use Rattle.logical.specs.Frames as frame
 use Rattle.logical.specs.Frames.{CondLines, BlockFrame, cond_frame, from_frame, where_lines, group_lines, keep_lines, distinct_lines, key_columns, aggregations, numbered_aggregate, item_number, own_numbers, kept, last}
 use Rattle.logical.proofs.FormedParts.{all-three, AllOwn, among_own, GroupsOwn, groups-before, number-own, FormedCond, FormedBlock, CondFormed, FromFormed, BlockFormed}
@@ -31,10 +30,10 @@ use Rattle.logical.proofs.FrameGroups.{place-has, key-has, key-below}
 use Rattle.logical.proofs.FrameShapes.{end-grows, FromShape, CondShape, WhereShape, BoundParts, cond-shape, from-shape, where-shape, bound-parts}
 use Rattle.logical.proofs.Growth.{grows-none, grows-longer, grows-some, top-columns, last-below}
 use Rattle.logical.proofs.Induction.{OfFilter}
-use Rattle.logical.proofs.Ordered.{in_order-all}
-use Rattle.logical.proofs.Puts.{never, differ-left, differ-right}
-use Rattle.logical.proofs.Same.{equal_aggregation}
-use Rattle.logical.proofs.Sets.{has-rising}
+use Rattle.algebra.proofs.Ordered.{in_order-all}
+use Rattle.algebra.proofs.Puts.{never, differ-left, differ-right}
+use Rattle.algebra.proofs.Same.{equal_aggregation}
+use Rattle.algebra.proofs.Sets.{has-rising}
 use Rattle.logical.proofs.Shown.{all-rising}
 
 -- ---- aggregates
@@ -106,7 +105,7 @@ kept-all p scope items all = all-rising p (own_numbers scope items) ∙ listed i
     listed [] all = refl
     listed (i ∷ its) all = cond_both (frame.is_own i) _ _ (λ ks. list_all p ks ≡ true) (λ is. and_from _ _ (all.0 is) (listed its all.1)) (λ isnt. listed its all.1)
 
-module _ (uses : List TableUse) (own : List Aggregation) where
+module _ (uses : List TableInstance) (own : List Aggregation) where
   -- ---- WHERE
 
   where-formed : (o : Option Cond) (inner : Scope) (A : List Expr) → OfFilter (CondFormed uses own) (FromFormed uses own) (BlockFormed uses own) o → AllOwn uses own inner → AreFormed uses own A → 0 < length A
@@ -137,7 +136,7 @@ module _ (uses : List TableUse) (own : List Aggregation) where
     keys-in [] below = refl
     keys-in (k ∷ keys) below = let parts = and_parts (nat_lt k (length numbers)) _ below in and_from _ _ (place-in k parts.0) (keys-in keys parts.1)
 
-    reads-in : (a : Aggregate) → bound_aggregate (length numbers) a ≡ true → within (aggregate_reads (numbered_aggregate numbers a)) cols ≡ true
+    reads-in : (a : Aggregate) → bound_aggregate (length numbers) a ≡ true → is_subset (aggregate_reads (numbered_aggregate numbers a)) cols ≡ true
     reads-in by.CountRows bound = refl
     reads-in (by.Count k) bound = and_from _ _ (place-in k bound) refl
     reads-in (by.Sum k) bound = and_from _ _ (place-in k bound) refl

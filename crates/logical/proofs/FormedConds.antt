@@ -5,26 +5,26 @@ use Rattle.std.proofs.lemmas.Bool.{and_parts, and_from}
 use Rattle.std.proofs.lemmas.List.Folds.{list_all-append}
 use Rattle.values.specs.declared.truth.Comparison.{Comparison}
 use Rattle.query.specs.declared.query.Term.{Term}
-use Rattle.query.specs.declared.query.TableUse.{TableUse}
+use Rattle.query.specs.declared.query.TableInstance.{TableInstance}
 use Rattle.query.specs.declared.query.Cond.{Cond}
 use Rattle.query.specs.declared.query.Cond.TheVariants as cond
 use Rattle.query.specs.declared.query.Block.{Block}
 use Rattle.query.specs.Bound.{Scope, CondScope, bound_term, cond_scope, block_scope}
 use Rattle.query.proofs.ScopeEquations.{scope-Compare, scope-IsNull, scope-Not, scope-And, scope-Or, scope-Exists, scope-In}
-use Rattle.logical.specs.declared.condition.Condition.{Condition}
-use Rattle.logical.specs.declared.expr.Aggregation.{Aggregation}
-use Rattle.logical.specs.declared.expr.Expr.{Expr}
-use Rattle.logical.specs.Conditions.{all_columns}
-use Rattle.logical.specs.Expressions.{is_own}
-use Rattle.logical.specs.FormedFrames.{AreFormed}
+use Rattle.algebra.specs.Classes.{AreFormed}
+use Rattle.algebra.specs.declared.condition.Condition.{Condition}
+use Rattle.algebra.specs.declared.expr.Aggregation.{Aggregation}
+use Rattle.algebra.specs.declared.expr.Expr.{Expr}
+use Rattle.algebra.specs.Conditions.{all_columns}
+use Rattle.algebra.specs.Expressions.{is_own}
 use Rattle.logical.specs.Frames.{CondLines, AllLines, cond_frame, block_frame, all_frames, alone, numbered, first_shown, last}
-use Rattle.logical.proofs.ConditionNames.{columns-Compare, columns-IsNull, columns-Not, columns-Exists, columns-In}
-use Rattle.logical.proofs.Equations.{all_columns_and, all_columns_or}
+use Rattle.algebra.proofs.ConditionNames.{columns-Compare, columns-IsNull, columns-Not, columns-Exists, columns-In}
+use Rattle.algebra.proofs.Equations.{all_columns_and, all_columns_or}
 use Rattle.logical.proofs.FormedParts.{AllOwn, GroupsOwn, groups-before, term-own, FormedCond, FormedAll, FormedBlock, CondFormed, BlockFormed}
 use Rattle.logical.proofs.FrameEquations.{frame-Compare, frame-IsNull, frame-Not, frame-And, frame-Or, frame-Exists, frame-In}
 use Rattle.logical.proofs.FrameShapes.{shape-all, block-shape}
 
-module _ (uses : List TableUse) (own : List Aggregation) where
+module _ (uses : List TableInstance) (own : List Aggregation) where
   cond-as : (f g : CondLines) (s t : CondScope) (scope : Scope) → f ≡ g → s ≡ t → (t.bound scope ≡ true → GroupsOwn uses own g.lines → FormedCond uses own g) → s.bound scope ≡ true → GroupsOwn uses own f.lines → FormedCond uses own f
   cond-as f g s t scope is as_ h = rw (is, as_) h
 

@@ -4,29 +4,28 @@ use Rattle.std.specs.List.{list_all, slice_get}
 use Rattle.std.proofs.lemmas.Bool.{and_parts, and_from, eq-eqb, or_left, or_right, lt-ltb, not_from_false, false_from_ne_true}
 use Rattle.std.proofs.lemmas.Option.{slice_get_within}
 use Rattle.query.specs.declared.query.Occurrence.{Occurrence}
-use Rattle.query.specs.declared.query.TableUse.{TableUse}
+use Rattle.query.specs.declared.query.TableInstance.{TableInstance}
 use Rattle.query.specs.declared.query.Cond.{Cond}
 use Rattle.query.specs.declared.query.From.{From}
 use Rattle.query.specs.declared.query.From.TheVariants as from
 use Rattle.query.specs.Bound.{Scope, FromScope, all_differ, is_use_of, is_used, use_numbers, cond_scope, from_scope, join_scope}
 use Rattle.query.proofs.ScopeEquations.{scope-Table, scope-Join, scope-LeftJoin, scope-Comma}
-use Rattle.logical.specs.declared.condition.Condition.{Condition}
-use Rattle.logical.specs.declared.expr.Aggregation.{Aggregation}
-use Rattle.logical.specs.declared.expr.Expr.{Expr}
-use Rattle.logical.specs.declared.expr.Expr.TheVariants.{Get, Join, LeftJoin}
-use Rattle.logical.specs.Columns.{has, apart}
-use Rattle.logical.specs.Conditions.{all_classes, all_columns}
-use Rattle.logical.specs.Expressions.{classes_pass, is_formed, is_own, is_plain, joins_formed, names_own, subqueries_pass}
-use Rattle.logical.specs.Classes.{class_columns}
-use Rattle.logical.specs.ConjunctOrder.{in_order}
-use Rattle.logical.specs.FormedFrames.{AreFormed}
+use Rattle.algebra.specs.declared.condition.Condition.{Condition}
+use Rattle.algebra.specs.declared.expr.Aggregation.{Aggregation}
+use Rattle.algebra.specs.declared.expr.Expr.{Expr}
+use Rattle.algebra.specs.declared.expr.Expr.TheVariants.{Get, Join, LeftJoin}
+use Rattle.algebra.specs.Columns.{has, are_disjoint}
+use Rattle.algebra.specs.Conditions.{all_classes, all_columns}
+use Rattle.algebra.specs.Expressions.{classes_pass, is_formed, is_own, is_plain, joins_formed, names_own, subqueries_pass}
+use Rattle.algebra.specs.Classes.{class_columns, AreFormed}
+use Rattle.algebra.specs.ConjunctOrder.{in_order}
 use Rattle.logical.specs.Frames.{CondLines, FromFrame, cond_frame, from_frame, join_frame, last}
 use Rattle.logical.proofs.FormedParts.{all-three, AreOwn, AllOwn, GroupsOwn, groups-before, FormedCond, CondFormed, FromFormed}
 use Rattle.logical.proofs.FrameEquations.{frame-Table, frame-Join, frame-LeftJoin, frame-Comma}
 use Rattle.logical.proofs.FrameShapes.{FromShape, Sides, JoinParts, left_of, on_of, from-shape, join-sides, join-parts}
 use Rattle.logical.proofs.Growth.{grows-longer, kept-columns, last-below}
-use Rattle.logical.proofs.Ordered.{in_order-all}
-use Rattle.logical.proofs.Puts.{Apart, differ-left, differ-right, differ-apart}
+use Rattle.algebra.proofs.Ordered.{in_order-all}
+use Rattle.algebra.proofs.Puts.{AreDisjoint, differ-left, differ-right, differ-disjoint}
 
 -- what holds of each column of a list
 pub all-has : (p : ℕ → Bool) (xs : List ℕ) → ((c : ℕ) → has xs c ≡ true → p c ≡ true) → list_all p xs ≡ true
@@ -34,18 +33,18 @@ all-has p [] h = refl
 all-has p (x ∷ xs) h = and_from _ _ (h x (or_left _ _ (eq-eqb x x refl))) (all-has p xs (λ c in_. h c (or_right (x == c) _ in_)))
 
 -- lists with the columns of lists that share none share none
-sides-apart : (xs ys ks ls : List ℕ) → ((c : ℕ) → has xs c ≡ has ks c) → ((c : ℕ) → has ys c ≡ has ls c) → Apart ls ks → apart xs ys ≡ true
-sides-apart xs ys ks ls left right apart_are = all-has _ xs (λ c in_. not_from_false _ (false_from_ne_true (has ys c) (λ both. cc (left c, in_, apart_are c (sym (right c) ∙ both)))))
+sides-disjoint : (xs ys ks ls : List ℕ) → ((c : ℕ) → has xs c ≡ has ks c) → ((c : ℕ) → has ys c ≡ has ls c) → AreDisjoint ls ks → are_disjoint xs ys ≡ true
+sides-disjoint xs ys ks ls left right disjoint_are = all-has _ xs (λ c in_. not_from_false _ (false_from_ne_true (has ys c) (λ both. cc (left c, in_, disjoint_are c (sym (right c) ∙ both)))))
 
 -- an occurrence of the query's is one of its tables
-used-below : (uses : List TableUse) (o : Occurrence) → is_used uses o ≡ true → o.number < length uses
+used-below : (uses : List TableInstance) (o : Occurrence) → is_used uses o ≡ true → o.number < length uses
 used-below uses o used = by (slice_get uses o.number) refl used
   where
-    by : (x : Option TableUse) → slice_get uses o.number ≡ x → is_use_of x o ≡ true → o.number < length uses
+    by : (x : Option TableInstance) → slice_get uses o.number ≡ x → is_use_of x o ≡ true → o.number < length uses
     by None is used = cc
     by (Some t) is used = slice_get_within uses o.number t is
 
-module _ (uses : List TableUse) (own : List Aggregation) where
+module _ (uses : List TableInstance) (own : List Aggregation) where
   from-as : (f g : FromFrame) (s t : FromScope) (scope : Scope) (E : List Expr) → f ≡ g → s ≡ t → (t.bound scope ≡ true → all_differ g.numbers ≡ true → GroupsOwn uses own (g.lines scope E) → AreFormed uses own (g.lines scope E))
       → s.bound scope ≡ true → all_differ f.numbers ≡ true → GroupsOwn uses own (f.lines scope E) → AreFormed uses own (f.lines scope E)
   from-as f g s t scope E is as_ h = rw (is, as_) h
@@ -84,7 +83,7 @@ module _ (uses : List TableUse) (own : List Aggregation) where
         in_order-all (λ d. all_classes d (λ g. false)) framed.conjuncts ∙ sides.test.conjuncts (λ g. false) (λ g low lt. absurd (let none : length framed.lines ≡ length lines = ap length same in omega (arith, low, lt, none))) in
         let own_columns : names_own uses own C ≡ true = in_order-all (λ d. all_columns d (is_own uses own)) framed.conjuncts ∙ test.conjuncts in (
           names (λ g. nat_lt g (length framed.lines)) C (last A) (length A) ∙ all-three _ _ _ (lt-ltb (last A) (length framed.lines) (omega (arith, below, longer))) (lt-ltb (length A) (length framed.lines) (omega (arith, longer))) earlier,
-          needs cols C (last A) (length A) ∙ all-three _ _ _ own_columns plain (sides-apart (cols (last A)) (cols (length A)) ks ls sides.left_columns sides.right_columns (differ-apart ks ls differ)),
+          needs cols C (last A) (length A) ∙ all-three _ _ _ own_columns plain (sides-disjoint (cols (last A)) (cols (length A)) ks ls sides.left_columns sides.right_columns (differ-disjoint ks ls differ)),
           test.lines,
         )
 
@@ -113,6 +112,6 @@ module _ (uses : List TableUse) (own : List Aggregation) where
       let formed_left : AreFormed uses own A = first scope E all formed parts.0 (differ-left ks ls differ) (groups-before uses own B A right.grows groups.1) in
       let formed_right : AreFormed uses own B = second scope A all formed_left parts.1 (differ-right ks ls differ) groups.1 in (
         all-three _ _ _ (lt-ltb _ _ (omega (arith, low, longer))) (lt-ltb _ _ high) refl,
-        all-three _ _ _ refl refl (sides-apart (class_columns uses B (last A)) (class_columns uses B (last B)) ks ls left_columns right.columns (differ-apart ks ls differ)),
+        all-three _ _ _ refl refl (sides-disjoint (class_columns uses B (last A)) (class_columns uses B (last B)) ks ls left_columns right.columns (differ-disjoint ks ls differ)),
         formed_right,
       ))

@@ -6,27 +6,28 @@ use Rattle.std.proofs.lemmas.Bool.{and_from, ltb-true}
 use Rattle.query.specs.declared.query.Column.{Column}
 use Rattle.query.specs.declared.query.Term.{Term}
 use Rattle.query.specs.declared.query.Term.TheVariants as read
-use Rattle.query.specs.declared.query.TableUse.{TableUse}
+use Rattle.query.specs.declared.query.TableInstance.{TableInstance}
 use Rattle.query.specs.declared.query.Cond.{Cond}
 use Rattle.query.specs.declared.query.From.{From}
 use Rattle.query.specs.declared.query.Block.{Block}
 use Rattle.query.specs.Bound.{Scope, number, names, bound_term, all_differ, cond_scope, from_scope, block_scope}
-use Rattle.logical.specs.declared.expr.Aggregation.{Aggregation}
-use Rattle.logical.specs.declared.expr.Expr.{Expr}
-use Rattle.logical.specs.Columns.{has}
-use Rattle.logical.specs.Conditions.{all_columns, term_passes}
-use Rattle.logical.specs.Equality.{same_aggregation}
-use Rattle.logical.specs.Expressions.{is_own, names_own}
-use Rattle.logical.specs.FormedFrames.{group_aggregates, AreFormed}
+use Rattle.algebra.specs.Classes.{AreFormed}
+use Rattle.algebra.specs.declared.expr.Aggregation.{Aggregation}
+use Rattle.algebra.specs.declared.expr.Expr.{Expr}
+use Rattle.algebra.specs.Columns.{has}
+use Rattle.algebra.specs.Conditions.{all_columns, term_passes}
+use Rattle.algebra.specs.Equality.{same_aggregation}
+use Rattle.algebra.specs.Expressions.{is_own, names_own}
+use Rattle.logical.specs.FormedFrames.{group_aggregates}
 use Rattle.logical.specs.Frames.{CondLines, AllLines, BlockFrame, cond_frame, from_frame, block_frame, numbered}
 use Rattle.logical.proofs.FrameGroups.{place-has}
 use Rattle.logical.proofs.Growth.{Grows}
-use Rattle.logical.proofs.Puts.{never}
+use Rattle.algebra.proofs.Puts.{never}
 
 pub all-three : (a b c : Bool) → a ≡ true → b ≡ true → c ≡ true → (a && b && c) ≡ true
 all-three a b c e f g = rw (e, f, g) refl
 
-module _ (uses : List TableUse) (own : List Aggregation) where
+module _ (uses : List TableInstance) (own : List Aggregation) where
   -- ---- what is the query's own
 
   -- the columns are the query's own

@@ -8,18 +8,18 @@ use Rattle.std.proofs.lemmas.List.Folds.{list_any-append}
 use Rattle.query.specs.declared.query.Column.{Column}
 use Rattle.query.specs.declared.query.Item.{Item}
 use Rattle.query.specs.declared.query.Item.TheVariants as item
-use Rattle.query.specs.declared.query.TableUse.{TableUse}
+use Rattle.query.specs.declared.query.TableInstance.{TableInstance}
 use Rattle.query.specs.declared.query.Block.{Block}
 use Rattle.query.specs.Bound.{Scope, names, is_among, bound_aggregate, bound_item, bound_group_item, bound_items, block_scope}
 use Rattle.query.proofs.Lists.{all-append}
 use Rattle.query.proofs.ScopeEquations.{scope-Block}
-use Rattle.logical.specs.declared.expr.Aggregation.{Aggregation}
-use Rattle.logical.specs.declared.expr.Expr.{Expr}
-use Rattle.logical.specs.declared.expr.Expr.TheVariants.{Keep, Distinct}
-use Rattle.logical.specs.Columns.{has, within, rising}
-use Rattle.logical.specs.Equality.{same_aggregation}
-use Rattle.logical.specs.Classes.{class_columns}
-use Rattle.logical.specs.FormedFrames.{group_aggregates, own_aggregates, AreFormed, FramesAreFormed}
+use Rattle.algebra.specs.declared.expr.Aggregation.{Aggregation}
+use Rattle.algebra.specs.declared.expr.Expr.{Expr}
+use Rattle.algebra.specs.declared.expr.Expr.TheVariants.{Keep, Distinct}
+use Rattle.algebra.specs.Columns.{has, is_subset, rising}
+use Rattle.algebra.specs.Equality.{same_aggregation}
+use Rattle.algebra.specs.Classes.{class_columns, AreFormed}
+use Rattle.logical.specs.FormedFrames.{group_aggregates, own_aggregates, FramesAreFormed}
 use Rattle.logical.specs.Frames as frame
 use Rattle.logical.specs.Frames.{cond_frame, from_frame, block_frame, where_lines, group_lines, keep_lines, distinct_lines, item_number, own_numbers, kept, last, query_frame, query_numbers}
 use Rattle.logical.proofs.FormedBlocks.{formed-Block}
@@ -30,13 +30,13 @@ use Rattle.logical.proofs.FrameEquations.{frame-Block}
 use Rattle.logical.proofs.FrameShapes.{BoundParts, block-shape, bound-parts}
 use Rattle.logical.proofs.Growth.{top-columns, last-is}
 use Rattle.logical.proofs.Induction.{Steps, each-block}
-use Rattle.logical.proofs.Puts.{never}
-use Rattle.logical.proofs.Same.{same_aggregation-refl}
-use Rattle.logical.proofs.Sets.{has-rising}
+use Rattle.algebra.proofs.Puts.{never}
+use Rattle.algebra.proofs.Same.{same_aggregation-refl}
+use Rattle.algebra.proofs.Sets.{has-rising}
 
 -- ---- blocks
 
-module _ (uses : List TableUse) (own : List Aggregation) where
+module _ (uses : List TableInstance) (own : List Aggregation) where
   steps : Steps (CondFormed uses own) (FromFormed uses own) (BlockFormed uses own)
   steps = record {
     compare = formed-Compare uses own;
@@ -60,22 +60,22 @@ module _ (uses : List TableUse) (own : List Aggregation) where
 -- ---- the query's own aggregates
 
 -- aggregates that are among some are among more
-among-more : (uses : List TableUse) (own more added : List Aggregation) → among_own uses own added ≡ true → among_own uses (more ++ own) added ≡ true
+among-more : (uses : List TableInstance) (own more added : List Aggregation) → among_own uses own added ≡ true → among_own uses (more ++ own) added ≡ true
 among-more uses own more [] h = refl
 among-more uses own more (a ∷ added) h =
     let parts = and_parts (list_any (same_aggregation a) own) _ h in
     and_from _ _ (list_any-append (same_aggregation a) more own ∙ or_right _ _ parts.0) (among-more uses own more added parts.1)
 
-among-itself : (uses : List TableUse) (added own : List Aggregation) → among_own uses (added ++ own) added ≡ true
+among-itself : (uses : List TableInstance) (added own : List Aggregation) → among_own uses (added ++ own) added ≡ true
 among-itself uses [] own = refl
 among-itself uses (a ∷ added) own = and_from _ _ (or_left _ _ (same_aggregation-refl a)) (among-more uses (added ++ own) (a ∷ []) added (among-itself uses added own))
 
-groups-more : (uses : List TableUse) (own more : List Aggregation) (lines : List Expr) → GroupsOwn uses own lines → GroupsOwn uses (more ++ own) lines
+groups-more : (uses : List TableInstance) (own more : List Aggregation) (lines : List Expr) → GroupsOwn uses own lines → GroupsOwn uses (more ++ own) lines
 groups-more uses own more [] h = tt
 groups-more uses own more (x ∷ lines) h = (among-more uses own more (group_aggregates x) h.0, groups-more uses own more lines h.1)
 
 -- the aggregates of lines are among those of all of them
-groups-own : (uses : List TableUse) (lines : List Expr) → GroupsOwn uses (flat_map group_aggregates lines) lines
+groups-own : (uses : List TableInstance) (lines : List Expr) → GroupsOwn uses (flat_map group_aggregates lines) lines
 groups-own uses [] = tt
 groups-own uses (x ∷ lines) =
     (among-itself uses (group_aggregates x) (flat_map group_aggregates lines), groups-more uses (flat_map group_aggregates lines) (group_aggregates x) lines (groups-own uses lines))
@@ -118,7 +118,7 @@ own-all : (scope : Scope) (items : List Item) → AllByRecursion (λ i. frame.is
 own-all scope [] all = refl
 own-all scope (i ∷ items) all = cond-true _ _ _ all.0 ∙ ap (λ ks. item_number scope i ∷ ks) (own-all scope items all.1)
 
-module _ (uses : List TableUse) where
+module _ (uses : List TableInstance) where
   -- a block's last class has the columns that it keeps
   end-columns : (twice : Bool) (scope : Scope) (items : List Item) (G : List Expr)
       → class_columns uses (distinct_lines twice (keep_lines scope items G)) (last (distinct_lines twice (keep_lines scope items G))) ≡ kept scope items
@@ -126,13 +126,13 @@ module _ (uses : List TableUse) where
   end-columns true scope items G = top-columns uses (Distinct (length G)) (keep_lines scope items G) ∙ top-columns uses (Keep (kept scope items) (last G)) G
 
   shown-in : (twice : Bool) (scope : Scope) (items : List Item) (G : List Expr) → AllByRecursion (λ i. frame.is_own i ≡ true) items
-      → within (map (item_number scope) items) (class_columns uses (distinct_lines twice (keep_lines scope items G)) (last (distinct_lines twice (keep_lines scope items G)))) ≡ true
+      → is_subset (map (item_number scope) items) (class_columns uses (distinct_lines twice (keep_lines scope items G)) (last (distinct_lines twice (keep_lines scope items G)))) ≡ true
   shown-in twice scope items G all =
       let ns : List ℕ = map (item_number scope) items in
-      ap (within ns) (end-columns twice scope items G ∙ ap rising (own-all scope items all)) ∙ all-has (has (rising ns)) ns (λ c in_. has-rising c ns ∙ in_)
+      ap (is_subset ns) (end-columns twice scope items G ∙ ap rising (own-all scope items all)) ∙ all-has (has (rising ns)) ns (λ c in_. has-rising c ns ∙ in_)
 
   -- all that a query's block shows is among the columns of its last class
-  block-shown : (q : Block) → (block_scope uses q).bound [] ≡ true → within ((block_frame uses q).shown []) (class_columns uses ((block_frame uses q).lines [] []) (last ((block_frame uses q).lines [] []))) ≡ true
+  block-shown : (q : Block) → (block_scope uses q).bound [] ≡ true → is_subset ((block_frame uses q).shown []) (class_columns uses ((block_frame uses q).lines [] []) (last ((block_frame uses q).lines [] []))) ≡ true
   block-shown q bound =
       let numbers : List ℕ = (from_frame uses q.from).numbers in
       let A : List Expr = (from_frame uses q.from).lines [] [] in
@@ -146,7 +146,7 @@ module _ (uses : List TableUse) where
 pub frames_formed : FramesAreFormed
 unfolding query_frame query_numbers
 frames_formed q bound =
-    let uses : List TableUse = q.tables in
+    let uses : List TableInstance = q.tables in
     let own : List Aggregation = own_aggregates q in
     let lines : List Expr = (block_frame uses q.block).lines [] [] in
     let turned : reverse (reverse lines) ≡ lines = reverse-reverse lines in
@@ -157,7 +157,7 @@ frames_formed q bound =
     let adds : 0 < length lines = (block-shape uses q.block [] []).adds in
     record {
       lines = subst (AreFormed uses own) (sym turned) formed.lines;
-      shown = ap (λ L. within ((block_frame uses q.block).shown []) (class_columns uses L (length (reverse lines) - 1))) turned ∙ ap (λ n. within ((block_frame uses q.block).shown []) (class_columns uses lines n)) last_is
+      shown = ap (λ L. is_subset ((block_frame uses q.block).shown []) (class_columns uses L (length (reverse lines) - 1))) turned ∙ ap (λ n. is_subset ((block_frame uses q.block).shown []) (class_columns uses lines n)) last_is
           ∙ block-shown uses q.block bound;
       some = omega (arith, long, adds);
     }

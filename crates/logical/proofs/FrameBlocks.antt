@@ -5,7 +5,7 @@ use Rattle.std.proofs.lemmas.Bool.{and_parts}
 use Rattle.values.specs.declared.value.Value.{Value}
 use Rattle.schema.specs.Databases.{Row, HaveWidth, values_at}
 use Rattle.query.specs.declared.query.Item.{Item}
-use Rattle.query.specs.declared.query.TableUse.{TableUse}
+use Rattle.query.specs.declared.query.TableInstance.{TableInstance}
 use Rattle.query.specs.declared.query.Cond.{Cond}
 use Rattle.query.specs.declared.query.Block.{Block}
 use Rattle.query.specs.Rows as rows
@@ -16,14 +16,14 @@ use Rattle.query.specs.Bound.{Scope, bound_filter, bound_items, aggregate_number
 use Rattle.query.proofs.Equations as meaning
 use Rattle.query.proofs.ScopeEquations.{scope-Block}
 use Rattle.query.proofs.Widths.{source_fits, length-nulls}
-use Rattle.logical.specs.declared.expr.Expr.{Expr}
-use Rattle.logical.specs.declared.expr.Expr.TheVariants.{Select, Group, Keep, Distinct}
-use Rattle.logical.specs.Columns.{has, rising}
-use Rattle.logical.specs.Bags.{Env, lay, distinct_on}
-use Rattle.logical.specs.Conditions.{holds}
-use Rattle.logical.specs.Expressions.{with_aggregates}
-use Rattle.logical.specs.Classes.{class_rows, class_columns}
-use Rattle.logical.specs.ConjunctOrder.{in_order}
+use Rattle.algebra.specs.declared.expr.Expr.{Expr}
+use Rattle.algebra.specs.declared.expr.Expr.TheVariants.{Select, Group, Keep, Distinct}
+use Rattle.algebra.specs.Columns.{has, rising}
+use Rattle.algebra.specs.Bags.{Env, lay, distinct_on}
+use Rattle.algebra.specs.Conditions.{holds}
+use Rattle.algebra.specs.Expressions.{with_aggregates}
+use Rattle.algebra.specs.Classes.{class_rows, class_columns}
+use Rattle.algebra.specs.ConjunctOrder.{in_order}
 use Rattle.logical.specs.Frames.{CondLines, cond_frame, from_frame, where_lines, group_lines, keep_lines, distinct_lines, aggregations, item_number, own_numbers, last}
 use Rattle.logical.proofs.FrameEquations.{frame-Block}
 use Rattle.logical.proofs.FrameGroups.{plain-items, group-items, group-keyed, groups-keyed, with_key, first_rows}
@@ -31,12 +31,12 @@ use Rattle.logical.proofs.FrameRight.{CondRight, FromRight, CondMeans, FromMeans
 use Rattle.logical.proofs.FrameShapes.{FromShape, BoundParts, cond-shape, from-shape, bound-parts}
 use Rattle.logical.proofs.Growth.{grows-none, kept-rows, top-rows, top-columns, last-below}
 use Rattle.logical.proofs.Induction.{OfFilter}
-use Rattle.logical.proofs.Loops.{keep-all, through, all-filter, all-distinct}
-use Rattle.logical.proofs.Ordered.{in_order-all}
-use Rattle.logical.proofs.Puts.{put, Agrees, IsNew, agrees-put, new-right}
+use Rattle.algebra.proofs.Lists.{keep-all, through, all-filter, all-distinct}
+use Rattle.algebra.proofs.Ordered.{in_order-all}
+use Rattle.algebra.proofs.Puts.{put, Agrees, IsNew, agrees-put, new-right}
 use Rattle.logical.proofs.Shown.{Reads, shows, shows-once}
 
-module _ (uses : List TableUse) (D : Tables) (fits : IsFitting D) where
+module _ (uses : List TableInstance) (D : Tables) (fits : IsFitting D) where
   -- ---- WHERE
 
   -- behind a WHERE's lines the last class has those rows at which it holds
@@ -65,15 +65,15 @@ module _ (uses : List TableUse) (D : Tables) (fits : IsFitting D) where
       → last_rows uses D A e ≡ map h xs → AllByRecursion P xs → AllByRecursion (Reads scope e h sh P) items
       → map (λ r. map r (map (item_number scope) items)) (last_rows uses D (distinct_lines twice (keep_lines scope items A)) e) ≡ (if twice then rows.distinct (map (λ x. map (sh x) items) xs) else map (λ x. map (sh x) items) xs)
   end-rows false scope items A e h sh P xs is px all =
-      let cut : List Env → List Env = map (λ r. lay (has (rising (own_numbers scope items))) r e) in
-      ap (map (λ r. map r (map (item_number scope) items))) (keep-rows scope items A e ∙ ap cut is) ∙ shows scope e h sh P items xs px all
+      let projected : List Env → List Env = map (λ r. lay (has (rising (own_numbers scope items))) r e) in
+      ap (map (λ r. map r (map (item_number scope) items))) (keep-rows scope items A e ∙ ap projected is) ∙ shows scope e h sh P items xs px all
   end-rows true scope items A e h sh P xs is px all =
       let K : List ℕ = rising (own_numbers scope items) in
       let kept : List Expr = keep_lines scope items A in
-      let cut : List Env → List Env = map (λ r. lay (has K) r e) in
+      let projected : List Env → List Env = map (λ r. lay (has K) r e) in
       let columns : class_columns uses kept (last kept) ≡ K = top-columns uses (Keep K (last A)) A in
       ap (map (λ r. map r (map (item_number scope) items)))
-      (top-rows uses D (Distinct (last kept)) kept e ∙ ap (λ C. map (λ r. lay (has C) r e) (distinct_on C (last_rows uses D kept e))) columns ∙ ap (λ L. cut (distinct_on K L)) (keep-rows scope items A e ∙ ap cut is))
+      (top-rows uses D (Distinct (last kept)) kept e ∙ ap (λ C. map (λ r. lay (has C) r e) (distinct_on C (last_rows uses D kept e))) columns ∙ ap (λ L. projected (distinct_on K L)) (keep-rows scope items A e ∙ ap projected is))
       ∙ shows-once scope e h sh P items xs px all
 
   -- ---- the rows of groups and of rows alone

@@ -10,7 +10,7 @@ use Rattle.values.specs.Truth.{negation, truth_of, is_true, is_null, compare}
 use Rattle.schema.specs.Databases.{Row}
 use Rattle.query.specs.declared.query.Term.{Term}
 use Rattle.query.specs.declared.query.Term.TheVariants as read
-use Rattle.query.specs.declared.query.TableUse.{TableUse}
+use Rattle.query.specs.declared.query.TableInstance.{TableInstance}
 use Rattle.query.specs.declared.query.Cond.{Cond}
 use Rattle.query.specs.declared.query.Cond.TheVariants as cond
 use Rattle.query.specs.declared.query.Block.{Block}
@@ -21,20 +21,20 @@ use Rattle.query.specs.Meaning.{all_of, any_of, equals_row}
 use Rattle.query.specs.Bound.{Scope, CondScope, bound_term, cond_scope, block_scope, number_at}
 use Rattle.query.proofs.Equations as meaning
 use Rattle.query.proofs.ScopeEquations.{scope-Compare, scope-IsNull, scope-Not, scope-And, scope-Or, scope-Exists, scope-In}
-use Rattle.logical.specs.declared.condition.Condition.{Condition}
-use Rattle.logical.specs.declared.expr.Expr.{Expr}
-use Rattle.logical.specs.Bags.{Env}
-use Rattle.logical.specs.Conditions.{truth, term_value, is_empty}
-use Rattle.logical.specs.Classes.{class_rows}
+use Rattle.algebra.specs.declared.condition.Condition.{Condition}
+use Rattle.algebra.specs.declared.expr.Expr.{Expr}
+use Rattle.algebra.specs.Bags.{Env}
+use Rattle.algebra.specs.Conditions.{truth, term_value, is_empty}
+use Rattle.algebra.specs.Classes.{class_rows}
 use Rattle.logical.specs.Frames.{CondLines, cond_frame, block_frame, all_frames, alone, numbered, last}
 use Rattle.logical.proofs.FrameEquations.{frame-Compare, frame-IsNull, frame-Not, frame-And, frame-Or, frame-Exists, frame-In}
 use Rattle.logical.proofs.FrameRight.{CondRight, AllRight, CondMeans, BlockMeans, cond-right}
 use Rattle.logical.proofs.FrameShapes.{block-shape, block-below, shape-all}
 use Rattle.logical.proofs.Growth.{Grows, grows-more, kept-rows}
-use Rattle.logical.proofs.Loops.{two}
-use Rattle.logical.proofs.Ordered.{all-append}
-use Rattle.logical.proofs.Puts.{Agrees, reads, both}
-use Rattle.logical.proofs.Truths.{truth-Compare, truth-IsNull, truth-Not, truth-And, truth-Or, truth-Exists, truth-In, true-all}
+use Rattle.algebra.proofs.Lists.{two}
+use Rattle.algebra.proofs.Ordered.{all-append}
+use Rattle.algebra.proofs.Puts.{Agrees, reads, both}
+use Rattle.algebra.proofs.Truths.{truth-Compare, truth-IsNull, truth-Not, truth-And, truth-Or, truth-Exists, truth-In, true-all}
 
 and-true : (b : Bool) → (b && true) ≡ b
 and-true true = refl
@@ -54,7 +54,7 @@ in-rows : (v : Value) (ks : List ℕ) (k : ℕ) → ks ≡ k ∷ [] → (xs : Li
 in-rows v ks k is [] = refl
 in-rows v ks k is (x ∷ xs) = two (λ t ts. t ∷ ts) (rw is refl) (in-rows v ks k is xs)
 
-module _ (uses : List TableUse) (D : Tables) where
+module _ (uses : List TableInstance) (D : Tables) where
   -- a condition that is no AND
   alone-right : (c : Condition) (lines : List Expr) (s : CondScope) (m : List Row → Truth) (scope : Scope)
       → ((F : List Expr) (ρ : List Row) (e : Env) → Grows F lines → s.bound scope ≡ true → Agrees scope ρ e → truth c (class_rows uses D F) e ≡ m ρ) → CondRight uses D (alone c lines) s m scope

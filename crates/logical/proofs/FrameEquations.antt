@@ -3,7 +3,7 @@ use Rattle.std.proofs.Common.{◌≡◌, refl, ap, sym, ◌∙◌, List, map, Op
 use Rattle.values.specs.declared.truth.Comparison.{Comparison}
 use Rattle.query.specs.declared.query.Term.{Term}
 use Rattle.query.specs.declared.query.Occurrence.{Occurrence}
-use Rattle.query.specs.declared.query.TableUse.{TableUse}
+use Rattle.query.specs.declared.query.TableInstance.{TableInstance}
 use Rattle.query.specs.declared.query.Cond.{Cond, roll-Cond}
 use Rattle.query.specs.declared.query.Cond.TheVariants as cond
 use Rattle.query.specs.declared.query.Cond.TheOpen.{Cond-F, From-F, Block-F}
@@ -13,7 +13,7 @@ use Rattle.query.specs.declared.query.From.TheVariants as from
 use Rattle.query.specs.declared.query.Block.{Block, out-Block}
 use Rattle.logical.specs.Frames.{CondFrame, FromFrame, BlockFrame, cond_frame, from_frame, block_frame, cond_frame_layer, from_frame_layer, block_frame_layer}
 
-module _ (uses : List TableUse) where
+module _ (uses : List TableInstance) where
   cond_roll : (x : Cond-F Cond From Block) → cond_frame uses (roll-Cond x) ≡ cond_frame_layer (map-Cond Cond From Block CondFrame FromFrame BlockFrame (cond_frame uses) (from_frame uses) (block_frame uses) x)
   unfolding cond_frame from_frame block_frame
   cond_roll x = fold-roll-Cond CondFrame FromFrame BlockFrame cond_frame_layer (from_frame_layer uses) block_frame_layer x

@@ -5,7 +5,7 @@ use Rattle.std.proofs.lemmas.Bool.{and_parts, eqb-true}
 use Rattle.std.proofs.lemmas.List.FromFn.{length-range_with_len}
 use Rattle.schema.specs.Databases.{Row, HaveWidth}
 use Rattle.query.specs.declared.query.Occurrence.{Occurrence}
-use Rattle.query.specs.declared.query.TableUse.{TableUse}
+use Rattle.query.specs.declared.query.TableInstance.{TableInstance}
 use Rattle.query.specs.declared.query.Cond.{Cond}
 use Rattle.query.specs.declared.query.From.{From}
 use Rattle.query.specs.declared.query.From.TheVariants as from
@@ -17,23 +17,23 @@ use Rattle.query.specs.Bound.{Scope, is_use_of, is_used, numbers_of_use, use_num
 use Rattle.query.proofs.Equations as meaning
 use Rattle.query.proofs.ScopeEquations.{scope-Table, scope-Join, scope-LeftJoin, scope-Comma}
 use Rattle.query.proofs.Widths.{source_fits}
-use Rattle.logical.specs.declared.condition.Condition.{Condition}
-use Rattle.logical.specs.declared.expr.Expr.{Expr}
-use Rattle.logical.specs.declared.expr.Expr.TheVariants.{Get, Join, LeftJoin}
-use Rattle.logical.specs.Columns.{has}
-use Rattle.logical.specs.Bags.{Env, lay, nulls, matches, or_else_row}
-use Rattle.logical.specs.Conditions.{holds}
-use Rattle.logical.specs.Expressions.{means, use_columns, use_row, get_rows}
-use Rattle.logical.specs.Classes.{class_rows, class_columns, classes}
-use Rattle.logical.specs.ConjunctOrder.{in_order}
+use Rattle.algebra.specs.declared.condition.Condition.{Condition}
+use Rattle.algebra.specs.declared.expr.Expr.{Expr}
+use Rattle.algebra.specs.declared.expr.Expr.TheVariants.{Get, Join, LeftJoin}
+use Rattle.algebra.specs.Columns.{has}
+use Rattle.algebra.specs.Bags.{Env, lay, nulls, matches, or_else_row}
+use Rattle.algebra.specs.Conditions.{holds}
+use Rattle.algebra.specs.Expressions.{means, use_columns, use_row, get_rows}
+use Rattle.algebra.specs.Classes.{class_rows, class_columns, classes}
+use Rattle.algebra.specs.ConjunctOrder.{in_order}
 use Rattle.logical.specs.Frames.{AreOver, cond_frame, from_frame, join_frame, last}
 use Rattle.logical.proofs.FrameEquations.{frame-Table, frame-Join, frame-LeftJoin, frame-Comma}
 use Rattle.logical.proofs.FrameRight.{FromRight, CondMeans, FromMeans, from-right}
 use Rattle.logical.proofs.FrameShapes.{FromShape, Sides, JoinParts, from-shape, join-sides, join-parts, table-columns}
 use Rattle.logical.proofs.Growth.{Grows, grows-none, grows-one, kept-rows, top-rows, top-columns, last-below}
-use Rattle.logical.proofs.Loops.{two, map-map, map-same, keep-all, through, loops, all-map}
-use Rattle.logical.proofs.Ordered.{in_order-all}
-use Rattle.logical.proofs.Puts.{put, pointwise, Apart, Agrees, IsNew, lay-put, lay-nulls, use-put, agrees-put, differ-apart, new-left, new-right}
+use Rattle.algebra.proofs.Lists.{two, map-map, map-same, keep-all, through, loops, all-map}
+use Rattle.algebra.proofs.Ordered.{in_order-all}
+use Rattle.algebra.proofs.Puts.{put, pointwise, AreDisjoint, Agrees, IsNew, lay-put, lay-nulls, use-put, agrees-put, differ-disjoint, new-left, new-right}
 
 -- ---- pairs of rows
 
@@ -42,7 +42,7 @@ or_else-map g z [] = refl
 or_else-map g z (x ∷ xs) = refl
 
 -- the rows that a left row makes with right ones
-pairs-put : (ks ls : List ℕ) (e : Env) (p : Env → Bool) (q : Row → Bool) (R : List Row) (l : Row) → Apart ls ks → length l ≡ length ks → HaveWidth (length ls) R
+pairs-put : (ks ls : List ℕ) (e : Env) (p : Env → Bool) (q : Row → Bool) (R : List Row) (l : Row) → AreDisjoint ls ks → length l ≡ length ks → HaveWidth (length ls) R
     → ((z : Row) → length z ≡ length ks + length ls → p (put (ks ++ ls) z e) ≡ q z)
     → matches p (has ls) (map (λ s. put ls s e) R) (put ks l e) ≡ map (λ s. put (ks ++ ls) s e) (filter q (pairs_of l R))
 pairs-put ks ls e p q R l apart wide all same =
@@ -54,22 +54,22 @@ pairs-put ks ls e p q R l apart wide all same =
 
 -- ---- tables
 
-all-at : (P : TableUse → Type 0) (uses : List TableUse) (n : ℕ) (t : TableUse) → slice_get uses n ≡ Some t → AllByRecursion P uses → P t
+all-at : (P : TableInstance → Type 0) (uses : List TableInstance) (n : ℕ) (t : TableInstance) → slice_get uses n ≡ Some t → AllByRecursion P uses → P t
 all-at P [] n t is all = absurd (none is)
   where
     none : None ≡ Some t → ⊥
     none is = cc
 all-at P (u ∷ uses) zero t is all = subst P (one u t is) all.0
   where
-    one : (u t : TableUse) → Some u ≡ Some t → u ≡ t
+    one : (u t : TableInstance) → Some u ≡ Some t → u ≡ t
     one u t is = cc
 all-at P (u ∷ uses) (suc n) t is all = all-at P uses n t is all.1
 
-module _ (uses : List TableUse) (D : Tables) (fits : IsFitting D) (over : AreOver D uses) where
+module _ (uses : List TableInstance) (D : Tables) (fits : IsFitting D) (over : AreOver D uses) where
   table-width : (o : Occurrence) → is_used uses o ≡ true → D.width o.table ≡ length (use_numbers uses o)
   table-width o used = by (slice_get uses o.number) refl used
     where
-      by : (x : Option TableUse) → slice_get uses o.number ≡ x → is_use_of x o ≡ true → D.width o.table ≡ length (numbers_of_use x)
+      by : (x : Option TableInstance) → slice_get uses o.number ≡ x → is_use_of x o ≡ true → D.width o.table ≡ length (numbers_of_use x)
       by None is used = cc
       by (Some t) is used =
           let same : t.table ≡ o.table = eqb-true _ _ used in
@@ -78,7 +78,7 @@ module _ (uses : List TableUse) (D : Tables) (fits : IsFitting D) (over : AreOve
   table-rows : (o : Occurrence) → is_used uses o ≡ true → (e : Env) → get_rows (slice_get uses o.number) D e ≡ map (λ s. put (use_numbers uses o) s e) (D.rows o.table)
   table-rows o used e = by (slice_get uses o.number) refl used
     where
-      by : (x : Option TableUse) → slice_get uses o.number ≡ x → is_use_of x o ≡ true → get_rows x D e ≡ map (λ s. put (numbers_of_use x) s e) (D.rows o.table)
+      by : (x : Option TableInstance) → slice_get uses o.number ≡ x → is_use_of x o ≡ true → get_rows x D e ≡ map (λ s. put (numbers_of_use x) s e) (D.rows o.table)
       by None is used = cc
       by (Some t) is used =
           let same : t.table ≡ o.table = eqb-true _ _ used in
@@ -147,7 +147,7 @@ module _ (uses : List TableUse) (D : Tables) (fits : IsFitting D) (over : AreOve
 
     pairs : (ρ : List Row) (e : Env) → Bound → IsNew (ks ++ ls) scope → Agrees scope ρ e → (l : Row) → length l ≡ length ks
         → matches (holds (class_rows uses D lines) conjuncts) (has ls) (map (λ s. put ls s e) (D.rows o.table)) (put ks l e) ≡ map (λ s. put (ks ++ ls) s e) (query.matches (query.truth on) o.table D ρ l)
-    pairs ρ e bound new agree l wide = pairs-put ks ls e _ (passes (query.truth on) D ρ) (D.rows o.table) l (differ-apart ks ls new.0) wide (table-fits o bound.used) (on-passes ρ e bound new agree)
+    pairs ρ e bound new agree l wide = pairs-put ks ls e _ (passes (query.truth on) D ρ) (D.rows o.table) l (differ-disjoint ks ls new.0) wide (table-fits o bound.used) (on-passes ρ e bound new agree)
 
     join-rows : (ρ : List Row) (e : Env) → Bound → IsNew (ks ++ ls) scope → Agrees scope ρ e
         → means uses D (classes uses D lines) (Join conjuncts (last left_lines) (length left_lines)) e ≡ map (λ s. put (ks ++ ls) s e) (flat_map (query.matches (query.truth on) o.table D ρ) (source f D ρ))
@@ -162,7 +162,7 @@ module _ (uses : List TableUse) (D : Tables) (fits : IsFitting D) (over : AreOve
     left-join-rows ρ e bound new agree =
         let p : Env → Bool = holds (class_rows uses D lines) conjuncts in
         let pad : (l : Row) → length l ≡ length ks → lay (has ls) nulls (put ks l e) ≡ put (ks ++ ls) (l ++ rows.nulls (D.width o.table)) e =
-        λ l wide. lay-nulls ls (put ks l e) e ∙ lay-put ks ls l (rows.nulls (length ls)) e (differ-apart ks ls new.0) wide ∙ ap (λ w. put (ks ++ ls) (l ++ rows.nulls w) e) (sym (table-width o bound.used)) in
+        λ l wide. lay-nulls ls (put ks l e) e ∙ lay-put ks ls l (rows.nulls (length ls)) e (differ-disjoint ks ls new.0) wide ∙ ap (λ w. put (ks ++ ls) (l ++ rows.nulls w) e) (sym (table-width o bound.used)) in
         ap (λ K. flat_map (λ r. or_else_row (lay K nulls r) (matches p K (class_rows uses D lines (length left_lines) e) r)) (class_rows uses D lines (last left_lines) e)) (pointwise right-columns)
         ∙ two (λ R L. flat_map (λ r. or_else_row (lay (has ls) nulls r) (matches p (has ls) R r)) L) (right-rows e bound) (left-rows ρ e bound new agree)
         ∙ loops (λ l. length l ≡ length ks) _ (λ s. put ks s e) (λ s. put (ks ++ ls) s e) _ (source f D ρ)
@@ -222,7 +222,7 @@ module _ (uses : List TableUse) (D : Tables) (fits : IsFitting D) (over : AreOve
             ∙ ap (λ K. flat_map (matches p K (class_rows uses D B (last B) e)) (class_rows uses D B (last A) e)) (pointwise right_shape.columns)
             ∙ two (λ R L. flat_map (matches p (has ls) R) L) right_rows left_rows
             ∙ loops (λ l. length l ≡ length ks) _ (λ s. put ks s e) (λ s. put (ks ++ ls) s e) (λ l. pairs_of l (source g D ρ)) (source f D ρ)
-            (λ l wide. pairs-put ks ls e p (λ z. true) (source g D ρ) l (differ-apart ks ls new.0) wide (subst (λ w. HaveWidth w (source g D ρ)) (right.width parts.1) (source_fits g D ρ fits)) (λ z w. refl)
+            (λ l wide. pairs-put ks ls e p (λ z. true) (source g D ρ) l (differ-disjoint ks ls new.0) wide (subst (λ w. HaveWidth w (source g D ρ)) (right.width parts.1) (source_fits g D ρ fits)) (λ z w. refl)
             ∙ ap (map (λ s. put (ks ++ ls) s e)) (keep-all (pairs_of l (source g D ρ))))
             (subst (λ w. HaveWidth w (source f D ρ)) (left.width parts.0) (source_fits f D ρ fits));
       })

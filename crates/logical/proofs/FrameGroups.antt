@@ -16,14 +16,15 @@ use Rattle.query.specs.Rows.{value_at, same_rows, column}
 use Rattle.query.specs.Aggregates.{aggregate, aggregate_of, together, plus, lesser, greater, known, group_of}
 use Rattle.query.specs.Meaning.{item_of_row, item_of_group, key_value, all_shown}
 use Rattle.query.specs.Bound.{Scope, number, number_at, names, is_among, all_differ, bound_item, bound_group_item, bound_aggregate, aggregate_numbers, none_among}
-use Rattle.logical.specs.Columns.{has, insert, rising}
-use Rattle.logical.specs.Bags.{Env, Bag, lay, same_on, distinct_on, group}
-use Rattle.logical.specs.Expressions.{with_aggregates}
+use Rattle.algebra.specs.Columns.{has, insert, rising}
+use Rattle.algebra.specs.Bags.{Env, Bag, lay, same_on, distinct_on, group}
+use Rattle.algebra.specs.Expressions.{with_aggregates}
 use Rattle.logical.specs.Frames.{numbered_aggregate, aggregations}
-use Rattle.logical.proofs.Sets.{has-rising}
-use Rattle.logical.proofs.Loops.{two, map-map, map-same, through, all-distinct, distinct_by, distinct-map, distinct-same}
-use Rattle.logical.proofs.Puts.{never, put, put-off, put-reads, place-reads, reads, Agrees, IsNew, agrees-put, not-among, not-true, none-apart, differ-apart, differ-left, new-left}
-use Rattle.logical.proofs.Shown.{Reads, same_rows-cons, distinct_on-by, distinct-by, all-rising}
+use Rattle.algebra.proofs.Sets.{has-rising}
+use Rattle.algebra.proofs.Lists.{two, map-map, map-same, through, all-distinct, distinct_by, distinct-map, distinct-same}
+use Rattle.algebra.proofs.Puts.{never, put, put-off, put-reads, place-reads, reads, Agrees, IsNew, agrees-put, not-among, not-true, none-disjoint, differ-disjoint, differ-left, new-left}
+use Rattle.algebra.proofs.UniqueRows.{distinct_on-by}
+use Rattle.logical.proofs.Shown.{Reads, same_rows-cons, distinct-by, all-rising}
 
 -- ---- columns of the rows around
 
@@ -42,7 +43,7 @@ place-has (n ∷ ns) (suc p) lt = or_right _ _ (place-has ns p (omega (arith, lt
 
 level-off : (ns : List ℕ) (scope : Scope) (l p : ℕ) → list_all (none_among ns) scope ≡ true → nat_lt p (length (slice_index_or scope l [])) ≡ true → has ns (number_at (slice_index_or scope l []) p) ≡ false
 level-off ns [] l p none there = absurd (let lt : p < 0 = ltb-true _ _ there in omega (arith, lt))
-level-off ns (ks ∷ scope) zero p none there = none-apart ns ks (and_parts (none_among ns ks) _ none).0 (number_at ks p) (place-has ks p (ltb-true _ _ there))
+level-off ns (ks ∷ scope) zero p none there = none-disjoint ns ks (and_parts (none_among ns ks) _ none).0 (number_at ks p) (place-has ks p (ltb-true _ _ there))
 level-off ns (ks ∷ scope) (suc l) p none there = level-off ns scope l p (and_parts (none_among ns ks) _ none).1 there
 
 -- a column of the rows around is none of those that are new
@@ -204,7 +205,7 @@ module _ (numbers : List ℕ) (scope : Scope) (ρ : List Row) (e : Env) (agree :
 
       -- no column of the block is an aggregate's
       own-off : (p : ℕ) → p < length numbers → has (aggregate_numbers items) (number_at numbers p) ≡ false
-      own-off p lt = differ-apart (aggregate_numbers items) numbers apart.0 (number_at numbers p) (place-has numbers p lt)
+      own-off p lt = differ-disjoint (aggregate_numbers items) numbers apart.0 (number_at numbers p) (place-has numbers p lt)
 
       lay-either : (K : ℕ → Bool) (n : ℕ) (x y : Env) (v : Value) → x n ≡ v → y n ≡ v → lay K x y n ≡ v
       lay-either K n x y v h k = cond_both (K n) (x n) (y n) (λ z. z ≡ v) (λ is. h) (λ isnt. k)

@@ -4,8 +4,8 @@ use Rattle.std.proofs.lemmas.List.{drop_all}
 use Rattle.std.proofs.Math.Seq.{drop-cons}
 use Rattle.query.specs.declared.query.Cond.{Cond}
 use Rattle.query.specs.Bound.{Scope}
-use Rattle.logical.specs.declared.condition.Condition.{Condition}
-use Rattle.logical.specs.declared.expr.Expr.{Expr}
+use Rattle.algebra.specs.declared.condition.Condition.{Condition}
+use Rattle.algebra.specs.declared.expr.Expr.{Expr}
 use Rattle.logical.specs.Frames.{CondFrame, AllLines, all_frames}
 
 module _ (f : Cond → CondFrame) (scope : Scope) where

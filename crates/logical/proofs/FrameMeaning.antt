@@ -1,13 +1,13 @@
 -- The frame of a query means the query.
 use Rattle.std.proofs.Common.{◌≡◌, refl, ap, sym, ◌∙◌, ◌-◌, true, List, [], map, length, reverse}
 use Rattle.std.proofs.lemmas.List.{length-reverse, reverse-reverse}
-use Rattle.query.specs.declared.query.TableUse.{TableUse}
+use Rattle.query.specs.declared.query.TableInstance.{TableInstance}
 use Rattle.query.specs.declared.query.Block.{Block}
 use Rattle.query.specs.declared.query.Query.{Query}
 use Rattle.query.specs.Rows.{Tables, IsFitting, count}
 use Rattle.query.specs.Bound.{is_bound}
-use Rattle.logical.specs.declared.expr.Expr.{Expr}
-use Rattle.logical.specs.Classes.{class_rows, root_rows}
+use Rattle.algebra.specs.declared.expr.Expr.{Expr}
+use Rattle.algebra.specs.Classes.{class_rows, root_rows}
 use Rattle.logical.specs.Frames.{AreOver, block_frame, query_frame, query_numbers, FrameMeans, last}
 use Rattle.logical.proofs.FrameBlocks.{means-Block}
 use Rattle.logical.proofs.FrameConds.{means-Compare, means-IsNull, means-Not, means-And, means-Or, means-Exists, means-In}
@@ -16,7 +16,7 @@ use Rattle.logical.proofs.FrameRight.{CondMeans, FromMeans, BlockMeans, last_row
 use Rattle.logical.proofs.Growth.{last-is}
 use Rattle.logical.proofs.Induction.{Steps, each-block}
 
-module _ (uses : List TableUse) (D : Tables) (fits : IsFitting D) (over : AreOver D uses) where
+module _ (uses : List TableInstance) (D : Tables) (fits : IsFitting D) (over : AreOver D uses) where
   steps : Steps (CondMeans uses D) (FromMeans uses D) (BlockMeans uses D)
   steps = record {
     compare = means-Compare uses D;

@@ -5,7 +5,7 @@ use Rattle.std.proofs.lemmas.Bool.{and_parts, and_from}
 use Rattle.std.proofs.lemmas.Grind.{reverse_onto}
 use Rattle.std.proofs.lemmas.List.Folds.{list_all-append}
 use Rattle.query.specs.declared.query.Item.{Item}
-use Rattle.query.specs.declared.query.TableUse.{TableUse}
+use Rattle.query.specs.declared.query.TableInstance.{TableInstance}
 use Rattle.query.specs.declared.query.Cond.{Cond, roll-Cond}
 use Rattle.query.specs.declared.query.Cond.TheVariants as cond
 use Rattle.query.specs.declared.query.Cond.TheOpen.{Cond-F, From-F, Block-F}
@@ -15,7 +15,7 @@ use Rattle.query.specs.declared.query.From.TheVariants as from
 use Rattle.query.specs.declared.query.Block.{Block, roll-Block}
 use Rattle.query.specs.declared.query.Query.{Query}
 use Rattle.query.specs.Bound.{Scope}
-use Rattle.logical.specs.declared.expr.Expr.{Expr}
+use Rattle.algebra.specs.declared.expr.Expr.{Expr}
 use Rattle.logical.specs.Frames.{CondFrame, all_frames, cond_frame, from_frame, block_frame, where_lines, group_lines, distinct_lines, query_frame, is_framed}
 use Rattle.logical.proofs.FrameEquations.{frame-Compare, frame-IsNull, frame-Not, frame-And, frame-Or, frame-Exists, frame-In, frame-Table, frame-Join, frame-LeftJoin, frame-Comma, frame-Block}
 
@@ -38,7 +38,7 @@ group-keeps : (g : Bool) (numbers keys : List ℕ) (items : List Item) (E : List
 group-keeps true numbers keys items E h = h
 group-keeps false numbers keys items E h = h
 
-module _ (uses : List TableUse) where
+module _ (uses : List TableInstance) where
   abbrev CondPart : Type 0
   CondPart = (c : Cond) × CondKeeps (cond_frame uses c)
 

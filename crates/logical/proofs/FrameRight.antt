@@ -4,7 +4,7 @@ use Rattle.std.specs.List.{list_all}
 use Rattle.values.specs.declared.truth.Truth.{Truth}
 use Rattle.values.specs.Truth.{is_true}
 use Rattle.schema.specs.Databases.{Row}
-use Rattle.query.specs.declared.query.TableUse.{TableUse}
+use Rattle.query.specs.declared.query.TableInstance.{TableInstance}
 use Rattle.query.specs.declared.query.Cond.{Cond}
 use Rattle.query.specs.declared.query.From.{From}
 use Rattle.query.specs.declared.query.Block.{Block}
@@ -12,30 +12,30 @@ use Rattle.query.specs.Rows.{Tables}
 use Rattle.query.specs.Meaning as query
 use Rattle.query.specs.Meaning.{from_width}
 use Rattle.query.specs.Bound.{Scope, CondScope, FromScope, BlockScope, cond_scope, from_scope, block_scope}
-use Rattle.logical.specs.declared.expr.Expr.{Expr}
-use Rattle.logical.specs.Bags.{Env}
-use Rattle.logical.specs.Conditions.{truth, holds}
-use Rattle.logical.specs.Classes.{class_rows}
+use Rattle.algebra.specs.declared.expr.Expr.{Expr}
+use Rattle.algebra.specs.Bags.{Env}
+use Rattle.algebra.specs.Conditions.{truth, holds}
+use Rattle.algebra.specs.Classes.{class_rows}
 use Rattle.logical.specs.Frames.{CondLines, AllLines, FromFrame, BlockFrame, cond_frame, from_frame, block_frame, last}
 use Rattle.logical.proofs.Growth.{Grows}
-use Rattle.logical.proofs.Puts.{put, Agrees, IsNew}
+use Rattle.algebra.proofs.Puts.{put, Agrees, IsNew}
 
-module _ (uses : List TableUse) (D : Tables) where
+module _ (uses : List TableInstance) (D : Tables) where
   -- the rows of the lines' last class
   abbrev pub last_rows : List Expr → Env → List Env
   last_rows lines e = class_rows uses D lines (last lines) e
 
   -- what a condition became is at an environment what the condition is of the rows that it agrees with
   pub record CondRight (f : CondLines) (s : CondScope) (m : List Row → Truth) (scope : Scope) : Type 0 where
-    pub truth : (F : List Expr) (ρ : List Row) (e : Env) → Grows F f.lines → s.bound scope ≡ true → Agrees scope ρ e → Rattle.logical.specs.Conditions.truth f.condition (class_rows uses D F) e ≡ m ρ
-    pub holds : (F : List Expr) (ρ : List Row) (e : Env) → Grows F f.lines → s.bound scope ≡ true → Agrees scope ρ e → Rattle.logical.specs.Conditions.holds (class_rows uses D F) f.conjuncts e ≡ is_true (m ρ)
+    pub truth : (F : List Expr) (ρ : List Row) (e : Env) → Grows F f.lines → s.bound scope ≡ true → Agrees scope ρ e → Rattle.algebra.specs.Conditions.truth f.condition (class_rows uses D F) e ≡ m ρ
+    pub holds : (F : List Expr) (ρ : List Row) (e : Env) → Grows F f.lines → s.bound scope ≡ true → Agrees scope ρ e → Rattle.algebra.specs.Conditions.holds (class_rows uses D F) f.conjuncts e ≡ is_true (m ρ)
 
   -- the same of a list of conditions
   pub record AllRight (f : AllLines) (cs : List Cond) (scope : Scope) : Type 0 where
     pub truths : (F : List Expr) (ρ : List Row) (e : Env) → Grows F f.lines → list_all (λ s. s.bound scope) (map (cond_scope uses) cs) ≡ true → Agrees scope ρ e
-        → map (λ c. Rattle.logical.specs.Conditions.truth c (class_rows uses D F) e) f.conditions ≡ map (λ c. query.truth c D ρ) cs
+        → map (λ c. Rattle.algebra.specs.Conditions.truth c (class_rows uses D F) e) f.conditions ≡ map (λ c. query.truth c D ρ) cs
     pub holds : (F : List Expr) (ρ : List Row) (e : Env) → Grows F f.lines → list_all (λ s. s.bound scope) (map (cond_scope uses) cs) ≡ true → Agrees scope ρ e
-        → Rattle.logical.specs.Conditions.holds (class_rows uses D F) f.conjuncts e ≡ list_all is_true (map (λ c. query.truth c D ρ) cs)
+        → Rattle.algebra.specs.Conditions.holds (class_rows uses D F) f.conjuncts e ≡ list_all is_true (map (λ c. query.truth c D ρ) cs)
 
   -- the last class of a FROM's lines has its rows, put into its columns
   pub record FromRight (f : FromFrame) (s : FromScope) (m : List Row → List Row) (w : ℕ) (scope : Scope) (E : List Expr) : Type 0 where

@@ -8,7 +8,7 @@ use Rattle.values.specs.declared.truth.Comparison.{Comparison}
 use Rattle.query.specs.declared.query.Term.{Term}
 use Rattle.query.specs.declared.query.Item.{Item}
 use Rattle.query.specs.declared.query.Occurrence.{Occurrence}
-use Rattle.query.specs.declared.query.TableUse.{TableUse}
+use Rattle.query.specs.declared.query.TableInstance.{TableInstance}
 use Rattle.query.specs.declared.query.Cond.{Cond}
 use Rattle.query.specs.declared.query.Cond.TheVariants as cond
 use Rattle.query.specs.declared.query.From.{From}
@@ -16,23 +16,23 @@ use Rattle.query.specs.declared.query.From.TheVariants as from
 use Rattle.query.specs.declared.query.Block.{Block}
 use Rattle.query.specs.Bound.{Scope, CondScope, FromScope, BlockScope, cond_scope, from_scope, block_scope, join_scope, is_used, numbers_of_use, use_numbers, is_single, are_new, aggregate_numbers, bound_filter, bound_items, block_scope_layer}
 use Rattle.query.proofs.ScopeEquations.{scope-Compare, scope-IsNull, scope-Not, scope-And, scope-Or, scope-Exists, scope-In, scope-Table, scope-Join, scope-LeftJoin, scope-Comma, scope-Block, scoped}
-use Rattle.logical.specs.declared.condition.Condition.{Condition}
-use Rattle.logical.specs.declared.expr.Expr.{Expr}
-use Rattle.logical.specs.declared.expr.Expr.TheVariants.{Get, Select, Join, LeftJoin}
-use Rattle.logical.specs.Columns.{has, rising}
-use Rattle.logical.specs.Conditions.{all_classes}
-use Rattle.logical.specs.Expressions.{columns_of, use_columns, get_columns, subqueries_pass}
-use Rattle.logical.specs.Classes.{class_columns}
-use Rattle.logical.specs.ConjunctOrder.{in_order}
+use Rattle.algebra.specs.declared.condition.Condition.{Condition}
+use Rattle.algebra.specs.declared.expr.Expr.{Expr}
+use Rattle.algebra.specs.declared.expr.Expr.TheVariants.{Get, Select, Join, LeftJoin}
+use Rattle.algebra.specs.Columns.{has, rising}
+use Rattle.algebra.specs.Conditions.{all_classes}
+use Rattle.algebra.specs.Expressions.{columns_of, use_columns, get_columns, subqueries_pass}
+use Rattle.algebra.specs.Classes.{class_columns}
+use Rattle.algebra.specs.ConjunctOrder.{in_order}
 use Rattle.logical.specs.Frames.{CondLines, AllLines, FromFrame, BlockFrame, cond_frame, from_frame, block_frame, join_frame, on_lines, all_frames, alone, numbered, item_number, where_lines, group_lines, keep_lines, distinct_lines, last}
-use Rattle.logical.proofs.ConditionNames.{classes-Compare, classes-IsNull, classes-Not, classes-Exists, classes-In}
-use Rattle.logical.proofs.Equations.{all_classes_and, all_classes_or}
+use Rattle.algebra.proofs.ConditionNames.{classes-Compare, classes-IsNull, classes-Not, classes-Exists, classes-In}
+use Rattle.algebra.proofs.Equations.{all_classes_and, all_classes_or}
 use Rattle.logical.proofs.FrameEquations.{frame-Compare, frame-IsNull, frame-Not, frame-And, frame-Or, frame-Exists, frame-In, frame-Table, frame-Join, frame-LeftJoin, frame-Comma, frame-Block}
 use Rattle.logical.proofs.Growth.{Grows, grows-none, grows-one, grows-more, grows-longer, kept-columns, top-columns, last-below, last-is}
 use Rattle.logical.proofs.Induction.{Steps, OfFilter, each-cond, each-from, each-block}
-use Rattle.logical.proofs.Loops.{two, all-each}
-use Rattle.logical.proofs.Puts.{never}
-use Rattle.logical.proofs.Sets.{has-rising}
+use Rattle.algebra.proofs.Lists.{two, all-each}
+use Rattle.algebra.proofs.Puts.{never}
+use Rattle.algebra.proofs.Sets.{has-rising}
 
 -- the test passes each class that the lines F add to E
 abbrev pub PassesAdded : (ℕ → Bool) → List Expr → List Expr → Type 0
@@ -42,12 +42,12 @@ PassesAdded p E F = (g : ℕ) → length E ≤ g → g < length F → p g ≡ tr
 pub joined-columns : (ks ls ms ns : List ℕ) → ((c : ℕ) → has ks c ≡ has ms c) → ((c : ℕ) → has ls c ≡ has ns c) → (c : ℕ) → has (rising (ks ++ ls)) c ≡ has (ms ++ ns) c
 joined-columns ks ls ms ns e f c = has-rising c (ks ++ ls) ∙ list_any-append (λ k. k == c) ks ls ∙ two (λ a b. a || b) (e c) (f c) ∙ sym (list_any-append (λ k. k == c) ms ns)
 
-pub table-columns : (x : Option TableUse) (c : ℕ) → has (get_columns x) c ≡ has (numbers_of_use x) c
+pub table-columns : (x : Option TableInstance) (c : ℕ) → has (get_columns x) c ≡ has (numbers_of_use x) c
 table-columns None c = refl
 table-columns (Some t) c = refl
 
--- a column of a table occurrence is one of the query's
-table-used : (uses : List TableUse) (n c : ℕ) → has (numbers_of_use (slice_get uses n)) c ≡ true → list_any (λ t. has (use_columns t) c) uses ≡ true
+-- a column of a table instance is one of the query's
+table-used : (uses : List TableInstance) (n c : ℕ) → has (numbers_of_use (slice_get uses n)) c ≡ true → list_any (λ t. has (use_columns t) c) uses ≡ true
 table-used [] n c h = h
 table-used (t ∷ uses) zero c h = or_left _ _ h
 table-used (t ∷ uses) (suc n) c h = or_right _ _ (table-used uses n c h)
@@ -70,7 +70,7 @@ one-shown f [] single = absurd (never single)
 one-shown f (i ∷ []) single = (f i, refl)
 one-shown f (i ∷ j ∷ items) single = absurd (omega (arith, eqb-true (length (i ∷ j ∷ items)) 1 single))
 
-module _ (uses : List TableUse) where
+module _ (uses : List TableInstance) where
   -- ---- what is known of each
 
   -- of a condition: without a subquery it adds no line, and the classes that it names are those of its lines
@@ -87,7 +87,7 @@ module _ (uses : List TableUse) where
     pub named : (p : ℕ → Bool) → PassesAdded p E f.lines → subqueries_pass p f.conditions ≡ true
     pub conjuncts : (p : ℕ → Bool) → PassesAdded p E f.lines → subqueries_pass p f.conjuncts ≡ true
 
-  -- of a FROM: its last class has its columns, each of a table occurrence
+  -- of a FROM: its last class has its columns, each of a table instance
   pub record FromShape (f : FromFrame) (s : FromScope) (scope : Scope) (E : List Expr) : Type 0 where
     pub numbers : s.numbers ≡ f.numbers
     pub grows : Grows (f.lines scope E) E

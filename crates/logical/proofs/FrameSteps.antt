@@ -3,7 +3,7 @@ use Rattle.std.proofs.Common.{◌≡◌, refl, ap, sym, ◌∙◌, ℕ, List, []
 use Rattle.values.specs.declared.truth.Comparison.{Comparison}
 use Rattle.query.specs.declared.query.Term as named
 use Rattle.query.specs.declared.query.Occurrence.{Occurrence}
-use Rattle.query.specs.declared.query.TableUse.{TableUse}
+use Rattle.query.specs.declared.query.TableInstance.{TableInstance}
 use Rattle.query.specs.declared.query.Cond.{Cond, roll-Cond, out-Cond, roll-out-Cond}
 use Rattle.query.specs.declared.query.Cond.TheVariants as cond
 use Rattle.query.specs.declared.query.Cond.TheOpen.{Cond-F}
@@ -13,11 +13,11 @@ use Rattle.query.specs.declared.query.Block.{Block, out-Block}
 use Rattle.query.specs.declared.query.Item.{Item}
 use Rattle.query.specs.declared.query.Query.{Query}
 use Rattle.query.specs.Bound.{Scope, use_numbers}
-use Rattle.logical.specs.declared.condition.Term.{Term}
-use Rattle.logical.specs.declared.condition.Condition.{Condition}
-use Rattle.logical.specs.declared.condition.Condition.TheVariants.{Compare, IsNull, Not, And, Or, Exists, In}
-use Rattle.logical.specs.declared.expr.Expr.{Expr}
-use Rattle.logical.specs.declared.expr.Expr.TheVariants.{Get, Join, LeftJoin}
+use Rattle.algebra.specs.declared.condition.Term.{Term}
+use Rattle.algebra.specs.declared.condition.Condition.{Condition}
+use Rattle.algebra.specs.declared.condition.Condition.TheVariants.{Compare, IsNull, Not, And, Or, Exists, In}
+use Rattle.algebra.specs.declared.expr.Expr.{Expr}
+use Rattle.algebra.specs.declared.expr.Expr.TheVariants.{Get, Join, LeftJoin}
 use Rattle.logical.specs.Frames.{CondLines, AllLines, FromFrame, cond_frame, from_frame, block_frame, all_frames, alone, numbered, last, first_shown, ordered, on_lines, join_frame, item_number, where_lines, group_lines, keep_lines, distinct_lines, query_frame}
 use Rattle.logical.proofs.FrameEquations.{frame-Compare, frame-IsNull, frame-Not, frame-And, frame-Or, frame-Exists, frame-In, frame-Table, frame-Join, frame-LeftJoin, frame-Comma, frame-Block}
 
@@ -27,20 +27,20 @@ use Rattle.logical.proofs.FrameEquations.{frame-Compare, frame-IsNull, frame-Not
 abbrev pub IsFramed : Condition → List Expr → CondLines → Type 0
 IsFramed x lines framed = record { condition : x ≡ framed.condition; lines : lines ≡ framed.lines }
 
-told : (x y : Condition) (lines more : List Expr) (framed : CondLines) → framed ≡ alone y more → x ≡ y → lines ≡ more → IsFramed x lines framed
-told x y lines more framed is same behind = rw is (record { condition = same; lines = behind })
+reported : (x y : Condition) (lines more : List Expr) (framed : CondLines) → framed ≡ alone y more → x ≡ y → lines ≡ more → IsFramed x lines framed
+reported x y lines more framed is same behind = rw is (record { condition = same; lines = behind })
 
-module _ (uses : List TableUse) (scope : Scope) (lines : List Expr) (c : Cond) where
+module _ (uses : List TableInstance) (scope : Scope) (lines : List Expr) (c : Cond) where
   pub compare_is : (op : Comparison) (a b : named.Term) (left right : Term) → c ≡ cond.Compare op a b → left ≡ numbered scope a → right ≡ numbered scope b → IsFramed (Compare op left right) lines (cond_frame uses c scope lines)
-  compare_is op a b left right is l r = told _ (Compare op (numbered scope a) (numbered scope b)) _ lines _ (ap (λ d. cond_frame uses d scope lines) is ∙ ap (λ m. m scope lines) (frame-Compare uses op a b)) (rw (l, r) refl) refl
+  compare_is op a b left right is l r = reported _ (Compare op (numbered scope a) (numbered scope b)) _ lines _ (ap (λ d. cond_frame uses d scope lines) is ∙ ap (λ m. m scope lines) (frame-Compare uses op a b)) (rw (l, r) refl) refl
 
   pub null_is : (a : named.Term) (tested : Term) → c ≡ cond.IsNull a → tested ≡ numbered scope a → IsFramed (IsNull tested) lines (cond_frame uses c scope lines)
-  null_is a tested is t = told _ (IsNull (numbered scope a)) _ lines _ (ap (λ d. cond_frame uses d scope lines) is ∙ ap (λ m. m scope lines) (frame-IsNull uses a)) (rw t refl) refl
+  null_is a tested is t = reported _ (IsNull (numbered scope a)) _ lines _ (ap (λ d. cond_frame uses d scope lines) is ∙ ap (λ m. m scope lines) (frame-IsNull uses a)) (rw t refl) refl
 
   pub not_is : (part lent : Cond) (x y : Condition) (more : List Expr) → c ≡ cond.Not part → lent ≡ part → x ≡ (cond_frame uses lent scope lines).condition → more ≡ (cond_frame uses lent scope lines).lines → y ≡ x
       → IsFramed (Not y) more (cond_frame uses c scope lines)
   not_is part lent x y more is at framed behind same =
-      told _ (Not (cond_frame uses lent scope lines).condition) _ (cond_frame uses lent scope lines).lines (cond_frame uses c scope lines)
+      reported _ (Not (cond_frame uses lent scope lines).condition) _ (cond_frame uses lent scope lines).lines (cond_frame uses c scope lines)
       (rw at (ap (λ d. cond_frame uses d scope lines) is ∙ ap (λ m. m scope lines) (frame-Not uses part))) (ap Not (same ∙ framed)) behind
 
   pub and_is : (parts lent : List Cond) (xs : List Condition) (more : List Expr) → c ≡ cond.And parts → lent ≡ parts → xs ≡ (all_frames (map (cond_frame uses) lent) scope lines).conditions
@@ -55,19 +55,19 @@ module _ (uses : List TableUse) (scope : Scope) (lines : List Expr) (c : Cond) w
       → more ≡ (all_frames (map (cond_frame uses) lent) scope lines).lines → IsFramed (Or xs) more (cond_frame uses c scope lines)
   or_is parts lent xs more is at framed behind =
       let all : AllLines = all_frames (map (cond_frame uses) lent) scope lines in
-      told _ (Or all.conditions) _ all.lines (cond_frame uses c scope lines) (rw at (ap (λ d. cond_frame uses d scope lines) is ∙ ap (λ m. m scope lines) (frame-Or uses parts))) (ap Or framed) behind
+      reported _ (Or all.conditions) _ all.lines (cond_frame uses c scope lines) (rw at (ap (λ d. cond_frame uses d scope lines) is ∙ ap (λ m. m scope lines) (frame-Or uses parts))) (ap Or framed) behind
 
   pub exists_is : (q lent : Block) (more : List Expr) (n : ℕ) → c ≡ cond.Exists q → lent ≡ q → more ≡ (block_frame uses lent).lines scope lines → n ≡ last more → IsFramed (Exists n) more (cond_frame uses c scope lines)
   exists_is q lent more n is at behind n_is =
       let all : List Expr = (block_frame uses lent).lines scope lines in
-      told _ (Exists (last all)) _ all (cond_frame uses c scope lines) (rw at (ap (λ d. cond_frame uses d scope lines) is ∙ ap (λ m. m scope lines) (frame-Exists uses q))) (ap Exists (n_is ∙ ap last behind)) behind
+      reported _ (Exists (last all)) _ all (cond_frame uses c scope lines) (rw at (ap (λ d. cond_frame uses d scope lines) is ∙ ap (λ m. m scope lines) (frame-Exists uses q))) (ap Exists (n_is ∙ ap last behind)) behind
 
   pub in_is : (a : named.Term) (q lent : Block) (more : List Expr) (left : Term) (n k : ℕ) → c ≡ cond.In a q → lent ≡ q → more ≡ (block_frame uses lent).lines scope lines → left ≡ numbered scope a → n ≡ last more
       → k ≡ first_shown ((block_frame uses lent).shown scope) → IsFramed (In left n k) more (cond_frame uses c scope lines)
   in_is a q lent more left n k is at behind l n_is k_is =
       let all : List Expr = (block_frame uses lent).lines scope lines in
       let shown : ℕ = first_shown ((block_frame uses lent).shown scope) in
-      told _ (In (numbered scope a) (last all) shown) _ all (cond_frame uses c scope lines) (rw at (ap (λ d. cond_frame uses d scope lines) is ∙ ap (λ m. m scope lines) (frame-In uses a q)))
+      reported _ (In (numbered scope a) (last all) shown) _ all (cond_frame uses c scope lines) (rw at (ap (λ d. cond_frame uses d scope lines) is ∙ ap (λ m. m scope lines) (frame-In uses a q)))
       (ap (λ t. In t n k) l ∙ ap (λ m. In (numbered scope a) m k) (n_is ∙ ap last behind) ∙ ap (In (numbered scope a) (last all)) k_is) behind
 
   -- its conjuncts behind others, and the lines then
@@ -102,7 +102,7 @@ module _ (uses : List TableUse) (scope : Scope) (lines : List Expr) (c : Cond) w
 abbrev pub IsSourced : List ℕ → List Expr → Scope → List Expr → FromFrame → Type 0
 IsSourced numbers more scope lines framed = record { numbers : numbers ≡ framed.numbers; lines : more ≡ framed.lines scope lines }
 
-module _ (uses : List TableUse) (scope : Scope) (lines : List Expr) (f : From) where
+module _ (uses : List TableInstance) (scope : Scope) (lines : List Expr) (f : From) where
   pub table_is : (o : Occurrence) (numbers : List ℕ) (more : List Expr) → f ≡ from.Table o → numbers ≡ use_numbers uses o → more ≡ Get o.number ∷ lines → IsSourced numbers more scope lines (from_frame uses f)
   table_is o numbers more is n l = rw (is, frame-Table uses o) (record { numbers = n; lines = l })
 
@@ -138,7 +138,7 @@ module _ (uses : List TableUse) (scope : Scope) (lines : List Expr) (f : From) w
 
 -- ---- blocks
 
-module _ (uses : List TableUse) (scope : Scope) (lines : List Expr) (q : Block) where
+module _ (uses : List TableInstance) (scope : Scope) (lines : List Expr) (q : Block) where
   pub first_shown_is : (numbers lent : List ℕ) (items : List Item) (k : ℕ) → numbers ≡ (from_frame uses (out-Block q).from).numbers → lent ≡ numbers → items ≡ (out-Block q).items
       → k ≡ first_shown (map (item_number (lent ∷ scope)) items) → k ≡ first_shown ((block_frame uses q).shown scope)
   first_shown_is numbers lent items k n at items_are is = is ∙ rw (items_are, at, n, frame-Block uses q) refl
@@ -151,6 +151,6 @@ module _ (uses : List TableUse) (scope : Scope) (lines : List Expr) (q : Block) 
 
 -- ---- queries
 
-pub query_is : (q : Query) (uses : List TableUse) (none lines all : List Expr) → uses ≡ q.tables → none ≡ [] → lines ≡ (block_frame uses q.block).lines [] none → all ≡ reverse lines → all ≡ query_frame q
+pub query_is : (q : Query) (uses : List TableInstance) (none lines all : List Expr) → uses ≡ q.tables → none ≡ [] → lines ≡ (block_frame uses q.block).lines [] none → all ≡ reverse lines → all ≡ query_frame q
 unfolding query_frame
 query_is q uses none lines all at empty is turned = rw (turned, is, empty, at) refl

@@ -1,12 +1,12 @@
 -- Classes keep their meaning while lines are added. The lists stand last first.
 use Rattle.std.proofs.Common.{◌≡◌, refl, ap, sym, ◌∙◌, ℕ, ◌+◌, ◌-◌, ◌<◌, ◌≤◌, List, [], ◌∷◌, ◌++◌, length, length-append, arith}
 use Rattle.std.proofs.lemmas.Bool.{eq-eqb, ne_eqb}
-use Rattle.query.specs.declared.query.TableUse.{TableUse}
+use Rattle.query.specs.declared.query.TableInstance.{TableInstance}
 use Rattle.query.specs.Rows.{Tables}
-use Rattle.logical.specs.declared.expr.Expr.{Expr}
-use Rattle.logical.specs.Bags.{Env}
-use Rattle.logical.specs.Expressions.{means, columns_of}
-use Rattle.logical.specs.Classes.{class_rows, class_columns, classes}
+use Rattle.algebra.specs.declared.expr.Expr.{Expr}
+use Rattle.algebra.specs.Bags.{Env}
+use Rattle.algebra.specs.Expressions.{means, columns_of}
+use Rattle.algebra.specs.Classes.{class_rows, class_columns, classes}
 use Rattle.logical.specs.Frames.{last}
 
 -- the first list is the second with more lines
@@ -40,7 +40,7 @@ pub last-is : (E : List Expr) → last E ≡ length E - 1
 last-is [] = omega arith
 last-is (x ∷ E) = omega arith
 
-module _ (uses : List TableUse) where
+module _ (uses : List TableInstance) where
   later-columns : (M E : List Expr) (g : ℕ) → g < length E → class_columns uses (M ++ E) g ≡ class_columns uses E g
   later-columns [] E g lt = refl
   later-columns (x ∷ M) E g lt = rw (ne_eqb g (length (M ++ E)) (λ is. absurd (omega (arith, is, lt, length-append M E)))) (later-columns M E g lt)

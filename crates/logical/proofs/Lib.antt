@@ -1,6 +1,3 @@
-pub mod BagSums
-pub mod ConditionNames
-pub mod Equations
 pub mod FormedBlocks
 pub mod FormedConds
 pub mod FormedFroms
@@ -19,20 +16,5 @@ pub mod FrameShapes
 pub mod FrameSteps
 pub mod Growth
 pub mod Induction
-pub mod Loops
-pub mod NamedClasses
-pub mod Ordered
-pub mod Places
-pub mod Plain
-pub mod Puts
 pub mod QueryNumbers
-pub mod Same
-pub mod SameBags
-pub mod SameConditions
-pub mod SameGroups
-pub mod Sets
 pub mod Shown
-pub mod TextEquations
-pub mod Truths
-pub mod UniqueRows
-pub mod Values

@@ -1,7 +1,7 @@
 -- The column numbers of each form of FROM, and of a query's items.
 use Rattle.std.proofs.Common.{◌≡◌, ap, sym, ◌∙◌, ℕ, List, [], ◌∷◌, ◌++◌, map}
 use Rattle.query.specs.declared.query.Occurrence.{Occurrence}
-use Rattle.query.specs.declared.query.TableUse.{TableUse}
+use Rattle.query.specs.declared.query.TableInstance.{TableInstance}
 use Rattle.query.specs.declared.query.Cond.{Cond}
 use Rattle.query.specs.declared.query.From.{From}
 use Rattle.query.specs.declared.query.From.TheVariants as from
@@ -11,7 +11,7 @@ use Rattle.query.specs.Bound.{use_numbers}
 use Rattle.logical.specs.Frames.{from_frame, item_number, query_numbers}
 use Rattle.logical.proofs.FrameEquations.{frame-Table, frame-Join, frame-LeftJoin, frame-Comma, frame-Block}
 
-module _ (uses : List TableUse) where
+module _ (uses : List TableInstance) where
   abbrev pub numbers_of : From → List ℕ
   numbers_of f = (from_frame uses f).numbers
 

@@ -1,4 +1,4 @@
--- What a block's last lines show: rows cut to the block's own columns, and one of each.
+-- What a block's last lines show: rows projected to the block's own columns, and one of each.
 use Rattle.std.proofs.Common.{◌≡◌, refl, ap, sym, ◌∙◌, ℕ, Bool, true, false, ◌&&◌, not, nat_lt, ◌==◌, if◌then◌else◌, List, [], ◌∷◌, map, filter}
 use Rattle.std.specs.List.{list_all, AllByRecursion}
 use Rattle.std.specs.declared.cmp.Ordering.{Ordering}
@@ -13,13 +13,15 @@ use Rattle.query.specs.declared.query.Item.{Item}
 use Rattle.query.specs.Rows as rows
 use Rattle.query.specs.Rows.{same_rows}
 use Rattle.query.specs.Bound.{Scope}
-use Rattle.logical.specs.Columns.{has, insert, rising}
-use Rattle.logical.specs.Bags.{Env, lay, same_on, distinct_on}
+use Rattle.algebra.specs.Columns.{has, insert, rising}
+use Rattle.algebra.specs.Bags.{Env, lay, same_on, distinct_on}
 use Rattle.logical.specs.Frames.{item_number, is_own, own_numbers}
-use Rattle.logical.proofs.Sets.{has-rising}
-use Rattle.logical.proofs.Values.{same-refl}
-use Rattle.logical.proofs.Loops.{two, map-map, map-same, distinct_by, distinct-map, distinct-same, all-distinct}
-use Rattle.logical.proofs.Puts.{both, lay-lay}
+use Rattle.algebra.proofs.Sets.{has-rising}
+use Rattle.algebra.proofs.Values.{same-refl}
+use Rattle.algebra.proofs.Lists.{two, map-map, map-same, distinct_by, distinct-map, distinct-same, all-distinct}
+use Rattle.algebra.proofs.Puts.{both, lay-lay}
+use Rattle.algebra.proofs.Ordered.{and-turn, and-twice}
+use Rattle.algebra.proofs.UniqueRows.{distinct_on-by}
 
 -- ---- the same rows
 
@@ -31,25 +33,11 @@ same-first Greater p = refl
 pub same_rows-cons : (v w : Value) (r s : Row) → same_rows (v ∷ r) (w ∷ s) ≡ (same v w && same_rows r s)
 same_rows-cons v w r s = same-first (order v w) (slice_cmp order r s)
 
-pub distinct_on-by : (K : List ℕ) (L : List Env) → distinct_on K L ≡ distinct_by (same_on K) L
-distinct_on-by K [] = refl
-distinct_on-by K (r ∷ L) = ap (λ ys. r ∷ filter (λ s. not (same_on K r s)) ys) (distinct_on-by K L)
-
 pub distinct-by : (L : List Row) → rows.distinct L ≡ distinct_by same_rows L
 distinct-by [] = refl
 distinct-by (r ∷ L) = ap (λ ys. r ∷ filter (λ s. not (same_rows r s)) ys) (distinct-by L)
 
 -- ---- all of a set
-
-and-turn : (a b c : Bool) → (a && (b && c)) ≡ (b && (a && c))
-and-turn true true c = refl
-and-turn true false c = refl
-and-turn false true c = refl
-and-turn false false c = refl
-
-and-twice : (a b : Bool) → (a && b) ≡ (a && (a && b))
-and-twice true b = refl
-and-twice false b = refl
 
 all-insert : (p : ℕ → Bool) (c : ℕ) (ks : List ℕ) → list_all p (insert c ks) ≡ (p c && list_all p ks)
 all-insert p c [] = refl
@@ -77,9 +65,9 @@ module _ {X : Type 0} (scope : Scope) (e : Env) (h : X → Env) (sh : X → Item
   more-has : (i : Item) (items : List Item) (c : ℕ) → has (own_numbers scope items) c ≡ true → has (own_numbers scope (i ∷ items)) c ≡ true
   more-has i items c h = cond_both (is_own i) _ _ (λ ks. has ks c ≡ true) (λ is. or_right (item_number scope i == c) (has (own_numbers scope items) c) h) (λ isnt. h)
 
-  -- an item of a row that was cut to columns that have the block's own
-  cut-reads : (K : ℕ → Bool) (i : Item) (x : X) → P x → Reads scope e h sh P i → (is_own i ≡ true → K (item_number scope i) ≡ true) → lay K (h x) e (item_number scope i) ≡ sh x i
-  cut-reads K i x px reads kept = by (is_own i) refl (K (item_number scope i)) refl
+  -- an item of a row that was projected to columns that have the block's own
+  projected-reads : (K : ℕ → Bool) (i : Item) (x : X) → P x → Reads scope e h sh P i → (is_own i ≡ true → K (item_number scope i) ≡ true) → lay K (h x) e (item_number scope i) ≡ sh x i
+  projected-reads K i x px reads kept = by (is_own i) refl (K (item_number scope i)) refl
     where
       by : (o : Bool) → is_own i ≡ o → (b : Bool) → K (item_number scope i) ≡ b → (if b then h x (item_number scope i) else e (item_number scope i)) ≡ sh x i
       by o is true in_ = reads.own x px
@@ -87,13 +75,13 @@ module _ {X : Type 0} (scope : Scope) (e : Env) (h : X → Env) (sh : X → Item
       by false is false out = reads.around is x px
 
   -- the items of such a row
-  pub cut-shows : (K : ℕ → Bool) (items : List Item) (x : X) → P x → AllByRecursion (Reads scope e h sh P) items → ((c : ℕ) → has (own_numbers scope items) c ≡ true → K c ≡ true)
+  pub projected-shows : (K : ℕ → Bool) (items : List Item) (x : X) → P x → AllByRecursion (Reads scope e h sh P) items → ((c : ℕ) → has (own_numbers scope items) c ≡ true → K c ≡ true)
       → map (lay K (h x) e) (map (item_number scope) items) ≡ map (sh x) items
-  cut-shows K [] x px all kept = refl
-  cut-shows K (i ∷ items) x px all kept =
-      both (cut-reads K i x px all.0 (λ is. kept (item_number scope i) (own-has i items is))) (cut-shows K items x px all.1 (λ c in_. kept c (more-has i items c in_)))
+  projected-shows K [] x px all kept = refl
+  projected-shows K (i ∷ items) x px all kept =
+      both (projected-reads K i x px all.0 (λ is. kept (item_number scope i) (own-has i items is))) (projected-shows K items x px all.1 (λ c in_. kept c (more-has i items c in_)))
 
-  -- whether two rows that were cut read as the same in a column
+  -- whether two rows that were projected read as the same in a column
   abbrev alike : (ℕ → Bool) → X → X → ℕ → Bool
   alike K x y c = same (lay K (h x) e c) (lay K (h y) e c)
 
@@ -109,7 +97,7 @@ module _ {X : Type 0} (scope : Scope) (e : Env) (h : X → Env) (sh : X → Item
 
       by : (o : Bool) → is_own i ≡ o → list_all (alike K x y) (own_numbers scope items) ≡ same_rows (map (sh x) items) (map (sh y) items)
           → list_all (alike K x y) (if o then item_number scope i ∷ own_numbers scope items else own_numbers scope items) ≡ (same (sh x i) (sh y i) && same_rows (map (sh x) items) (map (sh y) items))
-      by true is rest = two (λ a b. a && b) (two same (cut-reads K i x px all.0 own-kept) (cut-reads K i y py all.0 own-kept)) rest
+      by true is rest = two (λ a b. a && b) (two same (projected-reads K i x px all.0 own-kept) (projected-reads K i y py all.0 own-kept)) rest
       by false is rest =
           let one : same (sh x i) (sh y i) ≡ true = two same (sym (all.0.around is x px)) (sym (all.0.around is y py)) ∙ same-refl (e (item_number scope i)) in
           rest ∙ ap (λ b. b && same_rows (map (sh x) items) (map (sh y) items)) (sym one)
@@ -120,27 +108,27 @@ module _ {X : Type 0} (scope : Scope) (e : Env) (h : X → Env) (sh : X → Item
   kept-own : (items : List Item) (c : ℕ) → has (own_numbers scope items) c ≡ true → K_of items c ≡ true
   kept-own items c in_ = has-rising c (own_numbers scope items) ∙ in_
 
-  -- rows that were cut show the items
+  -- rows that were projected show the items
   pub shows : (items : List Item) (xs : List X) → AllByRecursion P xs → AllByRecursion (Reads scope e h sh P) items
       → map (λ r. map r (map (item_number scope) items)) (map (λ r. lay (K_of items) r e) (map h xs)) ≡ map (λ x. map (sh x) items) xs
   shows items xs px all =
       map-map (λ r. map r (map (item_number scope) items)) (λ r. lay (K_of items) r e) (map h xs) ∙ map-map (λ r. map (lay (K_of items) r e) (map (item_number scope) items)) h xs
-      ∙ map-same P _ _ xs (λ x p. cut-shows (K_of items) items x p all (kept-own items)) px
+      ∙ map-same P _ _ xs (λ x p. projected-shows (K_of items) items x p all (kept-own items)) px
 
-  -- one of each that were cut show each row of items once
+  -- one of each that were projected show each row of items once
   pub shows-once : (items : List Item) (xs : List X) → AllByRecursion P xs → AllByRecursion (Reads scope e h sh P) items
       → map (λ r. map r (map (item_number scope) items)) (map (λ r. lay (K_of items) r e) (distinct_on (rising (own_numbers scope items)) (map (λ r. lay (K_of items) r e) (map h xs))))
       ≡ rows.distinct (map (λ x. map (sh x) items) xs)
   shows-once items xs px all =
       let K : List ℕ = rising (own_numbers scope items) in
-      let cut : X → Env = λ x. lay (K_of items) (h x) e in
+      let projected : X → Env = λ x. lay (K_of items) (h x) e in
       let shown : X → Row = λ x. map (sh x) items in
-      let alike : (x y : X) → P x → P y → same_on K (cut x) (cut y) ≡ same_rows (shown x) (shown y) =
-      λ x y p q. all-rising (λ c. same (cut x c) (cut y c)) (own_numbers scope items) ∙ same-own (K_of items) items x y p q all (kept-own items) in
+      let alike : (x y : X) → P x → P y → same_on K (projected x) (projected y) ≡ same_rows (shown x) (shown y) =
+      λ x y p q. all-rising (λ c. same (projected x c) (projected y c)) (own_numbers scope items) ∙ same-own (K_of items) items x y p q all (kept-own items) in
       let firsts : List X = distinct_by (λ x y. same_rows (shown x) (shown y)) xs in
       let read : Env → Row = λ r. map r (map (item_number scope) items) in
       ap (λ L. map read (map (λ r. lay (K_of items) r e) (distinct_on K L))) (map-map (λ r. lay (K_of items) r e) h xs)
-      ∙ ap (λ L. map read (map (λ r. lay (K_of items) r e) L)) (distinct_on-by K (map cut xs) ∙ distinct-map cut (same_on K) xs ∙ ap (map cut) (distinct-same P (λ x y. same_on K (cut x) (cut y)) (λ x y. same_rows (shown x) (shown y)) xs alike px))
-      ∙ map-map read (λ r. lay (K_of items) r e) (map cut firsts) ∙ map-map (λ r. read (lay (K_of items) r e)) cut firsts
-      ∙ map-same P _ shown firsts (λ x p. ap read (lay-lay (K_of items) (h x) e) ∙ cut-shows (K_of items) items x p all (kept-own items)) (all-distinct P _ xs px)
+      ∙ ap (λ L. map read (map (λ r. lay (K_of items) r e) L)) (distinct_on-by K (map projected xs) ∙ distinct-map projected (same_on K) xs ∙ ap (map projected) (distinct-same P (λ x y. same_on K (projected x) (projected y)) (λ x y. same_rows (shown x) (shown y)) xs alike px))
+      ∙ map-map read (λ r. lay (K_of items) r e) (map projected firsts) ∙ map-map (λ r. read (lay (K_of items) r e)) projected firsts
+      ∙ map-same P _ shown firsts (λ x p. ap read (lay-lay (K_of items) (h x) e) ∙ projected-shows (K_of items) items x p all (kept-own items)) (all-distinct P _ xs px)
       ∙ sym (distinct-by (map shown xs) ∙ distinct-map shown same_rows xs)

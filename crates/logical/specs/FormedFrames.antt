@@ -1,14 +1,12 @@
 -- The lines of a bound query's frame are well formed, each over the classes before it.
-use Rattle.std.specs.Prelude.{◌≡◌, ◌-◌, ◌<◌, Bool, true, nat_lt, List, [], ◌∷◌, length, reverse, flat_map}
-use Rattle.query.specs.declared.query.TableUse.{TableUse}
+use Rattle.std.specs.Prelude.{◌≡◌, ◌-◌, ◌<◌, Bool, true, List, [], length, reverse, flat_map}
 use Rattle.query.specs.declared.query.Query.{Query}
 use Rattle.query.specs.Bound.{is_bound}
-use Rattle.logical.specs.declared.expr.Aggregation.{Aggregation}
-use Rattle.logical.specs.declared.expr.Expr.{Expr}
-use Rattle.logical.specs.declared.expr.Expr.TheVariants.{Group}
-use Rattle.logical.specs.Columns.{within}
-use Rattle.logical.specs.Expressions.{classes_pass, is_formed}
-use Rattle.logical.specs.Classes.{class_columns}
+use Rattle.algebra.specs.declared.expr.Aggregation.{Aggregation}
+use Rattle.algebra.specs.declared.expr.Expr.{Expr}
+use Rattle.algebra.specs.declared.expr.Expr.TheVariants.{Group}
+use Rattle.algebra.specs.Columns.{is_subset}
+use Rattle.algebra.specs.Classes.{class_columns, AreFormed}
 use Rattle.logical.specs.Frames.{query_frame, query_numbers}
 
 -- the aggregates of a Group; another line has none
@@ -20,19 +18,14 @@ group_aggregates _ = []
 abbrev pub own_aggregates : Query → List Aggregation
 own_aggregates q = flat_map group_aggregates (query_frame q)
 
--- each line names earlier classes alone, and is well formed over their columns; the lines stand last first
-abbrev pub AreFormed : List TableUse → List Aggregation → List Expr → Type 0
-AreFormed uses own [] = Unit {0}
-AreFormed uses own (x ∷ E) = (classes_pass (λ g. nat_lt g (length E)) x ≡ true) × (is_formed uses own (class_columns uses E) x ≡ true) × AreFormed uses own E
-
 -- whether all that a query shows is among the columns of its frame's last class
-abbrev pub shown_within : Query → Bool
-shown_within q = within (query_numbers q) (class_columns q.tables (reverse (query_frame q)) (length (query_frame q) - 1))
+abbrev pub shown_subset : Query → Bool
+shown_subset q = is_subset (query_numbers q) (class_columns q.tables (reverse (query_frame q)) (length (query_frame q) - 1))
 
 -- the frame has a line, each line is well formed, and the last class has the columns that the query shows
 pub record FrameFormed (q : Query) : Type 0 where
   pub lines : AreFormed q.tables (own_aggregates q) (reverse (query_frame q))
-  pub shown : shown_within q ≡ true
+  pub shown : shown_subset q ≡ true
   pub some : 0 < length (query_frame q)
 
 -- so it is for each bound query

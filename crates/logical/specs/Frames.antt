@@ -10,7 +10,7 @@ use Rattle.query.specs.declared.query.Aggregate.TheVariants as by
 use Rattle.query.specs.declared.query.Item.{Item}
 use Rattle.query.specs.declared.query.Item.TheVariants as item
 use Rattle.query.specs.declared.query.Occurrence.{Occurrence}
-use Rattle.query.specs.declared.query.TableUse.{TableUse}
+use Rattle.query.specs.declared.query.TableInstance.{TableInstance}
 use Rattle.query.specs.declared.query.Cond.{Cond}
 use Rattle.query.specs.declared.query.From.{From}
 use Rattle.query.specs.declared.query.Block.{Block}
@@ -20,17 +20,17 @@ use Rattle.query.specs.declared.query.Cond.TheFolds.{fold-Cond, fold-From, fold-
 use Rattle.query.specs.Rows.{Tables, IsFitting, count}
 use Rattle.query.specs.Meaning.{often}
 use Rattle.query.specs.Bound.{is_bound, Scope, number, number_at, use_numbers}
-use Rattle.logical.specs.declared.condition.Term.{Term}
-use Rattle.logical.specs.declared.condition.Term.TheVariants as term
-use Rattle.logical.specs.declared.condition.Condition.{Condition}
-use Rattle.logical.specs.declared.condition.Condition.TheVariants.{Compare, IsNull, Not, And, Or, Exists, In}
-use Rattle.logical.specs.declared.expr.Aggregation.{Aggregation}
-use Rattle.logical.specs.declared.expr.Expr.{Expr}
-use Rattle.logical.specs.declared.expr.Expr.TheVariants.{Get, Select, Join, LeftJoin, Semi, Anti, Keep, Distinct, Group}
-use Rattle.logical.specs.Columns.{rising}
-use Rattle.logical.specs.Bags.{Env}
-use Rattle.logical.specs.Classes.{root_rows}
-use Rattle.logical.specs.ConjunctOrder.{in_order}
+use Rattle.algebra.specs.declared.condition.Term.{Term}
+use Rattle.algebra.specs.declared.condition.Term.TheVariants as term
+use Rattle.algebra.specs.declared.condition.Condition.{Condition}
+use Rattle.algebra.specs.declared.condition.Condition.TheVariants.{Compare, IsNull, Not, And, Or, Exists, In}
+use Rattle.algebra.specs.declared.expr.Aggregation.{Aggregation}
+use Rattle.algebra.specs.declared.expr.Expr.{Expr}
+use Rattle.algebra.specs.declared.expr.Expr.TheVariants.{Get, Select, Join, LeftJoin, Semi, Anti, Keep, Distinct, Group}
+use Rattle.algebra.specs.Columns.{rising}
+use Rattle.algebra.specs.Bags.{Env}
+use Rattle.algebra.specs.Classes.{root_rows}
+use Rattle.algebra.specs.ConjunctOrder.{in_order}
 
 -- ---- lines, the last first
 
@@ -113,12 +113,12 @@ join_lines join o on scope left =
 abbrev pub comma_lines : List Expr → List Expr → List Expr
 comma_lines left lines = Join [] (last left) (last lines) ∷ lines
 
-abbrev pub join_frame : (List Condition → ℕ → ℕ → Expr) → List TableUse → FromFrame → Occurrence → CondFrame → FromFrame
+abbrev pub join_frame : (List Condition → ℕ → ℕ → Expr) → List TableInstance → FromFrame → Occurrence → CondFrame → FromFrame
 join_frame join uses f o on =
     let numbers = f.numbers ++ use_numbers uses o in
     record { numbers = numbers; lines = λ scope lines. join_lines join o on (numbers ∷ scope) (f.lines scope lines) }
 
-abbrev pub from_frame_layer : List TableUse → From-F CondFrame FromFrame BlockFrame → FromFrame
+abbrev pub from_frame_layer : List TableInstance → From-F CondFrame FromFrame BlockFrame → FromFrame
 from_frame_layer uses (From-F.Table o) = record { numbers = use_numbers uses o; lines = λ scope lines. Get o.number ∷ lines }
 from_frame_layer uses (From-F.Join f o on) = join_frame Join uses f o on
 from_frame_layer uses (From-F.LeftJoin f o on) = join_frame LeftJoin uses f o on
@@ -194,17 +194,17 @@ block_frame_layer q =
 
 -- ---- the whole
 
-unfoldable pub cond_frame : List TableUse → Cond → CondFrame
+unfoldable pub cond_frame : List TableInstance → Cond → CondFrame
 cond_frame uses = fold-Cond CondFrame FromFrame BlockFrame cond_frame_layer (from_frame_layer uses) block_frame_layer
 
-unfoldable pub from_frame : List TableUse → From → FromFrame
+unfoldable pub from_frame : List TableInstance → From → FromFrame
 from_frame uses = fold-From CondFrame FromFrame BlockFrame cond_frame_layer (from_frame_layer uses) block_frame_layer
 
 -- what the ON of a join becomes behind the lines of its left side and its table
-abbrev pub on_lines : List TableUse → List ℕ → Occurrence → Cond → Scope → List Expr → CondLines
+abbrev pub on_lines : List TableInstance → List ℕ → Occurrence → Cond → Scope → List Expr → CondLines
 on_lines uses numbers o on scope left = cond_frame uses on ((numbers ++ use_numbers uses o) ∷ scope) (Get o.number ∷ left)
 
-unfoldable pub block_frame : List TableUse → Block → BlockFrame
+unfoldable pub block_frame : List TableInstance → Block → BlockFrame
 block_frame uses = fold-Block CondFrame FromFrame BlockFrame cond_frame_layer (from_frame_layer uses) block_frame_layer
 
 -- the frame of a query
@@ -223,15 +223,15 @@ is_framed x = true
 
 -- ---- what it means
 
--- each table occurrence has as many columns as its table
-abbrev pub AreOver : Tables → List TableUse → Type 0
+-- each table instance has as many columns as its table
+abbrev pub AreOver : Tables → List TableInstance → Type 0
 AreOver D uses = AllByRecursion (λ t. length t.entry.columns ≡ D.width t.table) uses
 
 -- the query's columns of rows
 abbrev pub query_shown : Query → List Env → List Row
 query_shown q rows = map (λ r. map r (query_numbers q)) rows
 
--- the rows of the class that the last line founds, cut to the query's columns, are those that answer the query: in every
+-- the rows of the class that the last line founds, projected to the query's columns, are those that answer the query: in every
 -- database with the query's tables and every environment, each as often
 abbrev pub FrameMeans : Query → List Expr → Type 0
 FrameMeans q lines = (D : Tables) → IsFitting D → AreOver D q.tables → (e : Env) (r : Row) → count r (query_shown q (root_rows q.tables D lines e)) ≡ often q.block D [] r

@@ -6,12 +6,10 @@ ghost use Rattle.query.specs.Bound.{is_bound, use_numbers};
 ghost use Rattle.logical.specs.Frames as spec;
 ghost use Rattle.logical.specs.Lent.{scope_of};
 
-use crate::columns::Columns;
-use crate::condition::{Condition, Conjuncts, Term};
-use crate::expr::{Aggregation, Expr};
 use crate::lines::Lines;
 use crate::scope::{Scope, number_at, use_numbers};
-use query::{Aggregate, Block, Cond, From, Item, Occurrence, Query, TableUse};
+use algebra::{Aggregation, Columns, Condition, Conjuncts, Expr, Term};
+use query::{Aggregate, Block, Cond, From, Item, Occurrence, Query, TableInstance};
 use std::alloc::{AllocError, Global};
 use values::{Boxed, Items};
 
@@ -116,7 +114,7 @@ fn first_number(scope: &Scope<'_>, items: &[Item]) -> usize
 #[cycle(frames)]
 fn condition(
     alloc: Global,
-    uses: &[TableUse],
+    uses: &[TableInstance],
     cond: &Cond,
     scope: &Scope<'_>,
     lines: &mut Lines,
@@ -159,7 +157,7 @@ fn condition(
 #[cycle(frames)]
 fn conditions(
     alloc: Global,
-    uses: &[TableUse],
+    uses: &[TableInstance],
     conds: &[Cond],
     scope: &Scope<'_>,
     lines: &mut Lines,
@@ -178,7 +176,7 @@ fn conditions(
 #[cycle(frames)]
 fn add_conjuncts(
     alloc: Global,
-    uses: &[TableUse],
+    uses: &[TableInstance],
     cond: &Cond,
     scope: &Scope<'_>,
     lines: &mut Lines,
@@ -206,7 +204,7 @@ fn add_conjuncts(
 #[cycle(frames)]
 fn conjuncts(
     alloc: Global,
-    uses: &[TableUse],
+    uses: &[TableInstance],
     cond: &Cond,
     scope: &Scope<'_>,
     lines: &mut Lines,
@@ -233,7 +231,7 @@ struct JoinSides {
 #[cycle(frames)]
 fn join_sides(
     alloc: Global,
-    uses: &[TableUse],
+    uses: &[TableInstance],
     left_numbers: Vec<usize>,
     occurrence: Occurrence,
     on: &Cond,
@@ -265,7 +263,7 @@ fn join_sides(
 #[cycle(frames)]
 fn add_from(
     alloc: Global,
-    uses: &[TableUse],
+    uses: &[TableInstance],
     from: &From,
     outer: &Scope<'_>,
     lines: &mut Lines,
@@ -307,7 +305,7 @@ fn add_from(
 #[cycle(frames)]
 fn add_filter(
     alloc: Global,
-    uses: &[TableUse],
+    uses: &[TableInstance],
     filter: &Option<Boxed<Cond>>,
     scope: &Scope<'_>,
     lines: &mut Lines,
@@ -363,7 +361,7 @@ fn add_end(
 #[cycle(frames)]
 fn add_block(
     alloc: Global,
-    uses: &[TableUse],
+    uses: &[TableInstance],
     block: &Block,
     outer: &Scope<'_>,
     lines: &mut Lines,

@@ -3,7 +3,7 @@
 ghost use Rattle.std.specs.Prelude.{◌≡◌, ◌∷◌, [], reverse, OnOk};
 ghost use Rattle.logical.specs.Frames as spec;
 
-use crate::expr::Expr;
+use algebra::Expr;
 use std::alloc::{AllocError, Global};
 use std::marker::Model;
 use values::Items;
@@ -16,11 +16,11 @@ pub struct Lines {
 
 impl Model for Lines {
     ghost use Rattle.std.specs.Prelude.{List, reverse};
-    ghost use Rattle.logical.specs.declared.expr.Expr.{Expr};
+    ghost use Rattle.algebra.specs.declared.expr.Expr.{Expr};
 
     ghost Value = { List Expr };
 
-    ghost use Rattle.logical.specs.contracts.expr.Expr as e;
+    ghost use Rattle.algebra.specs.contracts.expr.Expr as e;
     ghost use Rattle.std.specs.Coded.{codes};
 
     ghost coded = { Prim.hlevel (codes, e.the_row.coded) };

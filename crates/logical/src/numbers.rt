@@ -6,7 +6,7 @@ ghost use Rattle.logical.specs.Lent.{scope_of};
 
 use crate::frames::item_number;
 use crate::scope::{Scope, use_numbers};
-use query::{From, Item, Query, TableUse};
+use query::{From, Item, Query, TableInstance};
 use std::alloc::{AllocError, Global};
 
 fn append(mut left: Vec<usize>, right: Vec<usize>) -> Result<Vec<usize>, AllocError>
@@ -17,7 +17,7 @@ fn append(mut left: Vec<usize>, right: Vec<usize>) -> Result<Vec<usize>, AllocEr
 }
 
 /// The column numbers of a FROM's rows.
-fn from_numbers(alloc: Global, uses: &[TableUse], from: &From) -> Result<Vec<usize>, AllocError>
+fn from_numbers(alloc: Global, uses: &[TableInstance], from: &From) -> Result<Vec<usize>, AllocError>
     ensures { IfOk result (λ numbers. numbers.items ≡ (spec.from_frame uses.now from.now).numbers) }
 {
     match from {

@@ -4,7 +4,7 @@ ghost use Rattle.std.specs.Prelude.{◌≡◌, [], slice_index_or, IfOk};
 ghost use Rattle.query.specs.Bound as bound;
 ghost use Rattle.logical.specs.Lent.{scope_of};
 
-use query::{Column, Occurrence, TableUse};
+use query::{Column, Occurrence, TableInstance};
 use std::alloc::{AllocError, Global};
 
 /// The numbers of the innermost row's columns, and the scope around them.
@@ -24,10 +24,10 @@ pub fn number_at(numbers: &[usize], place: usize) -> usize
     }
 }
 
-/// The numbers of a table occurrence's columns.
+/// The numbers of a table instance's columns.
 pub fn use_numbers(
     alloc: Global,
-    uses: &[TableUse],
+    uses: &[TableInstance],
     occurrence: Occurrence,
 ) -> Result<Vec<usize>, AllocError>
     ensures { IfOk result (λ numbers. numbers.items ≡ bound.use_numbers uses.now occurrence) }
@@ -36,7 +36,7 @@ pub fn use_numbers(
     let Some(table) = uses.get(occurrence.number) else {
         return Ok(numbers);
     };
-    // No query has columns past the numbers of the machine; it is told as want of memory.
+    // No query has columns past the numbers of the machine; it is reported as out of memory.
     for place in 0..table.entry.columns.len() {
         numbers.push(table.first_column.checked_add(place).ok_or(AllocError)?)?;
     }

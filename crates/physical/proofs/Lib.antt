@@ -2,6 +2,5 @@ pub mod ClosureSorts
 pub mod Delivered
 pub mod Deliveries
 pub mod OrderedLists
-pub mod OrderLoops
 pub mod SortedRows
 pub mod Sorting

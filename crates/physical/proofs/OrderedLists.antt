@@ -5,12 +5,12 @@ use Rattle.std.specs.Ordering.{is_gt}
 use Rattle.std.specs.Cmp.{IsTotalOrder}
 use Rattle.std.specs.List.{AllByRecursion}
 use Rattle.std.proofs.lemmas.Cmp.{tied_itself}
-use Rattle.logical.specs.Bags.{Env, same_on, distinct_on}
-use Rattle.logical.proofs.Loops.{all-map, all-filter, all-each}
+use Rattle.algebra.specs.Bags.{Env, same_on, distinct_on}
+use Rattle.algebra.proofs.Lists.{all-map, all-filter, all-each}
 use Rattle.physical.proofs.Sorting.{Precedes, Ascends, all-mapped}
 use Rattle.query.proofs.Lists.{all-append}
 
--- an order that tells no elements apart
+-- an order that distinguishes no elements
 pub ascends-any : {X : Type 0} (cmp : X → X → Ordering) → ((x y : X) → is_gt (cmp x y) ≡ false) → (xs : List X) → Ascends cmp xs
 ascends-any cmp h [] = tt
 ascends-any cmp h (x ∷ xs) = (all-each _ (h x) xs, ascends-any cmp h xs)
@@ -21,7 +21,7 @@ pub ascends-map : {X Y : Type 0} (cmp : X → X → Ordering) (by : Y → Y → 
 ascends-map cmp by g h [] up = tt
 ascends-map cmp by g h (x ∷ xs) up = (all-map _ _ g xs (λ y k. h x y k) up.0, ascends-map cmp by g h xs up.1)
 
--- an order that tells fewer elements apart
+-- an order that distinguishes fewer elements
 pub ascends-weaker : {X : Type 0} (cmp by : X → X → Ordering) → ((x y : X) → is_gt (cmp x y) ≡ false → is_gt (by x y) ≡ false) → (xs : List X) → Ascends cmp xs → Ascends by xs
 ascends-weaker cmp by h [] up = tt
 ascends-weaker cmp by h (x ∷ xs) up = (all-mapped _ _ (λ y k. h x y k) xs up.0, ascends-weaker cmp by h xs up.1)
@@ -49,7 +49,7 @@ ascends-append : {X : Type 0} (cmp : X → X → Ordering) (xs ys : List X) → 
 ascends-append cmp [] ys up low rest = rest
 ascends-append cmp (x ∷ xs) ys up low rest = (all-append _ xs ys up.0 low.0, ascends-append cmp xs ys up.1 low.1 rest)
 
--- the order doesn't tell the elements apart
+-- the order doesn't distinguish the elements
 pub record Alike {X : Type 0} (cmp : X → X → Ordering) (x y : X) : Type 0 where
   pub before : (z : X) → cmp x z ≡ cmp y z
   pub behind : (z : X) → cmp z x ≡ cmp z y

@@ -6,7 +6,7 @@ use Rattle.std.specs.Cmp.{IsTotalOrder}
 use Rattle.std.proofs.lemmas.Cmp.{on_total, then_total, back_total}
 use Rattle.values.specs.Order.{order}
 use Rattle.query.proofs.Counting.{order-total}
-use Rattle.logical.specs.Bags.{Env, Bag, total, SameRows, SameBag}
+use Rattle.algebra.specs.Bags.{Env, Bag, total, SameRows, SameBag}
 use Rattle.physical.specs.declared.plan.OrderKey.{OrderKey}
 use Rattle.physical.specs.Sorts.{put_sorted, sorted, key_order, keys_order}
 

@@ -1,3 +1,3 @@
 pub mod Orders
-pub mod Plays
+pub mod Outputs
 pub mod Sorts

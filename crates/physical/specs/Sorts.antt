@@ -5,7 +5,7 @@ use Rattle.std.specs.declared.cmp.Ordering.{Ordering}
 use Rattle.std.specs.declared.cmp.Ordering.TheVariants.{Equal}
 use Rattle.std.specs.Ordering.{is_gt, on, then_cmp, flip_args}
 use Rattle.values.specs.Order.{order}
-use Rattle.logical.specs.Bags.{Env}
+use Rattle.algebra.specs.Bags.{Env}
 use Rattle.physical.specs.declared.plan.OrderKey.{OrderKey}
 
 -- the order of the rows' values in the key's column, turned round if it descends

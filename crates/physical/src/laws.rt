@@ -2,7 +2,7 @@
 
 ghost use Rattle.physical.specs.Orders.{PlansDeliver};
 
-/// The rows that a plan plays stand in the order that it delivers, in every database and environment.
+/// The rows that a plan produces stand in the order that it delivers, in every database and environment.
 pub fn plans_deliver()
     ensures { PlansDeliver }
 {}

@@ -1,6 +1,6 @@
-//! Plans of physical operators: what they play, and in which order.
+//! Plans of physical operators: what they produce, and in which order.
 //!
-//! What a plan plays is a list of rows in each environment (specs/Plays), and the order that it delivers is one of columns
+//! What a plan produces is a list of rows in each environment (specs/Outputs), and the order that it delivers is one of columns
 //! (specs/Orders).
 #![tactic(auto)]
 
@@ -8,5 +8,5 @@ pub mod laws;
 pub mod order;
 pub mod plan;
 
-pub use order::{delivers, query_order};
-pub use plan::{JoinKind, Node, OrderKey, Plan};
+pub use order::delivers;
+pub use plan::{JoinKind, Node, Operator, OrderKey, Plan};

@@ -1,42 +1,57 @@
 //! The order that a plan delivers.
 
 ghost use Rattle.std.specs.Prelude.{◌≡◌, not, map, IfOk};
-ghost use Rattle.logical.specs.Columns.{has};
+ghost use Rattle.algebra.specs.Columns.{has};
 ghost use Rattle.physical.specs.Orders as spec;
-ghost use Rattle.physical.specs.Plays as plays;
+ghost use Rattle.physical.specs.Outputs as outputs;
 
-use crate::plan::{Node, OrderKey, Plan};
-use logical::{Columns, query_numbers};
-use query::{Query, SortKey, TableUse};
+use crate::plan::{Node, Operator, OrderKey, Plan};
+use algebra::Columns;
+use query::{Query, TableInstance};
 use std::alloc::{AllocError, Global};
 
 // ---- columns
 
 /// The columns of a plan's rows.
 #[cycle(columns)]
-fn columns(alloc: Global, uses: &[TableUse], plan: &Plan) -> Result<Columns, AllocError>
+fn columns(alloc: Global, uses: &[TableInstance], plan: &Plan) -> Result<Columns, AllocError>
     ensures { IfOk result (λ columns. columns ≡ (spec.delivered uses.now plan.now).columns) }
 {
     let inputs = plan.inputs.as_slice();
     match &plan.node {
-        Node::Scan { occurrence, .. } => Columns::of_occurrence(alloc, uses, *occurrence),
-        Node::Filter { .. } => first_columns(alloc, uses, inputs),
-        Node::FilterSubqueries { .. } => first_columns(alloc, uses, inputs),
-        Node::Cut { columns, .. } => columns.copy(alloc),
-        Node::Loop { .. } => {
+        Node::Implements { operator, .. } => operator_columns(alloc, uses, operator, inputs),
+        Node::Sort { .. } => first_columns(alloc, uses, inputs),
+    }
+}
+
+/// The columns of an operator's rows.
+#[cycle(columns)]
+fn operator_columns(
+    alloc: Global,
+    uses: &[TableInstance],
+    operator: &Operator,
+    inputs: &[Plan],
+) -> Result<Columns, AllocError>
+    ensures { IfOk result (λ columns. columns ≡ outputs.operator_columns uses.now operator.now (map (λ p. (spec.delivered uses.now p).columns) inputs.now)) }
+{
+    match operator {
+        Operator::Scan { occurrence } => Columns::of_occurrence(alloc, uses, *occurrence),
+        Operator::Filter { .. } => first_columns(alloc, uses, inputs),
+        Operator::FilterSubqueries { .. } => first_columns(alloc, uses, inputs),
+        Operator::Projection { columns } => columns.copy(alloc),
+        Operator::NestedLoopJoin { .. } => {
             let left = first_columns(alloc, uses, inputs)?;
             left.union(alloc, &second_columns(alloc, uses, inputs)?)
         }
-        Node::Sort { .. } => first_columns(alloc, uses, inputs),
-        Node::HashGroup { keys, added, .. } => Columns::of_groups(alloc, keys, added.as_slice()),
-        Node::HashDistinct { .. } => first_columns(alloc, uses, inputs),
+        Operator::HashGroup { keys, added } => Columns::of_groups(alloc, keys, added.as_slice()),
+        Operator::HashDistinct => first_columns(alloc, uses, inputs),
     }
 }
 
 /// The columns of the first input.
 #[cycle(columns)]
-fn first_columns(alloc: Global, uses: &[TableUse], inputs: &[Plan]) -> Result<Columns, AllocError>
-    ensures { IfOk result (λ columns. columns ≡ plays.first_columns (map (λ p. (spec.delivered uses.now p).columns) inputs.now)) }
+fn first_columns(alloc: Global, uses: &[TableInstance], inputs: &[Plan]) -> Result<Columns, AllocError>
+    ensures { IfOk result (λ columns. columns ≡ outputs.first_columns (map (λ p. (spec.delivered uses.now p).columns) inputs.now)) }
 {
     match inputs.first() {
         Some(plan) => columns(alloc, uses, plan),
@@ -46,8 +61,8 @@ fn first_columns(alloc: Global, uses: &[TableUse], inputs: &[Plan]) -> Result<Co
 
 /// The columns of the second input.
 #[cycle(columns)]
-fn second_columns(alloc: Global, uses: &[TableUse], inputs: &[Plan]) -> Result<Columns, AllocError>
-    ensures { IfOk result (λ columns. columns ≡ plays.second_columns (map (λ p. (spec.delivered uses.now p).columns) inputs.now)) }
+fn second_columns(alloc: Global, uses: &[TableInstance], inputs: &[Plan]) -> Result<Columns, AllocError>
+    ensures { IfOk result (λ columns. columns ≡ outputs.second_columns (map (λ p. (spec.delivered uses.now p).columns) inputs.now)) }
 {
     match inputs.get(1) {
         Some(plan) => columns(alloc, uses, plan),
@@ -89,32 +104,46 @@ fn shown_front(
     Ok(keys)
 }
 
-/// The order that a plan with these table occurrences delivers.
+/// The order that a plan with these table instances delivers.
 #[cycle(orders)]
-fn order(alloc: Global, uses: &[TableUse], plan: &Plan) -> Result<Vec<OrderKey>, AllocError>
+fn order(alloc: Global, uses: &[TableInstance], plan: &Plan) -> Result<Vec<OrderKey>, AllocError>
     ensures { IfOk result (λ order. order.items ≡ (spec.delivered uses.now plan.now).order) }
 {
     let inputs = plan.inputs.as_slice();
     match &plan.node {
-        Node::Scan { .. } => Ok(Vec::new(alloc)),
-        Node::Filter { .. } => first_order(alloc, uses, inputs),
-        Node::FilterSubqueries { .. } => first_order(alloc, uses, inputs),
-        Node::Cut { columns, .. } => {
-            let order = first_order(alloc, uses, inputs)?;
-            front(alloc, order.as_slice(), columns)
-        }
-        Node::Loop { .. } => {
-            let order = first_order(alloc, uses, inputs)?;
-            let right = second_columns(alloc, uses, inputs)?;
-            shown_front(alloc, order.as_slice(), &right)
-        }
+        Node::Implements { operator, .. } => operator_order(alloc, uses, operator, inputs),
         Node::Sort { keys } => {
             let mut order = Vec::new(alloc);
             order.extend_from_slice(keys.as_slice())?;
             Ok(order)
         }
-        Node::HashGroup { .. } => Ok(Vec::new(alloc)),
-        Node::HashDistinct { .. } => {
+    }
+}
+
+/// The order that an operator delivers.
+#[cycle(orders)]
+fn operator_order(
+    alloc: Global,
+    uses: &[TableInstance],
+    operator: &Operator,
+    inputs: &[Plan],
+) -> Result<Vec<OrderKey>, AllocError>
+    ensures { IfOk result (λ order. order.items ≡ spec.operator_order operator.now (map (spec.delivered uses.now) inputs.now)) }
+{
+    match operator {
+        Operator::Scan { .. } | Operator::HashGroup { .. } => Ok(Vec::new(alloc)),
+        Operator::Filter { .. } => first_order(alloc, uses, inputs),
+        Operator::FilterSubqueries { .. } => first_order(alloc, uses, inputs),
+        Operator::Projection { columns } => {
+            let order = first_order(alloc, uses, inputs)?;
+            front(alloc, order.as_slice(), columns)
+        }
+        Operator::NestedLoopJoin { .. } => {
+            let order = first_order(alloc, uses, inputs)?;
+            let right = second_columns(alloc, uses, inputs)?;
+            shown_front(alloc, order.as_slice(), &right)
+        }
+        Operator::HashDistinct => {
             let order = first_order(alloc, uses, inputs)?;
             let columns = first_columns(alloc, uses, inputs)?;
             front(alloc, order.as_slice(), &columns)
@@ -126,7 +155,7 @@ fn order(alloc: Global, uses: &[TableUse], plan: &Plan) -> Result<Vec<OrderKey>,
 #[cycle(orders)]
 fn first_order(
     alloc: Global,
-    uses: &[TableUse],
+    uses: &[TableInstance],
     inputs: &[Plan],
 ) -> Result<Vec<OrderKey>, AllocError>
     ensures { IfOk result (λ order. order.items ≡ spec.first_order (map (spec.delivered uses.now) inputs.now)) }
@@ -142,34 +171,4 @@ pub fn delivers(alloc: Global, query: &Query, plan: &Plan) -> Result<Vec<OrderKe
     ensures { IfOk result (λ order. order.items ≡ (spec.delivered query.now.tables plan.now).order) }
 {
     order(alloc, query.tables.as_slice(), plan)
-}
-
-// ---- ORDER BY
-
-/// The order by the items' columns that ORDER BY asks for.
-fn ordered_columns(
-    alloc: Global,
-    numbers: &[usize],
-    keys: &[SortKey],
-) -> Result<Vec<OrderKey>, AllocError>
-    ensures { IfOk result (λ order. order.items ≡ spec.ordered_columns numbers.now keys.now) }
-{
-    let mut order = Vec::new(alloc);
-    for key in keys {
-        if let Some(column) = numbers.get(key.item) {
-            order.push(OrderKey {
-                column: *column,
-                descending: key.descending,
-            })?;
-        }
-    }
-    Ok(order)
-}
-
-/// The order by columns that the query's ORDER BY asks for.
-pub fn query_order(alloc: Global, query: &Query) -> Result<Vec<OrderKey>, AllocError>
-    ensures { IfOk result (λ order. order.items ≡ spec.query_order query.now) }
-{
-    let numbers = query_numbers(alloc, query)?;
-    ordered_columns(alloc, numbers.as_slice(), query.order.as_slice())
 }

@@ -1,6 +1,7 @@
 //! What a plan is.
 
-use logical::{Aggregation, Columns, Conjuncts};
+use algebra::{Aggregation, Columns, Conjuncts, LineId};
+use query::{ColumnId, OccurrenceId};
 use values::Items;
 
 /// Whether a join pads the left rows that have no match.
@@ -13,54 +14,55 @@ pub enum JoinKind {
 /// A column by which rows are ordered.
 #[derive(Clone, Copy, PartialEq, Eq)]
 pub struct OrderKey {
-    pub column: usize,
+    pub column: ColumnId,
     pub descending: bool,
 }
 
-/// An operator of a plan. Its `line` is the line of the derivation whose expression it computes; a sort computes what its
-/// input does.
+/// How an expression's rows are computed from those of the inputs.
 #[derive(Drop)]
-pub enum Node {
-    /// The rows of a table occurrence, in the order of the table.
+pub enum Operator {
+    /// The rows of a table instance, in the order of the table.
     Scan {
-        line: usize,
-        occurrence: usize,
+        occurrence: OccurrenceId,
     },
     /// The input's rows that make all conjuncts true, which have no subquery.
     Filter {
-        line: usize,
         conjuncts: Conjuncts,
     },
     /// The first input's rows that make all conjuncts true. The other inputs are the classes that the conjuncts name, in
-    /// rising order, and are played at each row.
+    /// rising order, and are run at each row.
     FilterSubqueries {
-        line: usize,
         conjuncts: Conjuncts,
     },
-    /// The input's rows cut to the columns.
-    Cut {
-        line: usize,
+    /// The input's rows with these columns alone.
+    Projection {
         columns: Columns,
     },
     /// For each left row in order the right rows in order with which it makes all conjuncts true.
-    Loop {
-        line: usize,
+    NestedLoopJoin {
         kind: JoinKind,
         conjuncts: Conjuncts,
     },
-    /// The input's rows by the keys, those that tie as they stood.
-    Sort {
-        keys: Items<OrderKey>,
-    },
     /// One row for each different key, as first seen, with its aggregates.
     HashGroup {
-        line: usize,
         keys: Columns,
         added: Items<Aggregation>,
     },
     /// One of each row, as first seen.
-    HashDistinct {
-        line: usize,
+    HashDistinct,
+}
+
+/// A node of a plan.
+#[derive(Drop)]
+pub enum Node {
+    /// An operator that computes the expression of this line of the derivation.
+    Implements {
+        line: LineId,
+        operator: Operator,
+    },
+    /// The enforcer of an order: the input's rows by the keys, those that tie as they stood. It is of its input's class.
+    Sort {
+        keys: Items<OrderKey>,
     },
 }
 

@@ -9,15 +9,16 @@ use Rattle.store.specs.Databases.{Stored}
 use Rattle.store.specs.Devices.{Rose}
 use Rattle.query.specs.declared.query.Query.{Query}
 use Rattle.query.specs.Rows.{tables_of}
-use Rattle.physical.specs.Plays.{answer}
-use Rattle.checker.specs.declared.certificate.Certificate.{Certificate}
-use Rattle.checker.specs.declared.certificate.CheckRefusal.{CheckRefusal}
+use Rattle.derivation.specs.QueryOrders.{answer}
+use Rattle.derivation.specs.declared.certificate.Certificate.{Certificate}
+use Rattle.derivation.specs.declared.certificate.CheckRefusal.{CheckRefusal}
 use Rattle.query.specs.Bound.{IsBoundOver}
-use Rattle.checker.specs.Replay.{Accepted, replayed}
-use Rattle.checker.proofs.Right.{checked}
+use Rattle.derivation.specs.Replay.{replayed}
+use Rattle.checker.specs.Accepted.{Accepted}
+use Rattle.derivation.proofs.Soundness.{checked}
 use Rattle.executor.specs.declared.output.OutputFailed.{OutputFailed}
 use Rattle.executor.specs.AnswerText.{answer_text}
-use Rattle.executor.specs.Execution.{plan_text}
+use Rattle.executor.specs.Execution.{accepted_text}
 use Rattle.pipeline.specs.declared.refusal.Refusal.{Refusal}
 use Rattle.pipeline.specs.declared.refusal.Refusal.TheVariants as refusal
 use Rattle.pipeline.specs.Refusals.{of_check, of_answer}
@@ -51,15 +52,15 @@ if_err_more (Err e) f h = f e h
 pub same_certificate : (q : Query) (V W : Certificate) → replayed q V ≡ Ok V → replayed q V ≡ Ok W → W ≡ V
 same_certificate q V W one other = let e : Ok V ≡ Ok W = sym one ∙ other in cc
 
--- the check of a certificate that replays fails for want of memory alone
+-- the check of a certificate that replays fails only by running out of memory
 pub only_memory : (f : Fault CheckRefusal) (q : Query) (V : Certificate) → Fails f (replayed q V) → replayed q V ≡ Ok V → of_check f ≡ refusal.Memory
 only_memory fault.Memory q V fails ok = refl
 only_memory (fault.Refused r) q V fails ok = let e : Ok V ≡ Err r = sym ok ∙ fails in cc
 
 pub by_plan : (S : Schema) (q : Query) (d : Stored) (V : Certificate) (a : Accepted) (P : List ℕ → Type 0) → d.schema ≡ S → IsBoundOver S q → replayed q V ≡ Ok V
-    → a.query ≡ q → replayed q V ≡ Ok a.certificate → P (plan_text a d) → ByPlan S q d.tables P
+    → a.query ≡ q → replayed q V ≡ Ok a.certificate → P (accepted_text a d) → ByPlan S q d.tables P
 by_plan S q d V a P over bound replays query verdict p =
-    let same : plan_text a d ≡ answer_text q.names (answer q (tables_of S d.tables) V.plan) = rw (over, query, same_certificate q V a.certificate replays verdict) refl in
+    let same : accepted_text a d ≡ answer_text q.names (answer q (tables_of S d.tables) V.plan) = rw (over, query, same_certificate q V a.certificate replays verdict) refl in
     (V, checked S q bound V replays, rw same at p)
 
 -- ---- the answer
@@ -79,7 +80,7 @@ planned schema text inputs S q d P is ready by = (
     query = q;
     asks = record { is_schema = is; is_query = ready.is_query };
     database = d.tables;
-    told = ready.told;
+    reported = ready.reported;
     satisfies = ready.satisfies;
     rows = answer q (tables_of S d.tables) by.0.plan;
     answers = by.1.answers d.tables ready.satisfies;
@@ -98,7 +99,7 @@ meant schema text inputs S q d P is ready by = (
     query = q;
     asks = record { is_schema = is; is_query = ready.is_query };
     database = d.tables;
-    told = ready.told;
+    reported = ready.reported;
     satisfies = ready.satisfies;
     rows = by.0;
     answers = rw (← ready.is_over) by.1;

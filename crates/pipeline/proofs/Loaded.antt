@@ -14,11 +14,11 @@ use Rattle.store.specs.Tables.{records_of}
 use Rattle.store.specs.Databases.{Stored, ReplacesTable, LoadsTable, Loads}
 use Rattle.pipeline.specs.declared.refusal.Refusal.{Refusal}
 use Rattle.pipeline.specs.Refusals.{of_table}
-use Rattle.pipeline.specs.EndToEnd.{Input, FileTells, TablesTold, IsLoadFault, IsDeviceFault, AreQuiet}
+use Rattle.pipeline.specs.EndToEnd.{Input, FileReports, TablesReported, IsLoadFault, IsDeviceFault, AreQuiet}
 
 -- the first so many tables are loaded, the other inputs are as they were, and no call failed
 pub record IsLoaded (S : Schema) (inputs now : List Input) (counts later : List ℕ) (n : ℕ) (D : Database) : Type 0 where
-  pub told : TablesTold S inputs n D
+  pub reported : TablesReported S inputs n D
   pub unread : (k : ℕ) → n ≤ k → get_or now k None ≡ get_or inputs k None
   pub quiet : (k : ℕ) → get_or later k 0 ≡ get_or counts k 0
 
@@ -32,10 +32,10 @@ pub said_there : {R : Type 0} (remaining : R → Input) (tables : List R) (d : R
 said_there remaining tables d n P lt said bytes known =
     said_of (remaining (get_or tables n d)) bytes P (sym (get_or-map remaining tables n d None lt) ∙ known) said
 
--- what a load told of its table's file
-told_there : (S : Schema) (old new : Stored) (n : ℕ) (t : Table) (bytes : List ℕ) (r : Result (Unit {0}) TableFault) → old.schema ≡ S → slice_get S.tables n ≡ Some t
+-- what a load reported of its table's file
+reported_there : (S : Schema) (old new : Stored) (n : ℕ) (t : Table) (bytes : List ℕ) (r : Result (Unit {0}) TableFault) → old.schema ≡ S → slice_get S.tables n ≡ Some t
     → Loads old new n (records_of bytes) r → LoadsTable old new n t (records_of bytes) r
-told_there S old new n t bytes r same at loads =
+reported_there S old new n t bytes r same at loads =
     said_of (slice_get old.schema.tables n) t (λ t. LoadsTable old new n t (records_of bytes) r) (ap (λ (s : Schema). slice_get s.tables n) same ∙ at) loads
 
 -- a count that stays leaves all of them as they were
@@ -50,7 +50,7 @@ pub loaded_more : (S : Schema) (inputs now : List Input) (counts later : List �
     → ((bytes : List ℕ) → get_or now n None ≡ Some bytes → Loads old new n (records_of bytes) (Ok tt))
     → IsLoaded S inputs now counts later n old.tables → IsLoaded S inputs (set now n i) counts (set later n c) (n + 1) new.tables
 loaded_more S inputs now counts later old new n i c lt counted still same replaced loads before = record {
-  told = told;
+  reported = reported;
   unread = λ k le. get_or-set_other now n k i None (λ e. absurd (omega (arith, e, le))) ∙ before.unread k (omega (arith, le));
   quiet = quiet_more counts later n c counted still before.quiet;
 }
@@ -58,16 +58,16 @@ loaded_more S inputs now counts later old new n i c lt counted still same replac
     tables-are : new.tables ≡ set old.tables n replaced.0
     tables-are = ap (λ (s : Stored). s.tables) replaced.1
 
-    here : FileTells S inputs n (Ok (get_or new.tables n []))
+    here : FileReports S inputs n (Ok (get_or new.tables n []))
     here t bytes at input =
-        let told = told_there S old new n t bytes (Ok tt) same at (loads bytes (before.unread n (omega arith) ∙ input)) in
-        let rows : get_or new.tables n [] ≡ told.0 = ap (λ D. get_or D n []) (ap (λ (s : Stored). s.tables) told.2) ∙ get_or-set_same old.tables n told.0 [] lt in
-        rw rows told.1
+        let reported = reported_there S old new n t bytes (Ok tt) same at (loads bytes (before.unread n (omega arith) ∙ input)) in
+        let rows : get_or new.tables n [] ≡ reported.0 = ap (λ D. get_or D n []) (ap (λ (s : Stored). s.tables) reported.2) ∙ get_or-set_same old.tables n reported.0 [] lt in
+        rw rows reported.1
 
-    told : TablesTold S inputs (n + 1) new.tables
-    told k below = elim (cases_eq k n) [
+    reported : TablesReported S inputs (n + 1) new.tables
+    reported k below = elim (cases_eq k n) [
       | inl e ↦ rw e here
-      | inr ne ↦ λ t bytes at input. rw (tables-are, get_or-set_other old.tables n k replaced.0 [] ne) (before.told k (omega (arith, below, ne)) t bytes at input)
+      | inr ne ↦ λ t bytes at input. rw (tables-are, get_or-set_other old.tables n k replaced.0 [] ne) (before.reported k (omega (arith, below, ne)) t bytes at input)
     ]
 
 -- an input whose count stayed has the count that was listed
@@ -82,8 +82,8 @@ load_fails S inputs now counts later old new n faults.Memory refusal same loads 
 load_fails S inputs now counts later old new n faults.Device refusal same loads before is = rw is tt
 load_fails S inputs now counts later old new n (faults.Refused r) refusal same loads before is = rw is (record {
   earlier = old.tables;
-  told = before.told;
-  fault = λ t bytes at input. told_there S old new n t bytes (Err (faults.Refused r)) same at (loads bytes (before.unread n (omega arith) ∙ input));
+  reported = before.reported;
+  fault = λ t bytes at input. reported_there S old new n t bytes (Err (faults.Refused r)) same at (loads bytes (before.unread n (omega arith) ∙ input));
 })
 
 -- the count of the failing input rose
@@ -103,7 +103,7 @@ pub device_quiet : {R : Type 0} (failures : R → ℕ) (S : Schema) (inputs now 
 device_quiet failures S inputs now counts tables d y n D lt before same =
     rw map-set (quiet_more counts (map failures tables) n (failures y) (rw length-map lt) (still_counted failures tables d y n lt same) before.quiet)
 
--- so what a failing load tells of its device holds
+-- so what a failing load reports of its device holds
 pub load_device : (n : ℕ) (fault : TableFault) (refusal : Refusal) (old new : List ℕ) (o : ℕ) → (fault ≡ faults.Device → Rose (get_or old n 0) (get_or new n 0))
     → (fault ≢ faults.Device → AreQuiet old new) → refusal ≡ of_table n fault → IsDeviceFault old new o o refusal
 load_device n faults.Memory refusal old new o rose quiet is = rw is (quiet (λ e. cc e), refl)

@@ -17,7 +17,7 @@ use Rattle.query.specs.Bound.{IsBoundOver}
 use Rattle.pipeline.specs.declared.refusal.Refusal.{Refusal}
 use Rattle.pipeline.specs.declared.refusal.Refusal.TheVariants as refusal
 use Rattle.pipeline.specs.Refusals.{of_scope}
-use Rattle.pipeline.specs.EndToEnd.{Input, IsQuery, IsNoQuery, TablesTold, IsLoadFault, IsPrepared, IsUnprepared, IsDeviceFault}
+use Rattle.pipeline.specs.EndToEnd.{Input, IsQuery, IsNoQuery, TablesReported, IsLoadFault, IsPrepared, IsUnprepared, IsDeviceFault}
 
 -- ---- the query
 
@@ -62,10 +62,10 @@ load_unprepared text S q inputs (refusal.Text r) is h = absurd h
 load_unprepared text S q inputs (refusal.Scope r) is h = absurd h
 load_unprepared text S q inputs (refusal.Check r) is h = absurd h
 
--- a query over a database of the schema, whose tables are all told
-pub prepared : (text : List ℕ) (S : Schema) (q : Query) (inputs : List Input) (n : ℕ) (d : Stored) → IsQuery text S q → d.schema ≡ S → n ≡ length S.tables → TablesTold S inputs n d.tables
+-- a query over a database of the schema, whose tables are all read
+pub prepared : (text : List ℕ) (S : Schema) (q : Query) (inputs : List Input) (n : ℕ) (d : Stored) → IsQuery text S q → d.schema ≡ S → n ≡ length S.tables → TablesReported S inputs n d.tables
     → Satisfies d.schema d.tables → IsPrepared S text inputs q d
-prepared text S q inputs n d is over all told satisfies = record { is_query = is; is_over = over; told = rw (← all) told; satisfies = rw (← over) satisfies }
+prepared text S q inputs n d is over all reported satisfies = record { is_query = is; is_over = over; reported = rw (← all) reported; satisfies = rw (← over) satisfies }
 
 -- a database satisfies its schema
 pub satisfied_by : (S : Schema) (D : Database) (d : Stored) → record { schema = S; tables = D } ≡ d → Satisfies S D → Satisfies d.schema d.tables

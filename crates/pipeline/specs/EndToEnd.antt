@@ -9,15 +9,15 @@ use Rattle.sql_parse.specs.Statements.{ReadsStatement, IsStatementFault}
 use Rattle.store.specs.declared.fault.TableRefusal.{TableRefusal}
 use Rattle.store.specs.Databases.{Stored}
 use Rattle.store.specs.Devices.{Rose}
-use Rattle.store.specs.Tables.{records_of, IsTold}
+use Rattle.store.specs.Tables.{records_of, IsReported}
 use Rattle.query.specs.declared.query.Query.{Query}
 use Rattle.binder.specs.declared.fault.BindRefusal.{BindRefusal}
 use Rattle.binder.specs.Queries.{bound_statement}
 use Rattle.query.specs.Rows.{tables_of}
 use Rattle.query.specs.Answer.{IsAnswer}
-use Rattle.checker.specs.declared.certificate.Certificate.{Certificate}
-use Rattle.physical.specs.Plays.{answer}
-use Rattle.checker.specs.Replay.{IsChecked}
+use Rattle.derivation.specs.declared.certificate.Certificate.{Certificate}
+use Rattle.derivation.specs.QueryOrders.{answer}
+use Rattle.derivation.specs.Replay.{IsChecked}
 use Rattle.executor.specs.AnswerText.{answer_text}
 use Rattle.pipeline.specs.declared.refusal.Refusal.{Refusal}
 use Rattle.pipeline.specs.declared.refusal.Refusal.TheVariants as refusal
@@ -47,20 +47,20 @@ pub record Asks (schema text : List ℕ) (S : Schema) (q : Query) : Type 0 where
 abbrev pub Input : Type 0
 Input = Option (List ℕ)
 
--- as the file of the table with this number, the input tells its rows or its first fault
-abbrev pub FileTells : Schema → List Input → ℕ → Result (List Row) TableRefusal → Type 0
-FileTells S inputs n told = (t : Table) (bytes : List ℕ) → slice_get S.tables n ≡ Some t → slice_index_or inputs n None ≡ Some bytes
-    → IsTold t (records_of bytes) told
+-- as the file of the table with this number, the input gives its rows or its first fault
+abbrev pub FileReports : Schema → List Input → ℕ → Result (List Row) TableRefusal → Type 0
+FileReports S inputs n reported = (t : Table) (bytes : List ℕ) → slice_get S.tables n ≡ Some t → slice_index_or inputs n None ≡ Some bytes
+    → IsReported t (records_of bytes) reported
 
--- the inputs tell the rows of the first so many tables of the database
-abbrev pub TablesTold : Schema → List Input → ℕ → Database → Type 0
-TablesTold S inputs count D = (n : ℕ) → n < count → FileTells S inputs n (Ok (slice_index_or D n []))
+-- the inputs give the rows of the first so many tables of the database
+abbrev pub TablesReported : Schema → List Input → ℕ → Database → Type 0
+TablesReported S inputs count D = (n : ℕ) → n < count → FileReports S inputs n (Ok (slice_index_or D n []))
 
--- the fault is the first of the table's file, and the files of the tables before it tell rows
+-- the fault is the first of the table's file, and the files of the tables before it give rows
 pub record IsTableRefused (S : Schema) (inputs : List Input) (n : ℕ) (r : TableRefusal) : Type 0 where
   pub earlier : Database
-  pub told : TablesTold S inputs n earlier
-  pub fault : FileTells S inputs n (Err r)
+  pub reported : TablesReported S inputs n earlier
+  pub fault : FileReports S inputs n (Err r)
 
 -- why the tables were not loaded
 abbrev pub IsLoadFault : Schema → List Input → Refusal → Type 0
@@ -78,11 +78,11 @@ IsNoQuery text S (refusal.Text r) = IsStatementFault text r
 IsNoQuery text S (refusal.Scope r) = IsUnbound text S r
 IsNoQuery text S _ = ⊥
 
--- the query that the text is over the schema, and the rows that the files tell
+-- the query that the text is over the schema, and the rows that the files give
 pub record IsPrepared (S : Schema) (text : List ℕ) (inputs : List Input) (q : Query) (d : Stored) : Type 0 where
   pub is_query : IsQuery text S q
   pub is_over : d.schema ≡ S
-  pub told : TablesTold S inputs (length S.tables) d.tables
+  pub reported : TablesReported S inputs (length S.tables) d.tables
   pub satisfies : Satisfies S d.tables
 
 -- the text is a query, whose tables were not loaded for this cause
@@ -114,13 +114,13 @@ IsAnswerFault out out' refusal.Memory = out' ≡ out
 IsAnswerFault out out' refusal.Output = Rose out out'
 IsAnswerFault out out' _ = ⊥
 
--- the text of an answer of the query that is asked, over the rows that the files tell
+-- the text of an answer of the query that is asked, over the rows that the files give
 pub record IsAnswerText (schema text : List ℕ) (inputs : List Input) (written : List ℕ) : Type 0 where
   pub S : Schema
   pub query : Query
   pub asks : Asks schema text S query
   pub database : Database
-  pub told : TablesTold S inputs (length S.tables) database
+  pub reported : TablesReported S inputs (length S.tables) database
   pub satisfies : Satisfies S database
   pub rows : List Row
   pub answers : IsAnswer query (tables_of S database) rows
@@ -176,7 +176,7 @@ AreQuiet old new = (n : ℕ) → slice_index_or new n 0 ≡ slice_index_or old n
 abbrev pub IsQuiet : List ℕ → List ℕ → ℕ → ℕ → Type 0
 IsQuiet old new out out' = AreQuiet old new × (out' ≡ out)
 
--- the device whose fault is told failed: its count of failures rose between these; where none is told, none failed
+-- the device whose fault is reported failed: its count of failures rose between these; where none is reported, none failed
 abbrev pub IsDeviceFault : List ℕ → List ℕ → ℕ → ℕ → Refusal → Type 0
 IsDeviceFault old new out out' (refusal.TableDevice n) = Rose (slice_index_or old n 0) (slice_index_or new n 0) × (out' ≡ out)
 IsDeviceFault old new out out' refusal.Output = AreQuiet old new × Rose out out'

@@ -3,7 +3,7 @@ use Rattle.std.specs.Prelude.{ℕ, List, [], ◌++◌, Option, Some, None, codes
 use Rattle.schema.specs.declared.schema.Table as entries
 use Rattle.schema.specs.declared.schema.Schema as schemas
 use Rattle.schema.specs.Refusals as schema
-use Rattle.checker.specs.Codes as check
+use Rattle.derivation.specs.Codes as check
 use Rattle.sql_parse.specs.Codes as text
 use Rattle.binder.specs.Codes as scope
 use Rattle.pipeline.specs.declared.refusal.Refusal.{Refusal}

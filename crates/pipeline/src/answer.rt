@@ -3,12 +3,13 @@
 ghost use Rattle.std.specs.Prelude.{◌≡◌, ◌⊎◌, [], Ok, OnOk, OnErr, IfErr};
 ghost use Rattle.std.specs.Io.KnownBytes.{Appends};
 ghost use Rattle.query.specs.Bound.{IsBoundOver};
-ghost use Rattle.checker.specs.Replay.{replayed};
+ghost use Rattle.derivation.specs.Replay.{replayed};
 ghost use Rattle.executor.specs.AnswerText.{HasFront};
 ghost use Rattle.pipeline.specs.EndToEnd.{ByPlan, ByMeaning, IsAnswerFault};
 
 use crate::refusal::Refusal;
-use checker::{Certificate, check};
+use checker::check;
+use derivation::Certificate;
 use executor::{AnswerOutput, write_answer, write_rows};
 use oracle::meaning;
 use planner::canonical;

@@ -16,7 +16,7 @@ use store::TableInput;
 /// Answers a query: reads the schema, the text and the tables' files, checks a plan and writes what it gives. The tables are
 /// one input each, in the order of the schema.
 ///
-/// The first fault is told, in the order schema, text, scope, tables, and `out` is then as it was. During the answer
+/// The first fault is reported, in the order schema, text, scope, tables, and `out` is then as it was. During the answer
 /// memory or the output may fail, and then a beginning of the answer has been written. No search uses `_limit` yet.
 pub fn query<R: TableInput, W: AnswerOutput>(
     alloc: Global,
@@ -47,7 +47,7 @@ pub fn query<R: TableInput, W: AnswerOutput>(
 /// Answers a query by the slow evaluator, with no plan: reads the schema, the text and the tables'
 /// files, and writes what the query means. The tables are one input each, in the order of the schema.
 ///
-/// The first fault is told, in the order schema, text, scope, tables, and `out` is then as it was. Memory or the output may
+/// The first fault is reported, in the order schema, text, scope, tables, and `out` is then as it was. Memory or the output may
 /// fail later, and then a beginning of the answer may have been written.
 pub fn evaluate<R: TableInput, W: AnswerOutput>(
     alloc: Global,

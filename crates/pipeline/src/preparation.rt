@@ -1,7 +1,7 @@
 //! What a query is asked of: its bound form, and the loaded tables.
 
 ghost use Rattle.std.specs.Prelude.{◌≡◌, ◌≤◌, length, map, IfOk, IfErr, OnOk};
-ghost use Rattle.pipeline.specs.EndToEnd.{IsQuery, IsNoQuery, TablesTold, IsLoadFault, IsPrepared, IsUnprepared, IsDeviceFault, AreQuiet};
+ghost use Rattle.pipeline.specs.EndToEnd.{IsQuery, IsNoQuery, TablesReported, IsLoadFault, IsPrepared, IsUnprepared, IsDeviceFault, AreQuiet};
 
 use crate::refusal::Refusal;
 use binder::bind_statement;
@@ -26,7 +26,7 @@ fn load_all<R: TableInput>(
 ) -> Result<(), Refusal>
     requires { length tables.old ≤ length database.old.tables }
     ensures schema { database.new.schema ≡ database.old.schema }
-    ensures told { OnOk result (TablesTold database.old.schema (map R.remaining tables.old) (length tables.old) database.new.tables) }
+    ensures reported { OnOk result (TablesReported database.old.schema (map R.remaining tables.old) (length tables.old) database.new.tables) }
     ensures fails { IfErr result (IsLoadFault database.old.schema (map R.remaining tables.old)) }
     ensures device { IfErr result (IsDeviceFault (map R.failures tables.old) (map R.failures tables.new) 0 0) }
     ensures quiet { OnOk result (AreQuiet (map R.failures tables.old) (map R.failures tables.new)) }

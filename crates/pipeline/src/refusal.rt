@@ -1,4 +1,4 @@
-//! Why a query has no answer, and the line that tells it.
+//! Why a query has no answer, and the line that reports it.
 
 ghost use Rattle.std.specs.Prelude.{◌≡◌, ◌++◌, codes, decimal, string_bytes, IfOk};
 ghost use Rattle.std.specs.Option.{option_copied};
@@ -7,7 +7,7 @@ ghost use Rattle.pipeline.specs.Lines as lines;
 ghost use Rattle.store.specs.Faults.{code_of, earlier_of};
 
 use binder::{BindFault, BindRefusal};
-use checker::{CheckFault, CheckRefusal};
+use derivation::{CheckFault, CheckRefusal};
 use executor::AnswerFault;
 use schema::{Schema, SchemaFault, SchemaRefusal};
 use sql_parse::{ParseFault, ParseRefusal};
@@ -176,7 +176,7 @@ fn place_line(alloc: Global, code: &str, at: usize) -> Result<String, AllocError
     format!(in alloc; "refused {code} at {at}")
 }
 
-/// The line that tells a refusal, without its line end. The schema names the table of a table's fault.
+/// The line that reports a refusal, without its line end. The schema names the table of a table's fault.
 pub fn fault_line(
     alloc: Global,
     refusal: &Refusal,

@@ -2,8 +2,8 @@
 //! with `;` between them. The answers are sqlite3's: bench/answers.py reads this file and asks it.
 
 use crate::commands::{Files, Way, push_answer};
-use crate::judged::are_told;
-use fixtures::{COMPANY, DEPT, EMP, Telling, spelt};
+use crate::judged::are_reported;
+use fixtures::{COMPANY, DEPT, EMP, Reporting, spelt};
 use std::alloc::{AllocError, Global};
 
 /// Queries of one table. A comparison with NULL is unknown, and so is its opposite.
@@ -164,14 +164,14 @@ SELECT id, nam FROM dept => refused B02 at 11
 SELECT nam FROM dept WHERE bos = 1 => refused B02 at 27
 SELECT id FROM dept WHERE name <> 1 => refused B05 at 31";
 
-/// Tells what a command answers over the files of `examples/hr`. The text is spelt.
+/// Reports what a command answers over the files of `examples/hr`. The text is spelt.
 #[derive(Drop)]
 struct Answers {
     way: Way,
 }
 
-impl Telling for Answers {
-    fn tell(&self, alloc: Global, text: &str, told: &mut String) -> Result<(), AllocError> {
+impl Reporting for Answers {
+    fn report(&self, alloc: Global, text: &str, reported: &mut String) -> Result<(), AllocError> {
         let text = spelt(alloc, text)?;
         let files = Files {
             schema: COMPANY.as_bytes(),
@@ -179,7 +179,7 @@ impl Telling for Answers {
             dept: DEPT.as_bytes(),
             emp: EMP.as_bytes(),
         };
-        push_answer(alloc, told, self.way, files)
+        push_answer(alloc, reported, self.way, files)
     }
 }
 
@@ -191,6 +191,6 @@ fn both_commands_answer_as_sql_does(rt: HostRuntime) {
         REFUSED,
     ];
     let (plan, meaning) = (Way::Plan, Way::Meaning);
-    are_told(&rt, rt.alloc(), &tables, &Answers { way: plan });
-    are_told(&rt, rt.alloc(), &tables, &Answers { way: meaning });
+    are_reported(&rt, rt.alloc(), &tables, &Answers { way: plan });
+    are_reported(&rt, rt.alloc(), &tables, &Answers { way: meaning });
 }

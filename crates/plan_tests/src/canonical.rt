@@ -1,11 +1,11 @@
 //! The canonical certificates of three queries: their lines, and their plans as texts.
 
-use crate::judged::queries_are_told;
+use crate::judged::queries_are_reported;
 use crate::lines::{push_aggregates, push_columns, push_keys, push_line};
-use checker::{Certificate, Line};
-use fixtures::{COMPANY, DEPT, EMP, QueryTelling, Tables, push_number};
-use logical::{Conjuncts, Expr};
-use physical::{JoinKind, Node, Plan};
+use algebra::{Conjuncts, Expr};
+use derivation::{Certificate, Line};
+use fixtures::{COMPANY, DEPT, EMP, QueryReporting, Tables, push_number};
+use physical::{JoinKind, Node, Operator, Plan};
 use planner::canonical;
 use query::Query;
 use std::alloc::{AllocError, Global};
@@ -32,67 +32,72 @@ fn are_of_line(lines: &[Line], line: usize, conjuncts: &Conjuncts) -> bool {
 }
 
 /// An operator and its line, if its conjuncts are those of the line.
-fn push_operator(
-    told: &mut String,
+fn push_filter(
+    reported: &mut String,
     lines: &[Line],
     name: &str,
     line: usize,
     conjuncts: &Conjuncts,
 ) -> Result<(), AllocError> {
     if are_of_line(lines, line, conjuncts) {
-        push_number(told, name, line)
+        push_number(reported, name, line)
     } else {
-        told.push_str("other conjuncts")
+        reported.push_str("other conjuncts")
     }
 }
 
-fn push_node(told: &mut String, lines: &[Line], node: &Node) -> Result<(), AllocError> {
-    match node {
-        Node::Scan { line, occurrence } => {
-            push_number(told, "scan ", *line)?;
-            push_number(told, " of ", *occurrence)
+fn push_operator(
+    reported: &mut String,
+    lines: &[Line],
+    line: usize,
+    operator: &Operator,
+) -> Result<(), AllocError> {
+    match operator {
+        Operator::Scan { occurrence } => {
+            push_number(reported, "scan ", line)?;
+            push_number(reported, " of ", *occurrence)
         }
-        Node::Filter { line, conjuncts } => {
-            push_operator(told, lines, "filter ", *line, conjuncts)
+        Operator::Filter { conjuncts } => push_filter(reported, lines, "filter ", line, conjuncts),
+        Operator::FilterSubqueries { conjuncts } => {
+            push_filter(reported, lines, "filter by subqueries ", line, conjuncts)
         }
-        Node::FilterSubqueries { line, conjuncts } => {
-            push_operator(told, lines, "filter by subqueries ", *line, conjuncts)
+        Operator::Projection { columns } => {
+            push_number(reported, "cut ", line)?;
+            push_columns(reported, columns.as_slice())
         }
-        Node::Cut { line, columns } => {
-            push_number(told, "cut ", *line)?;
-            push_columns(told, columns.as_slice())
-        }
-        Node::Loop {
-            line,
-            kind,
-            conjuncts,
-        } => {
+        Operator::NestedLoopJoin { kind, conjuncts } => {
             let name = match kind {
                 JoinKind::Inner => "inner join ",
                 JoinKind::Left => "left join ",
             };
-            push_operator(told, lines, name, *line, conjuncts)
+            push_filter(reported, lines, name, line, conjuncts)
         }
+        Operator::HashGroup { keys, added } => {
+            push_number(reported, "group ", line)?;
+            push_columns(reported, keys.as_slice())?;
+            push_aggregates(reported, added.as_slice())
+        }
+        Operator::HashDistinct => push_number(reported, "distinct ", line),
+    }
+}
+
+fn push_node(reported: &mut String, lines: &[Line], node: &Node) -> Result<(), AllocError> {
+    match node {
+        Node::Implements { line, operator } => push_operator(reported, lines, *line, operator),
         Node::Sort { keys } => {
-            told.push_str("sort")?;
-            push_keys(told, keys.as_slice())
+            reported.push_str("sort")?;
+            push_keys(reported, keys.as_slice())
         }
-        Node::HashGroup { line, keys, added } => {
-            push_number(told, "group ", *line)?;
-            push_columns(told, keys.as_slice())?;
-            push_aggregates(told, added.as_slice())
-        }
-        Node::HashDistinct { line } => push_number(told, "distinct ", *line),
     }
 }
 
 /// A plan, its inputs in parentheses.
-fn push_plan(told: &mut String, lines: &[Line], plan: &Plan) -> Result<(), AllocError> {
-    push_node(told, lines, &plan.node)?;
+fn push_plan(reported: &mut String, lines: &[Line], plan: &Plan) -> Result<(), AllocError> {
+    push_node(reported, lines, &plan.node)?;
     for input in plan.inputs.as_slice() {
-        told.push_str(" (")?;
-        push_plan(told, lines, input)?;
-        told.push_str(")")?;
+        reported.push_str(" (")?;
+        push_plan(reported, lines, input)?;
+        reported.push_str(")")?;
     }
     Ok(())
 }
@@ -100,30 +105,30 @@ fn push_plan(told: &mut String, lines: &[Line], plan: &Plan) -> Result<(), Alloc
 /// The lines, each with `; ` behind it, and the plan.
 fn push_certificate(
     alloc: Global,
-    told: &mut String,
+    reported: &mut String,
     certificate: &Certificate,
 ) -> Result<(), AllocError> {
     let lines = certificate.lines.as_slice();
     for line in lines {
-        push_line(alloc, told, line.founding())?;
-        told.push_str("; ")?;
+        push_line(alloc, reported, line.founding())?;
+        reported.push_str("; ")?;
     }
-    push_plan(told, lines, &certificate.plan)
+    push_plan(reported, lines, &certificate.plan)
 }
 
-/// Tells a query's certificate.
+/// Reports a query's certificate.
 struct Canonical;
 
-impl QueryTelling for Canonical {
-    fn tell(
+impl QueryReporting for Canonical {
+    fn report(
         &self,
         alloc: Global,
         _database: &Database<'_>,
         query: &Query,
         _more: &str,
-        told: &mut String,
+        reported: &mut String,
     ) -> Result<(), AllocError> {
-        push_certificate(alloc, told, &canonical(alloc, query)?)
+        push_certificate(alloc, reported, &canonical(alloc, query)?)
     }
 }
 
@@ -139,5 +144,5 @@ SELECT DISTINCT dept, COUNT(*) FROM emp GROUP BY dept => get 0; group 0: 1; 4=co
         first: DEPT,
         second: EMP,
     };
-    queries_are_told(&rt, rt.alloc(), company, &[CASES], &Canonical);
+    queries_are_reported(&rt, rt.alloc(), company, &[CASES], &Canonical);
 }

@@ -2,13 +2,15 @@
 
 ghost use Rattle.query.specs.Bound.{IsBoundOver};
 
-use crate::judged::queries_are_told;
+use crate::judged::queries_are_reported;
 use crate::plans::{cut, number, plan_of};
 use crate::tables::TABLES;
-use checker::{Certificate, Checked, Line, check};
+use algebra::Expr;
+use checker::{Checked, check};
+use derivation::{Certificate, Line};
 use executor::run;
-use fixtures::{QueryTelling, drop_query, push_rows, query_of};
-use logical::{Expr, query_frame};
+use fixtures::{QueryReporting, drop_query, push_rows, query_of};
+use logical::query_frame;
 use physical::Plan;
 use query::Query;
 use schema::Schema;
@@ -89,20 +91,20 @@ fn certificate_of(
 /// `accepted`, and the rows over the tables.
 fn push_answer(
     alloc: Global,
-    told: &mut String,
+    reported: &mut String,
     checked: &Checked<'_>,
     database: &Database<'_>,
 ) -> Result<(), AllocError> {
-    told.push_str("accepted")?;
+    reported.push_str("accepted")?;
     let rows = run(alloc, checked, database)?;
-    told.push_str(if rows.is_empty() { "" } else { " " })?;
-    push_rows(told, rows.as_slice())
+    reported.push_str(if rows.is_empty() { "" } else { " " })?;
+    push_rows(reported, rows.as_slice())
 }
 
 /// The code and the line of a refusal, or `accepted` and the rows.
 fn push_verdict(
     alloc: Global,
-    told: &mut String,
+    reported: &mut String,
     database: &Database<'_>,
     query: &Query,
     certificate: &Certificate,
@@ -110,26 +112,26 @@ fn push_verdict(
     requires { IsBoundOver database.now.schema query.now }
 {
     match check(alloc, database.schema(), query, certificate) {
-        Ok(checked) => push_answer(alloc, told, &checked, database),
-        Err(fault) => write!(told, "{fault}"),
+        Ok(checked) => push_answer(alloc, reported, &checked, database),
+        Err(fault) => write!(reported, "{fault}"),
     }
 }
 
-/// Tells the verdict on a certificate in words.
+/// Reports the verdict on a certificate in words.
 struct Verdicts;
 
-impl QueryTelling for Verdicts {
-    fn tell(
+impl QueryReporting for Verdicts {
+    fn report(
         &self,
         alloc: Global,
         database: &Database<'_>,
         query: &Query,
         more: &str,
-        told: &mut String,
+        reported: &mut String,
     ) -> Result<(), AllocError> {
         match &certificate_of(alloc, database.schema(), query, more)? {
-            Some(certificate) => push_verdict(alloc, told, database, query, certificate),
-            None => told.push_str("no plan"),
+            Some(certificate) => push_verdict(alloc, reported, database, query, certificate),
+            None => reported.push_str("no plan"),
         }
     }
 }
@@ -176,5 +178,5 @@ SELECT id FROM emp WHERE pay <> 500 => scan 0 0 | filter 1 | cut 2: 0 /  /  / SE
 
 #[test]
 fn certificates_are_judged(rt: HostRuntime) {
-    queries_are_told(&rt, rt.alloc(), TABLES, &[PLANS, ROWS, LINES], &Verdicts);
+    queries_are_reported(&rt, rt.alloc(), TABLES, &[PLANS, ROWS, LINES], &Verdicts);
 }

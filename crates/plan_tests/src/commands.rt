@@ -47,23 +47,23 @@ fn answer(
 /// The lines of what was written, with `;` between them, and the line that reports a refusal.
 fn push_outcome(
     alloc: Global,
-    told: &mut String,
+    reported: &mut String,
     written: &[u8],
     outcome: &Result<(), Refusal>,
     schema: Option<&Schema>,
 ) -> Result<(), AllocError> {
     let written = str::from_utf8(written).unwrap_or("no text");
-    push_lines(told, written.strip_suffix("\n").unwrap_or(written), ";")?;
+    push_lines(reported, written.strip_suffix("\n").unwrap_or(written), ";")?;
     match outcome {
         Ok(()) => Ok(()),
-        Err(refusal) => told.push_str(fault_line(alloc, refusal, schema)?.as_str()),
+        Err(refusal) => reported.push_str(fault_line(alloc, refusal, schema)?.as_str()),
     }
 }
 
 /// What a command writes and reports. What is still in the buffer was not handed on.
 fn push_written(
     alloc: Global,
-    told: &mut String,
+    reported: &mut String,
     way: Way,
     files: Files<'_>,
     schema: Option<&Schema>,
@@ -76,22 +76,22 @@ fn push_written(
     let mut out = CountedOutput::new(buffer);
     let outcome = answer(alloc, way, files, &mut out);
     let (written, _) = out.into_inner().into_parts();
-    push_outcome(alloc, told, written.as_slice(), &outcome, schema)
+    push_outcome(alloc, reported, written.as_slice(), &outcome, schema)
 }
 
 /// Adds what a command writes, or the line that reports its refusal, before which nothing is written.
 pub fn push_answer(
     alloc: Global,
-    told: &mut String,
+    reported: &mut String,
     way: Way,
     files: Files<'_>,
 ) -> Result<(), AllocError> {
     match &Schema::read(alloc, files.schema) {
         Ok(schema) if schema.tables.len() == 2 => {
-            push_written(alloc, told, way, files, Some(schema))
+            push_written(alloc, reported, way, files, Some(schema))
         }
-        Ok(_) => told.push_str("not two tables"),
-        Err(Fault::Refused(_)) => push_written(alloc, told, way, files, None),
+        Ok(_) => reported.push_str("not two tables"),
+        Err(Fault::Refused(_)) => push_written(alloc, reported, way, files, None),
         Err(Fault::Memory) => Err(AllocError),
     }
 }

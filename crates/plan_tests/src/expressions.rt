@@ -2,33 +2,33 @@
 
 ghost use Rattle.std.specs.Prelude.{◌≡◌, IfOk, length};
 
-use crate::judged::{are_told, queries_are_told};
+use crate::judged::{are_reported, queries_are_reported};
 use crate::lines::push_columns;
 use crate::plans::{columns_of, cut, number};
 use crate::tables::TABLES;
-use fixtures::{QueryTelling, Telling};
-use logical::{Aggregation, Columns, Condition, Conjuncts, Expr, Term};
-use query::{Aggregate, Query, TableUse};
+use algebra::{Aggregation, Columns, Condition, Conjuncts, Expr, Term};
+use fixtures::{QueryReporting, Reporting};
+use query::{Aggregate, Query, TableInstance};
 use std::alloc::{AllocError, Global};
 use store::Database;
 use values::{Comparison, Value};
 
 /// The union with the numbers 4 and 5.
-fn push_union(alloc: Global, told: &mut String, set: &Columns) -> Result<(), AllocError> {
+fn push_union(alloc: Global, reported: &mut String, set: &Columns) -> Result<(), AllocError> {
     let union = Columns::run(alloc, 4, 2)?.union(alloc, set)?;
-    push_columns(told, union.as_slice())
+    push_columns(reported, union.as_slice())
 }
 
-/// Tells the set of the numbers of a text, whether 9 is in it, and its union.
+/// Reports the set of the numbers of a text, whether 9 is in it, and its union.
 struct Sets;
 
-impl Telling for Sets {
-    fn tell(&self, alloc: Global, text: &str, told: &mut String) -> Result<(), AllocError> {
+impl Reporting for Sets {
+    fn report(&self, alloc: Global, text: &str, reported: &mut String) -> Result<(), AllocError> {
         let set = columns_of(alloc, text)?;
-        told.push_str(if set.contains(9) { "with" } else { "without" })?;
-        push_columns(told, set.as_slice())?;
-        told.push_str(";")?;
-        push_union(alloc, told, &set)
+        reported.push_str(if set.contains(9) { "with" } else { "without" })?;
+        push_columns(reported, set.as_slice())?;
+        reported.push_str(";")?;
+        push_union(alloc, reported, &set)
     }
 }
 
@@ -36,7 +36,7 @@ impl Telling for Sets {
 fn sets_rise(rt: HostRuntime) {
     const CASES: &str = "5 4 5 => without 4 5; 4 5
 9 5 => with 5 9; 4 5 9";
-    are_told(&rt, rt.alloc(), &[CASES], &Sets);
+    are_reported(&rt, rt.alloc(), &[CASES], &Sets);
 }
 
 /// `2=sum:1`
@@ -46,25 +46,25 @@ const SUM_OF_BOSSES: Aggregation = Aggregation {
 };
 
 /// The columns of groups by the first column with the sum.
-fn push_groups(alloc: Global, told: &mut String) -> Result<(), AllocError> {
+fn push_groups(alloc: Global, reported: &mut String) -> Result<(), AllocError> {
     let keys = columns_of(alloc, "0")?;
     let groups = Columns::of_groups(alloc, &keys, &[SUM_OF_BOSSES])?;
-    push_columns(told, groups.as_slice())
+    push_columns(reported, groups.as_slice())
 }
 
 /// The columns of an occurrence.
 fn push_occurrence(
     alloc: Global,
-    told: &mut String,
-    uses: &[TableUse],
+    reported: &mut String,
+    uses: &[TableInstance],
     occurrence: usize,
 ) -> Result<(), AllocError> {
     let own = Columns::of_occurrence(alloc, uses, occurrence)?;
-    push_columns(told, own.as_slice())
+    push_columns(reported, own.as_slice())
 }
 
 /// The columns of the classes of `get 0` and of a `keep 2`.
-fn classes(alloc: Global, uses: &[TableUse]) -> Result<Vec<Columns>, AllocError>
+fn classes(alloc: Global, uses: &[TableInstance]) -> Result<Vec<Columns>, AllocError>
     ensures { IfOk result (λ v. length v.items ≡ 2) }
 {
     let mut classes = Vec::new(alloc);
@@ -76,7 +76,7 @@ fn classes(alloc: Global, uses: &[TableUse]) -> Result<Vec<Columns>, AllocError>
 }
 
 /// Whether it is well formed over these classes, in a query with the sum.
-fn is_formed(alloc: Global, uses: &[TableUse], expr: &Expr) -> Result<bool, AllocError> {
+fn is_formed(alloc: Global, uses: &[TableInstance], expr: &Expr) -> Result<bool, AllocError> {
     let classes = classes(alloc, uses)?;
     Ok(expr.names_below(2) && expr.is_formed(uses, &[SUM_OF_BOSSES], classes.as_slice()))
 }
@@ -94,27 +94,27 @@ fn expr_of(alloc: Global, text: &str) -> Result<Expr, AllocError> {
     Ok(Expr::Join(conjuncts, 0, class))
 }
 
-/// Tells the columns of an occurrence or of groups, or whether an expression is well formed.
+/// Reports the columns of an occurrence or of groups, or whether an expression is well formed.
 struct Expressions;
 
-impl QueryTelling for Expressions {
-    fn tell(
+impl QueryReporting for Expressions {
+    fn report(
         &self,
         alloc: Global,
         _database: &Database<'_>,
         query: &Query,
         more: &str,
-        told: &mut String,
+        reported: &mut String,
     ) -> Result<(), AllocError> {
         let uses = query.tables.as_slice();
         if let Some(occurrence) = more.strip_prefix("columns ") {
-            return push_occurrence(alloc, told, uses, number(occurrence));
+            return push_occurrence(alloc, reported, uses, number(occurrence));
         }
         if more == "groups" {
-            return push_groups(alloc, told);
+            return push_groups(alloc, reported);
         }
         let expr = expr_of(alloc, more)?;
-        told.push_str(if is_formed(alloc, uses, &expr)? {
+        reported.push_str(if is_formed(alloc, uses, &expr)? {
             "formed"
         } else {
             "not formed"
@@ -134,5 +134,5 @@ SELECT SUM(boss) FROM dept => keep 1: 0 1 => not formed
 SELECT SUM(boss) FROM dept => join 1 => formed
 SELECT SUM(boss) FROM dept => join 0 => not formed
 SELECT SUM(boss) FROM dept => join 2 => not formed";
-    queries_are_told(&rt, rt.alloc(), TABLES, &[CASES], &Expressions);
+    queries_are_reported(&rt, rt.alloc(), TABLES, &[CASES], &Expressions);
 }

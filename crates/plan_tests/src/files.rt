@@ -1,8 +1,8 @@
 //! Files that are read and files that are refused.
 
 use crate::commands::{Files, Way, push_answer};
-use crate::judged::are_told;
-use fixtures::{COMPANY, DEPT, EMP, Telling, spelt};
+use crate::judged::are_reported;
+use fixtures::{COMPANY, DEPT, EMP, Reporting, spelt};
 use std::alloc::{AllocError, Global};
 use std::process::Abort;
 
@@ -52,7 +52,7 @@ enum Given {
     Text,
 }
 
-/// Tells what a command answers with what a text spells in one place, and in the others the files of `examples/hr` and a text.
+/// Reports what a command answers with what a text spells in one place, and in the others the files of `examples/hr` and a text.
 #[derive(Drop)]
 struct Replaced<'a> {
     way: Way,
@@ -60,8 +60,8 @@ struct Replaced<'a> {
     text: &'a str,
 }
 
-impl Telling for Replaced<'_> {
-    fn tell(&self, alloc: Global, text: &str, told: &mut String) -> Result<(), AllocError> {
+impl Reporting for Replaced<'_> {
+    fn report(&self, alloc: Global, text: &str, reported: &mut String) -> Result<(), AllocError> {
         let bytes = spelt(alloc, text)?;
         let bytes = bytes.as_slice();
         let company = Files {
@@ -90,14 +90,14 @@ impl Telling for Replaced<'_> {
                 ..company
             },
         };
-        push_answer(alloc, told, self.way, files)
+        push_answer(alloc, reported, self.way, files)
     }
 }
 
 /// Both commands answer the cases so.
 fn are_answered(rt: &impl Abort, alloc: Global, given: Given, cases: &str, text: &str) {
     for way in [Way::Plan, Way::Meaning] {
-        are_told(rt, alloc, &[cases], &Replaced { way, given, text });
+        are_reported(rt, alloc, &[cases], &Replaced { way, given, text });
     }
 }
 

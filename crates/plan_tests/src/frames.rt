@@ -1,11 +1,12 @@
 //! Frames of queries of each form.
 
-use crate::judged::queries_are_told;
+use crate::judged::queries_are_reported;
 use crate::lines::push_line;
 use crate::tables::TABLES;
-use fixtures::QueryTelling;
-use logical::{Aggregation, Columns, Conjuncts, Expr, query_frame};
-use query::{Query, TableUse};
+use algebra::{Aggregation, Columns, Conjuncts, Expr};
+use fixtures::QueryReporting;
+use logical::query_frame;
+use query::{Query, TableInstance};
 use std::alloc::{AllocError, Global};
 use store::Database;
 
@@ -36,7 +37,7 @@ fn aggregates(line: &Expr) -> &[Aggregation] {
 /// Whether a line is well formed after classes with these columns, which its own are added to.
 fn is_formed(
     alloc: Global,
-    uses: &[TableUse],
+    uses: &[TableInstance],
     classes: &mut Vec<Columns>,
     line: &Expr,
 ) -> Result<bool, AllocError> {
@@ -63,25 +64,25 @@ fn are_formed(alloc: Global, query: &Query, frame: &[Expr]) -> Result<bool, Allo
     Ok(true)
 }
 
-/// Tells the frame's lines, with `; ` between them, if they are well formed and their copies the same.
+/// Reports the frame's lines, with `; ` between them, if they are well formed and their copies the same.
 struct Frames;
 
-impl QueryTelling for Frames {
-    fn tell(
+impl QueryReporting for Frames {
+    fn report(
         &self,
         alloc: Global,
         _database: &Database<'_>,
         query: &Query,
         _more: &str,
-        told: &mut String,
+        reported: &mut String,
     ) -> Result<(), AllocError> {
         let frame = query_frame(alloc, query)?;
         if !are_formed(alloc, query, frame.as_slice())? {
-            told.push_str("not well formed: ")?;
+            reported.push_str("not well formed: ")?;
         }
         for (number, line) in frame.as_slice().iter().enumerate() {
-            told.push_str(if number == 0 { "" } else { "; " })?;
-            push_line(alloc, told, line)?;
+            reported.push_str(if number == 0 { "" } else { "; " })?;
+            push_line(alloc, reported, line)?;
         }
         Ok(())
     }
@@ -100,5 +101,5 @@ SELECT COUNT(*) FROM dept => get 0; group 0:; 2=count; keep 1: 2
 SELECT DISTINCT boss FROM dept WHERE (boss < 7 AND id < 9) AND boss < 7 => get 0; select 0 [<(c0,i9),<(c1,i7)]; keep 1: 1; distinct 2
 SELECT id FROM dept WHERE NOT boss < 7 OR boss IS NULL AND NULL = 3 => get 0; select 0 [or(not(<(c1,i7)),and(null(c1),=(n,i3)))]; keep 1: 0
 SELECT a FROM t, u WHERE d >= 'y' => get 0; get 1; join 0 1 []; select 2 [>=(c3,t79)]; keep 3: 0";
-    queries_are_told(&rt, rt.alloc(), TABLES, &[CASES], &Frames);
+    queries_are_reported(&rt, rt.alloc(), TABLES, &[CASES], &Frames);
 }

@@ -1,12 +1,13 @@
 //! The orders that plans deliver, and that queries ask for.
 
-use crate::judged::queries_are_told;
+use crate::judged::queries_are_reported;
 use crate::lines::push_keys;
 use crate::plans::plan_of;
 use crate::tables::TABLES;
-use fixtures::QueryTelling;
+use derivation::query_order;
+use fixtures::QueryReporting;
 use logical::query_frame;
-use physical::{Plan, delivers, query_order};
+use physical::{Plan, delivers};
 use query::Query;
 use std::alloc::{AllocError, Global};
 use store::Database;
@@ -20,33 +21,33 @@ fn plan_over(alloc: Global, query: &Query, plan: &str) -> Result<Option<Plan>, A
 /// The order that a plan of the query delivers.
 fn push_delivered(
     alloc: Global,
-    told: &mut String,
+    reported: &mut String,
     query: &Query,
     plan: &str,
 ) -> Result<(), AllocError> {
     match &plan_over(alloc, query, plan)? {
-        Some(plan) => push_keys(told, delivers(alloc, query, plan)?.as_slice()),
-        None => told.push_str(" no plan"),
+        Some(plan) => push_keys(reported, delivers(alloc, query, plan)?.as_slice()),
+        None => reported.push_str(" no plan"),
     }
 }
 
-/// Tells the order that a plan of the query delivers; without a plan, that it asks for.
+/// Reports the order that a plan of the query delivers; without a plan, that it asks for.
 struct Orders;
 
-impl QueryTelling for Orders {
-    fn tell(
+impl QueryReporting for Orders {
+    fn report(
         &self,
         alloc: Global,
         _database: &Database<'_>,
         query: &Query,
         plan: &str,
-        told: &mut String,
+        reported: &mut String,
     ) -> Result<(), AllocError> {
-        told.push_str("order")?;
+        reported.push_str("order")?;
         if plan.is_empty() {
-            push_keys(told, query_order(alloc, query)?.as_slice())
+            push_keys(reported, query_order(alloc, query)?.as_slice())
         } else {
-            push_delivered(alloc, told, query, plan)
+            push_delivered(alloc, reported, query, plan)
         }
     }
 }
@@ -63,5 +64,5 @@ SELECT x.boss, x.id FROM dept x, dept y => scan 0 0 | sort: 1d 2 | scan 0 1 | lo
 SELECT x.boss, x.id FROM dept x, dept y => scan 0 0 | sort: 1d 0 | cut 0: 1 | distinct 0 => order 1d
 SELECT x.boss, x.id FROM dept x, dept y => scan 0 0 | sort: 1d 0 | group 0 => order
 SELECT boss, id FROM dept ORDER BY id DESC, boss => order 0d 1";
-    queries_are_told(&rt, rt.alloc(), TABLES, &[CASES], &Orders);
+    queries_are_reported(&rt, rt.alloc(), TABLES, &[CASES], &Orders);
 }

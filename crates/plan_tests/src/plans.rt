@@ -2,8 +2,8 @@
 //! `subqueries LINE COUNT`, `cut LINE: COLUMNS`, `loop LINE`, `left LINE`, `sort: KEYS`, `group LINE`, `distinct LINE`.
 //! What else a node holds is that of a line with its number.
 
-use logical::{Columns, Conjuncts, Expr};
-use physical::{JoinKind, Node, OrderKey, Plan};
+use algebra::{Columns, Conjuncts, Expr};
+use physical::{JoinKind, Node, Operator, OrderKey, Plan};
 use std::alloc::{AllocError, Global};
 use values::Items;
 
@@ -78,56 +78,61 @@ fn conjuncts_of(alloc: Global, lines: &[Expr], line: usize) -> Result<Conjuncts,
     }
 }
 
-fn loop_of(alloc: Global, lines: &[Expr], line: usize, kind: JoinKind) -> Result<Node, AllocError> {
+fn join_of(
+    alloc: Global,
+    lines: &[Expr],
+    line: usize,
+    kind: JoinKind,
+) -> Result<Operator, AllocError> {
     let conjuncts = conjuncts_of(alloc, lines, line)?;
-    Ok(Node::Loop {
-        line,
-        kind,
-        conjuncts,
-    })
+    Ok(Operator::NestedLoopJoin { kind, conjuncts })
 }
 
 /// The group of a line; by no key and without aggregates if the line is no group.
-fn group_of(alloc: Global, lines: &[Expr], line: usize) -> Result<Node, AllocError> {
+fn group_of(alloc: Global, lines: &[Expr], line: usize) -> Result<Operator, AllocError> {
     let Some(Expr::Group(own, added, _)) = lines.get(line) else {
-        return Ok(Node::HashGroup {
-            line,
+        return Ok(Operator::HashGroup {
             keys: Columns::from_vec(Vec::new(alloc)),
             added: Items::new(alloc),
         });
     };
     let keys = own.copy(alloc)?;
     let added = Items::from_slice(alloc, added.as_slice())?;
-    Ok(Node::HashGroup { line, keys, added })
+    Ok(Operator::HashGroup { keys, added })
 }
 
-fn node_of(alloc: Global, lines: &[Expr], words: Words<'_>) -> Result<Node, AllocError> {
+fn operator_of(alloc: Global, lines: &[Expr], words: Words<'_>) -> Result<Operator, AllocError> {
     let line = words.line;
     match words.name {
-        "filter" => Ok(Node::Filter {
-            line,
+        "filter" => Ok(Operator::Filter {
             conjuncts: conjuncts_of(alloc, lines, line)?,
         }),
-        "subqueries" => Ok(Node::FilterSubqueries {
-            line,
+        "subqueries" => Ok(Operator::FilterSubqueries {
             conjuncts: conjuncts_of(alloc, lines, line)?,
         }),
-        "cut" => Ok(Node::Cut {
-            line,
+        "cut" => Ok(Operator::Projection {
             columns: columns_of(alloc, words.columns)?,
         }),
-        "loop" => loop_of(alloc, lines, line, JoinKind::Inner),
-        "left" => loop_of(alloc, lines, line, JoinKind::Left),
-        "sort" => Ok(Node::Sort {
-            keys: keys_of(alloc, words.columns)?,
-        }),
+        "loop" => join_of(alloc, lines, line, JoinKind::Inner),
+        "left" => join_of(alloc, lines, line, JoinKind::Left),
         "group" => group_of(alloc, lines, line),
-        "distinct" => Ok(Node::HashDistinct { line }),
-        _ => Ok(Node::Scan {
-            line,
+        "distinct" => Ok(Operator::HashDistinct),
+        _ => Ok(Operator::Scan {
             occurrence: words.more,
         }),
     }
+}
+
+fn node_of(alloc: Global, lines: &[Expr], words: Words<'_>) -> Result<Node, AllocError> {
+    if words.name == "sort" {
+        let keys = keys_of(alloc, words.columns)?;
+        return Ok(Node::Sort { keys });
+    }
+    let operator = operator_of(alloc, lines, words)?;
+    Ok(Node::Implements {
+        line: words.line,
+        operator,
+    })
 }
 
 /// How many plans a node has as inputs.

@@ -2,18 +2,18 @@
 use Rattle.std.proofs.Common.{◌≡◌, refl, ap, ℕ, true, List, [], ◌∷◌, map, length, reverse, Ok}
 use Rattle.query.specs.declared.query.Query.{Query}
 use Rattle.query.specs.Bound.{is_bound}
-use Rattle.logical.specs.declared.expr.Expr.{Expr}
-use Rattle.logical.specs.Classes.{class_columns}
+use Rattle.algebra.specs.declared.expr.Expr.{Expr}
+use Rattle.algebra.specs.Classes.{class_columns}
 use Rattle.logical.specs.Frames.{query_frame}
 use Rattle.logical.proofs.FormedQueries.{frames_formed}
 use Rattle.physical.specs.declared.plan.Plan.{Plan}
-use Rattle.physical.specs.Orders.{query_order}
-use Rattle.checker.specs.declared.certificate.Line.TheVariants.{Founds}
-use Rattle.checker.specs.declared.certificate.Certificate.{Certificate}
-use Rattle.checker.specs.Replay.{founding, root, replayed}
+use Rattle.derivation.specs.QueryOrders.{query_order}
+use Rattle.derivation.specs.declared.certificate.Line.TheVariants.{Founds}
+use Rattle.derivation.specs.declared.certificate.Certificate.{Certificate}
+use Rattle.derivation.specs.Replay.{founding, root, replayed}
 use Rattle.planner.specs.Canonical.{top, IsPlanOf}
 use Rattle.planner.proofs.FrameLines.{frame_replays}
-use Rattle.planner.proofs.OrderedPlans.{order_within, top_fits, top_delivered}
+use Rattle.planner.proofs.OrderedPlans.{order_subset, top_fits, top_delivered}
 
 pub founding_lines : (xs : List Expr) → map founding (map Founds xs) ≡ xs
 founding_lines [] = refl
@@ -27,5 +27,5 @@ canonical_replays q bound V below lines plan is =
     let frame : List Expr = query_frame q in
     let E : List Expr = reverse frame in
     let cols : ℕ → List ℕ = class_columns q.tables E in
-    let fits = top_fits frame cols (query_order q) below (root q) (length E) is (order_within q (cols (root q)) (frames_formed q bound).shown) in
+    let fits = top_fits frame cols (query_order q) below (root q) (length E) is (order_subset q (cols (root q)) (frames_formed q bound).shown) in
     rw (lines, founding_lines frame, frame_replays q bound, plan, top_delivered q below, fits.1) refl

@@ -1,16 +1,18 @@
--- The plan of a class, of its node and the plans of its inputs.
+-- The plan of a class, of its operator and the plans of its inputs.
 use Rattle.std.proofs.Common.{◌≡◌, refl, ap, ◌∙◌, ℕ, suc, ◌+◌, ◌<◌, nat_lt, Bool, true, false, not, List, [], ◌∷◌, ◌++◌, map, length, Some, Ok}
 use Rattle.std.specs.List.{slice_get, list_all}
 use Rattle.std.proofs.lemmas.Bool.{eq-eqb, ltb-true, and_from}
 use Rattle.values.specs.Faults.{◌>>=◌}
-use Rattle.logical.specs.declared.expr.Expr.{Expr}
-use Rattle.logical.specs.Expressions.{input_classes}
-use Rattle.logical.proofs.NamedClasses.{inputs-pass}
+use Rattle.algebra.specs.declared.expr.Expr.{Expr}
+use Rattle.algebra.specs.Expressions.{input_classes}
+use Rattle.algebra.proofs.NamedClasses.{inputs-pass}
+use Rattle.physical.specs.declared.plan.Operator.{Operator}
 use Rattle.physical.specs.declared.plan.Node.{Node}
+use Rattle.physical.specs.declared.plan.Node.TheVariants.{Implements}
 use Rattle.physical.specs.declared.plan.Plan.{Plan, roll-Plan, out-roll-Plan, fold-roll-Plan}
-use Rattle.checker.specs.Replay.{at_line, node_fits, inputs_fit, plan_fits}
-use Rattle.checker.proofs.Fits.{plan_fits_out}
-use Rattle.planner.specs.Canonical.{is_sort, unsorted_layer, is_unsorted, NameEarlier, IsNodeOf, IsPlanOf}
+use Rattle.derivation.specs.Replay.{implements, node_fits, inputs_fit, plan_fits}
+use Rattle.derivation.proofs.Fits.{plan_fits_out}
+use Rattle.planner.specs.Canonical.{is_sort, unsorted_layer, is_unsorted, NameEarlier, IsPlanOf}
 use Rattle.planner.proofs.Passes.{passes_at}
 
 -- a plan by its node and inputs
@@ -52,24 +54,24 @@ module _ (lines : List Expr) where
       let rest = all-fit cols classes plans all.1 first.0 in
       (rest.0, ap (λ r. r >>= (λ m. inputs_fit (map (plan_fits lines cols) plans) classes m)) first.1 ∙ rest.1)
 
-  node-fits : (cols : ℕ → List ℕ) (g : ℕ) (x : Expr) (node : Node) (n : ℕ) → slice_get lines g ≡ Some x → IsNodeOf g x node → node_fits lines cols node (length (input_classes x)) g n ≡ Ok (input_classes x)
-  node-fits cols g x node n at is =
-      ap (λ l. at_line l lines cols node (length (input_classes x)) g n) is.cites
-      ∙ rw (at, eq-eqb g g refl, is.computed, eq-eqb (length (input_classes x)) (length (input_classes x)) refl) refl
+  node-fits : (cols : ℕ → List ℕ) (g : ℕ) (x : Expr) (operator : Operator) (n : ℕ) → slice_get lines g ≡ Some x → implements operator x ≡ true
+      → node_fits lines cols (Implements g operator) (length (input_classes x)) g n ≡ Ok (input_classes x)
+  node-fits cols g x operator n at is = rw (at, eq-eqb g g refl, is, eq-eqb (length (input_classes x)) (length (input_classes x)) refl) refl
 
   over-unsorted : (node : Node) (inputs : List Plan) → is_sort node ≡ false → list_all (λ b. b) (map is_unsorted inputs) ≡ true → is_unsorted (over node inputs) ≡ true
   unfolding is_unsorted
   over-unsorted node inputs none all = fold-roll-Plan Bool unsorted_layer (record { node = node; inputs = inputs }) ∙ and_from _ _ (ap not none) all
 
-  -- the node of the class's line, over plans of the classes that the line names
-  pub plan_of_class : (g : ℕ) (x : Expr) (node : Node) (inputs : List Plan) → slice_get lines g ≡ Some x → IsNodeOf g x node → ArePlansOf (input_classes x) inputs → IsPlanOf lines g (over node inputs)
-  plan_of_class g x node inputs at is all = record {
-    unsorted = over-unsorted node inputs is.unsorted (all-unsorted (input_classes x) inputs all);
+  -- an operator that implements the class's line, over plans of the classes that the line names
+  pub plan_of_class : (g : ℕ) (x : Expr) (operator : Operator) (inputs : List Plan) → slice_get lines g ≡ Some x → implements operator x ≡ true → ArePlansOf (input_classes x) inputs
+      → IsPlanOf lines g (over (Implements g operator) inputs)
+  plan_of_class g x operator inputs at is all = record {
+    unsorted = over-unsorted (Implements g operator) inputs refl (all-unsorted (input_classes x) inputs all);
     fits = λ cols n.
         let rest = all-fit cols (input_classes x) inputs all (n + 1) in (
           rest.0,
-          plan_fits_out lines cols (over node inputs) true g n
-              ∙ rw (out-roll-Plan (record { node = node; inputs = inputs }), as-many (input_classes x) inputs all, node-fits cols g x node n at is) rest.1,
+          plan_fits_out lines cols (over (Implements g operator) inputs) true g n
+              ∙ rw (out-roll-Plan (record { node = Implements g operator; inputs = inputs }), as-many (input_classes x) inputs all, node-fits cols g x operator n at is) rest.1,
         );
   }
 

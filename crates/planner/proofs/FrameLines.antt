@@ -8,17 +8,17 @@ use Rattle.std.proofs.lemmas.List.{length-reverse, length-take-le}
 use Rattle.std.proofs.lemmas.Option.{slice_get_within}
 use Rattle.query.specs.declared.query.Query.{Query}
 use Rattle.query.specs.Bound.{is_bound}
-use Rattle.logical.specs.declared.expr.Expr.{Expr}
-use Rattle.logical.specs.Equality.{same_expr}
-use Rattle.logical.specs.Expressions.{classes_pass}
-use Rattle.logical.specs.Classes.{class_columns}
+use Rattle.algebra.specs.declared.expr.Expr.{Expr}
+use Rattle.algebra.specs.Equality.{same_expr}
+use Rattle.algebra.specs.Expressions.{classes_pass}
+use Rattle.algebra.specs.Classes.{class_columns, AreFormed}
 use Rattle.logical.specs.Frames.{query_frame, is_framed}
-use Rattle.logical.specs.FormedFrames.{AreFormed, own_aggregates}
+use Rattle.logical.specs.FormedFrames.{own_aggregates}
 use Rattle.logical.proofs.FormedQueries.{frames_formed}
 use Rattle.logical.proofs.FrameOperators.{frames_framed}
-use Rattle.logical.proofs.Same.{tested_expr}
-use Rattle.checker.specs.Replay.{line_replays, lines_replay}
-use Rattle.checker.proofs.Founded.{line_at}
+use Rattle.algebra.proofs.Same.{tested_expr}
+use Rattle.derivation.specs.Replay.{line_replays, lines_replay}
+use Rattle.derivation.proofs.Founded.{line_at}
 use Rattle.planner.specs.Canonical.{NameEarlier}
 use Rattle.planner.proofs.Passes.{passes_at}
 

@@ -1,7 +1,7 @@
 pub mod Accepted
 pub mod ClassPlans
 pub mod FrameLines
-pub mod Nodes
 pub mod OneCertificate
+pub mod Operators
 pub mod OrderedPlans
 pub mod Passes

@@ -4,79 +4,78 @@ use Rattle.std.specs.List.{slice_get, list_all}
 use Rattle.std.proofs.lemmas.Bool.{and_parts, eqb-true}
 use Rattle.values.specs.Faults.{◌>>=◌, wanted, wanted_if}
 use Rattle.query.specs.declared.query.Query.{Query}
-use Rattle.logical.specs.declared.expr.Expr.{Expr}
-use Rattle.logical.specs.declared.expr.Expr.TheVariants.{Get, Select, Join, LeftJoin, Keep, Distinct, Group}
-use Rattle.logical.specs.Columns.{has}
-use Rattle.logical.specs.Equality.{same_conditions, same_columns, same_aggregations}
-use Rattle.logical.specs.Expressions.{input_classes, is_plain}
-use Rattle.logical.specs.Classes.{class_columns}
+use Rattle.algebra.specs.declared.expr.Expr.{Expr}
+use Rattle.algebra.specs.declared.expr.Expr.TheVariants.{Get, Select, Join, LeftJoin, Keep, Distinct, Group}
+use Rattle.algebra.specs.Columns.{has}
+use Rattle.algebra.specs.Equality.{same_conditions, same_columns, same_aggregations}
+use Rattle.algebra.specs.Expressions.{input_classes, is_plain}
+use Rattle.algebra.specs.Classes.{class_columns}
 use Rattle.logical.specs.Frames.{query_frame}
-use Rattle.logical.proofs.Same.{equal_conditions, equal_columns, equal_aggregations}
+use Rattle.algebra.proofs.Same.{equal_conditions, equal_columns, equal_aggregations}
 use Rattle.physical.specs.declared.plan.JoinKind.TheVariants.{Inner, Left}
 use Rattle.physical.specs.declared.plan.OrderKey.{OrderKey}
+use Rattle.physical.specs.declared.plan.Operator.{Operator}
+use Rattle.physical.specs.declared.plan.Operator.TheVariants.{Scan, Filter, FilterSubqueries, Projection, NestedLoopJoin, HashGroup, HashDistinct}
 use Rattle.physical.specs.declared.plan.Node.{Node}
-use Rattle.physical.specs.declared.plan.Node.TheVariants.{Scan, Filter, FilterSubqueries, Cut, Loop, Sort, HashGroup, HashDistinct}
+use Rattle.physical.specs.declared.plan.Node.TheVariants.{Implements, Sort}
 use Rattle.physical.specs.declared.plan.Plan.{Plan, roll-Plan, out-Plan, out-roll-Plan, roll-out-Plan, fold_out-Plan, ind-Plan, map-Plan}
 use Rattle.physical.specs.declared.plan.Plan.TheOpen.{Plan-F}
-use Rattle.physical.specs.Orders.{query_order}
-use Rattle.checker.specs.declared.certificate.Line.{Line}
-use Rattle.checker.specs.declared.certificate.Certificate.{Certificate}
-use Rattle.checker.specs.declared.certificate.CheckRefusal.{CheckRefusal}
-use Rattle.checker.specs.declared.certificate.CheckReason.TheVariants.{UnknownLine, IllFormed, OtherOperator, UnsortedAnswer}
-use Rattle.checker.specs.Replay.{refusal, founding, line_of, computes, sort_fits, operator_fits, at_line, node_fits, inputs_fit, plan_fits, lines_replay, is_delivered, root, replayed}
-use Rattle.checker.proofs.Chains.{both_ok, wanted_if_ok}
-use Rattle.checker.proofs.Fits.{plan_fits_out, operator-is}
+use Rattle.derivation.specs.QueryOrders.{query_order}
+use Rattle.derivation.specs.declared.certificate.Line.{Line}
+use Rattle.derivation.specs.declared.certificate.Certificate.{Certificate}
+use Rattle.derivation.specs.declared.certificate.CheckRefusal.{CheckRefusal}
+use Rattle.derivation.specs.declared.certificate.CheckReason.TheVariants.{UnknownLine, IllFormed, OtherOperator, UnsortedAnswer}
+use Rattle.derivation.specs.Replay.{refusal, founding, implements, sort_fits, operator_fits, node_fits, inputs_fit, plan_fits, lines_replay, is_delivered, root, replayed}
+use Rattle.derivation.proofs.Results.{both_ok, wanted_if_ok}
+use Rattle.derivation.proofs.Fits.{plan_fits_out, operator-is}
 use Rattle.planner.specs.Canonical.{is_sort, unsorted_layer, is_unsorted, top, IsCanonical, IsOnlyCanonical}
 use Rattle.planner.proofs.Accepted.{founding_lines}
 
--- ---- one node computes an expression
+-- ---- one operator implements an expression
 
--- the node of an expression at its line; frames have no semijoin and no antijoin
-abbrev node_for : ℕ → Expr → Node
-node_for g (Get o) = Scan g o
-node_for g (Select C x) = if is_plain C then Filter g C else FilterSubqueries g C
-node_for g (Join C a b) = Loop g Inner C
-node_for g (LeftJoin C a b) = Loop g Left C
-node_for g (Keep K x) = Cut g K
-node_for g (Group K G x) = HashGroup g K G
-node_for g x = HashDistinct g
+-- the operator of an expression; frames have no semijoin and no antijoin
+abbrev operator_for : Expr → Operator
+operator_for (Get o) = Scan o
+operator_for (Select C x) = if is_plain C then Filter C else FilterSubqueries C
+operator_for (Join C a b) = NestedLoopJoin Inner C
+operator_for (LeftJoin C a b) = NestedLoopJoin Left C
+operator_for (Keep K x) = Projection K
+operator_for (Group K G x) = HashGroup K G
+operator_for x = HashDistinct
 
 is-false : (b : Bool) → not b ≡ true → b ≡ false
 is-false true h = cc
 is-false false h = refl
 
-one-node : (g : ℕ) (node : Node) (x : Expr) → line_of node ≡ Some g → computes node x ≡ true → node ≡ node_for g x
-one-node g (Scan l o) (Get p) cites h = let e : l ≡ g = cc in rw (e, eqb-true o p h) refl
-one-node g (Filter l C) (Select D x) cites h = let e : l ≡ g = cc in let parts = and_parts (is_plain D) (same_conditions C D) h in rw (e, equal_conditions C D parts.1, parts.0) refl
-one-node g (FilterSubqueries l C) (Select D x) cites h =
-    let e : l ≡ g = cc in
+one-operator : (operator : Operator) (x : Expr) → implements operator x ≡ true → operator ≡ operator_for x
+one-operator (Scan o) (Get p) h = rw (eqb-true o p h) refl
+one-operator (Filter C) (Select D x) h = let parts = and_parts (is_plain D) (same_conditions C D) h in rw (equal_conditions C D parts.1, parts.0) refl
+one-operator (FilterSubqueries C) (Select D x) h =
     let parts = and_parts (not (is_plain D)) (same_conditions C D) h in
-    rw (e, equal_conditions C D parts.1, is-false (is_plain D) parts.0) refl
-one-node g (Cut l K) (Keep L x) cites h = let e : l ≡ g = cc in rw (e, equal_columns K L h) refl
-one-node g (Loop l Inner C) (Join D a b) cites h = let e : l ≡ g = cc in rw (e, equal_conditions C D h) refl
-one-node g (Loop l Left C) (LeftJoin D a b) cites h = let e : l ≡ g = cc in rw (e, equal_conditions C D h) refl
-one-node g (HashGroup l K G) (Group L H x) cites h =
-    let e : l ≡ g = cc in
+    rw (equal_conditions C D parts.1, is-false (is_plain D) parts.0) refl
+one-operator (Projection K) (Keep L x) h = rw (equal_columns K L h) refl
+one-operator (NestedLoopJoin Inner C) (Join D a b) h = rw (equal_conditions C D h) refl
+one-operator (NestedLoopJoin Left C) (LeftJoin D a b) h = rw (equal_conditions C D h) refl
+one-operator (HashGroup K G) (Group L H x) h =
     let parts = and_parts (same_columns K L) (same_aggregations G H) h in
-    rw (e, equal_columns K L parts.0, equal_aggregations G H parts.1) refl
-one-node g (HashDistinct l) (Distinct x) cites h = let e : l ≡ g = cc in rw (e) refl
-one-node g node x cites h = cc
+    rw (equal_columns K L parts.0, equal_aggregations G H parts.1) refl
+one-operator HashDistinct (Distinct x) h = refl
+one-operator operator x h = cc
 
--- each operator but a sort cites a line
-line-there : (node : Node) → is_sort node ≡ false → (l : ℕ) × (line_of node ≡ Some l)
-line-there (Scan l o) none = (l, refl)
-line-there (Filter l C) none = (l, refl)
-line-there (FilterSubqueries l C) none = (l, refl)
-line-there (Cut l K) none = (l, refl)
-line-there (Loop l kind C) none = (l, refl)
-line-there (Sort keys) none = cc
-line-there (HashGroup l K G) none = (l, refl)
-line-there (HashDistinct l) none = (l, refl)
+-- each node but a sort has a line and an operator
+record IsOperator (node : Node) : Type 0 where
+  line : ℕ
+  operator : Operator
+  is : node ≡ Implements line operator
 
--- ---- one plan without a sort computes a class
+operator-there : (node : Node) → is_sort node ≡ false → IsOperator node
+operator-there (Implements line operator) none = record { line = line; operator = operator; is = refl }
+operator-there (Sort keys) none = cc
+
+-- ---- one plan without a sort is of a class
 
 module _ (lines : List Expr) where
-  -- the plan computes the class, in whatever columns, order and numbers
+  -- the plan is of the class, in whatever columns, order and numbers
   record Fits (g : ℕ) (p : Plan) : Type 0 where
     cols : ℕ → List ℕ
     ordered : Bool
@@ -98,16 +97,16 @@ module _ (lines : List Expr) where
       let steps = both_ok (plan_fits lines cols p true g n) (λ m. inputs_fit (map (plan_fits lines cols) plans) classes m) m fits in
       (record { cols = cols; ordered = true; number = n; after = steps.0; fits = steps.1 }, all-fit cols classes plans steps.0 m (omega (arith, count)) steps.2)
 
-  -- a node that computes the expression of its class, over plans of the classes that it names
+  -- the operator that implements the expression of its class, over plans of the classes that it names
   record FitsNode (g : ℕ) (node : Node) (inputs : List Plan) : Type 0 where
     expr : Expr
     at : slice_get lines g ≡ Some expr
-    is : node ≡ node_for g expr
+    is : node ≡ Implements g (operator_for expr)
     all : AllFit (input_classes expr) inputs
 
-  line-is : (l : ℕ) (node : Node) (k g n : ℕ) (needed : List ℕ) → operator_fits lines l node k g n ≡ Ok needed → l ≡ g
-  line-is l node k g n needed e =
-      let test : Expr → Bool = λ x. l == g && computes node x && k == length (input_classes x) in
+  line-is : (l : ℕ) (operator : Operator) (k g n : ℕ) (needed : List ℕ) → operator_fits lines l operator k g n ≡ Ok needed → l ≡ g
+  line-is l operator k g n needed e =
+      let test : Expr → Bool = λ x. l == g && implements operator x && k == length (input_classes x) in
       let steps = both_ok (wanted (refusal n UnknownLine) (slice_get lines l)) (λ x. wanted_if (refusal n OtherOperator) (test x) (input_classes x)) needed e in
       let tests = wanted_if_ok (refusal n OtherOperator) (test steps.0) (input_classes steps.0) needed steps.2 in
       eqb-true l g (and_parts _ _ (and_parts _ _ tests.0).0).0
@@ -128,15 +127,18 @@ module _ (lines : List Expr) where
       let k : ℕ = length (out-Plan p).inputs in
       let n : ℕ = f.number in
       let steps = both_ok (node_fits lines f.cols node k g n) (rest f.cols p f.ordered n) f.after (sym (plan_fits_out lines f.cols p f.ordered g n) ∙ f.fits) in
-      let line = line-there node none in
-      let operator : operator_fits lines line.0 node k g n ≡ Ok steps.0 = sym (ap (λ o. at_line o lines f.cols node k g n) line.1) ∙ steps.1 in
-      let found = operator-is lines line.0 node k g n steps.0 operator in
+      let there = operator-there node none in
+      let fits : operator_fits lines there.line there.operator k g n ≡ Ok steps.0 = sym (ap (λ node. node_fits lines f.cols node k g n) there.is) ∙ steps.1 in
+      let found = operator-is lines there.line there.operator k g n steps.0 fits in
       record {
         expr = found.expr;
         at = found.at;
-        is = one-node g node found.expr (line.1 ∙ ap Some (line-is line.0 node k g n steps.0 operator)) found.computed;
+        is = there.is ∙ two (line-is there.line there.operator k g n steps.0 fits) (one-operator there.operator found.expr found.implemented);
         all = subst (λ L. AllFit L (out-Plan p).inputs) (sym found.needs) (inputs-are f.cols p f.ordered n f.after steps.0 found.count steps.2);
       }
+    where
+      two : {l m : ℕ} {a b : Operator} → l ≡ m → a ≡ b → Implements l a ≡ Implements m b
+      two e f = rw (e, f) refl
 
   unsorted-out : (p : Plan) → is_unsorted p ≡ true → (is_sort (out-Plan p).node ≡ false) × (list_all (λ b. b) (map is_unsorted (out-Plan p).inputs) ≡ true)
   unfolding is_unsorted
@@ -183,12 +185,12 @@ module _ (lines : List Expr) where
       let same : one.expr ≡ second.expr = let e : Some one.expr ≡ Some second.expr = sym one.at ∙ second.at in cc in
       let inputs : z.inputs ≡ (out-Plan other).inputs = all-one y.inputs (out-Plan other).inputs (input_classes one.expr) (subst (λ w. list_all (λ b. b) (map is_unsorted w.inputs) ≡ true) out here.1) there.1 one.all
       (subst (λ x. AllFit (input_classes x) (out-Plan other).inputs) (sym same) second.all) in
-      both z (out-Plan other) (one.is ∙ ap (node_for g) same ∙ sym second.is) inputs ∙ roll-out-Plan other
+      both z (out-Plan other) (one.is ∙ ap (λ x. Implements g (operator_for x)) same ∙ sym second.is) inputs ∙ roll-out-Plan other
 
   one-plan : (p : Plan) → P p
   one-plan = ind-Plan P (λ x y is. subst (λ z. P (roll-Plan z)) is (step y))
 
-  -- a sort on top computes what the plan below does
+  -- a sort on top is of the class of the plan below
   below-fits : (keys : List OrderKey) (p : Plan) (g : ℕ) → Fits g (top keys p) → Fits g p
   below-fits [] p g f = f
   below-fits (k ∷ keys) p g f =

@@ -1,4 +1,4 @@
--- The plan with the sort on top computes the same class, and delivers the ORDER BY.
+-- The plan with the sort on top is of the same class, and delivers the ORDER BY.
 use Rattle.std.proofs.Common.{◌≡◌, refl, ap, sym, ◌∙◌, ℕ, ◌+◌, true, List, [], ◌∷◌, length, take, Option, Some, None, Ok}
 use Rattle.std.specs.List.{slice_get, list_all}
 use Rattle.std.specs.Coded.{coded_list}
@@ -6,17 +6,18 @@ use Rattle.std.proofs.lemmas.Bool.{and_from}
 use Rattle.std.proofs.Math.Seq.{take-length}
 use Rattle.query.specs.declared.query.SortKey as order_by
 use Rattle.query.specs.declared.query.Query.{Query}
-use Rattle.logical.specs.declared.expr.Expr.{Expr}
-use Rattle.logical.specs.Columns.{has, within}
+use Rattle.algebra.specs.declared.expr.Expr.{Expr}
+use Rattle.algebra.specs.Columns.{has, is_subset}
 use Rattle.logical.specs.Frames.{query_numbers}
-use Rattle.logical.proofs.Same.{tested}
+use Rattle.algebra.proofs.Same.{tested}
 use Rattle.physical.specs.declared.plan.OrderKey.{OrderKey}
 use Rattle.physical.specs.contracts.plan.OrderKey as order_key
 use Rattle.physical.specs.declared.plan.Node.TheVariants.{Sort}
 use Rattle.physical.specs.declared.plan.Plan.{Plan, out-roll-Plan, fold-roll-Plan}
-use Rattle.physical.specs.Orders.{Delivered, ordered_column, ordered_columns, query_order, deliver_layer, delivered}
-use Rattle.checker.specs.Replay.{plan_fits, same_order, is_delivered}
-use Rattle.checker.proofs.Fits.{plan_fits_out}
+use Rattle.physical.specs.Orders.{Delivered, deliver_layer, delivered}
+use Rattle.derivation.specs.QueryOrders.{ordered_column, ordered_columns, query_order}
+use Rattle.derivation.specs.Replay.{plan_fits, same_order, is_delivered}
+use Rattle.derivation.proofs.Fits.{plan_fits_out}
 use Rattle.planner.specs.Canonical.{top, IsPlanOf}
 use Rattle.planner.proofs.Passes.{passes_at}
 
@@ -25,17 +26,17 @@ abbrev pub AreColumns : List ℕ → List OrderKey → Type 0
 AreColumns columns keys = list_all (λ k. has columns k.column) keys ≡ true
 
 -- keys of an ORDER BY name columns of the items
-key-within : (numbers columns : List ℕ) (k : order_by.SortKey) (keys : List OrderKey) → within numbers columns ≡ true → AreColumns columns keys
+key-subset : (numbers columns : List ℕ) (k : order_by.SortKey) (keys : List OrderKey) → is_subset numbers columns ≡ true → AreColumns columns keys
     → AreColumns columns (ordered_column (slice_get numbers k.item) k keys)
-key-within numbers columns k keys shown rest = by (slice_get numbers k.item) refl
+key-subset numbers columns k keys shown rest = by (slice_get numbers k.item) refl
   where
     by : (o : Option ℕ) → slice_get numbers k.item ≡ o → AreColumns columns (ordered_column o k keys)
     by None at = rest
     by (Some c) at = and_from _ _ (passes_at (has columns) numbers k.item c shown at) rest
 
-all-within : (numbers columns : List ℕ) (keys : List order_by.SortKey) → within numbers columns ≡ true → AreColumns columns (ordered_columns numbers keys)
-all-within numbers columns [] shown = refl
-all-within numbers columns (k ∷ keys) shown = key-within numbers columns k (ordered_columns numbers keys) shown (all-within numbers columns keys shown)
+keys-subset : (numbers columns : List ℕ) (keys : List order_by.SortKey) → is_subset numbers columns ≡ true → AreColumns columns (ordered_columns numbers keys)
+keys-subset numbers columns [] shown = refl
+keys-subset numbers columns (k ∷ keys) shown = key-subset numbers columns k (ordered_columns numbers keys) shown (keys-subset numbers columns keys shown)
 
 same-order : (keys : List OrderKey) → same_order keys keys ≡ true
 unfolding same_order
@@ -54,7 +55,7 @@ top_delivered q plan = by (query_order q)
     by [] = same-order []
     by (k ∷ keys) = rw (sort_delivers q k keys plan, take-length (k ∷ keys)) (same-order (k ∷ keys))
 
--- the sort computes the class that the plan below computes
+-- the sort is of the class of the plan below
 pub top_fits : (lines : List Expr) (cols : ℕ → List ℕ) (keys : List OrderKey) (plan : Plan) (g n : ℕ) → IsPlanOf lines g plan → AreColumns (cols g) keys
     → (m : ℕ) × (plan_fits lines cols (top keys plan) true g n ≡ Ok m)
 top_fits lines cols [] plan g n is columns = is.fits cols n
@@ -63,5 +64,5 @@ top_fits lines cols (k ∷ keys) plan g n is columns =
     (input.0, plan_fits_out lines cols (top (k ∷ keys) plan) true g n ∙ rw (out-roll-Plan (record { node = Sort (k ∷ keys); inputs = plan ∷ [] }), columns, input.1) refl)
 
 -- the ORDER BY is by columns of the class that shows the items
-pub order_within : (q : Query) (columns : List ℕ) → within (query_numbers q) columns ≡ true → AreColumns columns (query_order q)
-order_within q columns shown = all-within (query_numbers q) columns q.order shown
+pub order_subset : (q : Query) (columns : List ℕ) → is_subset (query_numbers q) columns ≡ true → AreColumns columns (query_order q)
+order_subset q columns shown = keys-subset (query_numbers q) columns q.order shown

@@ -3,18 +3,18 @@
 use Rattle.std.specs.Prelude.{◌≡◌, ℕ, Bool, true, false, not, ◌&&◌, nat_lt, List, [], ◌∷◌, map, slice_get, Some, Ok}
 use Rattle.std.specs.List.{list_all}
 use Rattle.query.specs.declared.query.Query.{Query}
-use Rattle.logical.specs.declared.expr.Expr.{Expr}
-use Rattle.logical.specs.Expressions.{classes_pass}
+use Rattle.algebra.specs.declared.expr.Expr.{Expr}
+use Rattle.algebra.specs.Expressions.{classes_pass}
 use Rattle.logical.specs.Frames.{query_frame, is_framed}
 use Rattle.physical.specs.declared.plan.OrderKey.{OrderKey}
 use Rattle.physical.specs.declared.plan.Node.{Node}
 use Rattle.physical.specs.declared.plan.Node.TheVariants.{Sort}
 use Rattle.physical.specs.declared.plan.Plan.{Plan, roll-Plan, fold-Plan}
 use Rattle.physical.specs.declared.plan.Plan.TheOpen.{Plan-F}
-use Rattle.physical.specs.Orders.{query_order}
-use Rattle.checker.specs.declared.certificate.Line.TheVariants.{Founds}
-use Rattle.checker.specs.declared.certificate.Certificate.{Certificate}
-use Rattle.checker.specs.Replay.{line_of, computes, plan_fits, replayed}
+use Rattle.derivation.specs.QueryOrders.{query_order}
+use Rattle.derivation.specs.declared.certificate.Line.TheVariants.{Founds}
+use Rattle.derivation.specs.declared.certificate.Certificate.{Certificate}
+use Rattle.derivation.specs.Replay.{plan_fits, replayed}
 
 -- ---- the certificate
 
@@ -41,7 +41,7 @@ pub record IsCanonical (q : Query) (V : Certificate) : Type 0 where
   pub unsorted : is_unsorted below ≡ true
   pub plan : V.plan ≡ top (query_order q) below
 
--- no other certificate of this form replays: each node of a plan without a sort is told by the expression that it computes
+-- no other certificate of this form replays: each operator of a plan without a sort is known by the expression that it implements
 abbrev pub IsOnlyCanonical : Query → Certificate → Type 0
 IsOnlyCanonical q V = (W : Certificate) → IsCanonical q W → replayed q W ≡ Ok W → W ≡ V
 
@@ -51,13 +51,7 @@ IsOnlyCanonical q V = (W : Certificate) → IsCanonical q W → replayed q W ≡
 abbrev pub NameEarlier : List Expr → Type 0
 NameEarlier lines = (n : ℕ) (x : Expr) → slice_get lines n ≡ Some x → (classes_pass (λ g. nat_lt g n) x ≡ true) × (is_framed x ≡ true)
 
--- the node cites the line, computes the expression, and is no sort
-pub record IsNodeOf (line : ℕ) (x : Expr) (node : Node) : Type 0 where
-  pub cites : line_of node ≡ Some line
-  pub computed : computes node x ≡ true
-  pub unsorted : is_sort node ≡ false
-
--- the plan has no sort, and computes the class, at whatever number its nodes begin
+-- the plan has no sort, and is of the class, at whatever number its nodes begin
 pub record IsPlanOf (lines : List Expr) (g : ℕ) (plan : Plan) : Type 0 where
   pub unsorted : is_unsorted plan ≡ true
   pub fits : (cols : ℕ → List ℕ) (n : ℕ) → (m : ℕ) × (plan_fits lines cols plan true g n ≡ Ok m)

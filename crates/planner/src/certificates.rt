@@ -3,61 +3,58 @@
 ghost use Rattle.std.specs.Prelude.{◌≡◌, ◌<◌, IfOk, Ok, true, length, map};
 ghost use Rattle.query.specs.Bound.{is_bound};
 ghost use Rattle.logical.specs.Frames.{is_framed};
-ghost use Rattle.checker.specs.declared.certificate.Line.TheVariants.{Founds};
-ghost use Rattle.checker.specs.Replay.{replayed};
+ghost use Rattle.derivation.specs.declared.certificate.Line.TheVariants.{Founds};
+ghost use Rattle.derivation.specs.Replay.{implements, replayed};
 ghost use Rattle.planner.specs.Canonical as spec;
 
-use checker::{Certificate, Line};
-use logical::{Expr, query_frame};
-use physical::{JoinKind, Node, OrderKey, Plan, query_order};
+use algebra::{ClassId, Expr};
+use derivation::{Certificate, Line, query_order};
+use logical::query_frame;
+use physical::{JoinKind, Node, Operator, OrderKey, Plan};
 use query::Query;
 use std::alloc::{AllocError, Global};
 use values::Items;
 
-/// The node that computes an expression, which is that of the line.
-fn node_of(alloc: Global, line: usize, expr: &Expr) -> Result<Node, AllocError>
+/// The operator that implements an expression.
+fn operator_of(alloc: Global, expr: &Expr) -> Result<Operator, AllocError>
     requires { is_framed expr.now ≡ true }
-    ensures { IfOk result (spec.IsNodeOf line expr.now) }
+    ensures { IfOk result (λ operator. implements operator expr.now ≡ true) }
 {
     match expr {
         Expr::Get(occurrence) => {
             let occurrence = *occurrence;
-            Ok(Node::Scan { line, occurrence })
+            Ok(Operator::Scan { occurrence })
         }
         Expr::Select(own, _) => {
             let conjuncts = own.copy(alloc)?;
             if own.is_plain() {
-                Ok(Node::Filter { line, conjuncts })
+                Ok(Operator::Filter { conjuncts })
             } else {
-                Ok(Node::FilterSubqueries { line, conjuncts })
+                Ok(Operator::FilterSubqueries { conjuncts })
             }
         }
-        Expr::Join(own, _, _) => Ok(Node::Loop {
-            line,
+        Expr::Join(own, _, _) => Ok(Operator::NestedLoopJoin {
             kind: JoinKind::Inner,
             conjuncts: own.copy(alloc)?,
         }),
-        Expr::LeftJoin(own, _, _) => Ok(Node::Loop {
-            line,
+        Expr::LeftJoin(own, _, _) => Ok(Operator::NestedLoopJoin {
             kind: JoinKind::Left,
             conjuncts: own.copy(alloc)?,
         }),
         Expr::Semi(_, _, _) | Expr::Anti(_, _, _, _) => unreachable!(),
-        Expr::Keep(own, _) => Ok(Node::Cut {
-            line,
+        Expr::Keep(own, _) => Ok(Operator::Projection {
             columns: own.copy(alloc)?,
         }),
-        Expr::Distinct(_) => Ok(Node::HashDistinct { line }),
-        Expr::Group(own, added, _) => Ok(Node::HashGroup {
-            line,
+        Expr::Distinct(_) => Ok(Operator::HashDistinct),
+        Expr::Group(own, added, _) => Ok(Operator::HashGroup {
             keys: own.copy(alloc)?,
             added: Items::from_slice(alloc, added.as_slice())?,
         }),
     }
 }
 
-/// The plan of a class: the node of its line, over the plans of the classes that the line names.
-fn plan_of(alloc: Global, frame: &[Expr], class: usize) -> Result<Plan, AllocError>
+/// The plan of a class: the operator of its line, over the plans of the classes that the line names.
+fn plan_of(alloc: Global, frame: &[Expr], class: ClassId) -> Result<Plan, AllocError>
     requires earlier { spec.NameEarlier frame.now }
     requires class { class < length frame.now }
     ensures { IfOk result (spec.IsPlanOf frame.now class) }
@@ -68,7 +65,11 @@ fn plan_of(alloc: Global, frame: &[Expr], class: usize) -> Result<Plan, AllocErr
     for input in classes.as_slice() {
         inputs.push(plan_of(alloc, frame, *input)?)?;
     }
-    let node = node_of(alloc, class, expr)?;
+    let operator = operator_of(alloc, expr)?;
+    let node = Node::Implements {
+        line: class,
+        operator,
+    };
     Ok(Plan { node, inputs })
 }
 

@@ -3,7 +3,7 @@ use Rattle.std.proofs.Common.{◌≡◌, refl, ap, sym, ◌∙◌, List, map, Op
 use Rattle.values.specs.declared.truth.Comparison.{Comparison}
 use Rattle.query.specs.declared.query.Term.{Term}
 use Rattle.query.specs.declared.query.Occurrence.{Occurrence}
-use Rattle.query.specs.declared.query.TableUse.{TableUse}
+use Rattle.query.specs.declared.query.TableInstance.{TableInstance}
 use Rattle.query.specs.declared.query.Cond.{Cond, roll-Cond}
 use Rattle.query.specs.declared.query.Cond.TheVariants as cond
 use Rattle.query.specs.declared.query.Cond.TheOpen.{Cond-F, From-F, Block-F}
@@ -13,7 +13,7 @@ use Rattle.query.specs.declared.query.From.TheVariants as from
 use Rattle.query.specs.declared.query.Block.{Block, out-Block}
 use Rattle.query.specs.Bound.{CondScope, FromScope, BlockScope, cond_scope, from_scope, block_scope, cond_scope_layer, from_scope_layer, block_scope_layer}
 
-module _ (uses : List TableUse) where
+module _ (uses : List TableInstance) where
   scope_roll : (x : Cond-F Cond From Block) → cond_scope uses (roll-Cond x) ≡ cond_scope_layer (map-Cond Cond From Block CondScope FromScope BlockScope (cond_scope uses) (from_scope uses) (block_scope uses) x)
   unfolding cond_scope from_scope block_scope
   scope_roll x = fold-roll-Cond CondScope FromScope BlockScope cond_scope_layer (from_scope_layer uses) block_scope_layer x

@@ -1,11 +1,11 @@
--- The table occurrences of a query over a schema.
+-- The table instances of a query over a schema.
 use Rattle.std.proofs.Common.{◌≡◌, ap, sym, ℕ, List, [], ◌∷◌, map, length, slice_index_or, Some}
 use Prim.Native.Nat.{zero, suc}
 use Rattle.std.specs.List.{AllByRecursion, slice_get}
 use Rattle.schema.specs.declared.schema.Table.{Table}
 use Rattle.schema.specs.declared.schema.Schema.{Schema}
 use Rattle.schema.specs.Databases.{Database}
-use Rattle.query.specs.declared.query.TableUse.{TableUse}
+use Rattle.query.specs.declared.query.TableInstance.{TableInstance}
 use Rattle.query.specs.Bound.{IsOver}
 use Rattle.query.specs.Rows.{tables_of}
 
@@ -15,6 +15,6 @@ get-width (t ∷ tables) zero entry is = let same : t ≡ entry = cc is in ap (�
 get-width (t ∷ tables) (suc k) entry is = get-width tables k entry is
 
 -- in each database of the schema they are as wide as their tables
-pub uses-wide : (S : Schema) (D : Database) (uses : List TableUse) → AllByRecursion (IsOver S) uses → AllByRecursion (λ t. length t.entry.columns ≡ (tables_of S D).width t.table) uses
+pub uses-wide : (S : Schema) (D : Database) (uses : List TableInstance) → AllByRecursion (IsOver S) uses → AllByRecursion (λ t. length t.entry.columns ≡ (tables_of S D).width t.table) uses
 uses-wide S D [] over = tt
 uses-wide S D (t ∷ uses) over = (get-width S.tables t.table t.entry over.0, uses-wide S D uses over.1)

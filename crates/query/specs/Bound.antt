@@ -11,7 +11,7 @@ use Rattle.query.specs.declared.query.Aggregate.TheVariants as by
 use Rattle.query.specs.declared.query.Item.{Item}
 use Rattle.query.specs.declared.query.Item.TheVariants as item
 use Rattle.query.specs.declared.query.Occurrence.{Occurrence}
-use Rattle.query.specs.declared.query.TableUse.{TableUse}
+use Rattle.query.specs.declared.query.TableInstance.{TableInstance}
 use Rattle.query.specs.declared.query.Cond.{Cond}
 use Rattle.query.specs.declared.query.From.{From}
 use Rattle.query.specs.declared.query.Block.{Block}
@@ -37,12 +37,12 @@ number scope c = number_at (slice_index_or scope c.level []) c.place
 abbrev pub names : Scope → Column → Bool
 names scope c = nat_lt c.place (length (slice_index_or scope c.level []))
 
--- the column numbers of a table occurrence, in the order of its rows
-abbrev pub numbers_of_use : Option TableUse → List ℕ
+-- the column numbers of a table instance, in the order of its rows
+abbrev pub numbers_of_use : Option TableInstance → List ℕ
 numbers_of_use None = []
 numbers_of_use (Some t) = range_with_len t.first_column (length t.entry.columns)
 
-abbrev pub use_numbers : List TableUse → Occurrence → List ℕ
+abbrev pub use_numbers : List TableInstance → Occurrence → List ℕ
 use_numbers uses o = numbers_of_use (slice_get uses o.number)
 
 -- ---- numbers of their own
@@ -94,20 +94,20 @@ cond_scope_layer (Cond-F.Exists q) = record { plain = false; bound = q.bound }
 cond_scope_layer (Cond-F.In a q) = record { plain = false; bound = λ scope. bound_term scope a && (q.single && q.bound scope) }
 
 -- the occurrence is one of the query's, of the same table
-abbrev pub is_use_of : Option TableUse → Occurrence → Bool
+abbrev pub is_use_of : Option TableInstance → Occurrence → Bool
 is_use_of None o = false
 is_use_of (Some t) o = t.table == o.table
 
-abbrev pub is_used : List TableUse → Occurrence → Bool
+abbrev pub is_used : List TableInstance → Occurrence → Bool
 is_used uses o = is_use_of (slice_get uses o.number) o
 
 -- an ON names the columns of both sides, and has no subquery
-abbrev pub join_scope : List TableUse → FromScope → Occurrence → CondScope → FromScope
+abbrev pub join_scope : List TableInstance → FromScope → Occurrence → CondScope → FromScope
 join_scope uses f o on =
     let numbers = f.numbers ++ use_numbers uses o in
     record { numbers = numbers; bound = λ scope. f.bound scope && (is_used uses o && (on.plain && on.bound (numbers ∷ scope))) }
 
-abbrev pub from_scope_layer : List TableUse → From-F CondScope FromScope BlockScope → FromScope
+abbrev pub from_scope_layer : List TableInstance → From-F CondScope FromScope BlockScope → FromScope
 from_scope_layer uses (From-F.Table o) = record { numbers = use_numbers uses o; bound = λ scope. is_used uses o }
 from_scope_layer uses (From-F.Join f o on) = join_scope uses f o on
 from_scope_layer uses (From-F.LeftJoin f o on) = join_scope uses f o on
@@ -158,13 +158,13 @@ block_scope_layer q =
           && (q.from.bound scope && (bound_filter q.filter (numbers ∷ scope) && bound_items q.grouped (length numbers) q.keys q.items (numbers ∷ scope)));
     }
 
-unfoldable pub cond_scope : List TableUse → Cond → CondScope
+unfoldable pub cond_scope : List TableInstance → Cond → CondScope
 cond_scope uses = fold-Cond CondScope FromScope BlockScope cond_scope_layer (from_scope_layer uses) block_scope_layer
 
-unfoldable pub from_scope : List TableUse → From → FromScope
+unfoldable pub from_scope : List TableInstance → From → FromScope
 from_scope uses = fold-From CondScope FromScope BlockScope cond_scope_layer (from_scope_layer uses) block_scope_layer
 
-unfoldable pub block_scope : List TableUse → Block → BlockScope
+unfoldable pub block_scope : List TableInstance → Block → BlockScope
 block_scope uses = fold-Block CondScope FromScope BlockScope cond_scope_layer (from_scope_layer uses) block_scope_layer
 
 -- all that the query names is there, and the columns that a condition can name have numbers of their own
@@ -173,11 +173,11 @@ is_bound q = (block_scope q.tables q.block).bound []
 
 -- ---- over a schema
 
--- the table occurrence is one of a table of the schema
-abbrev pub IsOver : Schema → TableUse → Type 0
+-- the table instance is one of a table of the schema
+abbrev pub IsOver : Schema → TableInstance → Type 0
 IsOver S t = slice_get S.tables t.table ≡ Some t.entry
 
--- the query is bound, and so are all its table occurrences
+-- the query is bound, and so are all its table instances
 pub record IsBoundOver (S : Schema) (q : Query) : Type 0 where
   pub bound : is_bound q ≡ true
   pub over : AllByRecursion (IsOver S) q.tables

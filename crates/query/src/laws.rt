@@ -21,7 +21,7 @@ pub fn satisfying_databases_fit()
     ensures { SatisfyingFits }
 {}
 
-/// So an answer, which is told by the computed meaning, is one by the laws alone.
+/// So an answer, which is given by the computed meaning, is one by the laws alone.
 pub fn answers_are_by_laws()
     ensures { AnswersAreByLaws }
 {}

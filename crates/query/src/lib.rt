@@ -9,5 +9,6 @@ pub use laws::{
     worked_rows_hold,
 };
 pub use query::{
-    Aggregate, Block, Column, Cond, From, Item, Occurrence, Query, SortKey, TableUse, Term,
+    Aggregate, Block, Column, ColumnId, Cond, From, Item, Occurrence, OccurrenceId, Query, SortKey,
+    TableInstance, Term,
 };

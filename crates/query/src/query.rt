@@ -3,6 +3,13 @@
 use schema::Table;
 use values::{Boxed, Comparison, Items, Text, Value};
 
+/// The number of a column, which is its own throughout a query: those of the table instances come first, in the order of the
+/// text, and then those of its aggregates.
+pub type ColumnId = usize;
+
+/// The number of a table instance, from 0 in the order of the text, those in subqueries among them.
+pub type OccurrenceId = usize;
+
 /// The column at a place of the row at a level. Level 0 is the innermost row: that of the block's own FROM, and in an ON
 /// the row of the join's two sides. Level 1 is the row of the enclosing block, and so on.
 #[derive(Clone, Copy)]
@@ -30,11 +37,10 @@ pub enum Cond {
     In(Term, Boxed<Block>),
 }
 
-/// A table of the schema, where it stands in the text. Occurrences are numbered from 0 as they stand there, those in
-/// subqueries among them.
+/// The place in the text where a table instance stands.
 #[derive(Clone, Copy)]
 pub struct Occurrence {
-    pub number: usize,
+    pub number: OccurrenceId,
     /// The table's place in the schema.
     pub table: usize,
 }
@@ -64,8 +70,8 @@ pub enum Aggregate {
 #[derive(Clone, Copy)]
 pub enum Item {
     Column(Column),
-    /// An aggregate, and the column number that it has: those of the text's aggregates follow those of its tables.
-    Aggregate(usize, Aggregate),
+    /// An aggregate, and the column that it has.
+    Aggregate(ColumnId, Aggregate),
 }
 
 /// A SELECT without its ORDER BY: a query block, which may also stand as a subquery.
@@ -89,9 +95,9 @@ pub struct SortKey {
     pub descending: bool,
 }
 
-/// What the text says of a table occurrence.
+/// What the text says of a table instance.
 #[derive(Drop)]
-pub struct TableUse {
+pub struct TableInstance {
     /// The table's place in the schema.
     pub table: usize,
     /// Its entry in the schema.
@@ -99,13 +105,13 @@ pub struct TableUse {
     /// The name by which columns name it: its alias, or the table's name.
     pub name: Text,
     /// The number of its first column. The others follow in the order of the schema.
-    pub first_column: usize,
+    pub first_column: ColumnId,
 }
 
 /// A bound query.
 pub struct Query {
-    /// Of each occurrence, by its number.
-    pub tables: Items<TableUse>,
+    /// The table instances, by their numbers.
+    pub tables: Items<TableInstance>,
     pub block: Block,
     /// The items' output names.
     pub names: Items<Text>,

@@ -1,4 +1,4 @@
--- The codes by which the program tells refusals.
+-- The codes by which the program reports refusals.
 use Rattle.std.specs.Prelude.{ℕ, List, codes}
 use Rattle.schema.specs.declared.fault.SchemaRefusal.{SchemaRefusal}
 use Rattle.schema.specs.declared.fault.SchemaRefusal.TheVariants.{NotJson, Shape, TooMany, Repeated, UnknownColumn}

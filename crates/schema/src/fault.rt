@@ -24,7 +24,7 @@ pub enum SchemaRefusal {
 pub type SchemaFault = Fault<SchemaRefusal>;
 
 impl SchemaRefusal {
-    /// The code by which the program tells the refusal.
+    /// The code by which the program reports the refusal.
     pub fn code(self) -> &'static str
         ensures { result.now ≡ code_of self }
     {

@@ -15,7 +15,7 @@ use Rattle.sql_parse.specs.declared.token.Token.{Token}
 use Rattle.sql_parse.specs.declared.token.TokenKind.TheVariants as token
 use Rattle.sql_parse.specs.Classes.{kind_number}
 use Rattle.sql_parse.specs.Sql.{Place, Sql, sample, a_name, a_literal, an_operator, a_column, an_alias, a_table, a_term, a_comparison, a_null_test, a_membership, a_missing, a_test, a_tested, an_existence, a_primary, a_negation, a_conjunction, a_condition, a_join_kind, a_join, a_chain, an_aggregate, an_item_value, an_item, a_direction, a_key, sql}
-use Rattle.sql_parse.specs.StatementReading.{told, reads}
+use Rattle.sql_parse.specs.StatementReading.{reported, reads}
 use Rattle.sql_parse.proofs.SqlDecided.{is_decided}
 
 -- a list of these is read by one token of look-ahead
@@ -62,23 +62,23 @@ chains_list = record { loop = record { decided = refl; pairs = refl }; decided =
 
 -- an item takes a token
 pub less : (end depth : ℕ) {A : Type 0} (g : Sql A) → IsLoop g → (ts : List Token) (v : A) (r : List Token) → reads end depth g ts ≡ Ok (v, r) → length r < length ts
-less end depth g is = less_of sql is_decided (told end) depth g is.decided is.pairs
+less end depth g is = less_of sql is_decided (reported end) depth g is.decided is.pairs
 
 -- an item more
 pub turn_ok : (end depth : ℕ) {A : Type 0} (g : Sql A) → IsLoop g → (front : List A) (ts : List Token) (v : A) (r : List Token) (z : Result (List A × List Token) ParseRefusal)
     → sees sql (first sql g) ts ≡ true → reads end depth g ts ≡ Ok (v, r)
     → with_front front (reads end depth (many g) ts) ≡ z → with_front (front ++ v ∷ []) (reads end depth (many g) r) ≡ z
-turn_ok end depth g is = turn_ok_of sql is_decided (told end) depth g is.decided is.pairs
+turn_ok end depth g is = turn_ok_of sql is_decided (reported end) depth g is.decided is.pairs
 
 -- what stands behind a separator
 behind_ok : (end depth : ℕ) {A : Type 0} (s : Token) (g : Sql A) (ts : List Token) (t : Token) (next : List Token) (v : A) (r : List Token)
-    → one sql (told end) (kind_number s.kind) ts ≡ Ok (t, next) → reads end depth g next ≡ Ok (v, r) → reads end depth (after (tok s) g) ts ≡ Ok (v, r)
+    → one sql (reported end) (kind_number s.kind) ts ≡ Ok (t, next) → reads end depth g next ≡ Ok (v, r) → reads end depth (after (tok s) g) ts ≡ Ok (v, r)
 behind_ok end depth s g ts t next v r is of = rw (is, of) refl
 
 -- a parenthesis less may be opened
 pub opened : (end depth : ℕ) (A : Type 0) (p : Place A) (from ts : List Token) → 0 < depth
-    → inside sql (told end) depth A p from ts ≡ parse sql (told end) (inside sql (told end) (depth - 1)) (closed sql A p) ts
-opened end depth A p from ts h = inside_opened sql (told end) depth A p from ts h
+    → inside sql (reported end) depth A p from ts ≡ parse sql (reported end) (inside sql (reported end) (depth - 1)) (closed sql A p) ts
+opened end depth A p from ts h = inside_opened sql (reported end) depth A p from ts h
 
 -- ---- `g {s g}`
 
@@ -108,10 +108,10 @@ taken true x y e h = cc
 taken false x y e h = cc
 
 -- one token is taken
-one_less : (end class : ℕ) (ts : List Token) (t : Token) (next : List Token) → one sql (told end) class ts ≡ Ok (t, next) → length next < length ts
+one_less : (end class : ℕ) (ts : List Token) (t : Token) (next : List Token) → one sql (reported end) class ts ≡ Ok (t, next) → length next < length ts
 one_less end class [] t next h = cc
 one_less end class (u ∷ us) t next h =
-    let same : us ≡ next = ap (λ (x : Token × List Token). x.1) (taken (kind_number u.kind == class) (u, us) (t, next) ((told end).unexpected (u ∷ us)) h) in
+    let same : us ≡ next = ap (λ (x : Token × List Token). x.1) (taken (kind_number u.kind == class) (u, us) (t, next) ((reported end).unexpected (u ∷ us)) h) in
     rw (← same) (omega arith)
 
 module _ (end depth : ℕ) {A : Type 0} (s : Token) (g : Sql A) where
@@ -130,7 +130,7 @@ module _ (end depth : ℕ) {A : Type 0} (s : Token) (g : Sql A) where
   item_then ts v r h = rw h (one_more v (more r))
 
   -- behind a separator stands a list again
-  list_behind : IsList s g → (r : List Token) (t : Token) (next : List Token) → true ≡ sees sql (kind_number s.kind ∷ []) r → one sql (told end) (kind_number s.kind) r ≡ Ok (t, next) → more r ≡ list next
+  list_behind : IsList s g → (r : List Token) (t : Token) (next : List Token) → true ≡ sees sql (kind_number s.kind ∷ []) r → one sql (reported end) (kind_number s.kind) r ≡ Ok (t, next) → more r ≡ list next
   list_behind is r t next seen at = by (reads end depth g next) refl
     where
       by : (y : Result (A × List Token) ParseRefusal) → reads end depth g next ≡ y → more r ≡ list next
@@ -139,20 +139,20 @@ module _ (end depth : ℕ) {A : Type 0} (s : Token) (g : Sql A) where
           sym (no_front (more r)) ∙ sym on ∙ sym (item_then next x.0 x.1 h)
       by (Err e) h =
           let fails : reads end depth (after (tok s) g) r ≡ Err e = rw (at, h) refl in
-          let ends : with_front [] (more r) ≡ Err e = turn_err_of sql is_decided (told end) depth (after (tok s) g) is.loop.decided is.loop.pairs [] r e (with_front [] (more r)) (sym seen) fails refl in
+          let ends : with_front [] (more r) ≡ Err e = turn_err_of sql is_decided (reported end) depth (after (tok s) g) is.loop.decided is.loop.pairs [] r e (with_front [] (more r)) (sym seen) fails refl in
           let whole : list next ≡ Err e = rw h refl in
           sym (no_front (more r)) ∙ ends ∙ sym whole
 
   -- an item and a separator take tokens
-  pub list_less : IsList s g → (ts : List Token) (v : A) (r : List Token) (t : Token) (next : List Token) → reads end depth g ts ≡ Ok (v, r) → one sql (told end) (kind_number s.kind) r ≡ Ok (t, next) → length next < length ts
+  pub list_less : IsList s g → (ts : List Token) (v : A) (r : List Token) (t : Token) (next : List Token) → reads end depth g ts ≡ Ok (v, r) → one sql (reported end) (kind_number s.kind) r ≡ Ok (t, next) → length next < length ts
   list_less is ts v r t next h at =
-      let item : length r < length ts = takes sql is_decided (told end) depth g (kind_number s.kind ∷ []) is.decided is.pairs (λ n. cc (is.solid)) ts v r h in
+      let item : length r < length ts = takes sql is_decided (reported end) depth g (kind_number s.kind ∷ []) is.decided is.pairs (λ n. cc (is.solid)) ts v r h in
       let separator : length next < length r = one_less end (kind_number s.kind) r t next at in
       omega arith
 
   -- an item and a separator more
   pub list_on : IsList s g → (front : List A) (ts : List Token) (v : A) (r : List Token) (t : Token) (next : List Token) (z : Result (List A × List Token) ParseRefusal)
-      → reads end depth g ts ≡ Ok (v, r) → true ≡ sees sql (kind_number s.kind ∷ []) r → one sql (told end) (kind_number s.kind) r ≡ Ok (t, next)
+      → reads end depth g ts ≡ Ok (v, r) → true ≡ sees sql (kind_number s.kind ∷ []) r → one sql (reported end) (kind_number s.kind) r ≡ Ok (t, next)
       → with_front front (list ts) ≡ z → with_front (front ++ v ∷ []) (list next) ≡ z
   list_on is front ts v r t next z h seen at so_far =
       ap (with_front (front ++ v ∷ [])) (sym (list_behind is r t next seen at)) ∙ fronts front v (more r) ∙ sym (ap (with_front front) (item_then ts v r h)) ∙ so_far

@@ -284,10 +284,10 @@ pub fault_only : (text : Bytes) (done : List Token) (rest : Bytes) (fault : Faul
 fault_only text done rest Memory s l e ts h = tt
 fault_only text done rest (Refused r) s l e ts h = absurd (stands_none text done rest (length text - length rest) r s refl l e ts h)
 
-pub fault_told : (text : Bytes) (done : List Token) (rest : Bytes) (fault : Fault ParseRefusal) → Stands text done rest → 0 < length rest
+pub fault_reported : (text : Bytes) (done : List Token) (rest : Bytes) (fault : Fault ParseRefusal) → Stands text done rest → 0 < length rest
     → Fails fault (token_at (length text - length rest) rest) → IfRefused fault (IsLexicalFault text)
-fault_told text done rest Memory s l e = tt
-fault_told text done rest (Refused r) s l e = stands_fault text done rest (length text - length rest) r s refl l e
+fault_reported text done rest Memory s l e = tt
+fault_reported text done rest (Refused r) s l e = stands_fault text done rest (length text - length rest) r s refl l e
 
 abbrev ok_of : List Token → Result (List Token) (Fault ParseRefusal)
 ok_of done = Ok done

@@ -18,7 +18,7 @@ use Rattle.sql_parse.specs.declared.token.TokenKind.TheVariants as token
 use Rattle.sql_parse.specs.Tokens.{Bytes, is_word_start, is_word_character, IsWord, IsNumber, doubled, opened, quoted, symbol_text, keyword_of, Spells, is_space, IsLongest, IsNoToken}
 use Rattle.sql_parse.specs.Reading.{Lexed, refusal, word_len, word_kind_by, word_at, number_len, starts_number, fits, number_at, quoted_at, text_found, text_at, sign_of, sign_found, sign_at, token_at}
 use Rattle.sql_parse.proofs.TextRuns.{word_cut, number_cut}
-use Rattle.sql_parse.proofs.TextSpelled.{Tells, told, told_len, text_len}
+use Rattle.sql_parse.proofs.TextSpelled.{Reports, reported, reported_len, text_len}
 use Rattle.sql_parse.proofs.TokenNumbers.{are_run, number_spelled, SFits-from_fits, fits_from}
 use Rattle.sql_parse.proofs.TokenSigns.{symbol_code, by_sign}
 use Rattle.sql_parse.proofs.TokenReach.{found_len, reach, reaches, whole_some}
@@ -75,8 +75,8 @@ number_sound at bs h = one (fits (signed_digits_value 10 w)) refl where
 
 text_sound : (at : ℕ) (z : Bytes) → Sound at (39 ∷ z) (1 + text_len z) (text_at at (39 ∷ z))
 unfolding text_at text_len
-text_sound at z = one (quoted_at z) (told z) where
-  one : (o : Option (Bytes × Bytes)) → Tells z o → Sound at (39 ∷ z) (1 + told_len (length z) o) (text_found at o)
+text_sound at z = one (quoted_at z) (reported z) where
+  one : (o : Option (Bytes × Bytes)) → Reports z o → Sound at (39 ∷ z) (1 + reported_len (length z) o) (text_found at o)
   one None h = (refl, (h.0, ap (λ x. 39 ∷ x) h.1, omega arith))
   one (Some x) h =
       (quoted x.0, ap (λ y. 39 ∷ y) h ∙ sym (append_assoc (39 ∷ doubled x.0) (39 ∷ []) x.1), omega (arith, length-append (opened x.0) (39 ∷ [])), refl)

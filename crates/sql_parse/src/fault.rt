@@ -24,7 +24,7 @@ pub enum ParseReason {
 }
 
 impl ParseReason {
-    /// The code by which the program tells it.
+    /// The code by which the program reports it.
     pub fn code(self) -> &'static str
         ensures { result.now ≡ code_of self }
     {

@@ -9,7 +9,7 @@ ghost use Rattle.sql_parse.specs.Classes.{class_number, kind_number};
 ghost use Rattle.sql_parse.specs.Sql as grammar;
 ghost use Rattle.sql_parse.specs.Sql.{sql, a_literal};
 ghost use Rattle.sql_parse.specs.StatementReading as spec;
-ghost use Rattle.sql_parse.specs.StatementReading.{told, reads};
+ghost use Rattle.sql_parse.specs.StatementReading.{reported, reads};
 
 use crate::class::{Class, number_of};
 use crate::fault::{ParseFault, ParseReason, refused};
@@ -45,7 +45,7 @@ pub fn sees(tokens: &[Token], class: Class) -> bool
 /// The next token and those behind it, if it is of the class.
 pub fn accept(tokens: &[Token], end: usize, class: Class) -> Option<(&Token, &[Token])>
     ensures sees { is_some result ≡ sees_next sql (class_number class ∷ []) tokens.now }
-    ensures next { IfSome result (λ x. one sql (told end) (class_number class) tokens.now ≡ Ok (x.0.now, x.1.now)) }
+    ensures next { IfSome result (λ x. one sql (reported end) (class_number class) tokens.now ≡ Ok (x.0.now, x.1.now)) }
 {
     match tokens {
         [token, behind @ ..] if number_of(&token.kind) == class.number() => Some((token, behind)),
@@ -55,7 +55,7 @@ pub fn accept(tokens: &[Token], end: usize, class: Class) -> Option<(&Token, &[T
 
 /// The next token, which has to be of the class.
 pub fn expect(tokens: &[Token], end: usize, class: Class) -> Parsed<'_, &Token>
-    ensures { Gives (λ x. (x.0.now, x.1.now)) result (one sql (told end) (class_number class) tokens.now) }
+    ensures { Gives (λ x. (x.0.now, x.1.now)) result (one sql (reported end) (class_number class) tokens.now) }
 {
     match tokens {
         [token, behind @ ..] if number_of(&token.kind) == class.number() => Ok((token, behind)),
@@ -71,7 +71,7 @@ pub fn followed<T: Drop>(
     class: Class,
 ) -> Parsed<'_, (T, &Token)>
     ensures found { IfOk result (λ x. x.0.0 ≡ found) }
-    ensures next { Gives (λ x. (x.0.1.now, x.1.now)) result (one sql (told end) (class_number class) tokens.now) }
+    ensures next { Gives (λ x. (x.0.1.now, x.1.now)) result (one sql (reported end) (class_number class) tokens.now) }
 {
     let (token, rest) = expect(tokens, end, class)?;
     Ok(((found, token), rest))

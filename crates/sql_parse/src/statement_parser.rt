@@ -5,7 +5,7 @@ ghost use Rattle.grammar.specs.Readers.{finished as with_nothing_behind, whole};
 ghost use Rattle.values.specs.Faults.{Gives};
 ghost use Rattle.sql_parse.specs.ReadingFaults.{IfRefused};
 ghost use Rattle.sql_parse.specs.Sql.{sql, a_statement};
-ghost use Rattle.sql_parse.specs.StatementReading.{told, reads};
+ghost use Rattle.sql_parse.specs.StatementReading.{reported, reads};
 ghost use Rattle.sql_parse.specs.Statements.{ReadsStatement, IsStatementFault, limit};
 
 use crate::class::Class;
@@ -38,7 +38,7 @@ fn statement(alloc: Global, tokens: &[Token], end: usize, depth: usize) -> Parse
 
 /// A tree, if nothing stands behind it.
 fn finished<T: Drop>(found: T, rest: &[Token], end: usize) -> Result<T, ParseFault>
-    ensures { Gives (λ tree. tree) result (with_nothing_behind sql (told end) (found, rest.now)) }
+    ensures { Gives (λ tree. tree) result (with_nothing_behind sql (reported end) (found, rest.now)) }
 {
     match rest {
         [] => Ok(found),
@@ -53,7 +53,7 @@ fn whole_statement(
     end: usize,
     depth: usize,
 ) -> Result<Statement, ParseFault>
-    ensures { Gives (λ tree. tree) result (whole sql (told end) depth a_statement tokens.now) }
+    ensures { Gives (λ tree. tree) result (whole sql (reported end) depth a_statement tokens.now) }
 {
     let (found, rest) = statement(alloc, tokens, end, depth)?;
     finished(found, rest, end)
@@ -67,7 +67,7 @@ fn most_open() -> usize
     64
 }
 
-/// The tree of a statement's text. A refusal tells the first fault: too long a text, then the first place where no token
+/// The tree of a statement's text. A refusal reports the first fault: too long a text, then the first place where no token
 /// begins, a text isn't closed or a number is out of range, then the first token that can't stand where it does or opens a
 /// parenthesis too many.
 pub fn parse_statement(alloc: Global, text: &str) -> Result<Statement, ParseFault>

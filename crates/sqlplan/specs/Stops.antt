@@ -4,7 +4,7 @@ use Rattle.schema.specs.declared.schema.Schema.{Schema}
 use Rattle.sqlplan.specs.declared.stop.Stop.{Stop}
 use Rattle.sqlplan.specs.declared.stop.Stop.TheVariants.{Usage, Memory, Line}
 
--- the line with this status, or want of memory for it
+-- the line with this status, or out of memory for it
 abbrev pub Says : List ℕ → ℕ → Stop → Type 0
 Says line status Usage = ⊥
 Says line status Memory = Unit {0}

@@ -163,7 +163,7 @@ fn main(rt: HostRuntime) -> ExitCode {
     match run(&rt) {
         Ok(()) => ExitCode::SUCCESS,
         Err(stop) => {
-            stop.tell(&rt);
+            stop.report(&rt);
             ExitCode::from(stop.status())
         }
     }

@@ -14,7 +14,7 @@ use std::io;
 /// Why the program stops early.
 #[derive(Debug, Drop)]
 pub enum Stop {
-    /// The command line was told to be wrong, or its help was shown.
+    /// The command line was reported to be wrong, or its help was shown.
     Usage,
     Memory,
     /// A line to say, and the exit status.
@@ -46,7 +46,7 @@ impl Stop {
     }
 
     /// Says the line on standard error. That it can't be said changes nothing.
-    pub fn tell(&self, rt: &impl Eprint) {
+    pub fn report(&self, rt: &impl Eprint) {
         let _ = match self {
             Stop::Usage => Ok(()),
             Stop::Memory => rt.eprintln("memory"),
@@ -85,7 +85,7 @@ impl<T: Drop> From<AllocFailed<T>> for Stop {
     }
 }
 
-/// What std's calls fail with here: for want of memory alone.
+/// What std's calls fail with here: running out of memory.
 impl From<io::Error> for Stop {
     ghost use Rattle.sqlplan.specs.declared.stop.Stop.TheVariants.{Memory};
 

@@ -9,14 +9,14 @@ use Rattle.schema.specs.declared.schema.Column.{Column}
 use Rattle.store.specs.declared.fault.FieldFault.{FieldFault}
 use Rattle.store.specs.declared.fault.FieldFault.TheVariants.{BadEscape, NotNumber, NotText, NullValue}
 use Rattle.store.specs.Numbers.{begins_number}
-use Rattle.store.specs.Tells.{Tells}
+use Rattle.store.specs.Reports.{Reports}
 use Rattle.store.specs.Tables.{Stands, FieldFails}
 use Rattle.store.specs.Fields.{escaped}
 use Rattle.store.specs.Parsing.{IsPlain, PlainFails}
 use Rattle.store.proofs.Decimals.{other_front}
 
 -- the bytes of a field that doesn't begin with a backslash
-pub as_it_is : (c : Column) (f : List ℕ) (r : Result Value (Fault FieldFault)) → escaped f ≡ f → Tells (IsPlain c.kind f) (PlainFails c.kind f) r → Tells (Stands c f) (FieldFails c f) r
+pub as_it_is : (c : Column) (f : List ℕ) (r : Result Value (Fault FieldFault)) → escaped f ≡ f → Reports (IsPlain c.kind f) (PlainFails c.kind f) r → Reports (Stands c f) (FieldFails c f) r
 as_it_is c f (Ok value.Null) e h = absurd h
 as_it_is c f (Ok (value.Int n)) e h = record { written = h.2; fits = (h.0, h.1); text = tt }
 as_it_is c f (Ok (value.Text t)) e h = record { written = sym e ∙ ap escaped h.2; fits = h.0; text = h.1 }
@@ -31,8 +31,8 @@ no_digit [] = refl
 no_digit (b ∷ bs) = refl
 
 -- the bytes after the first of two backslashes
-without_escape : (c : Column) (more : List ℕ) (r : Result Value (Fault FieldFault)) → Tells (IsPlain c.kind (92 ∷ more)) (PlainFails c.kind (92 ∷ more)) r
-    → Tells (Stands c (92 ∷ 92 ∷ more)) (FieldFails c (92 ∷ 92 ∷ more)) r
+without_escape : (c : Column) (more : List ℕ) (r : Result Value (Fault FieldFault)) → Reports (IsPlain c.kind (92 ∷ more)) (PlainFails c.kind (92 ∷ more)) r
+    → Reports (Stands c (92 ∷ 92 ∷ more)) (FieldFails c (92 ∷ 92 ∷ more)) r
 without_escape c more (Ok value.Null) h = absurd h
 without_escape c more (Ok (value.Int n)) h = absurd (other_front (92 ∷ more) (no_digit more) (n, h.1, h.2))
 without_escape c more (Ok (value.Text t)) h = record { written = ap escaped h.2; fits = h.0; text = h.1 }
@@ -61,7 +61,7 @@ pub not_escaped : (f : List ℕ) → 1 ≤ length f → (get_or f 0 0 ≡ 92 →
 not_escaped [] few h = absurd (omega arith)
 not_escaped (b ∷ bs) few h = other_first b bs h
 
-pub second_backslash : (c : Column) (rest : List ℕ) (r : Result Value (Fault FieldFault)) → 1 ≤ length rest → get_or rest 0 0 ≡ 92 → Tells (IsPlain c.kind rest) (PlainFails c.kind rest) r
-    → Tells (Stands c (92 ∷ rest)) (FieldFails c (92 ∷ rest)) r
+pub second_backslash : (c : Column) (rest : List ℕ) (r : Result Value (Fault FieldFault)) → 1 ≤ length rest → get_or rest 0 0 ≡ 92 → Reports (IsPlain c.kind rest) (PlainFails c.kind rest) r
+    → Reports (Stands c (92 ∷ rest)) (FieldFails c (92 ∷ rest)) r
 second_backslash c [] r few is h = absurd (omega arith)
 second_backslash c (b ∷ more) r few is h = rw is (without_escape c more r (rw is at h))

@@ -109,10 +109,10 @@ repeated_there t rows r h =
     subst (λ (n : ℕ). RepeatsFirst (take r.row rows ++ get_or rows r.row [] ∷ []) n r.earlier t.unique) is
     (subst (λ (xs : List Row). RepeatsFirst xs r.row r.earlier t.unique) next (agree_first (suc r.row) r.row r.earlier rows (take (suc r.row) rows) t.unique (agree_take (suc r.row) rows) (omega arith) h.there))
 
-pub repeat_told : (t : Table) (records : List Record) (p : Parsed) (r : Repeat) → ParsesFile t.columns records p → EarliestRepeat p.rows t.unique r
+pub repeat_reported : (t : Table) (records : List Record) (p : Parsed) (r : Repeat) → ParsesFile t.columns records p → EarliestRepeat p.rows t.unique r
     → IsFirstFault t records (record { row = r.row + 1; cause = Repeated (r.earlier + 1) })
-repeat_told t records p r (inr h) e = let low = h.1 in let bad : r.row < 0 = rw (← ap length low) e.within in absurd (omega arith)
-repeat_told t records p r (inl h) e =
+repeat_reported t records p r (inr h) e = let low = h.1 in let bad : r.row < 0 = rw (← ap length low) e.within in absurd (omega arith)
+repeat_reported t records p r (inl h) e =
     let low = e.within in
     let w = h.2.written in
     let few = h.2.few in
@@ -153,15 +153,15 @@ ends_faulty t records (fs ∷ more) rows refusal is text s h = record {
   fault = fault_after t rows fs refusal.cause h.1;
 }
 
-pub fault_told : (t : Table) (records : List Record) (p : Parsed) (refusal : TableRefusal) → ParsesFile t.columns records p → p.fault ≡ Some refusal → AllByRecursion (IsUnique p.rows) t.unique → IsFirstFault t records refusal
-fault_told t records p refusal (inr h) is u = inl (h.0, cc (is, h.2))
-fault_told t records p refusal (inl h) is u =
+pub fault_reported : (t : Table) (records : List Record) (p : Parsed) (refusal : TableRefusal) → ParsesFile t.columns records p → p.fault ≡ Some refusal → AllByRecursion (IsUnique p.rows) t.unique → IsFirstFault t records refusal
+fault_reported t records p refusal (inr h) is u = inl (h.0, cc (is, h.2))
+fault_reported t records p refusal (inl h) is u =
     let w = h.2.written in
     inr (ends_faulty t records h.2.rest p.rows refusal (h.1 ∙ ap (λ (x : List Record). names_of t.columns ∷ x) w.records_are) w.text (record { few = h.2.few; fit = w.fit; unique = u }) (subst (λ (f : Option TableRefusal). EndsAt t.columns (length p.rows) h.2.rest f) is h.2.ends))
 
-pub table_told : (t : Table) (records : List Record) (p : Parsed) → ParsesFile t.columns records p → p.fault ≡ None → AllByRecursion (IsUnique p.rows) t.unique → IsTable t records p.rows
-table_told t records p (inr h) is u = cc (is, h.2)
-table_told t records p (inl h) is u =
+pub table_reported : (t : Table) (records : List Record) (p : Parsed) → ParsesFile t.columns records p → p.fault ≡ None → AllByRecursion (IsUnique p.rows) t.unique → IsTable t records p.rows
+table_reported t records p (inr h) is u = cc (is, h.2)
+table_reported t records p (inl h) is u =
     let w = h.2.written in
     let none : h.2.rest ≡ [] = subst (λ (f : Option TableRefusal). EndsAt t.columns (length p.rows) h.2.rest f) is h.2.ends in
     record {

@@ -16,7 +16,7 @@ use Rattle.std.proofs.lemmas.Slice.Eq.{bytes_eq-Decides}
 use Rattle.values.specs.declared.fault.Fault.{Fault}
 use Rattle.values.specs.declared.fault.Fault.TheVariants as fault
 use Rattle.store.specs.declared.records.Parsed.{Parsed}
-use Rattle.store.specs.Tells.{Tells}
+use Rattle.store.specs.Reports.{Reports}
 use Rattle.store.specs.Tables.{Record, IsText, Stands, StandFor, FieldFails, FieldsFail, names_of}
 use Rattle.store.specs.Fields.{field_of}
 use Rattle.store.specs.Parsing.{in_field, Parses, ParsesFile, RowFails, Written, RecordFails}
@@ -152,7 +152,7 @@ same_name cs fs i c f lt at here eq so_far =
 -- ---- the values of a row
 
 pub value_fails : (cs : List Column) (fs : Record) (i : ℕ) (vs : Row) (c : Column) (f : List ℕ) (wrong : Fault FieldFault) → length fs ≡ length cs → i < length cs → c ≡ get_or cs i c → Some f ≡ field_at fs i
-    → StandFor (take i cs) (take i fs) vs → Tells {X = Value} (Stands c f) (FieldFails c f) (Err wrong) → Tells {X = Row} (StandFor cs fs) (RowFails cs fs) (Err (in_field i wrong))
+    → StandFor (take i cs) (take i fs) vs → Reports {X = Value} (Stands c f) (FieldFails c f) (Err wrong) → Reports {X = Row} (StandFor cs fs) (RowFails cs fs) (Err (in_field i wrong))
 value_fails cs fs i vs c f fault.Memory len lt at here so_far bad = tt
 value_fails cs fs i vs c f (fault.Refused wrong) len lt at here so_far bad = (len, fails_there cs fs i vs c f wrong lt at here so_far bad)
 

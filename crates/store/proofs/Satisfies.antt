@@ -5,7 +5,7 @@ use Rattle.std.specs.List.{AllByRecursion}
 use Rattle.schema.specs.declared.schema.Table.{Table}
 use Rattle.store.specs.declared.fault.TableFault.{TableFault}
 use Rattle.store.specs.declared.fault.TableFault.TheVariants as faults
-use Rattle.store.specs.Tables.{Record, IsTold}
+use Rattle.store.specs.Tables.{Record, IsReported}
 use Rattle.store.specs.Parsing.{ReadsTable}
 use Rattle.store.specs.Databases.{Stored, LoadsTable, Loads}
 use Rattle.schema.specs.Databases.{Row, Database, IsUnique, SatisfiesTable, SatisfyTables}
@@ -31,7 +31,7 @@ satisfy_set (k ∷ ts) [] i t rows h at s = absurd h
 satisfy_set (k ∷ ts) (r ∷ D) zero t rows h at s = let same : t ≡ k = cc at in (rw (← same) s, h.1)
 satisfy_set (k ∷ ts) (r ∷ D) (suc i) t rows h at s = (h.0, satisfy_set ts D i t rows h.1 at s)
 
--- ---- what a load tells
+-- ---- what a load reports
 
 at_some : {A : Type 0} (o : Option A) (x : A) (P : A → Type 0) → o ≡ Some x → P x → IfSome o P
 at_some o x P e p = rw e p
@@ -48,7 +48,7 @@ loads_fault (Some xs) bytes read old new n t e r is same at h =
     rw (← same, is) (at_some (slice_get old.schema.tables n) t (λ k. LoadsTable old new n k (read bytes) (Err e)) at (read_fault old new n t (read bytes) e h))
 
 pub loads_rows : (known : Option (List ℕ)) (bytes : List ℕ) (read : List ℕ → List Record) (old new : Stored) (n : ℕ) (t : Table) (rows : List Row)
-    → IfSome known (λ xs. bytes ≡ xs) → slice_get old.schema.tables n ≡ Some t → IsTold t (read bytes) (Ok rows) → new ≡ record { schema = old.schema; tables = set old.tables n rows }
+    → IfSome known (λ xs. bytes ≡ xs) → slice_get old.schema.tables n ≡ Some t → IsReported t (read bytes) (Ok rows) → new ≡ record { schema = old.schema; tables = set old.tables n rows }
     → IfSome known (λ xs. Loads old new n (read xs) (Ok (tt {0})))
 loads_rows None bytes read old new n t rows same at h e = tt
 loads_rows (Some xs) bytes read old new n t rows same at h e =

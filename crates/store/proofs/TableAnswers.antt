@@ -1,4 +1,4 @@
--- A table's records tell one thing.
+-- A table's records say one thing.
 use Rattle.std.proofs.Common.{◌≡◌, ◌≢◌, ℕ, zero, suc, ◌+◌, ◌<◌, ◌==◌, ℤ, List, [], ◌∷◌, ◌++◌, length, slice_index_or, map, Bool, true, false, cond, Result, Ok, Err, refl, sym, ap, ◌∙◌, subst, arith, ◌⊎◌, inl, inr, length-append}
 use Rattle.std.specs.Str.{IsUtf8}
 use Rattle.std.specs.List.{AllByRecursion}
@@ -16,7 +16,7 @@ use Rattle.store.specs.declared.fault.TableCause.{TableCause}
 use Rattle.store.specs.declared.fault.TableCause.TheVariants.{OtherHeader, OtherLength, Field, Repeated, TooMany}
 use Rattle.store.specs.declared.fault.TableRefusal.{TableRefusal}
 use Rattle.store.specs.Numbers.{begins_number}
-use Rattle.store.specs.Tables.{Record, IsText, Stands, StandFor, IsTable, FieldFails, FieldsFail, UniqueTo, RepeatsAt, RepeatsFirst, FaultAfter, IsFirstFault, Told, IsTold}
+use Rattle.store.specs.Tables.{Record, IsText, Stands, StandFor, IsTable, FieldFails, FieldsFail, UniqueTo, RepeatsAt, RepeatsFirst, FaultAfter, IsFirstFault, Reported, IsReported}
 use Rattle.store.specs.Fields.{escaped, field_of}
 use Rattle.store.proofs.Decimals.{signed_begins}
 use Rattle.store.proofs.Fields.{no_digit, no_escape}
@@ -300,11 +300,11 @@ table_clean t records rows f h (inr k) =
     let same : map (map field_of) rows ≡ map (map field_of) k.rows ++ k.faulty ∷ k.more = cc (h.records_are, k.records_are) in
     within_clean t rows k.rows k.faulty f.cause (is_within t.columns rows k.rows k.faulty k.more h.satisfies.fit k.satisfies.fit same) h.satisfies h.text k.fault
 
-told_one : (t : Table) (records : List Record) (x y : Result (List Row) TableRefusal) → Told t records x → Told t records y → y ≡ x
-told_one t records (Ok rs) (Ok ss) h k = ap Ok (rows_one t.columns ss rs k.satisfies.fit h.satisfies.fit (cc (h.records_are, k.records_are)))
-told_one t records (Ok rs) (Err g) h k = absurd (table_clean t records rs g h k)
-told_one t records (Err f) (Ok ss) h k = absurd (table_clean t records ss f k h)
-told_one t records (Err f) (Err g) h k = ap Err (faults_one t records g f k h)
+reported_one : (t : Table) (records : List Record) (x y : Result (List Row) TableRefusal) → Reported t records x → Reported t records y → y ≡ x
+reported_one t records (Ok rs) (Ok ss) h k = ap Ok (rows_one t.columns ss rs k.satisfies.fit h.satisfies.fit (cc (h.records_are, k.records_are)))
+reported_one t records (Ok rs) (Err g) h k = absurd (table_clean t records rs g h k)
+reported_one t records (Err f) (Ok ss) h k = absurd (table_clean t records ss f k h)
+reported_one t records (Err f) (Err g) h k = ap Err (faults_one t records g f k h)
 
-pub is_told : (t : Table) (records : List Record) (x : Result (List Row) TableRefusal) → Told t records x → IsTold t records x
-is_told t records x h = record { told = h; only = λ y k. told_one t records x y h k }
+pub is_reported : (t : Table) (records : List Record) (x : Result (List Row) TableRefusal) → Reported t records x → IsReported t records x
+is_reported t records x h = record { reported = h; only = λ y k. reported_one t records x y h k }

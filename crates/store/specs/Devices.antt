@@ -1,4 +1,4 @@
--- What a device's count of failed calls tells.
+-- What a device's count of failed calls says.
 use Rattle.std.specs.Prelude.{◌≡◌, ◌<◌, ◌-◌, ◌^◌, ◌⊎◌, ℕ}
 
 -- a call failed between two counts, of which the largest stays

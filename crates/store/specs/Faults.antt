@@ -1,10 +1,10 @@
--- What a fault of a table tells.
+-- What a fault of a table says.
 use Rattle.std.specs.Prelude.{ℕ, List, Option, Some, None, codes}
 use Rattle.store.specs.declared.fault.FieldFault.TheVariants.{BadEscape, NotNumber, NotText, NullValue}
 use Rattle.store.specs.declared.fault.TableCause.{TableCause}
 use Rattle.store.specs.declared.fault.TableCause.TheVariants.{OtherHeader, OtherLength, Field, Repeated, TooMany}
 
--- the codes by which the program tells them
+-- the codes by which the program reports them
 abbrev pub code_of : TableCause → List ℕ
 code_of OtherLength = codes "T01"
 code_of (Field c NotText) = codes "T01"

@@ -7,6 +7,6 @@ pub mod Keys
 pub mod Numbers
 pub mod Parsing
 pub mod Reading
+pub mod Reports
 pub mod Tables
-pub mod Tells
 pub mod Texts

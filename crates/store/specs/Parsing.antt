@@ -22,7 +22,7 @@ use Rattle.store.specs.declared.fault.TableFault.{TableFault}
 use Rattle.store.specs.declared.fault.TableFault.TheVariants as faults
 use Rattle.store.specs.declared.records.Parsed.{Parsed}
 use Rattle.store.specs.declared.unique.Repeat.{Repeat}
-use Rattle.store.specs.Tables.{Record, names_of, IsText, IsNumber, FieldsFail, UniqueTo, RepeatsFirst, IsTold}
+use Rattle.store.specs.Tables.{Record, names_of, IsText, IsNumber, FieldsFail, UniqueTo, RepeatsFirst, IsReported}
 use Rattle.store.specs.Fields.{field_of}
 
 -- the bytes are a value of the kind that isn't Null
@@ -89,9 +89,9 @@ pub record EarliestRepeat (rows : List Row) (lists : List (List ℕ)) (r : Repea
   pub before : AllByRecursion (UniqueTo r.row rows) lists
   pub there : RepeatsFirst rows r.row r.earlier lists
 
--- a table's records are read: they tell the rows, or a refusal; no device is touched
+-- a table's records are read: they give the rows, or a refusal; no device is touched
 abbrev pub ReadsTable : Table → List Record → Result (List Row) TableFault → Type 0
-ReadsTable t records (Ok rows) = IsTold t records (Ok rows)
+ReadsTable t records (Ok rows) = IsReported t records (Ok rows)
 ReadsTable t records (Err faults.Memory) = Unit {0}
 ReadsTable t records (Err faults.Device) = ⊥
-ReadsTable t records (Err (faults.Refused refusal)) = IsTold t records (Err refusal)
+ReadsTable t records (Err (faults.Refused refusal)) = IsReported t records (Err refusal)

@@ -118,12 +118,12 @@ abbrev pub IsFirstFault : Table → List Record → TableRefusal → Type 0
 IsFirstFault t records refusal = (((rest : List Record) → records ≢ names_of t.columns ∷ rest) × (refusal ≡ record { row = 0; cause = OtherHeader }))
     ⊎ IsFaulty t records refusal
 
--- what a table's records tell: the rows that they are, or their first fault
-abbrev pub Told : Table → List Record → Result (List Row) TableRefusal → Type 0
-Told t records (Ok rows) = IsTable t records rows
-Told t records (Err refusal) = IsFirstFault t records refusal
+-- what a table's records say: the rows that they are, or their first fault
+abbrev pub Reported : Table → List Record → Result (List Row) TableRefusal → Type 0
+Reported t records (Ok rows) = IsTable t records rows
+Reported t records (Err refusal) = IsFirstFault t records refusal
 
--- it is told, and nothing else
-pub record IsTold (t : Table) (records : List Record) (answer : Result (List Row) TableRefusal) : Type 0 where
-  pub told : Told t records answer
-  pub only : (other : Result (List Row) TableRefusal) → Told t records other → other ≡ answer
+-- it is reported, and nothing else
+pub record IsReported (t : Table) (records : List Record) (answer : Result (List Row) TableRefusal) : Type 0 where
+  pub reported : Reported t records answer
+  pub only : (other : Result (List Row) TableRefusal) → Reported t records other → other ≡ answer

@@ -119,7 +119,7 @@ impl<'s> Database<'s> {
         ensures size { length self.new.tables ≡ length self.old.tables }
         ensures err { OnErr result (self.new ≡ self.old) }
         ensures quiet { OnOk result (R.failures input.new ≡ R.failures input.old) }
-        // The device is told of exactly where a call of it failed.
+        // The device is reported exactly where a call of it failed.
         ensures refused { IfErr result (λ e. e ≢ faults.Device → R.failures input.new ≡ R.failures input.old) }
         ensures device { IfErr result (λ e. e ≡ faults.Device → Rose (R.failures input.old) (R.failures input.new)) }
     {

@@ -18,7 +18,7 @@ pub enum FieldFault {
     NullValue,
 }
 
-/// What is wrong with a record. Columns and earlier rows are told by their places, columns from 0 and rows from 1.
+/// What is wrong with a record. Columns and earlier rows are reported by their places, columns from 0 and rows from 1.
 #[derive(Clone, Copy, Debug, Error)]
 pub enum TableCause {
     #[error("the first record is not the names of the columns")]
@@ -42,7 +42,7 @@ pub struct TableRefusal {
 }
 
 impl TableRefusal {
-    /// The code by which the program tells the refusal.
+    /// The code by which the program reports the refusal.
     pub fn code(self) -> &'static str
         ensures { result.now ≡ code_of self.cause }
     {

@@ -6,7 +6,7 @@ ghost use Rattle.std.specs.Fmt.{signed_decimal};
 ghost use Rattle.store.specs.Numbers as numbers;
 ghost use Rattle.store.specs.Tables.{IsNumber, Stands, FieldFails};
 ghost use Rattle.store.specs.Parsing.{IsPlain, PlainFails};
-ghost use Rattle.store.specs.Tells.{Tells};
+ghost use Rattle.store.specs.Reports.{Reports};
 
 use crate::fault::FieldFault;
 use schema::{Column, Kind};
@@ -59,7 +59,7 @@ fn number_of(bytes: &[u8]) -> Option<i64>
 
 /// The value of a field that isn't Null, after its escape is taken off.
 fn plain_value_of(alloc: Global, kind: Kind, bytes: &[u8]) -> Result<Value, Fault<FieldFault>>
-    ensures { Tells (IsPlain kind bytes.now) (PlainFails kind bytes.now) result }
+    ensures { Reports (IsPlain kind bytes.now) (PlainFails kind bytes.now) result }
 {
     match kind {
         Kind::Int => match number_of(bytes) {
@@ -75,7 +75,7 @@ fn plain_value_of(alloc: Global, kind: Kind, bytes: &[u8]) -> Result<Value, Faul
 
 /// The value of a field that begins with a backslash, after which `rest` stands.
 fn escaped_value_of(alloc: Global, column: &Column, rest: &[u8]) -> Result<Value, Fault<FieldFault>>
-    ensures { Tells (Stands column.now (92 ∷ rest.now)) (FieldFails column.now (92 ∷ rest.now)) result }
+    ensures { Reports (Stands column.now (92 ∷ rest.now)) (FieldFails column.now (92 ∷ rest.now)) result }
 {
     match rest {
         [] => Err(Fault::Refused(FieldFault::BadEscape)),
@@ -96,7 +96,7 @@ fn escaped_value_of(alloc: Global, column: &Column, rest: &[u8]) -> Result<Value
 
 /// The value that a field of the column stands for.
 pub fn value_of(alloc: Global, column: &Column, field: &[u8]) -> Result<Value, Fault<FieldFault>>
-    ensures { Tells (Stands column.now field.now) (FieldFails column.now field.now) result }
+    ensures { Reports (Stands column.now field.now) (FieldFails column.now field.now) result }
 {
     match field {
         [] => plain_value_of(alloc, column.kind, field),

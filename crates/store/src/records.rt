@@ -7,7 +7,7 @@ ghost use Rattle.csv.specs.Records.{fields_of};
 ghost use Rattle.store.specs.Reading.{Remains, NextOf};
 ghost use Rattle.store.specs.Tables.{Record, StandFor, names_of};
 ghost use Rattle.store.specs.Parsing.{RowFails, Parses, ParsesFile, in_field};
-ghost use Rattle.store.specs.Tells.{Tells};
+ghost use Rattle.store.specs.Reports.{Reports};
 
 use crate::columns::Columns;
 use crate::fault::{FieldFault, TableCause, TableRefusal};
@@ -30,7 +30,7 @@ pub struct Parsed {
     pub fault: Option<TableRefusal>,
 }
 
-/// Whether there is a next record, which is then in `fields`. Over bytes in memory only a want of memory fails.
+/// Whether there is a next record, which is then in `fields`. Over bytes in memory only running out of memory fails.
 fn next_of<R: Read>(reader: &mut Reader<R>, fields: &mut ByteRecord) -> Result<bool, AllocError>
     ensures { (rest : List Record) → Remains R.remaining reader.old rest
         → IfOk result (λ found. NextOf rest found (fields_of fields.new) (λ more. Remains R.remaining reader.new more)) }
@@ -76,7 +76,7 @@ fn row_of(
     columns: &[Column],
     fields: &ByteRecord,
 ) -> Result<Items<Value>, Fault<TableCause>>
-    ensures { Tells (StandFor columns.now (fields_of fields.now)) (RowFails columns.now (fields_of fields.now)) result }
+    ensures { Reports (StandFor columns.now (fields_of fields.now)) (RowFails columns.now (fields_of fields.now)) result }
 {
     if fields.len() != columns.len() {
         return Err(Fault::Refused(TableCause::OtherLength));

@@ -45,7 +45,7 @@ fn first_repeat(
     Ok(None)
 }
 
-/// The first row that repeats an earlier one on a unique list; of several lists it tells of the first.
+/// The first row that repeats an earlier one on a unique list; of several lists that of the first.
 pub fn earliest_repeat(
     alloc: Global,
     rows: &Table,

@@ -1,4 +1,4 @@
--- A call gives what a specification reads, or tells its fault.
+-- A call gives what a specification reads, or reports its fault.
 use Rattle.std.specs.Prelude.{◌≡◌, Result, Ok, Err, Option, Some, None, Bool, if◌then◌else◌}
 use Rattle.values.specs.declared.fault.Fault.{Fault}
 use Rattle.values.specs.declared.fault.Fault.TheVariants.{Memory, Refused}
@@ -9,7 +9,7 @@ abbrev pub ◌>>=◌ : {A B R : Type 0} → Result A R → (A → Result B R) �
 (Ok x) >>= f = f x
 (Err e) >>= f = Err e
 
--- the fault is that of the specification; a want of memory says nothing
+-- the fault is that of the specification; running out of memory says nothing
 abbrev pub Fails : {R Y : Type 0} → Fault R → Result Y R → Type 0
 Fails Memory read = Unit {0}
 Fails (Refused r) read = read ≡ Err r

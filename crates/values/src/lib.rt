@@ -2,7 +2,7 @@
 //!
 //! `Items` and `Boxed` are a `Vec` and a `Box` that contracts see as a list and as a value. With `Text`, a `String` that
 //! contracts see as its bytes, the types built of them are plain data: two values are equal in a contract exactly where a
-//! reader can't tell them apart.
+//! reader can't distinguish them.
 #![tactic(auto)]
 
 pub mod cell;

@@ -14,7 +14,7 @@ use Rattle.binder.specs.Selects as spec
 use Rattle.binder.proofs.SelectExits.{left_fails, query_fails, membership_gives, right_fails, on_fails, join_is, from_fails, filter_fails, keys_fail, outputs_fail, select_is}
 use Rattle.binder.proofs.SelectParts.{compared, null_tested, negated, conjoined, disjoined, existing, chain_at, grouped_by_keys, grouped_by_aggregates}
 use Rattle.binder.proofs.SelectLoops.{none_in_front, conditions_on, conditions_end, conditions_done, filtered, not_filtered, joins_on, joins_end, joins_done, no_chain, first_chain, chains_on, chains_end, chains_done}
-use Rattle.binder.proofs.Steps.{told, handed, seen, same}
+use Rattle.binder.proofs.Steps.{reported, handed, seen, same}
 use Rattle.binder.proofs.selects.+selects.Goals as goal
 use Rattle.binder.proofs.selects.+selects.Goals.{select-then-len-gt0, select-else-len-gt0}
 
@@ -24,7 +24,7 @@ condition-returns-in-Compare t c = seen (λ (bound : Cond). bound) (λ (bound : 
 pub condition-returns-in_err-term-in-IsNull : goal.condition-returns-in_err-term-in-IsNull
 condition-returns-in_err-term-in-IsNull t c =
     let p = err_from_is_err_and c.from_residual.result c.from_residual.ensures.1 in
-    rw (p.1, p.2) (told c.in_err-term-in-IsNull.field-0.0 _ _ _ (null_tested c.args.schema.now c.args.part.now c.in-IsNull.tested (scopes_of c.args.scopes.now) c.args.numbered.now c.in-IsNull.is) c.in_err-term-in-IsNull.ensures)
+    rw (p.1, p.2) (reported c.in_err-term-in-IsNull.field-0.0 _ _ _ (null_tested c.args.schema.now c.args.part.now c.in-IsNull.tested (scopes_of c.args.scopes.now) c.args.numbered.now c.in-IsNull.is) c.in_err-term-in-IsNull.ensures)
 
 pub condition-returns-in_ok-term-in-IsNull : goal.condition-returns-in_ok-term-in-IsNull
 condition-returns-in_ok-term-in-IsNull t c = handed _ _ _ _ (null_tested c.args.schema.now c.args.part.now c.in-IsNull.tested (scopes_of c.args.scopes.now) c.args.numbered.now c.in-IsNull.is) c.in_ok-term-in-IsNull.ensures
@@ -32,7 +32,7 @@ condition-returns-in_ok-term-in-IsNull t c = handed _ _ _ _ (null_tested c.args.
 pub condition-returns-in_err-inner-in-Not : goal.condition-returns-in_err-inner-in-Not
 condition-returns-in_err-inner-in-Not t c =
     let p = err_from_is_err_and c.from_residual-in_err-inner-in-Not.result c.from_residual-in_err-inner-in-Not.ensures.1 in
-    rw (p.1, p.2) (told c.in_err-inner-in-Not.field-0.0 _ _ _ (negated c.args.schema.now c.args.part.now c.in-Not.inner c.get.result.now (scopes_of c.args.scopes.now) c.args.numbered.now c.in-Not.is c.get.ensures) c.in_err-inner-in-Not.ensures)
+    rw (p.1, p.2) (reported c.in_err-inner-in-Not.field-0.0 _ _ _ (negated c.args.schema.now c.args.part.now c.in-Not.inner c.get.result.now (scopes_of c.args.scopes.now) c.args.numbered.now c.in-Not.is c.get.ensures) c.in_err-inner-in-Not.ensures)
 
 pub condition-returns-in_ok-new-in-Not : goal.condition-returns-in_ok-new-in-Not
 condition-returns-in_ok-new-in-Not t c = handed _ _ _ _ (negated c.args.schema.now c.args.part.now c.in-Not.inner c.get.result.now (scopes_of c.args.scopes.now) c.args.numbered.now c.in-Not.is c.get.ensures) c.in_ok-inner-in-Not.ensures ∙ ap (λ (d : Cond). Ok (cond.Not d, c.condition.new.numbered)) (sym c.in_ok-new-in-Not.ensures)
@@ -40,7 +40,7 @@ condition-returns-in_ok-new-in-Not t c = handed _ _ _ _ (negated c.args.schema.n
 pub condition-returns-in_err-parts-in-And : goal.condition-returns-in_err-parts-in-And
 condition-returns-in_err-parts-in-And t c =
     let p = err_from_is_err_and c.from_residual-in_err-parts-in-And.result c.from_residual-in_err-parts-in-And.ensures.1 in
-    rw (p.1, p.2) (told c.in_err-parts-in-And.field-0.0 _ _ _ (conjoined c.args.schema.now c.args.part.now c.in-And.parts c.as_slice.result.now (scopes_of c.args.scopes.now) c.args.numbered.now c.in-And.is c.as_slice.ensures) c.in_err-parts-in-And.ensures)
+    rw (p.1, p.2) (reported c.in_err-parts-in-And.field-0.0 _ _ _ (conjoined c.args.schema.now c.args.part.now c.in-And.parts c.as_slice.result.now (scopes_of c.args.scopes.now) c.args.numbered.now c.in-And.is c.as_slice.ensures) c.in_err-parts-in-And.ensures)
 
 pub condition-returns-in_ok-parts-in-And : goal.condition-returns-in_ok-parts-in-And
 condition-returns-in_ok-parts-in-And t c = handed _ _ _ _ (conjoined c.args.schema.now c.args.part.now c.in-And.parts c.as_slice.result.now (scopes_of c.args.scopes.now) c.args.numbered.now c.in-And.is c.as_slice.ensures) c.in_ok-parts-in-And.ensures
@@ -48,7 +48,7 @@ condition-returns-in_ok-parts-in-And t c = handed _ _ _ _ (conjoined c.args.sche
 pub condition-returns-in_err-parts-in-Or : goal.condition-returns-in_err-parts-in-Or
 condition-returns-in_err-parts-in-Or t c =
     let p = err_from_is_err_and c.from_residual-in_err-parts-in-Or.result c.from_residual-in_err-parts-in-Or.ensures.1 in
-    rw (p.1, p.2) (told c.in_err-parts-in-Or.field-0.0 _ _ _ (disjoined c.args.schema.now c.args.part.now c.in-Or.parts c.as_slice-in-Or.result.now (scopes_of c.args.scopes.now) c.args.numbered.now c.in-Or.is c.as_slice-in-Or.ensures) c.in_err-parts-in-Or.ensures)
+    rw (p.1, p.2) (reported c.in_err-parts-in-Or.field-0.0 _ _ _ (disjoined c.args.schema.now c.args.part.now c.in-Or.parts c.as_slice-in-Or.result.now (scopes_of c.args.scopes.now) c.args.numbered.now c.in-Or.is c.as_slice-in-Or.ensures) c.in_err-parts-in-Or.ensures)
 
 pub condition-returns-in_ok-parts-in-Or : goal.condition-returns-in_ok-parts-in-Or
 condition-returns-in_ok-parts-in-Or t c = handed _ _ _ _ (disjoined c.args.schema.now c.args.part.now c.in-Or.parts c.as_slice-in-Or.result.now (scopes_of c.args.scopes.now) c.args.numbered.now c.in-Or.is c.as_slice-in-Or.ensures) c.in_ok-parts-in-Or.ensures
@@ -56,7 +56,7 @@ condition-returns-in_ok-parts-in-Or t c = handed _ _ _ _ (disjoined c.args.schem
 pub condition-returns-in_err-query-in-Exists : goal.condition-returns-in_err-query-in-Exists
 condition-returns-in_err-query-in-Exists t c =
     let p = err_from_is_err_and c.from_residual-in_err-query-in-Exists.result c.from_residual-in_err-query-in-Exists.ensures.1 in
-    rw (p.1, p.2) (told c.in_err-query-in-Exists.field-0.0 _ _ _ (existing c.args.schema.now c.args.part.now c.in-Exists.query c.get-in-Exists.result.now (scopes_of c.args.scopes.now) c.args.numbered.now c.in-Exists.is c.get-in-Exists.ensures) c.in_err-query-in-Exists.ensures)
+    rw (p.1, p.2) (reported c.in_err-query-in-Exists.field-0.0 _ _ _ (existing c.args.schema.now c.args.part.now c.in-Exists.query c.get-in-Exists.result.now (scopes_of c.args.scopes.now) c.args.numbered.now c.in-Exists.is c.get-in-Exists.ensures) c.in_err-query-in-Exists.ensures)
 
 pub condition-returns-in_ok-query-in-Exists : goal.condition-returns-in_ok-query-in-Exists
 condition-returns-in_ok-query-in-Exists t c = handed _ _ _ _ (existing c.args.schema.now c.args.part.now c.in-Exists.query c.get-in-Exists.result.now (scopes_of c.args.scopes.now) c.args.numbered.now c.in-Exists.is c.get-in-Exists.ensures) c.in_ok-query-in-Exists.ensures
@@ -94,7 +94,7 @@ join-returns t c =
 pub chain-returns-in_err-first : goal.chain-returns-in_err-first
 chain-returns-in_err-first t c =
     let p = err_from_is_err_and c.from_residual.result c.from_residual.ensures.1 in
-    rw (p.1, p.2) (told c.in_err-first.field-0.0 _ _ _ (chain_at c.args.schema.now c.args.part.now (scopes_of c.args.outer.now) c.args.before.now c.args.numbered.now c.new-none.result (out-Chain c.args.part.now).joins c.new-none.ensures refl) c.in_err-first.ensures)
+    rw (p.1, p.2) (reported c.in_err-first.field-0.0 _ _ _ (chain_at c.args.schema.now c.args.part.now (scopes_of c.args.outer.now) c.args.before.now c.args.numbered.now c.new-none.result (out-Chain c.args.part.now).joins c.new-none.ensures refl) c.in_err-first.ensures)
 
 pub chain-returns : goal.chain-returns
 chain-returns t c =
@@ -203,7 +203,7 @@ filter-returns-in_default t c =
 pub filter-returns-in_err-bound : goal.filter-returns-in_err-bound
 filter-returns-in_err-bound t c =
     let p = err_from_is_err_and c.from_residual.result c.from_residual.ensures.1 in
-    rw (p.1, p.2) (told c.in_err-bound.field-0.0 _ _ _ (filtered (spec.condition_in c.args.schema.now) c.args.part.now c.in-Some.part c.get.result.now (scopes_of c.args.scopes.now) c.args.numbered.now c.in-Some.is c.get.ensures) c.in_err-bound.ensures)
+    rw (p.1, p.2) (reported c.in_err-bound.field-0.0 _ _ _ (filtered (spec.condition_in c.args.schema.now) c.args.part.now c.in-Some.part c.get.result.now (scopes_of c.args.scopes.now) c.args.numbered.now c.in-Some.is c.get.ensures) c.in_err-bound.ensures)
 
 pub filter-returns-in_err-new : goal.filter-returns-in_err-new
 filter-returns-in_err-new t c =
@@ -250,7 +250,7 @@ sources-returns-in_default t c =
 pub sources-returns-in_err-left : goal.sources-returns-in_err-left
 sources-returns-in_err-left t c =
     let p = err_from_is_err_and c.from_residual.result c.from_residual.ensures.1 in
-    rw (p.1, p.2) (told c.in_err-left.field-0.0 _ _ _ (first_chain (spec.chain_in c.args.schema.now) c.args.parts.now c.first-item.result (scopes_of c.args.outer.now) c.new-none.result c.args.numbered.now (omega arith) c.first-item.is c.new-none.ensures) c.in_err-left.ensures)
+    rw (p.1, p.2) (reported c.in_err-left.field-0.0 _ _ _ (first_chain (spec.chain_in c.args.schema.now) c.args.parts.now c.first-item.result (scopes_of c.args.outer.now) c.new-none.result c.args.numbered.now (omega arith) c.first-item.is c.new-none.ensures) c.in_err-left.ensures)
 
 pub sources-loop-part-init : goal.sources-loop-part-init
 sources-loop-part-init t c =

@@ -1,12 +1,13 @@
 use Rattle.std.proofs.Common.{◌≡◌, ◌∙◌, ◌-◌, ◌<◌, ap, sym, subst, ℕ, map, length, arith, rules, Result, Ok}
 use Rattle.values.specs.Faults.{◌>>=◌, Gives}
-use Rattle.logical.specs.Columns.{columns_at}
+use Rattle.algebra.specs.Columns.{columns_at}
 use Rattle.logical.specs.Frames.{query_frame}
 use Rattle.logical.proofs.FormedQueries.{frames_formed}
-use Rattle.checker.specs.declared.certificate.Certificate.{Certificate}
-use Rattle.checker.specs.declared.certificate.CheckRefusal.{CheckRefusal}
-use Rattle.checker.specs.Replay.{founding, plan_fits}
-use Rattle.checker.proofs.Right.{checked, verdict}
+use Rattle.derivation.specs.declared.certificate.Certificate.{Certificate}
+use Rattle.derivation.specs.declared.certificate.CheckRefusal.{CheckRefusal}
+use Rattle.derivation.specs.Replay.{founding, plan_fits}
+use Rattle.derivation.proofs.Soundness.{checked}
+use Rattle.checker.proofs.Verdicts.{verdict}
 use Rattle.checker.proofs.checked.check.Goals as goal
 
 pub overflow_sub-root : goal.overflow_sub-root

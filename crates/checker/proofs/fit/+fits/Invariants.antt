@@ -1,6 +1,6 @@
 use Rattle.std.proofs.Common.{◌≡◌, map, drop}
-use Rattle.logical.specs.Columns.{columns_at}
-use Rattle.checker.specs.Replay.{founding, plan_fits, inputs_fit}
+use Rattle.algebra.specs.Columns.{columns_at}
+use Rattle.derivation.specs.Replay.{founding, plan_fits, inputs_fit}
 use Rattle.checker.proofs.fit.+fits.Given as goal
 
 abbrev pub invariant-inputs_fit-loop-i : goal.invariant-inputs_fit-loop-i

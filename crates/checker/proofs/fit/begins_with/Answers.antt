@@ -1,10 +1,10 @@
 use Rattle.std.proofs.Common.{◌≡◌, ◌∙◌, ◌<◌, inl, inr, false, ap, subst, List, take, length, arith}
 use Rattle.std.specs.Coded.{coded_list}
 use Rattle.std.proofs.lemmas.List.{length-take}
-use Rattle.logical.proofs.Same.{tested}
+use Rattle.algebra.proofs.Same.{tested}
 use Rattle.physical.specs.declared.plan.OrderKey.{OrderKey}
 use Rattle.physical.specs.contracts.plan.OrderKey as order_key
-use Rattle.checker.specs.Replay.{same_order}
+use Rattle.derivation.specs.Replay.{same_order}
 use Rattle.checker.proofs.fit.begins_with.Goals as goal
 
 -- an order that is too short does not begin with the keys

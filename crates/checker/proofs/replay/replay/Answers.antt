@@ -1,11 +1,11 @@
 use Rattle.std.proofs.Common.{◌≡◌, refl, ap, sym, ◌∙◌, ℕ, ◌+◌, List, length, map, take, reverse, Ok, arith}
 use Rattle.std.proofs.lemmas.List.{length_push, take_all}
-use Rattle.logical.specs.Classes.{class_columns}
-use Rattle.logical.specs.Columns.{columns_at}
-use Rattle.logical.specs.Expressions.{columns_of}
-use Rattle.checker.specs.declared.certificate.Line.{Line}
-use Rattle.checker.specs.Replay.{founding, line_replays}
-use Rattle.checker.proofs.Lines.{before, before_more, length_before, lines_more, columns_more}
+use Rattle.algebra.specs.Classes.{class_columns}
+use Rattle.algebra.specs.Columns.{columns_at}
+use Rattle.algebra.specs.Expressions.{columns_of}
+use Rattle.derivation.specs.declared.certificate.Line.{Line}
+use Rattle.derivation.specs.Replay.{founding, line_replays}
+use Rattle.checker.proofs.ReplayedLines.{before, before_more, length_before, lines_more, columns_more}
 use Rattle.checker.proofs.replay.replay.Goals as goal
 
 pub loop-line-preserved : goal.loop-line-preserved

@@ -1,7 +1,7 @@
 use Rattle.std.proofs.Common.{◌≡◌, length, map, take, drop, reverse, []}
-use Rattle.logical.specs.Classes.{class_columns}
-use Rattle.logical.specs.Columns.{columns_at}
-use Rattle.checker.specs.Replay.{founding, lines_replay}
+use Rattle.algebra.specs.Classes.{class_columns}
+use Rattle.algebra.specs.Columns.{columns_at}
+use Rattle.derivation.specs.Replay.{founding, lines_replay}
 use Rattle.checker.proofs.replay.replay.Given as goal
 
 abbrev pub invariant-loop-line : goal.invariant-loop-line

@@ -2,7 +2,7 @@ use Rattle.std.proofs.Common.{◌≡◌, ◌∙◌, ℕ, List, ap, sym, subst, O
 use Rattle.std.specs.Io.KnownBytes.{Appends}
 use Rattle.query.specs.Answer.{IsAnswer}
 use Rattle.executor.specs.AnswerText.{answer_text, HasFront}
-use Rattle.executor.specs.Execution.{tables_in, plan_text}
+use Rattle.executor.specs.Execution.{tables_in, accepted_text}
 use Rattle.executor.proofs.Sent.{front_of_nothing, on_err, on_ok}
 use Rattle.executor.proofs.answer.write_answer.Goals as goal
 
@@ -12,14 +12,14 @@ returns-in_err-rows-clause-front g c = on_err _ (front_of_nothing _ _)
 pub returns-clause-ok : goal.returns-clause-ok
 returns-clause-ok g c =
     let query = c.args.checked.now.query in
-    let is : answer_text c.query.result.now.names c.as_slice.result.now ≡ plan_text c.args.checked.now c.args.database.now =
+    let is : answer_text c.query.result.now.names c.as_slice.result.now ≡ accepted_text c.args.checked.now c.args.database.now =
     ap (λ q. answer_text q.names c.as_slice.result.now) c.query.ensures ∙ ap (answer_text query.names) (c.as_slice.ensures.value ∙ c.in_ok-rows.ensures.rows) in
     subst (λ (text : List ℕ). OnOk c.write_rows.result (Appends (g.W.AnswerOutput.contents c.args.out.now) (g.W.AnswerOutput.contents c.write_rows.new.out) text)) is c.write_rows.ensures.ok
 
 pub returns-clause-front : goal.returns-clause-front
 returns-clause-front g c =
     let query = c.args.checked.now.query in
-    let is : answer_text c.query.result.now.names c.as_slice.result.now ≡ plan_text c.args.checked.now c.args.database.now =
+    let is : answer_text c.query.result.now.names c.as_slice.result.now ≡ accepted_text c.args.checked.now c.args.database.now =
     ap (λ q. answer_text q.names c.as_slice.result.now) c.query.ensures ∙ ap (answer_text query.names) (c.as_slice.ensures.value ∙ c.in_ok-rows.ensures.rows) in
     subst (λ (text : List ℕ). OnErr c.write_rows.result (HasFront (g.W.AnswerOutput.contents c.args.out.now) (g.W.AnswerOutput.contents c.write_rows.new.out) text)) is c.write_rows.ensures.front
 

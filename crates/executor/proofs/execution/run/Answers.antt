@@ -1,25 +1,20 @@
-use Rattle.std.proofs.Common.{◌≡◌, List, IfOk, sym, ◌∙◌, ap, subst}
+use Rattle.std.proofs.Common.{◌≡◌, List, IfOk, sym, ◌∙◌, subst}
 use Rattle.std.proofs.lemmas.Result.{IfOk-weaker}
 use Rattle.schema.specs.Databases.{Row}
 use Rattle.query.specs.Answer.{IsAnswer}
-use Rattle.query.specs.Rows.{tables_of}
-use Rattle.logical.specs.Bags.{nulls}
-use Rattle.physical.specs.Plays.{play}
 use Rattle.executor.specs.Execution.{tables_in}
-use Rattle.executor.specs.Relations.{rows_of}
 use Rattle.executor.proofs.Plans.{answer_of, answers_of}
 use Rattle.executor.proofs.execution.run.Goals as goal
 
 pub returns-clause-rows : goal.returns-clause-rows
 returns-clause-rows c =
     let D = c.args.database.now in
-    let rows = (c.in_ok-found.ensures D.schema).rows_are ∙ ap (λ uses. play uses (tables_of D.schema c.tables.result.now) c.certificate.result.now.plan nulls) c.as_slice.ensures in
-    let is = answer_of c.query-query.result.now c.args.checked.now.query c.certificate.result.now c.args.checked.now.certificate D.schema c.tables.result.now D.tables c.as_slice-2.result.now (rows_of c.in_ok-found.found nulls)
-    (c.as_slice-2.ensures.value ∙ c.in_ok-columns.ensures) rows c.query-query.ensures c.certificate.ensures.certificate c.tables.ensures.tables in
-    subst (λ (z : List Row). IfOk c.answer_rows.result (λ rows. rows.items ≡ z)) is c.answer_rows.ensures
+    let is = answer_of c.query-query.result.now c.args.checked.now.query c.certificate.result.now c.args.checked.now.certificate D.schema c.tables.result.now D.tables c.as_slice-2.result.now c.as_slice.result.now
+    (c.as_slice-2.ensures.value ∙ c.in_ok-columns.ensures) c.as_slice.ensures c.query-query.ensures c.certificate.ensures.certificate c.tables.ensures.tables in
+    subst (λ (z : List Row). IfOk c.plan_rows.result (λ rows. rows.items ≡ z)) is (c.plan_rows.ensures D.schema)
 
 pub returns-clause-answers : goal.returns-clause-answers
 returns-clause-answers c = λ same.
     let D = c.args.database.now in
     let answers = answers_of c.args.checked.now.schema D.schema c.args.checked.now.query c.args.checked.now.certificate D.tables c.certificate.ensures.checked c.tables.ensures.satisfies same in
-    IfOk-weaker c.answer_rows.result _ (λ rows. IsAnswer c.args.checked.now.query (tables_in D) rows.items) (λ rows is. subst (IsAnswer c.args.checked.now.query (tables_in D)) (sym is) answers) (returns-clause-rows c)
+    IfOk-weaker c.plan_rows.result _ (λ rows. IsAnswer c.args.checked.now.query (tables_in D) rows.items) (λ rows is. subst (IsAnswer c.args.checked.now.query (tables_in D)) (sym is) answers) (returns-clause-rows c)

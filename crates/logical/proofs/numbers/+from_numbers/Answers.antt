@@ -1,5 +1,5 @@
 use Rattle.std.proofs.Common.{◌≡◌, ◌∙◌, subst, List, ℕ, ◌++◌, IfOk}
-use Rattle.logical.proofs.Loops.{two}
+use Rattle.algebra.proofs.Lists.{two}
 use Rattle.logical.proofs.QueryNumbers.{numbers-Table, numbers-Join, numbers-LeftJoin, numbers-Comma}
 use Rattle.logical.proofs.numbers.+from_numbers.Goals as goal
 

@@ -1,7 +1,7 @@
 use Rattle.std.proofs.Common.{◌≡◌, ap, ◌∙◌, subst, List, [], ◌∷◌, ℕ, map, IfOk}
 use Rattle.query.specs.declared.query.Block.{out-Block}
 use Rattle.logical.specs.Frames.{item_number}
-use Rattle.logical.proofs.Loops.{two}
+use Rattle.algebra.proofs.Lists.{two}
 use Rattle.logical.proofs.QueryNumbers.{numbers_of, item-numbers}
 use Rattle.logical.proofs.numbers.query_numbers.Goals as goal
 

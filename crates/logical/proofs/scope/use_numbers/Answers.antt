@@ -2,12 +2,12 @@ use Rattle.std.proofs.Common.{◌≡◌, rules, refl, ap, sym, ◌∙◌, ℕ, L
 use Rattle.std.specs.List.{range_with_len, slice_get}
 use Rattle.std.proofs.lemmas.Option.{slice_get_read}
 use Rattle.query.specs.declared.query.Occurrence.{Occurrence}
-use Rattle.query.specs.declared.query.TableUse.{TableUse}
+use Rattle.query.specs.declared.query.TableInstance.{TableInstance}
 use Rattle.query.specs.Bound.{numbers_of_use, use_numbers}
-use Rattle.logical.proofs.Sets.{run_more}
+use Rattle.algebra.proofs.Sets.{run_more}
 use Rattle.logical.proofs.scope.use_numbers.Goals as goal
 
-to_end : (uses : List TableUse) (o : Occurrence) (t : TableUse) (n : ℕ) (xs : List ℕ) → slice_get uses o.number ≡ Some t → n ≡ length t.entry.columns → xs ≡ range_with_len t.first_column n → xs ≡ use_numbers uses o
+to_end : (uses : List TableInstance) (o : Occurrence) (t : TableInstance) (n : ℕ) (xs : List ℕ) → slice_get uses o.number ≡ Some t → n ≡ length t.entry.columns → xs ≡ range_with_len t.first_column n → xs ≡ use_numbers uses o
 to_end uses o t n xs there end is = is ∙ ap (range_with_len t.first_column) end ∙ sym (ap numbers_of_use there)
 
 pub loop-place-preserved : goal.loop-place-preserved

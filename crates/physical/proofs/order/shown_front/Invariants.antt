@@ -1,5 +1,5 @@
 use Rattle.std.proofs.Common.{◌≡◌, ◌++◌, not, drop}
-use Rattle.logical.specs.Columns.{has}
+use Rattle.algebra.specs.Columns.{has}
 use Rattle.physical.specs.Orders as spec
 use Rattle.physical.proofs.order.shown_front.Given as goal
 

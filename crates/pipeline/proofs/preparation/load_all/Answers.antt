@@ -34,8 +34,8 @@ loop-number-preserved g c =
           c.loop-number.invariant.loaded);
     }
 
-pub returns-clause-told : goal.returns-clause-told
-returns-clause-told g c n below t bytes at input = c.loop-number.invariant.loaded.told n (omega (arith, below, c.loop-number-test.false)) t bytes at input
+pub returns-clause-reported : goal.returns-clause-reported
+returns-clause-reported g c n below t bytes at input = c.loop-number.invariant.loaded.reported n (omega (arith, below, c.loop-number-test.false)) t bytes at input
 
 pub returns-clause-quiet : goal.returns-clause-quiet
 returns-clause-quiet g c k = c.loop-number.invariant.loaded.quiet k

@@ -2,14 +2,14 @@ use Rattle.std.proofs.Common.{◌≡◌, sym, ◌∙◌, ap, subst, ◌<◌, ◌
 use Rattle.std.specs.List.{slice_get}
 use Rattle.std.proofs.lemmas.Option.{slice_get-get_or}
 use Rattle.std.proofs.lemmas.List.{take_more, take_all}
-use Rattle.logical.specs.declared.expr.Expr.{Expr}
-use Rattle.logical.specs.Expressions.{input_classes}
+use Rattle.algebra.specs.declared.expr.Expr.{Expr}
+use Rattle.algebra.specs.Expressions.{input_classes}
 use Rattle.physical.specs.declared.plan.Plan.{Plan}
 use Rattle.planner.proofs.ClassPlans.{ArePlansOf, one_more, plan_of_class, earlier_input}
 use Rattle.planner.proofs.certificates.+plan_of.Goals as goal
 
-pub node_of-requires : goal.node_of-requires
-node_of-requires t c =
+pub operator_of-requires : goal.operator_of-requires
+operator_of-requires t c =
     let at = slice_get-get_or c.args.frame.now c.args.class c.index-frame-class.result c.requires.class ∙ ap Some (sym c.index-frame-class.is) in
     (c.requires.earlier c.args.class c.index-frame-class.result at).1
 
@@ -41,4 +41,4 @@ returns t c =
     let at : slice_get c.args.frame.now g ≡ Some x = slice_get-get_or c.args.frame.now g x c.requires.class ∙ ap Some (sym c.index-frame-class.is) in
     let classes : List ℕ = c.as_slice-input-items.result.now in
     let all : take c.loop-input.input-index classes ≡ input_classes x = take_all c.loop-input.input-index classes c.loop-input-test.false ∙ c.as_slice-input-items.ensures.value ∙ c.in_ok-classes.ensures in
-    plan_of_class c.args.frame.now g x c.in_ok-node.node c.loop-input.inputs at c.in_ok-node.ensures (subst (λ L. ArePlansOf c.args.frame.now L c.loop-input.inputs) all c.loop-input.invariant)
+    plan_of_class c.args.frame.now g x c.in_ok-operator.operator c.loop-input.inputs at c.in_ok-operator.ensures (subst (λ L. ArePlansOf c.args.frame.now L c.loop-input.inputs) all c.loop-input.invariant)

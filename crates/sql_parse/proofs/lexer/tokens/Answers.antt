@@ -1,6 +1,6 @@
 use Rattle.std.proofs.Common.{◌-◌, ◌<◌, length, refl}
 use Rattle.std.proofs.lemmas.Result.{err_from_is_err_and}
-use Rattle.sql_parse.proofs.TokenLists.{stands_first, stands_next, stands_last, read_all, some_left, none_left, shorter, fault_only, fault_told}
+use Rattle.sql_parse.proofs.TokenLists.{stands_first, stands_next, stands_last, read_all, some_left, none_left, shorter, fault_only, fault_reported}
 use Rattle.sql_parse.proofs.lexer.tokens.Goals as goal
 
 pub loop-rest-init : goal.loop-rest-init
@@ -17,7 +17,7 @@ pub returns-in_err-kind-clause-fault : goal.returns-in_err-kind-clause-fault
 returns-in_err-kind-clause-fault c =
     let p = err_from_is_err_and c.from_residual.result c.from_residual.ensures.1 in
     let rest = c.loop-rest.rest.now in
-    rw (p.1, p.2) (fault_told c.args.text.now c.loop-rest.tokens.items rest c.in_err-kind.field-0.0 c.loop-rest.invariant.1
+    rw (p.1, p.2) (fault_reported c.args.text.now c.loop-rest.tokens.items rest c.in_err-kind.field-0.0 c.loop-rest.invariant.1
     (some_left (length rest) c.is_empty.result c.loop-rest-test.true c.is_empty.ensures) c.in_err-kind.ensures)
 
 pub loop-rest-smaller : goal.loop-rest-smaller

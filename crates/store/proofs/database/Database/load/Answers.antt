@@ -20,7 +20,7 @@ returns-in_err-loaded-clause-exact g c =
     (p.1 ∙ ap Err p.2) c.in-Ok.ensures.bytes at c.in_err-loaded.ensures
 
 pub invariant_of-self : goal.invariant_of-self
-invariant_of-self g c = satisfy_set c.self.inside.schema.now.tables c.self.inside.tables.items c.args.table c.entry_of-entry.result.now c.in_ok-loaded.loaded c.self.invariant c.entry_of-entry.ensures c.in_ok-loaded.ensures.told.satisfies
+invariant_of-self g c = satisfy_set c.self.inside.schema.now.tables c.self.inside.tables.items c.args.table c.entry_of-entry.result.now c.in_ok-loaded.loaded c.self.invariant c.entry_of-entry.ensures c.in_ok-loaded.ensures.reported.satisfies
 
 pub returns-clause-exact : goal.returns-clause-exact
 returns-clause-exact g c =

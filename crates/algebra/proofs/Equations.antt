@@ -1,0 +1,55 @@
+-- What folds over conditions give at lists of conditions.
+use Rattle.std.proofs.Common.{◌≡◌, refl, ap, sym, ◌∙◌, ℕ, Bool, not, ◌&&◌, ◌||◌, ◌==◌, ◌<◌, ◌+◌, ◌-◌, length, take, drop, get_or, add-one, nat_lt, arith, List, [], ◌∷◌, map}
+use Rattle.std.specs.List.{list_all, list_any}
+use Rattle.std.proofs.lemmas.Bool.{le-ltb}
+use Rattle.std.proofs.lemmas.List.{take_all, length-drop}
+use Rattle.std.proofs.Math.Seq.{drop-cons}
+use Rattle.query.specs.declared.query.Aggregate.TheVariants.{CountRows}
+use Rattle.algebra.specs.Expressions.{subqueries_pass, is_plain, aggregate_columns, are_different}
+use Rattle.algebra.specs.Columns.{has}
+use Rattle.algebra.specs.declared.expr.Aggregation.{Aggregation}
+use Rattle.algebra.specs.declared.condition.Condition.{Condition, fold-roll-Condition}
+use Rattle.algebra.specs.declared.condition.Condition.TheVariants.{And, Or, rolls-And, rolls-Or}
+use Rattle.algebra.specs.declared.condition.Condition.TheOpen.{Condition-F}
+use Rattle.algebra.specs.Conditions.{Passes, columns_layer, all_columns, classes_layer, all_classes}
+
+list_all-map : {X Y : Type 0} (p : Y → Bool) (f : X → Y) (xs : List X) → list_all p (map f xs) ≡ list_all (λ x. p (f x)) xs
+list_all-map p f [] = refl
+list_all-map p f (x ∷ xs) = ap (λ b. p (f x) && b) (list_all-map p f xs)
+
+pub all_columns_and : (cs : List Condition) (p : ℕ → Bool) → all_columns (And cs) p ≡ list_all (λ c. all_columns c p) cs
+unfolding all_columns
+all_columns_and cs p = ap (λ c. all_columns c p) (sym (rolls-And cs)) ∙ ap (λ f. f p) (fold-roll-Condition Passes columns_layer (Condition-F.And cs)) ∙ list_all-map (λ c. c p) all_columns cs
+
+pub all_columns_or : (cs : List Condition) (p : ℕ → Bool) → all_columns (Or cs) p ≡ list_all (λ c. all_columns c p) cs
+unfolding all_columns
+all_columns_or cs p = ap (λ c. all_columns c p) (sym (rolls-Or cs)) ∙ ap (λ f. f p) (fold-roll-Condition Passes columns_layer (Condition-F.Or cs)) ∙ list_all-map (λ c. c p) all_columns cs
+
+pub all_classes_and : (cs : List Condition) (p : ℕ → Bool) → all_classes (And cs) p ≡ list_all (λ c. all_classes c p) cs
+unfolding all_classes
+all_classes_and cs p = ap (λ c. all_classes c p) (sym (rolls-And cs)) ∙ ap (λ f. f p) (fold-roll-Condition Passes classes_layer (Condition-F.And cs)) ∙ list_all-map (λ c. c p) all_classes cs
+
+pub all_classes_or : (cs : List Condition) (p : ℕ → Bool) → all_classes (Or cs) p ≡ list_all (λ c. all_classes c p) cs
+unfolding all_classes
+all_classes_or cs p = ap (λ c. all_classes c p) (sym (rolls-Or cs)) ∙ ap (λ f. f p) (fold-roll-Condition Passes classes_layer (Condition-F.Or cs)) ∙ list_all-map (λ c. c p) all_classes cs
+
+-- what names no class below 0 names none
+pub plain_below : (C : List Condition) → subqueries_pass (λ g. nat_lt g 0) C ≡ is_plain C
+plain_below C = λ i. subqueries_pass (λ g. le-ltb g 0 (omega arith) i) C
+
+-- whether a column is one of the aggregates'
+any_column : (added : List Aggregation) (c : ℕ) → list_any (λ a. a.column == c) added ≡ has (aggregate_columns added) c
+any_column [] c = refl
+any_column (a ∷ added) c = ap (λ b. (a.column == c) || b) (any_column added c)
+
+different_first : (left : List Aggregation) (a : Aggregation) (rest : List Aggregation) → left ≡ a ∷ rest → are_different (aggregate_columns left) ≡ (not (list_any (λ b. b.column == a.column) rest) && are_different (aggregate_columns rest))
+different_first left a rest is = ap (λ l. are_different (aggregate_columns l)) is ∙ ap (λ b. not b && are_different (aggregate_columns rest)) (sym (any_column rest a.column))
+
+-- whether the aggregates from a place on differ, by the one there and the others
+pub different_at : (added : List Aggregation) (i k : ℕ) (b : Bool) → i < length added → ((d : Aggregation) → k ≡ (get_or added i d).column)
+    → b ≡ list_any (λ b. b.column == k) (take (length added - (i + 1)) (drop (i + 1) added))
+    → are_different (aggregate_columns (drop i added)) ≡ (not b && are_different (aggregate_columns (drop (i + 1) added)))
+different_at added i k b lt is same =
+    let d : Aggregation = record { column = k; aggregate = CountRows } in
+    different_first (drop i added) (get_or added i d) (drop (i + 1) added) (drop-cons added i d lt ∙ rw add-one refl)
+    ∙ ap (λ b. not b && are_different (aggregate_columns (drop (i + 1) added))) (rw (← is d, same, take_all (length added - (i + 1)) (drop (i + 1) added) (rw length-drop (omega arith))) refl)

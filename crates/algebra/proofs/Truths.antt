@@ -1,0 +1,71 @@
+-- What each form of condition over classes is at a row.
+use Rattle.std.proofs.Common.{◌≡◌, refl, ap, sym, ◌∙◌, ℕ, Bool, true, false, ◌&&◌, not, List, [], ◌∷◌, map, fold}
+use Rattle.std.specs.List.{list_all}
+use Rattle.values.specs.declared.truth.Truth.{Truth}
+use Rattle.values.specs.declared.truth.Truth.TheVariants as be
+use Rattle.values.specs.declared.truth.Comparison.{Comparison}
+use Rattle.values.specs.declared.truth.Comparison.TheVariants as by
+use Rattle.values.specs.Truth.{negation, conjunction, truth_of, is_true, is_null, compare}
+use Rattle.query.specs.Meaning.{all_of, any_of}
+use Rattle.algebra.specs.declared.condition.Condition.{Condition, fold-roll-Condition}
+use Rattle.algebra.specs.declared.condition.Condition.TheVariants.{Compare, IsNull, Not, And, Or, Exists, In, rolls-Compare, rolls-IsNull, rolls-Not, rolls-And, rolls-Or, rolls-Exists, rolls-In}
+use Rattle.algebra.specs.declared.condition.Condition.TheOpen.{Condition-F}
+use Rattle.algebra.specs.declared.condition.Term.{Term}
+use Rattle.algebra.specs.Bags.{Env, Bag}
+use Rattle.algebra.specs.Conditions.{Meaning, truth_layer, truth, term_value, is_empty}
+
+truths-map : (W : ℕ → Bag) (r : Env) (cs : List Condition) → map (λ m. m W r) (map truth cs) ≡ map (λ c. truth c W r) cs
+truths-map W r [] = refl
+truths-map W r (c ∷ cs) = ap (λ ts. truth c W r ∷ ts) (truths-map W r cs)
+
+pub truth-Compare : (c : Comparison) (a b : Term) (W : ℕ → Bag) (r : Env) → truth (Compare c a b) W r ≡ compare c (term_value a r) (term_value b r)
+unfolding truth
+truth-Compare c a b W r = ap (λ d. truth d W r) (sym (rolls-Compare c a b)) ∙ ap (λ m. m W r) (fold-roll-Condition Meaning truth_layer (Condition-F.Compare c a b))
+
+pub truth-IsNull : (a : Term) (W : ℕ → Bag) (r : Env) → truth (IsNull a) W r ≡ truth_of (is_null (term_value a r))
+unfolding truth
+truth-IsNull a W r = ap (λ d. truth d W r) (sym (rolls-IsNull a)) ∙ ap (λ m. m W r) (fold-roll-Condition Meaning truth_layer (Condition-F.IsNull a))
+
+pub truth-Not : (c : Condition) (W : ℕ → Bag) (r : Env) → truth (Not c) W r ≡ negation (truth c W r)
+unfolding truth
+truth-Not c W r = ap (λ d. truth d W r) (sym (rolls-Not c)) ∙ ap (λ m. m W r) (fold-roll-Condition Meaning truth_layer (Condition-F.Not c))
+
+pub truth-And : (cs : List Condition) (W : ℕ → Bag) (r : Env) → truth (And cs) W r ≡ all_of (map (λ c. truth c W r) cs)
+unfolding truth
+truth-And cs W r = ap (λ d. truth d W r) (sym (rolls-And cs)) ∙ ap (λ m. m W r) (fold-roll-Condition Meaning truth_layer (Condition-F.And cs)) ∙ ap all_of (truths-map W r cs)
+
+pub truth-Or : (cs : List Condition) (W : ℕ → Bag) (r : Env) → truth (Or cs) W r ≡ any_of (map (λ c. truth c W r) cs)
+unfolding truth
+truth-Or cs W r = ap (λ d. truth d W r) (sym (rolls-Or cs)) ∙ ap (λ m. m W r) (fold-roll-Condition Meaning truth_layer (Condition-F.Or cs)) ∙ ap any_of (truths-map W r cs)
+
+pub truth-Exists : (g : ℕ) (W : ℕ → Bag) (r : Env) → truth (Exists g) W r ≡ truth_of (not (is_empty (W g r)))
+unfolding truth
+truth-Exists g W r = ap (λ d. truth d W r) (sym (rolls-Exists g)) ∙ ap (λ m. m W r) (fold-roll-Condition Meaning truth_layer (Condition-F.Exists g))
+
+pub truth-In : (a : Term) (g k : ℕ) (W : ℕ → Bag) (r : Env) → truth (In a g k) W r ≡ any_of (map (λ s. compare by.Equal (term_value a r) (s k)) (W g r))
+unfolding truth
+truth-In a g k W r = ap (λ d. truth d W r) (sym (rolls-In a g k)) ∙ ap (λ m. m W r) (fold-roll-Condition Meaning truth_layer (Condition-F.In a g k))
+
+-- ---- AND of a list is true where all are
+
+true-and : (a b : Truth) → is_true (conjunction a b) ≡ (is_true a && is_true b)
+true-and be.False b = refl
+true-and be.Unknown be.False = refl
+true-and be.Unknown be.Unknown = refl
+true-and be.Unknown be.True = refl
+true-and be.True b = refl
+
+and-assoc : (a b c : Bool) → ((a && b) && c) ≡ (a && (b && c))
+and-assoc true b c = refl
+and-assoc false b c = refl
+
+true-from : (a : Truth) (ts : List Truth) → is_true (fold conjunction a ts) ≡ (is_true a && list_all is_true ts)
+true-from a [] = sym (and-true (is_true a))
+  where
+    and-true : (b : Bool) → (b && true) ≡ b
+    and-true true = refl
+    and-true false = refl
+true-from a (t ∷ ts) = true-from (conjunction a t) ts ∙ ap (λ b. b && list_all is_true ts) (true-and a t) ∙ and-assoc (is_true a) (is_true t) (list_all is_true ts)
+
+pub true-all : (ts : List Truth) → is_true (all_of ts) ≡ list_all is_true ts
+true-all ts = true-from be.True ts

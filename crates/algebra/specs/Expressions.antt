@@ -1,0 +1,171 @@
+-- What expressions mean, their columns and free columns, and when they are well formed.
+use Rattle.std.specs.Prelude.{ℕ, ◌-◌, Bool, true, false, not, ◌&&◌, ◌||◌, ◌==◌, nat_lt, if◌then◌else◌, List, [], ◌∷◌, ◌++◌, length, map, slice_get, Option, Some, None}
+use Rattle.std.specs.List.{list_any, list_all, range_with_len}
+use Rattle.schema.specs.Databases.{Row}
+use Rattle.query.specs.declared.query.TableInstance.{TableInstance}
+use Rattle.query.specs.declared.query.Aggregate.{Aggregate}
+use Rattle.query.specs.declared.query.Aggregate.TheVariants as by
+use Rattle.query.specs.Rows.{Tables, value_at}
+use Rattle.query.specs.Aggregates.{aggregate_of}
+use Rattle.algebra.specs.declared.condition.Condition.{Condition}
+use Rattle.algebra.specs.declared.expr.Aggregation.{Aggregation}
+use Rattle.algebra.specs.declared.expr.Expr.{Expr}
+use Rattle.algebra.specs.declared.expr.Expr.TheVariants.{Get, Select, Join, LeftJoin, Semi, Anti, Keep, Distinct, Group}
+use Rattle.algebra.specs.Equality.{same_aggregation}
+use Rattle.algebra.specs.Columns.{ColumnSet, has, is_subset, are_disjoint, rising}
+use Rattle.algebra.specs.Bags.{Env, Bag, lay, select, join, left_join, semi, anti, keep, distinct, group}
+use Rattle.algebra.specs.Conditions.{holds, allows, all_columns, all_classes, classes_in, mentions}
+
+-- what is known of each class: its rows, its columns, and the columns of the environment on which its rows depend
+pub record Classes : Type 0 where
+  pub rows : ℕ → Bag
+  pub columns : ℕ → List ℕ
+  pub free : ℕ → ColumnSet
+
+-- ---- table instances
+
+-- the columns of a table instance
+abbrev pub use_columns : TableInstance → List ℕ
+use_columns t = range_with_len t.first_column (length t.entry.columns)
+
+-- a row of the occurrence in an environment
+abbrev pub use_row : TableInstance → Row → Env → Env
+use_row t row e = lay (has (use_columns t)) (λ c. value_at (c - t.first_column) row) e
+
+-- the rows of the occurrence
+abbrev pub use_rows : TableInstance → Tables → Bag
+use_rows t D e = map (λ row. use_row t row e) (D.rows t.table)
+
+abbrev pub get_rows : Option TableInstance → Tables → Bag
+get_rows None D e = []
+get_rows (Some t) D e = use_rows t D e
+
+abbrev pub get_columns : Option TableInstance → List ℕ
+get_columns None = []
+get_columns (Some t) = use_columns t
+
+-- ---- aggregates
+
+-- the row with each aggregate of the rows in its column
+abbrev pub with_aggregates : List Aggregation → List Env → Env → Env
+with_aggregates [] rows r c = r c
+with_aggregates (a ∷ rest) rows r c = if a.column == c then aggregate_of a.aggregate (length rows) (λ k. map (λ s. s k) rows) else with_aggregates rest rows r c
+
+-- the columns that an aggregate reads
+abbrev pub aggregate_reads : Aggregate → List ℕ
+aggregate_reads by.CountRows = []
+aggregate_reads (by.Count k) = k ∷ []
+aggregate_reads (by.Sum k) = k ∷ []
+aggregate_reads (by.Min k) = k ∷ []
+aggregate_reads (by.Max k) = k ∷ []
+
+abbrev pub aggregate_columns : List Aggregation → List ℕ
+aggregate_columns added = map (λ a. a.column) added
+
+-- ---- what an expression means, its columns and its free columns, given the classes that it names
+
+abbrev pub means : List TableInstance → Tables → Classes → Expr → Bag
+means uses D W (Get o) = get_rows (slice_get uses o) D
+means uses D W (Select C x) = select (holds W.rows C) (W.rows x)
+means uses D W (Join C a b) = join (holds W.rows C) (has (W.columns b)) (W.rows a) (W.rows b)
+means uses D W (LeftJoin C a b) = left_join (holds W.rows C) (has (W.columns b)) (W.rows a) (W.rows b)
+means uses D W (Semi C a b) = semi (holds W.rows C) (has (W.columns b)) (W.rows a) (W.rows b)
+means uses D W (Anti S M a b) = anti (λ r. holds W.rows S r && allows W.rows M r) (has (W.columns b)) (W.rows a) (W.rows b)
+means uses D W (Keep K x) = keep (has K) (W.rows x)
+means uses D W (Distinct x) = distinct (W.columns x) (W.rows x)
+means uses D W (Group K G x) = group K (with_aggregates G) (W.rows x)
+
+abbrev pub columns_of : List TableInstance → (ℕ → List ℕ) → Expr → List ℕ
+columns_of uses cols (Get o) = get_columns (slice_get uses o)
+columns_of uses cols (Select C x) = cols x
+columns_of uses cols (Join C a b) = rising (cols a ++ cols b)
+columns_of uses cols (LeftJoin C a b) = rising (cols a ++ cols b)
+columns_of uses cols (Semi C a b) = cols a
+columns_of uses cols (Anti S M a b) = cols a
+columns_of uses cols (Keep K x) = K
+columns_of uses cols (Distinct x) = cols x
+columns_of uses cols (Group K G x) = rising (K ++ aggregate_columns G)
+
+-- the columns that conditions read
+abbrev pub mentioned : (ℕ → List ℕ) → (ℕ → ColumnSet) → List Condition → ColumnSet
+mentioned cols free C c = list_any (λ d. mentions d cols free c) C
+
+-- the free columns of the sides, and what the conditions read but for the sides' columns
+abbrev pub free_of_join : (ℕ → List ℕ) → (ℕ → ColumnSet) → List Condition → ℕ → ℕ → ColumnSet
+free_of_join cols free C a b c = free a c || free b c || (mentioned cols free C c && not (has (cols a) c) && not (has (cols b) c))
+
+abbrev pub free_of : (ℕ → List ℕ) → (ℕ → ColumnSet) → Expr → ColumnSet
+free_of cols free (Get o) c = false
+free_of cols free (Select C x) c = free x c || (mentioned cols free C c && not (has (cols x) c))
+free_of cols free (Join C a b) c = free_of_join cols free C a b c
+free_of cols free (LeftJoin C a b) c = free_of_join cols free C a b c
+free_of cols free (Semi C a b) c = free_of_join cols free C a b c
+free_of cols free (Anti S M a b) c = free_of_join cols free (S ++ M) a b c
+free_of cols free (Keep K x) c = free x c
+free_of cols free (Distinct x) c = free x c
+free_of cols free (Group K G x) c = free x c
+
+-- ---- well formed expressions
+
+-- whether each class that conditions name passes a test
+abbrev pub subqueries_pass : (ℕ → Bool) → List Condition → Bool
+subqueries_pass p C = list_all (λ d. all_classes d p) C
+
+-- whether each class that an expression names passes
+abbrev pub classes_pass : (ℕ → Bool) → Expr → Bool
+classes_pass p (Get o) = true
+classes_pass p (Select C x) = p x && subqueries_pass p C
+classes_pass p (Join C a b) = p a && p b && subqueries_pass p C
+classes_pass p (LeftJoin C a b) = p a && p b && subqueries_pass p C
+classes_pass p (Semi C a b) = p a && p b && subqueries_pass p C
+classes_pass p (Anti S M a b) = p a && p b && subqueries_pass p S && subqueries_pass p M
+classes_pass p (Keep K x) = p x
+classes_pass p (Distinct x) = p x
+classes_pass p (Group K G x) = p x
+
+-- the classes that an expression names: its inputs, and those of its conditions, rising
+abbrev pub input_classes : Expr → List ℕ
+input_classes (Get o) = []
+input_classes (Select C x) = x ∷ classes_in C
+input_classes (Join C a b) = a ∷ b ∷ []
+input_classes (LeftJoin C a b) = a ∷ b ∷ []
+input_classes (Semi C a b) = a ∷ b ∷ []
+input_classes (Anti S M a b) = a ∷ b ∷ []
+input_classes (Keep K x) = x ∷ []
+input_classes (Distinct x) = x ∷ []
+input_classes (Group K G x) = x ∷ []
+
+-- a column of the query: of a table instance, or of an aggregate of its own
+abbrev pub is_own : List TableInstance → List Aggregation → ColumnSet
+is_own uses own c = list_any (λ t. has (use_columns t) c) uses || list_any (λ a. a.column == c) own
+
+abbrev pub names_own : List TableInstance → List Aggregation → List Condition → Bool
+names_own uses own C = list_all (λ d. all_columns d (is_own uses own)) C
+
+-- the conditions name no class
+abbrev pub is_plain : List Condition → Bool
+is_plain C = subqueries_pass (λ g. false) C
+
+-- the sides of a join share no column, and its conditions name no class
+abbrev pub joins_formed : List TableInstance → List Aggregation → List Condition → List ℕ → List ℕ → Bool
+joins_formed uses own C left right = names_own uses own C && is_plain C && are_disjoint left right
+
+abbrev pub are_different : List ℕ → Bool
+are_different [] = true
+are_different (c ∷ cs) = not (has cs c) && are_different cs
+
+-- the aggregate is one of the query's own, reads the columns and is none of them
+abbrev pub aggregation_formed : List Aggregation → List ℕ → Aggregation → Bool
+aggregation_formed own columns a = list_any (same_aggregation a) own && is_subset (aggregate_reads a.aggregate) columns && not (has columns a.column)
+
+-- whether the expression is well formed over classes with these columns, in a query with these table instances and aggregates
+abbrev pub is_formed : List TableInstance → List Aggregation → (ℕ → List ℕ) → Expr → Bool
+is_formed uses own cols (Get o) = nat_lt o (length uses)
+is_formed uses own cols (Select C x) = names_own uses own C
+is_formed uses own cols (Join C a b) = joins_formed uses own C (cols a) (cols b)
+is_formed uses own cols (LeftJoin C a b) = joins_formed uses own C (cols a) (cols b)
+is_formed uses own cols (Semi C a b) = joins_formed uses own C (cols a) (cols b)
+is_formed uses own cols (Anti S M a b) = joins_formed uses own S (cols a) (cols b) && joins_formed uses own M (cols a) (cols b)
+is_formed uses own cols (Keep K x) = is_subset K (cols x)
+is_formed uses own cols (Distinct x) = true
+is_formed uses own cols (Group K G x) = is_subset K (cols x) && are_different (aggregate_columns G) && list_all (aggregation_formed own (cols x)) G

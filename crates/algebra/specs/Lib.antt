@@ -1,0 +1,7 @@
+pub mod Bags
+pub mod Classes
+pub mod Columns
+pub mod Conditions
+pub mod ConjunctOrder
+pub mod Equality
+pub mod Expressions

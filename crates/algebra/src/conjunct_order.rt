@@ -1,0 +1,119 @@
+//! Conjuncts in the order in which certificates spell them.
+
+ghost use Rattle.std.specs.Prelude.{◌≡◌, IfOk};
+ghost use Rattle.std.specs.List.{position_or_len};
+ghost use Rattle.algebra.specs.Equality.{same_condition};
+ghost use Rattle.algebra.specs.ConjunctOrder as spec;
+
+use crate::condition::{Condition, Conjuncts};
+use crate::condition_text::condition_text;
+use std::alloc::{AllocError, Global};
+use std::marker::Model;
+use values::Items;
+
+/// A condition and its text, by which conjuncts are ordered.
+#[derive(Drop)]
+struct Spelt {
+    text: String,
+    condition: Condition,
+}
+
+impl Model for Spelt {
+    ghost use Rattle.algebra.specs.declared.condition.Condition.{Condition};
+
+    ghost Value = { Condition };
+
+    ghost use Rattle.algebra.specs.contracts.condition.Condition as e;
+    ghost use Rattle.std.specs.Coded.{codes};
+
+    ghost coded = { Prim.hlevel (codes, e.the_row.coded) };
+
+    ghost view = { λ s. s.condition };
+
+    ghost use Rattle.std.specs.Prelude.{◌≡◌, string_bytes};
+    ghost use Rattle.algebra.specs.ConjunctOrder.{condition_text};
+
+    ghost invariant = { λ s. string_bytes s.text ≡ condition_text s.condition };
+}
+
+impl Spelt {
+    fn new(alloc: Global, condition: Condition) -> Result<Spelt, AllocError>
+        ensures { IfOk result (λ s. s ≡ condition) }
+    {
+        let text = condition_text(alloc, &condition)?;
+        Ok(Spelt { text, condition })
+    }
+
+    #[tactic(auto, using(crate::proofs::Same::tested_condition))]
+    fn same(&self, other: &Spelt) -> bool
+        ensures { result ≡ same_condition self.now other.now }
+    {
+        self.condition.same(&other.condition)
+    }
+
+    #[tactic(auto, unfolding(crate::specs::ConjunctOrder::goes_before))]
+    fn goes_before(&self, other: &Spelt) -> bool
+        ensures { result ≡ spec.goes_before self.now other.now }
+    {
+        self.text.as_str() < other.text.as_str()
+    }
+
+    /// Whether the search for this condition's place ends at another.
+    fn ends_search(&self, other: &Spelt) -> bool
+        ensures { result ≡ spec.ends_search self.now other.now }
+    {
+        self.same(other) || self.goes_before(other)
+    }
+
+    fn into_condition(self) -> Condition
+        ensures { result ≡ self }
+    {
+        self.condition
+    }
+}
+
+/// The place of the first condition that is the same or goes after it, or the place behind all.
+fn place_of(order: &[Spelt], new: &Spelt) -> usize
+    ensures { result ≡ position_or_len (spec.ends_search new.now) order.now }
+{
+    let place = order.iter().position(|other| new.ends_search(other));
+    place.unwrap_or(order.len())
+}
+
+/// Puts a condition at its place, unless it is there.
+fn put_in_order(mut order: Vec<Spelt>, new: Spelt) -> Result<Vec<Spelt>, AllocError>
+    ensures { IfOk result (λ o. o.items ≡ spec.put_in_order new order.items) }
+{
+    let place = place_of(order.as_slice(), &new);
+    if let Some(other) = order.get(place) {
+        if new.same(other) {
+            drop(new);
+            return Ok(order);
+        }
+    }
+    order.insert(place, new)?;
+    Ok(order)
+}
+
+impl Conjuncts {
+    /// The conditions in rising order of their texts, each once.
+    pub fn in_order(alloc: Global, mut conditions: Vec<Condition>) -> Result<Conjuncts, AllocError>
+        ensures { IfOk result (λ c. c ≡ spec.in_order conditions.items) }
+    {
+        let mut order = Vec::new(alloc);
+        while let Some(condition) = conditions.pop() {
+            order = put_in_order(order, Spelt::new(alloc, condition)?)?;
+        }
+        conditions_of(alloc, order)
+    }
+}
+
+fn conditions_of(alloc: Global, order: Vec<Spelt>) -> Result<Conjuncts, AllocError>
+    ensures { IfOk result (λ c. c ≡ order.items) }
+{
+    let mut conditions = Items::new(alloc);
+    for spelt in order {
+        conditions.push(spelt.into_condition())?;
+    }
+    Ok(Conjuncts::from_items(conditions))
+}

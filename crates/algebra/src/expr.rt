@@ -1,0 +1,102 @@
+//! Expressions over classes.
+
+ghost use Rattle.std.specs.Prelude.{◌≡◌, ◌↔◌, IsTrue};
+ghost use Rattle.algebra.specs.Equality as spec;
+
+use crate::columns::Columns;
+use crate::condition::{ClassId, Conjuncts};
+use query::{Aggregate, ColumnId, OccurrenceId};
+use values::Items;
+
+/// An aggregate in a column of its own. Here the aggregate names the column that it reads by its number.
+#[derive(Clone, Copy, PartialEq, Eq)]
+pub struct Aggregation {
+    /// The new column.
+    pub column: ColumnId,
+    pub aggregate: Aggregate,
+}
+
+/// An operator of the algebra over classes, which come last.
+#[derive(Drop)]
+pub enum Expr {
+    /// The rows of a table instance.
+    Get(OccurrenceId),
+    /// The rows that make all conjuncts true.
+    Select(Conjuncts, ClassId),
+    /// The pairs that make all conjuncts true.
+    Join(Conjuncts, ClassId, ClassId),
+    /// These pairs, and each left row that has none, with Null in the right columns.
+    LeftJoin(Conjuncts, ClassId, ClassId),
+    /// The left rows for which some right row makes all conjuncts true.
+    Semi(Conjuncts, ClassId, ClassId),
+    /// The left rows for which no right row makes all of the first true and none of the second false:
+    /// `Anti(sure, maybe, left, right)`.
+    Anti(Conjuncts, Conjuncts, ClassId, ClassId),
+    /// The rows projected to the columns, as many as they were.
+    Keep(Columns, ClassId),
+    /// One of each row.
+    Distinct(ClassId),
+    /// One row for each different key, or one row where there is no key column, and the aggregates of each group.
+    Group(Columns, Items<Aggregation>, ClassId),
+}
+
+impl Expr {
+    pub fn same(&self, other: &Expr) -> bool
+        ensures equal { IsTrue result ↔ (self.now ≡ other.now) }
+        ensures test { result ≡ spec.same_expr self.now other.now }
+    {
+        is_same(self, other)
+    }
+}
+
+fn is_same(expr: &Expr, other: &Expr) -> bool
+    ensures { IsTrue result ↔ (expr.now ≡ other.now) }
+{
+    match (expr, other) {
+        (Expr::Get(o), Expr::Get(p)) => *o == *p,
+        (Expr::Select(c, x), Expr::Select(d, y)) => *x == *y && c.same(d),
+        (Expr::Join(c, a, b), Expr::Join(d, s, t)) => *a == *s && *b == *t && c.same(d),
+        (Expr::LeftJoin(c, a, b), Expr::LeftJoin(d, s, t)) => *a == *s && *b == *t && c.same(d),
+        (Expr::Semi(c, a, b), Expr::Semi(d, s, t)) => *a == *s && *b == *t && c.same(d),
+        (Expr::Anti(c, m, a, b), Expr::Anti(d, n, s, t)) => *a == *s
+            && *b == *t
+            && c.same(d)
+            && m.same(n),
+        (Expr::Keep(k, x), Expr::Keep(l, y)) => *x == *y && k.same(l),
+        (Expr::Distinct(x), Expr::Distinct(y)) => *x == *y,
+        (Expr::Group(k, g, x), Expr::Group(l, h, y)) => *x == *y
+            && k.same(l)
+            && same_aggregations(g.as_slice(), h.as_slice()),
+        _ => false,
+    }
+}
+
+impl Aggregation {
+    pub fn same(self, other: Aggregation) -> bool
+        ensures equal { IsTrue result ↔ (self ≡ other) }
+        ensures test { result ≡ spec.same_aggregation self other }
+    {
+        self == other
+    }
+}
+
+pub fn same_aggregations(added: &[Aggregation], others: &[Aggregation]) -> bool
+    ensures equal { IsTrue result ↔ (added.now ≡ others.now) }
+    ensures test { result ≡ spec.same_aggregations added.now others.now }
+{
+    are_same(added, others)
+}
+
+fn are_same(added: &[Aggregation], others: &[Aggregation]) -> bool
+    ensures { IsTrue result ↔ (added.now ≡ others.now) }
+{
+    if added.len() != others.len() {
+        return false;
+    }
+    for i in 0..added.len() {
+        if !added[i].same(others[i]) {
+            return false;
+        }
+    }
+    true
+}

@@ -1,0 +1,257 @@
+//! When expressions are well formed.
+
+ghost use Rattle.std.specs.Prelude.{◌≡◌, ◌==◌, ◌&&◌, nat_lt, true, length, IfOk};
+ghost use Rattle.std.specs.List.{list_all, list_any};
+ghost use Rattle.algebra.specs.Conditions as reads;
+ghost use Rattle.algebra.specs.Columns.{has, is_subset, columns_at};
+ghost use Rattle.algebra.specs.Equality.{same_aggregation};
+ghost use Rattle.algebra.specs.Expressions as spec;
+
+use crate::columns::{Columns, are_disjoint_from, is_subset_of};
+use crate::condition::{Condition, Conjuncts, Term};
+use crate::expr::{Aggregation, Expr};
+use query::{Aggregate, TableInstance};
+use std::alloc::{AllocError, Global};
+
+/// Whether the column is one of a table instance.
+#[tactic(auto, using(crate::proofs::Sets::range_has))]
+fn is_in_table(table: &TableInstance, column: usize) -> bool
+    ensures { result ≡ has (spec.use_columns table.now) column }
+{
+    table.first_column <= column && column - table.first_column < table.entry.columns.len()
+}
+
+/// Whether the column is one of the query's: of a table instance, or of an aggregate of its own.
+fn is_own(uses: &[TableInstance], own: &[Aggregation], column: usize) -> bool
+    ensures { result ≡ spec.is_own uses.now own.now column }
+{
+    is_in_tables(uses, column) || is_added(own, column)
+}
+
+/// Whether the column is one of a table instance of the list.
+fn is_in_tables(uses: &[TableInstance], column: usize) -> bool
+    ensures { result ≡ list_any (λ t. has (spec.use_columns t) column) uses.now }
+{
+    uses.iter().any(|t| is_in_table(t, column))
+}
+
+/// Whether the column is that of an aggregate of the list.
+fn is_added(added: &[Aggregation], column: usize) -> bool
+    ensures { result ≡ list_any (λ a. a.column == column) added.now }
+{
+    added.iter().any(|a| a.column == column)
+}
+
+/// Whether the column of a term, if it has one, is one of the query's.
+fn term_names_own(term: &Term, uses: &[TableInstance], own: &[Aggregation]) -> bool
+    ensures { result ≡ reads.term_passes (spec.is_own uses.now own.now) term.now }
+{
+    match term {
+        Term::Column(k) => is_own(uses, own, *k),
+        Term::Literal(_) => true,
+    }
+}
+
+/// Whether each column that a condition names is one of the query's.
+#[cycle(own)]
+#[tactic(auto, using(crate::proofs::Equations::all_columns_and, crate::proofs::Equations::all_columns_or), unfolding(crate::specs::Conditions::all_columns))]
+fn names_own(condition: &Condition, uses: &[TableInstance], own: &[Aggregation]) -> bool
+    ensures { result ≡ reads.all_columns condition.now (spec.is_own uses.now own.now) }
+{
+    match condition {
+        Condition::Compare(_, a, b) => term_names_own(a, uses, own) && term_names_own(b, uses, own),
+        Condition::IsNull(a) => term_names_own(a, uses, own),
+        Condition::Not(c) => names_own(c.get(), uses, own),
+        Condition::And(cs) => all_name_own(cs.as_slice(), uses, own),
+        Condition::Or(cs) => all_name_own(cs.as_slice(), uses, own),
+        Condition::Exists(_) => true,
+        Condition::In(a, _, k) => term_names_own(a, uses, own) && is_own(uses, own, *k),
+    }
+}
+
+#[cycle(own)]
+fn all_name_own(conditions: &[Condition], uses: &[TableInstance], own: &[Aggregation]) -> bool
+    ensures { result ≡ spec.names_own uses.now own.now conditions.now }
+{
+    for condition in conditions {
+        if !names_own(condition, uses, own) {
+            return false;
+        }
+    }
+    true
+}
+
+/// Whether each class that a condition names is below the bound.
+#[cycle(classes)]
+#[tactic(auto, using(crate::proofs::Equations::all_classes_and, crate::proofs::Equations::all_classes_or), unfolding(crate::specs::Conditions::all_classes))]
+fn names_below(condition: &Condition, bound: usize) -> bool
+    ensures { result ≡ reads.all_classes condition.now (λ g. nat_lt g bound) }
+{
+    match condition {
+        Condition::Compare(_, _, _) => true,
+        Condition::IsNull(_) => true,
+        Condition::Not(c) => names_below(c.get(), bound),
+        Condition::And(cs) => all_name_below(cs.as_slice(), bound),
+        Condition::Or(cs) => all_name_below(cs.as_slice(), bound),
+        Condition::Exists(g) => *g < bound,
+        Condition::In(_, g, _) => *g < bound,
+    }
+}
+
+#[cycle(classes)]
+fn all_name_below(conditions: &[Condition], bound: usize) -> bool
+    ensures { result ≡ spec.subqueries_pass (λ g. nat_lt g bound) conditions.now }
+{
+    for condition in conditions {
+        if !names_below(condition, bound) {
+            return false;
+        }
+    }
+    true
+}
+
+impl Expr {
+    /// Whether each class that the expression names is below the bound.
+    pub fn names_below(&self, bound: usize) -> bool
+        ensures { result ≡ spec.classes_pass (λ g. nat_lt g bound) self.now }
+    {
+        match self {
+            Expr::Get(_) => true,
+            Expr::Select(c, x) => *x < bound && all_name_below(c.as_slice(), bound),
+            Expr::Join(c, a, b) | Expr::LeftJoin(c, a, b) | Expr::Semi(c, a, b) => {
+                *a < bound && *b < bound && all_name_below(c.as_slice(), bound)
+            }
+            Expr::Anti(s, m, a, b) => {
+                *a < bound
+                    && *b < bound
+                    && all_name_below(s.as_slice(), bound)
+                    && all_name_below(m.as_slice(), bound)
+            }
+            Expr::Keep(_, x) | Expr::Distinct(x) | Expr::Group(_, _, x) => *x < bound,
+        }
+    }
+
+    /// Whether the expression is well formed, in a query with these table instances and aggregates. The columns are
+    /// those of the classes, by their numbers.
+    pub fn is_formed(&self, uses: &[TableInstance], own: &[Aggregation], columns: &[Columns]) -> bool
+        requires { spec.classes_pass (λ g. nat_lt g (length columns.now)) self.now ≡ true }
+        ensures { result ≡ spec.is_formed uses.now own.now (columns_at columns.now) self.now }
+    {
+        match self {
+            Expr::Get(o) => *o < uses.len(),
+            Expr::Select(c, _) => all_name_own(c.as_slice(), uses, own),
+            Expr::Join(c, a, b) | Expr::LeftJoin(c, a, b) | Expr::Semi(c, a, b) => {
+                joins_formed(c, &columns[*a], &columns[*b], uses, own)
+            }
+            Expr::Anti(s, m, a, b) => {
+                joins_formed(s, &columns[*a], &columns[*b], uses, own)
+                    && joins_formed(m, &columns[*a], &columns[*b], uses, own)
+            }
+            Expr::Keep(k, x) => is_subset_of(k.as_slice(), &columns[*x]),
+            Expr::Distinct(_) => true,
+            Expr::Group(k, added, x) => {
+                is_subset_of(k.as_slice(), &columns[*x])
+                    && aggregations_formed(added.as_slice(), &columns[*x], own)
+            }
+        }
+    }
+
+    /// The columns of the expression, over classes with these columns.
+    pub fn columns(
+        &self,
+        alloc: Global,
+        uses: &[TableInstance],
+        columns: &[Columns],
+    ) -> Result<Columns, AllocError>
+        requires { spec.classes_pass (λ g. nat_lt g (length columns.now)) self.now ≡ true }
+        ensures { IfOk result (λ c. c ≡ spec.columns_of uses.now (columns_at columns.now) self.now) }
+    {
+        match self {
+            Expr::Get(o) => Columns::of_occurrence(alloc, uses, *o),
+            Expr::Join(_, a, b) | Expr::LeftJoin(_, a, b) => columns[*a].union(alloc, &columns[*b]),
+            Expr::Select(_, x) | Expr::Semi(_, x, _) | Expr::Anti(_, _, x, _) | Expr::Distinct(x) =>
+                columns[*x].copy(alloc),
+            Expr::Keep(k, _) => k.copy(alloc),
+            Expr::Group(k, added, _) => Columns::of_groups(alloc, k, added.as_slice()),
+        }
+    }
+}
+
+/// Whether the conditions of a join name the query's columns and no class, and its sides share no column.
+fn joins_formed(
+    conjuncts: &Conjuncts,
+    left: &Columns,
+    right: &Columns,
+    uses: &[TableInstance],
+    own: &[Aggregation],
+) -> bool
+    ensures { result ≡ spec.joins_formed uses.now own.now conjuncts.now left.now right.now }
+{
+    all_name_own(conjuncts.as_slice(), uses, own)
+        && conjuncts.is_plain()
+        && are_disjoint_from(left.as_slice(), right)
+}
+
+impl Conjuncts {
+    /// Whether the conditions have no subquery.
+    #[tactic(auto, using(crate::proofs::Equations::plain_below))]
+    pub fn is_plain(&self) -> bool
+        ensures { result ≡ spec.is_plain self.now }
+    {
+        all_name_below(self.as_slice(), 0)
+    }
+}
+
+/// Whether the column that an aggregate reads, if it reads one, is in the set.
+fn reads_within(aggregate: Aggregate, columns: &Columns) -> bool
+    ensures { result ≡ is_subset (spec.aggregate_reads aggregate) columns.now }
+{
+    match aggregate {
+        Aggregate::CountRows => true,
+        Aggregate::Count(k) | Aggregate::Sum(k) | Aggregate::Min(k) | Aggregate::Max(k) => {
+            columns.contains(k)
+        }
+    }
+}
+
+/// Whether the aggregate is in the list.
+fn is_among(aggregation: Aggregation, own: &[Aggregation]) -> bool
+    ensures { result ≡ list_any (λ b. same_aggregation aggregation b) own.now }
+{
+    own.iter().any(|b| aggregation.same(*b))
+}
+
+/// Whether the aggregate is one of the query's own, reads the columns, and is none of them.
+fn aggregation_formed(aggregation: Aggregation, columns: &Columns, own: &[Aggregation]) -> bool
+    ensures { result ≡ spec.aggregation_formed own.now columns.now aggregation }
+{
+    is_among(aggregation, own)
+        && reads_within(aggregation.aggregate, columns)
+        && !columns.contains(aggregation.column)
+}
+
+/// Whether no two aggregates have one column.
+fn are_different(added: &[Aggregation]) -> bool
+    ensures { result ≡ spec.are_different (spec.aggregate_columns added.now) }
+{
+    for i in 0..added.len() {
+        let a = added[i];
+        if is_added(&added[i + 1..], a.column) {
+            return false;
+        }
+    }
+    true
+}
+
+/// Whether the aggregates of a group are well formed, and their columns differ.
+fn aggregations_formed(added: &[Aggregation], columns: &Columns, own: &[Aggregation]) -> bool
+    ensures { result ≡ (spec.are_different (spec.aggregate_columns added.now) && list_all (spec.aggregation_formed own.now columns.now) added.now) }
+{
+    are_different(added) && each_formed(added, columns, own)
+}
+
+fn each_formed(added: &[Aggregation], columns: &Columns, own: &[Aggregation]) -> bool
+    ensures { result ≡ list_all (spec.aggregation_formed own.now columns.now) added.now }
+{
+    added.iter().all(|a| aggregation_formed(*a, columns, own))
+}

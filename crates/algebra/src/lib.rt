@@ -1,0 +1,19 @@
+//! Expressions of the relational algebra over classes.
+//!
+//! A class is named by a number, and means the rows of the expression that founds it. An expression is an operator over
+//! classes. Columns are named by numbers too, each its own throughout a query, so a row and the environment around it
+//! are one thing: what every column number reads as.
+#![tactic(auto)]
+
+pub mod columns;
+pub mod condition;
+pub mod condition_text;
+mod conjunct_order;
+pub mod expr;
+pub mod formed;
+mod named_classes;
+mod operator_columns;
+
+pub use columns::Columns;
+pub use condition::{ClassId, Condition, Conjuncts, LineId, Term};
+pub use expr::{Aggregation, Expr, same_aggregations};

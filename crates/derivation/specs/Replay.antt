@@ -1,0 +1,146 @@
+-- When a certificate replays, and its first fault: lines go before nodes, and what stands first here goes first in a line or
+-- node. A derivation that a checker replays is this project's own idea of a certificate; what a node may compute is
+-- G. Graefe's (The Cascades framework for query optimization, 1995: implementation and enforcement).
+use Rattle.std.specs.Prelude.{◌≡◌, ℕ, ◌+◌, ◌-◌, Bool, true, false, not, ◌&&◌, ◌==◌, nat_lt, nat_le, List, [], ◌∷◌, map, length, take, slice_get, Option, Some, None, Result, Ok}
+use Rattle.std.specs.Coded.{coded_list}
+use Rattle.std.specs.List.{AllByRecursion, list_all}
+use Rattle.values.specs.Faults.{◌>>=◌, wanted, wanted_if}
+use Rattle.schema.specs.declared.schema.Schema.{Schema}
+use Rattle.schema.specs.Databases.{Database, Satisfies}
+use Rattle.query.specs.declared.query.Query.{Query}
+use Rattle.query.specs.Rows.{tables_of}
+use Rattle.query.specs.Bound.{IsBoundOver}
+use Rattle.query.specs.Answer.{IsAnswer}
+use Rattle.algebra.specs.declared.expr.Expr.{Expr}
+use Rattle.algebra.specs.declared.expr.Expr.TheVariants.{Get, Select, Join, LeftJoin, Keep, Distinct, Group}
+use Rattle.algebra.specs.Columns.{has}
+use Rattle.algebra.specs.Equality.{same_conditions, same_columns, same_aggregations, same_expr, same_by}
+use Rattle.algebra.specs.Expressions.{classes_pass, input_classes, is_plain, is_formed}
+use Rattle.algebra.specs.Classes.{class_columns}
+use Rattle.logical.specs.Frames.{query_frame}
+use Rattle.logical.specs.FormedFrames.{own_aggregates}
+use Rattle.physical.specs.declared.plan.JoinKind.TheVariants.{Inner, Left}
+use Rattle.physical.specs.declared.plan.Operator.{Operator}
+use Rattle.physical.specs.declared.plan.Operator.TheVariants.{Scan, Filter, FilterSubqueries, Projection, NestedLoopJoin, HashGroup, HashDistinct}
+use Rattle.physical.specs.declared.plan.Node.{Node}
+use Rattle.physical.specs.declared.plan.Node.TheVariants.{Implements, Sort}
+use Rattle.physical.specs.declared.plan.Plan.{Plan, fold-Plan}
+use Rattle.physical.specs.declared.plan.Plan.TheOpen.{Plan-F}
+use Rattle.physical.specs.declared.plan.OrderKey.{OrderKey}
+use Rattle.physical.specs.contracts.plan.OrderKey as order_key
+use Rattle.physical.specs.Orders.{delivered}
+use Rattle.derivation.specs.QueryOrders.{query_order}
+use Rattle.derivation.specs.QueryOrders.{answer}
+use Rattle.derivation.specs.declared.certificate.Line.{Line}
+use Rattle.derivation.specs.declared.certificate.Line.TheVariants.{Founds}
+use Rattle.derivation.specs.declared.certificate.Certificate.{Certificate}
+use Rattle.derivation.specs.declared.certificate.CheckReason.{CheckReason}
+use Rattle.derivation.specs.declared.certificate.CheckReason.TheVariants.{UnknownLine, OtherLine, IllFormed, OtherOperator, UnsortedAnswer}
+use Rattle.derivation.specs.declared.certificate.CheckRefusal.{CheckRefusal}
+
+abbrev pub refusal : ℕ → CheckReason → CheckRefusal
+refusal n reason = record { line = n; reason = reason }
+
+-- ---- lines
+
+-- the expression that a line founds its class with
+abbrev pub founding : Line → Expr
+founding (Founds x) = x
+
+-- where the frame has a line at this number, it is this one
+abbrev pub is_frame_line : Option Expr → Expr → Bool
+is_frame_line None x = true
+is_frame_line (Some y) x = same_expr x y
+
+-- line n, after lines whose classes have these columns: it names earlier lines, is well formed, and is the frame's line, if
+-- the frame has one there
+abbrev pub line_replays : Query → ℕ → (ℕ → List ℕ) → Expr → Result Expr CheckRefusal
+line_replays q n cols x =
+    wanted_if (refusal n UnknownLine) (classes_pass (λ g. nat_lt g n) x) x
+    >>= λ x. wanted_if (refusal n IllFormed) (is_formed q.tables (own_aggregates q) cols x) x
+    >>= λ x. wanted_if (refusal n OtherLine) (is_frame_line (slice_get (query_frame q) n) x) x
+
+-- lines after the earlier ones, of which the last stands first; no line of the frame is missing
+abbrev pub lines_replay : Query → List Expr → List Expr → Result (List Expr) CheckRefusal
+lines_replay q E [] = wanted_if (refusal (length E) OtherLine) (nat_le (length (query_frame q)) (length E)) E
+lines_replay q E (x ∷ lines) = line_replays q (length E) (class_columns q.tables E) x >>= λ x. lines_replay q (x ∷ E) lines
+
+-- ---- nodes
+
+-- whether an operator computes an expression from what its inputs produce
+abbrev pub implements : Operator → Expr → Bool
+implements (Scan o) (Get p) = o == p
+implements (Filter C) (Select D x) = is_plain D && same_conditions C D
+implements (FilterSubqueries C) (Select D x) = not (is_plain D) && same_conditions C D
+implements (Projection K) (Keep L x) = same_columns K L
+implements (NestedLoopJoin Inner C) (Join D a b) = same_conditions C D
+implements (NestedLoopJoin Left C) (LeftJoin D a b) = same_conditions C D
+implements (HashGroup K G) (Group L H x) = same_columns K L && same_aggregations G H
+implements HashDistinct (Distinct x) = true
+implements operator x = false
+
+-- a sort at number n, over so many inputs, of the class: by columns of the class, over the class itself
+abbrev pub sort_fits : (ℕ → List ℕ) → List OrderKey → ℕ → ℕ → ℕ → Result (List ℕ) CheckRefusal
+sort_fits cols keys inputs g n =
+    wanted_if (refusal n IllFormed) (list_all (λ k. has (cols g) k.column) keys) (g ∷ [])
+    >>= λ classes. wanted_if (refusal n OtherOperator) (inputs == 1) classes
+
+-- an operator: its line founds the class, it implements the line's expression, and has an input for each class that it needs
+abbrev pub operator_fits : List Expr → ℕ → Operator → ℕ → ℕ → ℕ → Result (List ℕ) CheckRefusal
+operator_fits lines line operator inputs g n =
+    wanted (refusal n UnknownLine) (slice_get lines line)
+    >>= λ x. wanted_if (refusal n OtherOperator) (line == g && implements operator x && inputs == length (input_classes x)) (input_classes x)
+
+-- the classes that the node at number n needs as inputs, if it is of the class
+abbrev pub node_fits : List Expr → (ℕ → List ℕ) → Node → ℕ → ℕ → ℕ → Result (List ℕ) CheckRefusal
+node_fits lines cols (Implements line operator) inputs g n = operator_fits lines line operator inputs g n
+node_fits lines cols (Sort keys) inputs g n = sort_fits cols keys inputs g n
+
+-- whether a plan is of a class, and delivers the order that is wanted (as the first argument says), its nodes being
+-- numbered from a number on; gives the number after them
+abbrev pub Fits : Type 0
+Fits = Bool → ℕ → ℕ → Result ℕ CheckRefusal
+
+-- no order is wanted of inputs
+abbrev pub inputs_fit : List Fits → List ℕ → ℕ → Result ℕ CheckRefusal
+inputs_fit [] classes n = Ok n
+inputs_fit (fits ∷ inputs) [] n = Ok n
+inputs_fit (fits ∷ inputs) (g ∷ classes) n = fits true g n >>= λ m. inputs_fit inputs classes m
+
+abbrev pub fits_layer : List Expr → (ℕ → List ℕ) → Plan-F Fits → Fits
+fits_layer lines cols p ordered g n =
+    node_fits lines cols p.node (length p.inputs) g n
+    >>= λ classes. wanted_if (refusal n UnsortedAnswer) ordered classes
+    >>= λ classes. inputs_fit p.inputs classes (n + 1)
+
+unfoldable pub plan_fits : List Expr → (ℕ → List ℕ) → Plan → Fits
+plan_fits lines cols = fold-Plan Fits (fits_layer lines cols)
+
+-- ---- certificates
+
+unfoldable pub same_order : List OrderKey → List OrderKey → Bool
+same_order = same_by (coded_list order_key.the_row.coded)
+
+-- the order that the plan delivers begins with the ORDER BY
+abbrev pub is_delivered : Query → Plan → Bool
+is_delivered q plan = same_order (take (length (query_order q)) (delivered q.tables plan).order) (query_order q)
+
+-- the frame's last class
+abbrev pub root : Query → ℕ
+root q = length (query_frame q) - 1
+
+-- the certificate, if it replays: its lines do, its plan is of the query's class, and delivers the ORDER BY
+unfoldable pub replayed : Query → Certificate → Result Certificate CheckRefusal
+replayed q c =
+    lines_replay q [] (map founding c.lines)
+    >>= λ E. plan_fits (map founding c.lines) (class_columns q.tables E) c.plan (is_delivered q c.plan) (root q) (length E)
+    >>= λ n. Ok c
+
+-- the certificate replays, and in each database that satisfies the schema its plan gives an answer of the query
+pub record IsChecked (S : Schema) (q : Query) (c : Certificate) : Type 0 where
+  pub replays : replayed q c ≡ Ok c
+  pub answers : (D : Database) → Satisfies S D → IsAnswer q (tables_of S D) (answer q (tables_of S D) c.plan)
+
+-- so it is for each bound query and each certificate of it that replays
+abbrev pub ReplayIsSound : Type 0
+ReplayIsSound = (S : Schema) (q : Query) → IsBoundOver S q → (c : Certificate) → replayed q c ≡ Ok c → IsChecked S q c

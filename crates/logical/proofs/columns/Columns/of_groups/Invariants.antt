@@ -1,6 +1,0 @@
-use Rattle.std.proofs.Common.{◌≡◌, ◌++◌, take}
-use Rattle.logical.specs.Expressions.{aggregate_columns}
-use Rattle.logical.proofs.columns.Columns.of_groups.Given as goal
-
-abbrev pub invariant-loop-aggregation : goal.invariant-loop-aggregation
-invariant-loop-aggregation l = l.columns.items ≡ l.keys ++ aggregate_columns (take l.aggregation-index l.added)

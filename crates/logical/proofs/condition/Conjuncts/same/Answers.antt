@@ -1,6 +1,0 @@
-use Rattle.std.proofs.Common.{◌≡◌, ◌↔◌, IsTrue, rules}
-use Rattle.logical.proofs.Same.{tested_conditions}
-use Rattle.logical.proofs.condition.Conjuncts.same.Goals as goal
-
-pub returns-clause-test : goal.returns-clause-test
-returns-clause-test c = let is : IsTrue c.same_all.result ↔ (c.args.self.now ≡ c.args.other.now) = search rules in tested_conditions _ _ _ is

@@ -1,6 +1,0 @@
-use Rattle.std.proofs.Common.{◌≡◌, map, take, string_bytes}
-use Rattle.logical.specs.ConjunctOrder as spec
-use Rattle.logical.proofs.condition_text.+texts.Given as goal
-
-abbrev pub invariant-listed-loop-condition : goal.invariant-listed-loop-condition
-invariant-listed-loop-condition l = map string_bytes l.texts.items ≡ map spec.condition_text (take l.condition-index l.conditions)

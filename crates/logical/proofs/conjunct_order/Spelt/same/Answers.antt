@@ -1,5 +1,0 @@
-use Rattle.logical.proofs.Same.{tested_condition}
-use Rattle.logical.proofs.conjunct_order.Spelt.same.Goals as goal
-
-pub returns : goal.returns
-returns c = tested_condition c.same.result c.args.self.now c.args.other.now (rw (c.self.view_is, c.other.view_is) at c.same.ensures)

@@ -1,6 +1,0 @@
-use Rattle.std.proofs.Common.{◌≡◌, ◌↔◌, IsTrue, rules}
-use Rattle.logical.proofs.Same.{tested_aggregation}
-use Rattle.logical.proofs.expr.Aggregation.same.Goals as goal
-
-pub returns-clause-test : goal.returns-clause-test
-returns-clause-test c = let is : IsTrue c.eq.result ↔ (c.args.self ≡ c.args.other) = search rules in tested_aggregation _ _ _ is

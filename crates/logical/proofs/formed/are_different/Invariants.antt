@@ -1,6 +1,0 @@
-use Rattle.std.proofs.Common.{◌≡◌, drop}
-use Rattle.logical.specs.Expressions.{aggregate_columns, are_different}
-use Rattle.logical.proofs.formed.are_different.Given as goal
-
-abbrev pub invariant-loop-i : goal.invariant-loop-i
-invariant-loop-i l = are_different (aggregate_columns l.added) ≡ are_different (aggregate_columns (drop l.i l.added))

@@ -1,0 +1,146 @@
+-- Groups as they are first seen, row by row.
+use Rattle.std.proofs.Common.{◌≡◌, refl, ap, sym, ◌∙◌, suc, ◌+◌, Bool, true, false, not, ◌||◌, if◌then◌else◌, List, [], ◌∷◌, ◌++◌, map, filter, Option, Some, None, append-nil, arith}
+use Rattle.std.specs.List.{list_any, position_or_len}
+use Rattle.std.specs.Cmp.{IsEquivalence}
+use Rattle.operators.specs.Groups.{GroupOf, first_seen, groups_by, added_at, firsts_of}
+
+module _ {X K : Type 0} (key : X → K) (eq : K → K → Bool) (law : IsEquivalence eq) where
+  abbrev alike : X → X → Bool
+  alike a b = eq (key a) (key b)
+
+  -- the group of a row has rows that are like it
+  abbrev founded : X → Option X → Bool
+  founded r None = false
+  founded r (Some x) = alike r x
+
+  abbrev with_row : X → GroupOf X → GroupOf X
+  with_row r g = record { first = g.first; rows = g.rows ++ r ∷ [] }
+
+  abbrev group : List X → X → GroupOf X
+  group rows x = record { first = Some x; rows = filter (alike x) rows }
+
+  -- a row comes last in its group, or founds one
+  abbrev put : X → List (GroupOf X) → List (GroupOf X)
+  put r [] = record { first = Some r; rows = r ∷ [] } ∷ []
+  put r (g ∷ groups) = if founded r g.first then with_row r g ∷ groups else g ∷ put r groups
+
+  abbrev others : X → List (GroupOf X) → List (GroupOf X)
+  others s groups = filter (λ g. not (founded s g.first)) groups
+
+  same-founded : (s r : X) → alike s r ≡ true → (o : Option X) → founded s o ≡ founded r o
+  same-founded s r h None = refl
+  same-founded s r h (Some x) = law.congr (key s) (key r) (key x) h
+
+  both-founded : (s r : X) (o : Option X) → founded s o ≡ true → founded r o ≡ true → alike s r ≡ true
+  both-founded s r None h k = cc
+  both-founded s r (Some x) h k = law.congr (key s) (key x) (key r) h ∙ law.symm (key x) (key r) ∙ k
+
+  filter-last : (p : X → Bool) (rows : List X) (r : X) → filter p (rows ++ r ∷ []) ≡ filter p rows ++ (if p r then r ∷ [] else [])
+  filter-last p [] r = refl
+  filter-last p (s ∷ rows) r = by (p s) (filter-last p rows r)
+    where
+      by : (b : Bool) → filter p (rows ++ r ∷ []) ≡ filter p rows ++ (if p r then r ∷ [] else []) → (if b then s ∷ filter p (rows ++ r ∷ []) else filter p (rows ++ r ∷ [])) ≡ (if b then s ∷ filter p rows else filter p rows) ++ (if p r then r ∷ [] else [])
+      by true later = ap (λ l. s ∷ l) later
+      by false later = later
+
+  -- the other groups are those of the other rows
+  tails : (s : X) (rest xs : List X) → map (group (s ∷ rest)) (filter (λ x. not (alike s x)) xs) ≡ others s (map (group rest) xs)
+  tails s rest [] = refl
+  tails s rest (x ∷ xs) = by (alike s x) refl (tails s rest xs)
+    where
+      by : (b : Bool) → alike s x ≡ b → map (group (s ∷ rest)) (filter (λ y. not (alike s y)) xs) ≡ others s (map (group rest) xs)
+          → map (group (s ∷ rest)) (if not b then x ∷ filter (λ y. not (alike s y)) xs else filter (λ y. not (alike s y)) xs) ≡ (if not b then group rest x ∷ others s (map (group rest) xs) else others s (map (group rest) xs))
+      by true is later = later
+      by false is later =
+          let other : alike x s ≡ false = law.symm (key x) (key s) ∙ is in
+          let front : group (s ∷ rest) x ≡ group rest x = ap (λ b. record { first = Some x; rows = if b then s ∷ filter (alike x) rest else filter (alike x) rest }) other in
+          ap (λ g. g ∷ map (group (s ∷ rest)) (filter (λ y. not (alike s y)) xs)) front ∙ ap (λ l. group rest x ∷ l) later
+
+  groups-first : (s : X) (rest : List X) → groups_by alike (s ∷ rest) ≡ record { first = Some s; rows = s ∷ filter (alike s) rest } ∷ others s (groups_by alike rest)
+  groups-first s rest =
+      ap (λ b. record { first = Some s; rows = if b then s ∷ filter (alike s) rest else filter (alike s) rest } ∷ map (group (s ∷ rest)) (filter (λ x. not (alike s x)) (first_seen alike rest))) (law.refl (key s))
+      ∙ ap (λ l. record { first = Some s; rows = s ∷ filter (alike s) rest } ∷ l) (tails s rest (first_seen alike rest))
+
+  -- a row like s comes in no other group
+  put-left : (s r : X) → alike s r ≡ true → (groups : List (GroupOf X)) → others s (put r groups) ≡ others s groups
+  put-left s r h [] = ap (λ b. if not b then record { first = Some r; rows = r ∷ [] } ∷ [] else []) h
+  put-left s r h (g ∷ groups) = by (founded r g.first) (same-founded s r h g.first) (put-left s r h groups)
+    where
+      by : (b : Bool) → founded s g.first ≡ b → others s (put r groups) ≡ others s groups → others s (if b then with_row r g ∷ groups else g ∷ put r groups) ≡ others s (g ∷ groups)
+      by true is later = ap (λ c. if not c then with_row r g ∷ others s groups else others s groups) is ∙ sym (ap (λ c. if not c then g ∷ others s groups else others s groups) is)
+      by false is later = ap (λ l. if not (founded s g.first) then g ∷ l else l) later
+
+  -- another row comes in the other groups
+  put-other : (s r : X) → alike s r ≡ false → (groups : List (GroupOf X)) → others s (put r groups) ≡ put r (others s groups)
+  put-other s r h [] = ap (λ b. if not b then record { first = Some r; rows = r ∷ [] } ∷ [] else []) h
+  put-other s r h (g ∷ groups) = by (founded r g.first) refl (founded s g.first) refl (put-other s r h groups)
+    where
+      by : (b : Bool) → founded r g.first ≡ b → (d : Bool) → founded s g.first ≡ d → others s (put r groups) ≡ put r (others s groups)
+          → others s (if b then with_row r g ∷ groups else g ∷ put r groups) ≡ put r (if not d then g ∷ others s groups else others s groups)
+      by true is true other later = absurd (let e : true ≡ false = sym (both-founded s r g.first other is) ∙ h in cc)
+      by true is false other later =
+          ap (λ c. if not c then with_row r g ∷ others s groups else others s groups) other
+          ∙ sym (ap (λ c. if c then with_row r g ∷ others s groups else g ∷ put r (others s groups)) is)
+      by false is true other later = ap (λ c. if not c then g ∷ others s (put r groups) else others s (put r groups)) other ∙ later
+      by false is false other later =
+          ap (λ c. if not c then g ∷ others s (put r groups) else others s (put r groups)) other ∙ ap (λ l. g ∷ l) later
+          ∙ sym (ap (λ c. if c then with_row r g ∷ others s groups else g ∷ put r (others s groups)) is)
+
+  -- one more row
+  pub groups-more : (rows : List X) (r : X) → groups_by alike (rows ++ r ∷ []) ≡ put r (groups_by alike rows)
+  groups-more [] r = ap (λ b. record { first = Some r; rows = if b then r ∷ [] else [] } ∷ []) (law.refl (key r))
+  groups-more (s ∷ rest) r =
+      groups-first s (rest ++ r ∷ [])
+      ∙ ap (λ l. record { first = Some s; rows = s ∷ filter (alike s) (rest ++ r ∷ []) } ∷ others s l) (groups-more rest r)
+      ∙ ap (λ l. record { first = Some s; rows = s ∷ l } ∷ others s (put r (groups_by alike rest))) (filter-last (alike s) rest r)
+      ∙ by (alike s r) refl
+      ∙ sym (ap (put r) (groups-first s rest))
+    where
+      F : List X
+      F = filter (alike s) rest
+
+      by : (b : Bool) → alike s r ≡ b → record { first = Some s; rows = s ∷ (F ++ (if b then r ∷ [] else [])) } ∷ others s (put r (groups_by alike rest)) ≡ put r (record { first = Some s; rows = s ∷ F } ∷ others s (groups_by alike rest))
+      by true is =
+          ap (λ l. record { first = Some s; rows = s ∷ (F ++ r ∷ []) } ∷ l) (put-left s r is (groups_by alike rest))
+          ∙ sym (ap (λ c. if c then with_row r (record { first = Some s; rows = s ∷ F }) ∷ others s (groups_by alike rest) else record { first = Some s; rows = s ∷ F } ∷ put r (others s (groups_by alike rest))) (law.symm (key r) (key s) ∙ is))
+      by false is =
+          ap (λ l. record { first = Some s; rows = s ∷ l } ∷ others s (put r (groups_by alike rest))) (append-nil F)
+          ∙ ap (λ l. record { first = Some s; rows = s ∷ F } ∷ l) (put-other s r is (groups_by alike rest))
+          ∙ sym (ap (λ c. if c then with_row r (record { first = Some s; rows = s ∷ F }) ∷ others s (groups_by alike rest) else record { first = Some s; rows = s ∷ F } ∷ put r (others s (groups_by alike rest))) (law.symm (key r) (key s) ∙ is))
+
+  -- a row is put at the place of its key
+  pub put-at : (rows : List X) (r : X) (xs : List X) → added_at (position_or_len (eq (key r)) (map key xs)) r (map (group rows) xs) ≡ put r (map (group rows) xs)
+  put-at rows r [] = refl
+  put-at rows r (x ∷ xs) = by (eq (key r) (key x)) (put-at rows r xs)
+    where
+      by : (b : Bool) → added_at (position_or_len (eq (key r)) (map key xs)) r (map (group rows) xs) ≡ put r (map (group rows) xs)
+          → added_at (if not b then 1 + position_or_len (eq (key r)) (map key xs) else 0) r (group rows x ∷ map (group rows) xs) ≡ (if b then with_row r (group rows x) ∷ map (group rows) xs else group rows x ∷ put r (map (group rows) xs))
+      by true later = refl
+      by false later =
+          let next : 1 + position_or_len (eq (key r)) (map key xs) ≡ suc (position_or_len (eq (key r)) (map key xs)) = omega arith in
+          ap (λ n. added_at n r (group rows x ∷ map (group rows) xs)) next ∙ ap (λ l. group rows x ∷ l) later
+
+  pub firsts-groups : (rows xs : List X) → firsts_of (map (group rows) xs) ≡ xs
+  firsts-groups rows [] = refl
+  firsts-groups rows (x ∷ xs) = ap (λ l. x ∷ l) (firsts-groups rows xs)
+
+  -- and its key goes last, unless it is there
+  keys-put : (rows : List X) (r : X) (xs : List X) → map key (firsts_of (put r (map (group rows) xs))) ≡ (if list_any (eq (key r)) (map key xs) then map key xs else map key xs ++ key r ∷ [])
+  keys-put rows r [] = refl
+  keys-put rows r (x ∷ xs) = by (eq (key r) (key x)) (keys-put rows r xs)
+    where
+      any : Bool
+      any = list_any (eq (key r)) (map key xs)
+
+      or : (b : Bool) → key x ∷ (if b then map key xs else map key xs ++ key r ∷ []) ≡ (if b then key x ∷ map key xs else key x ∷ (map key xs ++ key r ∷ []))
+      or true = refl
+      or false = refl
+
+      by : (b : Bool) → map key (firsts_of (put r (map (group rows) xs))) ≡ (if any then map key xs else map key xs ++ key r ∷ [])
+          → map key (firsts_of (if b then with_row r (group rows x) ∷ map (group rows) xs else group rows x ∷ put r (map (group rows) xs))) ≡ (if b || any then key x ∷ map key xs else key x ∷ (map key xs ++ key r ∷ []))
+      by true later = ap (λ l. key x ∷ map key l) (firsts-groups rows xs)
+      by false later = ap (λ l. key x ∷ l) later ∙ or any
+
+  pub keys-more : (rows : List X) (r : X) → (if list_any (eq (key r)) (map key (first_seen alike rows)) then map key (first_seen alike rows) else map key (first_seen alike rows) ++ key r ∷ []) ≡ map key (first_seen alike (rows ++ r ∷ []))
+  keys-more rows r =
+      sym (keys-put rows r (first_seen alike rows)) ∙ ap (λ l. map key (firsts_of l)) (sym (groups-more rows r)) ∙ ap (map key) (firsts-groups (rows ++ r ∷ []) (first_seen alike (rows ++ r ∷ [])))

@@ -1,0 +1,10 @@
+pub mod ColumnPlaces
+pub mod FirstSeen
+pub mod GroupEnvs
+pub mod GroupRows
+pub mod JoinRows
+pub mod KeyWrites
+pub mod PlanOutputs
+pub mod RelationRows
+pub mod Steps
+pub mod Widths

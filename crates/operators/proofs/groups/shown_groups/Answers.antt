@@ -1,0 +1,26 @@
+use Rattle.std.proofs.Common.{ap, sym, ◌∙◌, [], ◌∷◌, ◌++◌, map, take, arith}
+use Rattle.std.proofs.lemmas.List.{take_all}
+use Rattle.schema.specs.Databases.{Row}
+use Rattle.algebra.proofs.Lists.{map-map, map-append}
+use Rattle.operators.specs.declared.keys.Group.{Group}
+use Rattle.operators.specs.declared.rows.RowData.{RowData}
+use Rattle.operators.specs.Relations.{env_of, values_of}
+use Rattle.operators.specs.Groups.{GroupOf, group_env, group_of}
+use Rattle.operators.proofs.Steps.{map-more}
+use Rattle.operators.proofs.groups.shown_groups.Goals as goal
+
+pub loop-group-preserved : goal.loop-group-preserved
+loop-group-preserved c =
+    let show : Group → Row = λ g. map (group_env c.args.grouping c.args.heading.now (env_of c.args.env.now) (group_of g)) c.args.columns.now in
+    ap (map values_of) c.in_ok-push.ensures.items
+    ∙ map-append values_of c.loop-group.rows.items (c.in_ok-group_row.field-0 ∷ [])
+    ∙ ap (λ l. l ++ values_of c.in_ok-group_row.field-0 ∷ []) c.loop-group.invariant
+    ∙ ap (λ v. map show (take c.loop-group.group-index c.args.groups.now) ++ v ∷ []) c.in_ok-group_row.ensures
+    ∙ sym (map-more show c.args.groups.now c.loop-group.group-index c.group-item.result (omega arith) c.group-item.is)
+
+pub returns : goal.returns
+returns c =
+    let show : GroupOf RowData → Row = λ g. map (group_env c.args.grouping c.args.heading.now (env_of c.args.env.now) g) c.args.columns.now in
+    c.loop-group.invariant
+    ∙ ap (map (λ g. show (group_of g))) (take_all c.loop-group.group-index c.args.groups.now (omega arith))
+    ∙ sym (map-map show group_of c.args.groups.now)

@@ -1,0 +1,75 @@
+use Rattle.std.proofs.Common.{◌≡◌, ◌≢◌, ◌∙◌, refl, ap, sym, map, take, arith, false}
+use Rattle.values.specs.Cells.{value_of}
+use Rattle.values.specs.declared.cell.Cell.{Cell}
+use Rattle.values.specs.declared.cell.Cell.TheVariants.{Null, Int, Text}
+use Rattle.values.specs.declared.truth.Comparison.TheVariants as by
+use Rattle.values.specs.declared.truth.Truth.{Truth}
+use Rattle.values.specs.declared.truth.Truth.TheVariants.{True, False}
+use Rattle.values.specs.Truth.{truth_of, is_null, compare, conjunction, disjunction}
+use Rattle.query.specs.Meaning.{all_of, any_of}
+use Rattle.algebra.specs.declared.condition.Condition.{Condition}
+use Rattle.algebra.specs.Conditions.{truth}
+use Rattle.algebra.proofs.Truths.{truth-Compare, truth-IsNull, truth-Not, truth-And, truth-Or, truth-Exists, truth-In}
+use Rattle.operators.specs.Relations.{env_of, subqueries_given}
+use Rattle.operators.proofs.Steps.{fold-more}
+use Rattle.operators.proofs.truth.+truth.Goals.{truth-in-Null, truth-in_default}
+use Rattle.operators.proofs.truth.+truth.Goals as goal
+
+not-null : (x : Cell) → x ≢ Null → is_null (value_of x) ≡ false
+not-null Null h = absurd (h refl)
+not-null (Int n) h = refl
+not-null (Text t) h = refl
+
+pub truth-returns-in-Compare : goal.truth-returns-in-Compare
+truth-returns-in-Compare t c = cc (truth-Compare c.in-Compare.comparison c.in-Compare.a c.in-Compare.b (subqueries_given c.args.subqueries) (env_of c.args.env.now))
+
+pub truth-returns-after-matches : goal.truth-returns-after-matches
+truth-returns-after-matches t c =
+    let W = subqueries_given c.args.subqueries in
+    let r = env_of c.args.env.now in
+    let null : c.match-matches.matches ≡ is_null (value_of c.term_cell-in-IsNull.result) = elim c.match-matches.branch [
+      | truth-in-Null w ↦ w.matches-is ∙ sym (ap (λ x. is_null (value_of x)) w.in-Null.is)
+      | truth-in_default w ↦ w.matches-is ∙ sym (not-null c.term_cell-in-IsNull.result w.in_default.not-Null)
+    ] in
+    c.from.ensures ∙ ap truth_of (null ∙ ap is_null c.term_cell-in-IsNull.ensures) ∙ sym (truth-IsNull c.in-IsNull.term W r) ∙ ap (λ d. truth d W r) (sym c.in-IsNull.is)
+
+pub truth-returns-in-Not : goal.truth-returns-in-Not
+truth-returns-in-Not t c = cc (truth-Not c.in-Not.part (subqueries_given c.args.subqueries) (env_of c.args.env.now))
+
+pub truth-returns-in-And : goal.truth-returns-in-And
+truth-returns-in-And t c = cc (truth-And c.in-And.parts (subqueries_given c.args.subqueries) (env_of c.args.env.now))
+
+pub truth-returns-in-Or : goal.truth-returns-in-Or
+truth-returns-in-Or t c = cc (truth-Or c.in-Or.parts (subqueries_given c.args.subqueries) (env_of c.args.env.now))
+
+pub truth-returns-in-Exists : goal.truth-returns-in-Exists
+truth-returns-in-Exists t c =
+    let W = subqueries_given c.args.subqueries in
+    let r = env_of c.args.env.now in
+    c.from-in-Exists.ensures ∙ ap truth_of (c.has_row.ensures r) ∙ sym (truth-Exists c.in-Exists.class W r) ∙ ap (λ d. truth d W r) (sym c.in-Exists.is)
+
+pub truth-returns-in-In : goal.truth-returns-in-In
+truth-returns-in-In t c =
+    let W = subqueries_given c.args.subqueries in
+    let r = env_of c.args.env.now in
+    c.is_among.ensures
+    ∙ ap (λ v. any_of (map (λ s. compare by.Equal v (s c.in-In.column)) (W c.in-In.class r))) c.term_cell-in-In.ensures
+    ∙ sym (truth-In c.in-In.term c.in-In.class c.in-In.column W r) ∙ ap (λ d. truth d W r) (sym c.in-In.is)
+
+pub all-loop-condition-preserved : goal.all-loop-condition-preserved
+all-loop-condition-preserved t c =
+    let true_of : Condition → Truth = λ d. truth d (subqueries_given c.args.subqueries) (env_of c.args.env.now) in
+    let i = c.loop-condition.condition-index in
+    c.and-all.ensures
+    ∙ ap (λ (a : Truth). conjunction a c.truth.result) c.loop-condition.invariant
+    ∙ ap (conjunction (all_of (map true_of (take i c.args.conditions.now)))) c.truth.ensures
+    ∙ sym (fold-more conjunction True true_of c.args.conditions.now i c.condition-item.result (omega arith) c.condition-item.is)
+
+pub any-loop-condition-preserved : goal.any-loop-condition-preserved
+any-loop-condition-preserved t c =
+    let true_of : Condition → Truth = λ d. truth d (subqueries_given c.args.subqueries) (env_of c.args.env.now) in
+    let i = c.loop-condition.condition-index in
+    c.or-any.ensures
+    ∙ ap (λ (a : Truth). disjunction a c.truth.result) c.loop-condition.invariant
+    ∙ ap (disjunction (any_of (map true_of (take i c.args.conditions.now)))) c.truth.ensures
+    ∙ sym (fold-more disjunction False true_of c.args.conditions.now i c.condition-item.result (omega arith) c.condition-item.is)

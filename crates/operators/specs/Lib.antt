@@ -1,0 +1,4 @@
+pub mod Groups
+pub mod Joins
+pub mod Places
+pub mod Relations

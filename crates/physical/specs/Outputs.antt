@@ -1,0 +1,101 @@
+-- What a plan produces: each operator on whole lists of rows. The operators are those of the algebra, on lists; that a nested-loop
+-- join goes through the left rows and for each through the right ones, that a sort is stable, and that groups and distinct rows
+-- come as first seen, is this project's profile.
+use Rattle.std.specs.Prelude.{ℕ, ◌==◌, if◌then◌else◌, List, [], ◌∷◌, ◌++◌, map, slice_get}
+use Rattle.query.specs.declared.query.TableInstance.{TableInstance}
+use Rattle.query.specs.Rows.{Tables}
+use Rattle.algebra.specs.Columns.{has, rising}
+use Rattle.algebra.specs.Bags.{Bag, Test, select, join, left_join, keep, distinct, group}
+use Rattle.algebra.specs.Conditions.{holds, classes_in}
+use Rattle.algebra.specs.Expressions.{get_rows, get_columns, with_aggregates, aggregate_columns}
+use Rattle.physical.specs.declared.plan.JoinKind.{JoinKind}
+use Rattle.physical.specs.declared.plan.JoinKind.TheVariants.{Inner, Left}
+use Rattle.physical.specs.declared.plan.Operator.{Operator}
+use Rattle.physical.specs.declared.plan.Operator.TheVariants.{Scan, Filter, FilterSubqueries, Projection, NestedLoopJoin, HashGroup, HashDistinct}
+use Rattle.physical.specs.declared.plan.Node.{Node}
+use Rattle.physical.specs.declared.plan.Node.TheVariants.{Implements, Sort}
+use Rattle.physical.specs.declared.plan.Plan.{Plan, fold-Plan}
+use Rattle.physical.specs.declared.plan.Plan.TheOpen.{Plan-F}
+use Rattle.physical.specs.Sorts.{sorted, keys_order}
+
+-- ---- columns
+
+-- the columns of a node's first input, and of its second
+abbrev pub first_columns : List (List ℕ) → List ℕ
+first_columns [] = []
+first_columns (K ∷ inputs) = K
+
+abbrev pub second_columns : List (List ℕ) → List ℕ
+second_columns [] = []
+second_columns (K ∷ inputs) = first_columns inputs
+
+-- the columns of an operator's rows, given those of its inputs
+abbrev pub operator_columns : List TableInstance → Operator → List (List ℕ) → List ℕ
+operator_columns uses (Scan o) inputs = get_columns (slice_get uses o)
+operator_columns uses (Filter C) inputs = first_columns inputs
+operator_columns uses (FilterSubqueries C) inputs = first_columns inputs
+operator_columns uses (Projection K) inputs = K
+operator_columns uses (NestedLoopJoin kind C) inputs = rising (first_columns inputs ++ second_columns inputs)
+operator_columns uses (HashGroup K G) inputs = rising (K ++ aggregate_columns G)
+operator_columns uses HashDistinct inputs = first_columns inputs
+
+abbrev pub node_columns : List TableInstance → Node → List (List ℕ) → List ℕ
+node_columns uses (Implements line operator) inputs = operator_columns uses operator inputs
+node_columns uses (Sort keys) inputs = first_columns inputs
+
+-- ---- rows
+
+-- the output of a plan: the columns of its rows, and in each environment the rows in their order
+pub record Output : Type 0 where
+  pub columns : List ℕ
+  pub rows : Bag
+
+abbrev pub no_rows : Bag
+no_rows e = []
+
+-- the inputs of a node
+abbrev pub first : List Output → Bag
+first [] = no_rows
+first (x ∷ inputs) = x.rows
+
+abbrev pub rest : List Output → List Output
+rest [] = []
+rest (x ∷ inputs) = inputs
+
+-- no class has a row
+abbrev pub no_classes : ℕ → Bag
+no_classes g = no_rows
+
+-- the rows of classes, one input for each
+abbrev pub subquery_rows : List ℕ → List Output → ℕ → Bag
+subquery_rows [] inputs = no_classes
+subquery_rows (g ∷ classes) [] = no_classes
+subquery_rows (g ∷ classes) (x ∷ inputs) = λ h. if g == h then x.rows else subquery_rows classes inputs h
+
+abbrev pub nested_loop_rows : JoinKind → Test → List ℕ → Bag → Bag → Bag
+nested_loop_rows Inner p right a b = join p (has right) a b
+nested_loop_rows Left p right a b = left_join p (has right) a b
+
+-- the rows that an operator produces, given its inputs' output
+abbrev pub operator_rows : List TableInstance → Tables → Operator → List Output → Bag
+operator_rows uses D (Scan o) inputs = get_rows (slice_get uses o) D
+operator_rows uses D (Filter C) inputs = select (holds no_classes C) (first inputs)
+operator_rows uses D (FilterSubqueries C) inputs = select (holds (subquery_rows (classes_in C) (rest inputs)) C) (first inputs)
+operator_rows uses D (Projection K) inputs = keep (has K) (first inputs)
+operator_rows uses D (NestedLoopJoin kind C) inputs = nested_loop_rows kind (holds no_classes C) (second_columns (map (λ x. x.columns) inputs)) (first inputs) (first (rest inputs))
+operator_rows uses D (HashGroup K G) inputs = group K (with_aggregates G) (first inputs)
+operator_rows uses D HashDistinct inputs = distinct (first_columns (map (λ x. x.columns) inputs)) (first inputs)
+
+abbrev pub node_rows : List TableInstance → Tables → Node → List Output → Bag
+node_rows uses D (Implements line operator) inputs = operator_rows uses D operator inputs
+node_rows uses D (Sort keys) inputs = λ e. sorted (keys_order keys) (first inputs e)
+
+abbrev pub output_layer : List TableInstance → Tables → Plan-F Output → Output
+output_layer uses D p = record { columns = node_columns uses p.node (map (λ x. x.columns) p.inputs); rows = node_rows uses D p.node p.inputs }
+
+unfoldable pub plan_output : List TableInstance → Tables → Plan → Output
+plan_output uses D = fold-Plan Output (output_layer uses D)
+
+-- the rows that a plan produces in each environment
+abbrev pub output_rows : List TableInstance → Tables → Plan → Bag
+output_rows uses D plan = (plan_output uses D plan).rows

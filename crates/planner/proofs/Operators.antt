@@ -1,0 +1,40 @@
+-- The operators that implement expressions.
+use Rattle.std.proofs.Common.{◌≡◌, refl, ap, sym, ◌∙◌, ℕ, true, false, List}
+use Rattle.algebra.specs.declared.condition.Condition.{Condition}
+use Rattle.algebra.specs.declared.expr.Aggregation.{Aggregation}
+use Rattle.algebra.specs.declared.expr.Expr.{Expr}
+use Rattle.algebra.specs.declared.expr.Expr.TheVariants.{Select, Join, LeftJoin, Keep, Group}
+use Rattle.algebra.specs.Equality.{same_conditions, same_columns, same_aggregations}
+use Rattle.algebra.specs.Expressions.{is_plain}
+use Rattle.algebra.proofs.Same.{tested_conditions, tested_columns, tested_aggregations}
+use Rattle.physical.specs.declared.plan.JoinKind.TheVariants.{Inner, Left}
+use Rattle.physical.specs.declared.plan.Operator.TheVariants.{Filter, FilterSubqueries, Projection, NestedLoopJoin, HashGroup}
+use Rattle.derivation.specs.Replay.{implements}
+
+same-conditions : (C D : List Condition) → C ≡ D → same_conditions C D ≡ true
+same-conditions C D e = sym (tested_conditions true C D (λ _. e, λ _. refl))
+
+same-columns : (K L : List ℕ) → K ≡ L → same_columns K L ≡ true
+same-columns K L e = sym (tested_columns true K L (λ _. e, λ _. refl))
+
+same-aggregations : (G H : List Aggregation) → G ≡ H → same_aggregations G H ≡ true
+same-aggregations G H e = sym (tested_aggregations true G H (λ _. e, λ _. refl))
+
+module _ (x : Expr) where
+  pub filter_of : (C D : List Condition) (g : ℕ) → x ≡ Select D g → C ≡ D → is_plain D ≡ true → implements (Filter C) x ≡ true
+  filter_of C D g is e plain = ap (implements (Filter C)) is ∙ rw (plain, same-conditions C D e) refl
+
+  pub subqueries_of : (C D : List Condition) (g : ℕ) → x ≡ Select D g → C ≡ D → is_plain D ≡ false → implements (FilterSubqueries C) x ≡ true
+  subqueries_of C D g is e plain = ap (implements (FilterSubqueries C)) is ∙ rw (plain, same-conditions C D e) refl
+
+  pub join_of : (C D : List Condition) (a b : ℕ) → x ≡ Join D a b → C ≡ D → implements (NestedLoopJoin Inner C) x ≡ true
+  join_of C D a b is e = ap (implements (NestedLoopJoin Inner C)) is ∙ same-conditions C D e
+
+  pub left_join_of : (C D : List Condition) (a b : ℕ) → x ≡ LeftJoin D a b → C ≡ D → implements (NestedLoopJoin Left C) x ≡ true
+  left_join_of C D a b is e = ap (implements (NestedLoopJoin Left C)) is ∙ same-conditions C D e
+
+  pub projection_of : (K L : List ℕ) (g : ℕ) → x ≡ Keep L g → K ≡ L → implements (Projection K) x ≡ true
+  projection_of K L g is e = ap (implements (Projection K)) is ∙ same-columns K L e
+
+  pub group_of : (K L : List ℕ) (G H : List Aggregation) (g : ℕ) → x ≡ Group L H g → K ≡ L → G ≡ H → implements (HashGroup K G) x ≡ true
+  group_of K L G H g is e f = ap (implements (HashGroup K G)) is ∙ rw (same-columns K L e, same-aggregations G H f) refl
