@@ -1,9 +1,9 @@
 //! The nodes of a plan against the lines.
 
 ghost use Rattle.std.specs.Prelude.{◌≡◌, ◌↔◌, ◌+◌, ◌==◌, ◌∷◌, [], IfOk, IsTrue, length, map, take};
-ghost use Rattle.std.specs.List.{list_all};
 ghost use Rattle.values.specs.Faults.{Gives, wanted_if};
 ghost use Rattle.algebra.specs.Columns.{has, columns_at};
+ghost use Rattle.physical.specs.Orders.{are_columns};
 ghost use Rattle.derivation.specs.declared.certificate.CheckReason.TheVariants.{OtherOperator};
 ghost use Rattle.derivation.specs.declared.certificate.CheckRefusal.{CheckRefusal};
 ghost use Rattle.derivation.specs.Replay as spec;
@@ -53,7 +53,7 @@ fn is_column(columns: &[Columns], class: ClassId, column: ColumnId) -> bool
 
 /// Whether the class has the columns of the keys.
 fn are_columns(columns: &[Columns], class: ClassId, keys: &[OrderKey]) -> bool
-    ensures { result ≡ list_all (λ k. has (columns_at columns.now class) k.column) keys.now }
+    ensures { result ≡ are_columns (columns_at columns.now class) keys.now }
 {
     keys.iter().all(|key| is_column(columns, class, key.column))
 }

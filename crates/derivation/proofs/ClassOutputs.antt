@@ -1,17 +1,17 @@
--- A plan that fits produces the bag of its class.
-use Rattle.std.proofs.Common.{◌≡◌, ap, sym, ◌∙◌, subst, ℕ, ◌+◌, ◌<◌, ◌≤◌, Bool, true, ◌==◌, List, [], ◌∷◌, map, length, take, reverse, Result, Ok, nat_lt, arith}
+-- A plan that fits produces the bag of its class, and stands in the order that it delivers.
+use Rattle.std.proofs.Common.{◌≡◌, refl, ap, sym, ◌∙◌, subst, ℕ, ◌+◌, ◌<◌, ◌≤◌, Bool, true, ◌==◌, List, [], ◌∷◌, map, length, take, reverse, Result, Ok, nat_lt, arith}
 use Rattle.std.specs.List.{list_all}
-use Rattle.std.proofs.lemmas.Bool.{and_parts, eqb-true, ltb-true}
+use Rattle.std.proofs.lemmas.Bool.{and_parts, and_from, eqb-true, ltb-true}
 use Rattle.std.proofs.lemmas.List.{length-reverse, length-take-le}
 use Rattle.std.proofs.lemmas.Option.{slice_get_within}
 use Rattle.values.specs.Faults.{◌>>=◌, wanted_if}
 use Rattle.query.specs.declared.query.Query.{Query}
 use Rattle.query.specs.Rows.{Tables}
 use Rattle.algebra.specs.declared.expr.Expr.{Expr}
-use Rattle.algebra.specs.Columns.{has}
 use Rattle.algebra.specs.Expressions.{Classes, classes_pass, input_classes}
 use Rattle.algebra.specs.Classes.{class_columns, class_rows, classes}
 use Rattle.logical.specs.FormedFrames.{own_aggregates}
+use Rattle.algebra.proofs.Lists.{two}
 use Rattle.algebra.proofs.NamedClasses.{inputs-pass}
 use Rattle.algebra.proofs.SameBags.{same_bag-equal, same_bag-trans}
 use Rattle.physical.specs.declared.plan.OrderKey.{OrderKey}
@@ -21,7 +21,9 @@ use Rattle.physical.specs.declared.plan.Node.TheVariants.{Implements, Sort}
 use Rattle.physical.specs.declared.plan.Plan.{Plan, roll-Plan, fold-roll-Plan, ind-Plan, map-Plan}
 use Rattle.physical.specs.declared.plan.Plan.TheOpen.{Plan-F}
 use Rattle.physical.specs.Outputs.{Output, node_columns, node_rows, output_layer, plan_output}
+use Rattle.physical.specs.Orders.{Delivered, are_columns, node_stands, deliver_layer, delivered}
 use Rattle.physical.specs.Sorts.{keys_order}
+use Rattle.physical.proofs.Deliveries.{delivers}
 use Rattle.physical.proofs.SortedRows.{same_bag-sorted}
 use Rattle.derivation.specs.declared.certificate.CheckRefusal.{CheckRefusal}
 use Rattle.derivation.specs.declared.certificate.CheckReason.TheVariants.{IllFormed, OtherOperator, UnsortedAnswer}
@@ -29,7 +31,7 @@ use Rattle.derivation.specs.Replay.{Fits, refusal, sort_fits, operator_fits, nod
 use Rattle.derivation.proofs.Results.{both_ok, wanted_if_ok}
 use Rattle.derivation.proofs.Fits.{operator-is}
 use Rattle.derivation.proofs.Founded.{Stands, line_at, founded, before, founded_columns, before_columns}
-use Rattle.derivation.proofs.Operators.{Is, AllAre, operator-gives}
+use Rattle.derivation.proofs.Operators.{Is, AllAre, operator-gives, operator-stands}
 
 module _ (q : Query) (D : Tables) (lines F : List Expr) (replays : lines_replay q [] lines ≡ Ok F) where
   abbrev W : Classes
@@ -38,9 +40,14 @@ module _ (q : Query) (D : Tables) (lines F : List Expr) (replays : lines_replay 
   abbrev cols : ℕ → List ℕ
   cols = class_columns q.tables (reverse lines)
 
-  -- the plan produces the bag of the class that it fits, over its columns
+  -- the plan produces the bag of the class, over its columns, and the order that it delivers stands
+  pub record IsOfClass (p : Plan) (g : ℕ) : Type 0 where
+    pub output : Is W (plan_output q.tables D p) g
+    pub stands : (delivered q.tables p).stands ≡ true
+
+  -- so does one that fits the class
   abbrev P : Plan → Type 0
-  P p = (ordered : Bool) (g n m : ℕ) → plan_fits lines cols p ordered g n ≡ Ok m → Is W (plan_output q.tables D p) g
+  P p = (ordered : Bool) (g n m : ℕ) → plan_fits lines cols p ordered g n ≡ Ok m → IsOfClass p g
 
   abbrev Part : Type 0
   Part = (p : Plan) × P p
@@ -51,13 +58,28 @@ module _ (q : Query) (D : Tables) (lines F : List Expr) (replays : lines_replay 
   abbrev outputs_of : List Part → List Output
   outputs_of parts = map (plan_output q.tables D) (map (λ p. p.0) parts)
 
-  all-output : (parts : List Part) (needed : List ℕ) (n m : ℕ) → length (fits_of parts) ≡ length needed → inputs_fit (fits_of parts) needed n ≡ Ok m → AllAre W (outputs_of parts) needed
-  all-output [] [] n m count fits = tt
+  abbrev deliveries : List Part → List Delivered
+  deliveries parts = map (delivered q.tables) (map (λ p. p.0) parts)
+
+  -- the inputs are of their classes
+  record AreOfClasses (parts : List Part) (needed : List ℕ) : Type 0 where
+    outputs : AllAre W (outputs_of parts) needed
+    stand : list_all (λ (x : Delivered). x.stands) (deliveries parts) ≡ true
+
+  all-output : (parts : List Part) (needed : List ℕ) (n m : ℕ) → length (fits_of parts) ≡ length needed → inputs_fit (fits_of parts) needed n ≡ Ok m → AreOfClasses parts needed
+  all-output [] [] n m count fits = record { outputs = tt; stand = refl }
   all-output [] (g ∷ needed) n m count fits = absurd (omega (arith, count))
   all-output (p ∷ parts) [] n m count fits = absurd (omega (arith, count))
   all-output (p ∷ parts) (g ∷ needed) n m count fits =
       let steps = both_ok (plan_fits lines cols p.0 true g n) (λ m. inputs_fit (fits_of parts) needed m) m fits in
-      (p.1 true g n steps.0 steps.1, all-output parts needed steps.0 m (omega (arith, count)) steps.2)
+      let first = p.1 true g n steps.0 steps.1 in
+      let later = all-output parts needed steps.0 m (omega (arith, count)) steps.2 in
+      record { outputs = (first.output, later.outputs); stand = and_from _ _ first.stands later.stand }
+
+  -- what inputs deliver has the columns of their output
+  columns-same : (parts : List Part) → map (λ (x : Delivered). x.columns) (deliveries parts) ≡ map (λ (x : Output). x.columns) (outputs_of parts)
+  columns-same [] = refl
+  columns-same (p ∷ parts) = two (λ K Ks. K ∷ Ks) (delivers q.tables D p.0).columns (columns-same parts)
 
   -- the classes before a line are as they are in the end
   all-before : (g : ℕ) → g ≤ length lines → (inputs : List Output) (needed : List ℕ) → list_all (λ h. nat_lt h g) needed ≡ true → AllAre W inputs needed → AllAre (classes q.tables D (reverse (take g lines))) inputs needed
@@ -81,13 +103,19 @@ module _ (q : Query) (D : Tables) (lines F : List Expr) (replays : lines_replay 
   inputs_after parts ordered n needed = wanted_if (refusal n UnsortedAnswer) ordered needed >>= λ needed. inputs_fit (fits_of parts) needed (n + 1)
 
   -- the inputs of a node fit the classes that it needs
-  inputs-output : (parts : List Part) (ordered : Bool) (n m : ℕ) (needed : List ℕ) → length (fits_of parts) ≡ length needed → inputs_after parts ordered n needed ≡ Ok m → AllAre W (outputs_of parts) needed
+  inputs-output : (parts : List Part) (ordered : Bool) (n m : ℕ) (needed : List ℕ) → length (fits_of parts) ≡ length needed → inputs_after parts ordered n needed ≡ Ok m → AreOfClasses parts needed
   inputs-output parts ordered n m needed count fits =
       let steps = both_ok (wanted_if (refusal n UnsortedAnswer) ordered needed) (λ needed. inputs_fit (fits_of parts) needed (n + 1)) m fits in
       let same = wanted_if_ok (refusal n UnsortedAnswer) ordered needed steps.0 steps.1 in
       all-output parts needed (n + 1) m count (ap (λ needed. inputs_fit (fits_of parts) needed (n + 1)) same.1 ∙ steps.2)
 
-  operator-output : (line : ℕ) (operator : Operator) (parts : List Part) (ordered : Bool) (g n m : ℕ) → (operator_fits lines line operator (length (fits_of parts)) g n >>= inputs_after parts ordered n) ≡ Ok m → Is W (at_node (Implements line operator) parts) g
+  -- what a node produces, and that the order which it delivers stands
+  record IsNodeOf (node : Node) (parts : List Part) (g : ℕ) : Type 0 where
+    output : Is W (at_node node parts) g
+    stands : node_stands node (map (λ (x : Output). x.columns) (outputs_of parts)) ≡ true
+    inputs : list_all (λ (x : Delivered). x.stands) (deliveries parts) ≡ true
+
+  operator-output : (line : ℕ) (operator : Operator) (parts : List Part) (ordered : Bool) (g n m : ℕ) → (operator_fits lines line operator (length (fits_of parts)) g n >>= inputs_after parts ordered n) ≡ Ok m → IsNodeOf (Implements line operator) parts g
   operator-output line operator parts ordered g n m fits =
       let steps = both_ok (operator_fits lines line operator (length (fits_of parts)) g n) (inputs_after parts ordered n) m fits in
       let found = operator-is lines line operator (length (fits_of parts)) g n steps.0 steps.1 in
@@ -97,41 +125,56 @@ module _ (q : Query) (D : Tables) (lines F : List Expr) (replays : lines_replay 
       let count : length (reverse (take g lines)) ≡ g = length-reverse (take g lines) ∙ length-take-le g lines le in
       let stands : Stands q (reverse (take g lines)) x = line_at q lines [] F g x replays found.at in
       let below : list_all (λ h. nat_lt h g) (input_classes x) ≡ true = inputs-pass (λ h. nat_lt h g) x (subst (λ n. classes_pass (λ h. nat_lt h n) x ≡ true) count stands.backward) in
-      let all : AllAre W (outputs_of parts) (input_classes x) = subst (AllAre W (outputs_of parts)) (sym found.needs) (inputs-output parts ordered n m steps.0 found.count steps.2) in
-      let gives = operator-gives q.tables (own_aggregates q) D (classes q.tables D (reverse (take g lines))) operator x (outputs_of parts) found.implemented stands.formed (all-before g le (outputs_of parts) (input_classes x) below all) in
+      let of_classes = inputs-output parts ordered n m steps.0 found.count steps.2 in
+      let all : AllAre W (outputs_of parts) (input_classes x) = subst (AllAre W (outputs_of parts)) (sym found.needs) of_classes.outputs in
+      let earlier = all-before g le (outputs_of parts) (input_classes x) below all in
+      let gives = operator-gives q.tables (own_aggregates q) D (classes q.tables D (reverse (take g lines))) operator x (outputs_of parts) found.implemented stands.formed earlier in
       record {
-        columns = gives.columns ∙ sym (founded_columns q.tables lines g x found.at);
-        rows = same_bag-trans _ _ (class_rows q.tables D (reverse lines) g) gives.rows (same_bag-equal _ _ (λ e. sym (founded q.tables D lines g x e found.at)));
+        output = record {
+          columns = gives.columns ∙ sym (founded_columns q.tables lines g x found.at);
+          rows = same_bag-trans _ _ (class_rows q.tables D (reverse lines) g) gives.rows (same_bag-equal _ _ (λ e. sym (founded q.tables D lines g x e found.at)));
+        };
+        stands = operator-stands q.tables (own_aggregates q) D (classes q.tables D (reverse (take g lines))) operator x (outputs_of parts) found.implemented stands.formed earlier;
+        inputs = of_classes.stand;
       }
 
-  sort-output : (keys : List OrderKey) (parts : List Part) (ordered : Bool) (g n m : ℕ) → (sort_fits cols keys (length (fits_of parts)) g n >>= inputs_after parts ordered n) ≡ Ok m → Is W (at_node (Sort keys) parts) g
+  sort-output : (keys : List OrderKey) (parts : List Part) (ordered : Bool) (g n m : ℕ) → (sort_fits cols keys (length (fits_of parts)) g n >>= inputs_after parts ordered n) ≡ Ok m → IsNodeOf (Sort keys) parts g
   sort-output keys parts ordered g n m fits =
       let k : ℕ = length (fits_of parts) in
       let steps = both_ok (sort_fits cols keys k g n) (inputs_after parts ordered n) m fits in
       let last : List ℕ → Result (List ℕ) CheckRefusal = λ needed. wanted_if (refusal n OtherOperator) (k == 1) needed in
-      let first = both_ok (wanted_if (refusal n IllFormed) (list_all (λ k. has (cols g) k.column) keys) (g ∷ [])) last steps.0 steps.1 in
+      let first = both_ok (wanted_if (refusal n IllFormed) (are_columns (cols g) keys) (g ∷ [])) last steps.0 steps.1 in
       let one = wanted_if_ok (refusal n IllFormed) _ (g ∷ []) first.0 first.1 in
       let two = wanted_if_ok (refusal n OtherOperator) (k == 1) first.0 steps.0 first.2 in
       let needs : g ∷ [] ≡ steps.0 = one.1 ∙ two.1 in
       let count : k ≡ length (g ∷ []) = eqb-true _ _ two.0 in
-      input parts (inputs-output parts ordered n m (g ∷ []) count (ap (inputs_after parts ordered n) needs ∙ steps.2))
+      let of_classes = inputs-output parts ordered n m (g ∷ []) count (ap (inputs_after parts ordered n) needs ∙ steps.2) in
+      input parts one.0 of_classes.stand of_classes.outputs
     where
-      input : (parts : List Part) → AllAre W (outputs_of parts) (g ∷ []) → Is W (at_node (Sort keys) parts) g
-      input [] all = absurd all
-      input (p ∷ parts) all =
+      input : (parts : List Part) → are_columns (cols g) keys ≡ true → list_all (λ (x : Delivered). x.stands) (deliveries parts) ≡ true → AllAre W (outputs_of parts) (g ∷ []) → IsNodeOf (Sort keys) parts g
+      input [] among stand all = absurd all
+      input (p ∷ parts) among stand all =
           let x : Output = plan_output q.tables D p.0 in
-          record { columns = all.0.columns; rows = same_bag-trans (λ e. _) x.rows (class_rows q.tables D (reverse lines) g) (same_bag-sorted (keys_order keys) x.rows) all.0.rows }
+          record {
+            output = record { columns = all.0.columns; rows = same_bag-trans (λ e. _) x.rows (class_rows q.tables D (reverse lines) g) (same_bag-sorted (keys_order keys) x.rows) all.0.rows };
+            stands = ap (λ K. are_columns K keys) all.0.columns ∙ among;
+            inputs = stand;
+          }
 
-  layer : (node : Node) (parts : List Part) (ordered : Bool) (g n m : ℕ) → (node_fits lines cols node (length (fits_of parts)) g n >>= inputs_after parts ordered n) ≡ Ok m → Is W (at_node node parts) g
+  layer : (node : Node) (parts : List Part) (ordered : Bool) (g n m : ℕ) → (node_fits lines cols node (length (fits_of parts)) g n >>= inputs_after parts ordered n) ≡ Ok m → IsNodeOf node parts g
   layer (Implements line operator) = operator-output line operator
   layer (Sort keys) = sort-output keys
 
   step : (y : Plan-F Part) → P (roll-Plan (map-Plan Part Plan (λ p. p.0) y))
-  unfolding plan_fits plan_output
+  unfolding plan_fits plan_output delivered
   step y ordered g n m fits =
       let z : Plan-F Plan = map-Plan Part Plan (λ p. p.0) y in
-      subst (λ x. Is W x g) (sym (fold-roll-Plan Output (output_layer q.tables D) z))
-      (layer y.node y.inputs ordered g n m (sym (ap (λ f. f ordered g n) (fold-roll-Plan Fits (fits_layer lines cols) z)) ∙ fits))
+      let node = layer y.node y.inputs ordered g n m (sym (ap (λ f. f ordered g n) (fold-roll-Plan Fits (fits_layer lines cols) z)) ∙ fits) in
+      record {
+        output = subst (λ x. Is W x g) (sym (fold-roll-Plan Output (output_layer q.tables D) z)) node.output;
+        stands = ap (λ (d : Delivered). d.stands) (fold-roll-Plan Delivered (deliver_layer q.tables) z)
+            ∙ and_from _ _ (subst (λ Ks. node_stands y.node Ks ≡ true) (sym (columns-same y.inputs)) node.stands) node.inputs;
+      }
 
-  pub outputs : (p : Plan) → P p
-  outputs = ind-Plan P (λ x y is. subst (λ z. P (roll-Plan z)) is (step y))
+  pub of_class : (p : Plan) → P p
+  of_class = ind-Plan P (λ x y is. subst (λ z. P (roll-Plan z)) is (step y))

@@ -22,6 +22,7 @@ use Rattle.physical.specs.declared.plan.JoinKind.TheVariants.{Inner, Left}
 use Rattle.physical.specs.declared.plan.Operator.{Operator}
 use Rattle.physical.specs.declared.plan.Operator.TheVariants.{Scan, Filter, FilterSubqueries, Projection, NestedLoopJoin, HashGroup, HashDistinct}
 use Rattle.physical.specs.Outputs.{Output, operator_columns, operator_rows, no_classes, subquery_rows}
+use Rattle.physical.specs.Orders.{operator_stands}
 use Rattle.derivation.specs.Replay.{implements}
 
 -- an output has the columns and the bag of the class
@@ -148,3 +149,21 @@ module _ (uses : List TableInstance) (own : List Aggregation) (D : Tables) (W : 
   operator-gives (NestedLoopJoin Left C) x = left-gives C x
   operator-gives (HashGroup K G) x = group-gives K G x
   operator-gives HashDistinct x = distinct-gives x
+
+  -- a join of a well-formed expression hides no column of its left side
+  pub operator-stands : (operator : Operator) (x : Expr) (inputs : List Output) → implements operator x ≡ true → is_formed uses own W.columns x ≡ true → AllAre W inputs (input_classes x)
+      → operator_stands operator (map (λ p. p.columns) inputs) ≡ true
+  operator-stands (Scan o) x inputs h formed all = refl
+  operator-stands (Filter C) x inputs h formed all = refl
+  operator-stands (FilterSubqueries C) x inputs h formed all = refl
+  operator-stands (Projection K) x inputs h formed all = refl
+  operator-stands (NestedLoopJoin Inner C) (Join E g k) [] h formed all = absurd all
+  operator-stands (NestedLoopJoin Inner C) (Join E g k) (a ∷ []) h formed all = absurd all.1
+  operator-stands (NestedLoopJoin Inner C) (Join E g k) (a ∷ b ∷ inputs) h formed all = rw (all.0.columns, all.1.0.columns) (and_parts _ _ formed).1
+  operator-stands (NestedLoopJoin Inner C) x inputs h formed all = cc
+  operator-stands (NestedLoopJoin Left C) (LeftJoin E g k) [] h formed all = absurd all
+  operator-stands (NestedLoopJoin Left C) (LeftJoin E g k) (a ∷ []) h formed all = absurd all.1
+  operator-stands (NestedLoopJoin Left C) (LeftJoin E g k) (a ∷ b ∷ inputs) h formed all = rw (all.0.columns, all.1.0.columns) (and_parts _ _ formed).1
+  operator-stands (NestedLoopJoin Left C) x inputs h formed all = cc
+  operator-stands (HashGroup K G) x inputs h formed all = refl
+  operator-stands HashDistinct x inputs h formed all = refl

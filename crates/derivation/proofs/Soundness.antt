@@ -15,6 +15,7 @@ use Rattle.logical.proofs.FrameMeaning.{frame_means}
 use Rattle.logical.proofs.FormedQueries.{frames_formed}
 use Rattle.physical.specs.declared.plan.Plan.{Plan, out-Plan}
 use Rattle.physical.specs.Outputs.{output_rows}
+use Rattle.physical.specs.Orders.{delivered}
 use Rattle.physical.proofs.Deliveries.{plans_deliver}
 use Rattle.derivation.specs.declared.certificate.Certificate.{Certificate}
 use Rattle.derivation.specs.declared.certificate.CheckRefusal.{CheckRefusal}
@@ -24,7 +25,7 @@ use Rattle.derivation.proofs.Results.{both_ok, wanted_if_ok}
 use Rattle.derivation.proofs.Fits.{plan_fits_out}
 use Rattle.derivation.proofs.Founded.{begins, later, turned}
 use Rattle.derivation.proofs.Ordered.{delivered-allowed}
-use Rattle.derivation.proofs.ClassOutputs.{outputs}
+use Rattle.derivation.proofs.ClassOutputs.{of_class}
 
 -- ---- the root
 
@@ -46,6 +47,7 @@ ordered-is lines cols p ordered g n m fits =
 
 pub record IsRootOutput (q : Query) (c : Certificate) (D : Tables) : Type 0 where
   pub rows : (e : Env) → SameRows (output_rows q.tables D c.plan e) (root_rows q.tables D (query_frame q) e)
+  pub stands : (delivered q.tables c.plan).stands ≡ true
   pub ordered : is_delivered q c.plan ≡ true
 
 root-output : (q : Query) → 0 < length (query_frame q) → (c d : Certificate) (D : Tables) → replayed q c ≡ Ok d → IsRootOutput q c D
@@ -56,9 +58,10 @@ root-output q some c d D ok =
     let second = both_ok (plan_fits lines (class_columns q.tables first.0) c.plan (is_delivered q c.plan) (root q) (length first.0)) (λ n. Ok c) d first.2 in
     let begin = begins q lines [] first.0 first.1 in
     let fits = subst (λ E. plan_fits lines (class_columns q.tables E) c.plan (is_delivered q c.plan) (root q) (length first.0) ≡ Ok second.0) (turned q lines [] first.0 first.1) second.1 in
-    let is = outputs q D lines first.0 first.1 c.plan (is_delivered q c.plan) (root q) (length first.0) second.0 fits in
+    let is = of_class q D lines first.0 first.1 c.plan (is_delivered q c.plan) (root q) (length first.0) second.0 fits in
     record {
-      rows = λ e f. is.rows e f ∙ ap (total f) (root-is q some D lines begin.0 e begin.1);
+      rows = λ e f. is.output.rows e f ∙ ap (total f) (root-is q some D lines begin.0 e begin.1);
+      stands = is.stands;
       ordered = ordered-is lines (class_columns q.tables first.0) c.plan (is_delivered q c.plan) (root q) (length first.0) second.0 second.1;
     }
 
@@ -78,6 +81,6 @@ checked S q bound c ok = record {
       record {
         spread = λ r. count-shown q r (output_rows q.tables T c.plan nulls) ∙ root.rows nulls (λ s. if same_rows r (map s (query_numbers q)) then 1 else 0) ∙ sym (count-shown q r (root_rows q.tables T (query_frame q) nulls))
             ∙ frame_means q bound.bound T (satisfying_fits S D satisfies) (uses-wide S D q.tables bound.over) nulls r;
-        ordered = delivered-allowed q c.plan (output_rows q.tables T c.plan nulls) root.ordered (plans_deliver q.tables T c.plan nulls);
+        ordered = delivered-allowed q c.plan (output_rows q.tables T c.plan nulls) root.ordered (plans_deliver q.tables T c.plan nulls root.stands);
       };
 }

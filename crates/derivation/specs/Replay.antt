@@ -3,7 +3,7 @@
 -- G. Graefe's (The Cascades framework for query optimization, 1995: implementation and enforcement).
 use Rattle.std.specs.Prelude.{◌≡◌, ℕ, ◌+◌, ◌-◌, Bool, true, false, not, ◌&&◌, ◌==◌, nat_lt, nat_le, List, [], ◌∷◌, map, length, take, slice_get, Option, Some, None, Result, Ok}
 use Rattle.std.specs.Coded.{coded_list}
-use Rattle.std.specs.List.{AllByRecursion, list_all}
+use Rattle.std.specs.List.{AllByRecursion}
 use Rattle.values.specs.Faults.{◌>>=◌, wanted, wanted_if}
 use Rattle.schema.specs.declared.schema.Schema.{Schema}
 use Rattle.schema.specs.Databases.{Database, Satisfies}
@@ -13,7 +13,6 @@ use Rattle.query.specs.Bound.{IsBoundOver}
 use Rattle.query.specs.Answer.{IsAnswer}
 use Rattle.algebra.specs.declared.expr.Expr.{Expr}
 use Rattle.algebra.specs.declared.expr.Expr.TheVariants.{Get, Select, Join, LeftJoin, Keep, Distinct, Group}
-use Rattle.algebra.specs.Columns.{has}
 use Rattle.algebra.specs.Equality.{same_conditions, same_columns, same_aggregations, same_expr, same_by}
 use Rattle.algebra.specs.Expressions.{classes_pass, input_classes, is_plain, is_formed}
 use Rattle.algebra.specs.Classes.{class_columns}
@@ -28,7 +27,7 @@ use Rattle.physical.specs.declared.plan.Plan.{Plan, fold-Plan}
 use Rattle.physical.specs.declared.plan.Plan.TheOpen.{Plan-F}
 use Rattle.physical.specs.declared.plan.OrderKey.{OrderKey}
 use Rattle.physical.specs.contracts.plan.OrderKey as order_key
-use Rattle.physical.specs.Orders.{delivered}
+use Rattle.physical.specs.Orders.{are_columns, delivered}
 use Rattle.derivation.specs.QueryOrders.{query_order}
 use Rattle.derivation.specs.QueryOrders.{answer}
 use Rattle.derivation.specs.declared.certificate.Line.{Line}
@@ -82,7 +81,7 @@ implements operator x = false
 -- a sort at number n, over so many inputs, of the class: by columns of the class, over the class itself
 abbrev pub sort_fits : (ℕ → List ℕ) → List OrderKey → ℕ → ℕ → ℕ → Result (List ℕ) CheckRefusal
 sort_fits cols keys inputs g n =
-    wanted_if (refusal n IllFormed) (list_all (λ k. has (cols g) k.column) keys) (g ∷ [])
+    wanted_if (refusal n IllFormed) (are_columns (cols g) keys) (g ∷ [])
     >>= λ classes. wanted_if (refusal n OtherOperator) (inputs == 1) classes
 
 -- an operator: its line founds the class, it implements the line's expression, and has an input for each class that it needs

@@ -1,16 +1,19 @@
 -- Each plan's rows stand in the order that it delivers.
-use Rattle.std.proofs.Common.{◌≡◌, refl, ap, sym, ◌∙◌, subst, ℕ, Bool, true, false, not, if◌then◌else◌, List, [], ◌∷◌, map}
+use Rattle.std.proofs.Common.{◌≡◌, refl, ap, sym, ◌∙◌, subst, inl, inr, ℕ, Bool, true, false, not, ◌==◌, if◌then◌else◌, List, [], ◌∷◌, ◌++◌, map}
 use Rattle.std.specs.declared.cmp.Ordering.{Ordering}
 use Rattle.std.specs.declared.cmp.Ordering.TheVariants.{Less, Equal, Greater}
 use Rattle.std.specs.Ordering.{is_gt, flip_args, ordering_then}
-use Rattle.std.specs.List.{AllByRecursion}
-use Rattle.std.proofs.lemmas.Bool.{cond-true, not-true}
+use Rattle.std.specs.List.{AllByRecursion, list_all}
+use Rattle.std.proofs.lemmas.Bool.{cond-true, not-true, and_parts, and_from, or_cases, eqb-true}
 use Rattle.values.specs.Order.{order}
 use Rattle.query.specs.declared.query.TableInstance.{TableInstance}
 use Rattle.query.specs.Rows.{Tables}
-use Rattle.algebra.specs.Columns.{ColumnSet, has}
+use Rattle.algebra.specs.declared.condition.Condition.{Condition}
+use Rattle.algebra.specs.Columns.{ColumnSet, has, rising, are_disjoint}
 use Rattle.algebra.specs.Bags.{Env, Bag, Test, lay, nulls, matches, or_else_row, distinct_on}
 use Rattle.algebra.specs.Conditions.{holds}
+use Rattle.algebra.proofs.Sets.{has-rising}
+use Rattle.algebra.proofs.Puts.{among-append}
 use Rattle.algebra.proofs.Lists.{two, all-map, all-filter, all-each}
 use Rattle.physical.specs.declared.plan.JoinKind.{JoinKind}
 use Rattle.physical.specs.declared.plan.JoinKind.TheVariants.{Inner, Left}
@@ -22,8 +25,8 @@ use Rattle.physical.specs.declared.plan.Node.TheVariants.{Implements, Sort}
 use Rattle.physical.specs.declared.plan.Plan.{Plan, roll-Plan, fold-roll-Plan, ind-Plan, map-Plan}
 use Rattle.physical.specs.declared.plan.Plan.TheOpen.{Plan-F}
 use Rattle.physical.specs.Sorts.{key_order, keys_order}
-use Rattle.physical.specs.Outputs.{Output, operator_rows, node_rows, output_layer, plan_output, output_rows, first, rest, no_classes, nested_loop_rows, first_columns, second_columns, node_columns}
-use Rattle.physical.specs.Orders.{IsOrdered, Delivered, front, first_order, operator_order, node_order, deliver_layer, delivered, PlansDeliver}
+use Rattle.physical.specs.Outputs.{Output, operator_columns, operator_rows, node_rows, output_layer, plan_output, output_rows, first, rest, no_classes, nested_loop_rows, first_columns, second_columns, node_columns}
+use Rattle.physical.specs.Orders.{IsOrdered, Delivered, front, first_order, operator_order, node_order, are_columns, operator_stands, node_stands, deliver_layer, delivered, PlansDeliver}
 use Rattle.physical.proofs.Sorting.{Ascends, ascends-sorted}
 use Rattle.physical.proofs.SortedRows.{keys_total}
 use Rattle.physical.proofs.OrderedLists.{Alike, ascends-any, ascends-map, ascends-weaker, ascends-filter, ascends-distinct_on, ascends-laid_out}
@@ -69,6 +72,34 @@ lay-off K r e c h = ap (λ b. if b then r c else e c) (not-true (K c) h)
 
 -- ---- operators
 
+front-all : (K : ColumnSet) (keys : List OrderKey) → list_all (λ k. K k.column) keys ≡ true → front K keys ≡ keys
+front-all K [] all = refl
+front-all K (k ∷ keys) all =
+    let parts : (K k.column ≡ true) × (list_all (λ k. K k.column) keys ≡ true) = and_parts _ _ all in
+    rw (parts.0, front-all K keys parts.1) refl
+
+front-among : (K : ColumnSet) (keys : List OrderKey) → list_all (λ k. K k.column) (front K keys) ≡ true
+front-among K [] = refl
+front-among K (k ∷ keys) = by (K k.column) refl (front-among K keys)
+  where
+    by : (b : Bool) → K k.column ≡ b → list_all (λ k. K k.column) (front K keys) ≡ true → list_all (λ k. K k.column) (if b then k ∷ front K keys else []) ≡ true
+    by true is later = and_from _ _ is later
+    by false is later = refl
+
+all-among : (K L : ColumnSet) → ((c : ℕ) → K c ≡ true → L c ≡ true) → (keys : List OrderKey) → list_all (λ k. K k.column) keys ≡ true → list_all (λ k. L k.column) keys ≡ true
+all-among K L wider [] all = refl
+all-among K L wider (k ∷ keys) all = let parts = and_parts _ _ all in and_from _ _ (wider k.column parts.0) (all-among K L wider keys parts.1)
+
+-- a column of a list of which all pass
+passes : (p : ℕ → Bool) (columns : List ℕ) (c : ℕ) → list_all p columns ≡ true → has columns c ≡ true → p c ≡ true
+passes p [] c all in_ = cc
+passes p (k ∷ columns) c all in_ =
+    let parts = and_parts _ _ all in
+    elim (or_cases (k == c) (has columns c) in_) [
+      | inl is ↦ ap p (sym (eqb-true k c is)) ∙ parts.0
+      | inr later ↦ passes p columns c parts.1 later
+    ]
+
 -- rows with some columns alone
 ascends-projection : (K : ColumnSet) (keys : List OrderKey) (e : Env) (rows : List Env) → Ascends (keys_order keys) rows → Ascends (keys_order (front K keys)) (map (λ r. lay K r e) rows)
 ascends-projection K keys e rows = ascends-map (keys_order keys) (keys_order (front K keys)) (λ r. lay K r e) (λ a b h.
@@ -103,10 +134,15 @@ module _ (right : List ℕ) (keys : List OrderKey) where
 
 -- ---- plans
 
+-- rows stand in an order by columns of theirs
+pub record AreInOrder (columns : List ℕ) (keys : List OrderKey) (rows : Bag) : Type 0 where
+  pub among : are_columns columns keys ≡ true
+  pub ascends : (e : Env) → Ascends (keys_order keys) (rows e)
+
 -- what is delivered is the output's
 pub record Delivers (d : Delivered) (p : Output) : Type 0 where
   pub columns : d.columns ≡ p.columns
-  pub ascends : (e : Env) → Ascends (keys_order d.order) (p.rows e)
+  pub ordered : d.stands ≡ true → AreInOrder d.columns d.order p.rows
 
 module _ (uses : List TableInstance) (D : Tables) where
   abbrev P : Plan → Type 0
@@ -118,35 +154,72 @@ module _ (uses : List TableInstance) (D : Tables) where
   abbrev deliveries : List Part → List Delivered
   deliveries parts = map (delivered uses) (map (λ p. p.0) parts)
 
+  abbrev columns_of : List Part → List (List ℕ)
+  columns_of parts = map (λ (x : Delivered). x.columns) (deliveries parts)
+
+  abbrev all_stand : List Part → Bool
+  all_stand parts = list_all (λ (x : Delivered). x.stands) (deliveries parts)
+
   abbrev outputs_of : List Part → List Output
   outputs_of parts = map (plan_output uses D) (map (λ p. p.0) parts)
 
-  first-ascends : (parts : List Part) (e : Env) → Ascends (keys_order (first_order (deliveries parts))) (first (outputs_of parts) e)
-  first-ascends [] e = tt
-  first-ascends (p ∷ parts) e = p.1.ascends e
-
-  columns-same : (parts : List Part) → map (λ (x : Delivered). x.columns) (deliveries parts) ≡ map (λ (x : Output). x.columns) (outputs_of parts)
+  columns-same : (parts : List Part) → columns_of parts ≡ map (λ (x : Output). x.columns) (outputs_of parts)
   columns-same [] = refl
   columns-same (p ∷ parts) = two (λ K Ks. K ∷ Ks) p.1.columns (columns-same parts)
 
-  implements : (operator : Operator) (parts : List Part) (e : Env) → Ascends (keys_order (operator_order operator (deliveries parts))) (operator_rows uses D operator (outputs_of parts) e)
-  implements (Scan o) parts e = ascends-any (keys_order []) (λ a b. refl) _
-  implements (Filter C) parts e = ascends-filter _ (holds no_classes C) _ (first-ascends parts e)
-  implements (FilterSubqueries C) parts e = ascends-filter _ _ _ (first-ascends parts e)
-  implements (Projection K) parts e = ascends-projection (has K) _ e _ (first-ascends parts e)
-  implements (NestedLoopJoin kind C) parts e =
-      subst (λ Ks. Ascends (keys_order (front (λ c. not (has (second_columns Ks) c)) (first_order (deliveries parts)))) (operator_rows uses D (NestedLoopJoin kind C) (outputs_of parts) e)) (sym (columns-same parts))
-      (ascends-nested_loop (second_columns (map (λ (x : Output). x.columns) (outputs_of parts))) (first_order (deliveries parts)) kind (holds no_classes C) (first (outputs_of parts)) (first (rest (outputs_of parts))) e (first-ascends parts e))
-  implements (HashGroup K G) parts e = ascends-any (keys_order []) (λ a b. refl) _
-  implements HashDistinct parts e =
+  first-in-order : (parts : List Part) → all_stand parts ≡ true → AreInOrder (first_columns (columns_of parts)) (first_order (deliveries parts)) (first (outputs_of parts))
+  first-in-order [] all = record { among = refl; ascends = λ e. tt }
+  first-in-order (p ∷ parts) all = p.1.ordered (and_parts _ _ all).0
+
+  -- a nested-loop join of sides that share no column
+  join-in-order : (kind : JoinKind) (C : List Condition) (parts : List Part) → are_disjoint (first_columns (columns_of parts)) (second_columns (columns_of parts)) ≡ true → all_stand parts ≡ true
+      → AreInOrder (rising (first_columns (columns_of parts) ++ second_columns (columns_of parts))) (first_order (deliveries parts)) (operator_rows uses D (NestedLoopJoin kind C) (outputs_of parts))
+  join-in-order kind C parts apart all =
+      let left : List ℕ = first_columns (columns_of parts) in
+      let right : List ℕ = second_columns (columns_of parts) in
+      let keys : List OrderKey = first_order (deliveries parts) in
+      let input = first-in-order parts all in
+      let shown : front (λ c. not (has right c)) keys ≡ keys = front-all (λ c. not (has right c)) keys (all-among (has left) (λ c. not (has right c)) (λ c in_. passes (λ c. not (has right c)) left c apart in_) keys input.among) in
+      record {
+        among = all-among (has left) (has (rising (left ++ right))) (λ c in_. has-rising c (left ++ right) ∙ among-append c left right ∙ rw in_ refl) keys input.among;
+        ascends = λ e. subst (λ keys. Ascends (keys_order keys) (operator_rows uses D (NestedLoopJoin kind C) (outputs_of parts) e)) shown
+            (subst (λ Ks. Ascends (keys_order (front (λ c. not (has (second_columns Ks) c)) keys)) (operator_rows uses D (NestedLoopJoin kind C) (outputs_of parts) e)) (sym (columns-same parts))
+            (ascends-nested_loop (second_columns (map (λ (x : Output). x.columns) (outputs_of parts))) keys kind (holds no_classes C) (first (outputs_of parts)) (first (rest (outputs_of parts))) e (input.ascends e)));
+      }
+
+  distinct-in-order : (parts : List Part) → all_stand parts ≡ true → AreInOrder (first_columns (columns_of parts)) (first_order (deliveries parts)) (operator_rows uses D HashDistinct (outputs_of parts))
+  distinct-in-order parts all =
       let K : List ℕ = first_columns (map (λ (x : Output). x.columns) (outputs_of parts)) in
       let keys : List OrderKey = first_order (deliveries parts) in
-      subst (λ Ks. Ascends (keys_order (front (has (first_columns Ks)) keys)) (operator_rows uses D HashDistinct (outputs_of parts) e)) (sym (columns-same parts))
-      (ascends-projection (has K) keys e (distinct_on K (first (outputs_of parts) e)) (ascends-distinct_on (keys_order keys) K (first (outputs_of parts) e) (first-ascends parts e)))
+      let input = first-in-order parts all in
+      let among : are_columns K keys ≡ true = subst (λ Ks. are_columns (first_columns Ks) keys ≡ true) (columns-same parts) input.among in
+      record {
+        among = input.among;
+        ascends = λ e. subst (λ keys. Ascends (keys_order keys) (operator_rows uses D HashDistinct (outputs_of parts) e)) (front-all (has K) keys among)
+            (ascends-projection (has K) keys e (distinct_on K (first (outputs_of parts) e)) (ascends-distinct_on (keys_order keys) K (first (outputs_of parts) e) (input.ascends e)));
+      }
 
-  layer : (node : Node) (parts : List Part) (e : Env) → Ascends (keys_order (node_order node (deliveries parts))) (node_rows uses D node (outputs_of parts) e)
-  layer (Implements line operator) parts e = implements operator parts e
-  layer (Sort keys) parts e = ascends-sorted (keys_order keys) (keys_total keys) (first (outputs_of parts) e)
+  in-order : (operator : Operator) (parts : List Part) → operator_stands operator (columns_of parts) ≡ true → all_stand parts ≡ true
+      → AreInOrder (operator_columns uses operator (columns_of parts)) (operator_order operator (deliveries parts)) (operator_rows uses D operator (outputs_of parts))
+  in-order (Scan o) parts stands all = record { among = refl; ascends = λ e. ascends-any (keys_order []) (λ a b. refl) _ }
+  in-order (Filter C) parts stands all =
+      let input = first-in-order parts all in
+      record { among = input.among; ascends = λ e. ascends-filter _ (holds no_classes C) _ (input.ascends e) }
+  in-order (FilterSubqueries C) parts stands all =
+      let input = first-in-order parts all in
+      record { among = input.among; ascends = λ e. ascends-filter _ _ _ (input.ascends e) }
+  in-order (Projection K) parts stands all = record {
+    among = front-among (has K) (first_order (deliveries parts));
+    ascends = λ e. ascends-projection (has K) _ e _ ((first-in-order parts all).ascends e);
+  }
+  in-order (NestedLoopJoin kind C) parts stands all = join-in-order kind C parts stands all
+  in-order (HashGroup K G) parts stands all = record { among = refl; ascends = λ e. ascends-any (keys_order []) (λ a b. refl) _ }
+  in-order HashDistinct parts stands all = distinct-in-order parts all
+
+  layer : (node : Node) (parts : List Part) → node_stands node (columns_of parts) ≡ true → all_stand parts ≡ true
+      → AreInOrder (node_columns uses node (columns_of parts)) (node_order node (deliveries parts)) (node_rows uses D node (outputs_of parts))
+  layer (Implements line operator) parts stands all = in-order operator parts stands all
+  layer (Sort keys) parts stands all = record { among = stands; ascends = λ e. ascends-sorted (keys_order keys) (keys_total keys) (first (outputs_of parts) e) }
 
   step : (y : Plan-F Part) → P (roll-Plan (map-Plan Part Plan (λ p. p.0) y))
   unfolding delivered plan_output
@@ -154,10 +227,13 @@ module _ (uses : List TableInstance) (D : Tables) where
       let z : Plan-F Plan = map-Plan Part Plan (λ p. p.0) y in
       subst (λ d. Delivers d (plan_output uses D (roll-Plan z))) (sym (fold-roll-Plan Delivered (deliver_layer uses) z))
       (subst (λ p. Delivers (deliver_layer uses (map-Plan Plan Delivered (delivered uses) z)) p) (sym (fold-roll-Plan Output (output_layer uses D) z))
-      (record { columns = ap (node_columns uses y.node) (columns-same y.inputs); ascends = layer y.node y.inputs }))
+      (record {
+        columns = ap (node_columns uses y.node) (columns-same y.inputs);
+        ordered = λ stands. let both = and_parts _ _ stands in layer y.node y.inputs both.0 both.1;
+      }))
 
   pub delivers : (plan : Plan) → P plan
   delivers = ind-Plan P (λ x y is. subst (λ z. P (roll-Plan z)) is (step y))
 
 pub plans_deliver : PlansDeliver
-plans_deliver uses D plan e = ordered (delivered uses plan).order (output_rows uses D plan e) ((delivers uses D plan).ascends e)
+plans_deliver uses D plan e stands = ordered (delivered uses plan).order (output_rows uses D plan e) (((delivers uses D plan).ordered stands).ascends e)

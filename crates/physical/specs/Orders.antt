@@ -1,10 +1,11 @@
 -- The order that a plan delivers (G. Graefe, The Cascades framework for query optimization, 1995: physical properties), and
 -- that what it produces stands in it.
-use Rattle.std.specs.Prelude.{◌≡◌, ℕ, false, not, if◌then◌else◌, List, [], ◌∷◌, map}
+use Rattle.std.specs.Prelude.{◌≡◌, ℕ, Bool, true, false, ◌&&◌, if◌then◌else◌, List, [], ◌∷◌, map}
+use Rattle.std.specs.List.{list_all}
 use Rattle.std.specs.Ordering.{is_gt}
 use Rattle.query.specs.declared.query.TableInstance.{TableInstance}
 use Rattle.query.specs.Rows.{Tables}
-use Rattle.algebra.specs.Columns.{ColumnSet, has}
+use Rattle.algebra.specs.Columns.{ColumnSet, has, are_disjoint}
 use Rattle.algebra.specs.Bags.{Env}
 use Rattle.physical.specs.declared.plan.OrderKey.{OrderKey}
 use Rattle.physical.specs.declared.plan.Operator.{Operator}
@@ -26,10 +27,12 @@ IsOrdered keys (a ∷ b ∷ rows) = (is_gt (keys_order keys a b) ≡ false) × I
 
 -- ---- what is delivered
 
--- the columns of a plan's rows, and the order in which they stand
+-- the columns of a plan's rows, the order in which they stand, and whether they do stand in it: no operator hides a column of
+-- its left input, and each sort is by columns of its input
 pub record Delivered : Type 0 where
   pub columns : List ℕ
   pub order : List OrderKey
+  pub stands : Bool
 
 -- the keys before the first one whose column isn't in the set
 abbrev pub front : ColumnSet → List OrderKey → List OrderKey
@@ -40,27 +43,44 @@ abbrev pub first_order : List Delivered → List OrderKey
 first_order [] = []
 first_order (x ∷ inputs) = x.order
 
--- the order that an operator delivers, given what its inputs do; a join delivers that of its left side, as far as no column
--- of the right side hides one of it
+-- the order that an operator delivers, given what its inputs do
 abbrev pub operator_order : Operator → List Delivered → List OrderKey
 operator_order (Scan o) inputs = []
 operator_order (Filter C) inputs = first_order inputs
 operator_order (FilterSubqueries C) inputs = first_order inputs
 operator_order (Projection K) inputs = front (has K) (first_order inputs)
-operator_order (NestedLoopJoin kind C) inputs = front (λ c. not (has (second_columns (map (λ x. x.columns) inputs)) c)) (first_order inputs)
+operator_order (NestedLoopJoin kind C) inputs = first_order inputs
 operator_order (HashGroup K G) inputs = []
-operator_order HashDistinct inputs = front (has (first_columns (map (λ x. x.columns) inputs))) (first_order inputs)
+operator_order HashDistinct inputs = first_order inputs
 
 abbrev pub node_order : Node → List Delivered → List OrderKey
 node_order (Implements line operator) inputs = operator_order operator inputs
 node_order (Sort keys) inputs = keys
 
+-- the columns of the keys are among these
+abbrev pub are_columns : List ℕ → List OrderKey → Bool
+are_columns columns keys = list_all (λ k. has columns k.column) keys
+
+abbrev pub operator_stands : Operator → List (List ℕ) → Bool
+operator_stands (NestedLoopJoin kind C) inputs = are_disjoint (first_columns inputs) (second_columns inputs)
+operator_stands operator inputs = true
+
+abbrev pub node_stands : Node → List (List ℕ) → Bool
+node_stands (Implements line operator) inputs = operator_stands operator inputs
+node_stands (Sort keys) inputs = are_columns (first_columns inputs) keys
+
 abbrev pub deliver_layer : List TableInstance → Plan-F Delivered → Delivered
-deliver_layer uses p = record { columns = node_columns uses p.node (map (λ x. x.columns) p.inputs); order = node_order p.node p.inputs }
+deliver_layer uses p =
+    let columns = map (λ x. x.columns) p.inputs in
+    record {
+      columns = node_columns uses p.node columns;
+      order = node_order p.node p.inputs;
+      stands = node_stands p.node columns && list_all (λ x. x.stands) p.inputs;
+    }
 
 unfoldable pub delivered : List TableInstance → Plan → Delivered
 delivered uses = fold-Plan Delivered (deliver_layer uses)
 
--- each plan's rows stand in the order that it delivers, in every database and environment
+-- the rows of each plan whose order stands are in it, in every database and environment
 abbrev pub PlansDeliver : Type 0
-PlansDeliver = (uses : List TableInstance) (D : Tables) (plan : Plan) (e : Env) → IsOrdered (delivered uses plan).order (output_rows uses D plan e)
+PlansDeliver = (uses : List TableInstance) (D : Tables) (plan : Plan) (e : Env) → (delivered uses plan).stands ≡ true → IsOrdered (delivered uses plan).order (output_rows uses D plan e)

@@ -1,6 +1,6 @@
 //! The order that a plan delivers.
 
-ghost use Rattle.std.specs.Prelude.{◌≡◌, not, map, IfOk};
+ghost use Rattle.std.specs.Prelude.{◌≡◌, map, IfOk};
 ghost use Rattle.algebra.specs.Columns.{has};
 ghost use Rattle.physical.specs.Orders as spec;
 ghost use Rattle.physical.specs.Outputs as outputs;
@@ -86,24 +86,6 @@ fn front(alloc: Global, order: &[OrderKey], columns: &Columns) -> Result<Vec<Ord
     Ok(keys)
 }
 
-/// The keys before the first one whose column is in the set.
-fn shown_front(
-    alloc: Global,
-    order: &[OrderKey],
-    hidden: &Columns,
-) -> Result<Vec<OrderKey>, AllocError>
-    ensures { IfOk result (λ keys. keys.items ≡ spec.front (λ c. not (has hidden.now c)) order.now) }
-{
-    let mut keys = Vec::new(alloc);
-    for key in order {
-        if hidden.contains(key.column) {
-            return Ok(keys);
-        }
-        keys.push(*key)?;
-    }
-    Ok(keys)
-}
-
 /// The order that a plan with these table instances delivers.
 #[cycle(orders)]
 fn order(alloc: Global, uses: &[TableInstance], plan: &Plan) -> Result<Vec<OrderKey>, AllocError>
@@ -138,16 +120,8 @@ fn operator_order(
             let order = first_order(alloc, uses, inputs)?;
             front(alloc, order.as_slice(), columns)
         }
-        Operator::NestedLoopJoin { .. } => {
-            let order = first_order(alloc, uses, inputs)?;
-            let right = second_columns(alloc, uses, inputs)?;
-            shown_front(alloc, order.as_slice(), &right)
-        }
-        Operator::HashDistinct => {
-            let order = first_order(alloc, uses, inputs)?;
-            let columns = first_columns(alloc, uses, inputs)?;
-            front(alloc, order.as_slice(), &columns)
-        }
+        Operator::NestedLoopJoin { .. } => first_order(alloc, uses, inputs),
+        Operator::HashDistinct => first_order(alloc, uses, inputs),
     }
 }
 
