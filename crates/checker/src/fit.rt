@@ -94,6 +94,13 @@ fn only_input(
     Ok(classes)
 }
 
+/// Whether the line is a member of the class. Each class has one: the line that founds it.
+fn is_member(line: LineId, class: ClassId) -> bool
+    ensures { result ≡ spec.is_member line class }
+{
+    line == class
+}
+
 /// The classes of the inputs that an operator needs, where it implements this line of the class.
 fn operator_fits(
     alloc: Global,
@@ -111,7 +118,7 @@ fn operator_fits(
         Some(line) => line.founding(),
         None => return Err(refused(number, CheckReason::UnknownLine)),
     };
-    if line != class || !implements(operator, expr) {
+    if !is_member(line, class) || !implements(operator, expr) {
         return Err(refused(number, CheckReason::OtherOperator));
     }
     let classes = expr.inputs(alloc)?;
@@ -158,7 +165,7 @@ pub fn is_delivered(alloc: Global, query: &Query, plan: &Plan) -> Result<bool, A
     ensures { IfOk result (λ b. b ≡ spec.is_delivered query.now plan.now) }
 {
     let wanted = query_order(alloc, query)?;
-    let order = delivers(alloc, query, plan)?;
+    let order = delivers(alloc, plan)?;
     Ok(begins_with(order.as_slice(), wanted.as_slice()))
 }
 
@@ -210,6 +217,7 @@ pub fn plan_fits(
         class,
         number,
     )?;
+    // None of these operators needs an order of its inputs.
     if !ordered {
         return Err(refused(number, CheckReason::UnsortedAnswer));
     }

@@ -2,7 +2,7 @@
 use Rattle.std.proofs.Common.{◌≡◌, refl, ap, sym, ◌∙◌, subst, ℕ, ◌+◌, ◌<◌, ◌≤◌, Bool, true, ◌==◌, List, [], ◌∷◌, map, length, take, reverse, Result, Ok, nat_lt, arith}
 use Rattle.std.specs.List.{list_all}
 use Rattle.std.proofs.lemmas.Bool.{and_parts, and_from, eqb-true, ltb-true}
-use Rattle.std.proofs.lemmas.List.{length-reverse, length-take-le}
+use Rattle.std.proofs.lemmas.List.{length-reverse, length-map, length-take-le}
 use Rattle.std.proofs.lemmas.Option.{slice_get_within}
 use Rattle.values.specs.Faults.{◌>>=◌, wanted_if}
 use Rattle.query.specs.declared.query.Query.{Query}
@@ -18,18 +18,18 @@ use Rattle.physical.specs.declared.plan.OrderKey.{OrderKey}
 use Rattle.physical.specs.declared.plan.Operator.{Operator}
 use Rattle.physical.specs.declared.plan.Node.{Node}
 use Rattle.physical.specs.declared.plan.Node.TheVariants.{Implements, Sort}
-use Rattle.physical.specs.declared.plan.Plan.{Plan, roll-Plan, fold-roll-Plan, ind-Plan, map-Plan}
+use Rattle.physical.specs.declared.plan.Plan.{Plan, roll-Plan, out-roll-Plan, fold-roll-Plan, ind-Plan, map-Plan}
 use Rattle.physical.specs.declared.plan.Plan.TheOpen.{Plan-F}
 use Rattle.physical.specs.Outputs.{Output, node_columns, node_rows, output_layer, plan_output}
-use Rattle.physical.specs.Orders.{Delivered, are_columns, node_stands, deliver_layer, delivered}
+use Rattle.physical.specs.Orders.{are_columns, node_stands, Shape, shape_layer, plan_shape}
 use Rattle.physical.specs.Sorts.{keys_order}
 use Rattle.physical.proofs.Deliveries.{delivers}
 use Rattle.physical.proofs.SortedRows.{same_bag-sorted}
 use Rattle.derivation.specs.declared.certificate.CheckRefusal.{CheckRefusal}
 use Rattle.derivation.specs.declared.certificate.CheckReason.TheVariants.{IllFormed, OtherOperator, UnsortedAnswer}
-use Rattle.derivation.specs.Replay.{Fits, refusal, sort_fits, operator_fits, node_fits, inputs_fit, fits_layer, plan_fits, lines_replay}
+use Rattle.derivation.specs.Replay.{Fits, refusal, sort_fits, operator_fits, node_fits, inputs_fit, plan_fits, lines_replay}
 use Rattle.derivation.proofs.Results.{both_ok, wanted_if_ok}
-use Rattle.derivation.proofs.Fits.{operator-is}
+use Rattle.derivation.proofs.Fits.{plan_fits_out, operator-is}
 use Rattle.derivation.proofs.Founded.{Stands, line_at, founded, before, founded_columns, before_columns}
 use Rattle.derivation.proofs.Operators.{Is, AllAre, operator-gives, operator-stands}
 
@@ -43,7 +43,7 @@ module _ (q : Query) (D : Tables) (lines F : List Expr) (replays : lines_replay 
   -- the plan produces the bag of the class, over its columns, and the order that it delivers stands
   pub record IsOfClass (p : Plan) (g : ℕ) : Type 0 where
     pub output : Is W (plan_output q.tables D p) g
-    pub stands : (delivered q.tables p).stands ≡ true
+    pub stands : (plan_shape q.tables p).stands ≡ true
 
   -- so does one that fits the class
   abbrev P : Plan → Type 0
@@ -58,13 +58,13 @@ module _ (q : Query) (D : Tables) (lines F : List Expr) (replays : lines_replay 
   abbrev outputs_of : List Part → List Output
   outputs_of parts = map (plan_output q.tables D) (map (λ p. p.0) parts)
 
-  abbrev deliveries : List Part → List Delivered
-  deliveries parts = map (delivered q.tables) (map (λ p. p.0) parts)
+  abbrev shapes_of : List Part → List Shape
+  shapes_of parts = map (plan_shape q.tables) (map (λ p. p.0) parts)
 
   -- the inputs are of their classes
   record AreOfClasses (parts : List Part) (needed : List ℕ) : Type 0 where
     outputs : AllAre W (outputs_of parts) needed
-    stand : list_all (λ (x : Delivered). x.stands) (deliveries parts) ≡ true
+    stand : list_all (λ (x : Shape). x.stands) (shapes_of parts) ≡ true
 
   all-output : (parts : List Part) (needed : List ℕ) (n m : ℕ) → length (fits_of parts) ≡ length needed → inputs_fit (fits_of parts) needed n ≡ Ok m → AreOfClasses parts needed
   all-output [] [] n m count fits = record { outputs = tt; stand = refl }
@@ -76,8 +76,8 @@ module _ (q : Query) (D : Tables) (lines F : List Expr) (replays : lines_replay 
       let later = all-output parts needed steps.0 m (omega (arith, count)) steps.2 in
       record { outputs = (first.output, later.outputs); stand = and_from _ _ first.stands later.stand }
 
-  -- what inputs deliver has the columns of their output
-  columns-same : (parts : List Part) → map (λ (x : Delivered). x.columns) (deliveries parts) ≡ map (λ (x : Output). x.columns) (outputs_of parts)
+  -- the inputs' shapes have the columns of their output
+  columns-same : (parts : List Part) → map (λ (x : Shape). x.columns) (shapes_of parts) ≡ map (λ (x : Output). x.columns) (outputs_of parts)
   columns-same [] = refl
   columns-same (p ∷ parts) = two (λ K Ks. K ∷ Ks) (delivers q.tables D p.0).columns (columns-same parts)
 
@@ -113,7 +113,7 @@ module _ (q : Query) (D : Tables) (lines F : List Expr) (replays : lines_replay 
   record IsNodeOf (node : Node) (parts : List Part) (g : ℕ) : Type 0 where
     output : Is W (at_node node parts) g
     stands : node_stands node (map (λ (x : Output). x.columns) (outputs_of parts)) ≡ true
-    inputs : list_all (λ (x : Delivered). x.stands) (deliveries parts) ≡ true
+    inputs : list_all (λ (x : Shape). x.stands) (shapes_of parts) ≡ true
 
   operator-output : (line : ℕ) (operator : Operator) (parts : List Part) (ordered : Bool) (g n m : ℕ) → (operator_fits lines line operator (length (fits_of parts)) g n >>= inputs_after parts ordered n) ≡ Ok m → IsNodeOf (Implements line operator) parts g
   operator-output line operator parts ordered g n m fits =
@@ -151,7 +151,7 @@ module _ (q : Query) (D : Tables) (lines F : List Expr) (replays : lines_replay 
       let of_classes = inputs-output parts ordered n m (g ∷ []) count (ap (inputs_after parts ordered n) needs ∙ steps.2) in
       input parts one.0 of_classes.stand of_classes.outputs
     where
-      input : (parts : List Part) → are_columns (cols g) keys ≡ true → list_all (λ (x : Delivered). x.stands) (deliveries parts) ≡ true → AllAre W (outputs_of parts) (g ∷ []) → IsNodeOf (Sort keys) parts g
+      input : (parts : List Part) → are_columns (cols g) keys ≡ true → list_all (λ (x : Shape). x.stands) (shapes_of parts) ≡ true → AllAre W (outputs_of parts) (g ∷ []) → IsNodeOf (Sort keys) parts g
       input [] among stand all = absurd all
       input (p ∷ parts) among stand all =
           let x : Output = plan_output q.tables D p.0 in
@@ -166,13 +166,16 @@ module _ (q : Query) (D : Tables) (lines F : List Expr) (replays : lines_replay 
   layer (Sort keys) = sort-output keys
 
   step : (y : Plan-F Part) → P (roll-Plan (map-Plan Part Plan (λ p. p.0) y))
-  unfolding plan_fits plan_output delivered
+  unfolding plan_output plan_shape
   step y ordered g n m fits =
       let z : Plan-F Plan = map-Plan Part Plan (λ p. p.0) y in
-      let node = layer y.node y.inputs ordered g n m (sym (ap (λ f. f ordered g n) (fold-roll-Plan Fits (fits_layer lines cols) z)) ∙ fits) in
+      let here : (node_fits lines cols z.node (length z.inputs) g n >>= inputs_after y.inputs ordered n) ≡ Ok m =
+      subst (λ (w : Plan-F Plan). (node_fits lines cols w.node (length w.inputs) g n >>= λ needed. wanted_if (refusal n UnsortedAnswer) ordered needed >>= λ needed. inputs_fit (map (plan_fits lines cols) w.inputs) needed (n + 1)) ≡ Ok m)
+      (out-roll-Plan z) (sym (plan_fits_out lines cols (roll-Plan z) ordered g n) ∙ fits) in
+      let node = layer y.node y.inputs ordered g n m (subst (λ k. (node_fits lines cols z.node k g n >>= inputs_after y.inputs ordered n) ≡ Ok m) (sym (length-map z.inputs (plan_fits lines cols))) here) in
       record {
         output = subst (λ x. Is W x g) (sym (fold-roll-Plan Output (output_layer q.tables D) z)) node.output;
-        stands = ap (λ (d : Delivered). d.stands) (fold-roll-Plan Delivered (deliver_layer q.tables) z)
+        stands = ap (λ (x : Shape). x.stands) (fold-roll-Plan Shape (shape_layer q.tables) z)
             ∙ and_from _ _ (subst (λ Ks. node_stands y.node Ks ≡ true) (sym (columns-same y.inputs)) node.stands) node.inputs;
       }
 

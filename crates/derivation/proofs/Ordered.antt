@@ -20,7 +20,7 @@ use Rattle.physical.specs.declared.plan.OrderKey.{OrderKey}
 use Rattle.physical.specs.contracts.plan.OrderKey as order_key
 use Rattle.physical.specs.declared.plan.Plan.{Plan}
 use Rattle.physical.specs.Sorts.{key_order, keys_order}
-use Rattle.physical.specs.Orders.{IsOrdered, delivered}
+use Rattle.physical.specs.Orders.{IsOrdered, plan_order}
 use Rattle.derivation.specs.QueryOrders.{ordered_column, ordered_columns, query_order}
 use Rattle.derivation.specs.Replay.{same_order, is_delivered}
 
@@ -87,8 +87,8 @@ allowed numbers keys (a ∷ []) h = tt
 allowed numbers keys (a ∷ b ∷ rows) h = (ap is_gt (sym (keys-same numbers keys a b)) ∙ h.0, allowed numbers keys (b ∷ rows) h.1)
 
 -- the rows of a plan that delivers the ORDER BY
-pub delivered-allowed : (q : Query) (p : Plan) (rows : List Env) → is_delivered q p ≡ true → IsOrdered (delivered q.tables p).order rows → IsAllowed q.order (query_shown q rows)
+pub delivered-allowed : (q : Query) (p : Plan) (rows : List Env) → is_delivered q p ≡ true → IsOrdered (plan_order p) rows → IsAllowed q.order (query_shown q rows)
 unfolding same_order
 delivered-allowed q p rows is h =
-    let front : take (length (query_order q)) (delivered q.tables p).order ≡ query_order q = same_by-equal (coded_list order_key.the_row.coded) (take (length (query_order q)) (delivered q.tables p).order) (query_order q) is in
-    allowed (query_numbers q) q.order rows (subst (λ keys. IsOrdered keys rows) front (front-ordered (length (query_order q)) (delivered q.tables p).order rows h))
+    let front : take (length (query_order q)) (plan_order p) ≡ query_order q = same_by-equal (coded_list order_key.the_row.coded) (take (length (query_order q)) (plan_order p)) (query_order q) is in
+    allowed (query_numbers q) q.order rows (subst (λ keys. IsOrdered keys rows) front (front-ordered (length (query_order q)) (plan_order p) rows h))

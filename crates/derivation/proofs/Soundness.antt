@@ -15,7 +15,7 @@ use Rattle.logical.proofs.FrameMeaning.{frame_means}
 use Rattle.logical.proofs.FormedQueries.{frames_formed}
 use Rattle.physical.specs.declared.plan.Plan.{Plan, out-Plan}
 use Rattle.physical.specs.Outputs.{output_rows}
-use Rattle.physical.specs.Orders.{delivered}
+use Rattle.physical.specs.Orders.{plan_shape}
 use Rattle.physical.proofs.Deliveries.{plans_deliver}
 use Rattle.derivation.specs.declared.certificate.Certificate.{Certificate}
 use Rattle.derivation.specs.declared.certificate.CheckRefusal.{CheckRefusal}
@@ -47,7 +47,7 @@ ordered-is lines cols p ordered g n m fits =
 
 pub record IsRootOutput (q : Query) (c : Certificate) (D : Tables) : Type 0 where
   pub rows : (e : Env) → SameRows (output_rows q.tables D c.plan e) (root_rows q.tables D (query_frame q) e)
-  pub stands : (delivered q.tables c.plan).stands ≡ true
+  pub stands : (plan_shape q.tables c.plan).stands ≡ true
   pub ordered : is_delivered q c.plan ≡ true
 
 root-output : (q : Query) → 0 < length (query_frame q) → (c d : Certificate) (D : Tables) → replayed q c ≡ Ok d → IsRootOutput q c D

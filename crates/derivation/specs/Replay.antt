@@ -27,14 +27,14 @@ use Rattle.physical.specs.declared.plan.Plan.{Plan, fold-Plan}
 use Rattle.physical.specs.declared.plan.Plan.TheOpen.{Plan-F}
 use Rattle.physical.specs.declared.plan.OrderKey.{OrderKey}
 use Rattle.physical.specs.contracts.plan.OrderKey as order_key
-use Rattle.physical.specs.Orders.{are_columns, delivered}
+use Rattle.physical.specs.Orders.{are_columns, node_order, plan_order}
 use Rattle.derivation.specs.QueryOrders.{query_order}
 use Rattle.derivation.specs.QueryOrders.{answer}
 use Rattle.derivation.specs.declared.certificate.Line.{Line}
 use Rattle.derivation.specs.declared.certificate.Line.TheVariants.{Founds}
 use Rattle.derivation.specs.declared.certificate.Certificate.{Certificate}
 use Rattle.derivation.specs.declared.certificate.CheckReason.{CheckReason}
-use Rattle.derivation.specs.declared.certificate.CheckReason.TheVariants.{UnknownLine, OtherLine, IllFormed, OtherOperator, UnsortedAnswer}
+use Rattle.derivation.specs.declared.certificate.CheckReason.TheVariants.{UnknownLine, OtherLine, IllFormed, OtherOperator, UnsortedInput, UnsortedAnswer}
 use Rattle.derivation.specs.declared.certificate.CheckRefusal.{CheckRefusal}
 
 abbrev pub refusal : ℕ → CheckReason → CheckRefusal
@@ -84,45 +84,82 @@ sort_fits cols keys inputs g n =
     wanted_if (refusal n IllFormed) (are_columns (cols g) keys) (g ∷ [])
     >>= λ classes. wanted_if (refusal n OtherOperator) (inputs == 1) classes
 
--- an operator: its line founds the class, it implements the line's expression, and has an input for each class that it needs
+-- a line is a member of a class: it founds it
+abbrev pub is_member : ℕ → ℕ → Bool
+is_member line g = line == g
+
+-- the classes whose rows an operator needs as inputs, so that it computes an expression
+abbrev pub needed_classes : Operator → Expr → List ℕ
+needed_classes operator x = input_classes x
+
+-- an operator: its line is a member of the class, it implements the line's expression, and has an input for each class that it needs
 abbrev pub operator_fits : List Expr → ℕ → Operator → ℕ → ℕ → ℕ → Result (List ℕ) CheckRefusal
 operator_fits lines line operator inputs g n =
     wanted (refusal n UnknownLine) (slice_get lines line)
-    >>= λ x. wanted_if (refusal n OtherOperator) (line == g && implements operator x && inputs == length (input_classes x)) (input_classes x)
+    >>= λ x. wanted_if (refusal n OtherOperator) (is_member line g && implements operator x && inputs == length (needed_classes operator x)) (needed_classes operator x)
 
 -- the classes that the node at number n needs as inputs, if it is of the class
 abbrev pub node_fits : List Expr → (ℕ → List ℕ) → Node → ℕ → ℕ → ℕ → Result (List ℕ) CheckRefusal
 node_fits lines cols (Implements line operator) inputs g n = operator_fits lines line operator inputs g n
 node_fits lines cols (Sort keys) inputs g n = sort_fits cols keys inputs g n
 
--- whether a plan is of a class, and delivers the order that is wanted (as the first argument says), its nodes being
--- numbered from a number on; gives the number after them
+-- the orders that a node needs of its inputs; none of these operators needs one
+abbrev pub needed_orders : Node → List (List OrderKey)
+needed_orders node = []
+
+unfoldable pub same_order : List OrderKey → List OrderKey → Bool
+same_order = same_by (coded_list order_key.the_row.coded)
+
+-- an order begins with another
+abbrev pub begins_with : List OrderKey → List OrderKey → Bool
+begins_with order wanted = same_order (take (length wanted) order) wanted
+
+-- each input delivers the order that is needed of it
+abbrev pub are_sorted : List (List OrderKey) → List (List OrderKey) → Bool
+are_sorted [] orders = true
+are_sorted (needed ∷ more) [] = false
+are_sorted (needed ∷ more) (order ∷ orders) = begins_with order needed && are_sorted more orders
+
+-- whether a plan is of a class, and delivers the order that is wanted (as the first argument says), its nodes being numbered
+-- from a number on; gives the number after them
 abbrev pub Fits : Type 0
 Fits = Bool → ℕ → ℕ → Result ℕ CheckRefusal
 
--- no order is wanted of inputs
+-- no order is wanted of inputs beside those that the node needs
 abbrev pub inputs_fit : List Fits → List ℕ → ℕ → Result ℕ CheckRefusal
 inputs_fit [] classes n = Ok n
 inputs_fit (fits ∷ inputs) [] n = Ok n
 inputs_fit (fits ∷ inputs) (g ∷ classes) n = fits true g n >>= λ m. inputs_fit inputs classes m
 
-abbrev pub fits_layer : List Expr → (ℕ → List ℕ) → Plan-F Fits → Fits
-fits_layer lines cols p ordered g n =
-    node_fits lines cols p.node (length p.inputs) g n
-    >>= λ classes. wanted_if (refusal n UnsortedAnswer) ordered classes
-    >>= λ classes. inputs_fit p.inputs classes (n + 1)
+-- a plan's order, and whether it fits
+pub record Fitted : Type 0 where
+  pub order : List OrderKey
+  pub fits : Fits
 
-unfoldable pub plan_fits : List Expr → (ℕ → List ℕ) → Plan → Fits
-plan_fits lines cols = fold-Plan Fits (fits_layer lines cols)
+-- a node goes before its inputs: what it is, then their orders, then its own
+abbrev pub fitted_layer : List Expr → (ℕ → List ℕ) → Plan-F Fitted → Fitted
+fitted_layer lines cols p =
+    let orders = map (λ x. x.order) p.inputs in
+    record {
+      order = node_order p.node orders;
+      fits = λ ordered g n.
+          node_fits lines cols p.node (length p.inputs) g n
+          >>= λ classes. wanted_if (refusal n UnsortedInput) (are_sorted (needed_orders p.node) orders) classes
+          >>= λ classes. wanted_if (refusal n UnsortedAnswer) ordered classes
+          >>= λ classes. inputs_fit (map (λ x. x.fits) p.inputs) classes (n + 1);
+    }
+
+unfoldable pub fitted : List Expr → (ℕ → List ℕ) → Plan → Fitted
+fitted lines cols = fold-Plan Fitted (fitted_layer lines cols)
+
+abbrev pub plan_fits : List Expr → (ℕ → List ℕ) → Plan → Fits
+plan_fits lines cols plan = (fitted lines cols plan).fits
 
 -- ---- certificates
 
-unfoldable pub same_order : List OrderKey → List OrderKey → Bool
-same_order = same_by (coded_list order_key.the_row.coded)
-
 -- the order that the plan delivers begins with the ORDER BY
 abbrev pub is_delivered : Query → Plan → Bool
-is_delivered q plan = same_order (take (length (query_order q)) (delivered q.tables plan).order) (query_order q)
+is_delivered q plan = begins_with (plan_order plan) (query_order q)
 
 -- the frame's last class
 abbrev pub root : Query → ℕ

@@ -26,7 +26,7 @@ use Rattle.physical.specs.declared.plan.Plan.{Plan, roll-Plan, fold-roll-Plan, i
 use Rattle.physical.specs.declared.plan.Plan.TheOpen.{Plan-F}
 use Rattle.physical.specs.Sorts.{key_order, keys_order}
 use Rattle.physical.specs.Outputs.{Output, operator_columns, operator_rows, node_rows, output_layer, plan_output, output_rows, first, rest, no_classes, nested_loop_rows, first_columns, second_columns, node_columns}
-use Rattle.physical.specs.Orders.{IsOrdered, Delivered, front, first_order, operator_order, node_order, are_columns, operator_stands, node_stands, deliver_layer, delivered, PlansDeliver}
+use Rattle.physical.specs.Orders.{IsOrdered, front, first_order, operator_order, node_order, order_layer, plan_order, are_columns, operator_stands, node_stands, Shape, shape_layer, plan_shape, PlansDeliver}
 use Rattle.physical.proofs.Sorting.{Ascends, ascends-sorted}
 use Rattle.physical.proofs.SortedRows.{keys_total}
 use Rattle.physical.proofs.OrderedLists.{Alike, ascends-any, ascends-map, ascends-weaker, ascends-filter, ascends-distinct_on, ascends-laid_out}
@@ -139,26 +139,29 @@ pub record AreInOrder (columns : List ℕ) (keys : List OrderKey) (rows : Bag) :
   pub among : are_columns columns keys ≡ true
   pub ascends : (e : Env) → Ascends (keys_order keys) (rows e)
 
--- what is delivered is the output's
-pub record Delivers (d : Delivered) (p : Output) : Type 0 where
-  pub columns : d.columns ≡ p.columns
-  pub ordered : d.stands ≡ true → AreInOrder d.columns d.order p.rows
+-- a plan's shape is its output's, and its rows stand in its order
+pub record Delivers (s : Shape) (order : List OrderKey) (p : Output) : Type 0 where
+  pub columns : s.columns ≡ p.columns
+  pub ordered : s.stands ≡ true → AreInOrder s.columns order p.rows
 
 module _ (uses : List TableInstance) (D : Tables) where
   abbrev P : Plan → Type 0
-  P plan = Delivers (delivered uses plan) (plan_output uses D plan)
+  P plan = Delivers (plan_shape uses plan) (plan_order plan) (plan_output uses D plan)
 
   abbrev Part : Type 0
   Part = (plan : Plan) × P plan
 
-  abbrev deliveries : List Part → List Delivered
-  deliveries parts = map (delivered uses) (map (λ p. p.0) parts)
+  abbrev shapes_of : List Part → List Shape
+  shapes_of parts = map (plan_shape uses) (map (λ p. p.0) parts)
+
+  abbrev orders_of : List Part → List (List OrderKey)
+  orders_of parts = map plan_order (map (λ p. p.0) parts)
 
   abbrev columns_of : List Part → List (List ℕ)
-  columns_of parts = map (λ (x : Delivered). x.columns) (deliveries parts)
+  columns_of parts = map (λ (x : Shape). x.columns) (shapes_of parts)
 
   abbrev all_stand : List Part → Bool
-  all_stand parts = list_all (λ (x : Delivered). x.stands) (deliveries parts)
+  all_stand parts = list_all (λ (x : Shape). x.stands) (shapes_of parts)
 
   abbrev outputs_of : List Part → List Output
   outputs_of parts = map (plan_output uses D) (map (λ p. p.0) parts)
@@ -167,17 +170,17 @@ module _ (uses : List TableInstance) (D : Tables) where
   columns-same [] = refl
   columns-same (p ∷ parts) = two (λ K Ks. K ∷ Ks) p.1.columns (columns-same parts)
 
-  first-in-order : (parts : List Part) → all_stand parts ≡ true → AreInOrder (first_columns (columns_of parts)) (first_order (deliveries parts)) (first (outputs_of parts))
+  first-in-order : (parts : List Part) → all_stand parts ≡ true → AreInOrder (first_columns (columns_of parts)) (first_order (orders_of parts)) (first (outputs_of parts))
   first-in-order [] all = record { among = refl; ascends = λ e. tt }
   first-in-order (p ∷ parts) all = p.1.ordered (and_parts _ _ all).0
 
   -- a nested-loop join of sides that share no column
   join-in-order : (kind : JoinKind) (C : List Condition) (parts : List Part) → are_disjoint (first_columns (columns_of parts)) (second_columns (columns_of parts)) ≡ true → all_stand parts ≡ true
-      → AreInOrder (rising (first_columns (columns_of parts) ++ second_columns (columns_of parts))) (first_order (deliveries parts)) (operator_rows uses D (NestedLoopJoin kind C) (outputs_of parts))
+      → AreInOrder (rising (first_columns (columns_of parts) ++ second_columns (columns_of parts))) (first_order (orders_of parts)) (operator_rows uses D (NestedLoopJoin kind C) (outputs_of parts))
   join-in-order kind C parts apart all =
       let left : List ℕ = first_columns (columns_of parts) in
       let right : List ℕ = second_columns (columns_of parts) in
-      let keys : List OrderKey = first_order (deliveries parts) in
+      let keys : List OrderKey = first_order (orders_of parts) in
       let input = first-in-order parts all in
       let shown : front (λ c. not (has right c)) keys ≡ keys = front-all (λ c. not (has right c)) keys (all-among (has left) (λ c. not (has right c)) (λ c in_. passes (λ c. not (has right c)) left c apart in_) keys input.among) in
       record {
@@ -187,10 +190,10 @@ module _ (uses : List TableInstance) (D : Tables) where
             (ascends-nested_loop (second_columns (map (λ (x : Output). x.columns) (outputs_of parts))) keys kind (holds no_classes C) (first (outputs_of parts)) (first (rest (outputs_of parts))) e (input.ascends e)));
       }
 
-  distinct-in-order : (parts : List Part) → all_stand parts ≡ true → AreInOrder (first_columns (columns_of parts)) (first_order (deliveries parts)) (operator_rows uses D HashDistinct (outputs_of parts))
+  distinct-in-order : (parts : List Part) → all_stand parts ≡ true → AreInOrder (first_columns (columns_of parts)) (first_order (orders_of parts)) (operator_rows uses D HashDistinct (outputs_of parts))
   distinct-in-order parts all =
       let K : List ℕ = first_columns (map (λ (x : Output). x.columns) (outputs_of parts)) in
-      let keys : List OrderKey = first_order (deliveries parts) in
+      let keys : List OrderKey = first_order (orders_of parts) in
       let input = first-in-order parts all in
       let among : are_columns K keys ≡ true = subst (λ Ks. are_columns (first_columns Ks) keys ≡ true) (columns-same parts) input.among in
       record {
@@ -200,7 +203,7 @@ module _ (uses : List TableInstance) (D : Tables) where
       }
 
   in-order : (operator : Operator) (parts : List Part) → operator_stands operator (columns_of parts) ≡ true → all_stand parts ≡ true
-      → AreInOrder (operator_columns uses operator (columns_of parts)) (operator_order operator (deliveries parts)) (operator_rows uses D operator (outputs_of parts))
+      → AreInOrder (operator_columns uses operator (columns_of parts)) (operator_order operator (orders_of parts)) (operator_rows uses D operator (outputs_of parts))
   in-order (Scan o) parts stands all = record { among = refl; ascends = λ e. ascends-any (keys_order []) (λ a b. refl) _ }
   in-order (Filter C) parts stands all =
       let input = first-in-order parts all in
@@ -209,7 +212,7 @@ module _ (uses : List TableInstance) (D : Tables) where
       let input = first-in-order parts all in
       record { among = input.among; ascends = λ e. ascends-filter _ _ _ (input.ascends e) }
   in-order (Projection K) parts stands all = record {
-    among = front-among (has K) (first_order (deliveries parts));
+    among = front-among (has K) (first_order (orders_of parts));
     ascends = λ e. ascends-projection (has K) _ e _ ((first-in-order parts all).ascends e);
   }
   in-order (NestedLoopJoin kind C) parts stands all = join-in-order kind C parts stands all
@@ -217,23 +220,25 @@ module _ (uses : List TableInstance) (D : Tables) where
   in-order HashDistinct parts stands all = distinct-in-order parts all
 
   layer : (node : Node) (parts : List Part) → node_stands node (columns_of parts) ≡ true → all_stand parts ≡ true
-      → AreInOrder (node_columns uses node (columns_of parts)) (node_order node (deliveries parts)) (node_rows uses D node (outputs_of parts))
+      → AreInOrder (node_columns uses node (columns_of parts)) (node_order node (orders_of parts)) (node_rows uses D node (outputs_of parts))
   layer (Implements line operator) parts stands all = in-order operator parts stands all
   layer (Sort keys) parts stands all = record { among = stands; ascends = λ e. ascends-sorted (keys_order keys) (keys_total keys) (first (outputs_of parts) e) }
 
   step : (y : Plan-F Part) → P (roll-Plan (map-Plan Part Plan (λ p. p.0) y))
-  unfolding delivered plan_output
+  unfolding plan_shape plan_order plan_output
   step y =
       let z : Plan-F Plan = map-Plan Part Plan (λ p. p.0) y in
-      subst (λ d. Delivers d (plan_output uses D (roll-Plan z))) (sym (fold-roll-Plan Delivered (deliver_layer uses) z))
-      (subst (λ p. Delivers (deliver_layer uses (map-Plan Plan Delivered (delivered uses) z)) p) (sym (fold-roll-Plan Output (output_layer uses D) z))
+      let plan : Plan = roll-Plan z in
+      subst (λ s. Delivers s (plan_order plan) (plan_output uses D plan)) (sym (fold-roll-Plan Shape (shape_layer uses) z))
+      (subst (λ o. Delivers (shape_layer uses (map-Plan Plan Shape (plan_shape uses) z)) o (plan_output uses D plan)) (sym (fold-roll-Plan (List OrderKey) order_layer z))
+      (subst (λ p. Delivers (shape_layer uses (map-Plan Plan Shape (plan_shape uses) z)) (order_layer (map-Plan Plan (List OrderKey) plan_order z)) p) (sym (fold-roll-Plan Output (output_layer uses D) z))
       (record {
         columns = ap (node_columns uses y.node) (columns-same y.inputs);
         ordered = λ stands. let both = and_parts _ _ stands in layer y.node y.inputs both.0 both.1;
-      }))
+      })))
 
   pub delivers : (plan : Plan) → P plan
   delivers = ind-Plan P (λ x y is. subst (λ z. P (roll-Plan z)) is (step y))
 
 pub plans_deliver : PlansDeliver
-plans_deliver uses D plan e stands = ordered (delivered uses plan).order (output_rows uses D plan e) (((delivers uses D plan).ordered stands).ascends e)
+plans_deliver uses D plan e stands = ordered (plan_order plan) (output_rows uses D plan e) (((delivers uses D plan).ordered stands).ascends e)

@@ -27,24 +27,17 @@ IsOrdered keys (a ∷ b ∷ rows) = (is_gt (keys_order keys a b) ≡ false) × I
 
 -- ---- what is delivered
 
--- the columns of a plan's rows, the order in which they stand, and whether they do stand in it: no operator hides a column of
--- its left input, and each sort is by columns of its input
-pub record Delivered : Type 0 where
-  pub columns : List ℕ
-  pub order : List OrderKey
-  pub stands : Bool
-
 -- the keys before the first one whose column isn't in the set
 abbrev pub front : ColumnSet → List OrderKey → List OrderKey
 front K [] = []
 front K (k ∷ keys) = if K k.column then k ∷ front K keys else []
 
-abbrev pub first_order : List Delivered → List OrderKey
+abbrev pub first_order : List (List OrderKey) → List OrderKey
 first_order [] = []
-first_order (x ∷ inputs) = x.order
+first_order (order ∷ inputs) = order
 
--- the order that an operator delivers, given what its inputs do
-abbrev pub operator_order : Operator → List Delivered → List OrderKey
+-- the order that an operator delivers, given those that its inputs do
+abbrev pub operator_order : Operator → List (List OrderKey) → List OrderKey
 operator_order (Scan o) inputs = []
 operator_order (Filter C) inputs = first_order inputs
 operator_order (FilterSubqueries C) inputs = first_order inputs
@@ -53,14 +46,23 @@ operator_order (NestedLoopJoin kind C) inputs = first_order inputs
 operator_order (HashGroup K G) inputs = []
 operator_order HashDistinct inputs = first_order inputs
 
-abbrev pub node_order : Node → List Delivered → List OrderKey
+abbrev pub node_order : Node → List (List OrderKey) → List OrderKey
 node_order (Implements line operator) inputs = operator_order operator inputs
 node_order (Sort keys) inputs = keys
+
+abbrev pub order_layer : Plan-F (List OrderKey) → List OrderKey
+order_layer p = node_order p.node p.inputs
+
+unfoldable pub plan_order : Plan → List OrderKey
+plan_order = fold-Plan (List OrderKey) order_layer
+
+-- ---- whether rows stand in it
 
 -- the columns of the keys are among these
 abbrev pub are_columns : List ℕ → List OrderKey → Bool
 are_columns columns keys = list_all (λ k. has columns k.column) keys
 
+-- no join hides a column of its left side, and a sort is by columns of its input
 abbrev pub operator_stands : Operator → List (List ℕ) → Bool
 operator_stands (NestedLoopJoin kind C) inputs = are_disjoint (first_columns inputs) (second_columns inputs)
 operator_stands operator inputs = true
@@ -69,18 +71,19 @@ abbrev pub node_stands : Node → List (List ℕ) → Bool
 node_stands (Implements line operator) inputs = operator_stands operator inputs
 node_stands (Sort keys) inputs = are_columns (first_columns inputs) keys
 
-abbrev pub deliver_layer : List TableInstance → Plan-F Delivered → Delivered
-deliver_layer uses p =
+-- the columns of a plan's rows, and whether this is so of all its nodes
+pub record Shape : Type 0 where
+  pub columns : List ℕ
+  pub stands : Bool
+
+abbrev pub shape_layer : List TableInstance → Plan-F Shape → Shape
+shape_layer uses p =
     let columns = map (λ x. x.columns) p.inputs in
-    record {
-      columns = node_columns uses p.node columns;
-      order = node_order p.node p.inputs;
-      stands = node_stands p.node columns && list_all (λ x. x.stands) p.inputs;
-    }
+    record { columns = node_columns uses p.node columns; stands = node_stands p.node columns && list_all (λ x. x.stands) p.inputs }
 
-unfoldable pub delivered : List TableInstance → Plan → Delivered
-delivered uses = fold-Plan Delivered (deliver_layer uses)
+unfoldable pub plan_shape : List TableInstance → Plan → Shape
+plan_shape uses = fold-Plan Shape (shape_layer uses)
 
--- the rows of each plan whose order stands are in it, in every database and environment
+-- the rows of each plan of which this is so stand in the order that it delivers, in every database and environment
 abbrev pub PlansDeliver : Type 0
-PlansDeliver = (uses : List TableInstance) (D : Tables) (plan : Plan) (e : Env) → (delivered uses plan).stands ≡ true → IsOrdered (delivered uses plan).order (output_rows uses D plan e)
+PlansDeliver = (uses : List TableInstance) (D : Tables) (plan : Plan) (e : Env) → (plan_shape uses plan).stands ≡ true → IsOrdered (plan_order plan) (output_rows uses D plan e)

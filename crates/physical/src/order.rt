@@ -3,74 +3,10 @@
 ghost use Rattle.std.specs.Prelude.{◌≡◌, map, IfOk};
 ghost use Rattle.algebra.specs.Columns.{has};
 ghost use Rattle.physical.specs.Orders as spec;
-ghost use Rattle.physical.specs.Outputs as outputs;
 
 use crate::plan::{Node, Operator, OrderKey, Plan};
 use algebra::Columns;
-use query::{Query, TableInstance};
 use std::alloc::{AllocError, Global};
-
-// ---- columns
-
-/// The columns of a plan's rows.
-#[cycle(columns)]
-fn columns(alloc: Global, uses: &[TableInstance], plan: &Plan) -> Result<Columns, AllocError>
-    ensures { IfOk result (λ columns. columns ≡ (spec.delivered uses.now plan.now).columns) }
-{
-    let inputs = plan.inputs.as_slice();
-    match &plan.node {
-        Node::Implements { operator, .. } => operator_columns(alloc, uses, operator, inputs),
-        Node::Sort { .. } => first_columns(alloc, uses, inputs),
-    }
-}
-
-/// The columns of an operator's rows.
-#[cycle(columns)]
-fn operator_columns(
-    alloc: Global,
-    uses: &[TableInstance],
-    operator: &Operator,
-    inputs: &[Plan],
-) -> Result<Columns, AllocError>
-    ensures { IfOk result (λ columns. columns ≡ outputs.operator_columns uses.now operator.now (map (λ p. (spec.delivered uses.now p).columns) inputs.now)) }
-{
-    match operator {
-        Operator::Scan { occurrence } => Columns::of_occurrence(alloc, uses, *occurrence),
-        Operator::Filter { .. } => first_columns(alloc, uses, inputs),
-        Operator::FilterSubqueries { .. } => first_columns(alloc, uses, inputs),
-        Operator::Projection { columns } => columns.copy(alloc),
-        Operator::NestedLoopJoin { .. } => {
-            let left = first_columns(alloc, uses, inputs)?;
-            left.union(alloc, &second_columns(alloc, uses, inputs)?)
-        }
-        Operator::HashGroup { keys, added } => Columns::of_groups(alloc, keys, added.as_slice()),
-        Operator::HashDistinct => first_columns(alloc, uses, inputs),
-    }
-}
-
-/// The columns of the first input.
-#[cycle(columns)]
-fn first_columns(alloc: Global, uses: &[TableInstance], inputs: &[Plan]) -> Result<Columns, AllocError>
-    ensures { IfOk result (λ columns. columns ≡ outputs.first_columns (map (λ p. (spec.delivered uses.now p).columns) inputs.now)) }
-{
-    match inputs.first() {
-        Some(plan) => columns(alloc, uses, plan),
-        None => Ok(Columns::from_vec(Vec::new(alloc))),
-    }
-}
-
-/// The columns of the second input.
-#[cycle(columns)]
-fn second_columns(alloc: Global, uses: &[TableInstance], inputs: &[Plan]) -> Result<Columns, AllocError>
-    ensures { IfOk result (λ columns. columns ≡ outputs.second_columns (map (λ p. (spec.delivered uses.now p).columns) inputs.now)) }
-{
-    match inputs.get(1) {
-        Some(plan) => columns(alloc, uses, plan),
-        None => Ok(Columns::from_vec(Vec::new(alloc))),
-    }
-}
-
-// ---- orders
 
 /// The keys before the first one whose column isn't in the set.
 fn front(alloc: Global, order: &[OrderKey], columns: &Columns) -> Result<Vec<OrderKey>, AllocError>
@@ -86,14 +22,14 @@ fn front(alloc: Global, order: &[OrderKey], columns: &Columns) -> Result<Vec<Ord
     Ok(keys)
 }
 
-/// The order that a plan with these table instances delivers.
+/// The order that a plan delivers.
 #[cycle(orders)]
-fn order(alloc: Global, uses: &[TableInstance], plan: &Plan) -> Result<Vec<OrderKey>, AllocError>
-    ensures { IfOk result (λ order. order.items ≡ (spec.delivered uses.now plan.now).order) }
+pub fn delivers(alloc: Global, plan: &Plan) -> Result<Vec<OrderKey>, AllocError>
+    ensures { IfOk result (λ order. order.items ≡ spec.plan_order plan.now) }
 {
     let inputs = plan.inputs.as_slice();
     match &plan.node {
-        Node::Implements { operator, .. } => operator_order(alloc, uses, operator, inputs),
+        Node::Implements { operator, .. } => operator_order(alloc, operator, inputs),
         Node::Sort { keys } => {
             let mut order = Vec::new(alloc);
             order.extend_from_slice(keys.as_slice())?;
@@ -106,43 +42,31 @@ fn order(alloc: Global, uses: &[TableInstance], plan: &Plan) -> Result<Vec<Order
 #[cycle(orders)]
 fn operator_order(
     alloc: Global,
-    uses: &[TableInstance],
     operator: &Operator,
     inputs: &[Plan],
 ) -> Result<Vec<OrderKey>, AllocError>
-    ensures { IfOk result (λ order. order.items ≡ spec.operator_order operator.now (map (spec.delivered uses.now) inputs.now)) }
+    ensures { IfOk result (λ order. order.items ≡ spec.operator_order operator.now (map spec.plan_order inputs.now)) }
 {
     match operator {
         Operator::Scan { .. } | Operator::HashGroup { .. } => Ok(Vec::new(alloc)),
-        Operator::Filter { .. } => first_order(alloc, uses, inputs),
-        Operator::FilterSubqueries { .. } => first_order(alloc, uses, inputs),
+        Operator::Filter { .. } => first_order(alloc, inputs),
+        Operator::FilterSubqueries { .. } => first_order(alloc, inputs),
         Operator::Projection { columns } => {
-            let order = first_order(alloc, uses, inputs)?;
+            let order = first_order(alloc, inputs)?;
             front(alloc, order.as_slice(), columns)
         }
-        Operator::NestedLoopJoin { .. } => first_order(alloc, uses, inputs),
-        Operator::HashDistinct => first_order(alloc, uses, inputs),
+        Operator::NestedLoopJoin { .. } => first_order(alloc, inputs),
+        Operator::HashDistinct => first_order(alloc, inputs),
     }
 }
 
 /// The order of the first input.
 #[cycle(orders)]
-fn first_order(
-    alloc: Global,
-    uses: &[TableInstance],
-    inputs: &[Plan],
-) -> Result<Vec<OrderKey>, AllocError>
-    ensures { IfOk result (λ order. order.items ≡ spec.first_order (map (spec.delivered uses.now) inputs.now)) }
+fn first_order(alloc: Global, inputs: &[Plan]) -> Result<Vec<OrderKey>, AllocError>
+    ensures { IfOk result (λ order. order.items ≡ spec.first_order (map spec.plan_order inputs.now)) }
 {
     match inputs.first() {
-        Some(plan) => order(alloc, uses, plan),
+        Some(plan) => delivers(alloc, plan),
         None => Ok(Vec::new(alloc)),
     }
-}
-
-/// The order that a plan of the query delivers.
-pub fn delivers(alloc: Global, query: &Query, plan: &Plan) -> Result<Vec<OrderKey>, AllocError>
-    ensures { IfOk result (λ order. order.items ≡ (spec.delivered query.now.tables plan.now).order) }
-{
-    order(alloc, query.tables.as_slice(), plan)
 }

@@ -26,7 +26,7 @@ fn push_delivered(
     plan: &str,
 ) -> Result<(), AllocError> {
     match &plan_over(alloc, query, plan)? {
-        Some(plan) => push_keys(reported, delivers(alloc, query, plan)?.as_slice()),
+        Some(plan) => push_keys(reported, delivers(alloc, plan)?.as_slice()),
         None => reported.push_str(" no plan"),
     }
 }

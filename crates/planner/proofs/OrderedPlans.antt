@@ -14,7 +14,7 @@ use Rattle.physical.specs.declared.plan.OrderKey.{OrderKey}
 use Rattle.physical.specs.contracts.plan.OrderKey as order_key
 use Rattle.physical.specs.declared.plan.Node.TheVariants.{Sort}
 use Rattle.physical.specs.declared.plan.Plan.{Plan, out-roll-Plan, fold-roll-Plan}
-use Rattle.physical.specs.Orders.{Delivered, deliver_layer, delivered}
+use Rattle.physical.specs.Orders.{order_layer, plan_order}
 use Rattle.derivation.specs.QueryOrders.{ordered_column, ordered_columns, query_order}
 use Rattle.derivation.specs.Replay.{plan_fits, same_order, is_delivered}
 use Rattle.derivation.proofs.Fits.{plan_fits_out}
@@ -43,17 +43,17 @@ unfolding same_order
 same-order keys = sym (tested (coded_list order_key.the_row.coded) true keys keys (λ _. refl, λ _. refl))
 
 -- a sort delivers its keys
-sort_delivers : (q : Query) (k : OrderKey) (keys : List OrderKey) (plan : Plan) → (delivered q.tables (top (k ∷ keys) plan)).order ≡ k ∷ keys
-unfolding delivered
-sort_delivers q k keys plan = ap (λ d. d.order) (fold-roll-Plan Delivered (deliver_layer q.tables) (record { node = Sort (k ∷ keys); inputs = plan ∷ [] }))
+sort_delivers : (k : OrderKey) (keys : List OrderKey) (plan : Plan) → plan_order (top (k ∷ keys) plan) ≡ k ∷ keys
+unfolding plan_order
+sort_delivers k keys plan = fold-roll-Plan (List OrderKey) order_layer (record { node = Sort (k ∷ keys); inputs = plan ∷ [] })
 
 -- no keys are delivered by any plan
 pub top_delivered : (q : Query) (plan : Plan) → is_delivered q (top (query_order q) plan) ≡ true
 top_delivered q plan = by (query_order q)
   where
-    by : (keys : List OrderKey) → same_order (take (length keys) (delivered q.tables (top keys plan)).order) keys ≡ true
+    by : (keys : List OrderKey) → same_order (take (length keys) (plan_order (top keys plan))) keys ≡ true
     by [] = same-order []
-    by (k ∷ keys) = rw (sort_delivers q k keys plan, take-length (k ∷ keys)) (same-order (k ∷ keys))
+    by (k ∷ keys) = rw (sort_delivers k keys plan, take-length (k ∷ keys)) (same-order (k ∷ keys))
 
 -- the sort is of the class of the plan below
 pub top_fits : (lines : List Expr) (cols : ℕ → List ℕ) (keys : List OrderKey) (plan : Plan) (g n : ℕ) → IsPlanOf lines g plan → AreColumns (cols g) keys
