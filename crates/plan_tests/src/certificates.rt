@@ -143,6 +143,8 @@ SELECT id FROM emp WHERE pay <> 500 => scan 0 0 | cut 2: 0 => K06 line 4
 SELECT id FROM emp WHERE pay <> 500 => scan 0 0 | filter 1 => K06 line 3
 SELECT id FROM emp WHERE pay <> 500 => scan 7 0 | filter 1 | cut 2: 0 => K01 line 5
 SELECT DISTINCT badge FROM emp ORDER BY badge DESC => scan 0 0 | cut 1: 3 | distinct 2 => K08 line 3
+SELECT DISTINCT badge FROM emp ORDER BY badge DESC => scan 0 0 | cut 1: 2 | sort: 3d | distinct 2 => K06 line 5
+SELECT DISTINCT badge FROM emp ORDER BY badge DESC => scan 0 0 | cut 1: 3 | sort: 3d | distinct 2 => accepted
 SELECT DISTINCT badge FROM emp ORDER BY badge DESC => scan 0 0 | cut 1: 3 | distinct 2 | sort: 3 => K08 line 3
 SELECT DISTINCT badge FROM emp ORDER BY badge DESC => scan 0 0 | cut 1: 3 | distinct 2 | sort: 3d => accepted
 SELECT DISTINCT badge FROM emp ORDER BY badge DESC => scan 0 0 | cut 1: 3 | distinct 2 | sort: 2d => K04 line 3

@@ -60,7 +60,7 @@ SELECT x.boss, x.id FROM dept x, dept y => scan 0 0 | sort: 1d 0 | filter 0 => o
 SELECT x.boss, x.id FROM dept x, dept y => scan 0 0 | sort: 1d 0 | cut 0: 1 => order 1d
 SELECT x.boss, x.id FROM dept x, dept y => scan 0 0 | sort: 1d 0 | cut 0: 0 => order
 SELECT x.boss, x.id FROM dept x, dept y => scan 0 0 | sort: 1d 0 | scan 0 1 | left 2 => order 1d 0
-SELECT x.boss, x.id FROM dept x, dept y => scan 0 0 | sort: 1d 2 | scan 0 1 | loop 2 => order 1d
+SELECT x.boss, x.id FROM dept x, dept y => scan 0 0 | sort: 1d 2 | scan 0 1 | loop 2 => order 1d 2
 SELECT x.boss, x.id FROM dept x, dept y => scan 0 0 | sort: 1d 0 | cut 0: 1 | distinct 0 => order 1d
 SELECT x.boss, x.id FROM dept x, dept y => scan 0 0 | sort: 1d 0 | group 0 => order
 SELECT boss, id FROM dept ORDER BY id DESC, boss => order 0d 1";
