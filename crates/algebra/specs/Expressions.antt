@@ -136,11 +136,11 @@ input_classes (Distinct x) = x ∷ []
 input_classes (Group K G x) = x ∷ []
 
 -- a column of the query: of a table instance, or of an aggregate of its own
-abbrev pub is_own : List TableInstance → List Aggregation → ColumnSet
-is_own uses own c = list_any (λ t. has (use_columns t) c) uses || list_any (λ a. a.column == c) own
+abbrev pub is_query_column : List TableInstance → List Aggregation → ColumnSet
+is_query_column uses own c = list_any (λ t. has (use_columns t) c) uses || list_any (λ a. a.column == c) own
 
 abbrev pub names_own : List TableInstance → List Aggregation → List Condition → Bool
-names_own uses own C = list_all (λ d. all_columns d (is_own uses own)) C
+names_own uses own C = list_all (λ d. all_columns d (is_query_column uses own)) C
 
 -- the conditions name no class
 abbrev pub is_plain : List Condition → Bool

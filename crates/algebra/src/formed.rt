@@ -22,8 +22,8 @@ fn is_in_table(table: &TableInstance, column: usize) -> bool
 }
 
 /// Whether the column is one of the query's: of a table instance, or of an aggregate of its own.
-fn is_own(uses: &[TableInstance], own: &[Aggregation], column: usize) -> bool
-    ensures { result ≡ spec.is_own uses.now own.now column }
+fn is_query_column(uses: &[TableInstance], own: &[Aggregation], column: usize) -> bool
+    ensures { result ≡ spec.is_query_column uses.now own.now column }
 {
     is_in_tables(uses, column) || is_added(own, column)
 }
@@ -44,10 +44,10 @@ fn is_added(added: &[Aggregation], column: usize) -> bool
 
 /// Whether the column of a term, if it has one, is one of the query's.
 fn term_names_own(term: &Term, uses: &[TableInstance], own: &[Aggregation]) -> bool
-    ensures { result ≡ reads.term_passes (spec.is_own uses.now own.now) term.now }
+    ensures { result ≡ reads.term_passes (spec.is_query_column uses.now own.now) term.now }
 {
     match term {
-        Term::Column(k) => is_own(uses, own, *k),
+        Term::Column(k) => is_query_column(uses, own, *k),
         Term::Literal(_) => true,
     }
 }
@@ -56,7 +56,7 @@ fn term_names_own(term: &Term, uses: &[TableInstance], own: &[Aggregation]) -> b
 #[cycle(own)]
 #[tactic(auto, using(crate::proofs::Equations::all_columns_and, crate::proofs::Equations::all_columns_or), unfolding(crate::specs::Conditions::all_columns))]
 fn names_own(condition: &Condition, uses: &[TableInstance], own: &[Aggregation]) -> bool
-    ensures { result ≡ reads.all_columns condition.now (spec.is_own uses.now own.now) }
+    ensures { result ≡ reads.all_columns condition.now (spec.is_query_column uses.now own.now) }
 {
     match condition {
         Condition::Compare(_, a, b) => term_names_own(a, uses, own) && term_names_own(b, uses, own),
@@ -65,7 +65,7 @@ fn names_own(condition: &Condition, uses: &[TableInstance], own: &[Aggregation])
         Condition::And(cs) => all_name_own(cs.as_slice(), uses, own),
         Condition::Or(cs) => all_name_own(cs.as_slice(), uses, own),
         Condition::Exists(_) => true,
-        Condition::In(a, _, k) => term_names_own(a, uses, own) && is_own(uses, own, *k),
+        Condition::In(a, _, k) => term_names_own(a, uses, own) && is_query_column(uses, own, *k),
     }
 }
 

@@ -86,7 +86,7 @@ fn order_over(
 }
 
 /// The keys. A later one over a column that is a key already is dropped.
-pub fn order(
+pub fn order_by(
     alloc: Global,
     keys: &[OrderKey],
     scope: &Scope<'_>,

@@ -6,7 +6,7 @@ ghost use Rattle.binder.specs.Queries as spec;
 
 use crate::extent::of_select;
 use crate::fault::{BindFault, BindReason, refused};
-use crate::ordering::order;
+use crate::ordering::order_by;
 use crate::output::Output;
 use crate::scope::Scopes;
 use crate::selects::select;
@@ -52,7 +52,7 @@ pub fn bind_statement(
     let outermost = Scopes::Outermost;
     let bound = select(alloc, schema, &statement.select, &outermost, &mut numbered)?;
     let keys = statement.order.as_slice();
-    let order = order(alloc, keys, &bound.scope, bound.outputs.as_slice())?;
+    let order = order_by(alloc, keys, &bound.scope, bound.outputs.as_slice())?;
     if numbered.next_aggregate > MAX_COLUMNS {
         return Err(refused(BindReason::TooLarge, 0));
     }

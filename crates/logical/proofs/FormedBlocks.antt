@@ -20,7 +20,7 @@ use Rattle.algebra.specs.declared.expr.Expr.TheVariants.{Group}
 use Rattle.algebra.specs.Columns.{has, is_subset, rising}
 use Rattle.algebra.specs.Conditions.{all_classes, all_columns}
 use Rattle.algebra.specs.Equality.{same_aggregation}
-use Rattle.algebra.specs.Expressions.{is_own, is_formed, aggregate_reads, aggregate_columns, aggregation_formed, are_different}
+use Rattle.algebra.specs.Expressions.{is_query_column, is_formed, aggregate_reads, aggregate_columns, aggregation_formed, are_different}
 use Rattle.algebra.specs.Classes.{class_columns, AreFormed}
 use Rattle.logical.specs.Frames as frame
 use Rattle.logical.specs.Frames.{CondLines, BlockFrame, cond_frame, from_frame, where_lines, group_lines, keep_lines, distinct_lines, key_columns, aggregations, numbered_aggregate, item_number, own_numbers, kept, last}
@@ -98,12 +98,12 @@ group-names numbers keys scope c below h = from (c.level == 0) refl h
     from false is h = h
 
 -- what holds of each of the block's own items holds of their numbers
-kept-all : (p : ℕ → Bool) (scope : Scope) (items : List Item) → AllByRecursion (λ i. frame.is_own i ≡ true → p (item_number scope i) ≡ true) items → list_all p (kept scope items) ≡ true
+kept-all : (p : ℕ → Bool) (scope : Scope) (items : List Item) → AllByRecursion (λ i. frame.is_block_item i ≡ true → p (item_number scope i) ≡ true) items → list_all p (kept scope items) ≡ true
 kept-all p scope items all = all-rising p (own_numbers scope items) ∙ listed items all
   where
-    listed : (its : List Item) → AllByRecursion (λ i. frame.is_own i ≡ true → p (item_number scope i) ≡ true) its → list_all p (own_numbers scope its) ≡ true
+    listed : (its : List Item) → AllByRecursion (λ i. frame.is_block_item i ≡ true → p (item_number scope i) ≡ true) its → list_all p (own_numbers scope its) ≡ true
     listed [] all = refl
-    listed (i ∷ its) all = cond_both (frame.is_own i) _ _ (λ ks. list_all p ks ≡ true) (λ is. and_from _ _ (all.0 is) (listed its all.1)) (λ isnt. listed its all.1)
+    listed (i ∷ its) all = cond_both (frame.is_block_item i) _ _ (λ ks. list_all p ks ≡ true) (λ is. and_from _ _ (all.0 is) (listed its all.1)) (λ isnt. listed its all.1)
 
 module _ (uses : List TableInstance) (own : List Aggregation) where
   -- ---- WHERE
@@ -119,7 +119,7 @@ module _ (uses : List TableInstance) (own : List Aggregation) where
       let longer : length A ≤ length framed.lines = grows-longer framed.lines A shape.grows in
       let p : ℕ → Bool = λ g. nat_lt g (length framed.lines) in (
         and_from _ _ (lt-ltb _ _ (omega (arith, below, longer))) (in_order-all (λ d. all_classes d p) framed.conjuncts ∙ shape.conjuncts p (λ g low lt. lt-ltb _ _ lt)),
-        in_order-all (λ d. all_columns d (is_own uses own)) framed.conjuncts ∙ test.conjuncts,
+        in_order-all (λ d. all_columns d (is_query_column uses own)) framed.conjuncts ∙ test.conjuncts,
         test.lines,
       )
 
@@ -164,7 +164,7 @@ module _ (uses : List TableInstance) (own : List Aggregation) where
 
     -- ---- what is kept
 
-    plain-kept : (items : List Item) → list_all (bound_item (numbers ∷ scope)) items ≡ true → AllByRecursion (λ i. frame.is_own i ≡ true → has cols (item_number (numbers ∷ scope) i) ≡ true) items
+    plain-kept : (items : List Item) → list_all (bound_item (numbers ∷ scope)) items ≡ true → AllByRecursion (λ i. frame.is_block_item i ≡ true → has cols (item_number (numbers ∷ scope) i) ≡ true) items
     plain-kept [] bound = tt
     plain-kept (item.Column c ∷ items) bound =
         let parts = and_parts (names (numbers ∷ scope) c) _ bound in
@@ -181,7 +181,7 @@ module _ (uses : List TableInstance) (own : List Aggregation) where
         ∙ rw (has-rising c (map (number_at numbers) keys), columns-are numbers items) refl
 
     group-kept : (keys : List ℕ) (items its : List Item) → AllByRecursion (HasNumber items) its → list_all (bound_group_item (length numbers) keys (numbers ∷ scope)) its ≡ true
-        → AllByRecursion (λ i. frame.is_own i ≡ true → has (grouped keys items) (item_number (numbers ∷ scope) i) ≡ true) its
+        → AllByRecursion (λ i. frame.is_block_item i ≡ true → has (grouped keys items) (item_number (numbers ∷ scope) i) ≡ true) its
     group-kept keys items [] have bound = tt
     group-kept keys items (item.Column c ∷ its) have bound =
         let parts = and_parts (bound_group_item (length numbers) keys (numbers ∷ scope) (item.Column c)) _ bound in (
@@ -194,7 +194,7 @@ module _ (uses : List TableInstance) (own : List Aggregation) where
 
     -- ---- the last lines
 
-    keep-formed : (items : List Item) (G : List Expr) → 0 < length G → AreFormed uses own G → AllByRecursion (λ i. frame.is_own i ≡ true → has (class_columns uses G (last G)) (item_number (numbers ∷ scope) i) ≡ true) items
+    keep-formed : (items : List Item) (G : List Expr) → 0 < length G → AreFormed uses own G → AllByRecursion (λ i. frame.is_block_item i ≡ true → has (class_columns uses G (last G)) (item_number (numbers ∷ scope) i) ≡ true) items
         → AreFormed uses own (keep_lines (numbers ∷ scope) items G)
     keep-formed items G some formed all = (lt-ltb _ _ (last-below G some), kept-all (has (class_columns uses G (last G))) (numbers ∷ scope) items all, formed)
 
@@ -214,20 +214,20 @@ module _ (uses : List TableInstance) (own : List Aggregation) where
         let parts = and_parts (list_all (λ k. nat_lt k (length numbers)) keys) _ bound in
         let top : Expr = Group (key_columns numbers keys) (aggregations numbers items) (last B) in
         let among : among_own uses own (aggregations numbers items) ≡ true = (without-distinct twice (keep_lines (numbers ∷ scope) items (top ∷ B)) groups).1.0 in
-        let kept_columns : AllByRecursion (λ i. frame.is_own i ≡ true → has (class_columns uses (top ∷ B) (length B)) (item_number (numbers ∷ scope) i) ≡ true) items =
-        subst (λ cs. AllByRecursion (λ i. frame.is_own i ≡ true → has cs (item_number (numbers ∷ scope) i) ≡ true) items) (sym (top-columns uses top B)) (group-kept keys items items (have-numbers items) parts.1) in
+        let kept_columns : AllByRecursion (λ i. frame.is_block_item i ≡ true → has (class_columns uses (top ∷ B) (length B)) (item_number (numbers ∷ scope) i) ≡ true) items =
+        subst (λ cs. AllByRecursion (λ i. frame.is_block_item i ≡ true → has cs (item_number (numbers ∷ scope) i) ≡ true) items) (sym (top-columns uses top B)) (group-kept keys items items (have-numbers items) parts.1) in
         distinct-formed twice (keep_lines (numbers ∷ scope) items (top ∷ B)) (omega arith)
         (keep-formed items (top ∷ B) (omega arith) (lt-ltb _ _ (last-below B some), group-formed keys items parts.0 differ parts.1 among, formed) kept_columns)
 
   -- ---- what is shown
 
-  plain-shown : (inner : Scope) → AllOwn uses own inner → (items : List Item) → list_all (bound_item inner) items ≡ true → list_all (is_own uses own) (map (item_number inner) items) ≡ true
+  plain-shown : (inner : Scope) → AllOwn uses own inner → (items : List Item) → list_all (bound_item inner) items ≡ true → list_all (is_query_column uses own) (map (item_number inner) items) ≡ true
   plain-shown inner all [] bound = refl
   plain-shown inner all (item.Column c ∷ items) bound = let parts = and_parts (names inner c) _ bound in and_from _ _ (number-own uses own inner all c parts.0) (plain-shown inner all items parts.1)
   plain-shown inner all (item.Aggregate n a ∷ items) bound = absurd (never bound)
 
   group-shown : (numbers keys : List ℕ) (scope : Scope) → AllOwn uses own (numbers ∷ scope) → list_all (λ k. nat_lt k (length numbers)) keys ≡ true → (items : List Item)
-      → list_all (bound_group_item (length numbers) keys (numbers ∷ scope)) items ≡ true → among_own uses own (aggregations numbers items) ≡ true → list_all (is_own uses own) (map (item_number (numbers ∷ scope)) items) ≡ true
+      → list_all (bound_group_item (length numbers) keys (numbers ∷ scope)) items ≡ true → among_own uses own (aggregations numbers items) ≡ true → list_all (is_query_column uses own) (map (item_number (numbers ∷ scope)) items) ≡ true
   group-shown numbers keys scope all below [] bound among = refl
   group-shown numbers keys scope all below (item.Column c ∷ items) bound among =
       let parts = and_parts (bound_group_item (length numbers) keys (numbers ∷ scope) (item.Column c)) _ bound in
@@ -238,7 +238,7 @@ module _ (uses : List TableInstance) (own : List Aggregation) where
       and_from _ _ (or_right _ _ (aggregate-own own a_own listed.0)) (group-shown numbers keys scope all below items (and_parts (bound_aggregate (length numbers) a) _ bound).1 listed.1)
 
   end-shown : (twice is_grouped : Bool) (numbers keys : List ℕ) (scope : Scope) (items : List Item) (B : List Expr) → AllOwn uses own (numbers ∷ scope) → bound_items is_grouped (length numbers) keys items (numbers ∷ scope) ≡ true
-      → GroupsOwn uses own (distinct_lines twice (keep_lines (numbers ∷ scope) items (group_lines is_grouped numbers keys items B))) → list_all (is_own uses own) (map (item_number (numbers ∷ scope)) items) ≡ true
+      → GroupsOwn uses own (distinct_lines twice (keep_lines (numbers ∷ scope) items (group_lines is_grouped numbers keys items B))) → list_all (is_query_column uses own) (map (item_number (numbers ∷ scope)) items) ≡ true
   end-shown twice false numbers keys scope items B all bound groups = plain-shown (numbers ∷ scope) all items bound
   end-shown false true numbers keys scope items B all bound groups = let parts = and_parts (list_all (λ k. nat_lt k (length numbers)) keys) _ bound in group-shown numbers keys scope all parts.0 items parts.1 groups.1.0
   end-shown true true numbers keys scope items B all bound groups = let parts = and_parts (list_all (λ k. nat_lt k (length numbers)) keys) _ bound in group-shown numbers keys scope all parts.0 items parts.1 groups.1.1.0

@@ -16,7 +16,7 @@ use Rattle.algebra.specs.declared.expr.Expr.{Expr}
 use Rattle.algebra.specs.declared.expr.Expr.TheVariants.{Get, Join, LeftJoin}
 use Rattle.algebra.specs.Columns.{has, are_disjoint}
 use Rattle.algebra.specs.Conditions.{all_classes, all_columns}
-use Rattle.algebra.specs.Expressions.{classes_pass, is_formed, is_own, is_plain, joins_formed, names_own, subqueries_pass}
+use Rattle.algebra.specs.Expressions.{classes_pass, is_formed, is_query_column, is_plain, joins_formed, names_own, subqueries_pass}
 use Rattle.algebra.specs.Classes.{class_columns, AreFormed}
 use Rattle.algebra.specs.ConjunctOrder.{in_order}
 use Rattle.logical.specs.Frames.{CondLines, FromFrame, cond_frame, from_frame, join_frame, last}
@@ -81,7 +81,7 @@ module _ (uses : List TableInstance) (own : List Aggregation) where
         in_order-all (λ d. all_classes d (λ g. nat_lt g (length framed.lines))) framed.conjuncts ∙ sides.test.conjuncts (λ g. nat_lt g (length framed.lines)) (λ g low lt. lt-ltb _ _ lt) in
         let plain : is_plain C ≡ true =
         in_order-all (λ d. all_classes d (λ g. false)) framed.conjuncts ∙ sides.test.conjuncts (λ g. false) (λ g low lt. absurd (let none : length framed.lines ≡ length lines = ap length same in omega (arith, low, lt, none))) in
-        let own_columns : names_own uses own C ≡ true = in_order-all (λ d. all_columns d (is_own uses own)) framed.conjuncts ∙ test.conjuncts in (
+        let own_columns : names_own uses own C ≡ true = in_order-all (λ d. all_columns d (is_query_column uses own)) framed.conjuncts ∙ test.conjuncts in (
           names (λ g. nat_lt g (length framed.lines)) C (last A) (length A) ∙ all-three _ _ _ (lt-ltb (last A) (length framed.lines) (omega (arith, below, longer))) (lt-ltb (length A) (length framed.lines) (omega (arith, longer))) earlier,
           needs cols C (last A) (length A) ∙ all-three _ _ _ own_columns plain (sides-disjoint (cols (last A)) (cols (length A)) ks ls sides.left_columns sides.right_columns (differ-disjoint ks ls differ)),
           test.lines,

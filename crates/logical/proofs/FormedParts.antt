@@ -17,7 +17,7 @@ use Rattle.algebra.specs.declared.expr.Expr.{Expr}
 use Rattle.algebra.specs.Columns.{has}
 use Rattle.algebra.specs.Conditions.{all_columns, term_passes}
 use Rattle.algebra.specs.Equality.{same_aggregation}
-use Rattle.algebra.specs.Expressions.{is_own, names_own}
+use Rattle.algebra.specs.Expressions.{is_query_column, names_own}
 use Rattle.logical.specs.FormedFrames.{group_aggregates}
 use Rattle.logical.specs.Frames.{CondLines, AllLines, BlockFrame, cond_frame, from_frame, block_frame, numbered}
 use Rattle.logical.proofs.FrameGroups.{place-has}
@@ -32,7 +32,7 @@ module _ (uses : List TableInstance) (own : List Aggregation) where
 
   -- the columns are the query's own
   abbrev pub AreOwn : List ℕ → Type 0
-  AreOwn numbers = (c : ℕ) → has numbers c ≡ true → is_own uses own c ≡ true
+  AreOwn numbers = (c : ℕ) → has numbers c ≡ true → is_query_column uses own c ≡ true
 
   -- so are those of all rows around
   abbrev pub AllOwn : Scope → Type 0
@@ -59,10 +59,10 @@ module _ (uses : List TableInstance) (own : List Aggregation) where
   level-own (ks ∷ scope) all (suc l) c h = level-own scope all.1 l c h
 
   -- a column that the scope has is the query's own
-  pub number-own : (scope : Scope) → AllOwn scope → (c : Column) → names scope c ≡ true → is_own uses own (number scope c) ≡ true
+  pub number-own : (scope : Scope) → AllOwn scope → (c : Column) → names scope c ≡ true → is_query_column uses own (number scope c) ≡ true
   number-own scope all c there = level-own scope all c.level (number scope c) (place-has (slice_index_or scope c.level []) c.place (ltb-true _ _ there))
 
-  pub term-own : (scope : Scope) → AllOwn scope → (a : Term) → bound_term scope a ≡ true → term_passes (is_own uses own) (numbered scope a) ≡ true
+  pub term-own : (scope : Scope) → AllOwn scope → (a : Term) → bound_term scope a ≡ true → term_passes (is_query_column uses own) (numbered scope a) ≡ true
   term-own scope all (read.Column c) there = and_from _ _ (number-own scope all c there) refl
   term-own scope all (read.Literal v) there = refl
 
@@ -71,7 +71,7 @@ module _ (uses : List TableInstance) (own : List Aggregation) where
   -- of a condition: its lines are well formed, and it names the query's own columns
   pub record FormedCond (f : CondLines) : Type 0 where
     pub lines : AreFormed uses own f.lines
-    pub named : all_columns f.condition (is_own uses own) ≡ true
+    pub named : all_columns f.condition (is_query_column uses own) ≡ true
     pub conjuncts : names_own uses own f.conjuncts ≡ true
 
   pub record FormedAll (f : AllLines) : Type 0 where
@@ -82,7 +82,7 @@ module _ (uses : List TableInstance) (own : List Aggregation) where
   -- of a block: it shows the query's own columns
   pub record FormedBlock (f : BlockFrame) (scope : Scope) (E : List Expr) : Type 0 where
     pub lines : AreFormed uses own (f.lines scope E)
-    pub shown : list_all (is_own uses own) (f.shown scope) ≡ true
+    pub shown : list_all (is_query_column uses own) (f.shown scope) ≡ true
 
   abbrev pub CondFormed : Cond → Type 0
   CondFormed c = (scope : Scope) (E : List Expr) → AllOwn scope → AreFormed uses own E → (cond_scope uses c).bound scope ≡ true → GroupsOwn (cond_frame uses c scope E).lines → FormedCond (cond_frame uses c scope E)

@@ -94,12 +94,12 @@ names-own numbers c there = by c.level there
     by zero there = refl
     by (suc l) there = absurd (let below : c.place < 0 = ltb-true _ _ there in omega (arith, below))
 
-plain-own : (numbers : List ℕ) (items : List Item) → list_all (bound_item (numbers ∷ [])) items ≡ true → AllByRecursion (λ i. frame.is_own i ≡ true) items
+plain-own : (numbers : List ℕ) (items : List Item) → list_all (bound_item (numbers ∷ [])) items ≡ true → AllByRecursion (λ i. frame.is_block_item i ≡ true) items
 plain-own numbers [] bound = tt
 plain-own numbers (item.Column c ∷ items) bound = let parts = and_parts (names (numbers ∷ []) c) _ bound in (names-own numbers c parts.0, plain-own numbers items parts.1)
 plain-own numbers (item.Aggregate n a ∷ items) bound = absurd (never bound)
 
-group-own : (numbers keys : List ℕ) (items : List Item) → list_all (bound_group_item (length numbers) keys (numbers ∷ [])) items ≡ true → AllByRecursion (λ i. frame.is_own i ≡ true) items
+group-own : (numbers keys : List ℕ) (items : List Item) → list_all (bound_group_item (length numbers) keys (numbers ∷ [])) items ≡ true → AllByRecursion (λ i. frame.is_block_item i ≡ true) items
 group-own numbers keys [] bound = tt
 group-own numbers keys (item.Column c ∷ items) bound =
     let parts = and_parts (bound_group_item (length numbers) keys (numbers ∷ []) (item.Column c)) _ bound in
@@ -110,11 +110,11 @@ group-own numbers keys (item.Column c ∷ items) bound =
     from false is h = names-own numbers c h
 group-own numbers keys (item.Aggregate n a ∷ items) bound = (refl, group-own numbers keys items (and_parts (bound_aggregate (length numbers) a) _ bound).1)
 
-items-own : (is_grouped : Bool) (numbers keys : List ℕ) (items : List Item) → bound_items is_grouped (length numbers) keys items (numbers ∷ []) ≡ true → AllByRecursion (λ i. frame.is_own i ≡ true) items
+items-own : (is_grouped : Bool) (numbers keys : List ℕ) (items : List Item) → bound_items is_grouped (length numbers) keys items (numbers ∷ []) ≡ true → AllByRecursion (λ i. frame.is_block_item i ≡ true) items
 items-own false numbers keys items bound = plain-own numbers items bound
 items-own true numbers keys items bound = group-own numbers keys items (and_parts (list_all (λ k. nat_lt k (length numbers)) keys) _ bound).1
 
-own-all : (scope : Scope) (items : List Item) → AllByRecursion (λ i. frame.is_own i ≡ true) items → own_numbers scope items ≡ map (item_number scope) items
+own-all : (scope : Scope) (items : List Item) → AllByRecursion (λ i. frame.is_block_item i ≡ true) items → own_numbers scope items ≡ map (item_number scope) items
 own-all scope [] all = refl
 own-all scope (i ∷ items) all = cond-true _ _ _ all.0 ∙ ap (λ ks. item_number scope i ∷ ks) (own-all scope items all.1)
 
@@ -125,7 +125,7 @@ module _ (uses : List TableInstance) where
   end-columns false scope items G = top-columns uses (Keep (kept scope items) (last G)) G
   end-columns true scope items G = top-columns uses (Distinct (length G)) (keep_lines scope items G) ∙ top-columns uses (Keep (kept scope items) (last G)) G
 
-  shown-in : (twice : Bool) (scope : Scope) (items : List Item) (G : List Expr) → AllByRecursion (λ i. frame.is_own i ≡ true) items
+  shown-in : (twice : Bool) (scope : Scope) (items : List Item) (G : List Expr) → AllByRecursion (λ i. frame.is_block_item i ≡ true) items
       → is_subset (map (item_number scope) items) (class_columns uses (distinct_lines twice (keep_lines scope items G)) (last (distinct_lines twice (keep_lines scope items G)))) ≡ true
   shown-in twice scope items G all =
       let ns : List ℕ = map (item_number scope) items in

@@ -15,7 +15,7 @@ use Rattle.query.specs.Rows.{same_rows}
 use Rattle.query.specs.Bound.{Scope}
 use Rattle.algebra.specs.Columns.{has, insert, rising}
 use Rattle.algebra.specs.Bags.{Env, lay, same_on, distinct_on}
-use Rattle.logical.specs.Frames.{item_number, is_own, own_numbers}
+use Rattle.logical.specs.Frames.{item_number, is_block_item, own_numbers}
 use Rattle.algebra.proofs.Sets.{has-rising}
 use Rattle.algebra.proofs.Values.{same-refl}
 use Rattle.algebra.proofs.Lists.{two, map-map, map-same, distinct_by, distinct-map, distinct-same, all-distinct}
@@ -56,20 +56,20 @@ all-rising p (k ∷ ks) = all-insert p k (rising ks) ∙ ap (λ b. p k && b) (al
 -- the rows h of things x, in the environment e, show each item as sh does; and e itself shows what isn't the block's own
 pub record Reads {X : Type 0} (scope : Scope) (e : Env) (h : X → Env) (sh : X → Item → Value) (P : X → Type 0) (i : Item) : Type 0 where
   pub own : (x : X) → P x → h x (item_number scope i) ≡ sh x i
-  pub around : is_own i ≡ false → (x : X) → P x → e (item_number scope i) ≡ sh x i
+  pub around : is_block_item i ≡ false → (x : X) → P x → e (item_number scope i) ≡ sh x i
 
 module _ {X : Type 0} (scope : Scope) (e : Env) (h : X → Env) (sh : X → Item → Value) (P : X → Type 0) where
-  own-has : (i : Item) (items : List Item) → is_own i ≡ true → has (own_numbers scope (i ∷ items)) (item_number scope i) ≡ true
+  own-has : (i : Item) (items : List Item) → is_block_item i ≡ true → has (own_numbers scope (i ∷ items)) (item_number scope i) ≡ true
   own-has i items is = ap (λ ks. has ks (item_number scope i)) (cond-true _ _ _ is) ∙ or_left _ _ (eq-eqb (item_number scope i) (item_number scope i) refl)
 
   more-has : (i : Item) (items : List Item) (c : ℕ) → has (own_numbers scope items) c ≡ true → has (own_numbers scope (i ∷ items)) c ≡ true
-  more-has i items c h = cond_both (is_own i) _ _ (λ ks. has ks c ≡ true) (λ is. or_right (item_number scope i == c) (has (own_numbers scope items) c) h) (λ isnt. h)
+  more-has i items c h = cond_both (is_block_item i) _ _ (λ ks. has ks c ≡ true) (λ is. or_right (item_number scope i == c) (has (own_numbers scope items) c) h) (λ isnt. h)
 
   -- an item of a row that was projected to columns that have the block's own
-  projected-reads : (K : ℕ → Bool) (i : Item) (x : X) → P x → Reads scope e h sh P i → (is_own i ≡ true → K (item_number scope i) ≡ true) → lay K (h x) e (item_number scope i) ≡ sh x i
-  projected-reads K i x px reads kept = by (is_own i) refl (K (item_number scope i)) refl
+  projected-reads : (K : ℕ → Bool) (i : Item) (x : X) → P x → Reads scope e h sh P i → (is_block_item i ≡ true → K (item_number scope i) ≡ true) → lay K (h x) e (item_number scope i) ≡ sh x i
+  projected-reads K i x px reads kept = by (is_block_item i) refl (K (item_number scope i)) refl
     where
-      by : (o : Bool) → is_own i ≡ o → (b : Bool) → K (item_number scope i) ≡ b → (if b then h x (item_number scope i) else e (item_number scope i)) ≡ sh x i
+      by : (o : Bool) → is_block_item i ≡ o → (b : Bool) → K (item_number scope i) ≡ b → (if b then h x (item_number scope i) else e (item_number scope i)) ≡ sh x i
       by o is true in_ = reads.own x px
       by true is false out = cc (kept is, out)
       by false is false out = reads.around is x px
@@ -90,12 +90,12 @@ module _ {X : Type 0} (scope : Scope) (e : Env) (h : X → Env) (sh : X → Item
       → list_all (alike K x y) (own_numbers scope items) ≡ same_rows (map (sh x) items) (map (sh y) items)
   same-own K [] x y px py all kept = refl
   same-own K (i ∷ items) x y px py all kept =
-      by (is_own i) refl (same-own K items x y px py all.1 (λ c in_. kept c (more-has i items c in_))) ∙ sym (same_rows-cons (sh x i) (sh y i) (map (sh x) items) (map (sh y) items))
+      by (is_block_item i) refl (same-own K items x y px py all.1 (λ c in_. kept c (more-has i items c in_))) ∙ sym (same_rows-cons (sh x i) (sh y i) (map (sh x) items) (map (sh y) items))
     where
-      own-kept : is_own i ≡ true → K (item_number scope i) ≡ true
+      own-kept : is_block_item i ≡ true → K (item_number scope i) ≡ true
       own-kept is = kept (item_number scope i) (own-has i items is)
 
-      by : (o : Bool) → is_own i ≡ o → list_all (alike K x y) (own_numbers scope items) ≡ same_rows (map (sh x) items) (map (sh y) items)
+      by : (o : Bool) → is_block_item i ≡ o → list_all (alike K x y) (own_numbers scope items) ≡ same_rows (map (sh x) items) (map (sh y) items)
           → list_all (alike K x y) (if o then item_number scope i ∷ own_numbers scope items else own_numbers scope items) ≡ (same (sh x i) (sh y i) && same_rows (map (sh x) items) (map (sh y) items))
       by true is rest = two (λ a b. a && b) (two same (projected-reads K i x px all.0 own-kept) (projected-reads K i y py all.0 own-kept)) rest
       by false is rest =

@@ -162,14 +162,14 @@ item_number scope (item.Column c) = number scope c
 item_number scope (item.Aggregate n a) = n
 
 -- whether it is of the block itself, and no column of a row around
-abbrev pub is_own : Item → Bool
-is_own (item.Column c) = c.level == 0
-is_own (item.Aggregate n a) = true
+abbrev pub is_block_item : Item → Bool
+is_block_item (item.Column c) = c.level == 0
+is_block_item (item.Aggregate n a) = true
 
 -- the block's own numbers among those that it shows
 abbrev pub own_numbers : Scope → List Item → List ℕ
 own_numbers scope [] = []
-own_numbers scope (i ∷ items) = if is_own i then item_number scope i ∷ own_numbers scope items else own_numbers scope items
+own_numbers scope (i ∷ items) = if is_block_item i then item_number scope i ∷ own_numbers scope items else own_numbers scope items
 
 -- the columns that a block keeps
 abbrev pub kept : Scope → List Item → List ℕ

@@ -67,8 +67,8 @@ pub(crate) fn item_number(scope: &Scope<'_>, item: Item) -> usize
 }
 
 /// Whether an item is of the block itself, and no column of a row around.
-fn is_own(item: Item) -> bool
-    ensures { result ≡ spec.is_own item }
+fn is_block_item(item: Item) -> bool
+    ensures { result ≡ spec.is_block_item item }
 {
     match item {
         Item::Column(column) => column.level == 0,
@@ -82,7 +82,7 @@ fn kept(alloc: Global, scope: &Scope<'_>, items: &[Item]) -> Result<Columns, All
 {
     let mut numbers = Vec::new(alloc);
     for item in items {
-        if is_own(*item) {
+        if is_block_item(*item) {
             numbers.push(item_number(scope, *item))?;
         }
     }

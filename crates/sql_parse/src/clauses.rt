@@ -237,7 +237,7 @@ fn key(alloc: Global, tokens: &[Token], end: usize, depth: usize) -> Parsed<'_, 
 
 /// `[ORDER BY key {, key}]`
 #[tactic(auto, unfolding(crate::specs::Sql::an_order))]
-pub fn order(
+pub fn order_by(
     alloc: Global,
     tokens: &[Token],
     end: usize,

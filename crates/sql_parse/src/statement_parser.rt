@@ -9,7 +9,7 @@ ghost use Rattle.sql_parse.specs.StatementReading.{reported, reads};
 ghost use Rattle.sql_parse.specs.Statements.{ReadsStatement, IsStatementFault, limit};
 
 use crate::class::Class;
-use crate::clauses::order;
+use crate::clauses::order_by;
 use crate::conditions::select;
 use crate::fault::{ParseFault, ParseReason, refused};
 use crate::lexer::tokens;
@@ -28,7 +28,7 @@ fn statement(alloc: Global, tokens: &[Token], end: usize, depth: usize) -> Parse
     ensures { Gives (λ x. (x.0, x.1.now)) result (reads end depth a_statement tokens.now) }
 {
     let (select, rest) = select(alloc, tokens, end, depth)?;
-    let (order, rest) = order(alloc, rest, end, depth)?;
+    let (order, rest) = order_by(alloc, rest, end, depth)?;
     let rest = match accept(rest, end, Class::Symbol(Symbol::Semicolon)) {
         Some((_, behind)) => behind,
         None => rest,

@@ -5,7 +5,7 @@ use Rattle.grammar.specs.Grammars.{separated}
 use Rattle.grammar.specs.Readers.{with_front}
 use Rattle.sql_parse.specs.Sql.{sample, a_key}
 use Rattle.sql_parse.specs.StatementReading.{reads}
-use Rattle.sql_parse.proofs.clauses.order.Given as goal
+use Rattle.sql_parse.proofs.clauses.order_by.Given as goal
 
 abbrev pub invariant-keys : goal.invariant-keys
 invariant-keys l =

@@ -3,7 +3,7 @@ use Rattle.sql_parse.specs.declared.token.Symbol.TheVariants as s
 use Rattle.sql_parse.specs.declared.token.TokenKind.TheVariants as token
 use Rattle.sql_parse.specs.Sql.{sample, a_key}
 use Rattle.sql_parse.proofs.SqlLoops.{keys_list, list_less, list_on}
-use Rattle.sql_parse.proofs.clauses.order.Goals as goal
+use Rattle.sql_parse.proofs.clauses.order_by.Goals as goal
 
 pub keys-smaller : goal.keys-smaller
 keys-smaller c = list_less c.args.end c.args.depth (sample (token.Symbol s.Comma)) a_key keys_list c.keys.rest.now c.in_ok-found.found c.in_ok-found.behind.now c.in-Some-accept.field-0-0.now c.in-Some-accept.next.now c.in_ok-found.ensures c.in-Some-accept.ensures.next
