@@ -1,21 +1,14 @@
 -- Names of tables and columns, and what bears them (this project's profile of SQL).
-use Rattle.std.specs.Prelude.{ℕ, List, [], ◌∷◌, length, Bool, true, false, not, ◌&&◌, ◌||◌, ◌==◌, Option, nat_le, nat_lt, codes, bytes_eq, position}
+use Rattle.std.specs.Prelude.{ℕ, List, [], ◌∷◌, length, Bool, true, false, not, ◌&&◌, ◌||◌, ◌==◌, Option, nat_le, nat_lt, bytes_eq, position}
 use Rattle.std.specs.List.{list_any, list_all}
 use Rattle.std.specs.Option.{is_none}
+use Rattle.values.specs.Words.{reserved_words}
 
 abbrev pub Name : Type 0
 Name = List ℕ
 
--- the words that SQL keeps for itself
-abbrev pub reserved : List Name
-reserved =
-    codes "select" ∷ codes "distinct" ∷ codes "from" ∷ codes "where" ∷ codes "group" ∷ codes "by" ∷ codes "having" ∷ codes "order"
-    ∷ codes "asc" ∷ codes "desc" ∷ codes "as" ∷ codes "join" ∷ codes "inner" ∷ codes "left" ∷ codes "right" ∷ codes "full" ∷ codes "cross"
-    ∷ codes "natural" ∷ codes "outer" ∷ codes "on" ∷ codes "and" ∷ codes "or" ∷ codes "not" ∷ codes "in" ∷ codes "exists" ∷ codes "is"
-    ∷ codes "null" ∷ codes "count" ∷ codes "sum" ∷ codes "min" ∷ codes "max" ∷ []
-
 unfoldable pub is_reserved : Name → Bool
-is_reserved name = list_any (λ word. bytes_eq word name) reserved
+is_reserved name = list_any (λ word. bytes_eq word name) reserved_words
 
 -- `a` to `z` and `_`
 abbrev pub is_small_letter : ℕ → Bool

@@ -42,9 +42,9 @@ impl Named for TableEntry {
 
 /// The words that SQL keeps for itself, in lower case.
 const RESERVED: [&str; 31] = [
-    "select", "distinct", "from", "where", "group", "by", "having", "order", "asc", "desc", "as",
-    "join", "inner", "left", "right", "full", "cross", "natural", "outer", "on", "and", "or",
-    "not", "in", "exists", "is", "null", "count", "sum", "min", "max",
+    "and", "as", "asc", "by", "count", "cross", "desc", "distinct", "exists", "from", "full",
+    "group", "having", "in", "inner", "is", "join", "left", "max", "min", "natural", "not", "null",
+    "on", "or", "order", "outer", "right", "select", "sum", "where",
 ];
 
 fn is_among(words: &[&str], name: &str) -> bool

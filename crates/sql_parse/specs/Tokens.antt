@@ -6,6 +6,7 @@ use Rattle.std.specs.List.{AllByRecursion}
 use Rattle.std.specs.Str.{bytes_eq}
 use Rattle.std.specs.Str.Parse.{signed_digits_value}
 use Rattle.values.specs.declared.truth.Comparison.TheVariants as by
+use Rattle.values.specs.Words.{reserved_words}
 use Rattle.sql_parse.specs.declared.fault.ParseReason.{ParseReason}
 use Rattle.sql_parse.specs.declared.fault.ParseReason.TheVariants.{NoToken, OpenText, NumberRange}
 use Rattle.sql_parse.specs.declared.fault.ParseRefusal.{ParseRefusal}
@@ -75,15 +76,21 @@ symbol_text s.Dot = codes "."
 symbol_text s.Star = codes "*"
 symbol_text s.Semicolon = codes ";"
 
--- the reserved words, in lower case
+-- the keywords, as their words stand in the list of reserved words
+abbrev pub keywords : List Keyword
+keywords =
+    k.And ∷ k.As ∷ k.Asc ∷ k.By ∷ k.Count ∷ k.Cross ∷ k.Desc ∷ k.Distinct ∷ k.Exists ∷ k.From ∷ k.Full ∷ k.Group ∷ k.Having ∷
+    k.In ∷ k.Inner ∷ k.Is ∷ k.Join ∷ k.Left ∷ k.Max ∷ k.Min ∷ k.Natural ∷ k.Not ∷ k.Null ∷ k.On ∷ k.Or ∷ k.Order ∷ k.Outer ∷
+    k.Right ∷ k.Select ∷ k.Sum ∷ k.Where ∷ []
+
+-- words, each with the keyword that it is
+abbrev pub beside : List Bytes → List Keyword → List (Bytes × Keyword)
+beside [] keywords = []
+beside (word ∷ words) [] = []
+beside (word ∷ words) (keyword ∷ keywords) = (word, keyword) ∷ beside words keywords
+
 abbrev pub reserved : List (Bytes × Keyword)
-reserved =
-    (codes "and", k.And) ∷ (codes "as", k.As) ∷ (codes "asc", k.Asc) ∷ (codes "by", k.By) ∷ (codes "count", k.Count) ∷ (codes "cross", k.Cross) ∷
-    (codes "desc", k.Desc) ∷ (codes "distinct", k.Distinct) ∷ (codes "exists", k.Exists) ∷ (codes "from", k.From) ∷ (codes "full", k.Full) ∷ (codes "group", k.Group) ∷
-    (codes "having", k.Having) ∷ (codes "in", k.In) ∷ (codes "inner", k.Inner) ∷ (codes "is", k.Is) ∷ (codes "join", k.Join) ∷ (codes "left", k.Left) ∷
-    (codes "max", k.Max) ∷ (codes "min", k.Min) ∷ (codes "natural", k.Natural) ∷ (codes "not", k.Not) ∷ (codes "null", k.Null) ∷ (codes "on", k.On) ∷
-    (codes "or", k.Or) ∷ (codes "order", k.Order) ∷ (codes "outer", k.Outer) ∷ (codes "right", k.Right) ∷ (codes "select", k.Select) ∷ (codes "sum", k.Sum) ∷
-    (codes "where", k.Where) ∷ []
+reserved = beside reserved_words keywords
 
 -- what stands beside the word in the list
 abbrev pub listed : List (Bytes × Keyword) → Bytes → Option Keyword

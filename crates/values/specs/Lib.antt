@@ -2,3 +2,4 @@ pub mod Cells
 pub mod Faults
 pub mod Order
 pub mod Truth
+pub mod Words
