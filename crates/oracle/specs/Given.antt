@@ -6,7 +6,6 @@ use Rattle.std.specs.List.{AllByRecursion}
 use Rattle.values.specs.declared.value.Value.{Value}
 use Rattle.values.specs.declared.value.Value.TheVariants as value
 use Rattle.schema.specs.Databases.{Row}
-use Rattle.store.specs.Databases.{Stored}
 use Rattle.query.specs.Rows as rows
 use Rattle.oracle.specs.declared.environment.Env.{Env, Empty, Inner'}
 
@@ -14,10 +13,6 @@ use Rattle.oracle.specs.declared.environment.Env.{Env, Empty, Inner'}
 abbrev pub env_of : Env → rows.Env
 env_of Empty = []
 env_of (Inner' row _ outer) = row.now ∷ env_of outer
-
--- the tables of a database
-abbrev pub tables_in : Stored → rows.Tables
-tables_in d = rows.tables_of d.schema d.tables
 
 -- the rows that are lent
 abbrev pub rows_at : List (Bor Row) → List Row

@@ -2,7 +2,7 @@
 
 ghost use Rattle.std.specs.Prelude.{◌≡◌, IfOk};
 ghost use Rattle.query.specs.Answer as spec;
-ghost use Rattle.oracle.specs.Given.{tables_in};
+ghost use Rattle.query.specs.Rows.{tables_in};
 
 use crate::environment::{Env, value_at};
 use crate::evaluate::rows;
