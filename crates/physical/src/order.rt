@@ -1,6 +1,6 @@
 //! The order that a plan delivers.
 
-ghost use Rattle.std.specs.Prelude.{◌≡◌, not, map, IfOk};
+ghost use Rattle.std.specs.Prelude.{◌≡◌, not, if◌then◌else◌, map, IfOk};
 ghost use Rattle.algebra.specs.Columns.{has};
 ghost use Rattle.physical.specs.Orders as spec;
 ghost use Rattle.physical.specs.Outputs as outputs;
@@ -72,31 +72,18 @@ fn second_columns(alloc: Global, uses: &[TableInstance], inputs: &[Plan]) -> Res
 
 // ---- orders
 
-/// The keys before the first one whose column isn't in the set.
-fn front(alloc: Global, order: &[OrderKey], columns: &Columns) -> Result<Vec<OrderKey>, AllocError>
-    ensures { IfOk result (λ keys. keys.items ≡ spec.front (has columns.now) order.now) }
-{
-    let mut keys = Vec::new(alloc);
-    for key in order {
-        if !columns.contains(key.column) {
-            return Ok(keys);
-        }
-        keys.push(*key)?;
-    }
-    Ok(keys)
-}
-
-/// The keys before the first one whose column is in the set.
-fn shown_front(
+/// The first keys of the order, as far as their columns are all inside the set, or all outside.
+fn front(
     alloc: Global,
     order: &[OrderKey],
-    hidden: &Columns,
+    columns: &Columns,
+    inside: bool,
 ) -> Result<Vec<OrderKey>, AllocError>
-    ensures { IfOk result (λ keys. keys.items ≡ spec.front (λ c. not (has hidden.now c)) order.now) }
+    ensures { IfOk result (λ keys. keys.items ≡ spec.front (if inside then has columns.now else (λ c. not (has columns.now c))) order.now) }
 {
     let mut keys = Vec::new(alloc);
     for key in order {
-        if hidden.contains(key.column) {
+        if columns.contains(key.column) != inside {
             return Ok(keys);
         }
         keys.push(*key)?;
@@ -136,17 +123,17 @@ fn operator_order(
         Operator::FilterSubqueries { .. } => first_order(alloc, uses, inputs),
         Operator::Projection { columns } => {
             let order = first_order(alloc, uses, inputs)?;
-            front(alloc, order.as_slice(), columns)
+            front(alloc, order.as_slice(), columns, true)
         }
         Operator::NestedLoopJoin { .. } => {
             let order = first_order(alloc, uses, inputs)?;
             let right = second_columns(alloc, uses, inputs)?;
-            shown_front(alloc, order.as_slice(), &right)
+            front(alloc, order.as_slice(), &right, false)
         }
         Operator::HashDistinct => {
             let order = first_order(alloc, uses, inputs)?;
             let columns = first_columns(alloc, uses, inputs)?;
-            front(alloc, order.as_slice(), &columns)
+            front(alloc, order.as_slice(), &columns, true)
         }
     }
 }

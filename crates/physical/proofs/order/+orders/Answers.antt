@@ -23,10 +23,10 @@ pub operator_order-returns-in_ok-right-in-NestedLoopJoin : goal.operator_order-r
 operator_order-returns-in_ok-right-in-NestedLoopJoin t c =
     let uses = c.args.uses.now in
     let inputs = c.args.inputs.now in
-    subst (λ (z : List OrderKey). IfOk c.shown_front.result (λ order. order.items ≡ z))
+    subst (λ (z : List OrderKey). IfOk c.front-in-NestedLoopJoin.result (λ order. order.items ≡ z))
     (two (λ (K : List ℕ) keys. front (λ k. not (has K k)) keys) (c.in_ok-right-in-NestedLoopJoin.ensures ∙ ap second_columns (columns_listed uses inputs)) (c.as_slice-in-NestedLoopJoin.ensures.value ∙ c.in_ok-order-in-NestedLoopJoin.ensures)
     ∙ sym (ap (λ (o : Operator). operator_order o (map (delivered uses) inputs)) c.in-NestedLoopJoin.is))
-    c.shown_front.ensures
+    c.front-in-NestedLoopJoin.ensures
 
 pub operator_order-returns-in_ok-columns-in-HashDistinct : goal.operator_order-returns-in_ok-columns-in-HashDistinct
 operator_order-returns-in_ok-columns-in-HashDistinct t c =
