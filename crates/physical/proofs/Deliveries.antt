@@ -9,7 +9,8 @@ use Rattle.values.specs.Order.{order}
 use Rattle.query.specs.declared.query.TableInstance.{TableInstance}
 use Rattle.query.specs.Rows.{Tables}
 use Rattle.algebra.specs.Columns.{ColumnSet, has}
-use Rattle.algebra.specs.Bags.{Env, Bag, Test, lay, nulls, matches, or_else_row, distinct_on}
+use Rattle.query.specs.Meaning.{or_else_row}
+use Rattle.algebra.specs.Bags.{Env, Bag, Test, lay, nulls, matches, distinct_on}
 use Rattle.algebra.specs.Conditions.{holds}
 use Rattle.algebra.proofs.Lists.{two, all-map, all-filter, all-each}
 use Rattle.physical.specs.declared.plan.JoinKind.{JoinKind}
