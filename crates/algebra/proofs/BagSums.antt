@@ -1,7 +1,8 @@
 -- Sums over rows, and over lists that are made of others.
 use Rattle.std.proofs.Common.{◌≡◌, refl, ap, ◌∙◌, ℕ, ◌+◌, ◌==◌, Bool, true, false, not, if◌then◌else◌, List, [], ◌∷◌, ◌++◌, map, filter, flat_map, arith}
 use Rattle.std.proofs.lemmas.Bool.{ne_eqb}
-use Rattle.algebra.specs.Bags.{Env, Test, total, or_else_row}
+use Rattle.query.specs.Meaning.{or_else_row}
+use Rattle.algebra.specs.Bags.{Env, Test, total}
 
 pub total-append : (f : Env → ℕ) (xs ys : List Env) → total f (xs ++ ys) ≡ total f xs + total f ys
 total-append f [] ys = omega arith

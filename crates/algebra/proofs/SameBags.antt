@@ -3,7 +3,8 @@ use Rattle.std.proofs.Common.{◌≡◌, refl, ap, sym, ◌∙◌, inr, ℕ, ◌
 use Rattle.std.specs.List.{list_any}
 use Rattle.std.proofs.lemmas.Bool.{ne_eqb}
 use Rattle.algebra.specs.Columns.{ColumnSet, has}
-use Rattle.algebra.specs.Bags.{Env, Test, Bag, total, SameRows, SameBag, lay, nulls, same_on, select, matches, has_match, join, or_else_row, left_join, semi, anti, keep, distinct_on, distinct, group}
+use Rattle.query.specs.Meaning.{or_else_row}
+use Rattle.algebra.specs.Bags.{Env, Test, Bag, total, SameRows, SameBag, lay, nulls, same_on, select, matches, has_match, join, left_join, semi, anti, keep, distinct_on, distinct, group}
 use Rattle.algebra.proofs.BagSums.{if_passes, count_passing, total-map, total-filter, total-flat_map, total-same, total-or_else_row}
 use Rattle.algebra.proofs.UniqueRows.{GoesBy, same_on-along, same_on-reads, total-kinds}
 

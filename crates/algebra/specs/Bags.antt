@@ -5,6 +5,7 @@ use Rattle.std.specs.List.{list_any, list_all}
 use Rattle.values.specs.declared.value.Value.{Value}
 use Rattle.values.specs.declared.value.Value.TheVariants as value
 use Rattle.values.specs.Order.{same}
+use Rattle.query.specs.Meaning.{or_else_row}
 use Rattle.algebra.specs.Columns.{ColumnSet, has}
 
 -- what each column number reads as: a row, together with the environment around it
@@ -63,11 +64,6 @@ has_match p right rows r = list_any (λ s. p (lay right s r)) rows
 -- the pairs that pass
 abbrev pub join : Test → ColumnSet → Bag → Bag → Bag
 join p right a b e = flat_map (matches p right (b e)) (a e)
-
--- a row in place of no rows
-abbrev pub or_else_row : Env → List Env → List Env
-or_else_row pad [] = pad ∷ []
-or_else_row pad (r ∷ rows) = r ∷ rows
 
 -- the pairs that pass, and each left row that has none, with Nulls
 abbrev pub left_join : Test → ColumnSet → Bag → Bag → Bag

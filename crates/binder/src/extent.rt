@@ -1,9 +1,10 @@
 //! How large a statement is, before any name is looked up.
 
-ghost use Rattle.std.specs.Prelude.{◌≡◌, ◌+◌, map, fold, option_map, IfOk};
+ghost use Rattle.std.specs.Prelude.{◌≡◌, map, fold, option_map, IfOk};
 ghost use Rattle.binder.specs.Extents as spec;
 
 use crate::scope::find_table;
+use crate::sums::sum;
 use schema::Schema;
 use sql_parse::statement::{Chain, Condition, Join, Select, TableName};
 use std::alloc::AllocError;
@@ -42,13 +43,6 @@ const ONE_TEST: Extent = Extent {
     levels: 0,
     tests: 1,
 };
-
-/// A sum. No text is long enough for one that isn't a number of the machine; it is reported as out of memory.
-fn sum(a: usize, b: usize) -> Result<usize, AllocError>
-    ensures { IfOk result (λ total. total ≡ a + b) }
-{
-    a.checked_add(b).ok_or(AllocError)
-}
 
 impl Extent {
     /// Of two parts, neither of which stands in the other.

@@ -11,6 +11,7 @@ mod places;
 mod scope;
 mod selects;
 mod statement;
+mod sums;
 mod tables;
 
 pub use fault::{BindFault, BindReason, BindRefusal};

@@ -9,6 +9,7 @@ ghost use Rattle.binder.specs.Lent.{IsIndexed, known_of, meaning_of, placed_of, 
 ghost use Rattle.binder.specs.Chained.{scopes_of};
 
 use crate::fault::{BindFault, BindReason, refused};
+use crate::sums::sum;
 use query::Column;
 use schema::{Kind, Schema, Table};
 use sql_parse::Name;
@@ -201,13 +202,6 @@ fn find_column<'s>(columns: &'s [schema::Column], name: &str) -> Option<(usize, 
         }
     }
     None
-}
-
-/// The sum of two places. No FROM has so many columns that it is no number of the machine; it is reported as out of memory.
-fn sum(a: usize, b: usize) -> Result<usize, AllocError>
-    ensures { IfOk result (λ total. total ≡ a + b) }
-{
-    a.checked_add(b).ok_or(AllocError)
 }
 
 /// What a plain name means, where the innermost scope has this level.

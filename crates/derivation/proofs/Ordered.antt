@@ -2,11 +2,11 @@
 use Rattle.std.proofs.Common.{◌≡◌, refl, ap, sym, ◌∙◌, subst, ℕ, zero, suc, Bool, true, false, if◌then◌else◌, List, [], ◌∷◌, map, take, length, Option, Some, None}
 use Rattle.std.specs.Coded.{coded_list}
 use Rattle.std.specs.List.{slice_get}
-use Rattle.std.specs.Ordering.{is_gt, on, ordering_then, flip_args}
+use Rattle.std.specs.Ordering.{is_gt, on, ordering_then}
 use Rattle.std.specs.declared.cmp.Ordering.{Ordering}
 use Rattle.std.specs.declared.cmp.Ordering.TheVariants.{Less, Equal, Greater}
 use Rattle.values.specs.declared.value.Value.TheVariants as value
-use Rattle.values.specs.Order.{order}
+use Rattle.values.specs.Order.{directed}
 use Rattle.schema.specs.Databases.{Row}
 use Rattle.query.specs.declared.query.SortKey as order_by
 use Rattle.query.specs.declared.query.Query.{Query}
@@ -58,14 +58,14 @@ item-none (n ∷ numbers) (suc i) r e = item-none numbers i r e
 key-some : (k : order_by.SortKey) (c : ℕ) (x y : Row) (a b : Env) → value_at k.item x ≡ a c → value_at k.item y ≡ b c → key_order (record { column = c; descending = k.descending }) a b ≡ asked.key_order k x y
 key-some k c x y a b e f = by k.descending
   where
-    by : (d : Bool) → on (λ r. r c) (if d then flip_args order else order) a b ≡ on (value_at k.item) (if d then flip_args order else order) x y
+    by : (d : Bool) → on (λ r. r c) (directed d) a b ≡ on (value_at k.item) (directed d) x y
     by true = rw (e, f) refl
     by false = rw (e, f) refl
 
 key-none : (k : order_by.SortKey) (x y : Row) → value_at k.item x ≡ value.Null → value_at k.item y ≡ value.Null → asked.key_order k x y ≡ Equal
 key-none k x y e f = by k.descending
   where
-    by : (d : Bool) → on (value_at k.item) (if d then flip_args order else order) x y ≡ Equal
+    by : (d : Bool) → on (value_at k.item) (directed d) x y ≡ Equal
     by true = rw (e, f) refl
     by false = rw (e, f) refl
 

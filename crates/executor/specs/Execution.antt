@@ -1,15 +1,10 @@
 -- What an executor gives.
 use Rattle.std.specs.Prelude.{ℕ, List}
-use Rattle.schema.specs.Databases.{Row}
-use Rattle.query.specs.Rows.{Tables, tables_of}
+use Rattle.schema.specs.Databases.{Row, Stored}
+use Rattle.query.specs.Rows.{tables_in}
 use Rattle.derivation.specs.QueryOrders.{answer}
 use Rattle.checker.specs.Accepted.{Accepted}
 use Rattle.executor.specs.AnswerText.{answer_text}
-use Rattle.store.specs.Databases.{Stored}
-
--- the tables of a database, as the meaning of queries sees them
-abbrev pub tables_in : Stored → Tables
-tables_in d = tables_of d.schema d.tables
 
 -- the rows that an accepted plan gives
 abbrev pub accepted_rows : Accepted → Stored → List Row

@@ -5,7 +5,8 @@ ghost use Rattle.std.specs.Io.KnownBytes.{Appends};
 ghost use Rattle.query.specs.Answer.{IsAnswer};
 ghost use Rattle.store.specs.Devices.{Rose};
 ghost use Rattle.executor.specs.AnswerText.{HasFront};
-ghost use Rattle.executor.specs.Execution.{tables_in, accepted_rows, accepted_text};
+ghost use Rattle.query.specs.Rows.{tables_in};
+ghost use Rattle.executor.specs.Execution.{accepted_rows, accepted_text};
 
 use crate::execution::run;
 use crate::output::AnswerOutput;

@@ -3,7 +3,7 @@
 ghost use Rattle.std.specs.Prelude.{◌≡◌, IfOk};
 ghost use Rattle.query.specs.Answer.{IsAnswer};
 ghost use Rattle.derivation.specs.QueryOrders.{answer};
-ghost use Rattle.executor.specs.Execution.{tables_in};
+ghost use Rattle.query.specs.Rows.{tables_in};
 
 use checker::Checked;
 use logical::query_numbers;

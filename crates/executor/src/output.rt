@@ -1,9 +1,9 @@
 //! Where an answer goes.
 
-ghost use Rattle.std.specs.Prelude.{◌≡◌, ◌≤◌, ◌<◌, ◌+◌, ◌-◌, ◌^◌, ℕ, List, [], Option, None, min, take, length, IfOk, OnOk, OnErr, MatchResult};
+ghost use Rattle.std.specs.Prelude.{◌≡◌, ◌≤◌, ◌<◌, ℕ, List, [], Option, None, take, length, IfOk, OnOk, OnErr};
 ghost use Rattle.std.specs.Io.Buffered.{writer_buffer, writer_contents};
 ghost use Rattle.std.specs.Io.KnownBytes.{Appends, Keeps, WriteAppends};
-ghost use Rattle.store.specs.Devices.{Rose};
+ghost use Rattle.store.specs.Devices.{Counts, Rose, one_more};
 
 use std::io::{BufWriter, Write};
 use thiserror::Error;
@@ -29,15 +29,13 @@ pub trait AnswerOutput {
         requires { 0 < length bytes.now }
         ensures some { IfOk result (λ n. (0 < n) × (n ≤ length bytes.now)) }
         ensures bytes { WriteAppends (contents self.old) (contents self.new) result bytes.now }
-        ensures counts { MatchResult result (λ _. failures self.new ≡ failures self.old)
-            (λ _. failures self.new ≡ min (failures self.old + 1) (2 ^ 64 - 1)) };
+        ensures counts { Counts result (failures self.old) (failures self.new) };
 
     /// Hands on what it holds back.
     fn flush_all(&mut self) -> Result<(), OutputFailed>
         ensures bytes { Keeps (contents self.old) (contents self.new) }
         ensures handed { OnOk result (held self.new ≡ []) }
-        ensures counts { MatchResult result (λ _. failures self.new ≡ failures self.old)
-            (λ _. failures self.new ≡ min (failures self.old + 1) (2 ^ 64 - 1)) };
+        ensures counts { Counts result (failures self.old) (failures self.new) };
 }
 
 /// A writer of std, with a count of its failures.
@@ -65,7 +63,7 @@ impl<W: Write> CountedOutput<W> {
     }
 
     fn fail(&mut self) -> OutputFailed
-        ensures failures { self.new.failures ≡ min (self.old.failures + 1) (2 ^ 64 - 1) }
+        ensures failures { self.new.failures ≡ one_more self.old.failures }
         ensures writer { self.new.writer ≡ self.old.writer }
     {
         self.failures = self.failures.saturating_add(1);

@@ -2,8 +2,7 @@
 
 ghost use Rattle.query.specs.Bound.{IsBoundOver};
 
-use crate::judged::queries_are_reported;
-use fixtures::{COMPANY, DEPT, EMP, QueryReporting, Tables, push_rows};
+use fixtures::{COMPANY, DEPT, EMP, QueryReporting, Tables, push_rows, query_differences};
 use oracle::meaning;
 use query::Query;
 use std::alloc::{AllocError, Global};
@@ -87,6 +86,6 @@ fn worked_queries(rt: HostRuntime) {
         first: DEPT,
         second: RICH,
     };
-    queries_are_reported(&rt, rt.alloc(), company, &lists, &Meaning);
-    queries_are_reported(&rt, rt.alloc(), rich, &[SUM], &Meaning);
+    assert_eq!(rt; query_differences(rt.alloc(), company, &lists, &Meaning).as_deref(), Ok(""));
+    assert_eq!(rt; query_differences(rt.alloc(), rich, &[SUM], &Meaning).as_deref(), Ok(""));
 }

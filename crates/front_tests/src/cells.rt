@@ -1,7 +1,6 @@
 //! The order of values, comparisons and truths.
 
-use crate::judged::are_reported;
-use fixtures::Reporting;
+use fixtures::{Reporting, differences};
 use std::alloc::{AllocError, Global};
 use std::cmp::Ordering;
 use values::{Cell, Comparison, Truth, compare, order, same};
@@ -65,7 +64,7 @@ fn values_stand_in_order(rt: HostRuntime) {
 'Ba => >>>>>=<<
 'a => >>>>>>=<
 'é => >>>>>>>=";
-    are_reported(&rt, rt.alloc(), &[CASES], &Orders);
+    assert_eq!(rt; differences(rt.alloc(), &[CASES], &Orders).as_deref(), Ok(""));
 }
 
 fn comparison(sign: &str) -> Option<Comparison> {
@@ -126,7 +125,7 @@ fn null_compares_as_unknown(rt: HostRuntime) {
 'b <= 'ab => false
 'b > 'ab => true
 2 >= 2 => true";
-    are_reported(&rt, rt.alloc(), &[CASES], &Comparisons);
+    assert_eq!(rt; differences(rt.alloc(), &[CASES], &Comparisons).as_deref(), Ok(""));
     assert!(rt; Comparison::NotEqual.admits(Ordering::Less));
 }
 
@@ -156,6 +155,6 @@ unknown true => unknown unknown true
 true false => false false true
 true unknown => false unknown true
 true true => false true true";
-    are_reported(&rt, rt.alloc(), &[CASES], &Connectives);
+    assert_eq!(rt; differences(rt.alloc(), &[CASES], &Connectives).as_deref(), Ok(""));
     assert!(rt; truth("true").is_true() && !truth("unknown").is_true());
 }

@@ -1,9 +1,6 @@
 //! Tables loaded from CSV files, one after another, and by devices that fail.
 
-use crate::judged::are_reported;
-use fixtures::{
-    COMPANY, StepReporting, Reporting, push_cell, push_lines, push_number, spelt, report_steps,
-};
+use fixtures::{COMPANY, Reporting, StepReporting, differences, push_cell, push_lines, push_number, report_steps, spelt};
 use std::alloc::{AllocError, Global};
 use std::io;
 use std::io::{ErrorKind, Read};
@@ -186,7 +183,7 @@ id,dept,pay,badge~1,^,500,7~ => T03 1 in 1";
         schema: COMPANY,
         table: 1,
     };
-    are_reported(&rt, rt.alloc(), &[CASES], &loads);
+    assert_eq!(rt; differences(rt.alloc(), &[CASES], &loads).as_deref(), Ok(""));
 }
 
 /// A device that fails is reported before a fault of what was read, and leaves the table as it was.
@@ -215,7 +212,7 @@ id,name,boss~1,ops,10~ ; id,name,boss~ by 6 ; id~ => loaded / 1 <ops> 10 ; loade
         schema: COMPANY,
         table: 0,
     };
-    are_reported(&rt, rt.alloc(), &[CASES, DEVICES], &loads);
+    assert_eq!(rt; differences(rt.alloc(), &[CASES, DEVICES], &loads).as_deref(), Ok(""));
 }
 
 #[test]
@@ -228,7 +225,7 @@ fn a_table_is_bounded(rt: HostRuntime) {
         schema: SCHEMA,
         table: 0,
     };
-    are_reported(&rt, rt.alloc(), &[CASES], &loads);
+    assert_eq!(rt; differences(rt.alloc(), &[CASES], &loads).as_deref(), Ok(""));
 }
 
 // ---- files that are cut
@@ -279,5 +276,5 @@ fn a_file_is_cut(rt: HostRuntime) {
 37 37 => T03 2 in 3
 38 38 => T04 2 in 3
 39 40 => loaded / 10 1 500 7 / 11 1 - -";
-    are_reported(&rt, rt.alloc(), &[CASES], &Cuts);
+    assert_eq!(rt; differences(rt.alloc(), &[CASES], &Cuts).as_deref(), Ok(""));
 }

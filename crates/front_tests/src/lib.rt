@@ -10,8 +10,6 @@ mod copies;
 #[cfg(test)]
 mod files;
 #[cfg(test)]
-mod judged;
-#[cfg(test)]
 mod names;
 #[cfg(test)]
 mod schemas;

@@ -2,8 +2,7 @@
 
 ghost use Rattle.query.specs.Bound.{IsBoundOver};
 
-use crate::judged::{are_reported, queries_are_reported};
-use fixtures::{COMPANY, DEPT, EMP, QueryReporting, Tables, Reporting, push_names, push_number, spelt};
+use fixtures::{COMPANY, DEPT, EMP, QueryReporting, Reporting, Tables, differences, push_names, push_number, query_differences, spelt};
 use query::{Aggregate, Block, Column, Cond, Item, Query, Term};
 use std::alloc::{AllocError, Global};
 use std::fmt::Write;
@@ -159,8 +158,8 @@ const WIDE: &str =
 #[test]
 fn names_are_bound(rt: HostRuntime) {
     let lists = [TABLES, COLUMNS, KINDS, GROUPS, ORDERS, FIRST, BOUND, SIZES];
-    are_reported(&rt, rt.alloc(), &lists, &Names { schema: COMPANY });
-    are_reported(&rt, rt.alloc(), &[WIDTHS], &Names { schema: WIDE });
+    assert_eq!(rt; differences(rt.alloc(), &lists, &Names { schema: COMPANY }).as_deref(), Ok(""));
+    assert_eq!(rt; differences(rt.alloc(), &[WIDTHS], &Names { schema: WIDE }).as_deref(), Ok(""));
 }
 
 // ---- the numbers of a query's parts
@@ -260,5 +259,5 @@ fn parts_are_numbered(rt: HostRuntime) {
         first: DEPT,
         second: EMP,
     };
-    queries_are_reported(&rt, rt.alloc(), company, &[CASES], &Numbers);
+    assert_eq!(rt; query_differences(rt.alloc(), company, &[CASES], &Numbers).as_deref(), Ok(""));
 }

@@ -1,7 +1,6 @@
 //! Schemas read from JSON, and the codes of other bytes.
 
-use crate::judged::are_reported;
-use fixtures::{COMPANY, Reporting, push_number, schema_of, spelt};
+use fixtures::{COMPANY, Reporting, differences, push_number, schema_of, spelt};
 use schema::{Column, Kind, Schema, Table};
 use std::alloc::{AllocError, Global};
 use std::process::Abort;
@@ -98,7 +97,7 @@ impl Reporting for Codes<'_> {
 }
 
 fn are_read(rt: &impl Abort, alloc: Global, front: &str, cases: &str, back: &str) {
-    are_reported(rt, alloc, &[cases], &Codes { front, back });
+    assert_eq!(rt; differences(alloc, &[cases], &Codes { front, back }).as_deref(), Ok(""));
 }
 
 /// The last of two members with one key is the one that counts.

@@ -1,8 +1,7 @@
 //! Texts, and the trees or the first faults that they have.
 
-use crate::judged::are_reported;
 use crate::trees::push_statement;
-use fixtures::{Reporting, drop_tree, spelt};
+use fixtures::{Reporting, differences, drop_tree, spelt};
 use sql_parse::statement::Statement;
 use sql_parse::{ParseFault, parse_statement, parse_statement_bytes};
 use std::alloc::{AllocError, Global};
@@ -204,6 +203,6 @@ fn texts_have_trees_or_faults(rt: HostRuntime) {
         NO_TEXT,
     ];
     let (bytes, text) = (Handed::Bytes, Handed::Text);
-    are_reported(&rt, rt.alloc(), &tables, &Trees { handed: bytes });
-    are_reported(&rt, rt.alloc(), &tables, &Trees { handed: text });
+    assert_eq!(rt; differences(rt.alloc(), &tables, &Trees { handed: bytes }).as_deref(), Ok(""));
+    assert_eq!(rt; differences(rt.alloc(), &tables, &Trees { handed: text }).as_deref(), Ok(""));
 }

@@ -12,7 +12,7 @@ use Rattle.query.specs.declared.query.From.TheVariants as from
 use Rattle.query.specs.Rows as rows
 use Rattle.query.specs.Rows.{Tables, IsFitting}
 use Rattle.query.specs.Meaning as query
-use Rattle.query.specs.Meaning.{from_width, pairs_of, passes, source}
+use Rattle.query.specs.Meaning.{from_width, pairs_of, passes, source, or_else_row}
 use Rattle.query.specs.Bound.{Scope, is_use_of, is_used, numbers_of_use, use_numbers, cond_scope, from_scope, join_scope}
 use Rattle.query.proofs.Equations as meaning
 use Rattle.query.proofs.ScopeEquations.{scope-Table, scope-Join, scope-LeftJoin, scope-Comma}
@@ -21,7 +21,7 @@ use Rattle.algebra.specs.declared.condition.Condition.{Condition}
 use Rattle.algebra.specs.declared.expr.Expr.{Expr}
 use Rattle.algebra.specs.declared.expr.Expr.TheVariants.{Get, Join, LeftJoin}
 use Rattle.algebra.specs.Columns.{has}
-use Rattle.algebra.specs.Bags.{Env, lay, nulls, matches, or_else_row}
+use Rattle.algebra.specs.Bags.{Env, lay, nulls, matches}
 use Rattle.algebra.specs.Conditions.{holds}
 use Rattle.algebra.specs.Expressions.{means, use_columns, use_row, get_rows}
 use Rattle.algebra.specs.Classes.{class_rows, class_columns, classes}

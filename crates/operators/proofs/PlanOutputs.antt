@@ -3,7 +3,7 @@ use Rattle.std.proofs.Common.{◌≡◌, refl, ap, sym, ◌∙◌, subst, ℕ, z
 use Rattle.std.proofs.lemmas.List.Elements.{filter-append}
 use Rattle.values.specs.declared.truth.Comparison.TheVariants as by
 use Rattle.values.specs.Truth.{negation, truth_of, is_true, compare}
-use Rattle.query.specs.Meaning.{all_of, any_of}
+use Rattle.query.specs.Meaning.{all_of, any_of, or_else_row}
 use Rattle.algebra.specs.declared.condition.Condition.{Condition, roll-Condition, ind-Condition, map-Condition}
 use Rattle.algebra.specs.declared.condition.Condition.TheVariants.{rolls-Compare, rolls-IsNull, rolls-Not, rolls-And, rolls-Or, rolls-Exists, rolls-In}
 use Rattle.algebra.specs.declared.condition.Condition.TheOpen.{Condition-F}
@@ -15,7 +15,7 @@ use Rattle.physical.specs.declared.plan.JoinKind.{JoinKind}
 use Rattle.physical.specs.declared.plan.JoinKind.TheVariants.{Inner, Left}
 use Rattle.query.specs.declared.query.TableInstance.{TableInstance}
 use Rattle.query.specs.Rows.{Tables}
-use Rattle.algebra.specs.Bags.{Env, Bag, Test, lay, nulls, matches, or_else_row, same_on, distinct_on, group}
+use Rattle.algebra.specs.Bags.{Env, Bag, Test, lay, nulls, matches, same_on, distinct_on, group}
 use Rattle.physical.specs.declared.plan.Node.{Node}
 use Rattle.physical.specs.declared.plan.Plan.{Plan, out-Plan, fold_out-Plan}
 use Rattle.physical.specs.Outputs.{Output, first_columns, second_columns, first, rest, node_columns, node_rows, nested_loop_rows, subquery_rows, output_layer, plan_output, output_rows}

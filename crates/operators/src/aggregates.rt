@@ -10,9 +10,9 @@ ghost use Rattle.operators.specs.Relations.{env_of};
 use crate::environment::{Env, row_cell};
 use crate::headings::Heading;
 use crate::keys::RowRef;
+use query::aggregates::{greater, lesser, plus};
 use std::alloc::AllocError;
-use std::cmp::Ordering;
-use values::{Cell, order};
+use values::Cell;
 
 /// One for a value, none for Null.
 fn counted(cell: Cell<'_>) -> usize
@@ -40,32 +40,6 @@ pub fn known<'t>(
         count += counted(row_cell(heading, rows[left].row, env, column));
     }
     count
-}
-
-/// The lesser of two values, where neither is Null.
-fn lesser<'t>(v: Cell<'t>, w: Cell<'t>) -> Cell<'t>
-    ensures { value_of result ≡ spec.lesser (value_of v.entry) (value_of w.entry) }
-{
-    match (v, w) {
-        (Cell::Null, _) => w,
-        (_, Cell::Null) => v,
-        _ => if order(v, w) == Ordering::Greater {
-            w
-        } else {
-            v
-        },
-    }
-}
-
-/// The greater of two values; Null is the least in the order.
-fn greater<'t>(v: Cell<'t>, w: Cell<'t>) -> Cell<'t>
-    ensures { value_of result ≡ spec.greater (value_of v.entry) (value_of w.entry) }
-{
-    if order(v, w) == Ordering::Greater {
-        v
-    } else {
-        w
-    }
 }
 
 /// The least of the values, Nulls aside.
@@ -104,18 +78,7 @@ pub fn greatest<'t>(
     greatest
 }
 
-/// The sum of two numbers; what is no number adds nothing. One past 128 bits is reported as out of memory.
-fn plus<'t>(v: Cell<'t>, w: Cell<'t>) -> Result<Cell<'t>, AllocError>
-    ensures { IfOk result (λ total. value_of total ≡ spec.plus (value_of v.entry) (value_of w.entry)) }
-{
-    match (v, w) {
-        (Cell::Int(m), Cell::Int(n)) => Ok(Cell::Int(m.checked_add(n).ok_or(AllocError)?)),
-        (Cell::Int(m), _) => Ok(Cell::Int(m)),
-        (_, w) => Ok(w),
-    }
-}
-
-/// The sum of the numbers.
+/// The sum of the numbers. One past 128 bits is reported as out of memory.
 pub fn sum<'t>(
     heading: &Heading,
     rows: &[RowRef<'_, 't>],
@@ -128,7 +91,7 @@ pub fn sum<'t>(
     let mut left = rows.len();
     while left > 0 {
         left -= 1;
-        total = plus(row_cell(heading, rows[left].row, env, column), total)?;
+        total = plus(row_cell(heading, rows[left].row, env, column), total).ok_or(AllocError)?;
     }
     Ok(total)
 }

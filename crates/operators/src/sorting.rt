@@ -11,18 +11,14 @@ use crate::rows::RowData;
 use physical::OrderKey;
 use std::alloc::AllocError;
 use std::cmp::Ordering;
-use values::order;
+use values::directed_order;
 
 /// The order of two rows at a key.
 fn key_order(key: &OrderKey, a: &Env<'_, '_>, b: &Env<'_, '_>) -> Ordering
     ensures { result ≡ spec.key_order key.now (env_of a.now) (env_of b.now) }
 {
     let (a, b) = (a.column(key.column), b.column(key.column));
-    if key.descending {
-        order(b, a)
-    } else {
-        order(a, b)
-    }
+    directed_order(key.descending, a, b)
 }
 
 /// The order of two rows at the keys: a later key decides where the earlier ones don't.

@@ -3,34 +3,25 @@ use Rattle.std.proofs.Common.{◌≡◌, refl, suc, ◌+◌, Bool, true, false, 
 use denote.Param.Members.{Mut}
 use Rattle.std.specs.declared.cmp.Ordering.{Ordering}
 use Rattle.std.specs.declared.cmp.Ordering.TheVariants.{Less, Equal, Greater}
-use Rattle.std.specs.Ordering.{is_lt, is_gt, flip_args, ordering_reverse}
+use Rattle.std.specs.Ordering.{is_lt, is_gt, ordering_reverse}
 use Rattle.std.specs.Cmp.{IsTotalOrder, IsStrictWeakOrder}
 use Rattle.std.specs.Fn.{Called, ComparesAs}
 use Rattle.std.specs.List.{sum_by}
 use Rattle.std.specs.List.Sorted.{IsSortedBy, IsPermutation}
-use Rattle.std.proofs.lemmas.Cmp.{on_total, then_total, back_total}
+use Rattle.std.proofs.lemmas.Cmp.{on_total}
 use Rattle.std.proofs.lemmas.Fn.{always_returns_same}
 use Rattle.std.proofs.lemmas.List.Sorted.{ranks_by, sum_by-IsPermutation}
 use Rattle.std.proofs.lemmas.List.Sums.{sum_by-cons}
-use Rattle.values.specs.Order.{order}
 use Rattle.schema.specs.Databases.{Row}
 use Rattle.query.specs.declared.query.SortKey.{SortKey}
 use Rattle.query.specs.Rows.{value_at, same_rows, count}
 use Rattle.query.specs.Answer.{key_order, keys_order, IsAllowed}
-use Rattle.query.proofs.Counting.{order-total}
+use Rattle.query.proofs.KeyOrders.{directed-total, by_keys-total}
 
 -- ---- the order of ORDER BY
 
-turned : (b : Bool) → IsTotalOrder (if b then flip_args order else order)
-turned true = back_total order-total
-turned false = order-total
-
-key_total : (k : SortKey) → IsTotalOrder (key_order k)
-key_total k = on_total (value_at k.item) (turned k.descending)
-
 pub keys_total : (keys : List SortKey) → IsTotalOrder (keys_order keys)
-keys_total [] = record { antisymm = λ a b. refl; trans = λ a b c h k. h; congr = λ a b c h. refl }
-keys_total (k ∷ keys) = then_total (key_total k) (keys_total keys)
+keys_total = by_keys-total key_order (λ k. on_total (value_at k.item) (directed-total k.descending))
 
 -- ---- a sort by a closure
 

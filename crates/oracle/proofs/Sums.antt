@@ -1,16 +1,19 @@
 -- A sum of 64-bit numbers, one for each row of a list in memory, fits 128 bits.
-use Rattle.std.proofs.Common.{◌≡◌, ℕ, zero, suc, ◌+◌, ◌*◌, ◌^◌, ◌<◌, ◌≤◌, ℤ, pos, negsuc, ◌+ℤ◌, unsigned_abs, List, [], ◌∷◌, length, get_or, map, drop, filter, Bool, true, false, cond, ltb, ◌-◌, if◌then◌else◌, FitsSigned, Bor, ap, sym, ◌∙◌, subst, arith}
+use Rattle.std.proofs.Common.{◌≡◌, refl, ℕ, zero, suc, ◌+◌, ◌*◌, ◌^◌, ◌<◌, ◌≤◌, ℤ, pos, negsuc, ◌+ℤ◌, unsigned_abs, List, [], ◌∷◌, length, get_or, map, drop, filter, Bool, true, false, cond, ltb, ◌-◌, if◌then◌else◌, FitsSigned, Option, Some, None, MatchOption, Bor, ap, sym, ◌∙◌, subst, arith}
 use Rattle.std.specs.Int.{w64, w128}
 use Rattle.std.specs.List.{AllByRecursion}
+use Rattle.std.specs.Option.{IsSome}
 use Rattle.std.proofs.lemmas.Int.{fits_signed_from_abs}
 use Rattle.std.proofs.lemmas.List.{length-drop, length-map}
 use Rattle.std.proofs.Math.Seq.{drop-cons}
 use Rattle.values.specs.declared.value.Value.{Value}
 use Rattle.values.specs.declared.value.Value.TheVariants.{Null, Int, Text}
+use Rattle.values.specs.declared.cell.Cell.{Cell}
+use Rattle.values.specs.Cells.{value_of}
 use Rattle.schema.specs.Databases.{Row}
 use Rattle.query.specs.Rows.{value_at}
-use Rattle.query.specs.Aggregates.{plus, together}
-use Rattle.oracle.specs.Given.{IsShort, AreShort, IsHeld, rows_at, values_of}
+use Rattle.query.specs.Aggregates.{IsHeld, plus, together}
+use Rattle.oracle.specs.Given.{IsShort, AreShort, rows_at, values_of}
 
 -- ---- how large a sum is
 
@@ -76,6 +79,11 @@ held-next place i rows r v total below at few short is sum =
     ap (values_of place) (drop-cons rows i r below ∙ ap (λ x. x ∷ drop (suc i) rows) (sym at)) ∙ ap (λ n. value_at place r.now ∷ values_of place (drop n rows)) next in
     let same : together plus (values_of place (drop i rows)) ≡ plus v total = ap (together plus) e ∙ ap (λ x. plus x (together plus (values_of place (drop (i + 1) rows)))) (sym is) ∙ ap (plus v) (sym sum) in
     subst IsHeld same (held-sum (values_of place (drop i rows)) (short-drop place i rows short) (omega (arith, few, length-values place i rows)))
+
+-- a sum that is held is there
+pub sum-there : (v w : Value) (o : Option Cell) → MatchOption o (IsHeld (plus v w) → ⊥) (λ total. value_of total ≡ plus v w) → IsHeld (plus v w) → IsSome o
+sum-there v w None absent is = absurd (absent is)
+sum-there v w (Some total) there is = refl
 
 -- ---- a column of short rows
 

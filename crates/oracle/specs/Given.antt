@@ -1,12 +1,11 @@
 -- What the evaluator is lent, as the meaning of queries sees it.
 use Rattle.std.specs.Prelude.{ℕ, List, [], ◌∷◌, map, FitsSigned}
 use Rattle.std.specs.Borrow.{Bor}
-use Rattle.std.specs.Int.{w64, w128}
+use Rattle.std.specs.Int.{w64}
 use Rattle.std.specs.List.{AllByRecursion}
 use Rattle.values.specs.declared.value.Value.{Value}
 use Rattle.values.specs.declared.value.Value.TheVariants as value
 use Rattle.schema.specs.Databases.{Row}
-use Rattle.store.specs.Databases.{Stored}
 use Rattle.query.specs.Rows as rows
 use Rattle.oracle.specs.declared.environment.Env.{Env, Empty, Inner'}
 
@@ -14,10 +13,6 @@ use Rattle.oracle.specs.declared.environment.Env.{Env, Empty, Inner'}
 abbrev pub env_of : Env → rows.Env
 env_of Empty = []
 env_of (Inner' row _ outer) = row.now ∷ env_of outer
-
--- the tables of a database
-abbrev pub tables_in : Stored → rows.Tables
-tables_in d = rows.tables_of d.schema d.tables
 
 -- the rows that are lent
 abbrev pub rows_at : List (Bor Row) → List Row
@@ -36,9 +31,3 @@ IsShort (value.Text t) = Unit {0}
 -- the numbers in the rows have 64 bits
 abbrev pub AreShort : List Row → Type 0
 AreShort rows = AllByRecursion (AllByRecursion IsShort) rows
-
--- a number has the 128 bits of the program's integers
-abbrev pub IsHeld : Value → Type 0
-IsHeld value.Null = Unit {0}
-IsHeld (value.Int n) = FitsSigned w128 n
-IsHeld (value.Text t) = Unit {0}

@@ -5,14 +5,14 @@ ghost use Rattle.std.specs.List.{AllByRecursion};
 ghost use Rattle.values.specs.Cells.{value_of};
 ghost use Rattle.query.specs.Aggregates as spec;
 ghost use Rattle.query.specs.Rows.{value_at};
-ghost use Rattle.oracle.specs.Given.{AreShort, IsHeld, IsShort, rows_at, values_of};
+ghost use Rattle.oracle.specs.Given.{AreShort, IsShort, rows_at, values_of};
 
 use crate::environment::{is_null, value_at};
 use crate::rows::Row;
 use query::Aggregate;
+use query::aggregates::{greater, lesser, plus};
 use std::alloc::{AllocError, Global};
-use std::cmp::Ordering;
-use values::{Cell, Value, order};
+use values::{Cell, Value};
 
 /// How many of the column's values aren't Null.
 fn known(rows: &[&Row], place: usize) -> usize
@@ -25,32 +25,6 @@ fn known(rows: &[&Row], place: usize) -> usize
         }
     }
     count
-}
-
-/// The lesser of two values, where neither is Null.
-fn lesser<'v>(v: Cell<'v>, w: Cell<'v>) -> Cell<'v>
-    ensures { value_of result ≡ spec.lesser (value_of v.entry) (value_of w.entry) }
-{
-    if is_null(v) {
-        w
-    } else if is_null(w) {
-        v
-    } else if order(v, w) == Ordering::Greater {
-        w
-    } else {
-        v
-    }
-}
-
-/// The greater of two values; Null is the least in the order.
-fn greater<'v>(v: Cell<'v>, w: Cell<'v>) -> Cell<'v>
-    ensures { value_of result ≡ spec.greater (value_of v.entry) (value_of w.entry) }
-{
-    if order(v, w) == Ordering::Greater {
-        v
-    } else {
-        w
-    }
 }
 
 /// The least of the column's values, Nulls aside.
@@ -79,28 +53,16 @@ fn greatest<'r>(rows: &[&'r Row], place: usize) -> Cell<'r>
     greatest
 }
 
-/// The sum of two numbers; what is no number adds nothing.
-fn plus(v: Cell<'_>, w: Value) -> Value
-    requires { IsHeld (spec.plus (value_of v) w) }
-    ensures { result ≡ spec.plus (value_of v.entry) w }
-{
-    match (v, w) {
-        (Cell::Int(m), Value::Int(n)) => Value::Int(m + n),
-        (Cell::Int(m), _) => Value::Int(m),
-        (_, w) => w,
-    }
-}
-
 /// The sum of the column's numbers. It fits, since no more rows are in memory than there are numbers of 64 bits.
-fn sum(rows: &[&Row], place: usize) -> Value
+fn sum<'r>(rows: &[&'r Row], place: usize) -> Cell<'r>
     requires { AllByRecursion IsShort (values_of place rows.now) }
-    ensures { result ≡ spec.together spec.plus (values_of place rows.now) }
+    ensures { value_of result ≡ spec.together spec.plus (values_of place rows.entry.now) }
 {
-    let mut total = Value::Null;
+    let mut total = Cell::Null;
     let mut left = rows.len();
     while left > 0 {
         left -= 1;
-        total = plus(value_at(rows[left].as_slice(), place), total);
+        total = plus(value_at(rows[left].as_slice(), place), total).unwrap();
     }
     total
 }
@@ -120,7 +82,7 @@ pub fn aggregate(alloc: Global, of: Aggregate, rows: &[&Row]) -> Result<Value, A
     match of {
         Aggregate::CountRows => Ok(number(rows.len())),
         Aggregate::Count(place) => Ok(number(known(rows, place))),
-        Aggregate::Sum(place) => Ok(sum(rows, place)),
+        Aggregate::Sum(place) => sum(rows, place).to_value(alloc),
         Aggregate::Min(place) => least(rows, place).to_value(alloc),
         Aggregate::Max(place) => greatest(rows, place).to_value(alloc),
     }

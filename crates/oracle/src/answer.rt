@@ -2,7 +2,7 @@
 
 ghost use Rattle.std.specs.Prelude.{◌≡◌, IfOk};
 ghost use Rattle.query.specs.Answer as spec;
-ghost use Rattle.oracle.specs.Given.{tables_in};
+ghost use Rattle.query.specs.Rows.{tables_in};
 
 use crate::environment::{Env, value_at};
 use crate::evaluate::rows;
@@ -11,18 +11,14 @@ use query::{Query, SortKey};
 use std::alloc::{AllocError, Global};
 use std::cmp::Ordering;
 use store::Database;
-use values::{Value, order};
+use values::{Value, directed_order};
 
 /// The order of two rows at a key.
 fn key_order(key: &SortKey, a: &[Value], b: &[Value]) -> Ordering
     ensures { result ≡ spec.key_order key.now a.now b.now }
 {
     let (a, b) = (value_at(a, key.item), value_at(b, key.item));
-    if key.descending {
-        order(b, a)
-    } else {
-        order(a, b)
-    }
+    directed_order(key.descending, a, b)
 }
 
 /// The order of two rows at the keys: a later key decides where the earlier ones don't.

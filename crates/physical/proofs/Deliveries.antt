@@ -8,9 +8,10 @@ use Rattle.std.proofs.lemmas.Bool.{cond-true, not-true, and_parts, and_from, or_
 use Rattle.values.specs.Order.{order}
 use Rattle.query.specs.declared.query.TableInstance.{TableInstance}
 use Rattle.query.specs.Rows.{Tables}
+use Rattle.query.specs.Meaning.{or_else_row}
 use Rattle.algebra.specs.declared.condition.Condition.{Condition}
 use Rattle.algebra.specs.Columns.{ColumnSet, has, rising, are_disjoint}
-use Rattle.algebra.specs.Bags.{Env, Bag, Test, lay, nulls, matches, or_else_row, distinct_on}
+use Rattle.algebra.specs.Bags.{Env, Bag, Test, lay, nulls, matches, distinct_on}
 use Rattle.algebra.specs.Conditions.{holds}
 use Rattle.algebra.proofs.Sets.{has-rising}
 use Rattle.algebra.proofs.Puts.{among-append}

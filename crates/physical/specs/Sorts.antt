@@ -2,20 +2,18 @@
 -- straight insertion). Null is the least value: this project's profile of SQL.
 use Rattle.std.specs.Prelude.{if◌then◌else◌, List, [], ◌∷◌}
 use Rattle.std.specs.declared.cmp.Ordering.{Ordering}
-use Rattle.std.specs.declared.cmp.Ordering.TheVariants.{Equal}
-use Rattle.std.specs.Ordering.{is_gt, on, then_cmp, flip_args}
-use Rattle.values.specs.Order.{order}
+use Rattle.std.specs.Ordering.{is_gt, on}
+use Rattle.values.specs.Order.{directed, by_keys}
 use Rattle.algebra.specs.Bags.{Env}
 use Rattle.physical.specs.declared.plan.OrderKey.{OrderKey}
 
 -- the order of the rows' values in the key's column, turned round if it descends
 abbrev pub key_order : OrderKey → Env → Env → Ordering
-key_order k = on (λ r. r k.column) (if k.descending then flip_args order else order)
+key_order k = on (λ r. r k.column) (directed k.descending)
 
 -- a later key decides where the earlier ones do not
 abbrev pub keys_order : List OrderKey → Env → Env → Ordering
-keys_order [] = λ a b. Equal
-keys_order (k ∷ keys) = then_cmp (key_order k) (keys_order keys)
+keys_order = by_keys key_order
 
 -- an element put before those that it doesn't go after
 abbrev pub put_sorted : {X : Type 0} → (X → X → Ordering) → X → List X → List X

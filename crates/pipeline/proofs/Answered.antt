@@ -5,7 +5,7 @@ use Rattle.values.specs.declared.fault.Fault.TheVariants as fault
 use Rattle.values.specs.Faults.{Fails}
 use Rattle.schema.specs.declared.schema.Schema.{Schema}
 use Rattle.schema.specs.Reading.{schema_of}
-use Rattle.store.specs.Databases.{Stored}
+use Rattle.schema.specs.Databases.{Stored}
 use Rattle.store.specs.Devices.{Rose}
 use Rattle.query.specs.declared.query.Query.{Query}
 use Rattle.query.specs.Rows.{tables_of}

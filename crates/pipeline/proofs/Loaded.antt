@@ -6,12 +6,12 @@ use Rattle.std.proofs.lemmas.Bool.{cases_eq}
 use Rattle.std.proofs.lemmas.List.{get_or-map, get_or-set_same, get_or-set_other, length-set, length-map, map-set}
 use Rattle.schema.specs.declared.schema.Schema.{Schema}
 use Rattle.schema.specs.declared.schema.Table.{Table}
-use Rattle.schema.specs.Databases.{Database}
+use Rattle.schema.specs.Databases.{Database, Stored}
 use Rattle.store.specs.declared.fault.TableFault.{TableFault}
 use Rattle.store.specs.declared.fault.TableFault.TheVariants as faults
 use Rattle.store.specs.Devices.{Rose}
 use Rattle.store.specs.Tables.{records_of}
-use Rattle.store.specs.Databases.{Stored, ReplacesTable, LoadsTable, Loads}
+use Rattle.store.specs.Databases.{ReplacesTable, LoadsTable, Loads}
 use Rattle.pipeline.specs.declared.refusal.Refusal.{Refusal}
 use Rattle.pipeline.specs.Refusals.{of_table}
 use Rattle.pipeline.specs.EndToEnd.{Input, FileReports, TablesReported, IsLoadFault, IsDeviceFault, AreQuiet}

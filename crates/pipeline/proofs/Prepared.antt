@@ -4,10 +4,9 @@ use Rattle.values.specs.declared.fault.Fault.{Fault}
 use Rattle.values.specs.declared.fault.Fault.TheVariants as fault
 use Rattle.values.specs.Faults.{Fails}
 use Rattle.schema.specs.declared.schema.Schema.{Schema}
-use Rattle.schema.specs.Databases.{Database, Satisfies}
+use Rattle.schema.specs.Databases.{Database, Satisfies, Stored}
 use Rattle.sql_parse.specs.declared.statement.Statement.{Statement}
 use Rattle.sql_parse.specs.Statements.{ReadsStatement}
-use Rattle.store.specs.Databases.{Stored}
 use Rattle.query.specs.declared.query.Query.{Query}
 use Rattle.binder.specs.declared.fault.BindRefusal.{BindRefusal}
 use Rattle.binder.specs.Queries.{bound_statement}

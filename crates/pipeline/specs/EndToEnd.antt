@@ -2,12 +2,11 @@
 use Rattle.std.specs.Prelude.{◌≡◌, ◌<◌, ℕ, List, [], length, slice_get, slice_index_or, Option, Some, None, Result, Ok, Err}
 use Rattle.schema.specs.declared.schema.Schema.{Schema}
 use Rattle.schema.specs.declared.schema.Table.{Table}
-use Rattle.schema.specs.Databases.{Row, Database, Satisfies}
+use Rattle.schema.specs.Databases.{Row, Database, Satisfies, Stored}
 use Rattle.schema.specs.Reading.{schema_of}
 use Rattle.sql_parse.specs.declared.statement.Statement.{Statement}
 use Rattle.sql_parse.specs.Statements.{ReadsStatement, IsStatementFault}
 use Rattle.store.specs.declared.fault.TableRefusal.{TableRefusal}
-use Rattle.store.specs.Databases.{Stored}
 use Rattle.store.specs.Devices.{Rose}
 use Rattle.store.specs.Tables.{records_of, IsReported}
 use Rattle.query.specs.declared.query.Query.{Query}

@@ -2,8 +2,7 @@
 //! with `;` between them. The answers are sqlite3's: bench/answers.py reads this file and asks it.
 
 use crate::commands::{Files, Way, push_answer};
-use crate::judged::are_reported;
-use fixtures::{COMPANY, DEPT, EMP, Reporting, spelt};
+use fixtures::{COMPANY, DEPT, EMP, Reporting, differences, spelt};
 use std::alloc::{AllocError, Global};
 
 /// Queries of one table. A comparison with NULL is unknown, and so is its opposite.
@@ -191,6 +190,6 @@ fn both_commands_answer_as_sql_does(rt: HostRuntime) {
         REFUSED,
     ];
     let (plan, meaning) = (Way::Plan, Way::Meaning);
-    are_reported(&rt, rt.alloc(), &tables, &Answers { way: plan });
-    are_reported(&rt, rt.alloc(), &tables, &Answers { way: meaning });
+    assert_eq!(rt; differences(rt.alloc(), &tables, &Answers { way: plan }).as_deref(), Ok(""));
+    assert_eq!(rt; differences(rt.alloc(), &tables, &Answers { way: meaning }).as_deref(), Ok(""));
 }

@@ -1,10 +1,9 @@
 //! The canonical certificates of three queries: their lines, and their plans as texts.
 
-use crate::judged::queries_are_reported;
 use crate::lines::{push_aggregates, push_columns, push_keys, push_line};
 use algebra::{Conjuncts, Expr};
 use derivation::{Certificate, Line};
-use fixtures::{COMPANY, DEPT, EMP, QueryReporting, Tables, push_number};
+use fixtures::{COMPANY, DEPT, EMP, QueryReporting, Tables, push_number, query_differences};
 use physical::{JoinKind, Node, Operator, Plan};
 use planner::canonical;
 use query::Query;
@@ -144,5 +143,5 @@ SELECT DISTINCT dept, COUNT(*) FROM emp GROUP BY dept => get 0; group 0: 1; 4=co
         first: DEPT,
         second: EMP,
     };
-    queries_are_reported(&rt, rt.alloc(), company, &[CASES], &Canonical);
+    assert_eq!(rt; query_differences(rt.alloc(), company, &[CASES], &Canonical).as_deref(), Ok(""));
 }

@@ -2,14 +2,13 @@
 
 ghost use Rattle.query.specs.Bound.{IsBoundOver};
 
-use crate::judged::queries_are_reported;
 use crate::plans::{cut, number, plan_of};
 use crate::tables::TABLES;
 use algebra::Expr;
 use checker::{Checked, check};
 use derivation::{Certificate, Line};
 use executor::run;
-use fixtures::{QueryReporting, drop_query, push_rows, query_of};
+use fixtures::{QueryReporting, drop_query, push_rows, query_differences, query_of};
 use logical::query_frame;
 use physical::Plan;
 use query::Query;
@@ -180,5 +179,5 @@ SELECT id FROM emp WHERE pay <> 500 => scan 0 0 | filter 1 | cut 2: 0 /  /  / SE
 
 #[test]
 fn certificates_are_judged(rt: HostRuntime) {
-    queries_are_reported(&rt, rt.alloc(), TABLES, &[PLANS, ROWS, LINES], &Verdicts);
+    assert_eq!(rt; query_differences(rt.alloc(), TABLES, &[PLANS, ROWS, LINES], &Verdicts).as_deref(), Ok(""));
 }

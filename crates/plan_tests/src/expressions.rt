@@ -2,12 +2,11 @@
 
 ghost use Rattle.std.specs.Prelude.{◌≡◌, IfOk, length};
 
-use crate::judged::{are_reported, queries_are_reported};
 use crate::lines::push_columns;
 use crate::plans::{columns_of, cut, number};
 use crate::tables::TABLES;
 use algebra::{Aggregation, Columns, Condition, Conjuncts, Expr, Term};
-use fixtures::{QueryReporting, Reporting};
+use fixtures::{QueryReporting, Reporting, differences, query_differences};
 use query::{Aggregate, Query, TableInstance};
 use std::alloc::{AllocError, Global};
 use store::Database;
@@ -36,7 +35,7 @@ impl Reporting for Sets {
 fn sets_rise(rt: HostRuntime) {
     const CASES: &str = "5 4 5 => without 4 5; 4 5
 9 5 => with 5 9; 4 5 9";
-    are_reported(&rt, rt.alloc(), &[CASES], &Sets);
+    assert_eq!(rt; differences(rt.alloc(), &[CASES], &Sets).as_deref(), Ok(""));
 }
 
 /// `2=sum:1`
@@ -134,5 +133,5 @@ SELECT SUM(boss) FROM dept => keep 1: 0 1 => not formed
 SELECT SUM(boss) FROM dept => join 1 => formed
 SELECT SUM(boss) FROM dept => join 0 => not formed
 SELECT SUM(boss) FROM dept => join 2 => not formed";
-    queries_are_reported(&rt, rt.alloc(), TABLES, &[CASES], &Expressions);
+    assert_eq!(rt; query_differences(rt.alloc(), TABLES, &[CASES], &Expressions).as_deref(), Ok(""));
 }

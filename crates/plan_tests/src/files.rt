@@ -1,8 +1,7 @@
 //! Files that are read and files that are refused.
 
 use crate::commands::{Files, Way, push_answer};
-use crate::judged::are_reported;
-use fixtures::{COMPANY, DEPT, EMP, Reporting, spelt};
+use fixtures::{COMPANY, DEPT, EMP, Reporting, differences, spelt};
 use std::alloc::{AllocError, Global};
 use std::process::Abort;
 
@@ -97,7 +96,7 @@ impl Reporting for Replaced<'_> {
 /// Both commands answer the cases so.
 fn are_answered(rt: &impl Abort, alloc: Global, given: Given, cases: &str, text: &str) {
     for way in [Way::Plan, Way::Meaning] {
-        are_reported(rt, alloc, &[cases], &Replaced { way, given, text });
+        assert_eq!(rt; differences(alloc, &[cases], &Replaced { way, given, text }).as_deref(), Ok(""));
     }
 }
 

@@ -1,10 +1,9 @@
 //! Frames of queries of each form.
 
-use crate::judged::queries_are_reported;
 use crate::lines::push_line;
 use crate::tables::TABLES;
 use algebra::{Aggregation, Columns, Conjuncts, Expr};
-use fixtures::QueryReporting;
+use fixtures::{QueryReporting, query_differences};
 use logical::query_frame;
 use query::{Query, TableInstance};
 use std::alloc::{AllocError, Global};
@@ -101,5 +100,5 @@ SELECT COUNT(*) FROM dept => get 0; group 0:; 2=count; keep 1: 2
 SELECT DISTINCT boss FROM dept WHERE (boss < 7 AND id < 9) AND boss < 7 => get 0; select 0 [<(c0,i9),<(c1,i7)]; keep 1: 1; distinct 2
 SELECT id FROM dept WHERE NOT boss < 7 OR boss IS NULL AND NULL = 3 => get 0; select 0 [or(not(<(c1,i7)),and(null(c1),=(n,i3)))]; keep 1: 0
 SELECT a FROM t, u WHERE d >= 'y' => get 0; get 1; join 0 1 []; select 2 [>=(c3,t79)]; keep 3: 0";
-    queries_are_reported(&rt, rt.alloc(), TABLES, &[CASES], &Frames);
+    assert_eq!(rt; query_differences(rt.alloc(), TABLES, &[CASES], &Frames).as_deref(), Ok(""));
 }

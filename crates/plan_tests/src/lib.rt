@@ -16,8 +16,6 @@ mod files;
 #[cfg(test)]
 mod frames;
 #[cfg(test)]
-mod judged;
-#[cfg(test)]
 mod lines;
 #[cfg(test)]
 mod orders;

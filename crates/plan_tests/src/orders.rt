@@ -1,11 +1,10 @@
 //! The orders that plans deliver, and that queries ask for.
 
-use crate::judged::queries_are_reported;
 use crate::lines::push_keys;
 use crate::plans::plan_of;
 use crate::tables::TABLES;
 use derivation::query_order;
-use fixtures::QueryReporting;
+use fixtures::{QueryReporting, query_differences};
 use logical::query_frame;
 use physical::{Plan, delivers};
 use query::Query;
@@ -64,5 +63,5 @@ SELECT x.boss, x.id FROM dept x, dept y => scan 0 0 | sort: 1d 2 | scan 0 1 | lo
 SELECT x.boss, x.id FROM dept x, dept y => scan 0 0 | sort: 1d 0 | cut 0: 1 | distinct 0 => order 1d
 SELECT x.boss, x.id FROM dept x, dept y => scan 0 0 | sort: 1d 0 | group 0 => order
 SELECT boss, id FROM dept ORDER BY id DESC, boss => order 0d 1";
-    queries_are_reported(&rt, rt.alloc(), TABLES, &[CASES], &Orders);
+    assert_eq!(rt; query_differences(rt.alloc(), TABLES, &[CASES], &Orders).as_deref(), Ok(""));
 }

@@ -2,6 +2,7 @@ pub mod Company
 pub mod Counting
 pub mod Equations
 pub mod Groups
+pub mod KeyOrders
 pub mod Lists
 pub mod Obeys
 pub mod SameCounts

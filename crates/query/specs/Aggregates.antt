@@ -1,6 +1,7 @@
 -- Groups, and the aggregates of a group (this project's profile of SQL). Null adds nothing to a COUNT of a column, a SUM,
 -- a MIN or a MAX.
-use Rattle.std.specs.Prelude.{ℕ, ◌+◌, ◌+ℤ◌, pos, if◌then◌else◌, List, [], ◌∷◌, length, map, filter}
+use Rattle.std.specs.Prelude.{ℕ, ◌+◌, ◌+ℤ◌, pos, if◌then◌else◌, List, [], ◌∷◌, length, map, filter, FitsSigned}
+use Rattle.std.specs.Int.{w128}
 use Rattle.std.specs.Ordering.{is_gt}
 use Rattle.values.specs.declared.value.Value.{Value}
 use Rattle.values.specs.declared.value.Value.TheVariants as value
@@ -25,6 +26,12 @@ plus (value.Text t) w = w
 plus (value.Int m) value.Null = value.Int m
 plus (value.Int m) (value.Int n) = value.Int (m +ℤ n)
 plus (value.Int m) (value.Text t) = value.Int m
+
+-- a number fits the 128 bits of the program's integers
+abbrev pub IsHeld : Value → Type 0
+IsHeld value.Null = Unit {0}
+IsHeld (value.Int n) = FitsSigned w128 n
+IsHeld (value.Text t) = Unit {0}
 
 -- the lesser of two values in the order of values, where neither is Null
 abbrev pub lesser : Value → Value → Value

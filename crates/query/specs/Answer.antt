@@ -1,10 +1,9 @@
 -- What an answer of a query is, and that the laws determine it (this project's profile of SQL).
-use Rattle.std.specs.Prelude.{◌≡◌, ◌↔◌, ℕ, false, if◌then◌else◌, List, [], ◌∷◌}
+use Rattle.std.specs.Prelude.{◌≡◌, ◌↔◌, ℕ, false, List, [], ◌∷◌}
 use Rattle.std.specs.declared.cmp.Ordering.{Ordering}
-use Rattle.std.specs.declared.cmp.Ordering.TheVariants.{Equal}
-use Rattle.std.specs.Ordering.{is_gt, on, then_cmp, flip_args}
+use Rattle.std.specs.Ordering.{is_gt, on}
 use Rattle.values.specs.declared.truth.Truth.{Truth}
-use Rattle.values.specs.Order.{order}
+use Rattle.values.specs.Order.{directed, by_keys}
 use Rattle.schema.specs.declared.schema.Schema.{Schema}
 use Rattle.schema.specs.Databases.{Row, Database, Satisfies}
 use Rattle.query.specs.declared.query.Cond.{Cond}
@@ -20,12 +19,11 @@ use Rattle.query.specs.Laws.{IsMeaningOn}
 
 -- the order of values at the key's item, turned round under DESC
 abbrev pub key_order : SortKey → Row → Row → Ordering
-key_order k = on (value_at k.item) (if k.descending then flip_args order else order)
+key_order k = on (value_at k.item) (directed k.descending)
 
 -- a later key decides where the earlier ones do not
 abbrev pub keys_order : List SortKey → Row → Row → Ordering
-keys_order [] = λ a b. Equal
-keys_order (k ∷ keys) = then_cmp (key_order k) (keys_order keys)
+keys_order = by_keys key_order
 
 -- no row stands right before one that goes before it
 abbrev pub IsAllowed : List SortKey → List Row → Type 0

@@ -73,7 +73,7 @@ abbrev pub matches : CondMeaning → ℕ → Tables → Env → Row → List Row
 matches on t D e l = filter (passes on D e) (pairs_of l (D.rows t))
 
 -- a row in place of no rows
-abbrev pub or_else_row : Row → List Row → List Row
+abbrev pub or_else_row : {X : Type 0} → X → List X → List X
 or_else_row pad [] = pad ∷ []
 or_else_row pad (s ∷ rows) = s ∷ rows
 

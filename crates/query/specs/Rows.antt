@@ -8,7 +8,7 @@ use Rattle.values.specs.declared.value.Value.{Value}
 use Rattle.values.specs.declared.value.Value.TheVariants as value
 use Rattle.values.specs.Order.{order}
 use Rattle.schema.specs.declared.schema.Schema.{Schema}
-use Rattle.schema.specs.Databases.{Row, Database, HaveWidth}
+use Rattle.schema.specs.Databases.{Row, Database, Stored, HaveWidth}
 use Rattle.query.specs.declared.query.Column.{Column}
 use Rattle.query.specs.declared.query.Term.{Term}
 use Rattle.query.specs.declared.query.Term.TheVariants as term
@@ -26,6 +26,10 @@ tables_of S D = record {
   rows = λ t. slice_index_or D t [];
   width = λ t. slice_index_or (map (λ entry. length entry.columns) S.tables) t 0;
 }
+
+-- the same of a database that has its schema with it
+abbrev pub tables_in : Stored → Tables
+tables_in d = tables_of d.schema d.tables
 
 -- each row of a table has a value for each of its columns
 abbrev pub IsFitting : Tables → Type 0

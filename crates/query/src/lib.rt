@@ -1,6 +1,7 @@
 //! Bound queries, what they mean, and what an answer is.
 #![tactic(auto)]
 
+pub mod aggregates;
 pub mod laws;
 pub mod query;
 

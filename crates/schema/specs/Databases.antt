@@ -22,6 +22,11 @@ HaveWidth width rows = AllByRecursion (λ r. length r ≡ width) rows
 abbrev pub Database : Type 0
 Database = List (List Row)
 
+-- a schema, with the rows of its tables
+pub record Stored : Type 0 where
+  pub schema : Schema
+  pub tables : Database
+
 -- the most rows that a table may have
 abbrev pub most_rows : ℕ
 most_rows = 1000000

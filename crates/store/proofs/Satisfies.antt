@@ -7,8 +7,8 @@ use Rattle.store.specs.declared.fault.TableFault.{TableFault}
 use Rattle.store.specs.declared.fault.TableFault.TheVariants as faults
 use Rattle.store.specs.Tables.{Record, IsReported}
 use Rattle.store.specs.Parsing.{ReadsTable}
-use Rattle.store.specs.Databases.{Stored, LoadsTable, Loads}
-use Rattle.schema.specs.Databases.{Row, Database, IsUnique, SatisfiesTable, SatisfyTables}
+use Rattle.store.specs.Databases.{LoadsTable, Loads}
+use Rattle.schema.specs.Databases.{Row, Database, IsUnique, SatisfiesTable, SatisfyTables, Stored}
 
 none_unique : (lists : List (List ℕ)) → AllByRecursion (IsUnique []) lists
 none_unique [] = tt

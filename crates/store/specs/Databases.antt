@@ -1,15 +1,10 @@
--- A database with its schema, and what a load does to it.
+-- What a load does to a database.
 use Rattle.std.specs.Prelude.{◌≡◌, ℕ, List, Result, Ok, Err, IfSome, slice_get, slice_set}
-use Rattle.schema.specs.declared.schema.Schema.{Schema}
 use Rattle.schema.specs.declared.schema.Table.{Table}
-use Rattle.schema.specs.Databases.{Row, Database}
+use Rattle.schema.specs.Databases.{Row, Stored}
 use Rattle.store.specs.declared.fault.TableFault.{TableFault}
 use Rattle.store.specs.declared.fault.TableFault.TheVariants as faults
 use Rattle.store.specs.Tables.{Record, IsReported}
-
-pub record Stored : Type 0 where
-  pub schema : Schema
-  pub tables : Database
 
 -- some rows take the place of those of the table with this number
 abbrev pub ReplacesTable : Stored → Stored → ℕ → Type 0

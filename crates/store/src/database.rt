@@ -27,7 +27,7 @@ pub struct Database<'s> {
 
 impl<'s> Model for Database<'s> {
     ghost use Rattle.schema.specs.Databases.{Satisfies};
-    ghost use Rattle.store.specs.Databases.{Stored};
+    ghost use Rattle.schema.specs.Databases.{Stored};
 
     ghost Value = { Stored };
 

@@ -1,8 +1,8 @@
 //! Where a table's bytes come from.
 
-ghost use Rattle.std.specs.Prelude.{◌≡◌, ◌≤◌, ◌+◌, ◌-◌, ◌^◌, ℕ, List, Option, None, min, IfOk, IfErr, IfSome, MatchResult, length};
+ghost use Rattle.std.specs.Prelude.{◌≡◌, ◌≤◌, ℕ, List, Option, None, IfOk, IfErr, IfSome, length};
 ghost use Rattle.std.specs.Io.KnownBytes.{ReadConsumes};
-ghost use Rattle.store.specs.Devices.{Rose};
+ghost use Rattle.store.specs.Devices.{Counts, Rose};
 
 use std::alloc::Global;
 use std::io::Read;
@@ -22,8 +22,7 @@ pub trait TableInput {
     fn read_some(&mut self, buffer: &mut [u8]) -> Result<usize, DeviceFailed>
         ensures bound { IfOk result (λ n. n ≤ length buffer.new) }
         ensures bytes { ReadConsumes (remaining self.old) (remaining self.new) result buffer.new }
-        ensures counts { MatchResult result (λ _. failures self.new ≡ failures self.old)
-            (λ _. failures self.new ≡ min (failures self.old + 1) (2 ^ 64 - 1)) };
+        ensures counts { Counts result (failures self.old) (failures self.new) };
 }
 
 /// A reader with a count of its failed calls.

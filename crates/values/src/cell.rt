@@ -48,6 +48,17 @@ pub fn order(a: Cell<'_>, b: Cell<'_>) -> Ordering
     }
 }
 
+/// The total order under a key, turned round under DESC.
+pub fn directed_order(descending: bool, a: Cell<'_>, b: Cell<'_>) -> Ordering
+    ensures { result ≡ spec.directed descending (value_of a.entry) (value_of b.entry) }
+{
+    if descending {
+        order(b, a)
+    } else {
+        order(a, b)
+    }
+}
+
 /// Whether two values are equal in the total order, in which Null equals Null.
 pub fn same(a: Cell<'_>, b: Cell<'_>) -> bool
     ensures { result ≡ spec.same (value_of a.entry) (value_of b.entry) }

@@ -11,7 +11,7 @@ pub mod text;
 pub mod truth;
 pub mod value;
 
-pub use cell::{Cell, compare, order, same};
+pub use cell::{Cell, compare, directed_order, order, same};
 pub use fault::Fault;
 pub use sqlite_items::{Boxed, Items};
 pub use text::Text;

@@ -2,7 +2,8 @@ use Rattle.std.proofs.Common.{◌≡◌, ◌∙◌, ℕ, List, ap, sym, subst, O
 use Rattle.std.specs.Io.KnownBytes.{Appends}
 use Rattle.query.specs.Answer.{IsAnswer}
 use Rattle.executor.specs.AnswerText.{answer_text, HasFront}
-use Rattle.executor.specs.Execution.{tables_in, accepted_text}
+use Rattle.query.specs.Rows.{tables_in}
+use Rattle.executor.specs.Execution.{accepted_text}
 use Rattle.executor.proofs.Sent.{front_of_nothing, on_err, on_ok}
 use Rattle.executor.proofs.answer.write_answer.Goals as goal
 

@@ -2,7 +2,7 @@ use Rattle.std.proofs.Common.{◌≡◌, List, IfOk, sym, ◌∙◌, subst}
 use Rattle.std.proofs.lemmas.Result.{IfOk-weaker}
 use Rattle.schema.specs.Databases.{Row}
 use Rattle.query.specs.Answer.{IsAnswer}
-use Rattle.executor.specs.Execution.{tables_in}
+use Rattle.query.specs.Rows.{tables_in}
 use Rattle.executor.proofs.Plans.{answer_of, answers_of}
 use Rattle.executor.proofs.execution.run.Goals as goal
 

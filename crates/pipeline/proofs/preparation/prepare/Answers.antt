@@ -1,7 +1,7 @@
 use Rattle.std.proofs.Common.{◌∙◌, ap, subst, length, map, Err}
 use Rattle.std.proofs.lemmas.Result.{err_from_is_err_and}
 use Rattle.schema.specs.declared.schema.Schema.{Schema}
-use Rattle.store.specs.Databases.{Stored}
+use Rattle.schema.specs.Databases.{Stored}
 use Rattle.pipeline.specs.EndToEnd.{TablesReported, IsLoadFault}
 use Rattle.pipeline.proofs.Answered.{of_fault}
 use Rattle.pipeline.proofs.Prepared.{load_unprepared, prepared, satisfied_by}

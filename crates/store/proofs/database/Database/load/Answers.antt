@@ -2,7 +2,7 @@ use Rattle.std.proofs.Common.{◌≡◌, ◌∙◌, ℕ, List, length, Err, ap, 
 use Rattle.std.proofs.Math.ListN.{set}
 use Rattle.std.proofs.lemmas.Result.{err_from_is_err_and}
 use Rattle.csv.specs.Reading.{default_config, records, strip_bom}
-use Rattle.store.specs.Databases.{Stored}
+use Rattle.schema.specs.Databases.{Stored}
 use Rattle.store.proofs.Satisfies.{satisfy_length, satisfy_set, loads_fault, loads_rows}
 use Rattle.store.proofs.database.Database.load.Goals as goal
 
