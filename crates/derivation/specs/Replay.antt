@@ -51,11 +51,15 @@ abbrev pub is_frame_line : Option Expr → Expr → Bool
 is_frame_line None x = true
 is_frame_line (Some y) x = same_expr x y
 
--- line n, after lines whose classes have these columns: it names earlier lines, is well formed, and is the frame's line, if
--- the frame has one there
+-- whether one of the first n lines founds this class: each of them founds one
+abbrev pub is_founded : ℕ → ℕ → Bool
+is_founded n g = nat_lt g n
+
+-- line n, after lines whose classes have these columns: it names classes that are founded, is well formed, and is the frame's
+-- line, if the frame has one there
 abbrev pub line_replays : Query → ℕ → (ℕ → List ℕ) → Expr → Result Expr CheckRefusal
 line_replays q n cols x =
-    wanted_if (refusal n UnknownLine) (classes_pass (λ g. nat_lt g n) x) x
+    wanted_if (refusal n UnknownLine) (classes_pass (is_founded n) x) x
     >>= λ x. wanted_if (refusal n IllFormed) (is_formed q.tables (own_aggregates q) cols x) x
     >>= λ x. wanted_if (refusal n OtherLine) (is_frame_line (slice_get (query_frame q) n) x) x
 
