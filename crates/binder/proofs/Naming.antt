@@ -8,6 +8,7 @@ use Rattle.std.proofs.lemmas.List.Folds.{list_all-append}
 use Rattle.std.specs.Borrow.{Bor}
 use Rattle.std.specs.HashMap as hash
 use Rattle.std.specs.HashMap.{HashMap}
+use Rattle.values.proofs.Lists.{drop_next}
 use Rattle.binder.specs.contracts.named.IdentityPartialEq.TheImpl.{eq-value}
 use Rattle.binder.specs.declared.fault.BindReason.TheVariants.{NoOutputColumn}
 use Rattle.binder.specs.declared.fault.BindRefusal.{BindRefusal}
@@ -21,7 +22,6 @@ use Rattle.binder.specs.declared.named.Sense.{Sense}
 use Rattle.binder.specs.declared.named.Sense.TheVariants.{One, Several}
 use Rattle.binder.specs.Ordering.{same_item, one_column}
 use Rattle.binder.specs.Named.{identity_of, sense_of, one_more, items_named, items_showing, HasSenses}
-use Rattle.binder.proofs.Fronts.{front_of}
 use Rattle.binder.proofs.NameKeys.{after-insert}
 
 -- ---- by column
@@ -70,7 +70,7 @@ firsts-step m n os i o lt at up h q =
     up.0 (identity_of q)
     ∙ ap (λ b. cond b (Some i) (hash.get eq-value.it m (identity_of q))) (same-identity o.item q)
     ∙ ap (cond (same_item o.item q) (Some i)) (h q)
-    ∙ sym (ap (first_at (λ o. same_item o.item q) i) (front_of os i o lt at))
+    ∙ sym (ap (first_at (λ o. same_item o.item q) i) (drop_next os i o lt at))
 
 same-is : (i : Item) (c : Column) → same_item i (item.Column c) ≡ true → i ≡ item.Column c
 same-is (item.Column d) c h =

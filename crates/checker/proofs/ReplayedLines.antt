@@ -1,7 +1,7 @@
 -- One more line replayed.
 use Rattle.std.proofs.Common.{◌≡◌, refl, ap, sym, ◌∙◌, ℕ, ◌+◌, ◌<◌, List, [], ◌∷◌, ◌++◌, map, length, take, drop, reverse, get_or, Ok, inl, inr, arith, add-one}
 use Rattle.std.proofs.lemmas.Bool.{cases_order, eq-eqb, ne_eqb}
-use Rattle.std.proofs.lemmas.List.{take_more, reverse-append, length-reverse, length-map, length-take-le, length_push, get_or_push, get_or_append_left, get_or_past}
+use Rattle.std.proofs.lemmas.List.{take_more, reverse-append, length-reverse, length-map, length-take-le, length_push, get_or_push, get_or_append_left, get_or_past, map_push}
 use Rattle.std.proofs.Math.Seq.{drop-cons}
 use Rattle.values.specs.Faults.{◌>>=◌}
 use Rattle.query.specs.declared.query.TableInstance.{TableInstance}
@@ -20,10 +20,6 @@ before lines i = reverse (map founding (take i lines))
 -- those from it on
 abbrev pub after : List Line → ℕ → List Expr
 after lines i = map founding (drop i lines)
-
-map_push : {X Y : Type 0} (f : X → Y) (xs : List X) (x : X) → map f (xs ++ x ∷ []) ≡ map f xs ++ f x ∷ []
-map_push f [] x = refl
-map_push f (y ∷ xs) x = ap (λ ys. f y ∷ ys) (map_push f xs x)
 
 pub before_more : (lines : List Line) (i : ℕ) (line : Line) → i < length lines → line ≡ get_or lines i line → before lines (i + 1) ≡ founding line ∷ before lines i
 before_more lines i line lt is =

@@ -3,6 +3,7 @@ use Rattle.std.proofs.Common.{ℕ, zero, suc, List, [], ◌∷◌, ◌++◌, fla
 use Rattle.std.specs.List.{AllByRecursion}
 use Rattle.values.specs.declared.value.Value.{Value}
 use Rattle.values.specs.declared.value.Value.TheVariants.{Null, Int, Text}
+use Rattle.values.proofs.Lists.{all_append}
 use Rattle.schema.specs.declared.schema.Schema.{Schema}
 use Rattle.schema.specs.declared.schema.Table.{Table}
 use Rattle.schema.specs.declared.schema.Column.{Column}
@@ -18,17 +19,16 @@ use Rattle.query.specs.Meaning.{CondMeaning, source, truth, or_else_row, pairs_o
 use Rattle.query.proofs.Equations.{source-Table, source-Join, source-LeftJoin, source-Comma}
 use Rattle.oracle.specs.Given.{IsShort, AreShort}
 use Rattle.oracle.proofs.Sums.{short-filter}
-use Rattle.query.proofs.Lists.{all-append}
 
 -- ---- lists
 
 short-flat_map : (f : Row → List Row) → ((l : Row) → AllByRecursion IsShort l → AreShort (f l)) → (L : List Row) → AreShort L → AreShort (flat_map f L)
 short-flat_map f each [] h = tt
-short-flat_map f each (l ∷ L) h = all-append (AllByRecursion IsShort) (f l) (flat_map f L) (each l h.0) (short-flat_map f each L h.1)
+short-flat_map f each (l ∷ L) h = all_append (AllByRecursion IsShort) (f l) (flat_map f L) (each l h.0) (short-flat_map f each L h.1)
 
 short-pairs : (l : Row) → AllByRecursion IsShort l → (R : List Row) → AreShort R → AreShort (pairs_of l R)
 short-pairs l h [] k = tt
-short-pairs l h (r ∷ R) k = (all-append IsShort l r h k.0, short-pairs l h R k.1)
+short-pairs l h (r ∷ R) k = (all_append IsShort l r h k.0, short-pairs l h R k.1)
 
 short-nulls : (width : ℕ) → AllByRecursion IsShort (nulls width)
 short-nulls zero = tt
@@ -48,7 +48,7 @@ short-matches : (on : CondMeaning) (t : ℕ) (D : Tables) (e : Env) → AreShort
 short-matches on t D e short l h = short-filter (passes on D e) (pairs_of l (D.rows t)) (short-pairs l h (D.rows t) (short t))
 
 short-padded : (on : CondMeaning) (t : ℕ) (D : Tables) (e : Env) → AreShortTables D → (l : Row) → AllByRecursion IsShort l → AreShort (padded on t D e l)
-short-padded on t D e short l h = short-or_else _ (matches on t D e l) (all-append IsShort l (nulls (D.width t)) h (short-nulls (D.width t))) (short-matches on t D e short l h)
+short-padded on t D e short l h = short-or_else _ (matches on t D e l) (all_append IsShort l (nulls (D.width t)) h (short-nulls (D.width t))) (short-matches on t D e short l h)
 
 abbrev GivesShort : From → Type 0
 GivesShort f = (D : Tables) (e : Env) → AreShortTables D → AreShort (source f D e)

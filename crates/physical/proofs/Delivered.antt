@@ -1,7 +1,8 @@
 -- The columns and the order that a plan delivers, by its root's node.
 use Rattle.std.proofs.Common.{◌≡◌, ap, sym, ◌∙◌, List, map}
+use mathlib.Core.List.{map-map}
 use Rattle.query.specs.declared.query.TableInstance.{TableInstance}
-use Rattle.algebra.proofs.Lists.{two, map-map}
+use Rattle.algebra.proofs.Lists.{two}
 use Rattle.physical.specs.declared.plan.Node.{Node}
 use Rattle.physical.specs.declared.plan.Plan.{Plan, out-Plan, fold_out-Plan}
 use Rattle.physical.specs.Outputs.{node_columns}

@@ -1,23 +1,19 @@
 -- Rows by the keys of an order: the order is total, and a sort keeps the bag.
 use Rattle.std.proofs.Common.{◌≡◌, refl, ap, ◌∙◌, ℕ, ◌+◌, Bool, true, false, if◌then◌else◌, List, [], ◌∷◌, arith}
 use Rattle.std.specs.declared.cmp.Ordering.{Ordering}
-use Rattle.std.specs.Ordering.{is_gt, flip_args}
+use Rattle.std.specs.Ordering.{is_gt}
 use Rattle.std.specs.Cmp.{IsTotalOrder}
-use Rattle.std.proofs.lemmas.Cmp.{on_total, then_total, back_total}
+use Rattle.std.proofs.lemmas.Cmp.{on_total, then_total}
 use Rattle.values.specs.Order.{order}
-use Rattle.query.proofs.Counting.{order-total}
+use Rattle.values.proofs.Orders.{turned_total}
 use Rattle.algebra.specs.Bags.{Env, Bag, total, SameRows, SameBag}
 use Rattle.physical.specs.declared.plan.OrderKey.{OrderKey}
 use Rattle.physical.specs.Sorts.{put_sorted, sorted, key_order, keys_order}
 
 -- ---- the order of the keys
 
-turned : (b : Bool) → IsTotalOrder (if b then flip_args order else order)
-turned true = back_total order-total
-turned false = order-total
-
 key_total : (k : OrderKey) → IsTotalOrder (key_order k)
-key_total k = on_total (λ (r : Env). r k.column) (turned k.descending)
+key_total k = on_total (λ (r : Env). r k.column) (turned_total k.descending)
 
 pub keys_total : (keys : List OrderKey) → IsTotalOrder (keys_order keys)
 keys_total [] = record { antisymm = λ a b. refl; trans = λ a b c h k. h; congr = λ a b c h. refl }

@@ -2,7 +2,6 @@ pub mod Company
 pub mod Counting
 pub mod Equations
 pub mod Groups
-pub mod Lists
 pub mod Obeys
 pub mod SameCounts
 pub mod ScopeEquations

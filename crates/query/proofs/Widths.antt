@@ -1,12 +1,11 @@
 -- A FROM's rows have as many values as it has columns.
-use Rattle.std.proofs.Common.{◌≡◌, refl, ℕ, zero, suc, ◌+◌, Bool, true, false, if◌then◌else◌, List, [], ◌∷◌, ◌++◌, length, map, filter, flat_map, ap, sym, arith, subst, length-append}
+use Rattle.std.proofs.Common.{◌≡◌, ℕ, zero, suc, ◌+◌, Bool, true, false, if◌then◌else◌, List, [], ◌∷◌, ◌++◌, length, map, filter, flat_map, sym, arith, subst, length-append}
 use Rattle.std.proofs.lemmas.List.{length-replicate}
 use Rattle.std.specs.Prelude.{slice_index_or}
-use Rattle.std.specs.List.{AllByRecursion}
 use Rattle.values.specs.declared.value.Value.TheVariants.{Null}
-use Rattle.schema.specs.declared.schema.Column.{Column}
 use Rattle.schema.specs.declared.schema.Table.{Table}
-use Rattle.schema.specs.Databases.{Row, Database, FitsColumns, SatisfyTables, HaveWidth}
+use Rattle.schema.specs.Databases.{Row, Database, SatisfyTables, HaveWidth}
+use Rattle.schema.proofs.Widths.{fits_width}
 use Rattle.query.specs.declared.query.Cond.{Cond}
 use Rattle.query.specs.declared.query.From.{From, roll-From}
 use Rattle.query.specs.declared.query.Block.{Block}
@@ -79,21 +78,11 @@ source_fits = ind-From (λ c. Unit {0}) HasWidth (λ q. Unit {0}) (λ x y is. tt
 
 -- ---- databases
 
-fits-length : (cs : List Column) (r : Row) → FitsColumns cs r → length r ≡ length cs
-fits-length [] [] h = refl
-fits-length [] (v ∷ vs) h = absurd h
-fits-length (c ∷ cs) [] h = absurd h
-fits-length (c ∷ cs) (v ∷ vs) h = ap suc (fits-length cs vs h.1)
-
-fit-width : (cs : List Column) (rows : List Row) → AllByRecursion (FitsColumns cs) rows → HaveWidth (length cs) rows
-fit-width cs [] h = tt
-fit-width cs (r ∷ rows) h = (fits-length cs r h.0, fit-width cs rows h.1)
-
 tables-fit : (ts : List Table) (D : Database) → SatisfyTables ts D → (t : ℕ) → HaveWidth (slice_index_or (map (λ entry. length entry.columns) ts) t 0) (slice_index_or D t [])
 tables-fit [] [] h t = tt
 tables-fit [] (rows ∷ D) h t = absurd h
 tables-fit (entry ∷ ts) [] h t = absurd h
-tables-fit (entry ∷ ts) (rows ∷ D) h zero = fit-width entry.columns rows h.0.fit
+tables-fit (entry ∷ ts) (rows ∷ D) h zero = fits_width entry.columns rows h.0.fit
 tables-fit (entry ∷ ts) (rows ∷ D) h (suc t) = tables-fit ts D h.1 t
 
 pub satisfying_fits : SatisfyingFits
