@@ -1,6 +1,6 @@
 -- Facts of Bool tests and of lists of classes.
 use Rattle.std.proofs.Common.{◌≡◌, ℕ, Bool, true, false, not, ◌&&◌, ◌||◌, ◌==◌, List, [], ◌∷◌, ◌++◌, refl, subst}
-use Rattle.std.proofs.lemmas.Bool.{eqb-true, or_right}
+use Rattle.std.proofs.lemmas.Bool.{eqb-true, or_right, or_from, false_from_ne_true}
 use Rattle.grammar.specs.Readers.{member, apart}
 
 pub and_left : (a b : Bool) → (a && b) ≡ true → a ≡ true
@@ -14,10 +14,6 @@ and_right false b h = cc
 or_either : (a b c : Bool) → (b ≡ true → c ≡ true) → (a || b) ≡ true → (a || c) ≡ true
 or_either true b c f h = refl
 or_either false b c f h = f h
-
-or_neither : (a b : Bool) → (a ≡ true → ⊥) → b ≡ false → (a || b) ≡ false
-or_neither true b f h = absurd (f refl)
-or_neither false b f h = h
 
 pub not_and : (a : Bool) → not a ≡ true → a ≡ true → ⊥
 not_and true h k = cc
@@ -33,5 +29,5 @@ member_right x (a ∷ xs) ys h = or_right (x == a) (member x (xs ++ ys)) (member
 
 pub not_member : (x : ℕ) (xs ys : List ℕ) → apart xs ys ≡ true → member x ys ≡ true → member x xs ≡ false
 not_member x [] ys d h = refl
-not_member x (a ∷ xs) ys d h = or_neither (x == a) (member x xs)
-    (λ e. not_and (member a ys) (and_left _ _ d) (subst (λ y. member y ys ≡ true) (eqb-true x a e) h)) (not_member x xs ys (and_right _ _ d) h)
+not_member x (a ∷ xs) ys d h = or_from (x == a) (member x xs)
+    (false_from_ne_true _ (λ e. not_and (member a ys) (and_left _ _ d) (subst (λ y. member y ys ≡ true) (eqb-true x a e) h))) (not_member x xs ys (and_right _ _ d) h)

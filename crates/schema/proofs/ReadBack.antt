@@ -2,7 +2,7 @@
 use Rattle.std.proofs.Common.{◌≡◌, ◌≢◌, ℕ, zero, suc, ◌<◌, ◌≤◌, List, [], ◌∷◌, length, get_or, map, Bool, true, false, inl, inr, Some, Result, Ok, slice_index_or, refl, sym, ap, ◌∙◌, subst, arith, bytes_eq, codes, ◌==◌, nat_le}
 use Rattle.std.proofs.lemmas.Bool.{le-leb, eq-eqb, false_from_ne_true, lt-ltb, le-ltb, and_from, cases_order}
 use Rattle.std.proofs.lemmas.Bool.Decides.{nat_tests}
-use Rattle.std.proofs.lemmas.List.{length-map}
+use Rattle.std.proofs.lemmas.List.{length-map, get_or-map}
 use Rattle.std.proofs.lemmas.List.Sums.{position_or_len_is}
 use Rattle.std.proofs.lemmas.Slice.Eq.{bytes_eq-Decides}
 use Rattle.std.specs.List.{AllByRecursion, list_all, position}
@@ -30,7 +30,6 @@ use Rattle.schema.specs.Reading.{schema_of}
 use Rattle.schema.specs.Schemas.{AreDifferent, IsColumnList, AreLists, IsTable}
 use Rattle.schema.specs.Spelling.{HasKeys, HasMember, IsText, IsArray, word_of, IsColumnText, name_in_place, IsListText, IsTableText, IsSchemaText}
 use Rattle.schema.proofs.Json.{json_ok}
-use Rattle.schema.proofs.Steps.{name_at}
 
 -- ---- shapes
 
@@ -144,8 +143,8 @@ place_read (c ∷ cs) p h lt =
     let size = length-map (c ∷ cs) (λ (x : Column). x.name) in
     let at : position (λ (x : Column). bytes_eq x.name (name_in_place (c ∷ cs) p)) (c ∷ cs) ≡ Some p =
     first_at (λ (x : Column). bytes_eq x.name (name_in_place (c ∷ cs) p)) (c ∷ cs) p c lt
-    (λ k low. other_name (get_or (c ∷ cs) k c).name (name_in_place (c ∷ cs) p) (λ e. h k p low (omega arith) (name_at (λ (x : Column). x.name) (c ∷ cs) k c (omega arith) ∙ e)))
-    ((bytes_eq-Decides (get_or (c ∷ cs) p c).name (name_in_place (c ∷ cs) p)).1 (sym (name_at (λ (x : Column). x.name) (c ∷ cs) p c lt))) in
+    (λ k low. other_name (get_or (c ∷ cs) k c).name (name_in_place (c ∷ cs) p) (λ e. h k p low (omega arith) (get_or-map (λ (x : Column). x.name) (c ∷ cs) k c [] (omega arith) ∙ e)))
+    ((bytes_eq-Decides (get_or (c ∷ cs) p c).name (name_in_place (c ∷ cs) p)).1 (sym (get_or-map (λ (x : Column). x.name) (c ∷ cs) p c [] lt))) in
     rw at refl
 
 places_pairs : (cs : List Column) (places : List ℕ) → AreDifferent (map (λ c. c.name) cs) → AllByRecursion (λ p. p < length cs) places → Pairs (λ n p. place_in cs n ≡ Ok p) (map (name_in_place cs) places) places
@@ -221,17 +220,12 @@ rest_different name_of x xs h = λ i j lt low same. h (suc i) (suc j) (omega ari
 first_different : {A : Type 0} (name_of : A → Name) (x : A) (xs : List A) → AreDifferent (map name_of (x ∷ xs)) → is_none (place_of name_of xs (name_of x)) ≡ true
 first_different name_of x xs h =
     let size = length-map xs name_of in
-    none_at (λ y. bytes_eq (name_of y) (name_of x)) xs x (λ k low. other_name (name_of (get_or xs k x)) (name_of x) (λ e. h 0 (suc k) (omega arith) (omega arith) (sym (name_at name_of xs k x low ∙ e))))
+    none_at (λ y. bytes_eq (name_of y) (name_of x)) xs x (λ k low. other_name (name_of (get_or xs k x)) (name_of x) (λ e. h 0 (suc k) (omega arith) (omega arith) (sym (get_or-map name_of xs k x [] low ∙ e))))
 
 differ : {A : Type 0} (name_of : A → Name) (xs : List A) → AreDifferent (map name_of xs) → are_different name_of xs ≡ true
 unfolding are_different
 differ name_of [] h = refl
 differ name_of (x ∷ xs) h = and_from (is_none (place_of name_of xs (name_of x))) (are_different name_of xs) (first_different name_of x xs h) (differ name_of xs (rest_different name_of x xs h))
-
-image_at : (cs : List Column) (places : List ℕ) (i : ℕ) → i < length places → get_or (map (name_in_place cs) places) i [] ≡ name_in_place cs (get_or places i 0)
-image_at cs [] i lt = absurd (omega arith)
-image_at cs (p ∷ ps) zero lt = refl
-image_at cs (p ∷ ps) (suc i) lt = image_at cs ps i (omega arith)
 
 below_there : (n : ℕ) (places : List ℕ) (i : ℕ) → AllByRecursion (λ p. p < n) places → i < length places → get_or places i 0 < n
 below_there n [] i h lt = absurd (omega arith)
@@ -256,8 +250,8 @@ places_differ cs places h list = λ i j lt low same.
     let all = length-map (map (name_in_place cs) places) (λ (n : Name). n) in
     let before : i < length places = omega arith in
     let here : j < length places = omega arith in
-    let left : slice_index_or (map (λ (n : Name). n) (map (name_in_place cs) places)) i [] ≡ name_in_place cs (get_or places i 0) = name_at (λ (n : Name). n) (map (name_in_place cs) places) i [] (omega arith) ∙ image_at cs places i before in
-    let right : slice_index_or (map (λ (n : Name). n) (map (name_in_place cs) places)) j [] ≡ name_in_place cs (get_or places j 0) = name_at (λ (n : Name). n) (map (name_in_place cs) places) j [] (omega arith) ∙ image_at cs places j here in
+    let left : slice_index_or (map (λ (n : Name). n) (map (name_in_place cs) places)) i [] ≡ name_in_place cs (get_or places i 0) = get_or-map (λ (n : Name). n) (map (name_in_place cs) places) i [] [] (omega arith) ∙ get_or-map (name_in_place cs) places i 0 [] before in
+    let right : slice_index_or (map (λ (n : Name). n) (map (name_in_place cs) places)) j [] ≡ name_in_place cs (get_or places j 0) = get_or-map (λ (n : Name). n) (map (name_in_place cs) places) j [] [] (omega arith) ∙ get_or-map (name_in_place cs) places j 0 [] here in
     list.different i j lt here (one_place cs (get_or places i 0) (get_or places j 0) h (below_there (length cs) places i list.below before) (below_there (length cs) places j list.below here) (sym left ∙ same ∙ right))
 
 all_differ : (cs : List Column) (lists : List (List ℕ)) → AreDifferent (map (λ c. c.name) cs) → AllByRecursion (IsColumnList (length cs)) lists → lists_differ (map (names_of_places cs) lists) ≡ true

@@ -3,7 +3,7 @@ use Rattle.std.proofs.Common.{◌≡◌, ℕ, suc, ◌<◌, ◌≤◌, ◌&&◌,
 use Rattle.std.proofs.lemmas.Bool.{leb-true, and_parts}
 use Rattle.std.proofs.lemmas.Bool.Decides.{nat_tests}
 use Rattle.serde_json.specs.Find.{as_str}
-use Rattle.std.proofs.lemmas.List.{length-map}
+use Rattle.std.proofs.lemmas.List.{length-map, get_or-map}
 use Rattle.std.specs.List.{AllByRecursion, list_all}
 use Rattle.serde_json.specs.Data.{Data}
 use Rattle.values.proofs.Results.{both_ok, wanted_ok, wanted_if_ok}
@@ -18,7 +18,7 @@ use Rattle.schema.specs.Entries.{wanted, json_in, keys_in, field_in, member_flag
 use Rattle.schema.specs.Limits.{is_short, lists_are_few, parts_are_few, are_few, lists_differ, parts_differ, names_differ}
 use Rattle.schema.specs.Places.{place_in, places_in, placed}
 use Rattle.schema.specs.Schemas.{AreDifferent, IsColumnList, AreLists, IsTable, IsSchema}
-use Rattle.schema.proofs.Steps.{each_ok, pairs_length, pairs_at, pairs_right, place_ok, name_at, different_ok}
+use Rattle.schema.proofs.Steps.{each_ok, pairs_length, pairs_at, pairs_right, place_ok, different_ok}
 
 -- ---- entries
 
@@ -116,7 +116,7 @@ list_whole columns names places e some short differ =
       different = λ i j lt low same.
           let all = length-map names (λ (name : Name). name) in
           different_ok (λ (name : Name). name) names differ i j lt (omega arith)
-          (name_at (λ (name : Name). name) names i [] (omega arith) ∙ sym (at i (omega arith)) ∙ ap (λ (p : ℕ). slice_index_or (map (λ (c : Column). c.name) columns) p []) same ∙ at j low ∙ sym (name_at (λ (name : Name). name) names j [] (omega arith)));
+          (get_or-map (λ (name : Name). name) names i [] [] (omega arith) ∙ sym (at i (omega arith)) ∙ ap (λ (p : ℕ). slice_index_or (map (λ (c : Column). c.name) columns) p []) same ∙ at j low ∙ sym (get_or-map (λ (name : Name). name) names j [] [] (omega arith)));
     }
 
 lists_whole : (columns : List Column) (lists : List (List Name)) (places : List (List ℕ)) → Pairs (λ ns ps. each (place_in columns) ns ≡ Ok ps) lists places → AllByRecursion (λ names. 0 < length names) lists

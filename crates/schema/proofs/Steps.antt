@@ -2,7 +2,7 @@
 use Rattle.std.proofs.Common.{◌≡◌, ◌≢◌, ℕ, zero, suc, ◌<◌, List, [], ◌∷◌, length, get_or, slice_index_or, map, Bool, true, false, cond, Some, None, Result, Ok, refl, sym, ap, ◌∙◌, arith, bytes_eq, nat_lt}
 use Rattle.std.proofs.lemmas.Slice.Eq.{bytes_eq-Decides}
 use Rattle.std.proofs.lemmas.Bool.{ltb-true, ltb-false, and_parts}
-use Rattle.std.proofs.lemmas.List.{length-map}
+use Rattle.std.proofs.lemmas.List.{length-map, get_or-map}
 use Rattle.std.proofs.lemmas.List.Sums.{fails_before_first, passes_at_first}
 use Rattle.std.specs.List.{AllByRecursion, position, position_or_len}
 use Rattle.std.specs.Option.{is_none}
@@ -64,22 +64,17 @@ found p xs i d e =
     let lt : position_or_len p xs < length xs = ltb-true (position_or_len p xs) (length xs) r.0 in
     (rw (← r.1) lt, ap (λ (j : ℕ). p (get_or xs j d)) (sym r.1) ∙ passes_at_first p xs d lt)
 
-pub name_at : {A : Type 0} (name_of : A → Name) (xs : List A) (i : ℕ) (d : A) → i < length xs → slice_index_or (map name_of xs) i [] ≡ name_of (get_or xs i d)
-name_at name_of [] i d lt = absurd (omega arith)
-name_at name_of (x ∷ xs) zero d lt = refl
-name_at name_of (x ∷ xs) (suc i) d lt = name_at name_of xs i d (omega arith)
-
 -- the column with the name is the one at its place
 pub place_ok : {A : Type 0} (name_of : A → Name) (xs : List A) (name : Name) (i : ℕ) → place_of name_of xs name ≡ Some i → (i < length xs) × (slice_index_or (map name_of xs) i [] ≡ name)
 place_ok name_of [] name i e = cc e
 place_ok name_of (x ∷ xs) name i e =
     let r = found (λ y. bytes_eq (name_of y) name) (x ∷ xs) i x e in
-    (r.0, name_at name_of (x ∷ xs) i x r.0 ∙ (bytes_eq-Decides (name_of (get_or (x ∷ xs) i x)) name).0 r.1)
+    (r.0, get_or-map name_of (x ∷ xs) i x [] r.0 ∙ (bytes_eq-Decides (name_of (get_or (x ∷ xs) i x)) name).0 r.1)
 
 first_other : {A : Type 0} (name_of : A → Name) (x : A) (xs : List A) (j : ℕ) → is_none (place_of name_of xs (name_of x)) ≡ true → j < length xs → name_of x ≢ slice_index_or (map name_of xs) j []
 first_other name_of x xs j e lt same =
     let no = none_of (λ y. bytes_eq (name_of y) (name_of x)) xs j x e lt in
-    let yes = (bytes_eq-Decides (name_of (get_or xs j x)) (name_of x)).1 (sym (same ∙ name_at name_of xs j x lt)) in
+    let yes = (bytes_eq-Decides (name_of (get_or xs j x)) (name_of x)).1 (sym (same ∙ get_or-map name_of xs j x [] lt)) in
     cc (no, yes)
 
 two_places : {A : Type 0} (name_of : A → Name) (x : A) (xs : List A) (i j : ℕ) → i < j → j < length (map name_of (x ∷ xs)) → ((k : ℕ) → k < length xs → name_of x ≢ slice_index_or (map name_of xs) k [])

@@ -1,7 +1,6 @@
 -- Keys compared value by value.
-use Rattle.std.proofs.Common.{◌≡◌, ℕ, ◌+◌, ◌<◌, ◌≤◌, [], ◌∷◌, ◌++◌, length, take, get_or, Bool, true, false, not, add-one, refl, sym, ap, ◌∙◌}
-use Rattle.std.proofs.Math.Seq.{take-suc}
-use Rattle.std.proofs.lemmas.List.{take_all}
+use Rattle.std.proofs.Common.{◌≡◌, ℕ, ◌+◌, ◌<◌, ◌≤◌, length, take, get_or, Bool, true, false, not, refl, sym, ap, ◌∙◌}
+use Rattle.std.proofs.lemmas.List.{take_all, take_more_same}
 use Rattle.std.proofs.lemmas.Bool.{not-false}
 use Rattle.values.specs.declared.value.Value.{Value}
 use Rattle.values.specs.declared.value.Value.TheVariants as value
@@ -46,7 +45,7 @@ pub keys_go_on : (k l : Row) (i : ℕ) (x y : Cell) → i < length k → i < len
     → take i k ≡ take i l → take (i + 1) k ≡ take (i + 1) l
 keys_go_on k l i x y low high p q n h =
     let same : get_or k i value.Null ≡ get_or l i value.Null = cells_same x y (get_or k i value.Null) (get_or l i value.Null) p q n in
-    rw add-one (take-suc k i value.Null low ∙ ap (λ (r : Row). r ++ get_or k i value.Null ∷ []) h ∙ ap (λ (v : Value). take i l ++ v ∷ []) same ∙ sym (take-suc l i value.Null high))
+    take_more_same k l i value.Null low high h same
 
 pub keys_same : (k l : Row) (i : ℕ) → length k ≤ i → length l ≤ i → take i k ≡ take i l → true ≡ key_eq k l
 keys_same k l i low high h = sym ((key_decides k l).1 (sym (take_all i k low) ∙ h ∙ take_all i l high))
