@@ -2,7 +2,6 @@
 use Rattle.std.proofs.Common.{◌⊎◌, inl, inr, ◌≡◌, refl, ℕ, ◌+◌, ◌<◌, Bool, true, false, cond, if◌then◌else◌, min, not, List, [], ◌∷◌, ◌++◌, filter, ap, ◌∙◌, arith, rules, subst}
 use Rattle.std.specs.FinMap.{slice_cmp-IsAntisymmetric}
 use Rattle.std.proofs.lemmas.Cmp.{eq_by_cmp_equiv, lists_total}
-use Rattle.values.specs.contracts.value.ValueOrd.TheImpl as derived
 use Rattle.values.proofs.Orders.{is_eq-equal, order_antisymmetric, order_total}
 use Rattle.schema.specs.Databases.{Row}
 use Rattle.query.specs.Rows.{same_rows, count, distinct}

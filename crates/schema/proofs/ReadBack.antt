@@ -9,11 +9,9 @@ use Rattle.std.specs.List.{AllByRecursion, list_all, position}
 use Rattle.std.specs.Option.{is_none}
 use Rattle.serde_json.specs.Data.{Data, Items}
 use Rattle.serde_json.specs.Events.{members_len}
-use Rattle.serde_json.specs.Read as json
 use Rattle.serde_json.specs.Find.{as_array, as_bool, get}
 use Rattle.values.specs.declared.fault.Fault.{Fault}
 use Rattle.values.specs.Faults.{Gives}
-use Rattle.values.specs.Faults as faults
 use Rattle.schema.specs.declared.fault.SchemaRefusal.{SchemaRefusal}
 use Rattle.schema.specs.declared.schema.Kind.{Kind}
 use Rattle.schema.specs.declared.schema.Kind.TheVariants.{Int, Text}
