@@ -1,5 +1,5 @@
 -- What each form of condition over classes is at a row.
-use Rattle.std.proofs.Common.{◌≡◌, refl, ap, sym, ◌∙◌, ℕ, true, ◌&&◌, not, List, [], ◌∷◌, map, fold}
+use Rattle.std.proofs.Common.{◌≡◌, refl, ap, sym, ◌∙◌, ℕ, ◌&&◌, not, List, [], ◌∷◌, map, fold}
 use Rattle.std.specs.List.{list_all}
 use Rattle.std.proofs.Math.Bool.{and-true, and_assoc}
 use Rattle.values.specs.declared.truth.Truth.{Truth}

@@ -1,5 +1,5 @@
 -- The rows of a FROM are put together of the tables' rows and of Nulls, so their numbers have 64 bits.
-use Rattle.std.proofs.Common.{ℕ, zero, suc, List, [], ◌∷◌, ◌++◌, flat_map, slice_index_or, sym, subst}
+use Rattle.std.proofs.Common.{ℕ, zero, suc, List, [], ◌∷◌, flat_map, slice_index_or, sym, subst}
 use Rattle.std.specs.List.{AllByRecursion}
 use Rattle.values.specs.declared.value.Value.{Value}
 use Rattle.values.specs.declared.value.Value.TheVariants.{Null, Int, Text}

@@ -11,7 +11,6 @@ use Rattle.std.proofs.lemmas.Cmp.{on_total, then_total}
 use Rattle.std.proofs.lemmas.Fn.{always_returns_same}
 use Rattle.std.proofs.lemmas.List.Sorted.{ranks_by, sum_by-IsPermutation}
 use Rattle.std.proofs.lemmas.List.Sums.{sum_by-cons}
-use Rattle.values.specs.Order.{order}
 use Rattle.values.proofs.Orders.{turned_total, is_gt-reverse}
 use Rattle.schema.specs.Databases.{Row}
 use Rattle.query.specs.declared.query.SortKey.{SortKey}

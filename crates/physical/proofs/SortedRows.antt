@@ -4,7 +4,6 @@ use Rattle.std.specs.declared.cmp.Ordering.{Ordering}
 use Rattle.std.specs.Ordering.{is_gt}
 use Rattle.std.specs.Cmp.{IsTotalOrder}
 use Rattle.std.proofs.lemmas.Cmp.{on_total, then_total}
-use Rattle.values.specs.Order.{order}
 use Rattle.values.proofs.Orders.{turned_total}
 use Rattle.algebra.specs.Bags.{Env, Bag, total, SameRows, SameBag}
 use Rattle.physical.specs.declared.plan.OrderKey.{OrderKey}
