@@ -1,5 +1,5 @@
 -- The plan of a certificate that replays gives answers of its query.
-use Rattle.std.proofs.Common.{◌≡◌, refl, ap, sym, ◌∙◌, subst, ℕ, ◌+◌, ◌-◌, ◌<◌, Bool, true, if◌then◌else◌, List, [], ◌∷◌, ◌++◌, map, length, reverse, Result, Ok, arith}
+use Rattle.std.proofs.Common.{◌≡◌, refl, ap, sym, ◌∙◌, subst, ℕ, ◌+◌, ◌<◌, Bool, true, if◌then◌else◌, List, [], ◌∷◌, ◌++◌, map, length, reverse, Result, Ok, arith}
 use Rattle.std.proofs.lemmas.List.{reverse-append, length-reverse}
 use Rattle.values.specs.Faults.{◌>>=◌, wanted_if}
 use Rattle.values.proofs.Results.{both_ok, wanted_if_ok}

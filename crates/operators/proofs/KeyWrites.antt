@@ -1,6 +1,5 @@
 -- What a key feeds a hasher, cell by cell.
-use Rattle.std.proofs.Common.{◌≡◌, ℕ, ◌+◌, ◌<◌, List, [], ◌∷◌, ◌++◌, append-nil, length, take, get_or, fold, refl, sym, ap, ◌∙◌}
-use Rattle.std.specs.Hash.{HashWrites}
+use Rattle.std.proofs.Common.{◌≡◌, ℕ, ◌+◌, ◌<◌, List, length, take, get_or, fold, refl, sym, ap, ◌∙◌}
 use Rattle.std.proofs.lemmas.List.Sums.{fold-append}
 use Rattle.std.proofs.lemmas.List.{get_or_default}
 use Rattle.values.specs.declared.value.Value.TheVariants as value
