@@ -1,6 +1,7 @@
 pub mod Company
 pub mod Counting
 pub mod Equations
+pub mod Froms
 pub mod Groups
 pub mod Obeys
 pub mod SameCounts
