@@ -1,9 +1,10 @@
 -- What folds over conditions give at lists of conditions.
-use Rattle.std.proofs.Common.{◌≡◌, refl, ap, sym, ◌∙◌, ℕ, Bool, not, ◌&&◌, ◌||◌, ◌==◌, ◌<◌, ◌+◌, ◌-◌, length, take, drop, get_or, add-one, nat_lt, arith, List, [], ◌∷◌, map}
+use Rattle.std.proofs.Common.{◌≡◌, refl, ap, sym, ◌∙◌, ℕ, Bool, not, ◌&&◌, ◌||◌, ◌==◌, ◌<◌, ◌+◌, ◌-◌, length, take, drop, get_or, add-one, nat_lt, arith, List, [], ◌∷◌}
 use Rattle.std.specs.List.{list_all, list_any}
 use Rattle.std.proofs.lemmas.Bool.{le-ltb}
 use Rattle.std.proofs.lemmas.List.{take_all, length-drop}
 use Rattle.std.proofs.Math.Seq.{drop-cons}
+use Rattle.std.proofs.lemmas.List.Folds.{list_all-map}
 use Rattle.query.specs.declared.query.Aggregate.TheVariants.{CountRows}
 use Rattle.algebra.specs.Expressions.{subqueries_pass, is_plain, aggregate_columns, are_different}
 use Rattle.algebra.specs.Columns.{has}
@@ -12,10 +13,6 @@ use Rattle.algebra.specs.declared.condition.Condition.{Condition, fold-roll-Cond
 use Rattle.algebra.specs.declared.condition.Condition.TheVariants.{And, Or, rolls-And, rolls-Or}
 use Rattle.algebra.specs.declared.condition.Condition.TheOpen.{Condition-F}
 use Rattle.algebra.specs.Conditions.{Passes, columns_layer, all_columns, classes_layer, all_classes}
-
-list_all-map : {X Y : Type 0} (p : Y → Bool) (f : X → Y) (xs : List X) → list_all p (map f xs) ≡ list_all (λ x. p (f x)) xs
-list_all-map p f [] = refl
-list_all-map p f (x ∷ xs) = ap (λ b. p (f x) && b) (list_all-map p f xs)
 
 pub all_columns_and : (cs : List Condition) (p : ℕ → Bool) → all_columns (And cs) p ≡ list_all (λ c. all_columns c p) cs
 unfolding all_columns

@@ -15,4 +15,3 @@ pub mod Sets
 pub mod TextEquations
 pub mod Truths
 pub mod UniqueRows
-pub mod Values

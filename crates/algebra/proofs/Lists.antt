@@ -1,21 +1,14 @@
 -- Lists under maps.
-use Rattle.std.proofs.Common.{◌≡◌, refl, ap, sym, ◌∙◌, Bool, true, false, not, if◌then◌else◌, List, [], ◌∷◌, ◌++◌, map, filter, flat_map}
+use Rattle.std.proofs.Common.{◌≡◌, refl, ap, sym, ◌∙◌, Bool, true, false, not, if◌then◌else◌, List, [], ◌∷◌, map, filter, flat_map}
 use Rattle.std.specs.List.{AllByRecursion}
+use Rattle.std.proofs.lemmas.List.{map-append}
+use Rattle.values.proofs.Lists.{filter-map}
 
 pub two : {X Y Z : Type 0} (f : X → Y → Z) {a b : X} {c d : Y} → a ≡ b → c ≡ d → f a c ≡ f b d
 two f e h = rw (e, h) refl
 
-pub map-map : {X Y Z : Type 0} (f : Y → Z) (g : X → Y) (xs : List X) → map f (map g xs) ≡ map (λ x. f (g x)) xs
-map-map f g [] = refl
-map-map f g (x ∷ xs) = ap (λ ys. f (g x) ∷ ys) (map-map f g xs)
-
-pub map-append : {X Y : Type 0} (g : X → Y) (xs ys : List X) → map g (xs ++ ys) ≡ map g xs ++ map g ys
-map-append g [] ys = refl
-map-append g (x ∷ xs) ys = ap (λ zs. g x ∷ zs) (map-append g xs ys)
-
-pub keep-all : {X : Type 0} (xs : List X) → filter (λ x. true) xs ≡ xs
-keep-all [] = refl
-keep-all (x ∷ xs) = ap (λ ys. x ∷ ys) (keep-all xs)
+pub cons-same : {X : Type 0} {x y : X} {xs ys : List X} → x ≡ y → xs ≡ ys → x ∷ xs ≡ y ∷ ys
+cons-same e f = rw (e, f) refl
 
 pub map-same : {X Y : Type 0} (P : X → Type 0) (f g : X → Y) (xs : List X) → ((x : X) → P x → f x ≡ g x) → AllByRecursion P xs → map f xs ≡ map g xs
 map-same P f g [] same all = refl
@@ -59,14 +52,6 @@ abbrev pub distinct_by : {X : Type 0} → (X → X → Bool) → List X → List
 distinct_by same [] = []
 distinct_by same (x ∷ xs) = x ∷ filter (λ y. not (same x y)) (distinct_by same xs)
 
-filter-map : {X Y : Type 0} (g : X → Y) (p : Y → Bool) (xs : List X) → filter p (map g xs) ≡ map g (filter (λ x. p (g x)) xs)
-filter-map g p [] = refl
-filter-map g p (x ∷ xs) = rw (filter-map g p xs) (by (p (g x)))
-  where
-    by : (b : Bool) → (if b then g x ∷ map g (filter (λ z. p (g z)) xs) else map g (filter (λ z. p (g z)) xs)) ≡ map g (if b then x ∷ filter (λ z. p (g z)) xs else filter (λ z. p (g z)) xs)
-    by true = refl
-    by false = refl
-
 filter-same : {X : Type 0} (P : X → Type 0) (p q : X → Bool) (xs : List X) → ((x : X) → P x → p x ≡ q x) → AllByRecursion P xs → filter p xs ≡ filter q xs
 filter-same P p q [] same all = refl
 filter-same P p q (x ∷ xs) same all = rw (same x all.0, filter-same P p q xs same all.1) refl
@@ -78,7 +63,7 @@ all-distinct P same (x ∷ xs) all = (all.0, all-filter P (λ y. not (same x y))
 pub distinct-map : {X Y : Type 0} (g : X → Y) (same : Y → Y → Bool) (xs : List X) → distinct_by same (map g xs) ≡ map g (distinct_by (λ x y. same (g x) (g y)) xs)
 distinct-map g same [] = refl
 distinct-map g same (x ∷ xs) =
-    ap (λ ys. g x ∷ filter (λ y. not (same (g x) y)) ys) (distinct-map g same xs) ∙ ap (λ ys. g x ∷ ys) (filter-map g (λ y. not (same (g x) y)) (distinct_by (λ x y. same (g x) (g y)) xs))
+    ap (λ ys. g x ∷ filter (λ y. not (same (g x) y)) ys) (distinct-map g same xs) ∙ ap (λ ys. g x ∷ ys) (filter-map (λ y. not (same (g x) y)) g (distinct_by (λ x y. same (g x) (g y)) xs))
 
 pub distinct-same : {X : Type 0} (P : X → Type 0) (same other : X → X → Bool) (xs : List X) → ((x y : X) → P x → P y → same x y ≡ other x y) → AllByRecursion P xs → distinct_by same xs ≡ distinct_by other xs
 distinct-same P same other [] h all = refl

@@ -1,8 +1,9 @@
 -- The classes that expressions name pass a test where the expression says so of them.
-use Rattle.std.proofs.Common.{◌≡◌, refl, ap, sym, ◌∙◌, subst, ℕ, Bool, true, false, ◌&&◌, ◌==◌, nat_lt, List, [], ◌∷◌, ◌++◌, map}
+use Rattle.std.proofs.Common.{◌≡◌, refl, ap, sym, ◌∙◌, subst, ℕ, Bool, true, ◌&&◌, ◌==◌, nat_lt, List, [], ◌∷◌, ◌++◌, map}
 use Rattle.std.specs.List.{list_all, flat_map}
 use Rattle.std.proofs.lemmas.Bool.{and_parts, and_from, cond_both}
 use Rattle.std.proofs.lemmas.List.Folds.{list_all-append}
+use Rattle.std.proofs.Math.Bool.{and-true}
 use Rattle.values.specs.declared.truth.Comparison.{Comparison}
 use Rattle.algebra.specs.declared.condition.Condition.{Condition, roll-Condition, fold-roll-Condition, ind-Condition, map-Condition}
 use Rattle.algebra.specs.declared.condition.Condition.TheOpen.{Condition-F}
@@ -13,6 +14,7 @@ use Rattle.algebra.specs.declared.expr.Expr.TheVariants.{Get, Select, Join, Left
 use Rattle.algebra.specs.Columns.{insert, rising}
 use Rattle.algebra.specs.Conditions.{Passes, classes_layer, all_classes, named_layer, named_classes, classes_in}
 use Rattle.algebra.specs.Expressions.{subqueries_pass, classes_pass, input_classes}
+use Rattle.algebra.proofs.Lists.{two}
 
 -- ---- what conditions name
 
@@ -59,14 +61,7 @@ module _ (p : ℕ → Bool) where
 
   all-parts : (parts : List Part) → list_all (λ c. c p) (map all_classes (conditions parts)) ≡ list_all p (flat_map (λ c. c) (map named_classes (conditions parts)))
   all-parts [] = refl
-  all-parts (c ∷ parts) = two c.1 (all-parts parts) ∙ sym (list_all-append p (named_classes c.0) (flat_map (λ c. c) (map named_classes (conditions parts))))
-    where
-      two : {a b c d : Bool} → a ≡ b → c ≡ d → (a && c) ≡ (b && d)
-      two e f = rw (e, f) refl
-
-  and-none : (b : Bool) → b ≡ (b && true)
-  and-none true = refl
-  and-none false = refl
+  all-parts (c ∷ parts) = two (λ a b. a && b) c.1 (all-parts parts) ∙ sym (list_all-append p (named_classes c.0) (flat_map (λ c. c) (map named_classes (conditions parts))))
 
   layer : (y : Condition-F Part) → classes_layer (map-Condition Condition Passes all_classes (map-Condition Part Condition (λ c. c.0) y)) p
       ≡ list_all p (named_layer (map-Condition Condition (List ℕ) named_classes (map-Condition Part Condition (λ c. c.0) y)))
@@ -75,8 +70,8 @@ module _ (p : ℕ → Bool) where
   layer (Condition-F.Not c) = c.1
   layer (Condition-F.And cs) = all-parts cs
   layer (Condition-F.Or cs) = all-parts cs
-  layer (Condition-F.Exists g) = and-none (p g)
-  layer (Condition-F.In a g k) = and-none (p g)
+  layer (Condition-F.Exists g) = sym (and-true (p g))
+  layer (Condition-F.In a g k) = sym (and-true (p g))
 
   step : (y : Condition-F Part) → P (roll-Condition (map-Condition Part Condition (λ c. c.0) y))
   unfolding all_classes named_classes

@@ -1,5 +1,5 @@
 -- Conjuncts in order hold where they all do.
-use Rattle.std.proofs.Common.{◌≡◌, refl, ap, sym, ◌∙◌, Bool, true, false, ◌&&◌, List, [], ◌∷◌, ◌++◌}
+use Rattle.std.proofs.Common.{◌≡◌, refl, ap, sym, ◌∙◌, Bool, true, false, ◌&&◌, List, [], ◌∷◌}
 use Rattle.std.specs.List.{list_all}
 use Rattle.std.proofs.lemmas.Bool.{cond_both}
 use Rattle.algebra.specs.declared.condition.Condition.{Condition}
@@ -28,11 +28,3 @@ put-all p c (d ∷ ds) =
 pub in_order-all : (p : Condition → Bool) (cs : List Condition) → list_all p (in_order cs) ≡ list_all p cs
 in_order-all p [] = refl
 in_order-all p (c ∷ cs) = put-all p c (in_order cs) ∙ ap (λ b. p c && b) (in_order-all p cs)
-
-pub all-append : {X : Type 0} (p : X → Bool) (xs ys : List X) → list_all p (xs ++ ys) ≡ (list_all p xs && list_all p ys)
-all-append p [] ys = refl
-all-append p (x ∷ xs) ys = ap (λ b. p x && b) (all-append p xs ys) ∙ assoc (p x) (list_all p xs) (list_all p ys)
-  where
-    assoc : (a b c : Bool) → (a && (b && c)) ≡ ((a && b) && c)
-    assoc true b c = refl
-    assoc false b c = refl

@@ -2,7 +2,6 @@
 use Rattle.std.proofs.Common.{◌≡◌, refl, ap, sym, ◌∙◌, subst, ℕ, true, false, List, [], ◌∷◌, map}
 use Rattle.std.specs.List.{list_all}
 use Rattle.std.proofs.lemmas.Bool.{and_parts}
-use Rattle.values.specs.declared.truth.Truth.{Truth}
 use Rattle.values.specs.Truth.{negation}
 use Rattle.query.specs.Meaning.{all_of, any_of}
 use Rattle.algebra.specs.declared.condition.Condition.{Condition, roll-Condition, fold-roll-Condition, ind-Condition, map-Condition}
@@ -10,6 +9,7 @@ use Rattle.algebra.specs.declared.condition.Condition.TheOpen.{Condition-F}
 use Rattle.algebra.specs.Bags.{Env, Bag}
 use Rattle.algebra.specs.Conditions.{Meaning, Passes, truth_layer, truth, classes_layer, all_classes, holds}
 use Rattle.algebra.specs.Expressions.{is_plain}
+use Rattle.algebra.proofs.Lists.{cons-same}
 
 abbrev pub NoClass : Condition → Type 0
 NoClass c = all_classes c (λ g. false) ≡ true
@@ -25,10 +25,7 @@ truths : (parts : List Part) → list_all (λ c. c (λ g. false)) (map all_class
 truths [] none V W r = refl
 truths (p ∷ parts) none V W r =
     let both : (all_classes p.0 (λ g. false) ≡ true) × (list_all (λ c. c (λ g. false)) (map all_classes (map (λ p. p.0) parts)) ≡ true) = and_parts _ _ none in
-    cons (p.1 both.0 V W r) (truths parts both.1 V W r)
-  where
-    cons : {s t : Truth} {ss ts : List Truth} → s ≡ t → ss ≡ ts → s ∷ ss ≡ t ∷ ts
-    cons e f = rw (e, f) refl
+    cons-same (p.1 both.0 V W r) (truths parts both.1 V W r)
 
 layer : (y : Condition-F Part) → classes_layer (map-Condition Condition Passes all_classes (map-Condition Part Condition (λ p. p.0) y)) (λ g. false) ≡ true → (V W : ℕ → Bag) (r : Env)
     → truth_layer (map-Condition Condition Meaning truth (map-Condition Part Condition (λ p. p.0) y)) V r ≡ truth_layer (map-Condition Condition Meaning truth (map-Condition Part Condition (λ p. p.0) y)) W r

@@ -1,8 +1,8 @@
 -- Rows laid into the columns of an environment.
-use Rattle.std.proofs.Common.{◌≡◌, refl, ap, sym, ◌∙◌, ℕ, zero, suc, ◌+◌, ◌-◌, ◌<◌, ◌≤◌, Bool, true, false, ◌&&◌, ◌||◌, not, ◌==◌, nat_le, nat_lt, if◌then◌else◌, List, [], ◌∷◌, ◌++◌, map, length, arith}
+use Rattle.std.proofs.Common.{◌≡◌, refl, ap, sym, ◌∙◌, ℕ, zero, suc, ◌+◌, ◌-◌, ◌<◌, ◌≤◌, Bool, true, false, ◌||◌, not, ◌==◌, nat_le, nat_lt, if◌then◌else◌, List, [], ◌∷◌, ◌++◌, map, length, arith}
 use Rattle.std.specs.Prelude.{slice_index_or}
 use Rattle.std.specs.List.{list_all, range_with_len}
-use Rattle.std.proofs.lemmas.Bool.{eq-eqb, ne_eqb, eqb-true, ltb-true, leb-true, and_parts, or_left, or_right}
+use Rattle.std.proofs.lemmas.Bool.{eq-eqb, ne_eqb, eqb-true, ltb-true, leb-true, and_parts, or_left, or_right, and_from, not-true}
 use Rattle.schema.specs.Databases.{Row}
 use Rattle.values.specs.declared.value.Value.{Value}
 use Rattle.values.specs.declared.value.Value.TheVariants.{Null}
@@ -15,21 +15,16 @@ use Rattle.algebra.specs.Columns.{ColumnSet, has}
 use Rattle.algebra.specs.Bags.{Env, lay, nulls}
 use Rattle.algebra.specs.Expressions.{use_columns, use_row}
 use Rattle.algebra.proofs.Sets.{range_has}
+use Rattle.algebra.proofs.Lists.{cons-same}
 
 pub pointwise : {X Y : Type 0} {f g : X → Y} → ((x : X) → f x ≡ g x) → f ≡ g
 pointwise h = λ i. λ x. h x i
-
-pub both : {X : Type 0} {x y : X} {xs ys : List X} → x ≡ y → xs ≡ ys → x ∷ xs ≡ y ∷ ys
-both e f = rw (e, f) refl
 
 -- the environment with a row's values in these columns
 abbrev pub put : List ℕ → Row → Env → Env
 put [] s e c = e c
 put (k ∷ ks) [] e c = e c
 put (k ∷ ks) (v ∷ s) e c = if k == c then v else put ks s e c
-
-pub never : false ≡ true → ⊥
-never h = cc
 
 -- ---- one row
 
@@ -44,15 +39,11 @@ put-off (k ∷ ks) (v ∷ s) e c h = by (k == c) (λ out. put-off ks s e c out) 
 
 pub map-on : {Y : Type 0} (f g : ℕ → Y) (ks : List ℕ) → ((c : ℕ) → has ks c ≡ true → f c ≡ g c) → map f ks ≡ map g ks
 map-on f g [] same = refl
-map-on f g (k ∷ ks) same = both (same k (or_left (k == k) (has ks k) (eq-eqb k k refl))) (map-on f g ks (λ c h. same c (or_right (k == c) (has ks c) h)))
+map-on f g (k ∷ ks) same = cons-same (same k (or_left (k == k) (has ks k) (eq-eqb k k refl))) (map-on f g ks (λ c h. same c (or_right (k == c) (has ks c) h)))
 
 -- a column that is among others is not one that is not
 pub not-among : (k c : ℕ) (ks : List ℕ) → has ks k ≡ false → has ks c ≡ true → (k == c) ≡ false
 not-among k c ks out in_ = ne_eqb k c (λ is. cc (ap (has ks) is, out, in_))
-
-pub not-true : (b : Bool) → not b ≡ true → b ≡ false
-not-true true h = cc
-not-true false h = refl
 
 -- the columns read what was put there
 pub put-reads : (ks : List ℕ) (s : Row) (e : Env) → all_differ ks ≡ true → length s ≡ length ks → map (put ks s e) ks ≡ s
@@ -64,7 +55,7 @@ put-reads (k ∷ ks) (v ∷ s) e d h =
     let out : has ks k ≡ false = not-true _ parts.0 in
     let first : put (k ∷ ks) (v ∷ s) e k ≡ v = rw (eq-eqb k k refl) refl in
     let same : (c : ℕ) → has ks c ≡ true → put (k ∷ ks) (v ∷ s) e c ≡ put ks s e c = λ c is. rw (not-among k c ks out is) refl in
-    both first (map-on _ _ ks same ∙ put-reads ks s e parts.1 (omega (arith, h)))
+    cons-same first (map-on _ _ ks same ∙ put-reads ks s e parts.1 (omega (arith, h)))
 
 -- ---- two rows
 
@@ -173,11 +164,11 @@ scope-stays : (ks : List ℕ) (s : Row) (e : Env) (scope : Scope) → list_all (
 scope-stays ks s e [] h = refl
 scope-stays ks s e (ls ∷ scope) h =
     let parts = and_parts (none_among ks ls) (list_all (none_among ks) scope) h in
-    both (map-on (put ks s e) e ls (λ c in_. put-off ks s e c (none-disjoint ks ls parts.0 c in_))) (scope-stays ks s e scope parts.1)
+    cons-same (map-on (put ks s e) e ls (λ c in_. put-off ks s e c (none-disjoint ks ls parts.0 c in_))) (scope-stays ks s e scope parts.1)
 
 -- behind a row that was put in, the environment reads as that row before the others
 pub agrees-put : (ks : List ℕ) (s : Row) (e : Env) (scope : Scope) (ρ : List Row) → IsNew ks scope → length s ≡ length ks → Agrees scope ρ e → Agrees (ks ∷ scope) (s ∷ ρ) (put ks s e)
-agrees-put ks s e scope ρ new h agree = both (put-reads ks s e new.0 h) (scope-stays ks s e scope new.1 ∙ agree)
+agrees-put ks s e scope ρ new h agree = cons-same (put-reads ks s e new.0 h) (scope-stays ks s e scope new.1 ∙ agree)
 
 -- ---- numbers of parts
 
@@ -194,15 +185,12 @@ not-or true b h = cc
 not-or false true h = cc
 not-or false false h = (refl, refl)
 
-both-true : (a b : Bool) → a ≡ true → b ≡ true → (a && b) ≡ true
-both-true a b e f = rw (e, f) refl
-
 pub differ-left : (ks ls : List ℕ) → all_differ (ks ++ ls) ≡ true → all_differ ks ≡ true
 differ-left [] ls h = refl
 differ-left (k ∷ ks) ls h =
     let parts = and_parts (not (has (ks ++ ls) k)) (all_differ (ks ++ ls)) h in
     let out : has ks k ≡ false = (not-or (has ks k) (has ls k) (ap not (sym (among-append k ks ls)) ∙ parts.0)).0 in
-    both-true _ _ (ap not out) (differ-left ks ls parts.1)
+    and_from _ _ (ap not out) (differ-left ks ls parts.1)
 
 pub differ-right : (ks ls : List ℕ) → all_differ (ks ++ ls) ≡ true → all_differ ls ≡ true
 differ-right [] ls h = h
@@ -217,7 +205,7 @@ differ-disjoint (k ∷ ks) ls h c in_ =
 
 none-left : (ks ls os : List ℕ) → none_among (ks ++ ls) os ≡ true → none_among ks os ≡ true
 none-left [] ls os h = refl
-none-left (k ∷ ks) ls os h = let parts = and_parts (not (has os k)) (none_among (ks ++ ls) os) h in both-true _ _ parts.0 (none-left ks ls os parts.1)
+none-left (k ∷ ks) ls os h = let parts = and_parts (not (has os k)) (none_among (ks ++ ls) os) h in and_from _ _ parts.0 (none-left ks ls os parts.1)
 
 none-right : (ks ls os : List ℕ) → none_among (ks ++ ls) os ≡ true → none_among ls os ≡ true
 none-right [] ls os h = h
@@ -225,11 +213,11 @@ none-right (k ∷ ks) ls os h = none-right ks ls os (and_parts (not (has os k)) 
 
 all-left : (ks ls : List ℕ) (scope : Scope) → list_all (none_among (ks ++ ls)) scope ≡ true → list_all (none_among ks) scope ≡ true
 all-left ks ls [] h = refl
-all-left ks ls (os ∷ scope) h = let parts = and_parts (none_among (ks ++ ls) os) (list_all (none_among (ks ++ ls)) scope) h in both-true _ _ (none-left ks ls os parts.0) (all-left ks ls scope parts.1)
+all-left ks ls (os ∷ scope) h = let parts = and_parts (none_among (ks ++ ls) os) (list_all (none_among (ks ++ ls)) scope) h in and_from _ _ (none-left ks ls os parts.0) (all-left ks ls scope parts.1)
 
 all-right : (ks ls : List ℕ) (scope : Scope) → list_all (none_among (ks ++ ls)) scope ≡ true → list_all (none_among ls) scope ≡ true
 all-right ks ls [] h = refl
-all-right ks ls (os ∷ scope) h = let parts = and_parts (none_among (ks ++ ls) os) (list_all (none_among (ks ++ ls)) scope) h in both-true _ _ (none-right ks ls os parts.0) (all-right ks ls scope parts.1)
+all-right ks ls (os ∷ scope) h = let parts = and_parts (none_among (ks ++ ls) os) (list_all (none_among (ks ++ ls)) scope) h in and_from _ _ (none-right ks ls os parts.0) (all-right ks ls scope parts.1)
 
 pub new-left : (ks ls : List ℕ) (scope : Scope) → IsNew (ks ++ ls) scope → IsNew ks scope
 new-left ks ls scope new = (differ-left ks ls new.0, all-left ks ls scope new.1)

@@ -1,5 +1,6 @@
 -- The aggregates of rows go by how often each row comes.
 use Rattle.std.proofs.Common.{◌≡◌, refl, ap, sym, ◌∙◌, ℕ, ◌+◌, ◌==◌, pos, if◌then◌else◌, List, [], ◌∷◌, length, map, arith}
+use mathlib.Core.List.{map-map}
 use Rattle.values.specs.declared.value.Value.{Value}
 use Rattle.values.specs.declared.value.Value.TheVariants.{Int}
 use Rattle.schema.specs.Databases.{Row}
@@ -12,7 +13,7 @@ use Rattle.query.proofs.Groups.{same-aggregate}
 use Rattle.algebra.specs.declared.expr.Aggregation.{Aggregation}
 use Rattle.algebra.specs.Bags.{Env, Bag, total, SameRows, SameBag, group}
 use Rattle.algebra.specs.Expressions.{with_aggregates}
-use Rattle.algebra.proofs.Lists.{two, map-map}
+use Rattle.algebra.proofs.Lists.{two}
 use Rattle.algebra.proofs.SameBags.{GoesByRows, group-same}
 
 -- a row of the one column

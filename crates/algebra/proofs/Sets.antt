@@ -11,6 +11,7 @@ use Rattle.std.proofs.lemmas.List.{get_or_default, map-id}
 use Rattle.std.proofs.lemmas.List.FromFn.{length-range_with_len, get_or-range_with_len, map-range_with_len_more}
 use Rattle.std.proofs.lemmas.List.Sorted.{searched}
 use Rattle.algebra.specs.Columns.{has, insert, rising}
+use Rattle.algebra.proofs.Lists.{cons-same}
 
 -- each element is greater than x
 abbrev Above : ℕ → List ℕ → Type 0
@@ -102,9 +103,6 @@ has-first x xs = rw (eq-eqb x x refl) refl
 above-disjoint-all : (x y : ℕ) (ys : List ℕ) → x < y → Above y ys → has (y ∷ ys) x ≡ false
 above-disjoint-all x y ys lt all = rw (ne_eqb y x (λ e. absurd (omega (arith, lt, e)))) (above-disjoint y x ys (omega (arith, lt)) all)
 
-both : (x y : ℕ) {xs ys : List ℕ} → x ≡ y → xs ≡ ys → x ∷ xs ≡ y ∷ ys
-both x y e f = rw (e, f) refl
-
 same-rest : (x y : ℕ) (xs ys : List ℕ) → x ≡ y → Above x xs → Above y ys → ((k : ℕ) → has (x ∷ xs) k ≡ has (y ∷ ys) k) → (k : ℕ) → has xs k ≡ has ys k
 same-rest x y xs ys e a b same k = by (x == k) refl (same k)
   where
@@ -118,7 +116,7 @@ one-rising [] [] r s same = refl
 one-rising [] (y ∷ ys) r s same = absurd (cc (same y, has-first y ys))
 one-rising (x ∷ xs) [] r s same = absurd (cc (same x, has-first x xs))
 one-rising (x ∷ xs) (y ∷ ys) r s same = elim (cases_order x y) [
-  | inl e ↦ let rest : (k : ℕ) → has xs k ≡ has ys k = λ k. same-rest x y xs ys e r.0 s.0 same k in both x y e (one-rising xs ys r.1 s.1 rest)
+  | inl e ↦ let rest : (k : ℕ) → has xs k ≡ has ys k = λ k. same-rest x y xs ys e r.0 s.0 same k in cons-same e (one-rising xs ys r.1 s.1 rest)
   | inr o ↦ elim o [
     | inl lt ↦ absurd (cc (same x, has-first x xs, above-disjoint-all x y ys lt s.0))
     | inr gt ↦ absurd (cc (same y, has-first y ys, above-disjoint-all y x xs gt r.0))

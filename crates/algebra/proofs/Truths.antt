@@ -1,6 +1,7 @@
 -- What each form of condition over classes is at a row.
-use Rattle.std.proofs.Common.{◌≡◌, refl, ap, sym, ◌∙◌, ℕ, Bool, true, false, ◌&&◌, not, List, [], ◌∷◌, map, fold}
+use Rattle.std.proofs.Common.{◌≡◌, refl, ap, sym, ◌∙◌, ℕ, ◌&&◌, not, List, [], ◌∷◌, map, fold}
 use Rattle.std.specs.List.{list_all}
+use Rattle.std.proofs.Math.Bool.{and-true, and_assoc}
 use Rattle.values.specs.declared.truth.Truth.{Truth}
 use Rattle.values.specs.declared.truth.Truth.TheVariants as be
 use Rattle.values.specs.declared.truth.Comparison.{Comparison}
@@ -55,17 +56,9 @@ true-and be.Unknown be.Unknown = refl
 true-and be.Unknown be.True = refl
 true-and be.True b = refl
 
-and-assoc : (a b c : Bool) → ((a && b) && c) ≡ (a && (b && c))
-and-assoc true b c = refl
-and-assoc false b c = refl
-
 true-from : (a : Truth) (ts : List Truth) → is_true (fold conjunction a ts) ≡ (is_true a && list_all is_true ts)
 true-from a [] = sym (and-true (is_true a))
-  where
-    and-true : (b : Bool) → (b && true) ≡ b
-    and-true true = refl
-    and-true false = refl
-true-from a (t ∷ ts) = true-from (conjunction a t) ts ∙ ap (λ b. b && list_all is_true ts) (true-and a t) ∙ and-assoc (is_true a) (is_true t) (list_all is_true ts)
+true-from a (t ∷ ts) = true-from (conjunction a t) ts ∙ ap (λ b. b && list_all is_true ts) (true-and a t) ∙ and_assoc (is_true a) (is_true t) (list_all is_true ts)
 
 pub true-all : (ts : List Truth) → is_true (all_of ts) ≡ list_all is_true ts
 true-all ts = true-from be.True ts

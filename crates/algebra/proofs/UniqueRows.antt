@@ -4,9 +4,9 @@ use Rattle.std.specs.Cmp.{both_ways}
 use Rattle.std.specs.List.{list_any}
 use Rattle.std.proofs.lemmas.Bool.{and_parts, and_from, or_left, or_right, or_cases, eqb-true}
 use Rattle.values.specs.Order.{same}
+use Rattle.values.proofs.Orders.{same_equal, same_itself}
 use Rattle.algebra.specs.Columns.{has}
 use Rattle.algebra.specs.Bags.{Env, total, same_on, distinct_on}
-use Rattle.algebra.proofs.Values.{same-equal, same-refl}
 use Rattle.algebra.proofs.Lists.{distinct_by}
 use Rattle.algebra.proofs.BagSums.{if_passes, total-filter, total-same, total-zero, total-split}
 
@@ -14,13 +14,13 @@ use Rattle.algebra.proofs.BagSums.{if_passes, total-filter, total-same, total-ze
 
 pub same_on-refl : (K : List ℕ) (r : Env) → same_on K r r ≡ true
 same_on-refl [] r = refl
-same_on-refl (k ∷ K) r = and_from _ _ (same-refl (r k)) (same_on-refl K r)
+same_on-refl (k ∷ K) r = and_from _ _ (same_itself (r k)) (same_on-refl K r)
 
 same-sym : (K : List ℕ) (r s : Env) → same_on K r s ≡ true → same_on K s r ≡ true
 same-sym [] r s h = refl
 same-sym (k ∷ K) r s h =
     let parts = and_parts (same (r k) (s k)) (same_on K r s) h in
-    and_from _ _ (ap (λ v. same v (r k)) (sym (same-equal (r k) (s k) parts.0)) ∙ same-refl (r k)) (same-sym K r s parts.1)
+    and_from _ _ (ap (λ v. same v (r k)) (sym (same_equal (r k) (s k) parts.0)) ∙ same_itself (r k)) (same-sym K r s parts.1)
 
 pub same_on-sym : (K : List ℕ) (r s : Env) → same_on K r s ≡ same_on K s r
 same_on-sym K r s = both_ways _ _ (same-sym K r s) (same-sym K s r)
@@ -29,7 +29,7 @@ pub same_on-along : (K : List ℕ) (r s t : Env) → same_on K r s ≡ true → 
 same_on-along [] r s t h = refl
 same_on-along (k ∷ K) r s t h =
     let parts = and_parts (same (r k) (s k)) (same_on K r s) h in
-    let front : same (r k) (t k) ≡ same (s k) (t k) = ap (λ v. same v (t k)) (same-equal (r k) (s k) parts.0) in
+    let front : same (r k) (t k) ≡ same (s k) (t k) = ap (λ v. same v (t k)) (same_equal (r k) (s k) parts.0) in
     rw (front, same_on-along K r s t parts.1) refl
 
 -- rows that are the same in the columns read the same in each
@@ -38,7 +38,7 @@ same_on-reads [] r s c h in_ = cc
 same_on-reads (k ∷ K) r s c h in_ =
     let parts = and_parts (same (r k) (s k)) (same_on K r s) h in
     elim (or_cases (k == c) (has K c) in_) [
-      | inl is ↦ ap r (sym (eqb-true k c is)) ∙ same-equal (r k) (s k) parts.0 ∙ ap s (eqb-true k c is)
+      | inl is ↦ ap r (sym (eqb-true k c is)) ∙ same_equal (r k) (s k) parts.0 ∙ ap s (eqb-true k c is)
       | inr later ↦ same_on-reads K r s c parts.1 later
     ]
 

@@ -1,7 +1,8 @@
 -- A FROM is bound, if its parts are.
-use Rattle.std.proofs.Common.{◌≡◌, refl, ap, sym, ◌∙◌, ℕ, ◌+◌, Bool, true, false, ◌&&◌, List, [], ◌∷◌, ◌++◌, map, length, length-append, arith}
+use Rattle.std.proofs.Common.{◌≡◌, refl, ap, sym, ◌∙◌, ℕ, ◌+◌, Bool, true, ◌&&◌, List, [], ◌∷◌, ◌++◌, map, length, length-append, arith}
 use Rattle.std.specs.List.{list_all}
 use Rattle.std.proofs.lemmas.Bool.{and_parts, and_from}
+use Rattle.std.proofs.Math.Bool.{and-true, and_assoc}
 use Rattle.schema.specs.declared.schema.Schema.{Schema}
 use Rattle.sql_parse.specs.declared.statement.TableName.{TableName}
 use Rattle.sql_parse.specs.declared.statement.JoinKind.{JoinKind}
@@ -32,14 +33,6 @@ use Rattle.binder.proofs.Growth.{Grown, Within, Entered, grown-more, within-firs
 use Rattle.binder.proofs.NamesThere.{around-more}
 use Rattle.binder.proofs.BoundParts.{CondIs, CondBound, FromIs, JoinBound, ChainBound, from-is}
 use Rattle.binder.proofs.BoundConditions.{columns_of, columns-all}
-
-and-true : (b : Bool) → b ≡ (b && true)
-and-true true = refl
-and-true false = refl
-
-and-again : (a b c : Bool) → (a && (b && c)) ≡ ((a && b) && c)
-and-again true b c = refl
-and-again false b c = refl
 
 sum : (a b c : ℕ) → a + (b + c) ≡ (a + b) + c
 sum a b c = omega arith
@@ -106,10 +99,10 @@ module _ (S : Schema) (uses : List TableInstance) (T : ℕ) where
   through-bound : (js : List ProvedJoin) (outer : Scopes) (before : Scope) (n : Numbered) (more : ℕ) (ons : Bool) (left : FromSoFar) → FromIs S uses T more ons outer n (from_scope uses left.0) left.1 left.2
       → Given (λ r. FromIs S uses T (more + columns_of (map (of_join S) (joins_of js))) (ons && list_all (λ j. j) (map join_ons (joins_of js))) outer n (from_scope uses r.0) r.1 r.2)
       (through (map (join_in S) (joins_of js)) outer before left)
-  through-bound [] outer before n more ons left is = from-is S uses T _ more _ ons outer n _ _ left.1 left.2 (omega arith) (sym (and-true ons)) refl is
+  through-bound [] outer before n more ons left is = from-is S uses T _ more _ ons outer n _ _ left.1 left.2 (omega arith) (and-true ons) refl is
   through-bound (j ∷ js) outer before n more ons left is =
       and-then _ _ (join_in S j.0 outer before left) _ (j.1 outer before n more ons left is) (λ next r.
-      rw (and-again ons (join_ons j.0) (list_all (λ j. j) (map join_ons (joins_of js))), sum more (of_join S j.0).columns (columns_of (map (of_join S) (joins_of js))))
+      rw (← and_assoc ons (join_ons j.0) (list_all (λ j. j) (map join_ons (joins_of js))), sum more (of_join S j.0).columns (columns_of (map (of_join S) (joins_of js))))
       (through-bound js outer before n (more + (of_join S j.0).columns) (ons && join_ons j.0) next r))
 
   pub bound-chain : (c : Chain) (js : List ProvedJoin) → joins_of js ≡ (out-Chain c).joins → ChainBound S uses T c
@@ -149,10 +142,10 @@ module _ (S : Schema) (uses : List TableInstance) (T : ℕ) where
   commas-bound : (cs : List ProvedChain) (outer : Scopes) (n : Numbered) (more : ℕ) (ons : Bool) (left : FromSoFar) → FromIs S uses T more ons outer n (from_scope uses left.0) left.1 left.2
       → Given (λ r. FromIs S uses T (more + columns_of (map (of_chain S) (chains_of cs))) (ons && list_all (λ c. c) (map chain_ons (chains_of cs))) outer n (from_scope uses r.0) r.1 r.2)
       (commas (map (chain_in S) (chains_of cs)) outer left)
-  commas-bound [] outer n more ons left is = from-is S uses T _ more _ ons outer n _ _ left.1 left.2 (omega arith) (sym (and-true ons)) refl is
+  commas-bound [] outer n more ons left is = from-is S uses T _ more _ ons outer n _ _ left.1 left.2 (omega arith) (and-true ons) refl is
   commas-bound (c ∷ cs) outer n more ons left is =
       and-then _ _ (chain_in S c.0 outer left.1 left.2) _ (c.1 outer left.1 left.2) (λ right r.
-      rw (and-again ons (chain_ons c.0) (list_all (λ c. c) (map chain_ons (chains_of cs))), sum more (of_chain S c.0).columns (columns_of (map (of_chain S) (chains_of cs))))
+      rw (← and_assoc ons (chain_ons c.0) (list_all (λ c. c) (map chain_ons (chains_of cs))), sum more (of_chain S c.0).columns (columns_of (map (of_chain S) (chains_of cs))))
       (commas-bound cs outer n (more + (of_chain S c.0).columns) (ons && chain_ons c.0) (from.Comma left.0 right.0, left.1 ++ right.1, right.2)
       (comma-is outer n more (of_chain S c.0).columns ons (chain_ons c.0) left.0 right.0 left.1 right.1 left.2 right.2 is r)))
 

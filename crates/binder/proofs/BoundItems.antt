@@ -3,6 +3,7 @@
 use Rattle.std.proofs.Common.{◌≡◌, refl, ℕ, ◌+◌, ◌≤◌, ◌<◌, Bool, true, false, not, ◌||◌, ◌==◌, if◌then◌else◌, nat_lt, List, [], ◌∷◌, map, filter, length, Option, Some, None, arith}
 use Rattle.std.specs.List.{AllByRecursion, list_all}
 use Rattle.std.proofs.lemmas.Bool.{and_parts, and_from, lt-ltb, eqb-true}
+use Rattle.values.proofs.Lists.{all_append}
 use Rattle.schema.specs.declared.schema.Kind.{Kind}
 use Rattle.schema.specs.declared.schema.Kind.TheVariants as kind
 use Rattle.schema.specs.declared.schema.Column as entries
@@ -29,7 +30,6 @@ use Rattle.binder.specs.Lent.{width}
 use Rattle.query.specs.Bound as numbers
 use Rattle.query.specs.Bound.{names, bound_aggregate, bound_item, bound_group_item, bound_items, aggregate_numbers, is_among}
 use Rattle.binder.proofs.Given.{Given, and-then, given-if}
-use Rattle.query.proofs.Lists.{all-append}
 use Rattle.binder.proofs.Rising.{Rising}
 use Rattle.binder.proofs.NamesThere.{Around, IsNamed, meant-there}
 
@@ -164,7 +164,7 @@ module _ (b : ℕ) (scope : Scope) (outer : Scopes) (row : List ℕ) (rows : num
 
     all-own : (n : ℕ) (s : Scope) → n + width s ≤ length row → AllByRecursion IsOwn (all_columns n s)
     all-own n [] le = tt
-    all-own n (o ∷ s) le = all-append IsOwn (columns_from n o.entry.columns) (all_columns (n + length o.entry.columns) s) (columns-own n o.entry.columns (omega (arith, le))) (all-own (n + length o.entry.columns) s (omega (arith, le)))
+    all-own n (o ∷ s) le = all_append IsOwn (columns_from n o.entry.columns) (all_columns (n + length o.entry.columns) s) (columns-own n o.entry.columns (omega (arith, le))) (all-own (n + length o.entry.columns) s (omega (arith, le)))
 
     own-bound : (place : ℕ) → place < length row → is_shown grouped keys (item.Column (own place)) ≡ true → item_bound grouped (length row) keys (row ∷ rows) (item.Column (own place)) ≡ true
     own-bound place lt shown = column-bound grouped (length row) keys (row ∷ rows) (own place) (lt-ltb place (length row) lt) shown

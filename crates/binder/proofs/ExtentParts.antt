@@ -1,6 +1,8 @@
 -- How large each form of condition, join, chain and SELECT is: one equation for each.
-use Rattle.std.proofs.Common.{◌≡◌, refl, ℕ, ◌+◌, ◌<◌, ◌≤◌, List, [], ◌∷◌, ◌++◌, length, take, get_or, map, fold, Option, Some, None, ap, sym, ◌∙◌, option_map}
-use Rattle.std.proofs.lemmas.List.{map-append, take_all, take_more}
+use Rattle.std.proofs.Common.{◌≡◌, refl, ℕ, ◌+◌, ◌<◌, ◌≤◌, List, [], ◌∷◌, ◌++◌, length, take, get_or, map, Option, Some, None, ap, sym, ◌∙◌, option_map}
+use Rattle.std.proofs.lemmas.List.{take_all}
+use Rattle.std.proofs.lemmas.List.Sums.{fold_push}
+use Rattle.values.proofs.Lists.{map_next}
 use Rattle.schema.specs.declared.schema.Schema.{Schema}
 use Rattle.sql_parse.specs.declared.statement.Term as tree
 use Rattle.sql_parse.specs.declared.statement.Operator.{Operator}
@@ -68,16 +70,11 @@ extent-select S q = select_roll S q ∙ select_layers S (out-Select q) (out-Sele
 
 -- ---- parts one after the other, as a loop goes over them
 
-fold_last : (total x : Extent) (xs : List Extent) → fold beside total (xs ++ x ∷ []) ≡ beside (fold beside total xs) x
-fold_last total x [] = refl
-fold_last total x (y ∷ ys) = fold_last (beside total y) x ys
-
 pub all_more : {A : Type 0} (f : A → Extent) (xs : List A) (i : ℕ) (x : A) (all one more : Extent) → i < length xs → x ≡ get_or xs i x → all ≡ all_of (map f (take i xs)) → one ≡ f x
     → more ≡ beside all one → more ≡ all_of (map f (take (i + 1) xs))
 all_more {A} f xs i x all one more lt at so_far is sum =
-    let parts : map f (take (i + 1) xs) ≡ map f (take i xs) ++ f x ∷ [] =
-    ap (map f) (take_more xs i x lt) ∙ map-append f (take i xs) _ ∙ ap (λ (y : A). map f (take i xs) ++ f y ∷ []) (sym at) in
-    sum ∙ ap (λ (z : Extent). beside z one) so_far ∙ ap (beside (all_of (map f (take i xs)))) is ∙ sym (fold_last nothing (f x) (map f (take i xs))) ∙ ap all_of (sym parts)
+    let parts : map f (take (i + 1) xs) ≡ map f (take i xs) ++ f x ∷ [] = map_next f xs i x lt at in
+    sum ∙ ap (λ (z : Extent). beside z one) so_far ∙ ap (beside (all_of (map f (take i xs)))) is ∙ sym (fold_push beside nothing (map f (take i xs)) (f x)) ∙ ap all_of (sym parts)
 
 pub all_done : {A : Type 0} (f : A → Extent) (xs : List A) (i : ℕ) (all : Extent) → length xs ≤ i → all ≡ all_of (map f (take i xs)) → all ≡ all_of (map f xs)
 all_done {A} f xs i all le so_far = so_far ∙ ap (λ (ys : List A). all_of (map f ys)) (take_all i xs le)

@@ -1,10 +1,12 @@
 -- What gets numbers while a statement is bound: table instances are added behind those before, each of a table of the
 -- schema, and so are columns and aggregates.
 use Rattle.std.proofs.Common.{◌≡◌, refl, ap, sym, ◌∙◌, ℕ, ◌+◌, ◌≤◌, Bool, true, false, not, if◌then◌else◌, List, [], ◌∷◌, ◌++◌, length, Some, bytes_eq, arith, append_assoc}
+use Rattle.std.proofs.lemmas.List.{append-nil}
 use Prim.Native.Nat.{zero, suc}
 use Rattle.std.specs.List.{AllByRecursion, slice_get}
 use Rattle.std.proofs.lemmas.Bool.{eq-eqb}
 use Rattle.std.proofs.lemmas.List.FromFn.{length-range_with_len}
+use Rattle.values.proofs.Lists.{all_append, slice_get_behind}
 use Rattle.schema.specs.declared.schema.Table.{Table}
 use Rattle.schema.specs.declared.schema.Schema.{Schema}
 use Rattle.sql_parse.specs.declared.statement.TableName.{TableName}
@@ -18,7 +20,6 @@ use Rattle.binder.specs.Numbers.{next_occurrence, entered, enter}
 use Rattle.binder.specs.Extents.{width_of, one_table}
 use Rattle.binder.specs.Lent.{width}
 use Rattle.query.specs.Bound.{use_numbers, is_used, is_use_of, IsOver}
-use Rattle.query.proofs.Lists.{all-append}
 use Rattle.binder.proofs.Indexes.{width-append}
 use Rattle.binder.proofs.Given.{Given, and-then, given-wanted, given-if}
 use Rattle.binder.proofs.Rising.{Rising, rising-range}
@@ -32,10 +33,6 @@ Begins xs front = (more : List _) × (xs ≡ front ++ more)
 pub begins-again : {A : Type 0} (xs ys zs : List A) → Begins xs ys → Begins ys zs → Begins xs zs
 begins-again xs ys zs left right = (right.0 ++ left.0, left.1 ∙ ap (λ l. l ++ left.0) right.1 ∙ append_assoc zs right.0 left.0)
 
-get-next : {A : Type 0} (front : List A) (x : A) (more : List A) → slice_get (front ++ x ∷ more) (length front) ≡ Some x
-get-next [] x more = refl
-get-next (y ∷ front) x more = get-next front x more
-
 -- ---- growth
 
 -- what has numbers after a part of so many columns
@@ -47,10 +44,6 @@ pub record Grown (S : Schema) (n m : Numbered) (more : ℕ) : Type 0 where
 
 pub grown-none : (S : Schema) (n : Numbered) → Grown S n n 0
 grown-none S n = record { tables = ([], sym (append-nil n.tables)); over = λ all. all; columns = omega arith; aggregates = omega arith }
-  where
-    append-nil : {A : Type 0} (xs : List A) → xs ++ [] ≡ xs
-    append-nil [] = refl
-    append-nil (x ∷ xs) = ap (λ ys. x ∷ ys) (append-nil xs)
 
 pub grown-more : (S : Schema) (n k m : Numbered) (a b c : ℕ) → Grown S n k a → Grown S k m b → a + b ≡ c → Grown S n m c
 grown-more S n k m a b c first next sum = record {
@@ -111,7 +104,7 @@ abbrev next_use : Numbered → ℕ → Table → List ℕ → TableInstance
 next_use n place entry name = record { table = place; entry = entry; name = name; first_column = n.next_column }
 
 used-next : (uses : List TableInstance) (n : Numbered) (t : TableInstance) → Begins uses (n.tables ++ t ∷ []) → slice_get uses (length n.tables) ≡ Some t
-used-next uses n t begins = ap (λ l. slice_get l (length n.tables)) (begins.1 ∙ append_assoc n.tables (t ∷ []) begins.0) ∙ get-next n.tables t begins.0
+used-next uses n t begins = ap (λ l. slice_get l (length n.tables)) (begins.1 ∙ append_assoc n.tables (t ∷ []) begins.0) ∙ slice_get_behind n.tables t begins.0
 
 module _ (S : Schema) (uses : List TableInstance) (T : ℕ) (chain : Scope) (t : TableName) (n : Numbered) where
   enters : (found : ℕ × Table) → find_table 0 S.tables t.name.text ≡ Some found → Entered S uses T chain t n (entered chain t n found)
@@ -121,7 +114,7 @@ module _ (S : Schema) (uses : List TableInstance) (T : ℕ) (chain : Scope) (t :
       record {
         grown = record {
           tables = (next ∷ [], refl);
-          over = λ all. all-append (IsOver S) n.tables (next ∷ []) all (find-is S.tables t.name.text found is, tt);
+          over = λ all. all_append (IsOver S) n.tables (next ∷ []) all (find-is S.tables t.name.text found is, tt);
           columns = ap (λ o. n.next_column + width_of o) (sym is);
           aggregates = omega arith;
         };

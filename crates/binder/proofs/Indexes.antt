@@ -5,6 +5,7 @@ use Rattle.std.proofs.lemmas.Slice.Eq.{bytes_eq-Decides}
 use Rattle.std.specs.Borrow.{Bor}
 use Rattle.std.specs.HashMap as hash
 use Rattle.std.specs.HashMap.{HashMap}
+use Rattle.values.proofs.Lists.{drop_next}
 use Rattle.schema.specs.declared.schema.Kind.{Kind}
 use Rattle.schema.specs.declared.schema.Column as entries
 use Rattle.schema.specs.declared.schema.Table.{Table}
@@ -16,7 +17,6 @@ use Rattle.binder.specs.declared.fault.BindReason.TheVariants.{UnknownColumn}
 use Rattle.binder.specs.Lookups.{find_column, refusal}
 use Rattle.binder.specs.Scopes.{Known, Scope, is_taken, columns_named, named_in, occurrence_named, at_level, column_of}
 use Rattle.binder.specs.Lent.{IsIndexed, width, placed_of, meaning_of, one_more, with_more}
-use Rattle.binder.proofs.Fronts.{front_of}
 use Rattle.binder.proofs.NameKeys.{after-insert}
 
 pub width-append : (a b : Scope) → width (a ++ b) ≡ width a + width b
@@ -122,8 +122,8 @@ column-push m n cs i c place meaning lt at up is q =
     elim (after-insert c.name m n meaning up q) [
       | inl here ↦
           let now : hash.get_by (λ k. bytes_eq q k.now) n ≡ one_more old (place, c.kind) = here.1 ∙ is ∙ ap (λ w. one_more (hash.get_by (λ k. bytes_eq w k.now) m) (place, c.kind)) (sym here.0) in
-          rw (front_of cs i c lt at, here.2) (ap (λ o. with_more o more) now)
-      | inr there ↦ rw (front_of cs i c lt at, there.1) (ap (λ o. with_more o more) there.0)
+          rw (drop_next cs i c lt at, here.2) (ap (λ o. with_more o more) now)
+      | inr there ↦ rw (drop_next cs i c lt at, there.1) (ap (λ o. with_more o more) there.0)
     ]
 
 -- ---- one more table

@@ -7,11 +7,11 @@ use Rattle.std.proofs.lemmas.List.Folds.{list_any-append}
 use Rattle.values.specs.declared.fault.Fault.{Fault}
 use Rattle.values.specs.declared.fault.Fault.TheVariants as fault
 use Rattle.values.specs.Faults.{◌>>=◌, Fails}
+use Rattle.values.proofs.Lists.{drop_next}
 use Rattle.schema.specs.Each.{each}
 use Rattle.query.specs.declared.query.SortKey.{SortKey}
 use Rattle.binder.specs.declared.fault.BindRefusal.{BindRefusal}
 use Rattle.binder.specs.Ordering.{without_repeats}
-use Rattle.binder.proofs.Fronts.{front_of}
 
 -- whether an output is a key
 abbrev pub is_in : List SortKey → ℕ → Bool
@@ -103,14 +103,14 @@ pub keys_keep : {A : Type 0} (f : A → Result SortKey BindRefusal) (order : Lis
     → i < length xs → x ≡ get_or xs i x → f x ≡ Ok k → is_in order k.item ≡ true → finished order (each f (drop i xs)) ≡ total → finished order (each f (drop (i + 1) xs)) ≡ total
 unfolding each
 keys_keep f order xs i x k total lt at h there so_far =
-    let one : finished order (each f (drop i xs)) ≡ finished order (each f (drop (i + 1) xs)) = rw (front_of xs i x lt at, h) (finished-kept order k (each f (drop (i + 1) xs)) there) in
+    let one : finished order (each f (drop i xs)) ≡ finished order (each f (drop (i + 1) xs)) = rw (drop_next xs i x lt at, h) (finished-kept order k (each f (drop (i + 1) xs)) there) in
     sym one ∙ so_far
 
 pub keys_add : {A : Type 0} (f : A → Result SortKey BindRefusal) (order : List SortKey) (xs : List A) (i : ℕ) (x : A) (k : SortKey) (total : Result (List SortKey) BindRefusal)
     → i < length xs → x ≡ get_or xs i x → f x ≡ Ok k → is_in order k.item ≡ false → finished order (each f (drop i xs)) ≡ total → finished (order ++ k ∷ []) (each f (drop (i + 1) xs)) ≡ total
 unfolding each
 keys_add f order xs i x k total lt at h there so_far =
-    let one : finished order (each f (drop i xs)) ≡ finished (order ++ k ∷ []) (each f (drop (i + 1) xs)) = rw (front_of xs i x lt at, h) (finished-added order k (each f (drop (i + 1) xs)) there) in
+    let one : finished order (each f (drop i xs)) ≡ finished (order ++ k ∷ []) (each f (drop (i + 1) xs)) = rw (drop_next xs i x lt at, h) (finished-added order k (each f (drop (i + 1) xs)) there) in
     sym one ∙ so_far
 
 pub keys_end : {A : Type 0} (f : A → Result SortKey BindRefusal) (e : Fault BindRefusal) (order : List SortKey) (xs : List A) (i : ℕ) (x : A) (total : Result (List SortKey) BindRefusal)
@@ -118,7 +118,7 @@ pub keys_end : {A : Type 0} (f : A → Result SortKey BindRefusal) (e : Fault Bi
 unfolding each
 keys_end f fault.Memory order xs i x total lt at h so_far = tt
 keys_end f (fault.Refused e) order xs i x total lt at h so_far =
-    let one : finished order (each f (drop i xs)) ≡ Err e = rw (front_of xs i x lt at, h) refl in
+    let one : finished order (each f (drop i xs)) ≡ Err e = rw (drop_next xs i x lt at, h) refl in
     sym so_far ∙ one
 
 pub keys_done : {A : Type 0} (f : A → Result SortKey BindRefusal) (order : List SortKey) (xs : List A) (i : ℕ) (total : Result (List SortKey) BindRefusal)

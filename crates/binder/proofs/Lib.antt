@@ -5,7 +5,6 @@ pub mod BoundItems
 pub mod BoundParts
 pub mod BoundStatements
 pub mod ExtentParts
-pub mod Fronts
 pub mod Given
 pub mod Growth
 pub mod Indexes

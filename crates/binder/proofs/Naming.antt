@@ -2,12 +2,13 @@
 use Rattle.std.proofs.Common.{◌≡◌, refl, ℕ, suc, ◌+◌, ◌<◌, List, [], ◌∷◌, ◌++◌, length, Bool, true, false, ◌&&◌, ltb, cond, take, drop, get_or, filter, map, position, Option, Some, None, bytes_eq, ap, sym, ◌∙◌, arith, if◌then◌else◌, Result, Ok, Err, not, inl, inr}
 use Rattle.std.specs.List.{list_all, position_or_len}
 use Rattle.std.proofs.lemmas.Bool.Decides.{nat_tests}
-use Rattle.std.proofs.lemmas.List.{append-nil, map-append, take_more}
+use Rattle.std.proofs.lemmas.List.{append-nil, map-append}
 use Rattle.std.proofs.lemmas.List.Elements.{filter-append}
 use Rattle.std.proofs.lemmas.List.Folds.{list_all-append}
 use Rattle.std.specs.Borrow.{Bor}
 use Rattle.std.specs.HashMap as hash
 use Rattle.std.specs.HashMap.{HashMap}
+use Rattle.values.proofs.Lists.{drop_next, take_next}
 use Rattle.binder.specs.contracts.named.IdentityPartialEq.TheImpl.{eq-value}
 use Rattle.binder.specs.declared.fault.BindReason.TheVariants.{NoOutputColumn}
 use Rattle.binder.specs.declared.fault.BindRefusal.{BindRefusal}
@@ -21,7 +22,6 @@ use Rattle.binder.specs.declared.named.Sense.{Sense}
 use Rattle.binder.specs.declared.named.Sense.TheVariants.{One, Several}
 use Rattle.binder.specs.Ordering.{same_item, one_column}
 use Rattle.binder.specs.Named.{identity_of, sense_of, one_more, items_named, items_showing, HasSenses}
-use Rattle.binder.proofs.Fronts.{front_of}
 use Rattle.binder.proofs.NameKeys.{after-insert}
 
 -- ---- by column
@@ -70,7 +70,7 @@ firsts-step m n os i o lt at up h q =
     up.0 (identity_of q)
     ∙ ap (λ b. cond b (Some i) (hash.get eq-value.it m (identity_of q))) (same-identity o.item q)
     ∙ ap (cond (same_item o.item q) (Some i)) (h q)
-    ∙ sym (ap (first_at (λ o. same_item o.item q) i) (front_of os i o lt at))
+    ∙ sym (ap (first_at (λ o. same_item o.item q) i) (drop_next os i o lt at))
 
 same-is : (i : Item) (c : Column) → same_item i (item.Column c) ≡ true → i ≡ item.Column c
 same-is (item.Column d) c h =
@@ -128,8 +128,7 @@ items-push : (q : List ℕ) (os : List Output) (i : ℕ) (o : Output) → i < le
     → items_named q (take (i + 1) os) ≡ (if bytes_eq o.name q then items_named q (take i os) ++ o.item ∷ [] else items_named q (take i os))
 items-push q os i o lt at =
     let is_named : Output → Bool = λ o. bytes_eq o.name q in
-    let taken : take (i + 1) os ≡ take i os ++ o ∷ [] = take_more os i o lt ∙ ap (λ x. take i os ++ x ∷ []) (sym at) in
-    ap (items_named q) taken
+    ap (items_named q) (take_next os i o lt at)
     ∙ ap (map (λ o. o.item)) (filter-append is_named (take i os) (o ∷ []))
     ∙ map-append (λ o. o.item) (filter is_named (take i os)) (filter is_named (o ∷ []))
     ∙ last (bytes_eq o.name q)

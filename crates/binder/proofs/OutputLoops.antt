@@ -1,20 +1,16 @@
 -- Items and columns one after the other, as a loop goes over them.
-use Rattle.std.proofs.Common.{◌≡◌, refl, ℕ, ◌+◌, ◌<◌, ◌≤◌, Bool, List, [], ◌∷◌, ◌++◌, length, drop, get_or, Result, Ok, Err, ap, sym, ◌∙◌, append_assoc, if◌then◌else◌}
+use Rattle.std.proofs.Common.{◌≡◌, refl, ℕ, ◌+◌, ◌<◌, ◌≤◌, Bool, List, [], ◌∷◌, ◌++◌, length, drop, get_or, Result, Ok, Err, ap, sym, ◌∙◌, if◌then◌else◌}
 use Rattle.std.proofs.lemmas.List.{append-nil, drop_all}
 use Rattle.values.specs.declared.fault.Fault.{Fault}
 use Rattle.values.specs.declared.fault.Fault.TheVariants as fault
-use Rattle.values.specs.Faults.{◌>>=◌, Fails}
-use Rattle.schema.proofs.Loops.{after}
+use Rattle.values.specs.Faults.{Fails}
+use Rattle.values.proofs.Lists.{drop_next}
+use Rattle.schema.proofs.Loops.{after, regroup}
 use Rattle.sql_parse.specs.declared.statement.SelectItem.{SelectItem}
 use Rattle.binder.specs.declared.output.Output.{Output}
 use Rattle.binder.specs.declared.fault.BindRefusal.{BindRefusal}
 use Rattle.binder.specs.Scopes.{Scopes}
 use Rattle.binder.specs.Outputs.{is_aggregate, output_in, items_in}
-use Rattle.binder.proofs.Fronts.{front_of}
-
-regroup : {B R : Type 0} (front : List B) (b : B) (read : Result (List B) R) → after front (read >>= λ x. Ok (b ∷ x)) ≡ after (front ++ b ∷ []) read
-regroup front b (Ok x) = ap Ok (simp append_assoc)
-regroup front b (Err f) = refl
 
 pub items_on : (scopes : Scopes) (grouped : Bool) (keys : List ℕ) (number : ℕ) (front : List Output) (xs : List SelectItem) (i : ℕ) (x : SelectItem) (b : Output) (total : Result (List Output) BindRefusal)
     → i < length xs → x ≡ get_or xs i x → output_in scopes grouped keys number x ≡ Ok b → after front (items_in scopes grouped keys number (drop i xs)) ≡ total
@@ -23,7 +19,7 @@ unfolding items_in
 items_on scopes grouped keys number front xs i x b total lt at h so_far =
     let next : ℕ = if is_aggregate x then number + 1 else number in
     let one : after front (items_in scopes grouped keys number (drop i xs)) ≡ after (front ++ b ∷ []) (items_in scopes grouped keys next (drop (i + 1) xs)) =
-    rw (front_of xs i x lt at, h) (regroup front b (items_in scopes grouped keys next (drop (i + 1) xs))) in
+    rw (drop_next xs i x lt at, h) (regroup front b (items_in scopes grouped keys next (drop (i + 1) xs))) in
     sym one ∙ so_far
 
 pub items_end : (scopes : Scopes) (grouped : Bool) (keys : List ℕ) (number : ℕ) (e : Fault BindRefusal) (front : List Output) (xs : List SelectItem) (i : ℕ) (x : SelectItem) (total : Result (List Output) BindRefusal)
@@ -31,7 +27,7 @@ pub items_end : (scopes : Scopes) (grouped : Bool) (keys : List ℕ) (number : �
 unfolding items_in
 items_end scopes grouped keys number fault.Memory front xs i x total lt at h so_far = tt
 items_end scopes grouped keys number (fault.Refused e) front xs i x total lt at h so_far =
-    let one : after front (items_in scopes grouped keys number (drop i xs)) ≡ Err e = rw (front_of xs i x lt at, h) refl in
+    let one : after front (items_in scopes grouped keys number (drop i xs)) ≡ Err e = rw (drop_next xs i x lt at, h) refl in
     sym so_far ∙ one
 
 pub items_done : (scopes : Scopes) (grouped : Bool) (keys : List ℕ) (number : ℕ) (front : List Output) (xs : List SelectItem) (i : ℕ) (total : Result (List Output) BindRefusal)

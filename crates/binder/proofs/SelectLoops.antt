@@ -5,6 +5,7 @@ use Rattle.std.proofs.lemmas.List.{append-nil, drop_all}
 use Rattle.values.specs.declared.fault.Fault.{Fault}
 use Rattle.values.specs.declared.fault.Fault.TheVariants as fault
 use Rattle.values.specs.Faults.{◌>>=◌, Fails}
+use Rattle.values.proofs.Lists.{drop_next}
 use Rattle.query.specs.declared.query.Cond.{Cond}
 use Rattle.query.specs.declared.query.From.{From}
 use Rattle.query.specs.declared.query.From.TheVariants.{Comma}
@@ -14,7 +15,6 @@ use Rattle.binder.specs.Scopes.{Scope, Scopes}
 use Rattle.binder.specs.declared.fault.BindReason.TheVariants.{UnknownTable}
 use Rattle.binder.specs.Lookups.{refusal}
 use Rattle.binder.specs.Selects.{CondBinding, ChainBinding, JoinBinding, FromSoFar, all_in, filter_in, through, commas, from_in}
-use Rattle.binder.proofs.Fronts.{front_of}
 
 -- ---- conditions
 
@@ -35,14 +35,14 @@ pub conditions_on : {A : Type 0} (f : A → CondBinding) (scopes : Scopes) (fron
     → in_front (front ++ b ∷ []) (all_in (map f (drop (i + 1) xs)) scopes m) ≡ total
 conditions_on f scopes front xs i x b n m total lt at h so_far =
     let one : in_front front (all_in (map f (drop i xs)) scopes n) ≡ in_front (front ++ b ∷ []) (all_in (map f (drop (i + 1) xs)) scopes m) =
-    rw (front_of xs i x lt at, h) (one_in_front front b (all_in (map f (drop (i + 1) xs)) scopes m)) in
+    rw (drop_next xs i x lt at, h) (one_in_front front b (all_in (map f (drop (i + 1) xs)) scopes m)) in
     sym one ∙ so_far
 
 pub conditions_end : {A : Type 0} (f : A → CondBinding) (e : Fault BindRefusal) (scopes : Scopes) (front : List Cond) (xs : List A) (i : ℕ) (x : A) (n : Numbered) (total : Result (List Cond × Numbered) BindRefusal)
     → i < length xs → x ≡ get_or xs i x → Fails e (f x scopes n) → in_front front (all_in (map f (drop i xs)) scopes n) ≡ total → Fails e total
 conditions_end f fault.Memory scopes front xs i x n total lt at h so_far = tt
 conditions_end f (fault.Refused e) scopes front xs i x n total lt at h so_far =
-    let one : in_front front (all_in (map f (drop i xs)) scopes n) ≡ Err e = rw (front_of xs i x lt at, h) refl in
+    let one : in_front front (all_in (map f (drop i xs)) scopes n) ≡ Err e = rw (drop_next xs i x lt at, h) refl in
     sym so_far ∙ one
 
 pub conditions_done : {A : Type 0} (f : A → CondBinding) (scopes : Scopes) (front : List Cond) (xs : List A) (i : ℕ) (n : Numbered) (total : Result (List Cond × Numbered) BindRefusal)
@@ -66,14 +66,14 @@ pub joins_on : {A : Type 0} (f : A → JoinBinding) (outer : Scopes) (before : S
     → i < length xs → x ≡ get_or xs i x → f x outer before left ≡ Ok next → through (map f (drop i xs)) outer before left ≡ total
     → through (map f (drop (i + 1) xs)) outer before next ≡ total
 joins_on f outer before xs i x left next total lt at h so_far =
-    let one : through (map f (drop i xs)) outer before left ≡ through (map f (drop (i + 1) xs)) outer before next = rw (front_of xs i x lt at, h) refl in
+    let one : through (map f (drop i xs)) outer before left ≡ through (map f (drop (i + 1) xs)) outer before next = rw (drop_next xs i x lt at, h) refl in
     sym one ∙ so_far
 
 pub joins_end : {A : Type 0} (f : A → JoinBinding) (e : Fault BindRefusal) (outer : Scopes) (before : Scope) (xs : List A) (i : ℕ) (x : A) (left : FromSoFar) (total : Result FromSoFar BindRefusal)
     → i < length xs → x ≡ get_or xs i x → Fails e (f x outer before left) → through (map f (drop i xs)) outer before left ≡ total → Fails e total
 joins_end f fault.Memory outer before xs i x left total lt at h so_far = tt
 joins_end f (fault.Refused e) outer before xs i x left total lt at h so_far =
-    let one : through (map f (drop i xs)) outer before left ≡ Err e = rw (front_of xs i x lt at, h) refl in
+    let one : through (map f (drop i xs)) outer before left ≡ Err e = rw (drop_next xs i x lt at, h) refl in
     sym so_far ∙ one
 
 pub joins_done : {A : Type 0} (f : A → JoinBinding) (outer : Scopes) (before : Scope) (xs : List A) (i : ℕ) (left : FromSoFar) (total : Result FromSoFar BindRefusal)
@@ -106,12 +106,12 @@ pub chains_on : {A : Type 0} (f : A → ChainBinding) (outer : Scopes) (xs : Lis
     → i < length xs → x ≡ get_or xs i x → f x outer scope n ≡ Ok (right, tables, m) → commas (map f (drop i xs)) outer (left, scope, n) ≡ total
     → commas (map f (drop (i + 1) xs)) outer (Comma left right, scope ++ tables, m) ≡ total
 chains_on f outer xs i x left right scope tables n m total lt at h so_far =
-    let one : commas (map f (drop i xs)) outer (left, scope, n) ≡ commas (map f (drop (i + 1) xs)) outer (Comma left right, scope ++ tables, m) = rw (front_of xs i x lt at, h) refl in
+    let one : commas (map f (drop i xs)) outer (left, scope, n) ≡ commas (map f (drop (i + 1) xs)) outer (Comma left right, scope ++ tables, m) = rw (drop_next xs i x lt at, h) refl in
     sym one ∙ so_far
 
 pub chains_end : {A : Type 0} (f : A → ChainBinding) (e : Fault BindRefusal) (outer : Scopes) (xs : List A) (i : ℕ) (x : A) (left : From) (scope : Scope) (n : Numbered) (total : Result FromSoFar BindRefusal)
     → i < length xs → x ≡ get_or xs i x → Fails e (f x outer scope n) → commas (map f (drop i xs)) outer (left, scope, n) ≡ total → Fails e total
 chains_end f fault.Memory outer xs i x left scope n total lt at h so_far = tt
 chains_end f (fault.Refused e) outer xs i x left scope n total lt at h so_far =
-    let one : commas (map f (drop i xs)) outer (left, scope, n) ≡ Err e = rw (front_of xs i x lt at, h) refl in
+    let one : commas (map f (drop i xs)) outer (left, scope, n) ≡ Err e = rw (drop_next xs i x lt at, h) refl in
     sym so_far ∙ one

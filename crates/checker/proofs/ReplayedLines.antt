@@ -1,9 +1,9 @@
 -- One more line replayed.
-use Rattle.std.proofs.Common.{◌≡◌, refl, ap, sym, ◌∙◌, ℕ, ◌+◌, ◌<◌, List, [], ◌∷◌, ◌++◌, map, length, take, drop, reverse, get_or, Ok, inl, inr, arith, add-one}
+use Rattle.std.proofs.Common.{◌≡◌, refl, ap, sym, ◌∙◌, ℕ, ◌+◌, ◌<◌, List, [], ◌∷◌, ◌++◌, map, length, take, drop, reverse, get_or, Ok, inl, inr, arith}
 use Rattle.std.proofs.lemmas.Bool.{cases_order, eq-eqb, ne_eqb}
-use Rattle.std.proofs.lemmas.List.{take_more, reverse-append, length-reverse, length-map, length-take-le, length_push, get_or_push, get_or_append_left, get_or_past}
-use Rattle.std.proofs.Math.Seq.{drop-cons}
+use Rattle.std.proofs.lemmas.List.{reverse-append, length-reverse, length-map, length-take-le, length_push, get_or_push, get_or_append_left, get_or_past}
 use Rattle.values.specs.Faults.{◌>>=◌}
+use Rattle.values.proofs.Lists.{map_next, drop_next}
 use Rattle.query.specs.declared.query.TableInstance.{TableInstance}
 use Rattle.query.specs.declared.query.Query.{Query}
 use Rattle.algebra.specs.declared.expr.Expr.{Expr}
@@ -21,16 +21,12 @@ before lines i = reverse (map founding (take i lines))
 abbrev pub after : List Line → ℕ → List Expr
 after lines i = map founding (drop i lines)
 
-map_push : {X Y : Type 0} (f : X → Y) (xs : List X) (x : X) → map f (xs ++ x ∷ []) ≡ map f xs ++ f x ∷ []
-map_push f [] x = refl
-map_push f (y ∷ xs) x = ap (λ ys. f y ∷ ys) (map_push f xs x)
-
 pub before_more : (lines : List Line) (i : ℕ) (line : Line) → i < length lines → line ≡ get_or lines i line → before lines (i + 1) ≡ founding line ∷ before lines i
 before_more lines i line lt is =
-    rw (take_more lines i line lt, ← is, map_push founding (take i lines) line, reverse-append (map founding (take i lines)) (founding line ∷ [])) refl
+    rw (map_next founding lines i line lt is, reverse-append (map founding (take i lines)) (founding line ∷ [])) refl
 
 pub after_first : (lines : List Line) (i : ℕ) (line : Line) → i < length lines → line ≡ get_or lines i line → after lines i ≡ founding line ∷ after lines (i + 1)
-after_first lines i line lt is = rw (add-one, drop-cons lines i line lt, ← is) refl
+after_first lines i line lt is = ap (map founding) (drop_next lines i line lt is)
 
 pub length_before : (lines : List Line) (i : ℕ) → i < length lines → length (before lines i) ≡ i
 length_before lines i lt = length-reverse (map founding (take i lines)) ∙ length-map (take i lines) founding ∙ length-take-le i lines (omega (arith, lt))

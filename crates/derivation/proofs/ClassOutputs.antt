@@ -5,6 +5,7 @@ use Rattle.std.proofs.lemmas.Bool.{and_parts, and_from, eqb-true, ltb-true}
 use Rattle.std.proofs.lemmas.List.{length-reverse, length-map, length-take-le}
 use Rattle.std.proofs.lemmas.Option.{slice_get_within}
 use Rattle.values.specs.Faults.{◌>>=◌, wanted_if}
+use Rattle.values.proofs.Results.{both_ok, wanted_if_ok}
 use Rattle.query.specs.declared.query.Query.{Query}
 use Rattle.query.specs.Rows.{Tables}
 use Rattle.algebra.specs.declared.expr.Expr.{Expr}
@@ -28,7 +29,6 @@ use Rattle.physical.proofs.SortedRows.{same_bag-sorted}
 use Rattle.derivation.specs.declared.certificate.CheckRefusal.{CheckRefusal}
 use Rattle.derivation.specs.declared.certificate.CheckReason.TheVariants.{IllFormed, OtherOperator, UnsortedAnswer}
 use Rattle.derivation.specs.Replay.{Fits, refusal, sort_fits, operator_fits, node_fits, inputs_fit, plan_fits, lines_replay}
-use Rattle.derivation.proofs.Results.{both_ok, wanted_if_ok}
 use Rattle.derivation.proofs.Fits.{plan_fits_out, operator-is}
 use Rattle.derivation.proofs.Founded.{Stands, line_at, founded, before, founded_columns, before_columns}
 use Rattle.derivation.proofs.Operators.{Is, AllAre, operator-gives, operator-stands}

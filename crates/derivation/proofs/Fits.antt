@@ -4,15 +4,15 @@ use Rattle.std.specs.List.{slice_get}
 use Rattle.std.proofs.lemmas.Bool.{and_parts, eqb-true}
 use Rattle.std.proofs.lemmas.List.{length-map}
 use Rattle.values.specs.Faults.{◌>>=◌, wanted, wanted_if}
+use Rattle.values.proofs.Results.{both_ok, wanted_ok, wanted_if_ok}
 use Rattle.algebra.specs.declared.expr.Expr.{Expr}
 use Rattle.algebra.specs.Expressions.{input_classes}
-use Rattle.algebra.proofs.Lists.{map-map}
+use mathlib.Core.List.{map-map}
 use Rattle.physical.specs.declared.plan.Operator.{Operator}
 use Rattle.physical.specs.declared.plan.Plan.{Plan, out-Plan, fold-Plan, fold_out-Plan}
 use Rattle.derivation.specs.declared.certificate.CheckReason.TheVariants.{UnknownLine, OtherOperator, UnsortedAnswer}
 use Rattle.derivation.specs.declared.certificate.CheckRefusal.{CheckRefusal}
 use Rattle.derivation.specs.Replay.{refusal, implements, operator_fits, Fitted, fitted_layer, fitted, node_fits, inputs_fit, plan_fits}
-use Rattle.derivation.proofs.Results.{both_ok, wanted_ok, wanted_if_ok}
 
 pub plan_fits_out : (lines : List Expr) (cols : ℕ → List ℕ) (p : Plan) (ordered : Bool) (g n : ℕ) → plan_fits lines cols p ordered g n
     ≡ (node_fits lines cols (out-Plan p).node (length (out-Plan p).inputs) g n >>= λ classes. wanted_if (refusal n UnsortedAnswer) ordered classes >>= λ classes. inputs_fit (map (plan_fits lines cols) (out-Plan p).inputs) classes (n + 1))

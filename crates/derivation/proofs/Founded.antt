@@ -11,6 +11,7 @@ use Rattle.query.specs.declared.query.TableInstance.{TableInstance}
 use Rattle.query.specs.declared.query.Query.{Query}
 use Rattle.query.specs.Rows.{Tables}
 use Rattle.values.specs.Faults.{◌>>=◌, wanted_if}
+use Rattle.values.proofs.Results.{both_ok, wanted_if_ok}
 use Rattle.algebra.specs.declared.expr.Expr.{Expr}
 use Rattle.algebra.specs.Bags.{Env}
 use Rattle.algebra.specs.Expressions.{means, columns_of, classes_pass, is_formed}
@@ -21,7 +22,6 @@ use Rattle.algebra.proofs.Same.{equal_expr}
 use Rattle.derivation.specs.declared.certificate.CheckRefusal.{CheckRefusal}
 use Rattle.derivation.specs.declared.certificate.CheckReason.TheVariants.{UnknownLine, OtherLine, IllFormed}
 use Rattle.derivation.specs.Replay.{refusal, is_frame_line, line_replays, lines_replay}
-use Rattle.derivation.proofs.Results.{both_ok, wanted_if_ok}
 
 -- a line that replays names earlier lines, is well formed over them, and is the frame's; the last of them stands first
 pub record Stands (q : Query) (E : List Expr) (x : Expr) : Type 0 where

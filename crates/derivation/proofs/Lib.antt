@@ -4,5 +4,4 @@ pub mod Founded
 pub mod Operators
 pub mod OrderKeys
 pub mod Ordered
-pub mod Results
 pub mod Soundness

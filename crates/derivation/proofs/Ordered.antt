@@ -4,9 +4,10 @@ use Rattle.std.specs.Coded.{coded_list}
 use Rattle.std.specs.List.{slice_get}
 use Rattle.std.specs.Ordering.{is_gt, on, ordering_then}
 use Rattle.std.specs.declared.cmp.Ordering.{Ordering}
-use Rattle.std.specs.declared.cmp.Ordering.TheVariants.{Less, Equal, Greater}
+use Rattle.std.specs.declared.cmp.Ordering.TheVariants.{Equal}
 use Rattle.values.specs.declared.value.Value.TheVariants as value
 use Rattle.values.specs.Order.{directed}
+use Rattle.values.proofs.Orders.{not_gt-then}
 use Rattle.schema.specs.Databases.{Row}
 use Rattle.query.specs.declared.query.SortKey as order_by
 use Rattle.query.specs.declared.query.Query.{Query}
@@ -26,16 +27,11 @@ use Rattle.derivation.specs.Replay.{same_order, is_delivered}
 
 -- ---- an order's beginning
 
-then-not_gt : (o p r : Ordering) → (is_gt p ≡ false → is_gt r ≡ false) → is_gt (ordering_then o p) ≡ false → is_gt (ordering_then o r) ≡ false
-then-not_gt Less p r h e = refl
-then-not_gt Equal p r h e = h e
-then-not_gt Greater p r h e = e
-
 -- what does not go after by keys does not by the first of them
 front-not_gt : (n : ℕ) (keys : List OrderKey) (a b : Env) → is_gt (keys_order keys a b) ≡ false → is_gt (keys_order (take n keys) a b) ≡ false
 front-not_gt zero keys a b h = refl
 front-not_gt (suc n) [] a b h = refl
-front-not_gt (suc n) (k ∷ keys) a b h = then-not_gt (key_order k a b) (keys_order keys a b) (keys_order (take n keys) a b) (front-not_gt n keys a b) h
+front-not_gt (suc n) (k ∷ keys) a b h = not_gt-then (key_order k a b) (keys_order keys a b) (keys_order (take n keys) a b) (front-not_gt n keys a b) h
 
 front-ordered : (n : ℕ) (keys : List OrderKey) (rows : List Env) → IsOrdered keys rows → IsOrdered (take n keys) rows
 front-ordered n keys [] h = tt

@@ -1,7 +1,8 @@
 -- The plan of a certificate that replays gives answers of its query.
-use Rattle.std.proofs.Common.{◌≡◌, refl, ap, sym, ◌∙◌, subst, ℕ, ◌+◌, ◌-◌, ◌<◌, Bool, true, if◌then◌else◌, List, [], ◌∷◌, ◌++◌, map, length, reverse, Result, Ok, arith}
+use Rattle.std.proofs.Common.{◌≡◌, refl, ap, sym, ◌∙◌, subst, ℕ, ◌+◌, ◌<◌, Bool, true, if◌then◌else◌, List, [], ◌∷◌, ◌++◌, map, length, reverse, Result, Ok, arith}
 use Rattle.std.proofs.lemmas.List.{reverse-append, length-reverse}
 use Rattle.values.specs.Faults.{◌>>=◌, wanted_if}
+use Rattle.values.proofs.Results.{both_ok, wanted_if_ok}
 use Rattle.schema.specs.Databases.{Row}
 use Rattle.query.specs.declared.query.Query.{Query}
 use Rattle.query.specs.Rows.{Tables, tables_of, same_rows, count}
@@ -21,7 +22,6 @@ use Rattle.derivation.specs.declared.certificate.Certificate.{Certificate}
 use Rattle.derivation.specs.declared.certificate.CheckRefusal.{CheckRefusal}
 use Rattle.derivation.specs.declared.certificate.CheckReason.TheVariants.{UnsortedAnswer}
 use Rattle.derivation.specs.Replay.{founding, refusal, lines_replay, node_fits, inputs_fit, plan_fits, is_delivered, root, replayed, ReplayIsSound}
-use Rattle.derivation.proofs.Results.{both_ok, wanted_if_ok}
 use Rattle.derivation.proofs.Fits.{plan_fits_out}
 use Rattle.derivation.proofs.Founded.{begins, later, turned}
 use Rattle.derivation.proofs.Ordered.{delivered-allowed}

@@ -1,11 +1,11 @@
 -- Bytes that a device took, piece after piece.
-use Rattle.std.proofs.Common.{◌≡◌, ℕ, suc, ◌+◌, ◌<◌, List, [], ◌∷◌, ◌++◌, length, take, drop, get_or, map, Option, Some, None, Result, Ok, Err, OnOk, OnErr, refl, sym, ap, ◌∙◌, append_assoc, arith}
+use Rattle.std.proofs.Common.{◌≡◌, ℕ, ◌+◌, ◌<◌, List, [], ◌++◌, length, take, drop, get_or, map, Option, Some, None, Result, Ok, Err, OnOk, OnErr, refl, sym, ap, ◌∙◌, append_assoc}
 use Rattle.std.proofs.lemmas.List.{append-nil, take-append-drop}
-use Rattle.std.proofs.Math.Seq.{drop-cons}
 use Rattle.std.specs.Io.KnownBytes.{Appends, Keeps}
 use Rattle.csv.specs.Writing.{default_writer, row_text}
 use Rattle.schema.specs.Databases.{Row}
 use Rattle.executor.specs.AnswerText.{rows_text, HasFront}
+use Rattle.values.proofs.Lists.{drop_next}
 use Rattle.store.specs.Fields.{field_of}
 
 pub appends_more : (a b c : Option (List ℕ)) (x y : List ℕ) → Appends a b x → Appends b c y → Appends a c (x ++ y)
@@ -54,7 +54,4 @@ front_more a b c done x total before (front, rest, is, added) e =
 -- the text of the rows that are left begins with that of the next row
 pub rest_text : (rows : List Row) (i : ℕ) (r : Row) → i < length rows → r ≡ get_or rows i r
     → rows_text (drop i rows) ≡ row_text default_writer (map field_of r) ++ rows_text (drop (i + 1) rows)
-rest_text rows i r lt at =
-    let k : suc i ≡ i + 1 = omega arith in
-    let h : drop i rows ≡ r ∷ drop (i + 1) rows = drop-cons rows i r lt ∙ ap (λ x. x ∷ drop (suc i) rows) (sym at) ∙ ap (λ j. r ∷ drop j rows) k in
-    ap rows_text h
+rest_text rows i r lt at = ap rows_text (drop_next rows i r lt at)

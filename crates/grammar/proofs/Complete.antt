@@ -1,10 +1,12 @@
 -- A word is read whole, wherever what follows it may follow.
 use Rattle.std.proofs.Common.{◌≡◌, ℕ, zero, suc, ◌≤◌, inl, inr, Bool, true, false, not, ◌&&◌, ◌==◌, if◌then◌else◌, List, [], ◌∷◌, ◌++◌, length, Ok, refl, sym, ◌∙◌, ap, subst, append_assoc, arith, length-append}
+use Rattle.std.proofs.lemmas.Bool.{eq-eqb, cond-true}
+use Rattle.std.proofs.lemmas.List.{append-nil}
 use Rattle.grammar.specs.Grammars.{Grammar, tok, pure, seq, map, alt, many, nested, Language, closed}
 use Rattle.grammar.specs.Words.{Repeats, In, Nested}
 use Rattle.grammar.specs.Readers.{◌>>=◌, member, apart, Reader, Reported, null, sees, first, decides, one, repeat, parse, inside, whole, finished, IsDecided}
-use Rattle.grammar.proofs.Tests.{tested, and_left, and_right, not_and, then_side, member_left, not_member}
-use Rattle.grammar.proofs.Samples.{none_left, nulls, stops, stops_right, starts, starts_all, follows}
+use Rattle.grammar.proofs.Tests.{and_left, and_right, not_and, member_left, not_member}
+use Rattle.grammar.proofs.Samples.{nulls, stops, stops_right, starts, starts_all, follows}
 
 module _ {T : Type 0} {P : Type 0 → Type 1} (L : Language T P) where
   apart_stops : (xs ys : List ℕ) (r : List T) → apart xs ys ≡ true → stops L ys r ≡ true → sees L xs r ≡ false
@@ -30,7 +32,7 @@ module _ {T : Type 0} {P : Type 0 → Type 1} (L : Language T P) where
         right = and_left (decides L follow h) _ b;
         solid = not_and (null g) (and_left (not (null g)) _ c);
         away = and_left (apart (first L g) (first L h)) _ e;
-        empty = λ m. sym (then_side (null h) (apart (first L g) follow) true m) ∙ and_right (apart (first L g) (first L h)) ending e;
+        empty = λ m. sym (cond-true (null h) (apart (first L g) follow) true m) ∙ and_right (apart (first L g) (first L h)) ending e;
       }
 
   module _ {E : Type 0} (reported : Reported T E) (R : (A : Type 0) → P A → List T → Reader T E A) (I : (A : Type 0) → P A → List T → A → Type 0)
@@ -65,7 +67,7 @@ module _ {T : Type 0} {P : Type 0 → Type 1} (L : Language T P) where
     pub complete : {A : Type 0} (g : Grammar T P A) (follow : List ℕ) → decides L follow g ≡ true → (w r : List T) (v : A) → In L I g w v → stops L follow r ≡ true
         → parse L reported R g (w ++ r) ≡ Ok (v, r)
     complete (tok s) follow d w r v (k, e) stop =
-        let q : (L.class v == L.class s) ≡ true = tested (L.class v) (L.class s) k in
+        let q : (L.class v == L.class s) ≡ true = eq-eqb (L.class v) (L.class s) k in
         subst (λ z. one L reported (L.class s) (z ++ r) ≡ Ok (v, r)) (sym e) (rw q refl)
     complete (pure x) follow d w r v (e, f) stop = rw (e, f) refl
     complete (seq g h) follow d w r v (a, b, e, x, y) stop =
@@ -105,12 +107,12 @@ module _ {T : Type 0} {P : Type 0 → Type 1} (L : Language T P) where
     stops_there : (r : List T) → stops L (any_class r) r ≡ true
     unfolding any_class
     stops_there [] = refl
-    stops_there (t ∷ r) = let h : (L.class t == L.class t) ≡ true = tested (L.class t) (L.class t) refl in rw h refl
+    stops_there (t ∷ r) = let h : (L.class t == L.class t) ≡ true = eq-eqb (L.class t) (L.class t) refl in rw h refl
 
     nested_complete : (d : ℕ) (A : Type 0) (p : P A) (w r : List T) (v : A) → In L (Nested L d) (nested p) w v → parse L reported (inside L reported d) (nested p) (w ++ r) ≡ Ok (v, r)
     nested_complete zero A p w r v (t, a, k, e, x) = absurd x
     nested_complete (suc d) A p w r v (t, a, k, e, x) =
-        let h : (L.class t == L.class L.opening) ≡ true = tested (L.class t) (L.class L.opening) k in
+        let h : (L.class t == L.class L.opening) ≡ true = eq-eqb (L.class t) (L.class L.opening) k in
         let f : parse L reported (inside L reported d) (closed L A p) (a ++ r) ≡ Ok (v, r) =
         complete reported (inside L reported d) (Nested L d) (nested_complete d) (closed L A p) (any_class r) (closed_decides (any_class r) A p) a r v x (stops_there r) in
         subst (λ z. parse L reported (inside L reported (suc d)) (nested p) (z ++ r) ≡ Ok (v, r)) (sym e) (rw h f)
@@ -119,5 +121,5 @@ module _ {T : Type 0} {P : Type 0 → Type 1} (L : Language T P) where
     pub whole_complete : {A : Type 0} (g : Grammar T P A) → decides L [] g ≡ true → (d : ℕ) (w : List T) (v : A) → In L (Nested L d) g w v → whole L reported d g w ≡ Ok v
     whole_complete g dec d w v h =
         let f : parse L reported (inside L reported d) g (w ++ []) ≡ Ok (v, []) = complete reported (inside L reported d) (Nested L d) (nested_complete d) g [] dec w [] v h refl in
-        let k : parse L reported (inside L reported d) g w ≡ Ok (v, []) = rw none_left at f in
+        let k : parse L reported (inside L reported d) g w ≡ Ok (v, []) = rw append-nil at f in
         ap (λ z. z >>= finished L reported) k

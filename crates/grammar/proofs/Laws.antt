@@ -1,11 +1,13 @@
 -- What the reader of each grammar reports, by the grammar's constructs.
 use Rattle.std.proofs.Common.{◌≡◌, ℕ, zero, suc, ◌≤◌, inl, inr, Bool, true, false, ◌==◌, if◌then◌else◌, List, [], ◌∷◌, ◌++◌, length, Some, Result, Ok, Err, refl, sym, ◌∙◌, ap, subst, append_assoc, arith, length-append}
+use Rattle.std.proofs.lemmas.Bool.{eqb-true}
+use Rattle.std.proofs.lemmas.List.{append-nil}
 use Rattle.grammar.specs.Grammars.{Grammar, tok, pure, seq, map, alt, many, nested, Language, closed}
 use Rattle.grammar.specs.Words.{Repeats, In, Nested}
 use Rattle.grammar.specs.Readers.{◌>>=◌, null, sees, first, decides, paired, one, repeat, parse, inside, IsDecided}
 use Rattle.grammar.specs.Faults.{Fault, Unexpected, room}
-use Rattle.grammar.proofs.Tests.{equal, and_left, and_right, not_and}
-use Rattle.grammar.proofs.Samples.{none_left, nulls, raise, up, word_of, behind}
+use Rattle.grammar.proofs.Tests.{and_left, and_right, not_and}
+use Rattle.grammar.proofs.Samples.{nulls, raise, up, word_of, behind}
 use Rattle.grammar.proofs.Rooms.{room_append, room_opened, even}
 use Rattle.grammar.proofs.Outcomes.{Alike, alike_split, sees_alike, Read, Law, stop_behind}
 use Rattle.grammar.proofs.Reporting.{plain}
@@ -39,7 +41,7 @@ module _ {T : Type 0} {P : Type 0 → Type 1} (L : Language T P) where
     at_other class t ts h (u ∷ s) i = let x : (L.class u == class) ≡ false = ap (λ z. L.class z == class) (sym i) ∙ h in rw x refl
 
     one_law : (s t : T) (ts : List T) (b : Bool) → (L.class t == L.class s) ≡ b → LawOf d e (tok s) (t ∷ ts) (if b then Ok (t, ts) else Err (Unexpected (t ∷ ts)))
-    one_law s t ts true h = record { w = t ∷ []; split = refl; word = (equal (L.class t) (L.class s) h, refl); again = λ r i. rw h refl }
+    one_law s t ts true h = record { w = t ∷ []; split = refl; word = (eqb-true (L.class t) (L.class s) h, refl); again = λ r i. rw h refl }
     one_law s t ts false h = one_alike (L.class s) (t ∷ ts) (at_other (L.class s) t ts h) s refl
 
     token_law : (s : T) (ts : List T) → LawOf d e (tok s) ts (one L plain (L.class s) ts)
@@ -184,7 +186,7 @@ module _ {T : Type 0} {P : Type 0 → Type 1} (L : Language T P) where
       items n ts b h f (Ok x) o = others ts h x o (repeat L plain n (first L g) (parse L plain (inside L plain d) g) x.1) (f x.1 (shorter n ts o.w x.1 x.0 o.word o.split b))
       items n ts b h f (Err k) o =
           stop_behind L (By e g) (In L (Nested L (suc d)) g) d Enough (Repeats (In L (Nested L (suc d)) g)) d [] ts ts (λ v. v ∷ []) (λ m. m)
-          refl (λ t c. refl) (λ u. refl) (λ w more v i. (w ++ more, [], sym (none_left (w ++ more)), i, refl))
+          refl (λ t c. refl) (λ u. refl) (λ w more v i. (w ++ more, [], sym (append-nil (w ++ more)), i, refl))
           (λ w r s q i j m c. turn_err m (w ++ s) (Unexpected s) (sees_alike L (first L g) ts (w ++ s) (alike_split ts w r s q i) ∙ h) c j) k o
 
       none : (ts : List T) → sees L (first L g) ts ≡ false → LawAll ts (Ok ([], ts))
@@ -252,13 +254,13 @@ module _ {T : Type 0} {P : Type 0 → Type 1} (L : Language T P) where
     opened d e A p t ts h (Ok x) o = record {
       w = t ∷ o.w;
       split = ap (λ z. t ∷ z) o.split;
-      word = (t, o.w, equal (L.class t) (L.class L.opening) h, refl, o.word);
+      word = (t, o.w, eqb-true (L.class t) (L.class L.opening) h, refl, o.word);
       again = λ s i. rw h (o.again s i);
     }
     opened d e A p t ts h (Err f) o =
         stop_behind L (By e (closed L A p)) (In L (Nested L (suc d)) (closed L A p)) d (By (suc e) (nested p)) (In L (Nested L (suc (suc d))) (nested p)) (suc d) (t ∷ []) ts (t ∷ ts) (λ v. v) (λ m. m)
-        refl (λ t c. refl) (λ u. room_opened L (Some (suc d)) t u (equal (L.class t) (L.class L.opening) h))
-        (λ w more v i. (t, w ++ more, equal (L.class t) (L.class L.opening) h, refl, i)) (λ w r s q i j. rw h j) f o
+        refl (λ t c. refl) (λ u. room_opened L (Some (suc d)) t u (eqb-true (L.class t) (L.class L.opening) h))
+        (λ w more v i. (t, w ++ more, eqb-true (L.class t) (L.class L.opening) h, refl, i)) (λ w r s q i j. rw h j) f o
 
     abbrev token_or : Bool → T → List T → Result (T × List T) (Fault T)
     token_or b t ts = if b then Ok (t, ts) else Err (Unexpected (t ∷ ts))
@@ -267,7 +269,7 @@ module _ {T : Type 0} {P : Type 0 → Type 1} (L : Language T P) where
     full_law : (e : ℕ) (A : Type 0) (p : P A) (t : T) (ts : List T) (b : Bool) → (L.class t == L.class L.opening) ≡ b
         → Outer zero e A p (t ∷ ts) (token_or b t ts >>= λ x. inside L plain zero A p (t ∷ ts) x.1)
     full_law e A p t ts false h = not_opened zero e A p (t ∷ ts) (at_other is zero e (L.class L.opening) t ts h)
-    full_law e A p t ts true h = let a = behind L is zero A p in let k = equal (L.class t) (L.class L.opening) h in record {
+    full_law e A p t ts true h = let a = behind L is zero A p in let k = eqb-true (L.class t) (L.class L.opening) h in record {
       w = [];
       more = t ∷ a.0;
       tree = a.1;

@@ -1,10 +1,11 @@
 -- How many parentheses may be opened behind a word, and that a word is within a depth where its parentheses are.
 use Rattle.std.proofs.Common.{◌≡◌, ℕ, zero, suc, ◌≤◌, inl, inr, Bool, true, false, ◌==◌, if◌then◌else◌, List, [], ◌∷◌, ◌++◌, Option, Some, None, refl, sym, ◌∙◌, ap, arith}
+use Rattle.std.proofs.lemmas.Bool.{eq-eqb, not-true}
 use Rattle.grammar.specs.Grammars.{Grammar, tok, pure, seq, map, alt, many, nested, Language}
 use Rattle.grammar.specs.Words.{Repeats, In, Nested}
 use Rattle.grammar.specs.Readers.{paired, IsDecided}
 use Rattle.grammar.specs.Faults.{room, fewer, more}
-use Rattle.grammar.proofs.Tests.{tested, and_left, and_right, is_false}
+use Rattle.grammar.proofs.Tests.{and_left, and_right}
 
 module _ {T : Type 0} {P : Type 0 → Type 1} (L : Language T P) where
   pub room_append : (n : Option ℕ) (a b : List T) → room L n (a ++ b) ≡ room L (room L n a) b
@@ -26,7 +27,7 @@ module _ {T : Type 0} {P : Type 0 → Type 1} (L : Language T P) where
   room_none (t ∷ w) = rw (none_stays (L.class t == L.class L.opening) (L.class t == L.class L.closing)) (room_none w)
 
   pub room_opened : (n : Option ℕ) (t : T) (w : List T) → L.class t ≡ L.class L.opening → room L n (t ∷ w) ≡ room L (fewer n) w
-  room_opened n t w k = let h : (L.class t == L.class L.opening) ≡ true = tested (L.class t) (L.class L.opening) k in rw h refl
+  room_opened n t w k = let h : (L.class t == L.class L.opening) ≡ true = eq-eqb (L.class t) (L.class L.opening) k in rw h refl
 
   room_other : (n : Option ℕ) (t : T) → (L.class t == L.class L.opening) ≡ false → (L.class t == L.class L.closing) ≡ false → room L n (t ∷ []) ≡ n
   room_other n t h k = rw (h, k) refl
@@ -55,8 +56,8 @@ module _ {T : Type 0} {P : Type 0 → Type 1} (L : Language T P) where
 
     even_by : {A : Type 0} (g : Grammar T P A) → paired L g ≡ true → (w : List T) (v : A) → In L I g w v → Even d w
     even_by (tok s) p w v (k, e) n l =
-        let x : (L.class v == L.class L.opening) ≡ false = ap (λ z. z == L.class L.opening) k ∙ is_false (L.class s == L.class L.opening) (and_left _ _ p) in
-        let y : (L.class v == L.class L.closing) ≡ false = ap (λ z. z == L.class L.closing) k ∙ is_false (L.class s == L.class L.closing) (and_right _ _ p) in
+        let x : (L.class v == L.class L.opening) ≡ false = ap (λ z. z == L.class L.opening) k ∙ not-true (L.class s == L.class L.opening) (and_left _ _ p) in
+        let y : (L.class v == L.class L.closing) ≡ false = ap (λ z. z == L.class L.closing) k ∙ not-true (L.class s == L.class L.closing) (and_right _ _ p) in
         ap (room L (Some n)) e ∙ room_other (Some n) v x y
     even_by (pure x) p w v (e, s) n l = ap (room L (Some n)) e
     even_by (seq g h) p w v (a, b, e, x, y) n l =
@@ -71,7 +72,7 @@ module _ {T : Type 0} {P : Type 0 → Type 1} (L : Language T P) where
     room_closed : (n : ℕ) (t : T) → L.class t ≡ L.class L.closing → room L (Some n) (t ∷ []) ≡ Some (suc n)
     room_closed n t k =
         let h : (L.class t == L.class L.opening) ≡ false = ap (λ z. z == L.class L.opening) k ∙ is.distinct in
-        let i : (L.class t == L.class L.closing) ≡ true = tested (L.class t) (L.class L.closing) k in
+        let i : (L.class t == L.class L.closing) ≡ true = eq-eqb (L.class t) (L.class L.closing) k in
         rw (h, i) refl
 
     uneven : (d : ℕ) (A : Type 0) (p : P A) (w : List T) (v : A) → Nested L d A p w v → (n : ℕ) → d ≤ n → room L (fewer (Some n)) w ≡ Some n

@@ -1,15 +1,12 @@
 -- Facts of the words of a grammar: which are empty, how they begin, and that each grammar has one.
 use Rattle.std.proofs.Common.{◌≡◌, ℕ, zero, suc, inl, inr, Bool, true, false, ◌==◌, if◌then◌else◌, List, [], ◌∷◌, ◌++◌, refl, sym, ◌∙◌, ap, subst}
+use Rattle.std.proofs.lemmas.Bool.{eq-eqb, or_left, or_right}
 use Rattle.grammar.specs.Grammars.{Grammar, tok, pure, seq, map, alt, many, nested, Language, closed}
 use Rattle.grammar.specs.Words.{Repeats, In, Nested}
 use Rattle.grammar.specs.Readers.{member, null, first, IsDecided}
-use Rattle.grammar.proofs.Tests.{tested, or_left, or_right, member_left, member_right}
+use Rattle.grammar.proofs.Tests.{member_left, member_right}
 
 module _ {T : Type 0} where
-  pub none_left : (w : List T) → w ++ [] ≡ w
-  none_left [] = refl
-  none_left (t ∷ w) = ap (λ z. t ∷ z) (none_left w)
-
   both_empty : (a b : List T) → [] ≡ a ++ b → (a ≡ []) × (b ≡ [])
   both_empty [] b h = (refl, sym h)
   both_empty (x ∷ a) b h = cc
@@ -52,7 +49,7 @@ module _ {T : Type 0} {P : Type 0 → Type 1} (L : Language T P) where
 
     -- a word begins with one of the first tokens
     pub starts : {A : Type 0} (g : Grammar T P A) (t : T) (w : List T) (v : A) → In L I g (t ∷ w) v → member (L.class t) (first L g) ≡ true
-    starts (tok s) t w v (k, e) = let q : v ≡ t = cc in or_left (L.class t == L.class s) false (tested (L.class t) (L.class s) (ap L.class (sym q) ∙ k))
+    starts (tok s) t w v (k, e) = let q : v ≡ t = cc in or_left (L.class t == L.class s) false (eq-eqb (L.class t) (L.class s) (ap L.class (sym q) ∙ k))
     starts (pure x) t w v (e, s) = cc
     starts (seq g h) t w v ([], b, e, x, y) =
         let m : null g ≡ true = nulls g [] v.0 refl x in
@@ -65,7 +62,7 @@ module _ {T : Type 0} {P : Type 0 → Type 1} (L : Language T P) where
     starts (alt g h) t w v (inl x) = member_left (L.class t) (first L g) (first L h) (starts g t w v x)
     starts (alt g h) t w v (inr x) = member_right (L.class t) (first L g) (first L h) (starts h t w v x)
     starts (many g) t w v h = starts_all (first L g) (In L I g) (starts g) t w v h
-    starts (nested p) t w v (u, a, k, e, x) = let s : u ≡ t = cc in or_left (L.class t == L.class L.opening) false (tested (L.class t) (L.class L.opening) (ap L.class (sym s) ∙ k))
+    starts (nested p) t w v (u, a, k, e, x) = let s : u ≡ t = cc in or_left (L.class t == L.class L.opening) false (eq-eqb (L.class t) (L.class L.opening) (ap L.class (sym s) ∙ k))
 
     -- what may stand behind a word before one of h
     pub follows : {A : Type 0} (h : Grammar T P A) (follow : List ℕ) (b r : List T) (v : A) → In L I h b v → stops follow r ≡ true

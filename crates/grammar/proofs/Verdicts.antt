@@ -1,11 +1,11 @@
 -- A reader finds exactly the words within its limit, and else the first fault.
 use Rattle.std.proofs.Common.{◌≡◌, ℕ, zero, suc, ◌+◌, ◌-◌, ◌≤◌, true, List, [], ◌∷◌, ◌++◌, Some, Result, Ok, Err, refl, sym, ◌∙◌, ap, subst, append_assoc, arith}
-use Rattle.std.proofs.lemmas.List.{append_cancel_right}
+use Rattle.std.proofs.lemmas.List.{append_cancel_right, append-nil}
 use Rattle.grammar.specs.Grammars.{Grammar, Language}
 use Rattle.grammar.specs.Words.{Nested, Within, Reads, Begins}
 use Rattle.grammar.specs.Readers.{◌>>=◌, Reported, decides, paired, parse, inside, finished, whole, IsDecided}
 use Rattle.grammar.specs.Faults.{Fault, Unexpected, TooDeep, room, IsWithin, Halts, IsUnexpected, IsTooDeep, IsFirstFault}
-use Rattle.grammar.proofs.Samples.{none_left, raise, up}
+use Rattle.grammar.proofs.Samples.{raise, up}
 use Rattle.grammar.proofs.Rooms.{even, lower}
 use Rattle.grammar.proofs.Outcomes.{Alike}
 use Rattle.grammar.proofs.Complete.{whole_complete}
@@ -34,7 +34,7 @@ module _ {T : Type 0} {P : Type 0 → Type 1} (L : Language T P) (is : IsDecided
   Deaf d w r = (e : ℕ) → d ≤ e → (s : List T) → Alike r s → whole L plain e g (w ++ s) ≡ Err (Unexpected s)
 
   halts : (d : ℕ) (w r : List T) → Deaf d w r → Halts L g w r
-  halts d w [] f = λ v h. no_word d (w ++ []) (Unexpected []) (λ e l. f e l [] tt) v (subst (λ z. Reads L g z v) (sym (none_left w)) h)
+  halts d w [] f = λ v h. no_word d (w ++ []) (Unexpected []) (λ e l. f e l [] tt) v (subst (λ z. Reads L g z v) (sym (append-nil w)) h)
   halts d w (t ∷ r) f = before_it
     where
       before_it : Begins L g (w ++ t ∷ []) → ⊥
@@ -77,7 +77,7 @@ module _ {T : Type 0} {P : Type 0 → Type 1} (L : Language T P) (is : IsDecided
       record {
         w = k.w;
         split = k.split;
-        begins = ([], v, (d, subst (λ z. Within L d g z v) (sym (none_left k.w)) k.word));
+        begins = ([], v, (d, subst (λ z. Within L d g z v) (sym (append-nil k.w)) k.word));
         within = (d, even L is d g pairs k.w v k.word d (omega arith));
         halts = halts d k.w (t ∷ r) (λ e l s i. beyond e k.w v t r s (λ u j. reads_at e l u j k.w k.split) i);
       }
@@ -106,7 +106,7 @@ module _ {T : Type 0} {P : Type 0 → Type 1} (L : Language T P) (is : IsDecided
           }
 
   verdict_of : (d : ℕ) (ts : List T) (z : Result (A × List T) (Fault T)) → ((e : ℕ) → d ≤ e → LawOf L d e g ts z) → IsVerdict d ts (z >>= finished L plain)
-  verdict_of d ts (Ok (v, [])) f = let k = f d (omega arith) in subst (λ z. Within L d g z v) (sym (k.split ∙ none_left k.w)) k.word
+  verdict_of d ts (Ok (v, [])) f = let k = f d (omega arith) in subst (λ z. Within L d g z v) (sym (k.split ∙ append-nil k.w)) k.word
   verdict_of d ts (Ok (v, t ∷ r)) f = more_left d ts v t r f
   verdict_of d ts (Err (Unexpected r)) f = unexpected d ts r f
   verdict_of d ts (Err (TooDeep r)) f = too_deep d ts r (f d (omega arith))

@@ -2,7 +2,7 @@
 use Rattle.std.proofs.Common.{◌≡◌, refl, ap, sym, ◌∙◌, subst, ℕ, ◌<◌, ◌≤◌, Bool, true, false, ◌&&◌, ◌||◌, ◌==◌, not, nat_lt, if◌then◌else◌, List, [], ◌∷◌, ◌++◌, map, length, Option, Some, None, option_map, arith}
 use Rattle.std.specs.Prelude.{slice_index_or}
 use Rattle.std.specs.List.{list_all, list_any, AllByRecursion}
-use Rattle.std.proofs.lemmas.Bool.{and_parts, and_from, or_parts, eq-eqb, eqb-true, lt-ltb, ltb-true, or_left, or_right, cond_both, cond-true, not_from_false, not-true}
+use Rattle.std.proofs.lemmas.Bool.{and_parts, and_from, or_parts, eq-eqb, eqb-true, lt-ltb, ltb-true, or_left, or_right, cond_both, cond-true, not_from_false, not-true, false≢true}
 use Rattle.std.proofs.lemmas.List.Folds.{list_any-append}
 use Rattle.query.specs.declared.query.Column.{Column}
 use Rattle.query.specs.declared.query.Aggregate.{Aggregate}
@@ -31,7 +31,7 @@ use Rattle.logical.proofs.FrameShapes.{end-grows, FromShape, CondShape, WhereSha
 use Rattle.logical.proofs.Growth.{grows-none, grows-longer, grows-some, top-columns, last-below}
 use Rattle.logical.proofs.Induction.{OfFilter}
 use Rattle.algebra.proofs.Ordered.{in_order-all}
-use Rattle.algebra.proofs.Puts.{never, differ-left, differ-right}
+use Rattle.algebra.proofs.Puts.{differ-left, differ-right}
 use Rattle.algebra.proofs.Same.{equal_aggregation}
 use Rattle.algebra.proofs.Sets.{has-rising}
 use Rattle.logical.proofs.Shown.{all-rising}
@@ -169,7 +169,7 @@ module _ (uses : List TableInstance) (own : List Aggregation) where
     plain-kept (item.Column c ∷ items) bound =
         let parts = and_parts (names (numbers ∷ scope) c) _ bound in
         (λ is. ap (has cols) (own-number numbers scope c is) ∙ place-in c.place (sym (own-there numbers scope c is) ∙ parts.0), plain-kept items parts.1)
-    plain-kept (item.Aggregate n a ∷ items) bound = absurd (never bound)
+    plain-kept (item.Aggregate n a ∷ items) bound = absurd (false≢true bound)
 
     -- the columns of a Group are its keys' and its aggregates'
     abbrev grouped : List ℕ → List Item → List ℕ
@@ -224,7 +224,7 @@ module _ (uses : List TableInstance) (own : List Aggregation) where
   plain-shown : (inner : Scope) → AllOwn uses own inner → (items : List Item) → list_all (bound_item inner) items ≡ true → list_all (is_query_column uses own) (map (item_number inner) items) ≡ true
   plain-shown inner all [] bound = refl
   plain-shown inner all (item.Column c ∷ items) bound = let parts = and_parts (names inner c) _ bound in and_from _ _ (number-own uses own inner all c parts.0) (plain-shown inner all items parts.1)
-  plain-shown inner all (item.Aggregate n a ∷ items) bound = absurd (never bound)
+  plain-shown inner all (item.Aggregate n a ∷ items) bound = absurd (false≢true bound)
 
   group-shown : (numbers keys : List ℕ) (scope : Scope) → AllOwn uses own (numbers ∷ scope) → list_all (λ k. nat_lt k (length numbers)) keys ≡ true → (items : List Item)
       → list_all (bound_group_item (length numbers) keys (numbers ∷ scope)) items ≡ true → among_own uses own (aggregations numbers items) ≡ true → list_all (is_query_column uses own) (map (item_number (numbers ∷ scope)) items) ≡ true

@@ -2,7 +2,7 @@
 use Rattle.std.proofs.Common.{◌≡◌, refl, subst, ℕ, zero, suc, Bool, true, ◌&&◌, List, [], ◌∷◌, ◌++◌}
 use Rattle.std.specs.Prelude.{slice_index_or}
 use Rattle.std.specs.List.{list_all, list_any, AllByRecursion}
-use Rattle.std.proofs.lemmas.Bool.{and_from, ltb-true}
+use Rattle.std.proofs.lemmas.Bool.{and_from, ltb-true, false≢true}
 use Rattle.query.specs.declared.query.Column.{Column}
 use Rattle.query.specs.declared.query.Term.{Term}
 use Rattle.query.specs.declared.query.Term.TheVariants as read
@@ -22,7 +22,6 @@ use Rattle.logical.specs.FormedFrames.{group_aggregates}
 use Rattle.logical.specs.Frames.{CondLines, AllLines, BlockFrame, cond_frame, from_frame, block_frame, numbered}
 use Rattle.logical.proofs.FrameGroups.{place-has}
 use Rattle.logical.proofs.Growth.{Grows}
-use Rattle.algebra.proofs.Puts.{never}
 
 pub all-three : (a b c : Bool) → a ≡ true → b ≡ true → c ≡ true → (a && b && c) ≡ true
 all-three a b c e f g = rw (e, f, g) refl
@@ -54,7 +53,7 @@ module _ (uses : List TableInstance) (own : List Aggregation) where
   groups-before F E grows h = later-own grows.0 E (subst GroupsOwn grows.1 h)
 
   level-own : (scope : Scope) → AllOwn scope → (l : ℕ) → AreOwn (slice_index_or scope l [])
-  level-own [] all l c h = absurd (never h)
+  level-own [] all l c h = absurd (false≢true h)
   level-own (ks ∷ scope) all zero c h = all.0 c h
   level-own (ks ∷ scope) all (suc l) c h = level-own scope all.1 l c h
 

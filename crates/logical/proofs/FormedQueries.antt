@@ -2,16 +2,16 @@
 use Rattle.std.proofs.Common.{◌≡◌, refl, ap, sym, ◌∙◌, subst, ℕ, zero, suc, ◌-◌, ◌<◌, Bool, true, false, ◌==◌, nat_lt, if◌then◌else◌, List, [], ◌∷◌, ◌++◌, map, flat_map, length, reverse, option_map, arith}
 use Rattle.std.specs.Prelude.{slice_index_or}
 use Rattle.std.specs.List.{list_all, list_any, AllByRecursion}
-use Rattle.std.proofs.lemmas.Bool.{and_parts, and_from, or_left, or_right, cond-true, ltb-true}
+use Rattle.std.proofs.lemmas.Bool.{and_parts, and_from, or_left, or_right, cond-true, ltb-true, false≢true}
 use Rattle.std.proofs.lemmas.List.{length-reverse, reverse-append, reverse-reverse}
 use Rattle.std.proofs.lemmas.List.Folds.{list_any-append}
+use Rattle.values.proofs.Lists.{all_append}
 use Rattle.query.specs.declared.query.Column.{Column}
 use Rattle.query.specs.declared.query.Item.{Item}
 use Rattle.query.specs.declared.query.Item.TheVariants as item
 use Rattle.query.specs.declared.query.TableInstance.{TableInstance}
 use Rattle.query.specs.declared.query.Block.{Block}
 use Rattle.query.specs.Bound.{Scope, names, is_among, bound_aggregate, bound_item, bound_group_item, bound_items, block_scope}
-use Rattle.query.proofs.Lists.{all-append}
 use Rattle.query.proofs.ScopeEquations.{scope-Block}
 use Rattle.algebra.specs.declared.expr.Aggregation.{Aggregation}
 use Rattle.algebra.specs.declared.expr.Expr.{Expr}
@@ -30,7 +30,6 @@ use Rattle.logical.proofs.FrameEquations.{frame-Block}
 use Rattle.logical.proofs.FrameShapes.{BoundParts, block-shape, bound-parts}
 use Rattle.logical.proofs.Growth.{top-columns, last-is}
 use Rattle.logical.proofs.Induction.{Steps, each-block}
-use Rattle.algebra.proofs.Puts.{never}
 use Rattle.algebra.proofs.Same.{same_aggregation-refl}
 use Rattle.algebra.proofs.Sets.{has-rising}
 
@@ -82,7 +81,7 @@ groups-own uses (x ∷ lines) =
 
 all-reverse : {X : Type 0} (P : X → Type 0) (xs : List X) → AllByRecursion P xs → AllByRecursion P (reverse xs)
 all-reverse P [] all = tt
-all-reverse P (x ∷ xs) all = subst (AllByRecursion P) (sym (reverse-append (x ∷ []) xs)) (all-append P (reverse xs) (x ∷ []) (all-reverse P xs all.1) (all.0, tt))
+all-reverse P (x ∷ xs) all = subst (AllByRecursion P) (sym (reverse-append (x ∷ []) xs)) (all_append P (reverse xs) (x ∷ []) (all-reverse P xs all.1) (all.0, tt))
 
 -- ---- what a query shows
 
@@ -97,7 +96,7 @@ names-own numbers c there = by c.level there
 plain-own : (numbers : List ℕ) (items : List Item) → list_all (bound_item (numbers ∷ [])) items ≡ true → AllByRecursion (λ i. frame.is_block_item i ≡ true) items
 plain-own numbers [] bound = tt
 plain-own numbers (item.Column c ∷ items) bound = let parts = and_parts (names (numbers ∷ []) c) _ bound in (names-own numbers c parts.0, plain-own numbers items parts.1)
-plain-own numbers (item.Aggregate n a ∷ items) bound = absurd (never bound)
+plain-own numbers (item.Aggregate n a ∷ items) bound = absurd (false≢true bound)
 
 group-own : (numbers keys : List ℕ) (items : List Item) → list_all (bound_group_item (length numbers) keys (numbers ∷ [])) items ≡ true → AllByRecursion (λ i. frame.is_block_item i ≡ true) items
 group-own numbers keys [] bound = tt

@@ -3,6 +3,7 @@ use Rattle.std.proofs.Common.{◌≡◌, refl, ap, sym, ◌∙◌, subst, ℕ, �
 use Rattle.std.specs.List.{list_all, AllByRecursion}
 use Rattle.std.proofs.lemmas.Bool.{and_parts}
 use Rattle.values.specs.declared.value.Value.{Value}
+use Rattle.values.proofs.Lists.{filter_all}
 use Rattle.schema.specs.Databases.{Row, HaveWidth, values_at}
 use Rattle.query.specs.declared.query.Item.{Item}
 use Rattle.query.specs.declared.query.TableInstance.{TableInstance}
@@ -31,7 +32,7 @@ use Rattle.logical.proofs.FrameRight.{CondRight, FromRight, CondMeans, FromMeans
 use Rattle.logical.proofs.FrameShapes.{FromShape, BoundParts, cond-shape, from-shape, bound-parts}
 use Rattle.logical.proofs.Growth.{grows-none, kept-rows, top-rows, top-columns, last-below}
 use Rattle.logical.proofs.Induction.{OfFilter}
-use Rattle.algebra.proofs.Lists.{keep-all, through, all-filter, all-distinct}
+use Rattle.algebra.proofs.Lists.{through, all-filter, all-distinct}
 use Rattle.algebra.proofs.Ordered.{in_order-all}
 use Rattle.algebra.proofs.Puts.{put, Agrees, IsNew, agrees-put, new-right}
 use Rattle.logical.proofs.Shown.{Reads, shows, shows-once}
@@ -46,7 +47,7 @@ module _ (uses : List TableInstance) (D : Tables) (fits : IsFitting D) where
       → last_rows uses D (where_lines (option_map (cond_frame uses) o) inner A) e ≡ map g (filter (passes_filter (option_map query.truth o) D ρ) L)
 
   where-right : (o : Option Cond) → OfFilter (CondMeans uses D) (FromMeans uses D) (BlockMeans uses D) o → (inner : Scope) (A : List Expr) → 0 < length A → WhereRight o inner A
-  where-right None means inner A some ρ e g width L is bound agrees wide = is ∙ ap (map g) (sym (keep-all L))
+  where-right None means inner A some ρ e g width L is bound agrees wide = is ∙ ap (map g) (sym (filter_all L))
   where-right (Some c) means inner A some ρ e g width L is bound agrees wide =
       let framed : CondLines = cond_frame uses c inner A in
       let right : CondRight uses D framed (cond_scope uses c) (λ ρ. query.truth c D ρ) inner = means inner A in

@@ -1,7 +1,9 @@
 -- What the frame makes of a condition means it, if it does so of the parts.
-use Rattle.std.proofs.Common.{◌≡◌, refl, ap, sym, ◌∙◌, ℕ, Bool, true, false, ◌&&◌, not, List, [], ◌∷◌, map}
+use Rattle.std.proofs.Common.{◌≡◌, refl, ap, sym, ◌∙◌, ℕ, true, ◌&&◌, not, List, [], ◌∷◌, map}
 use Rattle.std.specs.List.{AllByRecursion}
 use Rattle.std.proofs.lemmas.Bool.{and_parts}
+use Rattle.std.proofs.lemmas.List.Folds.{list_all-append}
+use Rattle.std.proofs.Math.Bool.{and-true}
 use Rattle.values.specs.declared.truth.Truth.{Truth}
 use Rattle.values.specs.declared.truth.Comparison.{Comparison}
 use Rattle.values.specs.declared.truth.Comparison.TheVariants as by
@@ -31,14 +33,9 @@ use Rattle.logical.proofs.FrameEquations.{frame-Compare, frame-IsNull, frame-Not
 use Rattle.logical.proofs.FrameRight.{CondRight, AllRight, CondMeans, BlockMeans, cond-right}
 use Rattle.logical.proofs.FrameShapes.{block-shape, block-below, shape-all}
 use Rattle.logical.proofs.Growth.{Grows, grows-more, kept-rows}
-use Rattle.algebra.proofs.Lists.{two}
-use Rattle.algebra.proofs.Ordered.{all-append}
-use Rattle.algebra.proofs.Puts.{Agrees, reads, both}
+use Rattle.algebra.proofs.Lists.{two, cons-same}
+use Rattle.algebra.proofs.Puts.{Agrees, reads}
 use Rattle.algebra.proofs.Truths.{truth-Compare, truth-IsNull, truth-Not, truth-And, truth-Or, truth-Exists, truth-In, true-all}
-
-and-true : (b : Bool) → (b && true) ≡ b
-and-true true = refl
-and-true false = refl
 
 -- a term reads by its number as by its level and place
 pub term-reads : (scope : Scope) (ρ : List Row) (e : Env) (a : Term) → bound_term scope a ≡ true → Agrees scope ρ e → term_value (numbered scope a) e ≡ rows.term_value a ρ
@@ -93,10 +90,10 @@ module _ (uses : List TableInstance) (D : Tables) where
       record {
         truths = λ F ρ e more bound agree.
             let parts = and_parts ((cond_scope uses c).bound scope) _ bound in
-            both (first.truth F ρ e (grows-more F _ framed.lines more grows) parts.0 agree) (rest.truths F ρ e more parts.1 agree);
+            cons-same (first.truth F ρ e (grows-more F _ framed.lines more grows) parts.0 agree) (rest.truths F ρ e more parts.1 agree);
         holds = λ F ρ e more bound agree.
             let parts = and_parts ((cond_scope uses c).bound scope) _ bound in
-            all-append _ framed.conjuncts _ ∙ two (λ a b. a && b) (first.holds F ρ e (grows-more F _ framed.lines more grows) parts.0 agree) (rest.holds F ρ e more parts.1 agree);
+            list_all-append _ framed.conjuncts _ ∙ two (λ a b. a && b) (first.holds F ρ e (grows-more F _ framed.lines more grows) parts.0 agree) (rest.holds F ρ e more parts.1 agree);
       }
 
   pub means-And : (cs : List Cond) → AllByRecursion (CondMeans uses D) cs → CondMeans uses D (cond.And cs)

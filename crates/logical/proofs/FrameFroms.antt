@@ -3,6 +3,9 @@ use Rattle.std.proofs.Common.{◌≡◌, refl, ap, sym, ◌∙◌, subst, ℕ, z
 use Rattle.std.specs.List.{slice_get, AllByRecursion}
 use Rattle.std.proofs.lemmas.Bool.{and_parts, eqb-true}
 use Rattle.std.proofs.lemmas.List.FromFn.{length-range_with_len}
+use Rattle.std.proofs.lemmas.Option.{same_Some}
+use mathlib.Core.List.{map-map}
+use Rattle.values.proofs.Lists.{filter_all}
 use Rattle.schema.specs.Databases.{Row, HaveWidth}
 use Rattle.query.specs.declared.query.Occurrence.{Occurrence}
 use Rattle.query.specs.declared.query.TableInstance.{TableInstance}
@@ -31,7 +34,7 @@ use Rattle.logical.proofs.FrameEquations.{frame-Table, frame-Join, frame-LeftJoi
 use Rattle.logical.proofs.FrameRight.{FromRight, CondMeans, FromMeans, from-right}
 use Rattle.logical.proofs.FrameShapes.{FromShape, Sides, JoinParts, from-shape, join-sides, join-parts, table-columns}
 use Rattle.logical.proofs.Growth.{Grows, grows-none, grows-one, kept-rows, top-rows, top-columns, last-below}
-use Rattle.algebra.proofs.Lists.{two, map-map, map-same, keep-all, through, loops, all-map}
+use Rattle.algebra.proofs.Lists.{two, map-same, through, loops, all-map}
 use Rattle.algebra.proofs.Ordered.{in_order-all}
 use Rattle.algebra.proofs.Puts.{put, pointwise, AreDisjoint, Agrees, IsNew, lay-put, lay-nulls, use-put, agrees-put, differ-disjoint, new-left, new-right}
 
@@ -59,10 +62,7 @@ all-at P [] n t is all = absurd (none is)
   where
     none : None ≡ Some t → ⊥
     none is = cc
-all-at P (u ∷ uses) zero t is all = subst P (one u t is) all.0
-  where
-    one : (u t : TableInstance) → Some u ≡ Some t → u ≡ t
-    one u t is = cc
+all-at P (u ∷ uses) zero t is all = subst P (same_Some u t is) all.0
 all-at P (u ∷ uses) (suc n) t is all = all-at P uses n t is all.1
 
 module _ (uses : List TableInstance) (D : Tables) (fits : IsFitting D) (over : AreOver D uses) where
@@ -223,6 +223,6 @@ module _ (uses : List TableInstance) (D : Tables) (fits : IsFitting D) (over : A
             ∙ two (λ R L. flat_map (matches p (has ls) R) L) right_rows left_rows
             ∙ loops (λ l. length l ≡ length ks) _ (λ s. put ks s e) (λ s. put (ks ++ ls) s e) (λ l. pairs_of l (source g D ρ)) (source f D ρ)
             (λ l wide. pairs-put ks ls e p (λ z. true) (source g D ρ) l (differ-disjoint ks ls new.0) wide (subst (λ w. HaveWidth w (source g D ρ)) (right.width parts.1) (source_fits g D ρ fits)) (λ z w. refl)
-            ∙ ap (map (λ s. put (ks ++ ls) s e)) (keep-all (pairs_of l (source g D ρ))))
+            ∙ ap (map (λ s. put (ks ++ ls) s e)) (filter_all (pairs_of l (source g D ρ))))
             (subst (λ w. HaveWidth w (source f D ρ)) (left.width parts.0) (source_fits f D ρ fits));
       })

@@ -2,11 +2,13 @@
 use Rattle.std.proofs.Common.{◌≡◌, refl, ap, sym, ◌∙◌, subst, ℕ, zero, suc, ◌<◌, Bool, true, false, ◌&&◌, ◌||◌, ◌==◌, not, nat_lt, pos, if◌then◌else◌, List, [], ◌∷◌, ◌++◌, map, filter, length, arith}
 use Rattle.std.specs.Prelude.{slice_index_or}
 use Rattle.std.specs.List.{list_all, AllByRecursion}
-use Rattle.std.proofs.lemmas.Bool.{and_parts, eqb-true, eq-eqb, ltb-true, cond-true, cond-false, cond_both, or_left, or_right}
+use Rattle.std.proofs.lemmas.Bool.{and_parts, eqb-true, eq-eqb, ltb-true, cond-true, cond-false, cond_both, or_left, or_right, false≢true, not-true}
+use mathlib.Core.List.{map-map}
 use Rattle.schema.specs.Databases.{Row, values_at}
 use Rattle.values.specs.declared.value.Value.{Value}
 use Rattle.values.specs.declared.value.Value.TheVariants as value
 use Rattle.values.specs.Order.{same}
+use Rattle.values.proofs.Lists.{all_passed, all_weaker}
 use Rattle.query.specs.declared.query.Column.{Column}
 use Rattle.query.specs.declared.query.Aggregate.{Aggregate}
 use Rattle.query.specs.declared.query.Aggregate.TheVariants as by
@@ -21,8 +23,8 @@ use Rattle.algebra.specs.Bags.{Env, Bag, lay, same_on, distinct_on, group}
 use Rattle.algebra.specs.Expressions.{with_aggregates}
 use Rattle.logical.specs.Frames.{numbered_aggregate, aggregations}
 use Rattle.algebra.proofs.Sets.{has-rising}
-use Rattle.algebra.proofs.Lists.{two, map-map, map-same, through, all-distinct, distinct_by, distinct-map, distinct-same}
-use Rattle.algebra.proofs.Puts.{never, put, put-off, put-reads, place-reads, reads, Agrees, IsNew, agrees-put, not-among, not-true, none-disjoint, differ-disjoint, differ-left, new-left}
+use Rattle.algebra.proofs.Lists.{two, map-same, through, all-distinct, distinct_by, distinct-map, distinct-same}
+use Rattle.algebra.proofs.Puts.{put, put-off, put-reads, place-reads, reads, Agrees, IsNew, agrees-put, not-among, none-disjoint, differ-disjoint, differ-left, new-left}
 use Rattle.algebra.proofs.UniqueRows.{distinct_on-by}
 use Rattle.logical.proofs.Shown.{Reads, same_rows-cons, distinct-by, all-rising}
 
@@ -67,16 +69,12 @@ key-has numbers (k ∷ keys) p in_ = from (k == p) refl (λ later. key-has numbe
 
 -- a place among keys that are below a width is below it
 pub key-below : (width : ℕ) (keys : List ℕ) (p : ℕ) → list_all (λ k. nat_lt k width) keys ≡ true → is_among p keys ≡ true → p < width
-key-below width [] p bound in_ = absurd (never in_)
+key-below width [] p bound in_ = absurd (false≢true in_)
 key-below width (k ∷ keys) p bound in_ = from (k == p) refl (λ later. key-below width keys p (and_parts (nat_lt k width) _ bound).1 later) in_
   where
     from : (b : Bool) → (k == p) ≡ b → (is_among p keys ≡ true → p < width) → (b || is_among p keys) ≡ true → p < width
     from true is more in_ = subst (λ n. n < width) (eqb-true k p is) (ltb-true _ _ (and_parts (nat_lt k width) _ bound).0)
     from false is more in_ = more in_
-
-all-parts : {X : Type 0} (p : X → Bool) (P : X → Type 0) → ((x : X) → p x ≡ true → P x) → (xs : List X) → list_all p xs ≡ true → AllByRecursion P xs
-all-parts p P h [] all = tt
-all-parts p P h (x ∷ xs) all = let parts = and_parts (p x) (list_all p xs) all in (h x parts.0, all-parts p P h xs parts.1)
 
 -- the rows of a list with the key of a row
 abbrev pub with_key : List ℕ → List Row → Row → List Row
@@ -100,10 +98,10 @@ module _ (numbers : List ℕ) (scope : Scope) (ρ : List Row) (e : Env) (agree :
     own = λ s wide. reads (numbers ∷ scope) (s ∷ ρ) (g s) c bound (agrees-put numbers s e scope ρ new wide agree);
     around = λ outer s wide. around-reads numbers scope ρ e s c outer bound agree;
   }
-  plain-item new (item.Aggregate n a) bound = absurd (never bound)
+  plain-item new (item.Aggregate n a) bound = absurd (false≢true bound)
 
   pub plain-items : IsNew numbers scope → (items : List Item) → list_all (bound_item (numbers ∷ scope)) items ≡ true → AllByRecursion (Reads (numbers ∷ scope) e g (item_of_row ρ) Wide) items
-  plain-items new items bound = all-parts (bound_item (numbers ∷ scope)) _ (plain-item new) items bound
+  plain-items new items bound = all_passed (bound_item (numbers ∷ scope)) _ (plain-item new) items bound
 
   -- ---- keys
 
@@ -168,10 +166,6 @@ module _ (numbers : List ℕ) (scope : Scope) (ρ : List Row) (e : Env) (agree :
     Found items (item.Column c) = Unit {0}
     Found items (item.Aggregate n a) = (has (aggregate_numbers items) n ≡ true) × ((R : List Env) (r : Env) → Aggregates items R r n ≡ aggregate_of (numbered_aggregate numbers a) (length R) (λ k. map (λ s. s k) R))
 
-    all-more : (P Q : Item → Type 0) → ((i : Item) → P i → Q i) → (items : List Item) → AllByRecursion P items → AllByRecursion Q items
-    all-more P Q h [] all = tt
-    all-more P Q h (i ∷ items) all = (h i all.0, all-more P Q h items all.1)
-
     found-later : (j : Item) (items : List Item) → all_differ (aggregate_numbers (j ∷ items)) ≡ true → (i : Item) → Found items i → Found (j ∷ items) i
     found-later (item.Column c) items differ (item.Column d) found = tt
     found-later (item.Column c) items differ (item.Aggregate n a) found = found
@@ -191,7 +185,7 @@ module _ (numbers : List ℕ) (scope : Scope) (ρ : List Row) (e : Env) (agree :
 
     all-found : (items : List Item) → all_differ (aggregate_numbers items) ≡ true → AllByRecursion (Found items) items
     all-found [] differ = tt
-    all-found (i ∷ items) differ = (found-first i items, all-more (Found items) (Found (i ∷ items)) (found-later i items differ) items (all-found items (differ-later i items differ)))
+    all-found (i ∷ items) differ = (found-first i items, all_weaker (Found items) (Found (i ∷ items)) (found-later i items differ) items (all-found items (differ-later i items differ)))
 
     -- ---- the items of a group
 

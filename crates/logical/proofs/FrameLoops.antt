@@ -1,7 +1,7 @@
 -- Conditions framed one after another, as a loop goes over them.
-use Rattle.std.proofs.Common.{◌≡◌, refl, ap, sym, ◌∙◌, ℕ, suc, ◌+◌, ◌<◌, ◌≤◌, List, [], ◌∷◌, ◌++◌, length, drop, get_or, map, append_assoc, append-nil, arith}
+use Rattle.std.proofs.Common.{◌≡◌, refl, ap, sym, ◌∙◌, ℕ, ◌+◌, ◌<◌, ◌≤◌, List, [], ◌∷◌, ◌++◌, length, drop, get_or, map, append_assoc, append-nil}
 use Rattle.std.proofs.lemmas.List.{drop_all}
-use Rattle.std.proofs.Math.Seq.{drop-cons}
+use Rattle.values.proofs.Lists.{drop_next}
 use Rattle.query.specs.declared.query.Cond.{Cond}
 use Rattle.query.specs.Bound.{Scope}
 use Rattle.algebra.specs.declared.condition.Condition.{Condition}
@@ -13,14 +13,9 @@ module _ (f : Cond → CondFrame) (scope : Scope) where
   abbrev pub from_place : List Cond → ℕ → List Expr → AllLines
   from_place cs i lines = all_frames (map f (drop i cs)) scope lines
 
-  front_of : (cs : List Cond) (i : ℕ) (c : Cond) → i < length cs → c ≡ get_or cs i c → drop i cs ≡ c ∷ drop (i + 1) cs
-  front_of cs i c lt at =
-      let k : suc i ≡ i + 1 = omega arith in
-      drop-cons cs i c lt ∙ ap (λ d. d ∷ drop (suc i) cs) (sym at) ∙ ap (λ j. c ∷ drop j cs) k
-
   at_place : (cs : List Cond) (i : ℕ) (c : Cond) (lines more : List Expr) → i < length cs → c ≡ get_or cs i c → more ≡ (f c scope lines).lines
       → from_place cs i lines ≡ record { conditions = (f c scope lines).condition ∷ (from_place cs (i + 1) more).conditions; conjuncts = (f c scope lines).conjuncts ++ (from_place cs (i + 1) more).conjuncts; lines = (from_place cs (i + 1) more).lines }
-  at_place cs i c lines more lt at behind = rw (front_of cs i c lt at, behind) refl
+  at_place cs i c lines more lt at behind = rw (drop_next cs i c lt at, behind) refl
 
   pub conditions_on : (cs : List Cond) (i : ℕ) (c : Cond) (x : Condition) (xs next all : List Condition) (lines more : List Expr) → i < length cs → c ≡ get_or cs i c → x ≡ (f c scope lines).condition
       → more ≡ (f c scope lines).lines → next ≡ xs ++ x ∷ [] → xs ++ (from_place cs i lines).conditions ≡ all → next ++ (from_place cs (i + 1) more).conditions ≡ all
@@ -38,14 +33,11 @@ module _ (f : Cond → CondFrame) (scope : Scope) where
       → (from_place cs (i + 1) more).lines ≡ all
   lines_on cs i c all lines more lt at behind so_far = sym (ap (λ (p : AllLines). p.lines) (at_place cs i c lines more lt at behind)) ∙ so_far
 
-  past : (cs : List Cond) (i : ℕ) → length cs ≤ i → drop i cs ≡ []
-  past cs i le = drop_all i cs le
-
   pub conditions_end : (cs : List Cond) (i : ℕ) (xs all : List Condition) (lines : List Expr) → length cs ≤ i → xs ++ (from_place cs i lines).conditions ≡ all → xs ≡ all
-  conditions_end cs i xs all lines le is = sym (append-nil xs) ∙ ap (λ (ds : List Cond). xs ++ (all_frames (map f ds) scope lines).conditions) (sym (past cs i le)) ∙ is
+  conditions_end cs i xs all lines le is = sym (append-nil xs) ∙ ap (λ (ds : List Cond). xs ++ (all_frames (map f ds) scope lines).conditions) (sym (drop_all i cs le)) ∙ is
 
   pub conjuncts_end : (cs : List Cond) (i : ℕ) (xs all : List Condition) (lines : List Expr) → length cs ≤ i → xs ++ (from_place cs i lines).conjuncts ≡ all → xs ≡ all
-  conjuncts_end cs i xs all lines le is = sym (append-nil xs) ∙ ap (λ (ds : List Cond). xs ++ (all_frames (map f ds) scope lines).conjuncts) (sym (past cs i le)) ∙ is
+  conjuncts_end cs i xs all lines le is = sym (append-nil xs) ∙ ap (λ (ds : List Cond). xs ++ (all_frames (map f ds) scope lines).conjuncts) (sym (drop_all i cs le)) ∙ is
 
   pub lines_end : (cs : List Cond) (i : ℕ) (all lines : List Expr) → length cs ≤ i → (from_place cs i lines).lines ≡ all → lines ≡ all
-  lines_end cs i all lines le is = ap (λ (ds : List Cond). (all_frames (map f ds) scope lines).lines) (sym (past cs i le)) ∙ is
+  lines_end cs i all lines le is = ap (λ (ds : List Cond). (all_frames (map f ds) scope lines).lines) (sym (drop_all i cs le)) ∙ is

@@ -37,9 +37,6 @@ module _ (uses : List TableInstance) (D : Tables) (fits : IsFitting D) (over : A
   pub means-block : (q : Block) → BlockMeans uses D q
   means-block = each-block (CondMeans uses D) (FromMeans uses D) (BlockMeans uses D) steps
 
-reverse-twice : (lines : List Expr) → reverse (reverse lines) ≡ lines
-reverse-twice = reverse-reverse
-
 -- the frame of a bound query means it
 pub frame_means : (q : Query) → is_bound q ≡ true → FrameMeans q (query_frame q)
 unfolding query_frame query_numbers
@@ -47,6 +44,6 @@ frame_means q bound D fits over e r =
     let lines : List Expr = (block_frame q.tables q.block).lines [] [] in
     let last_is : length (reverse lines) - 1 ≡ last lines = ap (λ n. n - 1) (length-reverse lines) ∙ sym (last-is lines) in
     let root : root_rows q.tables D (reverse lines) e ≡ last_rows q.tables D lines e =
-    ap (λ L. class_rows q.tables D L (length (reverse lines) - 1) e) (reverse-twice lines) ∙ ap (λ n. class_rows q.tables D lines n e) last_is in
+    ap (λ L. class_rows q.tables D L (length (reverse lines) - 1) e) (reverse-reverse lines) ∙ ap (λ n. class_rows q.tables D lines n e) last_is in
     ap (λ rows. count r (map (λ s. map s ((block_frame q.tables q.block).shown [])) rows)) root
     ∙ ap (count r) (means-block q.tables D fits over q.block [] [] [] e bound refl)

@@ -2,7 +2,7 @@
 -- of its last class.
 use Rattle.std.proofs.Common.{◌≡◌, refl, ap, sym, ◌∙◌, subst, inl, inr, ℕ, zero, suc, ◌-◌, ◌<◌, ◌≤◌, Bool, true, false, ◌||◌, ◌&&◌, ◌==◌, List, [], ◌∷◌, ◌++◌, map, length, Option, Some, None, option_map, arith}
 use Rattle.std.specs.List.{list_all, list_any, slice_get, AllByRecursion}
-use Rattle.std.proofs.lemmas.Bool.{eqb-true, and_parts, and_from, or_cases, or_left, or_right}
+use Rattle.std.proofs.lemmas.Bool.{eqb-true, and_parts, and_from, or_cases, or_left, or_right, false≢true}
 use Rattle.std.proofs.lemmas.List.Folds.{list_all-append, list_any-append}
 use Rattle.values.specs.declared.truth.Comparison.{Comparison}
 use Rattle.query.specs.declared.query.Term.{Term}
@@ -31,7 +31,6 @@ use Rattle.logical.proofs.FrameEquations.{frame-Compare, frame-IsNull, frame-Not
 use Rattle.logical.proofs.Growth.{Grows, grows-none, grows-one, grows-more, grows-longer, kept-columns, top-columns, last-below, last-is}
 use Rattle.logical.proofs.Induction.{Steps, OfFilter, each-cond, each-from, each-block}
 use Rattle.algebra.proofs.Lists.{two, all-each}
-use Rattle.algebra.proofs.Puts.{never}
 use Rattle.algebra.proofs.Sets.{has-rising}
 
 -- the test passes each class that the lines F add to E
@@ -66,7 +65,7 @@ end-adds false true scope numbers keys items A = omega arith
 end-adds true true scope numbers keys items A = omega arith
 
 one-shown : (f : Item → ℕ) (items : List Item) → is_single items ≡ true → (k : ℕ) × (map f items ≡ k ∷ [])
-one-shown f [] single = absurd (never single)
+one-shown f [] single = absurd (false≢true single)
 one-shown f (i ∷ []) single = (f i, refl)
 one-shown f (i ∷ j ∷ items) single = absurd (omega (arith, eqb-true (length (i ∷ j ∷ items)) 1 single))
 

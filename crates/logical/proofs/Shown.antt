@@ -6,9 +6,11 @@ use Rattle.std.specs.declared.cmp.Ordering.TheVariants.{Less, Equal, Greater}
 use Rattle.std.specs.Ordering.{is_eq, ordering_then}
 use Rattle.std.specs.Cmp.Lexicographic.{slice_cmp}
 use Rattle.std.proofs.lemmas.Bool.{eq-eqb, eqb-true, cond_both, or_left, or_right, cond-true}
+use mathlib.Core.List.{map-map}
 use Rattle.schema.specs.Databases.{Row}
 use Rattle.values.specs.declared.value.Value.{Value}
 use Rattle.values.specs.Order.{order, same}
+use Rattle.values.proofs.Orders.{same_itself}
 use Rattle.query.specs.declared.query.Item.{Item}
 use Rattle.query.specs.Rows as rows
 use Rattle.query.specs.Rows.{same_rows}
@@ -17,9 +19,8 @@ use Rattle.algebra.specs.Columns.{has, insert, rising}
 use Rattle.algebra.specs.Bags.{Env, lay, same_on, distinct_on}
 use Rattle.logical.specs.Frames.{item_number, is_block_item, own_numbers}
 use Rattle.algebra.proofs.Sets.{has-rising}
-use Rattle.algebra.proofs.Values.{same-refl}
-use Rattle.algebra.proofs.Lists.{two, map-map, map-same, distinct_by, distinct-map, distinct-same, all-distinct}
-use Rattle.algebra.proofs.Puts.{both, lay-lay}
+use Rattle.algebra.proofs.Lists.{two, map-same, distinct_by, distinct-map, distinct-same, all-distinct, cons-same}
+use Rattle.algebra.proofs.Puts.{lay-lay}
 use Rattle.algebra.proofs.Ordered.{and-turn, and-twice}
 use Rattle.algebra.proofs.UniqueRows.{distinct_on-by}
 
@@ -79,7 +80,7 @@ module _ {X : Type 0} (scope : Scope) (e : Env) (h : X → Env) (sh : X → Item
       → map (lay K (h x) e) (map (item_number scope) items) ≡ map (sh x) items
   projected-shows K [] x px all kept = refl
   projected-shows K (i ∷ items) x px all kept =
-      both (projected-reads K i x px all.0 (λ is. kept (item_number scope i) (own-has i items is))) (projected-shows K items x px all.1 (λ c in_. kept c (more-has i items c in_)))
+      cons-same (projected-reads K i x px all.0 (λ is. kept (item_number scope i) (own-has i items is))) (projected-shows K items x px all.1 (λ c in_. kept c (more-has i items c in_)))
 
   -- whether two rows that were projected read as the same in a column
   abbrev alike : (ℕ → Bool) → X → X → ℕ → Bool
@@ -99,7 +100,7 @@ module _ {X : Type 0} (scope : Scope) (e : Env) (h : X → Env) (sh : X → Item
           → list_all (alike K x y) (if o then item_number scope i ∷ own_numbers scope items else own_numbers scope items) ≡ (same (sh x i) (sh y i) && same_rows (map (sh x) items) (map (sh y) items))
       by true is rest = two (λ a b. a && b) (two same (projected-reads K i x px all.0 own-kept) (projected-reads K i y py all.0 own-kept)) rest
       by false is rest =
-          let one : same (sh x i) (sh y i) ≡ true = two same (sym (all.0.around is x px)) (sym (all.0.around is y py)) ∙ same-refl (e (item_number scope i)) in
+          let one : same (sh x i) (sh y i) ≡ true = two same (sym (all.0.around is x px)) (sym (all.0.around is y py)) ∙ same_itself (e (item_number scope i)) in
           rest ∙ ap (λ b. b && same_rows (map (sh x) items) (map (sh y) items)) (sym one)
 
   abbrev K_of : List Item → ℕ → Bool

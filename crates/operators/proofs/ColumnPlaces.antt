@@ -1,11 +1,12 @@
 -- Where columns stand in rows.
 use Rattle.std.proofs.Common.{◌≡◌, refl, ap, sym, ◌∙◌, subst, zero, suc, ℕ, ◌+◌, ◌-◌, ◌<◌, ◌≤◌, nat_lt, ◌==◌, Bool, true, false, ◌||◌, cond, if◌then◌else◌, List, [], ◌∷◌, ◌++◌, length, drop, get_or, map, slice_get, Option, Some, None, is_some, Ok, inl, inr, arith}
-use Rattle.std.specs.List.{AllByRecursion, range_with_len}
+use Rattle.std.specs.List.{range_with_len}
 use Rattle.std.specs.List.Sorted.{IsStrictlyIncreasing, IsStrictlySortedBy, IsBinarySearchResult}
 use Rattle.std.specs.Ordering.{nat_cmp}
 use Rattle.std.specs.declared.cmp.Ordering.TheVariants.{Less, Equal, Greater}
 use Rattle.std.proofs.lemmas.Bool.{eqb-true, eq-eqb, le-ltb, leb-true, and_parts, cases_eq}
 use Rattle.values.specs.declared.value.Value.{Value}
+use Rattle.values.proofs.Lists.{all_at}
 use Rattle.algebra.proofs.Sets.{range_has}
 use Rattle.schema.specs.Databases.{Row}
 use Rattle.query.specs.Rows.{value_at}
@@ -31,11 +32,6 @@ no-place (k ∷ columns) (p ∷ places) c h = by (k == c) h (no-place columns pl
     by true h later = cc
     by false h later = later h
 
-all-at : {X : Type 0} (P : X → Type 0) (xs : List X) (i : ℕ) (x : X) → AllByRecursion P xs → i < length xs → get_or xs i x ≡ x → P x
-all-at P [] i x all h is = absurd (omega (arith, h))
-all-at P (y ∷ xs) zero x all h is = subst P is all.0
-all-at P (y ∷ xs) (suc i) x all h is = all-at P xs i x all.1 (omega (arith, h)) is
-
 less-differs : (x y : ℕ) → nat_cmp x y ≡ Less → (x == y) ≡ false
 less-differs x y h = by (x == y) refl
   where
@@ -49,7 +45,7 @@ place-sorted [] places c i up h is = absurd (omega (arith, h))
 place-sorted (k ∷ columns) [] c i up h is = refl
 place-sorted (k ∷ columns) (p ∷ places) c zero up h is = rw (eq-eqb k c is) refl
 place-sorted (k ∷ columns) (p ∷ places) c (suc i) up h is =
-    let other : (k == c) ≡ false = less-differs k c (all-at (λ y. nat_cmp k y ≡ Less) columns i c up.0 (omega (arith, h)) is) in
+    let other : (k == c) ≡ false = less-differs k c (subst (λ y. nat_cmp k y ≡ Less) is (all_at (λ y. nat_cmp k y ≡ Less) columns i c (omega (arith, h)) up.0)) in
     rw other (place-sorted columns places c i up.1 (omega (arith, h)) is)
 
 -- the place of the column with a number
@@ -96,11 +92,11 @@ row-outside h row e c absent = ap (λ b. if b then value_in (column_place h c) (
 
 -- ---- rows whose columns stand in order
 
-drop-next : {X : Type 0} (n : ℕ) (xs ys : List X) (y : X) → drop n xs ≡ y ∷ ys → drop (n + 1) xs ≡ ys
-drop-next zero [] ys y e = cc
-drop-next zero (x ∷ xs) ys y e = cc
-drop-next (suc n) [] ys y e = cc
-drop-next (suc n) (x ∷ xs) ys y e = let more : suc n + 1 ≡ suc (n + 1) = omega arith in rw more (drop-next n xs ys y e)
+drop-behind : {X : Type 0} (n : ℕ) (xs ys : List X) (y : X) → drop n xs ≡ y ∷ ys → drop (n + 1) xs ≡ ys
+drop-behind zero [] ys y e = cc
+drop-behind zero (x ∷ xs) ys y e = cc
+drop-behind (suc n) [] ys y e = cc
+drop-behind (suc n) (x ∷ xs) ys y e = let more : suc n + 1 ≡ suc (n + 1) = omega arith in rw more (drop-behind n xs ys y e)
 
 drop-at : (n : ℕ) (xs ys : Row) (y : Value) → drop n xs ≡ y ∷ ys → value_at n xs ≡ y
 drop-at zero [] ys y e = cc
@@ -110,7 +106,7 @@ drop-at (suc n) (x ∷ xs) ys y e = drop-at n xs ys y e
 
 in-order : (K : List ℕ) (f : Env) (n : ℕ) (row : Row) (c : ℕ) → drop n row ≡ map f K → has K c ≡ true → value_in (place_in K (range_with_len n (length K)) c) row ≡ f c
 in-order [] f n row c e there = cc
-in-order (k ∷ K) f n row c e there = by (k == c) refl there (in-order K f (n + 1) row c (drop-next n row (map f K) (f k) e))
+in-order (k ∷ K) f n row c e there = by (k == c) refl there (in-order K f (n + 1) row c (drop-behind n row (map f K) (f k) e))
   where
     by : (b : Bool) → (k == c) ≡ b → (b || has K c) ≡ true → (has K c ≡ true → value_in (place_in K (range_with_len (n + 1) (length K)) c) row ≡ f c) → value_in (if b then Some n else place_in K (range_with_len (n + 1) (length K)) c) row ≡ f c
     by true is there later = drop-at n row (map f K) (f k) e ∙ ap f (eqb-true k c is)

@@ -2,6 +2,7 @@
 use Rattle.std.proofs.Common.{◌≡◌, refl, ap, sym, ◌∙◌, suc, ◌+◌, Bool, true, false, not, ◌||◌, if◌then◌else◌, List, [], ◌∷◌, ◌++◌, map, filter, Option, Some, None, append-nil, arith}
 use Rattle.std.specs.List.{list_any, position_or_len}
 use Rattle.std.specs.Cmp.{IsEquivalence}
+use Rattle.std.proofs.lemmas.List.Elements.{filter-append}
 use Rattle.operators.specs.Groups.{GroupOf, first_seen, groups_by, added_at, firsts_of}
 
 module _ {X K : Type 0} (key : X → K) (eq : K → K → Bool) (law : IsEquivalence eq) where
@@ -34,14 +35,6 @@ module _ {X K : Type 0} (key : X → K) (eq : K → K → Bool) (law : IsEquival
   both-founded : (s r : X) (o : Option X) → founded s o ≡ true → founded r o ≡ true → alike s r ≡ true
   both-founded s r None h k = cc
   both-founded s r (Some x) h k = law.congr (key s) (key x) (key r) h ∙ law.symm (key x) (key r) ∙ k
-
-  filter-last : (p : X → Bool) (rows : List X) (r : X) → filter p (rows ++ r ∷ []) ≡ filter p rows ++ (if p r then r ∷ [] else [])
-  filter-last p [] r = refl
-  filter-last p (s ∷ rows) r = by (p s) (filter-last p rows r)
-    where
-      by : (b : Bool) → filter p (rows ++ r ∷ []) ≡ filter p rows ++ (if p r then r ∷ [] else []) → (if b then s ∷ filter p (rows ++ r ∷ []) else filter p (rows ++ r ∷ [])) ≡ (if b then s ∷ filter p rows else filter p rows) ++ (if p r then r ∷ [] else [])
-      by true later = ap (λ l. s ∷ l) later
-      by false later = later
 
   -- the other groups are those of the other rows
   tails : (s : X) (rest xs : List X) → map (group (s ∷ rest)) (filter (λ x. not (alike s x)) xs) ≡ others s (map (group rest) xs)
@@ -92,7 +85,7 @@ module _ {X K : Type 0} (key : X → K) (eq : K → K → Bool) (law : IsEquival
   groups-more (s ∷ rest) r =
       groups-first s (rest ++ r ∷ [])
       ∙ ap (λ l. record { first = Some s; rows = s ∷ filter (alike s) (rest ++ r ∷ []) } ∷ others s l) (groups-more rest r)
-      ∙ ap (λ l. record { first = Some s; rows = s ∷ l } ∷ others s (put r (groups_by alike rest))) (filter-last (alike s) rest r)
+      ∙ ap (λ l. record { first = Some s; rows = s ∷ l } ∷ others s (put r (groups_by alike rest))) (filter-append (alike s) rest (r ∷ []))
       ∙ by (alike s r) refl
       ∙ sym (ap (put r) (groups-first s rest))
     where

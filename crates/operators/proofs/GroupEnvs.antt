@@ -1,9 +1,11 @@
 -- Distinct rows and groups, as those of the algebra.
 use Rattle.std.proofs.Common.{◌≡◌, refl, ap, sym, ◌∙◌, subst, ℕ, ◌<◌, Bool, true, false, ◌&&◌, ◌||◌, not, ◌==◌, if◌then◌else◌, List, [], ◌∷◌, ◌++◌, length, map, filter, Option, Some, None, arith}
 use Rattle.std.specs.Cmp.{both_ways}
+use mathlib.Core.List.{map-map}
 use Rattle.values.specs.declared.value.Value.{Value}
 use Rattle.values.specs.Order.{same}
 use Rattle.values.specs.contracts.value.ValuePartialEq.TheImpl as value_eq
+use Rattle.values.proofs.Orders.{same_equal, same_itself}
 use Rattle.schema.specs.Databases.{Row, values_at}
 use Rattle.query.specs.Aggregates.{aggregate_of}
 use Rattle.store.specs.Keys.{key_eq, value_decides}
@@ -11,11 +13,10 @@ use Rattle.algebra.specs.declared.expr.Aggregation.{Aggregation}
 use Rattle.algebra.specs.Columns.{has, rising}
 use Rattle.algebra.specs.Bags.{Env, Bag, lay, same_on, distinct_on, group}
 use Rattle.algebra.specs.Expressions.{with_aggregates, aggregate_columns}
-use Rattle.algebra.proofs.Lists.{map-map, through, all-each, distinct_by, distinct-map, distinct-same}
+use Rattle.algebra.proofs.Lists.{through, all-each, distinct_by, distinct-map, distinct-same}
 use Rattle.algebra.proofs.Puts.{among-append}
 use Rattle.algebra.proofs.Sets.{has-rising}
 use Rattle.algebra.proofs.UniqueRows.{distinct_on-by}
-use Rattle.algebra.proofs.Values.{same-equal, same-refl}
 use Rattle.operators.specs.declared.groups.Grouping.{Grouping}
 use Rattle.operators.specs.declared.headings.Heading.{Heading}
 use Rattle.operators.specs.declared.relation.Relation.{Relation}
@@ -46,7 +47,7 @@ count-members h g e = lent-count h g.rows.items e
 -- ---- rows that are the same
 
 values-same : (v w : Value) → same v w ≡ value_eq.ghosts.eq v w
-values-same v w = both_ways (same v w) (value_eq.ghosts.eq v w) (λ t. (value_decides v w).1 (same-equal v w t)) (λ t. subst (λ x. same v x ≡ true) ((value_decides v w).0 t) (same-refl v))
+values-same v w = both_ways (same v w) (value_eq.ghosts.eq v w) (λ t. (value_decides v w).1 (same_equal v w t)) (λ t. subst (λ x. same v x ≡ true) ((value_decides v w).0 t) (same_itself v))
 
 -- rows are the same in columns where their values at the columns' places are
 pub same-key : (h : Heading) (r s : RowData) (e : Env) (K : List ℕ) → same_on K (row_env h r e) (row_env h s e) ≡ same_at (column_places h K) r s
@@ -63,7 +64,7 @@ same-key h r s e (k ∷ K) = by (column_place h k) refl (same-key h r s e K)
         → (same (row_env h r e k) (row_env h s e k) && rest) ≡ key_eq (at (listed o ++ column_places h K) r) (at (listed o ++ column_places h K) s)
     by None is later =
         ap (λ v. same v (row_env h s e k) && rest) (other-column h r e k (sym is)) ∙ ap (λ v. same (e k) v && rest) (other-column h s e k (sym is))
-        ∙ ap (λ b. b && rest) (same-refl (e k)) ∙ later
+        ∙ ap (λ b. b && rest) (same_itself (e k)) ∙ later
     by (Some p) is later =
         ap (λ v. same v (row_env h s e k) && rest) (found-column h r e k p (sym is)) ∙ ap (λ v. same (value_in (Some p) (values_of r)) v && rest) (found-column h s e k p (sym is))
         ∙ ap (λ b. b && rest) (values-same (value_in (Some p) (values_of r)) (value_in (Some p) (values_of s)))

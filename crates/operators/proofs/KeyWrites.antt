@@ -1,16 +1,16 @@
 -- What a key feeds a hasher, cell by cell.
-use Rattle.std.proofs.Common.{◌≡◌, ℕ, ◌+◌, ◌<◌, List, [], ◌∷◌, ◌++◌, append-nil, length, take, get_or, fold, refl, sym, ap, ◌∙◌}
-use Rattle.std.specs.Hash.{HashWrites}
+use Rattle.std.proofs.Common.{◌≡◌, ℕ, ◌+◌, ◌<◌, List, length, take, get_or, fold, refl, sym, ap, ◌∙◌}
 use Rattle.std.proofs.lemmas.List.Sums.{fold-append}
+use Rattle.std.proofs.lemmas.List.{get_or_default}
 use Rattle.values.specs.declared.value.Value.TheVariants as value
 use Rattle.values.specs.declared.cell.Cell.{Cell}
 use Rattle.values.specs.declared.cell.Cell.TheVariants as cell
 use Rattle.values.specs.Cells.{value_of}
 use Rattle.values.specs.contracts.value.ValueHash.TheImpl as value_hash
 use Rattle.values.specs.contracts.cell.CellHash.TheImpl as cell_hash
+use Rattle.values.proofs.Lists.{flat_map_next}
 use Rattle.schema.specs.Databases.{Row}
 use Rattle.store.specs.Keys.{key_writes}
-use Rattle.operators.proofs.Steps.{flat_map-next}
 
 -- a cell feeds a hasher what its value does
 cell_same : (x : Cell) → cell_hash.ghosts.hash_input x ≡ value_hash.ghosts.hash_input (value_of x)
@@ -27,4 +27,4 @@ writes_go_on write h s t k i x low is before after =
     ∙ ap (fold write s) (cell_same x ∙ ap value_hash.ghosts.hash_input is)
     ∙ ap (λ a. fold write a (value_hash.ghosts.hash_input v)) before
     ∙ sym (fold-append write h (key_writes (take i k)) (value_hash.ghosts.hash_input v))
-    ∙ sym (ap (fold write h) (flat_map-next value_hash.ghosts.hash_input k i value.Null low))
+    ∙ sym (ap (fold write h) (flat_map_next value_hash.ghosts.hash_input k i v low (get_or_default k i value.Null v low)))

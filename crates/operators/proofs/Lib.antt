@@ -7,4 +7,3 @@ pub mod KeyWrites
 pub mod PlanOutputs
 pub mod RelationRows
 pub mod Steps
-pub mod Widths

@@ -1,6 +1,5 @@
 -- What plans output_rows, by their root's node.
-use Rattle.std.proofs.Common.{◌≡◌, refl, ap, sym, ◌∙◌, subst, ℕ, zero, suc, ◌≤◌, ◌==◌, Bool, true, false, ◌&&◌, not, if◌then◌else◌, List, [], ◌∷◌, ◌++◌, length, map, filter, flat_map, drop, slice_get, Some, Result, IfOk, append-nil, arith}
-use Rattle.std.proofs.lemmas.List.Elements.{filter-append}
+use Rattle.std.proofs.Common.{◌≡◌, refl, ap, sym, ◌∙◌, subst, ℕ, zero, suc, ◌≤◌, ◌==◌, Bool, true, false, ◌&&◌, not, if◌then◌else◌, List, [], ◌∷◌, ◌++◌, length, map, filter, flat_map, drop, slice_get, Some, Result, IfOk, arith}
 use Rattle.values.specs.declared.truth.Comparison.TheVariants as by
 use Rattle.values.specs.Truth.{negation, truth_of, is_true, compare}
 use Rattle.query.specs.Meaning.{all_of, any_of, or_else_row}
@@ -90,14 +89,6 @@ loop-same Inner p K a b c d e left right = ap (λ rows. flat_map (matches p (has
 loop-same Left p K a b c d e left right =
     ap (λ rows. flat_map (λ r. or_else_row (lay (has K) nulls r) (matches p (has K) (c e) r)) rows) left
     ∙ ap (λ rows. flat_map (λ r. or_else_row (lay (has K) nulls r) (matches p (has K) rows r)) (b e)) right
-
--- ---- a filter, row by row
-
-pub filter-in : {X : Type 0} (p : X → Bool) (xs : List X) (x : X) → p x ≡ true → filter p xs ++ x ∷ [] ≡ filter p (xs ++ x ∷ [])
-filter-in p xs x h = ap (λ b. filter p xs ++ (if b then x ∷ [] else [])) (sym h) ∙ sym (filter-append p xs (x ∷ []))
-
-pub filter-out : {X : Type 0} (p : X → Bool) (xs : List X) (x : X) → p x ≡ false → filter p xs ≡ filter p (xs ++ x ∷ [])
-filter-out p xs x h = sym (append-nil (filter p xs)) ∙ ap (λ b. filter p xs ++ (if b then x ∷ [] else [])) (sym h) ∙ sym (filter-append p xs (x ∷ []))
 
 -- ---- conditions with subqueries
 

@@ -11,7 +11,6 @@ use Rattle.query.specs.Rows.{value_at}
 use Rattle.algebra.specs.Columns.{has}
 use Rattle.algebra.specs.Bags.{Env, lay}
 use Rattle.algebra.specs.Expressions.{use_columns, use_row}
-use Rattle.algebra.proofs.Lists.{through, all-each}
 use Rattle.operators.specs.declared.headings.Heading.{Heading}
 use Rattle.operators.specs.declared.rows.RowData.{RowData}
 use Rattle.operators.specs.Places.{place_in, value_in}
@@ -63,7 +62,3 @@ projected-rows h g K (r ∷ rows) e columns places whole =
 -- what is kept by a closure that tests
 pub kept-by : {X F : Type 0} {g : Mut F (Bor X × Unit {0}) Bool} {f : F} (test : X → Bool) (xs ys : List X) → IsFiltered (CalledAt g) f xs ys → ((a : Bor X × Unit {0}) (b : Bool) (f' : F) → Called g f a b f' → (b ≡ test a.0.now) × (f' ≡ f)) → ys ≡ filter test xs
 kept-by {g = g} {f = f} test xs ys kept says = filter_same (CalledAt g) test f (λ x b f' k. ((says (k.shown, tt) b f' k.called).0 ∙ ap test k.shows, (says (k.shown, tt) b f' k.called).1)) xs ys kept
-
--- a filter passes over a map
-pub filter-map : {X Y : Type 0} (p : Y → Bool) (f : X → Y) (xs : List X) → filter p (map f xs) ≡ map f (filter (λ x. p (f x)) xs)
-filter-map p f xs = through (λ x. Unit {0}) f p (λ x. p (f x)) xs (λ x t. refl) (all-each (λ x. Unit {0}) (λ x. tt) xs)

@@ -1,21 +1,14 @@
 -- One of each row, as a list grows.
 use Rattle.std.proofs.Common.{◌≡◌, refl, Bool, true, false, if◌then◌else◌, not, List, [], ◌∷◌, ◌++◌, filter, ap, sym, ◌∙◌, arith, rules}
 use Rattle.std.specs.List.{list_any}
-use Rattle.std.proofs.lemmas.Cmp.{eq_by_cmp_equiv, lists_total}
+use Rattle.values.proofs.Lists.{filter_kept, filter_left}
 use Rattle.schema.specs.Databases.{Row}
 use Rattle.query.specs.Rows.{same_rows, distinct}
-use Rattle.query.proofs.Counting.{order-total, same_rows-equal}
+use Rattle.query.proofs.Counting.{same_rows-equal, same_rows-sym}
 
 -- one more row comes last, unless it is there
 abbrev pub added : List Row → Row → List Row
 added rows r = if list_any (same_rows r) rows then rows else rows ++ r ∷ []
-
-same-sym : (a b : Row) → same_rows a b ≡ same_rows b a
-same-sym = (eq_by_cmp_equiv (lists_total order-total)).symm
-
-filter-more : (p : Row → Bool) (rows : List Row) (r : Row) → filter p (rows ++ r ∷ []) ≡ filter p rows ++ (if p r then r ∷ [] else [])
-filter-more p [] r = refl
-filter-more p (s ∷ rows) r = grind (arith, rules, filter-more p rows r)
 
 any-step : (p : Row → Bool) (r s : Row) (rows : List Row) → p r ≡ true → (same_rows r s ≡ true → r ≡ s) → list_any (same_rows r) (filter p rows) ≡ list_any (same_rows r) rows
     → list_any (same_rows r) (filter p (s ∷ rows)) ≡ list_any (same_rows r) (s ∷ rows)
@@ -27,21 +20,21 @@ any-filter p [] r h = refl
 any-filter p (s ∷ rows) r h = any-step p r s rows h (same_rows-equal r s) (any-filter p rows r h)
 
 filter-added : (p : Row → Bool) (rows : List Row) (r : Row) → p r ≡ true → filter p (added rows r) ≡ added (filter p rows) r
-filter-added p rows r h = grind (arith, rules, filter-more p rows r, any-filter p rows r h)
+filter-added p rows r h = grind (arith, rules, filter_kept p rows r h, any-filter p rows r h)
 
-filter-left : (p : Row → Bool) (rows : List Row) (r : Row) → p r ≡ false → filter p (added rows r) ≡ filter p rows
-filter-left p rows r h = grind (arith, rules, filter-more p rows r)
+filter-unadded : (p : Row → Bool) (rows : List Row) (r : Row) → p r ≡ false → filter p (added rows r) ≡ filter p rows
+filter-unadded p rows r h = grind (arith, rules, filter_left p rows r h)
 
 added-first : (s r : Row) (rows : List Row) → same_rows r s ≡ false → s ∷ added rows r ≡ added (s ∷ rows) r
 added-first s r rows h = grind (arith, rules)
 
 step : (s r : Row) (rows : List Row) → (b : Bool) → same_rows s r ≡ b → same_rows r s ≡ b → s ∷ filter (λ x. not (same_rows s x)) (added rows r) ≡ added (s ∷ filter (λ x. not (same_rows s x)) rows) r
-step s r rows true h k = rw k (ap (λ l. s ∷ l) (filter-left (λ x. not (same_rows s x)) rows r (ap not h)))
+step s r rows true h k = rw k (ap (λ l. s ∷ l) (filter-unadded (λ x. not (same_rows s x)) rows r (ap not h)))
 step s r rows false h k = ap (λ l. s ∷ l) (filter-added (λ x. not (same_rows s x)) rows r (ap not h)) ∙ added-first s r (filter (λ x. not (same_rows s x)) rows) k
 
 distinct-more : (rows : List Row) (r : Row) → distinct (rows ++ r ∷ []) ≡ added (distinct rows) r
 distinct-more [] r = refl
-distinct-more (s ∷ rows) r = ap (λ l. s ∷ filter (λ x. not (same_rows s x)) l) (distinct-more rows r) ∙ step s r (distinct rows) (same_rows s r) refl (same-sym r s)
+distinct-more (s ∷ rows) r = ap (λ l. s ∷ filter (λ x. not (same_rows s x)) l) (distinct-more rows r) ∙ step s r (distinct rows) (same_rows s r) refl (same_rows-sym r s)
 
 -- a row that isn't there
 pub distinct-new : (done kept : List Row) (r : Row) → kept ≡ distinct done → list_any (same_rows r) kept ≡ false → kept ++ r ∷ [] ≡ distinct (done ++ r ∷ [])

@@ -1,34 +1,30 @@
 -- The rows of a FROM are put together of the tables' rows and of Nulls, so their numbers have 64 bits.
-use Rattle.std.proofs.Common.{ℕ, zero, suc, List, [], ◌∷◌, ◌++◌, flat_map, slice_index_or, sym, subst}
+use Rattle.std.proofs.Common.{ℕ, zero, suc, List, [], ◌∷◌, flat_map, slice_index_or}
 use Rattle.std.specs.List.{AllByRecursion}
 use Rattle.values.specs.declared.value.Value.{Value}
 use Rattle.values.specs.declared.value.Value.TheVariants.{Null, Int, Text}
+use Rattle.values.proofs.Lists.{all_append}
 use Rattle.schema.specs.declared.schema.Schema.{Schema}
 use Rattle.schema.specs.declared.schema.Table.{Table}
 use Rattle.schema.specs.declared.schema.Column.{Column}
 use Rattle.schema.specs.Databases.{Row, Database, FitsColumn, FitsColumns, Satisfies, SatisfyTables}
-use Rattle.query.specs.declared.query.Cond.{Cond}
-use Rattle.query.specs.declared.query.From.{From, roll-From}
-use Rattle.query.specs.declared.query.Block.{Block}
-use Rattle.query.specs.declared.query.From.TheVariants.{rolls-Table, rolls-Join, rolls-LeftJoin, rolls-Comma}
-use Rattle.query.specs.declared.query.Cond.TheOpen.{From-F}
-use Rattle.query.specs.declared.query.Cond.TheFolds.{ind-From, map-From}
+use Rattle.query.specs.declared.query.From.{From}
 use Rattle.query.specs.Rows.{Env, Tables, tables_of, nulls}
 use Rattle.query.specs.Meaning.{CondMeaning, source, truth, or_else_row, pairs_of, matches, padded, passes}
 use Rattle.query.proofs.Equations.{source-Table, source-Join, source-LeftJoin, source-Comma}
+use Rattle.query.proofs.Froms.{each_from}
 use Rattle.oracle.specs.Given.{IsShort, AreShort}
 use Rattle.oracle.proofs.Sums.{short-filter}
-use Rattle.query.proofs.Lists.{all-append}
 
 -- ---- lists
 
 short-flat_map : (f : Row → List Row) → ((l : Row) → AllByRecursion IsShort l → AreShort (f l)) → (L : List Row) → AreShort L → AreShort (flat_map f L)
 short-flat_map f each [] h = tt
-short-flat_map f each (l ∷ L) h = all-append (AllByRecursion IsShort) (f l) (flat_map f L) (each l h.0) (short-flat_map f each L h.1)
+short-flat_map f each (l ∷ L) h = all_append (AllByRecursion IsShort) (f l) (flat_map f L) (each l h.0) (short-flat_map f each L h.1)
 
 short-pairs : (l : Row) → AllByRecursion IsShort l → (R : List Row) → AreShort R → AreShort (pairs_of l R)
 short-pairs l h [] k = tt
-short-pairs l h (r ∷ R) k = (all-append IsShort l r h k.0, short-pairs l h R k.1)
+short-pairs l h (r ∷ R) k = (all_append IsShort l r h k.0, short-pairs l h R k.1)
 
 short-nulls : (width : ℕ) → AllByRecursion IsShort (nulls width)
 short-nulls zero = tt
@@ -48,29 +44,16 @@ short-matches : (on : CondMeaning) (t : ℕ) (D : Tables) (e : Env) → AreShort
 short-matches on t D e short l h = short-filter (passes on D e) (pairs_of l (D.rows t)) (short-pairs l h (D.rows t) (short t))
 
 short-padded : (on : CondMeaning) (t : ℕ) (D : Tables) (e : Env) → AreShortTables D → (l : Row) → AllByRecursion IsShort l → AreShort (padded on t D e l)
-short-padded on t D e short l h = short-or_else _ (matches on t D e l) (all-append IsShort l (nulls (D.width t)) h (short-nulls (D.width t))) (short-matches on t D e short l h)
+short-padded on t D e short l h = short-or_else _ (matches on t D e l) (all_append IsShort l (nulls (D.width t)) h (short-nulls (D.width t))) (short-matches on t D e short l h)
 
 abbrev GivesShort : From → Type 0
 GivesShort f = (D : Tables) (e : Env) → AreShortTables D → AreShort (source f D e)
 
--- a layer with a proof beside each FROM in it
-abbrev Proved : Type 0
-Proved = From-F (Cond × Unit {0}) ((f : From) × GivesShort f) (Block × Unit {0})
-
-abbrev plain : Proved → From-F Cond From Block
-plain = map-From _ _ _ Cond From Block (λ c. c.0) (λ f. f.0) (λ q. q.0)
-
-short-layer : (y : Proved) → GivesShort (roll-From (plain y))
-short-layer (From-F.Table o) = subst GivesShort (sym (rolls-Table o)) (λ D e short. rw (source-Table o D e) (short o.table))
-short-layer (From-F.Join f o on) = subst GivesShort (sym (rolls-Join f.0 o on.0)) (λ D e short. rw (source-Join f.0 o on.0 D e)
-    (short-flat_map (matches (truth on.0) o.table D e) (short-matches (truth on.0) o.table D e short) (source f.0 D e) (f.1 D e short)))
-short-layer (From-F.LeftJoin f o on) = subst GivesShort (sym (rolls-LeftJoin f.0 o on.0)) (λ D e short. rw (source-LeftJoin f.0 o on.0 D e)
-    (short-flat_map (padded (truth on.0) o.table D e) (short-padded (truth on.0) o.table D e short) (source f.0 D e) (f.1 D e short)))
-short-layer (From-F.Comma f g) = subst GivesShort (sym (rolls-Comma f.0 g.0)) (λ D e short. rw (source-Comma f.0 g.0 D e)
-    (short-flat_map (λ l. pairs_of l (source g.0 D e)) (λ l h. short-pairs l h (source g.0 D e) (g.1 D e short)) (source f.0 D e) (f.1 D e short)))
-
 short-source : (f : From) → GivesShort f
-short-source = ind-From (λ c. Unit {0}) GivesShort (λ q. Unit {0}) (λ x y is. tt) (λ x y is. subst (λ z. GivesShort (roll-From z)) is (short-layer y)) (λ x y is. tt)
+short-source = each_from GivesShort (λ o D e short. rw (source-Table o D e) (short o.table))
+    (λ f o on left D e short. rw (source-Join f o on D e) (short-flat_map (matches (truth on) o.table D e) (short-matches (truth on) o.table D e short) (source f D e) (left D e short)))
+    (λ f o on left D e short. rw (source-LeftJoin f o on D e) (short-flat_map (padded (truth on) o.table D e) (short-padded (truth on) o.table D e short) (source f D e) (left D e short)))
+    (λ f g left right D e short. rw (source-Comma f g D e) (short-flat_map (λ l. pairs_of l (source g D e)) (λ l h. short-pairs l h (source g D e) (right D e short)) (source f D e) (left D e short)))
 
 -- ---- databases
 

@@ -1,9 +1,8 @@
 -- ORDER BY: its order is total, a sorted list is one that it allows, and a sort keeps how often each row stands.
-use Rattle.std.proofs.Common.{◌≡◌, refl, suc, ◌+◌, Bool, true, false, if◌then◌else◌, List, [], ◌∷◌, Bor, ap, sym, ◌∙◌, arith}
+use Rattle.std.proofs.Common.{◌≡◌, refl, suc, ◌+◌, Bool, if◌then◌else◌, List, [], ◌∷◌, Bor, ap, sym, ◌∙◌, arith}
 use denote.Param.Members.{Mut}
 use Rattle.std.specs.declared.cmp.Ordering.{Ordering}
-use Rattle.std.specs.declared.cmp.Ordering.TheVariants.{Less, Equal, Greater}
-use Rattle.std.specs.Ordering.{is_lt, is_gt, ordering_reverse}
+use Rattle.std.specs.Ordering.{is_lt, is_gt}
 use Rattle.std.specs.Cmp.{IsTotalOrder, IsStrictWeakOrder}
 use Rattle.std.specs.Fn.{Called, ComparesAs}
 use Rattle.std.specs.List.{sum_by}
@@ -12,16 +11,16 @@ use Rattle.std.proofs.lemmas.Cmp.{on_total}
 use Rattle.std.proofs.lemmas.Fn.{always_returns_same}
 use Rattle.std.proofs.lemmas.List.Sorted.{ranks_by, sum_by-IsPermutation}
 use Rattle.std.proofs.lemmas.List.Sums.{sum_by-cons}
+use Rattle.values.proofs.Orders.{directed_total, by_keys_total, is_gt-reverse}
 use Rattle.schema.specs.Databases.{Row}
 use Rattle.query.specs.declared.query.SortKey.{SortKey}
 use Rattle.query.specs.Rows.{value_at, same_rows, count}
 use Rattle.query.specs.Answer.{key_order, keys_order, IsAllowed}
-use Rattle.query.proofs.KeyOrders.{directed-total, by_keys-total}
 
 -- ---- the order of ORDER BY
 
 pub keys_total : (keys : List SortKey) → IsTotalOrder (keys_order keys)
-keys_total = by_keys-total key_order (λ k. on_total (value_at k.item) (directed-total k.descending))
+keys_total = by_keys_total key_order (λ k. on_total (value_at k.item) (directed_total k.descending))
 
 -- ---- a sort by a closure
 
@@ -34,16 +33,11 @@ sorted_by R o {g = g} {f = f} xs up h = up (λ a b. is_lt (R a b)) (ranks_by o (
 
 -- ---- what it gives
 
-reverse-gt : (o : Ordering) → is_gt (ordering_reverse o) ≡ is_lt o
-reverse-gt Less = refl
-reverse-gt Equal = refl
-reverse-gt Greater = refl
-
 pub allowed : (keys : List SortKey) (rows : List Row) → IsSortedBy (λ a b. is_lt (keys_order keys a b)) rows → IsAllowed keys rows
 allowed keys [] up = tt
 allowed keys (a ∷ []) up = tt
 allowed keys (a ∷ b ∷ rows) up =
-    (ap is_gt ((keys_total keys).antisymm a b) ∙ reverse-gt (keys_order keys b a) ∙ up 0 [] (omega arith) (omega arith), allowed keys (b ∷ rows) later)
+    (ap is_gt ((keys_total keys).antisymm a b) ∙ is_gt-reverse (keys_order keys b a) ∙ up 0 [] (omega arith) (omega arith), allowed keys (b ∷ rows) later)
   where
     later : IsSortedBy (λ a b. is_lt (keys_order keys a b)) (b ∷ rows)
     later k d low high = let e : suc k + 1 ≡ suc (k + 1) = omega arith in let h = up (suc k) d (omega arith) (omega arith) in rw e at h

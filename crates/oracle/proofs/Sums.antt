@@ -5,11 +5,11 @@ use Rattle.std.specs.List.{AllByRecursion}
 use Rattle.std.specs.Option.{IsSome}
 use Rattle.std.proofs.lemmas.Int.{fits_signed_from_abs}
 use Rattle.std.proofs.lemmas.List.{length-drop, length-map}
-use Rattle.std.proofs.Math.Seq.{drop-cons}
 use Rattle.values.specs.declared.value.Value.{Value}
 use Rattle.values.specs.declared.value.Value.TheVariants.{Null, Int, Text}
 use Rattle.values.specs.declared.cell.Cell.{Cell}
 use Rattle.values.specs.Cells.{value_of}
+use Rattle.values.proofs.Lists.{drop_next}
 use Rattle.schema.specs.Databases.{Row}
 use Rattle.query.specs.Rows.{value_at}
 use Rattle.query.specs.Aggregates.{IsHeld, plus, together}
@@ -74,9 +74,7 @@ length-values place i rows = omega (arith, length-map (rows_at (drop i rows)) (v
 pub held-next : (place i : ℕ) (rows : List (Bor Row)) (r : Bor Row) (v total : Value) → i < length rows → r ≡ get_or rows i r → length rows < 2 ^ 64 → AllByRecursion IsShort (values_of place rows)
     → v ≡ value_at place r.now → total ≡ together plus (values_of place (drop (i + 1) rows)) → IsHeld (plus v total)
 held-next place i rows r v total below at few short is sum =
-    let next : suc i ≡ i + 1 = omega arith in
-    let e : values_of place (drop i rows) ≡ value_at place r.now ∷ values_of place (drop (i + 1) rows) =
-    ap (values_of place) (drop-cons rows i r below ∙ ap (λ x. x ∷ drop (suc i) rows) (sym at)) ∙ ap (λ n. value_at place r.now ∷ values_of place (drop n rows)) next in
+    let e : values_of place (drop i rows) ≡ value_at place r.now ∷ values_of place (drop (i + 1) rows) = ap (values_of place) (drop_next rows i r below at) in
     let same : together plus (values_of place (drop i rows)) ≡ plus v total = ap (together plus) e ∙ ap (λ x. plus x (together plus (values_of place (drop (i + 1) rows)))) (sym is) ∙ ap (plus v) (sym sum) in
     subst IsHeld same (held-sum (values_of place (drop i rows)) (short-drop place i rows short) (omega (arith, few, length-values place i rows)))
 

@@ -1,11 +1,11 @@
 -- Each plan's rows stand in the order that it delivers.
 use Rattle.std.proofs.Common.{◌≡◌, refl, ap, sym, ◌∙◌, subst, inl, inr, ℕ, Bool, true, false, not, ◌==◌, if◌then◌else◌, List, [], ◌∷◌, ◌++◌, map}
 use Rattle.std.specs.declared.cmp.Ordering.{Ordering}
-use Rattle.std.specs.declared.cmp.Ordering.TheVariants.{Less, Equal, Greater}
 use Rattle.std.specs.Ordering.{is_gt, flip_args, ordering_then}
 use Rattle.std.specs.List.{AllByRecursion, list_all}
 use Rattle.std.proofs.lemmas.Bool.{cond-true, not-true, and_parts, and_from, or_cases, eqb-true}
 use Rattle.values.specs.Order.{order}
+use Rattle.values.proofs.Orders.{not_gt-then}
 use Rattle.query.specs.declared.query.TableInstance.{TableInstance}
 use Rattle.query.specs.Rows.{Tables}
 use Rattle.query.specs.Meaning.{or_else_row}
@@ -39,15 +39,10 @@ ordered keys (a ∷ b ∷ rows) up = (up.0.0, ordered keys (b ∷ rows) up.1)
 
 -- ---- the front of an order
 
-not-behind : (o p q : Ordering) → (is_gt p ≡ false → is_gt q ≡ false) → is_gt (ordering_then o p) ≡ false → is_gt (ordering_then o q) ≡ false
-not-behind Less p q h k = k
-not-behind Equal p q h k = h k
-not-behind Greater p q h k = k
-
 -- rows in an order are in each front of it
 front-weaker : (K : ColumnSet) (keys : List OrderKey) (a b : Env) → is_gt (keys_order keys a b) ≡ false → is_gt (keys_order (front K keys) a b) ≡ false
 front-weaker K [] a b h = h
-front-weaker K (k ∷ keys) a b h = by (K k.column) (not-behind (key_order k a b) (keys_order keys a b) (keys_order (front K keys) a b) (front-weaker K keys a b) h)
+front-weaker K (k ∷ keys) a b h = by (K k.column) (not_gt-then (key_order k a b) (keys_order keys a b) (keys_order (front K keys) a b) (front-weaker K keys a b) h)
   where
     by : (p : Bool) → is_gt (keys_order (k ∷ front K keys) a b) ≡ false → is_gt (keys_order (if p then k ∷ front K keys else []) a b) ≡ false
     by true later = later

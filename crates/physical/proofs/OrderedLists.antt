@@ -5,10 +5,10 @@ use Rattle.std.specs.Ordering.{is_gt}
 use Rattle.std.specs.Cmp.{IsTotalOrder}
 use Rattle.std.specs.List.{AllByRecursion}
 use Rattle.std.proofs.lemmas.Cmp.{tied_itself}
+use Rattle.values.proofs.Lists.{all_append, all_weaker}
 use Rattle.algebra.specs.Bags.{Env, same_on, distinct_on}
 use Rattle.algebra.proofs.Lists.{all-map, all-filter, all-each}
-use Rattle.physical.proofs.Sorting.{Precedes, Ascends, all-mapped}
-use Rattle.query.proofs.Lists.{all-append}
+use Rattle.physical.proofs.Sorting.{Precedes, Ascends}
 
 -- an order that distinguishes no elements
 pub ascends-any : {X : Type 0} (cmp : X → X → Ordering) → ((x y : X) → is_gt (cmp x y) ≡ false) → (xs : List X) → Ascends cmp xs
@@ -24,7 +24,7 @@ ascends-map cmp by g h (x ∷ xs) up = (all-map _ _ g xs (λ y k. h x y k) up.0,
 -- an order that distinguishes fewer elements
 pub ascends-weaker : {X : Type 0} (cmp by : X → X → Ordering) → ((x y : X) → is_gt (cmp x y) ≡ false → is_gt (by x y) ≡ false) → (xs : List X) → Ascends cmp xs → Ascends by xs
 ascends-weaker cmp by h [] up = tt
-ascends-weaker cmp by h (x ∷ xs) up = (all-mapped _ _ (λ y k. h x y k) xs up.0, ascends-weaker cmp by h xs up.1)
+ascends-weaker cmp by h (x ∷ xs) up = (all_weaker _ _ (λ y k. h x y k) xs up.0, ascends-weaker cmp by h xs up.1)
 
 pub ascends-filter : {X : Type 0} (cmp : X → X → Ordering) (p : X → Bool) (xs : List X) → Ascends cmp xs → Ascends cmp (filter p xs)
 ascends-filter cmp p [] up = tt
@@ -47,7 +47,7 @@ ascends-distinct_on cmp K (r ∷ rows) up =
 
 ascends-append : {X : Type 0} (cmp : X → X → Ordering) (xs ys : List X) → Ascends cmp xs → AllByRecursion (λ x. Precedes cmp x ys) xs → Ascends cmp ys → Ascends cmp (xs ++ ys)
 ascends-append cmp [] ys up low rest = rest
-ascends-append cmp (x ∷ xs) ys up low rest = (all-append _ xs ys up.0 low.0, ascends-append cmp xs ys up.1 low.1 rest)
+ascends-append cmp (x ∷ xs) ys up low rest = (all_append _ xs ys up.0 low.0, ascends-append cmp xs ys up.1 low.1 rest)
 
 -- the order doesn't distinguish the elements
 pub record Alike {X : Type 0} (cmp : X → X → Ordering) (x y : X) : Type 0 where
@@ -58,11 +58,11 @@ module _ {X : Type 0} (cmp : X → X → Ordering) (total : IsTotalOrder cmp) (g
   -- elements that are alike are in order
   ascends-alike : (x : X) (ts : List X) → AllByRecursion (λ t. Alike cmp t x) ts → Ascends cmp ts
   ascends-alike x [] all = tt
-  ascends-alike x (t ∷ ts) all = (all-mapped _ _ (λ u k. ap is_gt (all.0.before u ∙ k.behind x ∙ tied_itself total x)) ts all.1, ascends-alike x ts all.1)
+  ascends-alike x (t ∷ ts) all = (all_weaker _ _ (λ u k. ap is_gt (all.0.before u ∙ k.behind x ∙ tied_itself total x)) ts all.1, ascends-alike x ts all.1)
 
   precedes-laid_out : (x : X) (ys : List X) → Precedes cmp x ys → Precedes cmp x (flat_map g ys)
   precedes-laid_out x [] low = tt
-  precedes-laid_out x (y ∷ ys) low = all-append _ (g y) (flat_map g ys) (all-mapped _ _ (λ t k. ap is_gt (k.behind x) ∙ low.0) (g y) (alike y)) (precedes-laid_out x ys low.1)
+  precedes-laid_out x (y ∷ ys) low = all_append _ (g y) (flat_map g ys) (all_weaker _ _ (λ t k. ap is_gt (k.behind x) ∙ low.0) (g y) (alike y)) (precedes-laid_out x ys low.1)
 
   -- each element replaced by elements that are like it
   pub ascends-laid_out : (xs : List X) → Ascends cmp xs → Ascends cmp (flat_map g xs)
@@ -70,5 +70,5 @@ module _ {X : Type 0} (cmp : X → X → Ordering) (total : IsTotalOrder cmp) (g
   ascends-laid_out (x ∷ xs) up =
       let low : Precedes cmp x (flat_map g xs) = precedes-laid_out x xs up.0 in
       ascends-append cmp (g x) (flat_map g xs) (ascends-alike x (g x) (alike x))
-      (all-mapped _ _ (λ t k. all-mapped _ _ (λ u below. ap is_gt (k.before u) ∙ below) (flat_map g xs) low) (g x) (alike x))
+      (all_weaker _ _ (λ t k. all_weaker _ _ (λ u below. ap is_gt (k.before u) ∙ below) (flat_map g xs) low) (g x) (alike x))
       (ascends-laid_out xs up.1)

@@ -4,7 +4,7 @@ use Rattle.std.specs.declared.cmp.Ordering.{Ordering}
 use Rattle.std.specs.Ordering.{is_gt}
 use Rattle.std.specs.Cmp.{IsTotalOrder}
 use Rattle.std.proofs.lemmas.Cmp.{on_total}
-use Rattle.query.proofs.KeyOrders.{directed-total, by_keys-total}
+use Rattle.values.proofs.Orders.{directed_total, by_keys_total}
 use Rattle.algebra.specs.Bags.{Env, Bag, total, SameRows, SameBag}
 use Rattle.physical.specs.declared.plan.OrderKey.{OrderKey}
 use Rattle.physical.specs.Sorts.{put_sorted, sorted, key_order, keys_order}
@@ -12,7 +12,7 @@ use Rattle.physical.specs.Sorts.{put_sorted, sorted, key_order, keys_order}
 -- ---- the order of the keys
 
 pub keys_total : (keys : List OrderKey) → IsTotalOrder (keys_order keys)
-keys_total = by_keys-total key_order (λ k. on_total (λ (r : Env). r k.column) (directed-total k.descending))
+keys_total = by_keys_total key_order (λ k. on_total (λ (r : Env). r k.column) (directed_total k.descending))
 
 -- ---- a sort keeps the bag
 

@@ -7,6 +7,8 @@ use Rattle.std.specs.Cmp.{IsTotalOrder}
 use Rattle.std.specs.List.{AllByRecursion}
 use Rattle.std.specs.List.Sorted.{IsSortedBy, IsStableBy, ties}
 use Rattle.std.proofs.lemmas.Cmp.{upto, tied_itself, alike_right}
+use Rattle.values.proofs.Lists.{all_weaker}
+use Rattle.values.proofs.Orders.{is_gt-reverse, not_gt-reverse, is_eq-equal}
 use Rattle.physical.specs.Sorts.{put_sorted, sorted}
 
 -- ---- lists in order
@@ -19,21 +21,6 @@ Precedes cmp x ys = AllByRecursion (λ y. is_gt (cmp x y) ≡ false) ys
 abbrev pub Ascends : {X : Type 0} → (X → X → Ordering) → List X → Type 0
 Ascends cmp [] = Unit {0}
 Ascends cmp (x ∷ xs) = Precedes cmp x xs × Ascends cmp xs
-
--- what holds of all elements and gives another fact gives it of all
-pub all-mapped : {X : Type 0} (P Q : X → Type 0) → ((x : X) → P x → Q x) → (xs : List X) → AllByRecursion P xs → AllByRecursion Q xs
-all-mapped P Q h [] all = tt
-all-mapped P Q h (x ∷ xs) all = (h x all.0, all-mapped P Q h xs all.1)
-
-reverse-gt : (o : Ordering) → is_gt (ordering_reverse o) ≡ is_lt o
-reverse-gt Less = refl
-reverse-gt Equal = refl
-reverse-gt Greater = refl
-
-gt-turned : (o : Ordering) → is_gt o ≡ true → is_gt (ordering_reverse o) ≡ false
-gt-turned Less h = cc
-gt-turned Equal h = cc
-gt-turned Greater h = refl
 
 -- ---- a sort commutes with a map of the elements
 
@@ -58,11 +45,11 @@ module _ {X : Type 0} (cmp : X → X → Ordering) (total : IsTotalOrder cmp) wh
   lt a b = is_lt (cmp a b)
 
   gt-back : (x y : X) → is_gt (cmp x y) ≡ true → is_gt (cmp y x) ≡ false
-  gt-back x y h = ap is_gt (total.antisymm y x) ∙ gt-turned (cmp x y) h
+  gt-back x y h = ap is_gt (total.antisymm y x) ∙ not_gt-reverse (cmp x y) h
 
   -- what goes after none of a list's front goes after none of the list
   precedes-along : (x y : X) (ys : List X) → is_gt (cmp x y) ≡ false → Precedes cmp y ys → Precedes cmp x ys
-  precedes-along x y ys h all = all-mapped _ _ (λ z k. upto total x y z h k) ys all
+  precedes-along x y ys h all = all_weaker _ _ (λ z k. upto total x y z h k) ys all
 
   all-put_sorted : (P : X → Type 0) (x : X) (ys : List X) → P x → AllByRecursion P ys → AllByRecursion P (put_sorted cmp x ys)
   all-put_sorted P x [] here all = (here, tt)
@@ -93,18 +80,13 @@ module _ {X : Type 0} (cmp : X → X → Ordering) (total : IsTotalOrder cmp) wh
       by Equal = refl
       by Greater = refl
 
-  eq-Equal : (o : Ordering) → is_eq o ≡ true → o ≡ Equal
-  eq-Equal Less h = cc
-  eq-Equal Equal h = refl
-  eq-Equal Greater h = cc
-
   ties-itself : (x : X) → ties lt x x ≡ true
   ties-itself x = ties-eq x x ∙ ap is_eq (tied_itself total x)
 
   -- of two elements that differ in the order one ties with an element at most
   ties-one : (t x y : X) → is_gt (cmp x y) ≡ true → ties lt t x ≡ true → ties lt t y ≡ false
   ties-one t x y gt tie =
-      ties-eq t y ∙ ap is_eq (total.congr t x y (eq-Equal (cmp t x) (sym (ties-eq t x) ∙ tie))) ∙ gt-eq (cmp x y) gt
+      ties-eq t y ∙ ap is_eq (total.congr t x y (is_eq-equal (cmp t x) (sym (ties-eq t x) ∙ tie))) ∙ gt-eq (cmp x y) gt
     where
       gt-eq : (o : Ordering) → is_gt o ≡ true → is_eq o ≡ false
       gt-eq Less h = cc
@@ -154,7 +136,7 @@ module _ {X : Type 0} (cmp : X → X → Ordering) (total : IsTotalOrder cmp) wh
   -- the front of the one list goes before the front of the other: then it ties with nothing there
   front-missed : (y z : X) (ys zs : List X) → cmp y z ≡ Less → Precedes cmp z zs → filter (ties lt y) (y ∷ ys) ≡ filter (ties lt y) (z ∷ zs) → ⊥
   front-missed y z ys zs less low same =
-      let none : filter (ties lt y) (z ∷ zs) ≡ [] = no-ties y (z ∷ zs) (less, all-mapped _ _ (λ w k. less-upto y z w less k) zs low) in
+      let none : filter (ties lt y) (z ∷ zs) ≡ [] = no-ties y (z ∷ zs) (less, all_weaker _ _ (λ w k. less-upto y z w less k) zs low) in
       let front : filter (ties lt y) (y ∷ ys) ≡ y ∷ filter (ties lt y) ys = ap (λ b. cond b (y ∷ filter (ties lt y) ys) (filter (ties lt y) ys)) (ties-itself y) in
       cc
 
@@ -193,7 +175,7 @@ module _ {X : Type 0} (cmp : X → X → Ordering) (total : IsTotalOrder cmp) wh
       ((first, precedes-along a b ys first rest.0), rest)
     where
       first : is_gt (cmp a b) ≡ false
-      first = ap is_gt (total.antisymm a b) ∙ reverse-gt (cmp b a) ∙ up 0 a (omega arith) (omega arith)
+      first = ap is_gt (total.antisymm a b) ∙ is_gt-reverse (cmp b a) ∙ up 0 a (omega arith) (omega arith)
 
       later : IsSortedBy lt (b ∷ ys)
       later k d low high = let e : suc k + 1 ≡ suc (k + 1) = omega arith in let h = up (suc k) d (omega arith) (omega arith) in rw e at h

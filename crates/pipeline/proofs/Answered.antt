@@ -1,5 +1,5 @@
 -- The answer of a query, and of a text.
-use Rattle.std.proofs.Common.{◌≡◌, ◌≢◌, refl, sym, ◌∙◌, ℕ, List, Result, Ok, Err, IfErr, OnOk, OnErr}
+use Rattle.std.proofs.Common.{◌≡◌, ◌≢◌, refl, sym, ◌∙◌, ℕ, List, Result, Ok, Err, IfErr, OnErr}
 use Rattle.values.specs.declared.fault.Fault.{Fault}
 use Rattle.values.specs.declared.fault.Fault.TheVariants as fault
 use Rattle.values.specs.Faults.{Fails}
@@ -31,20 +31,6 @@ of_fault r e P is h = rw is h
 
 pub on_fault : {A E : Type 0} (r : Result A E) (e : E) (P : Type 0) → r ≡ Err e → P → OnErr r P
 on_fault r e P is h = rw is h
-
--- what follows of a call's outcome
-
-pub on_ok_more : {A E P Q : Type 0} (r : Result A E) → (P → Q) → OnOk r P → OnOk r Q
-on_ok_more (Ok a) f h = f h
-on_ok_more (Err e) f h = tt
-
-pub on_err_more : {A E P Q : Type 0} (r : Result A E) → (P → Q) → OnErr r P → OnErr r Q
-on_err_more (Ok a) f h = tt
-on_err_more (Err e) f h = f h
-
-pub if_err_more : {A E : Type 0} {P Q : E → Type 0} (r : Result A E) → ((e : E) → P e → Q e) → IfErr r P → IfErr r Q
-if_err_more (Ok a) f h = tt
-if_err_more (Err e) f h = f e h
 
 -- ---- the check
 

@@ -3,6 +3,7 @@ use Rattle.std.proofs.Common.{◌≡◌, refl, ap, ◌∙◌, ℕ, suc, ◌+◌,
 use Rattle.std.specs.List.{slice_get, list_all}
 use Rattle.std.proofs.lemmas.Bool.{eq-eqb, ltb-true, and_from}
 use Rattle.values.specs.Faults.{◌>>=◌}
+use Rattle.values.proofs.Lists.{passes_at}
 use Rattle.algebra.specs.declared.expr.Expr.{Expr}
 use Rattle.algebra.specs.Expressions.{input_classes}
 use Rattle.algebra.proofs.NamedClasses.{inputs-pass}
@@ -13,7 +14,6 @@ use Rattle.physical.specs.declared.plan.Plan.{Plan, roll-Plan, out-roll-Plan, fo
 use Rattle.derivation.specs.Replay.{implements, node_fits, inputs_fit, plan_fits}
 use Rattle.derivation.proofs.Fits.{plan_fits_out}
 use Rattle.planner.specs.Canonical.{is_sort, unsorted_layer, is_unsorted, NameEarlier, IsPlanOf}
-use Rattle.planner.proofs.Passes.{passes_at}
 
 -- a plan by its node and inputs
 abbrev pub over : Node → List Plan → Plan

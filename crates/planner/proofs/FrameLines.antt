@@ -6,6 +6,7 @@ use Rattle.std.proofs.lemmas.Bool.{le-leb}
 use Rattle.std.proofs.lemmas.Grind.{reverse_onto}
 use Rattle.std.proofs.lemmas.List.{length-reverse, length-take-le}
 use Rattle.std.proofs.lemmas.Option.{slice_get_within}
+use Rattle.values.proofs.Lists.{passes_at, slice_get_behind}
 use Rattle.query.specs.declared.query.Query.{Query}
 use Rattle.query.specs.Bound.{is_bound}
 use Rattle.algebra.specs.declared.expr.Expr.{Expr}
@@ -20,15 +21,9 @@ use Rattle.algebra.proofs.Same.{tested_expr}
 use Rattle.derivation.specs.Replay.{line_replays, lines_replay}
 use Rattle.derivation.proofs.Founded.{line_at}
 use Rattle.planner.specs.Canonical.{NameEarlier}
-use Rattle.planner.proofs.Passes.{passes_at}
 
 same-expr : (x : Expr) → same_expr x x ≡ true
 same-expr x = sym (tested_expr true x x (λ e. refl, λ e. refl))
-
--- the element behind others
-at-length : (xs ys : List Expr) (x : Expr) → slice_get (xs ++ x ∷ ys) (length xs) ≡ Some x
-at-length [] ys x = refl
-at-length (y ∷ xs) ys x = at-length xs ys x
 
 module _ (q : Query) where
   abbrev Formed : List Expr → Type 0
@@ -48,7 +43,7 @@ module _ (q : Query) where
       rw (le-leb (length (query_frame q)) (length E) (rw count (omega arith))) refl
   lines-replay (x ∷ xs) E is formed =
       let at : slice_get (query_frame q) (length E) ≡ Some x
-      = ap (λ L. slice_get L (length E)) (sym (sym (reverse_onto E x xs) ∙ is)) ∙ subst (λ n. slice_get (reverse E ++ x ∷ xs) n ≡ Some x) (length-reverse E) (at-length (reverse E) xs x) in
+      = ap (λ L. slice_get L (length E)) (sym (sym (reverse_onto E x xs) ∙ is)) ∙ subst (λ n. slice_get (reverse E ++ x ∷ xs) n ≡ Some x) (length-reverse E) (slice_get_behind (reverse E) x xs) in
       rw (line-replays E x (earlier-formed xs (x ∷ E) formed) at) (lines-replay xs (x ∷ E) is formed)
 
   pub frame_replays : is_bound q ≡ true → lines_replay q [] (query_frame q) ≡ Ok (reverse (query_frame q))

@@ -4,4 +4,3 @@ pub mod FrameLines
 pub mod OneCertificate
 pub mod Operators
 pub mod OrderedPlans
-pub mod Passes

@@ -1,8 +1,9 @@
 -- One canonical certificate of a query replays.
 use Rattle.std.proofs.Common.{◌≡◌, refl, ap, sym, ◌∙◌, subst, ℕ, ◌+◌, Bool, true, false, not, ◌&&◌, ◌==◌, if◌then◌else◌, List, [], ◌∷◌, map, length, Some, Result, Ok, arith}
 use Rattle.std.specs.List.{slice_get, list_all}
-use Rattle.std.proofs.lemmas.Bool.{and_parts, eqb-true}
+use Rattle.std.proofs.lemmas.Bool.{and_parts, eqb-true, not-true}
 use Rattle.values.specs.Faults.{◌>>=◌, wanted, wanted_if}
+use Rattle.values.proofs.Results.{both_ok, wanted_if_ok}
 use Rattle.query.specs.declared.query.Query.{Query}
 use Rattle.algebra.specs.declared.expr.Expr.{Expr}
 use Rattle.algebra.specs.declared.expr.Expr.TheVariants.{Get, Select, Join, LeftJoin, Keep, Distinct, Group}
@@ -26,7 +27,6 @@ use Rattle.derivation.specs.declared.certificate.Certificate.{Certificate}
 use Rattle.derivation.specs.declared.certificate.CheckRefusal.{CheckRefusal}
 use Rattle.derivation.specs.declared.certificate.CheckReason.TheVariants.{UnknownLine, IllFormed, OtherOperator, UnsortedAnswer}
 use Rattle.derivation.specs.Replay.{refusal, founding, implements, sort_fits, operator_fits, node_fits, inputs_fit, plan_fits, lines_replay, is_delivered, root, replayed}
-use Rattle.derivation.proofs.Results.{both_ok, wanted_if_ok}
 use Rattle.derivation.proofs.Fits.{plan_fits_out, operator-is}
 use Rattle.planner.specs.Canonical.{is_sort, unsorted_layer, is_unsorted, top, IsCanonical, IsOnlyCanonical}
 use Rattle.planner.proofs.Accepted.{founding_lines}
@@ -43,16 +43,12 @@ operator_for (Keep K x) = Projection K
 operator_for (Group K G x) = HashGroup K G
 operator_for x = HashDistinct
 
-is-false : (b : Bool) → not b ≡ true → b ≡ false
-is-false true h = cc
-is-false false h = refl
-
 one-operator : (operator : Operator) (x : Expr) → implements operator x ≡ true → operator ≡ operator_for x
 one-operator (Scan o) (Get p) h = rw (eqb-true o p h) refl
 one-operator (Filter C) (Select D x) h = let parts = and_parts (is_plain D) (same_conditions C D) h in rw (equal_conditions C D parts.1, parts.0) refl
 one-operator (FilterSubqueries C) (Select D x) h =
     let parts = and_parts (not (is_plain D)) (same_conditions C D) h in
-    rw (equal_conditions C D parts.1, is-false (is_plain D) parts.0) refl
+    rw (equal_conditions C D parts.1, not-true (is_plain D) parts.0) refl
 one-operator (Projection K) (Keep L x) h = rw (equal_columns K L h) refl
 one-operator (NestedLoopJoin Inner C) (Join D a b) h = rw (equal_conditions C D h) refl
 one-operator (NestedLoopJoin Left C) (LeftJoin D a b) h = rw (equal_conditions C D h) refl
@@ -144,7 +140,7 @@ module _ (lines : List Expr) where
   unfolding is_unsorted
   unsorted-out p none =
       let parts = and_parts _ _ (sym (fold_out-Plan Bool unsorted_layer p) ∙ none) in
-      (is-false (is_sort (out-Plan p).node) parts.0, parts.1)
+      (not-true (is_sort (out-Plan p).node) parts.0, parts.1)
 
   abbrev P : Plan → Type 0
   P p = (other : Plan) (g : ℕ) → is_unsorted p ≡ true → is_unsorted other ≡ true → Fits g p → Fits g other → p ≡ other

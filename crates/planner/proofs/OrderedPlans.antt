@@ -4,6 +4,7 @@ use Rattle.std.specs.List.{slice_get, list_all}
 use Rattle.std.specs.Coded.{coded_list}
 use Rattle.std.proofs.lemmas.Bool.{and_from}
 use Rattle.std.proofs.Math.Seq.{take-length}
+use Rattle.values.proofs.Lists.{passes_at}
 use Rattle.query.specs.declared.query.SortKey as order_by
 use Rattle.query.specs.declared.query.Query.{Query}
 use Rattle.algebra.specs.declared.expr.Expr.{Expr}
@@ -19,7 +20,6 @@ use Rattle.derivation.specs.QueryOrders.{ordered_column, ordered_columns, query_
 use Rattle.derivation.specs.Replay.{plan_fits, same_order, is_delivered}
 use Rattle.derivation.proofs.Fits.{plan_fits_out}
 use Rattle.planner.specs.Canonical.{top, IsPlanOf}
-use Rattle.planner.proofs.Passes.{passes_at}
 
 -- the columns of the keys are among these
 abbrev pub AreColumns : List ℕ → List OrderKey → Type 0

@@ -1,64 +1,24 @@
 -- Rows are the same where they are equal, and how often a row stands in a list that is made of others.
 use Rattle.std.proofs.Common.{◌⊎◌, inl, inr, ◌≡◌, refl, ℕ, ◌+◌, ◌<◌, Bool, true, false, cond, if◌then◌else◌, min, not, List, [], ◌∷◌, ◌++◌, filter, ap, ◌∙◌, arith, rules, subst}
-use Rattle.std.specs.declared.cmp.Ordering.{Ordering}
-use Rattle.std.specs.declared.cmp.Ordering.TheVariants.{Less, Equal, Greater}
-use Rattle.std.specs.Ordering.{is_eq}
-use Rattle.std.specs.Cmp.{IsTotalOrder}
-use Rattle.std.specs.FinMap.{IsAntisymmetric, slice_cmp-IsAntisymmetric, int_cmp-IsAntisymmetric, nat_cmp-IsAntisymmetric}
+use Rattle.std.specs.FinMap.{slice_cmp-IsAntisymmetric}
 use Rattle.std.proofs.lemmas.Cmp.{eq_by_cmp_equiv, lists_total}
-use Rattle.values.specs.declared.value.Value.{Value}
-use Rattle.values.specs.declared.value.Value.TheVariants.{Null, Int, Text}
-use Rattle.values.specs.Order.{order}
-use Rattle.values.specs.contracts.value.ValueOrd.TheImpl.Laws.{total-law}
-use Rattle.values.specs.contracts.value.ValueOrd.TheImpl as derived
+use Rattle.values.proofs.Orders.{is_eq-equal, order_antisymmetric, order_total}
 use Rattle.schema.specs.Databases.{Row}
 use Rattle.query.specs.Rows.{same_rows, count, distinct}
 
--- ---- the order of values
-
-pub order-antisymmetric : IsAntisymmetric order
-order-antisymmetric Null Null h = refl
-order-antisymmetric Null (Int n) h = cc
-order-antisymmetric Null (Text t) h = cc
-order-antisymmetric (Int m) Null h = cc
-order-antisymmetric (Int m) (Int n) h = ap Int (int_cmp-IsAntisymmetric m n h)
-order-antisymmetric (Int m) (Text t) h = cc
-order-antisymmetric (Text s) Null h = cc
-order-antisymmetric (Text s) (Int n) h = cc
-order-antisymmetric (Text s) (Text t) h = ap Text (slice_cmp-IsAntisymmetric nat_cmp-IsAntisymmetric s t h)
-
-order-derived : (a b : Value) → derived.cmp-value.it a b ≡ order a b
-order-derived Null Null = refl
-order-derived Null (Int n) = refl
-order-derived Null (Text t) = refl
-order-derived (Int m) Null = refl
-order-derived (Int m) (Int n) = refl
-order-derived (Int m) (Text t) = refl
-order-derived (Text s) Null = refl
-order-derived (Text s) (Int n) = refl
-order-derived (Text s) (Text t) = refl
-
-pub order-total : IsTotalOrder order
-order-total = subst IsTotalOrder (λ i a b. order-derived a b i) total-law
-
 -- ---- the same rows
 
-is_eq-Equal : (o : Ordering) → is_eq o ≡ true → o ≡ Equal
-is_eq-Equal Less h = cc
-is_eq-Equal Equal h = refl
-is_eq-Equal Greater h = cc
-
 pub same_rows-equal : (a b : Row) → same_rows a b ≡ true → a ≡ b
-same_rows-equal a b h = slice_cmp-IsAntisymmetric order-antisymmetric a b (is_eq-Equal _ h)
+same_rows-equal a b h = slice_cmp-IsAntisymmetric order_antisymmetric a b (is_eq-equal _ h)
 
 pub same_rows-refl : (a : Row) → same_rows a a ≡ true
-same_rows-refl = (eq_by_cmp_equiv (lists_total order-total)).refl
+same_rows-refl = (eq_by_cmp_equiv (lists_total order_total)).refl
 
 pub same_rows-from : (a b : Row) → a ≡ b → same_rows a b ≡ true
 same_rows-from a b h = subst (λ x. same_rows a x ≡ true) h (same_rows-refl a)
 
-same_rows-sym : (a b : Row) → same_rows a b ≡ same_rows b a
-same_rows-sym = (eq_by_cmp_equiv (lists_total order-total)).symm
+pub same_rows-sym : (a b : Row) → same_rows a b ≡ same_rows b a
+same_rows-sym = (eq_by_cmp_equiv (lists_total order_total)).symm
 
 -- ---- counts
 

@@ -7,10 +7,12 @@ use Rattle.std.specs.declared.cmp.Ordering.TheVariants.{Less, Equal, Greater}
 use Rattle.std.specs.Ordering.{is_gt, nat_cmp, on, then_cmp, flip_args, ordering_then, ordering_reverse}
 use Rattle.std.specs.Cmp.{IsTotalOrder}
 use Rattle.std.specs.FinMap.{IsAntisymmetric}
+use mathlib.Core.List.{map-map}
 use Rattle.values.specs.declared.value.Value.{Value}
 use Rattle.values.specs.declared.value.Value.TheVariants.{Null, Int, Text}
 use Rattle.values.specs.Order.{order}
 use Rattle.values.specs.Truth.{is_null}
+use Rattle.values.proofs.Orders.{order_antisymmetric, order_total, not_gt-reverse}
 use Rattle.schema.specs.Databases.{Row, values_at}
 use Rattle.query.specs.declared.query.Aggregate.{Aggregate}
 use Rattle.query.specs.declared.query.Aggregate.TheVariants as by
@@ -21,7 +23,7 @@ use Rattle.query.specs.Rows.{Env, value_at, same_rows, count, distinct}
 use Rattle.query.specs.Aggregates.{Group, plus, lesser, greater, together, known, aggregate, group_of}
 use Rattle.query.specs.Meaning.{item_of_row, item_of_group, all_shown, shown}
 use Rattle.query.specs.Laws.{number_shown}
-use Rattle.query.proofs.Counting.{order-total, order-antisymmetric, count-distinct}
+use Rattle.query.proofs.Counting.{count-distinct}
 use Rattle.query.proofs.SameCounts.{SameCounts, same-fold, same-map, same-filter, same-distinct}
 
 -- ---- the steps of aggregates may be exchanged
@@ -41,12 +43,7 @@ first_by R v w = if is_gt (R v w) then w else v
 
 module _ (R : Value → Value → Ordering) (total : IsTotalOrder R) (anti : IsAntisymmetric R) where
   not-both : (a b : Value) → is_gt (R a b) ≡ true → is_gt (R b a) ≡ false
-  not-both a b h = rw (total.antisymm b a) (reversed (R a b) h)
-    where
-      reversed : (o : Ordering) → is_gt o ≡ true → is_gt (ordering_reverse o) ≡ false
-      reversed Less h = cc
-      reversed Equal h = cc
-      reversed Greater h = refl
+  not-both a b h = rw (total.antisymm b a) (not_gt-reverse (R a b) h)
 
   neither-equal : (a b : Value) → is_gt (R a b) ≡ false → is_gt (R b a) ≡ false → a ≡ b
   neither-equal a b h g = anti a b (neither (R a b) h (rw (total.antisymm b a) at g))
@@ -89,7 +86,7 @@ abbrev null_last : Value → Value → Ordering
 null_last = then_cmp (on null_rank nat_cmp) order
 
 null_last-antisymmetric : IsAntisymmetric null_last
-null_last-antisymmetric a b h = order-antisymmetric a b (second (on null_rank nat_cmp a b) (order a b) h)
+null_last-antisymmetric a b h = order_antisymmetric a b (second (on null_rank nat_cmp a b) (order a b) h)
   where
     second : (o p : Ordering) → ordering_then o p ≡ Equal → p ≡ Equal
     second Less p h = cc
@@ -109,10 +106,10 @@ lesser-first (Text s) (Int n) = refl
 lesser-first (Text s) (Text t) = refl
 
 back-antisymmetric : IsAntisymmetric (flip_args order)
-back-antisymmetric a b h = sym (order-antisymmetric b a h)
+back-antisymmetric a b h = sym (order_antisymmetric b a h)
 
 greater-first : (v w : Value) → greater v w ≡ first_by (flip_args order) v w
-greater-first v w = first-comm (flip_args order) (back_total order-total) back-antisymmetric w v
+greater-first v w = first-comm (flip_args order) (back_total order_total) back-antisymmetric w v
 
 swap-by : (f : Value → Value → Value) (R : Value → Value → Ordering) → IsTotalOrder R → IsAntisymmetric R → ((v w : Value) → f v w ≡ first_by R v w)
     → (a x m : Value) → f a (f x m) ≡ f x (f a m)
@@ -120,10 +117,10 @@ swap-by f R total anti is a x m =
     is a (f x m) ∙ ap (first_by R a) (is x m) ∙ first-swap R total anti a x m ∙ sym (is x (f a m) ∙ ap (first_by R x) (is a m))
 
 lesser-swap : (a x m : Value) → lesser a (lesser x m) ≡ lesser x (lesser a m)
-lesser-swap = swap-by lesser null_last (then_total (on_total null_rank nat_cmp_total) order-total) null_last-antisymmetric lesser-first
+lesser-swap = swap-by lesser null_last (then_total (on_total null_rank nat_cmp_total) order_total) null_last-antisymmetric lesser-first
 
 greater-swap : (a x m : Value) → greater a (greater x m) ≡ greater x (greater a m)
-greater-swap = swap-by greater (flip_args order) (back_total order-total) back-antisymmetric greater-first
+greater-swap = swap-by greater (flip_args order) (back_total order_total) back-antisymmetric greater-first
 
 -- ---- a group's row
 
@@ -148,10 +145,6 @@ same-group keys (i ∷ items) e key G H h = cc (same-item keys e key G H h i, sa
 
 -- ---- what a block shows
 
-map-groups : (f : Group → Row) (g : Row → Group) (K : List Row) → map f (map g K) ≡ map (λ key. f (g key)) K
-map-groups f g [] = refl
-map-groups f g (key ∷ K) = ap (λ r. f (g key) ∷ r) (map-groups f g K)
-
 -- the row of a key's group
 abbrev group_row : List ℕ → List Item → Env → List Row → Row → Row
 group_row keys items e L key = map (item_of_group keys e (group_of keys L key)) items
@@ -166,9 +159,9 @@ same-all_shown true (k ∷ ks) items e L M h r =
     let same_keys : SameCounts (keys_of L) (keys_of M) = same-distinct _ _ (same-map (values_at keys) L M h) in
     let same_row : (key : Row) → group_row keys items e L key ≡ group_row keys items e M key =
     λ key. same-group keys items e key _ _ (same-filter (λ s. same_rows key (values_at keys s)) L M h) in
-    ap (count r) (map-groups show (group_of keys L) (keys_of L) ∙ ap (λ (f : Row → Row). map f (keys_of L)) (λ i key. same_row key i))
+    ap (count r) (map-map show (group_of keys L) (keys_of L) ∙ ap (λ (f : Row → Row). map f (keys_of L)) (λ i key. same_row key i))
     ∙ same-map (group_row keys items e M) (keys_of L) (keys_of M) same_keys r
-    ∙ ap (count r) (sym (map-groups show (group_of keys M) (keys_of M)))
+    ∙ ap (count r) (sym (map-map show (group_of keys M) (keys_of M)))
 
 pub same-number : (q : Block) (e : Env) (L M : List Row) → SameCounts L M → (r : Row) → number_shown q e L r ≡ number_shown q e M r
 same-number q e L M h r = ap (λ n. if q.distinct then min 1 n else n) (same-all_shown q.grouped q.keys q.items e L M h r)

@@ -1,9 +1,8 @@
 pub mod Company
 pub mod Counting
 pub mod Equations
+pub mod Froms
 pub mod Groups
-pub mod KeyOrders
-pub mod Lists
 pub mod Obeys
 pub mod SameCounts
 pub mod ScopeEquations

@@ -1,22 +1,17 @@
 -- A FROM's rows have as many values as it has columns.
-use Rattle.std.proofs.Common.{◌≡◌, refl, ℕ, zero, suc, ◌+◌, Bool, true, false, if◌then◌else◌, List, [], ◌∷◌, ◌++◌, length, map, filter, flat_map, ap, sym, arith, subst, length-append}
+use Rattle.std.proofs.Common.{◌≡◌, ℕ, zero, suc, ◌+◌, Bool, true, false, if◌then◌else◌, List, [], ◌∷◌, ◌++◌, length, map, filter, flat_map, arith, length-append}
 use Rattle.std.proofs.lemmas.List.{length-replicate}
 use Rattle.std.specs.Prelude.{slice_index_or}
-use Rattle.std.specs.List.{AllByRecursion}
 use Rattle.values.specs.declared.value.Value.TheVariants.{Null}
-use Rattle.schema.specs.declared.schema.Column.{Column}
 use Rattle.schema.specs.declared.schema.Table.{Table}
-use Rattle.schema.specs.Databases.{Row, Database, FitsColumns, SatisfyTables, HaveWidth}
-use Rattle.query.specs.declared.query.Cond.{Cond}
-use Rattle.query.specs.declared.query.From.{From, roll-From}
-use Rattle.query.specs.declared.query.Block.{Block}
-use Rattle.query.specs.declared.query.From.TheVariants.{rolls-Table, rolls-Join, rolls-LeftJoin, rolls-Comma}
-use Rattle.query.specs.declared.query.Cond.TheOpen.{From-F}
-use Rattle.query.specs.declared.query.Cond.TheFolds.{ind-From, map-From}
+use Rattle.schema.specs.Databases.{Row, Database, SatisfyTables, HaveWidth}
+use Rattle.schema.proofs.Widths.{fits_width}
+use Rattle.query.specs.declared.query.From.{From}
 use Rattle.query.specs.Rows.{Env, Tables, IsFitting, nulls}
 use Rattle.query.specs.Meaning.{CondMeaning, source, from_width, truth, or_else_row, pairs_of, matches, padded}
 use Rattle.query.specs.Answer.{SatisfyingFits}
 use Rattle.query.proofs.Equations.{source-Table, source-Join, source-LeftJoin, source-Comma, width-Table, width-Join, width-LeftJoin, width-Comma}
+use Rattle.query.proofs.Froms.{each_from}
 
 -- ---- lists of rows
 
@@ -58,42 +53,22 @@ width-padded on t D e fits v l h = width-or_else _ _ (matches on t D e l) (omega
 abbrev HasWidth : From → Type 0
 HasWidth f = (D : Tables) (e : Env) → IsFitting D → HaveWidth (from_width f D) (source f D e)
 
--- a layer with a proof beside each FROM in it
-abbrev Proved : Type 0
-Proved = From-F (Cond × Unit {0}) ((f : From) × HasWidth f) (Block × Unit {0})
-
-abbrev plain : Proved → From-F Cond From Block
-plain = map-From _ _ _ Cond From Block (λ c. c.0) (λ f. f.0) (λ q. q.0)
-
-has_width-layer : (y : Proved) → HasWidth (roll-From (plain y))
-has_width-layer (From-F.Table o) = subst HasWidth (sym (rolls-Table o)) (λ D e fits. rw (source-Table o D e, width-Table o D) (fits o.table))
-has_width-layer (From-F.Join f o on) = subst HasWidth (sym (rolls-Join f.0 o on.0)) (λ D e fits. rw (source-Join f.0 o on.0 D e, width-Join f.0 o on.0 D)
-    (width-flat_map (from_width f.0 D) _ (matches (truth on.0) o.table D e) (width-matches (truth on.0) o.table D e fits _) (source f.0 D e) (f.1 D e fits)))
-has_width-layer (From-F.LeftJoin f o on) = subst HasWidth (sym (rolls-LeftJoin f.0 o on.0)) (λ D e fits. rw (source-LeftJoin f.0 o on.0 D e, width-LeftJoin f.0 o on.0 D)
-    (width-flat_map (from_width f.0 D) _ (padded (truth on.0) o.table D e) (width-padded (truth on.0) o.table D e fits _) (source f.0 D e) (f.1 D e fits)))
-has_width-layer (From-F.Comma f g) = subst HasWidth (sym (rolls-Comma f.0 g.0)) (λ D e fits. rw (source-Comma f.0 g.0 D e, width-Comma f.0 g.0 D)
-    (width-flat_map (from_width f.0 D) _ (λ l. pairs_of l (source g.0 D e)) (λ l h. width-pairs _ _ l h (source g.0 D e) (g.1 D e fits)) (source f.0 D e) (f.1 D e fits)))
-
 pub source_fits : (f : From) (D : Tables) (e : Env) → IsFitting D → HaveWidth (from_width f D) (source f D e)
-source_fits = ind-From (λ c. Unit {0}) HasWidth (λ q. Unit {0}) (λ x y is. tt) (λ x y is. subst (λ z. HasWidth (roll-From z)) is (has_width-layer y)) (λ x y is. tt)
+source_fits = each_from HasWidth (λ o D e fits. rw (source-Table o D e, width-Table o D) (fits o.table))
+    (λ f o on left D e fits. rw (source-Join f o on D e, width-Join f o on D)
+    (width-flat_map (from_width f D) _ (matches (truth on) o.table D e) (width-matches (truth on) o.table D e fits _) (source f D e) (left D e fits)))
+    (λ f o on left D e fits. rw (source-LeftJoin f o on D e, width-LeftJoin f o on D)
+    (width-flat_map (from_width f D) _ (padded (truth on) o.table D e) (width-padded (truth on) o.table D e fits _) (source f D e) (left D e fits)))
+    (λ f g left right D e fits. rw (source-Comma f g D e, width-Comma f g D)
+    (width-flat_map (from_width f D) _ (λ l. pairs_of l (source g D e)) (λ l h. width-pairs _ _ l h (source g D e) (right D e fits)) (source f D e) (left D e fits)))
 
 -- ---- databases
-
-fits-length : (cs : List Column) (r : Row) → FitsColumns cs r → length r ≡ length cs
-fits-length [] [] h = refl
-fits-length [] (v ∷ vs) h = absurd h
-fits-length (c ∷ cs) [] h = absurd h
-fits-length (c ∷ cs) (v ∷ vs) h = ap suc (fits-length cs vs h.1)
-
-fit-width : (cs : List Column) (rows : List Row) → AllByRecursion (FitsColumns cs) rows → HaveWidth (length cs) rows
-fit-width cs [] h = tt
-fit-width cs (r ∷ rows) h = (fits-length cs r h.0, fit-width cs rows h.1)
 
 tables-fit : (ts : List Table) (D : Database) → SatisfyTables ts D → (t : ℕ) → HaveWidth (slice_index_or (map (λ entry. length entry.columns) ts) t 0) (slice_index_or D t [])
 tables-fit [] [] h t = tt
 tables-fit [] (rows ∷ D) h t = absurd h
 tables-fit (entry ∷ ts) [] h t = absurd h
-tables-fit (entry ∷ ts) (rows ∷ D) h zero = fit-width entry.columns rows h.0.fit
+tables-fit (entry ∷ ts) (rows ∷ D) h zero = fits_width entry.columns rows h.0.fit
 tables-fit (entry ∷ ts) (rows ∷ D) h (suc t) = tables-fit ts D h.1 t
 
 pub satisfying_fits : SatisfyingFits

@@ -1,6 +1,6 @@
 -- How many members an object has, and an array's items as a list.
-use Rattle.std.proofs.Common.{◌≡◌, ℕ, List, [], ◌∷◌, length, map, true, false, Some, Ok, Err, String, Global, refl, ap, arith, ◌==◌}
-use Rattle.std.proofs.lemmas.Bool.Decides.{nat_tests}
+use Rattle.std.proofs.Common.{◌≡◌, ℕ, List, [], ◌∷◌, length, map, Some, Ok, Err, String, Global, refl, ap}
+use Rattle.std.proofs.lemmas.Bool.{eq-eqb, ne_eqb}
 use Rattle.serde_json.specs.Data.{Data}
 use Rattle.serde_json.specs.Find.{as_object, as_array}
 use Rattle.serde_json.specs.View.{view, items_view, members_view}
@@ -9,19 +9,13 @@ use Rattle.serde_json.proofs.Views.{members_len-members_view}
 use Rattle.schema.specs.declared.fault.SchemaRefusal.TheVariants.{Shape}
 use Rattle.schema.specs.Entries.{keys_in, items_in, list_of}
 
-same_count : (m n : ℕ) → m ≡ n → (m == n) ≡ true
-same_count m n e = grind (arith, nat_tests)
-
-other_count : (m n : ℕ) → (m ≡ n → ⊥) → (m == n) ≡ false
-other_count m n e = grind (arith, nat_tests)
-
 pub keys_right : (n : ℕ) (d : Data) (m : List (String Global × Value)) → Some (members_view m) ≡ as_object d → length m ≡ n → keys_in n d ≡ Ok tt
 unfolding keys_in
-keys_right n d m e h = rw (← e, members_len-members_view m, same_count (length m) n h) refl
+keys_right n d m e h = rw (← e, members_len-members_view m, eq-eqb (length m) n h) refl
 
 pub keys_wrong : (n : ℕ) (d : Data) (m : List (String Global × Value)) → Some (members_view m) ≡ as_object d → (length m ≡ n → ⊥) → keys_in n d ≡ Err Shape
 unfolding keys_in
-keys_wrong n d m e h = rw (← e, members_len-members_view m, other_count (length m) n h) refl
+keys_wrong n d m e h = rw (← e, members_len-members_view m, ne_eqb (length m) n h) refl
 
 pub list_of_views : (vs : List Value) → list_of (items_view vs) ≡ map view vs
 unfolding list_of

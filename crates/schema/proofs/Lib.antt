@@ -5,3 +5,4 @@ pub mod ReadBack
 pub mod Schemas
 pub mod Spelled
 pub mod Steps
+pub mod Widths

@@ -1,19 +1,17 @@
 -- Bytes that spell a schema are read as it.
-use Rattle.std.proofs.Common.{◌≡◌, ◌≢◌, ℕ, zero, suc, ◌<◌, ◌≤◌, ◌&&◌, List, [], ◌∷◌, length, get_or, map, Bool, true, false, ◌⊎◌, inl, inr, Some, Result, Ok, slice_index_or, refl, sym, ap, ◌∙◌, subst, arith, bytes_eq, codes, ◌==◌, nat_le, nat_lt}
-use Rattle.std.proofs.lemmas.Bool.{le-leb}
+use Rattle.std.proofs.Common.{◌≡◌, ◌≢◌, ℕ, zero, suc, ◌<◌, ◌≤◌, List, [], ◌∷◌, length, get_or, map, Bool, true, false, inl, inr, Some, Result, Ok, slice_index_or, refl, sym, ap, ◌∙◌, subst, arith, bytes_eq, codes, ◌==◌, nat_le}
+use Rattle.std.proofs.lemmas.Bool.{le-leb, eq-eqb, false_from_ne_true, lt-ltb, le-ltb, and_from, cases_order}
 use Rattle.std.proofs.lemmas.Bool.Decides.{nat_tests}
-use Rattle.std.proofs.lemmas.List.{length-map}
+use Rattle.std.proofs.lemmas.List.{length-map, get_or-map}
 use Rattle.std.proofs.lemmas.List.Sums.{position_or_len_is}
 use Rattle.std.proofs.lemmas.Slice.Eq.{bytes_eq-Decides}
 use Rattle.std.specs.List.{AllByRecursion, list_all, position}
 use Rattle.std.specs.Option.{is_none}
 use Rattle.serde_json.specs.Data.{Data, Items}
 use Rattle.serde_json.specs.Events.{members_len}
-use Rattle.serde_json.specs.Read as json
 use Rattle.serde_json.specs.Find.{as_array, as_bool, get}
 use Rattle.values.specs.declared.fault.Fault.{Fault}
 use Rattle.values.specs.Faults.{Gives}
-use Rattle.values.specs.Faults as faults
 use Rattle.schema.specs.declared.fault.SchemaRefusal.{SchemaRefusal}
 use Rattle.schema.specs.declared.schema.Kind.{Kind}
 use Rattle.schema.specs.declared.schema.Kind.TheVariants.{Int, Text}
@@ -30,16 +28,12 @@ use Rattle.schema.specs.Reading.{schema_of}
 use Rattle.schema.specs.Schemas.{AreDifferent, IsColumnList, AreLists, IsTable}
 use Rattle.schema.specs.Spelling.{HasKeys, HasMember, IsText, IsArray, word_of, IsColumnText, name_in_place, IsListText, IsTableText, IsSchemaText}
 use Rattle.schema.proofs.Json.{json_ok}
-use Rattle.schema.proofs.Steps.{name_at}
 
 -- ---- shapes
 
-count_same : (m n : ℕ) → m ≡ n → (m == n) ≡ true
-count_same m n e = grind (arith, nat_tests)
-
 keys_read : (n : ℕ) (d : Data) → HasKeys n d → keys_in n d ≡ Ok (tt {0})
 unfolding keys_in
-keys_read n d (ms, is, same) = rw (is, count_same (members_len ms) n same) refl
+keys_read n d (ms, is, same) = rw (is, eq-eqb (members_len ms) n same) refl
 
 name_read : (d : Data) (name : Name) → IsText d name → is_name name ≡ true → name_in d ≡ Ok name
 unfolding name_in
@@ -127,28 +121,18 @@ unfolding lists_in
 lists_read cs key d lists named (m, m_is, (items, is, pairs)) all =
     rw (member_items_read key d m items m_is is) (each_read names_in (list_of items) (map (names_of_places cs) lists) (pairs_image (λ x n. names_in x ≡ Ok n) (names_of_places cs) (λ x ps t l. list_read cs x ps named t l) (list_of items) lists pairs all))
 
-false_by : (b : Bool) → (b ≡ true → ⊥) → b ≡ false
-false_by true h = absurd (h refl)
-false_by false h = refl
-
 other_name : (m n : Name) → m ≢ n → bytes_eq m n ≡ false
-other_name m n h = false_by (bytes_eq m n) (λ t. h ((bytes_eq-Decides m n).0 t))
-
-below_true : (i n : ℕ) → i < n → nat_lt i n ≡ true
-below_true i n lt = grind (arith, nat_tests)
-
-below_false : (i n : ℕ) → n ≤ i → nat_lt i n ≡ false
-below_false i n le = grind (arith, nat_tests)
+other_name m n h = false_from_ne_true (bytes_eq m n) (λ t. h ((bytes_eq-Decides m n).0 t))
 
 first_at : {A : Type 0} (p : A → Bool) (xs : List A) (i : ℕ) (d : A) → i < length xs → ((k : ℕ) → k < i → p (get_or xs k d) ≡ false) → p (get_or xs i d) ≡ true → position p xs ≡ Some i
 first_at p xs i d lt before here =
     let is = position_or_len_is p xs i d (omega arith) before (λ low. here) in
-    rw (is, below_true i (length xs) lt) refl
+    rw (is, lt-ltb i (length xs) lt) refl
 
 none_at : {A : Type 0} (p : A → Bool) (xs : List A) (d : A) → ((k : ℕ) → k < length xs → p (get_or xs k d) ≡ false) → is_none (position p xs) ≡ true
 none_at p xs d before =
     let is = position_or_len_is p xs (length xs) d (omega arith) before (λ low. absurd (omega arith)) in
-    rw (is, below_false (length xs) (length xs) (omega arith)) refl
+    rw (is, le-ltb (length xs) (length xs) (omega arith)) refl
 
 -- names that are different stand at one place each
 place_read : (cs : List Column) (p : ℕ) → AreDifferent (map (λ c. c.name) cs) → p < length cs → place_in cs (name_in_place cs p) ≡ Ok p
@@ -157,8 +141,8 @@ place_read (c ∷ cs) p h lt =
     let size = length-map (c ∷ cs) (λ (x : Column). x.name) in
     let at : position (λ (x : Column). bytes_eq x.name (name_in_place (c ∷ cs) p)) (c ∷ cs) ≡ Some p =
     first_at (λ (x : Column). bytes_eq x.name (name_in_place (c ∷ cs) p)) (c ∷ cs) p c lt
-    (λ k low. other_name (get_or (c ∷ cs) k c).name (name_in_place (c ∷ cs) p) (λ e. h k p low (omega arith) (name_at (λ (x : Column). x.name) (c ∷ cs) k c (omega arith) ∙ e)))
-    ((bytes_eq-Decides (get_or (c ∷ cs) p c).name (name_in_place (c ∷ cs) p)).1 (sym (name_at (λ (x : Column). x.name) (c ∷ cs) p c lt))) in
+    (λ k low. other_name (get_or (c ∷ cs) k c).name (name_in_place (c ∷ cs) p) (λ e. h k p low (omega arith) (get_or-map (λ (x : Column). x.name) (c ∷ cs) k c [] (omega arith) ∙ e)))
+    ((bytes_eq-Decides (get_or (c ∷ cs) p c).name (name_in_place (c ∷ cs) p)).1 (sym (get_or-map (λ (x : Column). x.name) (c ∷ cs) p c [] lt))) in
     rw at refl
 
 places_pairs : (cs : List Column) (places : List ℕ) → AreDifferent (map (λ c. c.name) cs) → AllByRecursion (λ p. p < length cs) places → Pairs (λ n p. place_in cs n ≡ Ok p) (map (name_in_place cs) places) places
@@ -196,9 +180,6 @@ tables_placed (u ∷ us) h = (table_placed u h.0, tables_placed us h.1)
 
 -- ---- limits
 
-and_true : (a b : Bool) → a ≡ true → b ≡ true → (a && b) ≡ true
-and_true a b p q = rw (p, q) refl
-
 short_names : (cs : List Column) (places : List ℕ) → IsColumnList (length cs) places → is_short (names_of_places cs places) ≡ true
 unfolding names_of_places
 short_names cs places h =
@@ -208,13 +189,13 @@ short_names cs places h =
 
 all_short : (cs : List Column) (lists : List (List ℕ)) → AllByRecursion (IsColumnList (length cs)) lists → list_all is_short (map (names_of_places cs) lists) ≡ true
 all_short cs [] h = refl
-all_short cs (l ∷ ls) h = and_true (is_short (names_of_places cs l)) (list_all is_short (map (names_of_places cs) ls)) (short_names cs l h.0) (all_short cs ls h.1)
+all_short cs (l ∷ ls) h = and_from (is_short (names_of_places cs l)) (list_all is_short (map (names_of_places cs) ls)) (short_names cs l h.0) (all_short cs ls h.1)
 
 few_lists : (cs : List Column) (lists : List (List ℕ)) → AreLists (length cs) lists → lists_are_few (map (names_of_places cs) lists) ≡ true
 few_lists cs lists h =
     let size = length-map lists (names_of_places cs) in
     let few = h.few in
-    and_true (nat_le (length (map (names_of_places cs) lists)) 16) (list_all is_short (map (names_of_places cs) lists)) (le-leb (length (map (names_of_places cs) lists)) 16 (omega arith)) (all_short cs lists h.each)
+    and_from (nat_le (length (map (names_of_places cs) lists)) 16) (list_all is_short (map (names_of_places cs) lists)) (le-leb (length (map (names_of_places cs) lists)) 16 (omega arith)) (all_short cs lists h.each)
 
 few_parts : (u : Table) → IsTable u → parts_are_few (entry_of u) ≡ true
 unfolding entry_of
@@ -222,12 +203,12 @@ few_parts u h = rw (le-leb (length u.columns) 64 h.few, few_lists u.columns u.un
 
 all_few : (us : List Table) → AllByRecursion IsTable us → list_all parts_are_few (map entry_of us) ≡ true
 all_few [] h = refl
-all_few (u ∷ us) h = and_true (parts_are_few (entry_of u)) (list_all parts_are_few (map entry_of us)) (few_parts u h.0) (all_few us h.1)
+all_few (u ∷ us) h = and_from (parts_are_few (entry_of u)) (list_all parts_are_few (map entry_of us)) (few_parts u h.0) (all_few us h.1)
 
 few_tables : (us : List Table) → length us ≤ 64 → AllByRecursion IsTable us → are_few (map entry_of us) ≡ true
 few_tables us few h =
     let size = length-map us entry_of in
-    and_true (nat_le (length (map entry_of us)) 64) (list_all parts_are_few (map entry_of us)) (le-leb (length (map entry_of us)) 64 (omega arith)) (all_few us h)
+    and_from (nat_le (length (map entry_of us)) 64) (list_all parts_are_few (map entry_of us)) (le-leb (length (map entry_of us)) 64 (omega arith)) (all_few us h)
 
 -- ---- names that are different
 
@@ -237,33 +218,25 @@ rest_different name_of x xs h = λ i j lt low same. h (suc i) (suc j) (omega ari
 first_different : {A : Type 0} (name_of : A → Name) (x : A) (xs : List A) → AreDifferent (map name_of (x ∷ xs)) → is_none (place_of name_of xs (name_of x)) ≡ true
 first_different name_of x xs h =
     let size = length-map xs name_of in
-    none_at (λ y. bytes_eq (name_of y) (name_of x)) xs x (λ k low. other_name (name_of (get_or xs k x)) (name_of x) (λ e. h 0 (suc k) (omega arith) (omega arith) (sym (name_at name_of xs k x low ∙ e))))
+    none_at (λ y. bytes_eq (name_of y) (name_of x)) xs x (λ k low. other_name (name_of (get_or xs k x)) (name_of x) (λ e. h 0 (suc k) (omega arith) (omega arith) (sym (get_or-map name_of xs k x [] low ∙ e))))
 
 differ : {A : Type 0} (name_of : A → Name) (xs : List A) → AreDifferent (map name_of xs) → are_different name_of xs ≡ true
 unfolding are_different
 differ name_of [] h = refl
-differ name_of (x ∷ xs) h = and_true (is_none (place_of name_of xs (name_of x))) (are_different name_of xs) (first_different name_of x xs h) (differ name_of xs (rest_different name_of x xs h))
-
-image_at : (cs : List Column) (places : List ℕ) (i : ℕ) → i < length places → get_or (map (name_in_place cs) places) i [] ≡ name_in_place cs (get_or places i 0)
-image_at cs [] i lt = absurd (omega arith)
-image_at cs (p ∷ ps) zero lt = refl
-image_at cs (p ∷ ps) (suc i) lt = image_at cs ps i (omega arith)
+differ name_of (x ∷ xs) h = and_from (is_none (place_of name_of xs (name_of x))) (are_different name_of xs) (first_different name_of x xs h) (differ name_of xs (rest_different name_of x xs h))
 
 below_there : (n : ℕ) (places : List ℕ) (i : ℕ) → AllByRecursion (λ p. p < n) places → i < length places → get_or places i 0 < n
 below_there n [] i h lt = absurd (omega arith)
 below_there n (p ∷ ps) zero h lt = h.0
 below_there n (p ∷ ps) (suc i) h lt = below_there n ps i h.1 (omega arith)
 
-in_order : (p q : ℕ) → (p < q) ⊎ ((p ≡ q) ⊎ (q < p))
-in_order p q = grind arith
-
 one_place : (cs : List Column) (p q : ℕ) → AreDifferent (map (λ c. c.name) cs) → p < length cs → q < length cs → name_in_place cs p ≡ name_in_place cs q → p ≡ q
 one_place cs p q h low high e =
     let size = length-map cs (λ (c : Column). c.name) in
-    elim (in_order p q) [
-      | inl lt ↦ absurd (h p q lt (omega arith) e)
-      | inr more ↦ elim more [
-        | inl same ↦ same
+    elim (cases_order p q) [
+      | inl same ↦ same
+      | inr other ↦ elim other [
+        | inl lt ↦ absurd (h p q lt (omega arith) e)
         | inr lt ↦ absurd (h q p lt (omega arith) (sym e))
       ]
     ]
@@ -275,13 +248,13 @@ places_differ cs places h list = λ i j lt low same.
     let all = length-map (map (name_in_place cs) places) (λ (n : Name). n) in
     let before : i < length places = omega arith in
     let here : j < length places = omega arith in
-    let left : slice_index_or (map (λ (n : Name). n) (map (name_in_place cs) places)) i [] ≡ name_in_place cs (get_or places i 0) = name_at (λ (n : Name). n) (map (name_in_place cs) places) i [] (omega arith) ∙ image_at cs places i before in
-    let right : slice_index_or (map (λ (n : Name). n) (map (name_in_place cs) places)) j [] ≡ name_in_place cs (get_or places j 0) = name_at (λ (n : Name). n) (map (name_in_place cs) places) j [] (omega arith) ∙ image_at cs places j here in
+    let left : slice_index_or (map (λ (n : Name). n) (map (name_in_place cs) places)) i [] ≡ name_in_place cs (get_or places i 0) = get_or-map (λ (n : Name). n) (map (name_in_place cs) places) i [] [] (omega arith) ∙ get_or-map (name_in_place cs) places i 0 [] before in
+    let right : slice_index_or (map (λ (n : Name). n) (map (name_in_place cs) places)) j [] ≡ name_in_place cs (get_or places j 0) = get_or-map (λ (n : Name). n) (map (name_in_place cs) places) j [] [] (omega arith) ∙ get_or-map (name_in_place cs) places j 0 [] here in
     list.different i j lt here (one_place cs (get_or places i 0) (get_or places j 0) h (below_there (length cs) places i list.below before) (below_there (length cs) places j list.below here) (sym left ∙ same ∙ right))
 
 all_differ : (cs : List Column) (lists : List (List ℕ)) → AreDifferent (map (λ c. c.name) cs) → AllByRecursion (IsColumnList (length cs)) lists → lists_differ (map (names_of_places cs) lists) ≡ true
 all_differ cs [] h all = refl
-all_differ cs (l ∷ ls) h all = and_true (are_different (λ name. name) (names_of_places cs l)) (lists_differ (map (names_of_places cs) ls)) (differ (λ (name : Name). name) (names_of_places cs l) (places_differ cs l h all.0)) (all_differ cs ls h all.1)
+all_differ cs (l ∷ ls) h all = and_from (are_different (λ name. name) (names_of_places cs l)) (lists_differ (map (names_of_places cs) ls)) (differ (λ (name : Name). name) (names_of_places cs l) (places_differ cs l h all.0)) (all_differ cs ls h all.1)
 
 parts : (u : Table) → IsTable u → parts_differ (entry_of u) ≡ true
 unfolding entry_of
@@ -289,7 +262,7 @@ parts u h = rw (differ (λ (c : Column). c.name) u.columns h.different, all_diff
 
 all_parts : (us : List Table) → AllByRecursion IsTable us → list_all parts_differ (map entry_of us) ≡ true
 all_parts [] h = refl
-all_parts (u ∷ us) h = and_true (parts_differ (entry_of u)) (list_all parts_differ (map entry_of us)) (parts u h.0) (all_parts us h.1)
+all_parts (u ∷ us) h = and_from (parts_differ (entry_of u)) (list_all parts_differ (map entry_of us)) (parts u h.0) (all_parts us h.1)
 
 entry_names : (us : List Table) → map (λ u. u.name) us ≡ map (λ t. t.name) (map entry_of us)
 unfolding entry_of
@@ -297,7 +270,7 @@ entry_names [] = refl
 entry_names (u ∷ us) = ap (λ (ns : List Name). u.name ∷ ns) (entry_names us)
 
 tables_differ : (us : List Table) → AreDifferent (map (λ u. u.name) us) → AllByRecursion IsTable us → names_differ (map entry_of us) ≡ true
-tables_differ us h all = and_true (are_different (λ t. t.name) (map entry_of us)) (list_all parts_differ (map entry_of us)) (differ (λ (t : TableEntry). t.name) (map entry_of us) (subst AreDifferent (entry_names us) h)) (all_parts us all)
+tables_differ us h all = and_from (are_different (λ t. t.name) (map entry_of us)) (list_all parts_differ (map entry_of us)) (differ (λ (t : TableEntry). t.name) (map entry_of us) (subst AreDifferent (entry_names us) h)) (all_parts us all)
 
 -- ---- the bytes
 

@@ -1,11 +1,12 @@
 -- What is read is a schema.
 use Rattle.std.proofs.Common.{◌≡◌, ℕ, suc, ◌<◌, ◌≤◌, ◌&&◌, ◌==◌, List, [], ◌∷◌, length, get_or, slice_index_or, map, true, false, Result, Ok, Err, refl, sym, ap, ◌∙◌, subst, arith, nat_le, codes}
-use Rattle.std.proofs.lemmas.Bool.{leb-true}
+use Rattle.std.proofs.lemmas.Bool.{leb-true, and_parts}
 use Rattle.std.proofs.lemmas.Bool.Decides.{nat_tests}
 use Rattle.serde_json.specs.Find.{as_str}
-use Rattle.std.proofs.lemmas.List.{length-map}
+use Rattle.std.proofs.lemmas.List.{length-map, get_or-map}
 use Rattle.std.specs.List.{AllByRecursion, list_all}
 use Rattle.serde_json.specs.Data.{Data}
+use Rattle.values.proofs.Results.{both_ok, wanted_ok, wanted_if_ok}
 use Rattle.schema.specs.declared.fault.SchemaRefusal.{SchemaRefusal}
 use Rattle.schema.specs.declared.fault.SchemaRefusal.TheVariants.{Shape, UnknownColumn}
 use Rattle.schema.specs.declared.schema.Column.{Column}
@@ -17,7 +18,7 @@ use Rattle.schema.specs.Entries.{wanted, json_in, keys_in, field_in, member_flag
 use Rattle.schema.specs.Limits.{is_short, lists_are_few, parts_are_few, are_few, lists_differ, parts_differ, names_differ}
 use Rattle.schema.specs.Places.{place_in, places_in, placed}
 use Rattle.schema.specs.Schemas.{AreDifferent, IsColumnList, AreLists, IsTable, IsSchema}
-use Rattle.schema.proofs.Steps.{bind_ok, wanted_ok, wanted_if_ok, both, each_ok, pairs_length, pairs_at, pairs_right, place_ok, name_at, different_ok}
+use Rattle.schema.proofs.Steps.{each_ok, pairs_length, pairs_at, pairs_right, place_ok, different_ok}
 
 -- ---- entries
 
@@ -28,7 +29,7 @@ some_ok (x ∷ xs) ys e = let z : (suc (length xs) == 0) ≡ false = grind (arit
 name_ok : (d : Data) (name : Name) → name_in d ≡ Ok name → is_name name ≡ true
 unfolding name_in
 name_ok d name e =
-    let (text, p, q) = bind_ok (wanted (as_str d)) _ name e in
+    let (text, p, q) = both_ok (wanted (as_str d)) _ name e in
     let r = wanted_if_ok Shape (is_name text) text name q in
     rw (← r.1) r.0
 
@@ -36,38 +37,38 @@ name_ok d name e =
 names_ok : (d : Data) (names : List Name) → names_in d ≡ Ok names → 0 < length names
 unfolding names_in
 names_ok d names e =
-    let (ds, p, q) = bind_ok (items_in d) _ names e in
-    let (read, u, v) = bind_ok (each name_in ds) _ names q in
+    let (ds, p, q) = both_ok (items_in d) _ names e in
+    let (read, u, v) = both_ok (each name_in ds) _ names q in
     let r = some_ok read names v in
     rw (← r.1) r.0
 
 member_name_ok : (d : Data) (name : Name) → member_name d ≡ Ok name → is_name name ≡ true
 unfolding member_name
 member_name_ok d name e =
-    let (m, p, q) = bind_ok (field_in (codes "name") d) _ name e in
+    let (m, p, q) = both_ok (field_in (codes "name") d) _ name e in
     name_ok m name q
 
 lists_ok : (key : Name) (d : Data) (lists : List (List Name)) → lists_in key d ≡ Ok lists → AllByRecursion (λ names. 0 < length names) lists
 unfolding lists_in
 lists_ok key d lists e =
-    let (ds, p, q) = bind_ok (member_items key d) _ lists e in
+    let (ds, p, q) = both_ok (member_items key d) _ lists e in
     pairs_right names_ok ds lists (each_ok names_in ds lists q)
 
 column_ok : (d : Data) (c : Column) → column_in d ≡ Ok c → is_name c.name ≡ true
 unfolding column_in
 column_ok d c e =
-    let (keys, p0, q0) = bind_ok (keys_in 3 d) _ c e in
-    let (name, p1, q1) = bind_ok (member_name d) _ c q0 in
-    let (kind, p2, q2) = bind_ok (member_kind d) _ c q1 in
-    let (flag, p3, q3) = bind_ok (member_flag (codes "not_null") d) _ c q2 in
+    let (keys, p0, q0) = both_ok (keys_in 3 d) _ c e in
+    let (name, p1, q1) = both_ok (member_name d) _ c q0 in
+    let (kind, p2, q2) = both_ok (member_kind d) _ c q1 in
+    let (flag, p3, q3) = both_ok (member_flag (codes "not_null") d) _ c q2 in
     let same : name ≡ c.name = ap (λ (x : Result Column SchemaRefusal). elim x [ Ok y ↦ y.name | Err z ↦ [] ]) q3 in
     rw (← same) (member_name_ok d name p1)
 
 columns_ok : (d : Data) (columns : List Column) → columns_in d ≡ Ok columns → (0 < length columns) × AllByRecursion (λ c. is_name c.name ≡ true) columns
 unfolding columns_in
 columns_ok d columns e =
-    let (ds, p, q) = bind_ok (member_items (codes "columns") d) _ columns e in
-    let (read, u, v) = bind_ok (each column_in ds) _ columns q in
+    let (ds, p, q) = both_ok (member_items (codes "columns") d) _ columns e in
+    let (read, u, v) = both_ok (each column_in ds) _ columns q in
     let r = some_ok read columns v in
     let named = pairs_right {Q = λ c. is_name c.name ≡ true} column_ok ds read (each_ok column_in ds read u) in
     (rw (← r.1) r.0, subst (AllByRecursion (λ c. is_name c.name ≡ true)) r.1 named)
@@ -82,11 +83,11 @@ record IsEntry (t : TableEntry) : Type 0 where
 table_ok : (d : Data) (t : TableEntry) → table_in d ≡ Ok t → IsEntry t
 unfolding table_in
 table_ok d t e =
-    let (keys, p0, q0) = bind_ok (keys_in 4 d) _ t e in
-    let (name, p1, q1) = bind_ok (member_name d) _ t q0 in
-    let (columns, p2, q2) = bind_ok (columns_in d) _ t q1 in
-    let (unique, p3, q3) = bind_ok (lists_in (codes "unique") d) _ t q2 in
-    let (indexes, p4, q4) = bind_ok (lists_in (codes "indexes") d) _ t q3 in
+    let (keys, p0, q0) = both_ok (keys_in 4 d) _ t e in
+    let (name, p1, q1) = both_ok (member_name d) _ t q0 in
+    let (columns, p2, q2) = both_ok (columns_in d) _ t q1 in
+    let (unique, p3, q3) = both_ok (lists_in (codes "unique") d) _ t q2 in
+    let (indexes, p4, q4) = both_ok (lists_in (codes "indexes") d) _ t q3 in
     let c = columns_ok d columns p2 in
     let whole : IsEntry (record { name = name; columns = columns; unique = unique; indexes = indexes }) = record { named = member_name_ok d name p1; some = c.0; columns_named = c.1; unique = lists_ok (codes "unique") d unique p3; indexes = lists_ok (codes "indexes") d indexes p4 } in
     subst IsEntry (cc q4) whole
@@ -94,9 +95,9 @@ table_ok d t e =
 entries_ok : (bytes : List ℕ) (ts : List TableEntry) → entries_in bytes ≡ Ok ts → AllByRecursion IsEntry ts
 unfolding entries_in tables_in
 entries_ok bytes ts e =
-    let (d, p0, q0) = bind_ok (json_in bytes) _ ts e in
-    let (keys, p1, q1) = bind_ok (keys_in 1 d) _ ts q0 in
-    let (ds, p2, q2) = bind_ok (member_items (codes "tables") d) _ ts q1 in
+    let (d, p0, q0) = both_ok (json_in bytes) _ ts e in
+    let (keys, p1, q1) = both_ok (keys_in 1 d) _ ts q0 in
+    let (ds, p2, q2) = both_ok (member_items (codes "tables") d) _ ts q1 in
     pairs_right table_ok ds ts (each_ok table_in ds ts q2)
 
 -- ---- places
@@ -115,7 +116,7 @@ list_whole columns names places e some short differ =
       different = λ i j lt low same.
           let all = length-map names (λ (name : Name). name) in
           different_ok (λ (name : Name). name) names differ i j lt (omega arith)
-          (name_at (λ (name : Name). name) names i [] (omega arith) ∙ sym (at i (omega arith)) ∙ ap (λ (p : ℕ). slice_index_or (map (λ (c : Column). c.name) columns) p []) same ∙ at j low ∙ sym (name_at (λ (name : Name). name) names j [] (omega arith)));
+          (get_or-map (λ (name : Name). name) names i [] [] (omega arith) ∙ sym (at i (omega arith)) ∙ ap (λ (p : ℕ). slice_index_or (map (λ (c : Column). c.name) columns) p []) same ∙ at j low ∙ sym (get_or-map (λ (name : Name). name) names j [] [] (omega arith)));
     }
 
 lists_whole : (columns : List Column) (lists : List (List Name)) (places : List (List ℕ)) → Pairs (λ ns ps. each (place_in columns) ns ≡ Ok ps) lists places → AllByRecursion (λ names. 0 < length names) lists
@@ -124,15 +125,15 @@ lists_whole columns [] [] h some short differ = tt
 lists_whole columns [] (p ∷ ps) h some short differ = absurd h
 lists_whole columns (n ∷ ns) [] h some short differ = absurd h
 lists_whole columns (n ∷ ns) (p ∷ ps) h some short differ =
-    let s = both (is_short n) (list_all is_short ns) short in
-    let d = both (are_different (λ name. name) n) (lists_differ ns) differ in
+    let s = and_parts (is_short n) (list_all is_short ns) short in
+    let d = and_parts (are_different (λ name. name) n) (lists_differ ns) differ in
     (list_whole columns n p h.0 some.0 s.0 d.0, lists_whole columns ns ps h.1 some.1 s.1 d.1)
 
 are_lists : (columns : List Column) (lists : List (List Name)) (places : List (List ℕ)) → each (places_in columns) lists ≡ Ok places → AllByRecursion (λ names. 0 < length names) lists → lists_are_few lists ≡ true → lists_differ lists ≡ true
     → AreLists (length columns) places
 are_lists columns lists places e some few differ =
     let pairs = each_ok (places_in columns) lists places e in
-    let f = both (nat_le (length lists) 16) (list_all is_short lists) few in
+    let f = and_parts (nat_le (length lists) 16) (list_all is_short lists) few in
     let size = pairs_length (λ ns ps. each (place_in columns) ns ≡ Ok ps) lists places pairs in
     let most = leb-true (length lists) 16 f.0 in
     record { few = omega arith; each = lists_whole columns lists places pairs some f.1 differ }
@@ -148,17 +149,17 @@ pub record IsPlaced (t : TableEntry) (u : Table) : Type 0 where
 pub placed_ok : (t : TableEntry) (u : Table) → placed t ≡ Ok u → IsPlaced t u
 unfolding placed
 placed_ok t u e =
-    let (unique, p0, q0) = bind_ok (each (places_in t.columns) t.unique) _ u e in
-    let (indexes, p1, q1) = bind_ok (each (places_in t.columns) t.indexes) _ u q0 in
+    let (unique, p0, q0) = both_ok (each (places_in t.columns) t.unique) _ u e in
+    let (indexes, p1, q1) = both_ok (each (places_in t.columns) t.indexes) _ u q0 in
     let whole : IsPlaced t (record { name = t.name; columns = t.columns; unique = unique; indexes = indexes }) = record { name_is = refl; columns_are = refl; unique_is = p0; indexes_are = p1 } in
     subst (IsPlaced t) (cc q1) whole
 
 table_whole : (t : TableEntry) (u : Table) → IsPlaced t u → IsEntry t → parts_are_few t ≡ true → parts_differ t ≡ true → IsTable u
 table_whole t u h e few differ =
-    let g = both (nat_le (length t.columns) 64 && lists_are_few t.unique) (lists_are_few t.indexes) few in
-    let f = both (nat_le (length t.columns) 64) (lists_are_few t.unique) g.0 in
-    let k = both (are_different (λ c. c.name) t.columns && lists_differ t.unique) (lists_differ t.indexes) differ in
-    let d = both (are_different (λ c. c.name) t.columns) (lists_differ t.unique) k.0 in
+    let g = and_parts (nat_le (length t.columns) 64 && lists_are_few t.unique) (lists_are_few t.indexes) few in
+    let f = and_parts (nat_le (length t.columns) 64) (lists_are_few t.unique) g.0 in
+    let k = and_parts (are_different (λ c. c.name) t.columns && lists_differ t.unique) (lists_differ t.indexes) differ in
+    let d = and_parts (are_different (λ c. c.name) t.columns) (lists_differ t.unique) k.0 in
     record {
       named = subst (λ (n : Name). is_name n ≡ true) h.name_is e.named;
       some = subst (λ (cs : List Column). 0 < length cs) h.columns_are e.some;
@@ -174,8 +175,8 @@ tables_whole [] [] h e few differ = tt
 tables_whole [] (u ∷ us) h e few differ = absurd h
 tables_whole (t ∷ ts) [] h e few differ = absurd h
 tables_whole (t ∷ ts) (u ∷ us) h e few differ =
-    let f = both (parts_are_few t) (list_all parts_are_few ts) few in
-    let d = both (parts_differ t) (list_all parts_differ ts) differ in
+    let f = and_parts (parts_are_few t) (list_all parts_are_few ts) few in
+    let d = and_parts (parts_differ t) (list_all parts_differ ts) differ in
     (table_whole t u (placed_ok t u h.0) e.0 f.0 d.0, tables_whole ts us h.1 e.1 f.1 d.1)
 
 same_names : (ts : List TableEntry) (us : List Table) → Pairs (λ t u. placed t ≡ Ok u) ts us → map (λ t. t.name) ts ≡ map (λ u. u.name) us
@@ -188,8 +189,8 @@ same_names (t ∷ ts) (u ∷ us) h =
 pub schema_whole : (bytes : List ℕ) (ts : List TableEntry) (us : List Table) → entries_in bytes ≡ Ok ts → are_few ts ≡ true → names_differ ts ≡ true → each placed ts ≡ Ok us → IsSchema (record { tables = us })
 schema_whole bytes ts us e few differ is =
     let pairs = each_ok placed ts us is in
-    let f = both (nat_le (length ts) 64) (list_all parts_are_few ts) few in
-    let d = both (are_different (λ t. t.name) ts) (list_all parts_differ ts) differ in
+    let f = and_parts (nat_le (length ts) 64) (list_all parts_are_few ts) few in
+    let d = and_parts (are_different (λ t. t.name) ts) (list_all parts_differ ts) differ in
     let size = pairs_length (λ t u. placed t ≡ Ok u) ts us pairs in
     let most = leb-true (length ts) 64 f.0 in
     record {

@@ -1,39 +1,17 @@
 -- What a reading that gave an answer read on its way.
-use Rattle.std.proofs.Common.{◌≡◌, ◌≢◌, ℕ, zero, suc, ◌<◌, ◌&&◌, List, [], ◌∷◌, length, get_or, slice_index_or, map, Bool, true, false, cond, Option, Some, None, Result, Ok, Err, refl, sym, ap, ◌∙◌, arith, bytes_eq, nat_lt}
+use Rattle.std.proofs.Common.{◌≡◌, ◌≢◌, ℕ, zero, suc, ◌<◌, List, [], ◌∷◌, length, get_or, slice_index_or, map, Bool, true, false, cond, Some, None, Result, Ok, refl, sym, ap, ◌∙◌, arith, bytes_eq, nat_lt}
 use Rattle.std.proofs.lemmas.Slice.Eq.{bytes_eq-Decides}
-use Rattle.std.proofs.lemmas.Bool.{ltb-true, ltb-false}
-use Rattle.std.proofs.lemmas.List.{length-map}
+use Rattle.std.proofs.lemmas.Bool.{ltb-true, ltb-false, and_parts}
+use Rattle.std.proofs.lemmas.List.{length-map, get_or-map}
 use Rattle.std.proofs.lemmas.List.Sums.{fails_before_first, passes_at_first}
-use Rattle.std.specs.List.{AllByRecursion, list_all, position, position_or_len}
+use Rattle.std.specs.List.{AllByRecursion, position, position_or_len}
 use Rattle.std.specs.Option.{is_none}
-use Rattle.values.specs.Faults.{◌>>=◌, wanted, wanted_if}
+use Rattle.std.proofs.lemmas.Option.{cond_some}
+use Rattle.values.specs.Faults.{◌>>=◌}
+use Rattle.values.proofs.Results.{both_ok}
 use Rattle.schema.specs.Each.{each, Pairs}
 use Rattle.schema.specs.Names.{Name, place_of, are_different}
 use Rattle.schema.specs.Schemas.{AreDifferent}
-
-pub bind_ok : {A B R : Type 0} (r : Result A R) (f : A → Result B R) (y : B) → (r >>= f) ≡ Ok y → (x : A) × (r ≡ Ok x) × (f x ≡ Ok y)
-bind_ok (Ok x) f y e = (x, refl, e)
-bind_ok (Err r) f y e = cc e
-
-pub wanted_ok : {A R : Type 0} (r : R) (o : Option A) (y : A) → wanted r o ≡ Ok y → o ≡ Some y
-wanted_ok r None y e = cc e
-wanted_ok r (Some x) y e = ap Some (cc e)
-
-pub wanted_if_ok : {A R : Type 0} (r : R) (b : Bool) (x y : A) → wanted_if r b x ≡ Ok y → (b ≡ true) × (x ≡ y)
-wanted_if_ok r true x y e = (refl, cc e)
-wanted_if_ok r false x y e = cc e
-
-pub both : (a b : Bool) → (a && b) ≡ true → (a ≡ true) × (b ≡ true)
-both true b e = (refl, e)
-both false b e = cc e
-
-pub all_of : {A : Type 0} (p : A → Bool) (xs : List A) → list_all p xs ≡ true → AllByRecursion (λ x. p x ≡ true) xs
-all_of p [] e = tt
-all_of p (x ∷ xs) e = let r = both (p x) (list_all p xs) e in (r.0, all_of p xs r.1)
-
-pub all_map : {A : Type 0} {P Q : A → Type 0} (f : (x : A) → P x → Q x) (xs : List A) → AllByRecursion P xs → AllByRecursion Q xs
-all_map f [] h = tt
-all_map f (x ∷ xs) h = (f x h.0, all_map f xs h.1)
 
 -- ---- items that were read one after the other
 
@@ -42,12 +20,12 @@ unfolding each
 each_ok f [] [] e = tt
 each_ok f [] (y ∷ ys) e = cc e
 each_ok {B = B} {R = R} f (x ∷ xs) [] e =
-    let (b, p, q) = bind_ok (f x) (λ first. let more : Result (List B) R = each f xs >>= λ others. Ok (first ∷ others) in more) [] e in
-    let (bs, u, v) = bind_ok (each f xs) (λ others. let whole : Result (List B) R = Ok (b ∷ others) in whole) [] q in
+    let (b, p, q) = both_ok (f x) (λ first. let more : Result (List B) R = each f xs >>= λ others. Ok (first ∷ others) in more) [] e in
+    let (bs, u, v) = both_ok (each f xs) (λ others. let whole : Result (List B) R = Ok (b ∷ others) in whole) [] q in
     cc v
 each_ok {B = B} {R = R} f (x ∷ xs) (y ∷ ys) e =
-    let (b, p, q) = bind_ok (f x) (λ first. let more : Result (List B) R = each f xs >>= λ others. Ok (first ∷ others) in more) (y ∷ ys) e in
-    let (bs, u, v) = bind_ok (each f xs) (λ others. let whole : Result (List B) R = Ok (b ∷ others) in whole) (y ∷ ys) q in
+    let (b, p, q) = both_ok (f x) (λ first. let more : Result (List B) R = each f xs >>= λ others. Ok (first ∷ others) in more) (y ∷ ys) e in
+    let (bs, u, v) = both_ok (each f xs) (λ others. let whole : Result (List B) R = Ok (b ∷ others) in whole) (y ∷ ys) q in
     (p ∙ ap Ok (cc v), each_ok f xs ys (u ∙ ap Ok (cc v)))
 
 pub pairs_length : {A B : Type 0} (R : A → B → Type 0) (xs : List A) (ys : List B) → Pairs R xs ys → length xs ≡ length ys
@@ -80,32 +58,23 @@ none_of p xs k d e lt =
     let past = ltb-false (position_or_len p xs) (length xs) (none_past (nat_lt (position_or_len p xs) (length xs)) (position_or_len p xs) e) in
     fails_before_first p xs k d (omega arith)
 
-some_below : (b : Bool) (n m : ℕ) → cond b (Some n) None ≡ Some m → (b ≡ true) × (n ≡ m)
-some_below true n m e = (refl, cc e)
-some_below false n m e = cc e
-
 found : {A : Type 0} (p : A → Bool) (xs : List A) (i : ℕ) (d : A) → position p xs ≡ Some i → (i < length xs) × (p (get_or xs i d) ≡ true)
 found p xs i d e =
-    let r = some_below (nat_lt (position_or_len p xs) (length xs)) (position_or_len p xs) i e in
+    let r = cond_some (nat_lt (position_or_len p xs) (length xs)) (position_or_len p xs) i e in
     let lt : position_or_len p xs < length xs = ltb-true (position_or_len p xs) (length xs) r.0 in
     (rw (← r.1) lt, ap (λ (j : ℕ). p (get_or xs j d)) (sym r.1) ∙ passes_at_first p xs d lt)
-
-pub name_at : {A : Type 0} (name_of : A → Name) (xs : List A) (i : ℕ) (d : A) → i < length xs → slice_index_or (map name_of xs) i [] ≡ name_of (get_or xs i d)
-name_at name_of [] i d lt = absurd (omega arith)
-name_at name_of (x ∷ xs) zero d lt = refl
-name_at name_of (x ∷ xs) (suc i) d lt = name_at name_of xs i d (omega arith)
 
 -- the column with the name is the one at its place
 pub place_ok : {A : Type 0} (name_of : A → Name) (xs : List A) (name : Name) (i : ℕ) → place_of name_of xs name ≡ Some i → (i < length xs) × (slice_index_or (map name_of xs) i [] ≡ name)
 place_ok name_of [] name i e = cc e
 place_ok name_of (x ∷ xs) name i e =
     let r = found (λ y. bytes_eq (name_of y) name) (x ∷ xs) i x e in
-    (r.0, name_at name_of (x ∷ xs) i x r.0 ∙ (bytes_eq-Decides (name_of (get_or (x ∷ xs) i x)) name).0 r.1)
+    (r.0, get_or-map name_of (x ∷ xs) i x [] r.0 ∙ (bytes_eq-Decides (name_of (get_or (x ∷ xs) i x)) name).0 r.1)
 
 first_other : {A : Type 0} (name_of : A → Name) (x : A) (xs : List A) (j : ℕ) → is_none (place_of name_of xs (name_of x)) ≡ true → j < length xs → name_of x ≢ slice_index_or (map name_of xs) j []
 first_other name_of x xs j e lt same =
     let no = none_of (λ y. bytes_eq (name_of y) (name_of x)) xs j x e lt in
-    let yes = (bytes_eq-Decides (name_of (get_or xs j x)) (name_of x)).1 (sym (same ∙ name_at name_of xs j x lt)) in
+    let yes = (bytes_eq-Decides (name_of (get_or xs j x)) (name_of x)).1 (sym (same ∙ get_or-map name_of xs j x [] lt)) in
     cc (no, yes)
 
 two_places : {A : Type 0} (name_of : A → Name) (x : A) (xs : List A) (i j : ℕ) → i < j → j < length (map name_of (x ∷ xs)) → ((k : ℕ) → k < length xs → name_of x ≢ slice_index_or (map name_of xs) k [])
@@ -118,5 +87,5 @@ pub different_ok : {A : Type 0} (name_of : A → Name) (xs : List A) → are_dif
 unfolding are_different
 different_ok name_of [] e = λ i j lt low same. omega arith
 different_ok name_of (x ∷ xs) e =
-    let r = both (is_none (place_of name_of xs (name_of x))) (are_different name_of xs) e in
+    let r = and_parts (is_none (place_of name_of xs (name_of x))) (are_different name_of xs) e in
     λ i j lt low same. two_places name_of x xs i j lt low (λ k below. first_other name_of x xs k r.0 below) (different_ok name_of xs r.1) same

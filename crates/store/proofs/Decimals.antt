@@ -9,6 +9,7 @@ use Rattle.std.specs.Str.Parse.{AllDigits, digits_value, ParsesSigned}
 use Rattle.std.proofs.lemmas.Str.{IsUtf8-from_ascii}
 use Rattle.std.proofs.lemmas.Str.Parse.{IsNumeralModel, numerals_by_value, tells_digits, digit_at, parse_signed_plain, parse_signed_minus}
 use Rattle.std.proofs.lemmas.Fmt.{decimal_digit, decimal_nonempty, first_decimal, digits_decimal, decimal-digits_value, parse-signed_decimal, IsAscii-signed}
+use Rattle.std.proofs.lemmas.Bool.{ne_eqb}
 use Rattle.store.specs.Numbers.{begins_count, begins_number}
 use Rattle.store.specs.Tables.{IsNumber}
 
@@ -31,13 +32,10 @@ decimal_begins n low high =
     let digit = digit_at (decimal n) 0 (digits_decimal own n high) few in
     count_from (decimal n) few (first_decimal n low high) digit.1
 
-other_byte : (a b : ℕ) → (a ≡ b → ⊥) → (a == b) ≡ false
-other_byte a b e = grind (arith, nat_tests)
-
 number_from_count : (ds : List ℕ) → begins_count ds ≡ true → begins_number ds ≡ true
 number_from_count [] e = e
-number_from_count (b ∷ []) e = let h = count_first (b ∷ []) e in rw (other_byte b 48 (λ q. omega arith)) e
-number_from_count (b ∷ c ∷ bs) e = let h = count_first (b ∷ c ∷ bs) e in rw (other_byte b 45 (λ q. omega arith)) e
+number_from_count (b ∷ []) e = let h = count_first (b ∷ []) e in rw (ne_eqb b 48 (λ q. omega arith)) e
+number_from_count (b ∷ c ∷ bs) e = let h = count_first (b ∷ c ∷ bs) e in rw (ne_eqb b 45 (λ q. omega arith)) e
 
 minus_count : (ds : List ℕ) → begins_count ds ≡ true → begins_number (45 ∷ ds) ≡ true
 minus_count [] e = cc e

@@ -3,6 +3,7 @@ use Rattle.std.proofs.Common.{◌≡◌, ℕ, zero, suc, ◌+◌, ◌<◌, ◌�
 use Rattle.std.specs.List.{AllByRecursion}
 use Rattle.std.proofs.lemmas.List.{map-append, append-nil, get_or-take, length-take-le, take-append-drop}
 use Rattle.std.proofs.Math.Seq.{take-suc, drop-cons}
+use Rattle.values.proofs.Lists.{all_at}
 use Rattle.schema.specs.declared.schema.Column.{Column}
 use Rattle.schema.specs.declared.schema.Table.{Table}
 use Rattle.schema.specs.Databases.{Row, FitsColumns, IsUnique, most_rows, SatisfiesTable}
@@ -11,22 +12,11 @@ use Rattle.store.specs.declared.fault.TableCause.TheVariants.{OtherHeader, Other
 use Rattle.store.specs.declared.fault.TableRefusal.{TableRefusal}
 use Rattle.store.specs.declared.records.Parsed.{Parsed}
 use Rattle.store.specs.declared.unique.Repeat.{Repeat}
-use Rattle.schema.specs.Databases.{HaveWidth}
 use Rattle.store.specs.Tables.{Record, IsText, StandFor, names_of, UniqueTo, RepeatsAt, RepeatsFirst, IsTable, FaultAfter, IsFaulty, IsFirstFault}
 use Rattle.store.specs.Fields.{field_of}
 use Rattle.store.specs.Parsing.{RecordFails, EndsAt, ParsesFile, EarliestRepeat}
 
--- ---- widths and bounds
-
-pub fits_length : (cs : List Column) (row : Row) → FitsColumns cs row → length row ≡ length cs
-fits_length [] [] h = refl
-fits_length [] (v ∷ vs) h = absurd h
-fits_length (c ∷ cs) [] h = absurd h
-fits_length (c ∷ cs) (v ∷ vs) h = ap suc (fits_length cs vs h.1)
-
-pub fits_width : (cs : List Column) (rows : List Row) → AllByRecursion (FitsColumns cs) rows → HaveWidth (length cs) rows
-fits_width cs [] h = tt
-fits_width cs (r ∷ rs) h = (fits_length cs r h.0, fits_width cs rs h.1)
+-- ---- bounds
 
 pub few_rows : (cs : List Column) (records : List Record) (p : Parsed) → ParsesFile cs records p → length p.rows ≤ most_rows
 few_rows cs records p (inl h) = h.2.few
@@ -79,11 +69,6 @@ all_take : {A : Type 0} (P : A → Type 0) (j : ℕ) (xs : List A) → AllByRecu
 all_take P zero xs h = tt
 all_take P (suc j) [] h = tt
 all_take P (suc j) (x ∷ xs) h = (h.0, all_take P j xs h.1)
-
-all_at : {A : Type 0} (P : A → Type 0) (xs : List A) (i : ℕ) (d : A) → i < length xs → AllByRecursion P xs → P (get_or xs i d)
-all_at P [] i d lt h = absurd (omega arith)
-all_at P (x ∷ xs) zero d lt h = h.0
-all_at P (x ∷ xs) (suc i) d lt h = all_at P xs i d (omega arith) h.1
 
 pub row_stands : (cs : List Column) (row : Row) → FitsColumns cs row → AllByRecursion IsText row → StandFor cs (map field_of row) row
 row_stands [] [] h t = tt

@@ -15,6 +15,7 @@ use Rattle.store.specs.Reading.{NextOf}
 use Rattle.std.proofs.lemmas.Slice.Eq.{bytes_eq-Decides}
 use Rattle.values.specs.declared.fault.Fault.{Fault}
 use Rattle.values.specs.declared.fault.Fault.TheVariants as fault
+use Rattle.values.proofs.Lists.{all_append}
 use Rattle.store.specs.declared.records.Parsed.{Parsed}
 use Rattle.store.specs.Reports.{Reports}
 use Rattle.store.specs.Tables.{Record, IsText, Stands, StandFor, FieldFails, FieldsFail, names_of}
@@ -82,10 +83,6 @@ row_is (c ∷ cs) (f ∷ fs) (v ∷ vs) h =
     let r = row_is cs fs vs h.1 in
     (ap (λ (x : List ℕ). x ∷ fs) h.0.written ∙ ap (λ (x : Record). field_of v ∷ x) r.0, (h.0.fits, r.1), (h.0.text, r.2))
 
-all_more : {A : Type 0} (P : A → Type 0) (xs : List A) (x : A) → AllByRecursion P xs → P x → AllByRecursion P (xs ++ x ∷ [])
-all_more P [] x h p = (p, tt)
-all_more P (y ∷ xs) x h p = (h.0, all_more P xs x h.1 p)
-
 pub written_more : (cs : List Column) (records : List Record) (rows : List Row) (fs : Record) (more : List Record) (row : Row)
     → Written cs records rows (fs ∷ more) → StandFor cs fs row → Written cs records (rows ++ row ∷ []) more
 written_more cs records rows fs more row h s =
@@ -93,8 +90,8 @@ written_more cs records rows fs more row h s =
     record {
       records_are = h.records_are ∙ ap (λ (x : Record). map (map field_of) rows ++ x ∷ more) r.0
           ∙ sym (ap (λ (x : List Record). x ++ more) (map-append (map field_of) rows (row ∷ [])) ∙ append_assoc (map (map field_of) rows) (map field_of row ∷ []) more);
-      fit = all_more (FitsColumns cs) rows row h.fit r.1;
-      text = all_more (AllByRecursion IsText) rows row h.text r.2;
+      fit = all_append (FitsColumns cs) rows (row ∷ []) h.fit (r.1, tt);
+      text = all_append (AllByRecursion IsText) rows (row ∷ []) h.text (r.2, tt);
     }
 
 -- ---- what a reader gives next

@@ -1,7 +1,7 @@
 -- The first row that repeats an earlier one on some list.
-use Rattle.std.proofs.Common.{◌≡◌, ℕ, ◌+◌, ◌<◌, ◌≤◌, add-one, List, [], ◌∷◌, ◌++◌, length, take, get_or, Option, Some, None, MatchOption, refl, sym, ap, ◌∙◌, subst, arith, inl, inr}
+use Rattle.std.proofs.Common.{◌≡◌, ℕ, ◌+◌, ◌<◌, ◌≤◌, List, [], ◌∷◌, ◌++◌, length, Option, Some, None, MatchOption, refl, sym, subst, arith, inl, inr}
 use Rattle.std.specs.List.{AllByRecursion}
-use Rattle.std.proofs.Math.Seq.{take-suc}
+use Rattle.values.proofs.Lists.{all_append}
 use Rattle.schema.specs.Databases.{Row, IsUnique}
 use Rattle.store.specs.declared.unique.Repeat.{Repeat}
 use Rattle.store.specs.Tables.{UniqueTo, RepeatsAt, RepeatsFirst}
@@ -13,10 +13,6 @@ unique_below n m rows places le h = λ i j lt low whole same. h i j lt (omega ar
 pub all_below : (n m : ℕ) (rows : List Row) (lists : List (List ℕ)) → m ≤ n → AllByRecursion (UniqueTo n rows) lists → AllByRecursion (UniqueTo m rows) lists
 all_below n m rows [] le h = tt
 all_below n m rows (u ∷ us) le h = (unique_below n m rows u le h.0, all_below n m rows us le h.1)
-
-all_push : (n : ℕ) (rows : List Row) (lists : List (List ℕ)) (u : List ℕ) → AllByRecursion (UniqueTo n rows) lists → UniqueTo n rows u → AllByRecursion (UniqueTo n rows) (lists ++ u ∷ [])
-all_push n rows [] u h g = (g, tt)
-all_push n rows (v ∷ us) u h g = (h.0, all_push n rows us u h.1 g)
 
 stays : (rows : List Row) (row e : ℕ) (lists : List (List ℕ)) (u : List ℕ) → RepeatsFirst rows row e lists → RepeatsFirst rows row e (lists ++ u ∷ [])
 stays rows row e [] u h = absurd h
@@ -40,14 +36,14 @@ there_stays rows lists u limit None h = h
 there_stays rows lists u limit (Some r) h = (h.0, h.1, stays rows limit r.earlier lists u h.2)
 
 pub found_none : (rows : List Row) (lists : List (List ℕ)) (u : List ℕ) (limit : ℕ) (found : Option Repeat) → IsFound rows lists limit found → UniqueTo limit rows u → IsFound rows (lists ++ u ∷ []) limit found
-found_none rows lists u limit found h g = record { before = all_push limit rows lists u h.before g; within = h.within; there = there_stays rows lists u limit found h.there }
+found_none rows lists u limit found h g = record { before = all_append (UniqueTo limit rows) lists (u ∷ []) h.before (g, tt); within = h.within; there = there_stays rows lists u limit found h.there }
 
 pub found_one : (rows : List Row) (lists : List (List ℕ)) (u : List ℕ) (limit : ℕ) (found : Option Repeat) (r : Repeat) → IsFound rows lists limit found → r.row < limit → UniqueTo r.row rows u → RepeatsAt rows r.row r.earlier u
     → IsFound rows (lists ++ u ∷ []) r.row (Some r)
 found_one rows lists u limit found r h low g at =
     let le = h.within in
     record {
-      before = all_push r.row rows lists u (all_below limit r.row rows lists (omega arith) h.before) g;
+      before = all_append (UniqueTo r.row rows) lists (u ∷ []) (all_below limit r.row rows lists (omega arith) h.before) (g, tt);
       within = omega arith;
       there = (refl, omega arith, comes rows r.row r.earlier lists u (all_below limit (r.row + 1) rows lists (omega arith) h.before) at);
     }
@@ -62,6 +58,3 @@ found_all rows lists limit (Some r) h =
       before = subst (λ (n : ℕ). AllByRecursion (UniqueTo n rows) lists) is h.before;
       there = subst (λ (n : ℕ). RepeatsFirst rows n r.earlier lists) is h.there.2;
     }
-
-pub take_next : {A : Type 0} (xs : List A) (i : ℕ) (x : A) → i < length xs → x ≡ get_or xs i x → take (i + 1) xs ≡ take i xs ++ x ∷ []
-take_next xs i x lt at = rw add-one (take-suc xs i x lt ∙ ap (λ y. take i xs ++ y ∷ []) (sym at))

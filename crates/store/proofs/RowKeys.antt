@@ -1,7 +1,7 @@
 -- Keys compared value by value.
-use Rattle.std.proofs.Common.{◌≡◌, ℕ, ◌+◌, ◌<◌, ◌≤◌, [], ◌∷◌, ◌++◌, length, take, get_or, Bool, true, false, not, add-one, refl, sym, ap, ◌∙◌}
-use Rattle.std.proofs.Math.Seq.{take-suc}
-use Rattle.std.proofs.lemmas.List.{take_all}
+use Rattle.std.proofs.Common.{◌≡◌, ℕ, ◌+◌, ◌<◌, ◌≤◌, length, take, get_or, Bool, true, false, not, refl, sym, ap, ◌∙◌}
+use Rattle.std.proofs.lemmas.List.{take_all, take_more_same}
+use Rattle.std.proofs.lemmas.Bool.{not-false}
 use Rattle.values.specs.declared.value.Value.{Value}
 use Rattle.values.specs.declared.value.Value.TheVariants as value
 use Rattle.values.specs.declared.cell.Cell.{Cell}
@@ -31,16 +31,12 @@ no_both : (b : Bool) → b ≡ true → not b ≡ true → ⊥
 no_both true t n = cc n
 no_both false t n = cc t
 
-yes : (b : Bool) → not b ≡ false → b ≡ true
-yes true e = refl
-yes false e = cc e
-
 -- cells that are found equal, or not, are the same values, or not
 cells_differ : (x y : Cell) (a b : Value) → value_of x ≡ a → value_of y ≡ b → not (cell_eq.ghosts.eq x y) ≡ true → a ≡ b → ⊥
 cells_differ x y a b p q n e = no_both (cell_eq.ghosts.eq x y) (cell_same x y ∙ (value_decides (value_of x) (value_of y)).1 (p ∙ e ∙ sym q)) n
 
 cells_same : (x y : Cell) (a b : Value) → value_of x ≡ a → value_of y ≡ b → not (cell_eq.ghosts.eq x y) ≡ false → a ≡ b
-cells_same x y a b p q n = sym p ∙ (value_decides (value_of x) (value_of y)).0 (sym (cell_same x y) ∙ yes (cell_eq.ghosts.eq x y) n) ∙ q
+cells_same x y a b p q n = sym p ∙ (value_decides (value_of x) (value_of y)).0 (sym (cell_same x y) ∙ not-false (cell_eq.ghosts.eq x y) n) ∙ q
 
 pub keys_differ : (k l : Row) (i : ℕ) (x y : Cell) → value_of x ≡ get_or k i value.Null → value_of y ≡ get_or l i value.Null → not (cell_eq.ghosts.eq x y) ≡ true → false ≡ key_eq k l
 keys_differ k l i x y p q n = false_by (key_eq k l) (λ t. cells_differ x y (get_or k i value.Null) (get_or l i value.Null) p q n (ap (λ (r : Row). get_or r i value.Null) ((key_decides k l).0 t)))
@@ -49,7 +45,7 @@ pub keys_go_on : (k l : Row) (i : ℕ) (x y : Cell) → i < length k → i < len
     → take i k ≡ take i l → take (i + 1) k ≡ take (i + 1) l
 keys_go_on k l i x y low high p q n h =
     let same : get_or k i value.Null ≡ get_or l i value.Null = cells_same x y (get_or k i value.Null) (get_or l i value.Null) p q n in
-    rw add-one (take-suc k i value.Null low ∙ ap (λ (r : Row). r ++ get_or k i value.Null ∷ []) h ∙ ap (λ (v : Value). take i l ++ v ∷ []) same ∙ sym (take-suc l i value.Null high))
+    take_more_same k l i value.Null low high h same
 
 pub keys_same : (k l : Row) (i : ℕ) → length k ≤ i → length l ≤ i → take i k ≡ take i l → true ≡ key_eq k l
 keys_same k l i low high h = sym ((key_decides k l).1 (sym (take_all i k low) ∙ h ∙ take_all i l high))

@@ -5,11 +5,13 @@ use Rattle.std.specs.List.{AllByRecursion}
 use Rattle.std.proofs.Math.ListN.{get_or-append}
 use Rattle.std.proofs.lemmas.Fmt.{signed_decimal_injective}
 use Rattle.std.proofs.lemmas.List.{length-map}
+use Rattle.std.proofs.lemmas.Bool.{cases_order}
 use Rattle.values.specs.declared.value.Value.{Value}
 use Rattle.values.specs.declared.value.Value.TheVariants as value
 use Rattle.schema.specs.declared.schema.Column.{Column}
 use Rattle.schema.specs.declared.schema.Table.{Table}
 use Rattle.schema.specs.Databases.{Row, FitsColumn, FitsColumns, IsUnique, SatisfiesTable}
+use Rattle.schema.proofs.Widths.{fits_length}
 use Rattle.store.specs.declared.fault.FieldFault.{FieldFault}
 use Rattle.store.specs.declared.fault.FieldFault.TheVariants.{BadEscape, NotNumber, NotText, NullValue}
 use Rattle.store.specs.declared.fault.TableCause.{TableCause}
@@ -21,7 +23,7 @@ use Rattle.store.specs.Fields.{escaped, field_of}
 use Rattle.store.proofs.Decimals.{signed_begins}
 use Rattle.store.proofs.Fields.{no_digit, no_escape}
 use Rattle.store.proofs.ReadRecords.{row_is}
-use Rattle.store.proofs.Loads.{fits_length, row_stands}
+use Rattle.store.proofs.Loads.{row_stands}
 
 -- ---- a field stands for one value of its column
 
@@ -196,14 +198,11 @@ uniques_before : (rows : List Row) (row : Row) (lists : List (List ℕ)) → All
 uniques_before rows row [] h = tt
 uniques_before rows row (u ∷ us) h = (unique_before rows row u h.0, uniques_before rows row us h.1)
 
-three_ways : (a b : ℕ) → (a < b) ⊎ ((a ≡ b) ⊎ (b < a))
-three_ways a b = grind arith
-
 at_one : (xs : List Row) (n d e : ℕ) (u : List ℕ) → UniqueTo n xs u → RepeatsAt xs n d u → RepeatsAt xs n e u → d ≡ e
 at_one xs n d e u h r s =
-    elim (three_ways d e) [
-      | inl lt ↦ absurd (h d e lt s.below r.whole (r.same ∙ sym s.same))
-      | inr more ↦ elim more [ inl same ↦ same | inr gt ↦ absurd (h e d gt r.below s.whole (s.same ∙ sym r.same)) ]
+    elim (cases_order d e) [
+      | inl same ↦ same
+      | inr other ↦ elim other [ inl lt ↦ absurd (h d e lt s.below r.whole (r.same ∙ sym s.same)) | inr gt ↦ absurd (h e d gt r.below s.whole (s.same ∙ sym r.same)) ]
     ]
 
 repeats_one : (xs : List Row) (n d e : ℕ) (lists : List (List ℕ)) → AllByRecursion (UniqueTo n xs) lists → RepeatsFirst xs n d lists → RepeatsFirst xs n e lists → d ≡ e

@@ -1,11 +1,12 @@
 -- Texts in a row, and the places where they end.
-use Rattle.std.proofs.Common.{◌≡◌, ℕ, zero, suc, ◌+◌, ◌-◌, ◌<◌, ◌≤◌, List, [], ◌∷◌, ◌++◌, length, map, get_or, drop, take, slice_index, slice_range, refl, sym, ap, ◌∙◌, subst, arith, ◌⊎◌, inl, inr, length-append}
+use Rattle.std.proofs.Common.{◌≡◌, ℕ, zero, suc, ◌+◌, ◌-◌, ◌<◌, ◌≤◌, List, [], ◌∷◌, ◌++◌, length, map, get_or, drop, take, slice_index, slice_range, refl, sym, ap, ◌∙◌, subst, arith, inl, inr, length-append}
 use Rattle.std.specs.List.{range_with_len}
 use Rattle.std.specs.Str.{IsUtf8, IsCharBoundary}
 use Rattle.std.proofs.lemmas.List.{take-append-le, drop-append-le, get_or_append_left, length-drop}
 use Rattle.std.proofs.lemmas.List.FromFn.{length-map-range_with_len, get_or-map-range_with_len, map-range_with_len_more}
 use Rattle.std.proofs.lemmas.Str.{IsCharBoundary-end, IsCharBoundary-at_seam}
 use Rattle.std.proofs.Math.Seq.{get_or-append_seam, drop-append_seam, take-length}
+use Rattle.values.proofs.Counts.{below_or_last}
 use Rattle.store.specs.Texts.{start_of, text_at, texts_of, AreEnds}
 
 -- two functions that agree on the numbers from a on
@@ -41,15 +42,9 @@ range_stays : (bytes more : List ℕ) (a b : ℕ) → a ≤ b → b ≤ length b
 range_stays bytes more a b le high =
     ap (λ (x : List ℕ). take (b - a) x) (drop-append-le a bytes more (omega arith)) ∙ take-append-le (b - a) (drop a bytes) more (omega (arith, length-drop a bytes))
 
-below_or_last : (i n : ℕ) → i < n + 1 → (i < n) ⊎ (i ≡ n)
-below_or_last i n h = grind arith
-
 length_more : (ends : List ℕ) (e : ℕ) → length (ends ++ e ∷ []) ≡ suc (length ends)
 length_more [] e = refl
 length_more (x ∷ ends) e = ap suc (length_more ends e)
-
-inside_or_end : (i n : ℕ) → i ≤ n → (i < n) ⊎ (i ≡ n)
-inside_or_end i n h = grind arith
 
 cut_inside : (bytes more : List ℕ) (i : ℕ) → i < length bytes → IsCharBoundary bytes i → IsCharBoundary (bytes ++ more) i
 cut_inside bytes more i lt h =
@@ -57,7 +52,7 @@ cut_inside bytes more i lt h =
     (omega (arith, length-append bytes more), λ low high. rw same (h.1 lt (rw same at high)))
 
 cut_stays : (bytes more : List ℕ) (i : ℕ) → IsUtf8 more → IsCharBoundary bytes i → IsCharBoundary (bytes ++ more) i
-cut_stays bytes more i u h = elim (inside_or_end i (length bytes) h.0) [
+cut_stays bytes more i u h = elim (below_or_last i (length bytes) (omega (arith, h.0))) [
   | inl lt ↦ cut_inside bytes more i lt h
   | inr is ↦ subst (λ (k : ℕ). IsCharBoundary (bytes ++ more) k) (sym is) (IsCharBoundary-at_seam (bytes ++ more) bytes more refl u)
 ]

@@ -1,1 +1,5 @@
+pub mod Counts
 pub mod Exits
+pub mod Lists
+pub mod Orders
+pub mod Results

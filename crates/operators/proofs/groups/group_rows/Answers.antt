@@ -1,7 +1,7 @@
 use Rattle.std.proofs.Common.{◌≡◌, ap, sym, subst, ◌∙◌, List, map, length, IfOk, arith}
+use mathlib.Core.List.{map-map}
 use Rattle.schema.specs.Databases.{Row}
 use Rattle.algebra.specs.Bags.{Env}
-use Rattle.algebra.proofs.Lists.{map-map}
 use Rattle.operators.specs.Relations.{env_of, values_of}
 use Rattle.operators.specs.Groups.{group_env, relation_groups}
 use Rattle.operators.proofs.GroupEnvs.{group-envs}

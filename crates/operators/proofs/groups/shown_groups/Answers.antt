@@ -1,12 +1,12 @@
 use Rattle.std.proofs.Common.{ap, sym, ◌∙◌, [], ◌∷◌, ◌++◌, map, take, arith}
-use Rattle.std.proofs.lemmas.List.{take_all}
+use Rattle.std.proofs.lemmas.List.{take_all, map-append}
+use mathlib.Core.List.{map-map}
+use Rattle.values.proofs.Lists.{map_next}
 use Rattle.schema.specs.Databases.{Row}
-use Rattle.algebra.proofs.Lists.{map-map, map-append}
 use Rattle.operators.specs.declared.keys.Group.{Group}
 use Rattle.operators.specs.declared.rows.RowData.{RowData}
 use Rattle.operators.specs.Relations.{env_of, values_of}
 use Rattle.operators.specs.Groups.{GroupOf, group_env, group_of}
-use Rattle.operators.proofs.Steps.{map-more}
 use Rattle.operators.proofs.groups.shown_groups.Goals as goal
 
 pub loop-group-preserved : goal.loop-group-preserved
@@ -16,7 +16,7 @@ loop-group-preserved c =
     ∙ map-append values_of c.loop-group.rows.items (c.in_ok-group_row.field-0 ∷ [])
     ∙ ap (λ l. l ++ values_of c.in_ok-group_row.field-0 ∷ []) c.loop-group.invariant
     ∙ ap (λ v. map show (take c.loop-group.group-index c.args.groups.now) ++ v ∷ []) c.in_ok-group_row.ensures
-    ∙ sym (map-more show c.args.groups.now c.loop-group.group-index c.group-item.result (omega arith) c.group-item.is)
+    ∙ sym (map_next show c.args.groups.now c.loop-group.group-index c.group-item.result (omega arith) c.group-item.is)
 
 pub returns : goal.returns
 returns c =

@@ -1,5 +1,5 @@
 use Rattle.std.proofs.Common.{ap, sym, ◌∙◌, arith, ◌∷◌, [], List, map, option_map}
-use Rattle.algebra.proofs.Lists.{map-append}
+use Rattle.std.proofs.lemmas.List.{map-append}
 use Rattle.operators.specs.declared.keys.RowRef.{RowRef}
 use Rattle.operators.specs.declared.rows.RowData.{RowData}
 use Rattle.operators.specs.Groups.{GroupOf, group_of}

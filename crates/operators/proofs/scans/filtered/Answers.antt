@@ -1,9 +1,10 @@
 use Rattle.std.proofs.Common.{refl, ap, sym, ◌∙◌, map, rules, Bool}
+use Rattle.values.proofs.Lists.{filter-map}
 use Rattle.algebra.specs.Bags.{Env}
 use Rattle.algebra.specs.Conditions.{holds}
 use Rattle.operators.specs.declared.rows.RowData.{RowData}
 use Rattle.operators.specs.Relations.{env_of, row_env, subqueries_given}
-use Rattle.operators.proofs.RelationRows.{kept-by, filter-map}
+use Rattle.operators.proofs.RelationRows.{kept-by}
 use Rattle.operators.proofs.scans.filtered.Goals as goal
 
 pub returns : goal.returns

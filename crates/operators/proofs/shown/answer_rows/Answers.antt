@@ -1,6 +1,6 @@
 use Rattle.std.proofs.Common.{sym, ◌∙◌, ap, map, arith}
 use Rattle.std.proofs.lemmas.List.{take_all}
-use Rattle.algebra.proofs.Lists.{map-map}
+use mathlib.Core.List.{map-map}
 use Rattle.schema.specs.Databases.{Row}
 use Rattle.algebra.specs.Bags.{Env, nulls}
 use Rattle.operators.specs.declared.rows.RowData.{RowData}

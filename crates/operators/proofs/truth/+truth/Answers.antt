@@ -11,9 +11,9 @@ use Rattle.algebra.specs.declared.condition.Condition.{Condition}
 use Rattle.algebra.specs.Conditions.{truth}
 use Rattle.algebra.proofs.Truths.{truth-Compare, truth-IsNull, truth-Not, truth-And, truth-Or, truth-Exists, truth-In}
 use Rattle.operators.specs.Relations.{env_of, subqueries_given}
-use Rattle.operators.proofs.Steps.{fold-more}
 use Rattle.operators.proofs.truth.+truth.Goals.{truth-in-Null, truth-in_default}
 use Rattle.operators.proofs.truth.+truth.Goals as goal
+use Rattle.operators.proofs.Steps.{fold_next}
 
 not-null : (x : Cell) → x ≢ Null → is_null (value_of x) ≡ false
 not-null Null h = absurd (h refl)
@@ -63,7 +63,7 @@ all-loop-condition-preserved t c =
     c.and-all.ensures
     ∙ ap (λ (a : Truth). conjunction a c.truth.result) c.loop-condition.invariant
     ∙ ap (conjunction (all_of (map true_of (take i c.args.conditions.now)))) c.truth.ensures
-    ∙ sym (fold-more conjunction True true_of c.args.conditions.now i c.condition-item.result (omega arith) c.condition-item.is)
+    ∙ sym (fold_next conjunction True true_of c.args.conditions.now i c.condition-item.result (omega arith) c.condition-item.is)
 
 pub any-loop-condition-preserved : goal.any-loop-condition-preserved
 any-loop-condition-preserved t c =
@@ -72,4 +72,4 @@ any-loop-condition-preserved t c =
     c.or-any.ensures
     ∙ ap (λ (a : Truth). disjunction a c.truth.result) c.loop-condition.invariant
     ∙ ap (disjunction (any_of (map true_of (take i c.args.conditions.now)))) c.truth.ensures
-    ∙ sym (fold-more disjunction False true_of c.args.conditions.now i c.condition-item.result (omega arith) c.condition-item.is)
+    ∙ sym (fold_next disjunction False true_of c.args.conditions.now i c.condition-item.result (omega arith) c.condition-item.is)

@@ -1,11 +1,11 @@
 use Rattle.std.proofs.Common.{◌≡◌, ◌∙◌, ap, sym, subst, List, [], ◌∷◌, ◌++◌, map, filter, take, arith}
-use Rattle.std.proofs.lemmas.List.{take_all}
+use Rattle.std.proofs.lemmas.List.{take_all, map_push}
+use Rattle.values.proofs.Lists.{map_next}
 use Rattle.schema.specs.Databases.{Row, values_at}
 use Rattle.query.specs.Rows.{same_rows}
 use Rattle.query.specs.Aggregates.{Group, group_of}
 use Rattle.query.specs.Meaning.{item_of_group}
 use Rattle.oracle.specs.Given.{AreShort, env_of, rows_at}
-use Rattle.oracle.proofs.Lists.{map-more, map-last}
 use Rattle.oracle.proofs.Sums.{short-filter}
 use Rattle.oracle.proofs.blocks.items_of_groups.Goals as goal
 
@@ -24,7 +24,7 @@ loop-key-preserved c =
     c.in_ok-push.ensures.items
     ∙ ap (λ (l : List Row). l ++ c.in_ok-row.row ∷ []) c.loop-key.invariant
     ∙ ap (λ (v : Row). map shown (map group done) ++ v ∷ []) is
-    ∙ sym (ap (map shown) (map-more group c.as_slice-key-items.result.now c.loop-key.key-index key (omega arith) c.key-item.is) ∙ map-last shown (map group done) (group key))
+    ∙ sym (ap (map shown) (map_next group c.as_slice-key-items.result.now c.loop-key.key-index key (omega arith) c.key-item.is) ∙ map_push shown (map group done) (group key))
 
 pub items_of_group-requires : goal.items_of_group-requires
 items_of_group-requires c =

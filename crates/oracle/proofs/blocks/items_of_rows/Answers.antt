@@ -1,8 +1,8 @@
 use Rattle.std.proofs.Common.{◌∙◌, ap, sym, List, [], ◌∷◌, ◌++◌, map, take, arith}
+use Rattle.values.proofs.Lists.{map_next}
 use Rattle.schema.specs.Databases.{Row}
 use Rattle.query.specs.Meaning.{item_of_row}
 use Rattle.oracle.specs.Given.{env_of}
-use Rattle.oracle.proofs.Lists.{map-more}
 use Rattle.oracle.proofs.blocks.items_of_rows.Goals as goal
 
 pub loop-row-preserved : goal.loop-row-preserved
@@ -11,4 +11,4 @@ loop-row-preserved c =
     c.in_ok-push.ensures.items
     ∙ ap (λ (l : List Row). l ++ c.in_ok-items_of_row.field-0 ∷ []) c.loop-row.invariant
     ∙ ap (λ (v : Row). map shown (take c.loop-row.row-index c.args.source.now) ++ v ∷ []) (c.in_ok-items_of_row.ensures ∙ ap shown c.as_slice.ensures)
-    ∙ sym (map-more shown c.args.source.now c.loop-row.row-index c.row-item.result (omega arith) c.row-item.is)
+    ∙ sym (map_next shown c.args.source.now c.loop-row.row-index c.row-item.result (omega arith) c.row-item.is)

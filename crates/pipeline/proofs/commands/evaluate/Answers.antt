@@ -1,8 +1,8 @@
 use Rattle.std.proofs.Common.{◌∙◌, ap, map, Err, inl, inr}
-use Rattle.std.proofs.lemmas.Result.{err_from_is_err_and}
+use Rattle.std.proofs.lemmas.Result.{err_from_is_err_and, on_ok_weaker, on_err_weaker, IfErr-weaker}
 use Rattle.std.specs.Io.KnownBytes.{Appends}
 use Rattle.executor.specs.AnswerText.{HasFront}
-use Rattle.pipeline.proofs.Answered.{of_fault, unprepared_refused, answer_refused, meant, on_ok_more, on_err_more, if_err_more}
+use Rattle.pipeline.proofs.Answered.{of_fault, unprepared_refused, answer_refused, meant}
 use Rattle.pipeline.proofs.commands.evaluate.Goals as goal
 
 pub returns-in_err-ready-clause-refused : goal.returns-in_err-ready-clause-refused
@@ -12,19 +12,19 @@ returns-in_err-ready-clause-refused g c =
     (unprepared_refused c.args.schema.now c.args.text.now c.in_ok-schema.schema (map g.R.TableInput.remaining c.args.tables.now) c.in_err-ready.field-0.0 c.in_ok-schema.ensures.exact c.in_err-ready.ensures.refused)
 
 pub returns-clause-answered : goal.returns-clause-answered
-returns-clause-answered g c = on_ok_more c.answer_by_meaning.result
+returns-clause-answered g c = on_ok_weaker c.answer_by_meaning.result
     (meant c.args.schema.now c.args.text.now (map g.R.TableInput.remaining c.args.tables.now) c.in_ok-schema.schema c.in_ok-ready.ready.query c.in_ok-ready.ready.database
     (Appends (g.W.AnswerOutput.contents c.args.out.now) (g.W.AnswerOutput.contents c.answer_by_meaning.new.out)) c.in_ok-schema.ensures.exact c.in_ok-ready.ensures.prepared)
     c.answer_by_meaning.ensures.answered
 
 pub returns-clause-refused : goal.returns-clause-refused
-returns-clause-refused g c = if_err_more c.answer_by_meaning.result
+returns-clause-refused g c = IfErr-weaker c.answer_by_meaning.result _ _
     (λ r. answer_refused c.args.schema.now c.args.text.now c.in_ok-schema.schema c.in_ok-ready.ready.query c.in_ok-ready.ready.database (map g.R.TableInput.remaining c.args.tables.now) _ _ r
     c.in_ok-schema.ensures.exact c.in_ok-ready.ensures.prepared)
     c.answer_by_meaning.ensures.fails
 
 pub returns-clause-front : goal.returns-clause-front
-returns-clause-front g c = on_err_more c.answer_by_meaning.result
+returns-clause-front g c = on_err_weaker c.answer_by_meaning.result
     (λ h. elim h [
       | inl same ↦ inl same
       | inr more ↦ inr (meant c.args.schema.now c.args.text.now (map g.R.TableInput.remaining c.args.tables.now) c.in_ok-schema.schema c.in_ok-ready.ready.query c.in_ok-ready.ready.database

@@ -1,6 +1,7 @@
 use Rattle.std.proofs.Common.{ℕ, List, take, subst, arith}
 use Rattle.std.proofs.lemmas.List.{take_all}
-use Rattle.store.proofs.Repeats.{IsFound, found_none, found_one, found_all, take_next}
+use Rattle.values.proofs.Lists.{take_next}
+use Rattle.store.proofs.Repeats.{IsFound, found_none, found_one, found_all}
 use Rattle.store.proofs.unique.earliest_repeat.Goals as goal
 
 pub loop-places-preserved-in_default : goal.loop-places-preserved-in_default

@@ -1,6 +1,7 @@
 use Rattle.std.proofs.Common.{◌≡◌, ℕ, ◌+◌, ◌<◌, List, [], ◌∷◌, ◌++◌, length, take, get_or, map, sym, ap, ◌∙◌, append_assoc, arith}
-use Rattle.std.proofs.lemmas.List.{append-nil, map-append, take_all, take_more}
+use Rattle.std.proofs.lemmas.List.{append-nil, take_all}
 use Rattle.std.proofs.lemmas.Result.{err_from_is_err_and}
+use Rattle.values.proofs.Lists.{map_next}
 use Rattle.binder.specs.declared.scope.LentTable.{LentTable}
 use Rattle.binder.specs.Lent.{known_of}
 use Rattle.binder.specs.Scopes.{Scope}
@@ -9,9 +10,7 @@ use Rattle.binder.proofs.scope.Scope.append.Goals as goal
 one_more_known : (front : Scope) (xs : List LentTable) (i : ℕ) (x : LentTable) → i < length xs → x ≡ get_or xs i x
     → (front ++ map known_of (take i xs)) ++ known_of x ∷ [] ≡ front ++ map known_of (take (i + 1) xs)
 one_more_known front xs i x lt at =
-    let more : map known_of (take (i + 1) xs) ≡ map known_of (take i xs) ++ known_of x ∷ [] =
-    ap (map known_of) (take_more xs i x lt) ∙ map-append known_of (take i xs) _ ∙ ap (λ (y : LentTable). map known_of (take i xs) ++ known_of y ∷ []) (sym at) in
-    rw more (append_assoc front (map known_of (take i xs)) (known_of x ∷ []))
+    rw (map_next known_of xs i x lt at) (append_assoc front (map known_of (take i xs)) (known_of x ∷ []))
 
 pub loop-table-init : goal.loop-table-init
 loop-table-init c =

@@ -1,11 +1,11 @@
 use Rattle.std.proofs.Common.{◌∙◌, ◌++◌, ◌∷◌, [], List, take, map, refl, sym, ap, arith}
 use Rattle.std.proofs.lemmas.List.{map_push, take_all}
+use Rattle.values.proofs.Lists.{take_next}
 use Rattle.schema.specs.declared.schema.Column.{Column}
 use Rattle.schema.specs.declared.schema.Kind.{Kind}
 use Rattle.store.specs.Columns.{Kept, kind_of}
 use Rattle.store.specs.declared.cells.ColumnCells.{ColumnCells}
 use Rattle.store.proofs.ColumnRows.{has_push}
-use Rattle.store.proofs.Repeats.{take_next}
 use Rattle.store.proofs.columns.Columns.new.Goals as goal
 
 pub loop-column-init : goal.loop-column-init

@@ -1,13 +1,9 @@
-use Rattle.std.proofs.Common.{[], List, take, sym, arith}
+use Rattle.std.proofs.Common.{[], take, sym, arith}
 use Rattle.std.proofs.lemmas.List.{map_push, take_all}
+use Rattle.values.proofs.Lists.{take_next}
 use Rattle.schema.specs.declared.schema.Table.{Table}
-use Rattle.schema.specs.Databases.{Row}
-use Rattle.store.proofs.Repeats.{take_next}
 use Rattle.store.proofs.Satisfies.{satisfy_empty}
 use Rattle.store.proofs.database.Database.new.Goals as goal
-
-empty_of : Table → List Row
-empty_of t = []
 
 pub loop-entry-preserved : goal.loop-entry-preserved
 loop-entry-preserved c =

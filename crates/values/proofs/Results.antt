@@ -1,8 +1,8 @@
--- A chain of steps that succeeds.
+-- A chain of steps that gave an answer.
 use Rattle.std.proofs.Common.{◌≡◌, refl, Bool, true, false, Option, Some, None, Result, Ok, Err}
 use Rattle.values.specs.Faults.{◌>>=◌, wanted, wanted_if}
 
--- both steps succeed
+-- both steps gave theirs
 pub both_ok : {A B R : Type 0} (r : Result A R) (f : A → Result B R) (y : B) → (r >>= f) ≡ Ok y → (x : A) × (r ≡ Ok x) × (f x ≡ Ok y)
 both_ok (Ok x) f y e = (x, refl, e)
 both_ok (Err z) f y e = cc
