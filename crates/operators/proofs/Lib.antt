@@ -3,7 +3,6 @@ pub mod FirstSeen
 pub mod GroupEnvs
 pub mod GroupRows
 pub mod JoinRows
-pub mod KeyWrites
 pub mod PlanOutputs
 pub mod RelationRows
 pub mod Steps

@@ -1,87 +1,17 @@
 //! Rows by their values at some places.
 
-ghost use Rattle.std.specs.Prelude.{◌≡◌, ◌<◌, length, slice_index_or, map, [], ◌∷◌, Some, IfOk, OnOk};
-ghost use Rattle.std.specs.Cmp.{partial_equiv_from_equiv};
-ghost use Rattle.values.specs.Cells.{value_of};
-ghost use Rattle.values.specs.declared.value.Value.TheVariants as value;
+ghost use Rattle.std.specs.Prelude.{◌≡◌, map, [], ◌∷◌, Some, IfOk, OnOk};
 ghost use Rattle.std.specs.List.{position_or_len};
 ghost use Rattle.indexmap.specs.IndexSet.{insert_key};
 ghost use Rattle.schema.specs.Databases.{values_at};
 ghost use Rattle.operators.specs.Relations.{values_of};
-ghost use Rattle.store.specs.Keys.{key_eq, key_writes, key_equiv, key_alike};
+ghost use Rattle.store.specs.Keys.{key_eq};
 ghost use Rattle.operators.specs.Groups as spec;
 
 use crate::rows::RowData;
 use indexmap::IndexSet;
 use std::alloc::{AllocError, Global};
-use std::hash::{Hash, Hasher};
-use std::marker::Model;
-use values::Cell;
-
-/// The values of a row at some places, seen as their list.
-#[derive(Drop)]
-pub struct RowKey<'a, 't> {
-    row: &'a RowData<'t>,
-    places: &'a [usize],
-}
-
-impl<'a, 't> Model for RowKey<'a, 't> {
-    ghost use Rattle.schema.specs.Databases.{Row, values_at};
-    ghost use Rattle.operators.specs.Relations.{values_of};
-
-    ghost Value = { Row };
-
-    ghost view = { λ k. values_at k.places.now (values_of k.row.now) };
-}
-
-impl<'a, 't> RowKey<'a, 't> {
-    fn len(&self) -> usize
-        ensures { result ≡ length self.now }
-    {
-        self.places.len()
-    }
-
-    fn cell(&self, number: usize) -> Cell<'t>
-        requires { number < length self.now }
-        ensures { value_of result ≡ slice_index_or self.now number value.Null }
-    {
-        self.row.cell(self.places[number])
-    }
-}
-
-impl PartialEq for RowKey<'_, '_> {
-    ghost eq = { key_eq };
-
-    ghost laws = { partial_equiv_from_equiv key_equiv };
-
-    fn eq(&self, other: &RowKey<'_, '_>) -> bool {
-        if self.len() != other.len() {
-            return false;
-        }
-        for number in 0..self.len() {
-            if self.cell(number) != other.cell(number) {
-                return false;
-            }
-        }
-        true
-    }
-}
-
-impl Eq for RowKey<'_, '_> {
-    ghost laws = { key_equiv };
-}
-
-impl Hash for RowKey<'_, '_> {
-    ghost hash_input = { key_writes };
-
-    ghost respects_eq = { key_alike };
-
-    fn hash<H: Hasher>(&self, state: &mut H) {
-        for number in 0..self.len() {
-            self.cell(number).hash(state);
-        }
-    }
-}
+use store::RowKey;
 
 /// A row that is lent.
 #[derive(Clone, Copy)]
@@ -137,7 +67,7 @@ fn place_row<'a, 't>(
     ensures keys { OnOk result (keys.new.keys ≡ insert_key key_eq keys.old.keys (values_at places.entry.now (values_of row.entry.now))) }
     ensures groups { OnOk result (map spec.group_of groups.new.items ≡ spec.added_at (position_or_len (key_eq (values_at places.entry.now (values_of row.entry.now))) keys.old.keys) row.entry.now (map spec.group_of groups.old.items)) }
 {
-    let (number, _) = keys.insert_full(RowKey { row, places })?;
+    let (number, _) = keys.insert_full(RowKey::new(row.cells(), places))?;
     add_row(alloc, groups, number, row)
 }
 

@@ -7,7 +7,7 @@ ghost use Rattle.query.specs.Aggregates as spec;
 ghost use Rattle.query.specs.Rows.{value_at};
 ghost use Rattle.oracle.specs.Given.{AreShort, IsShort, rows_at, values_of};
 
-use crate::environment::{is_null, value_at};
+use crate::environment::value_at;
 use crate::rows::Row;
 use query::Aggregate;
 use query::aggregates::{greater, lesser, plus};
@@ -20,7 +20,7 @@ fn known(rows: &[&Row], place: usize) -> usize
 {
     let mut count: usize = 0;
     for row in rows {
-        if !is_null(value_at(row.as_slice(), place)) {
+        if !value_at(row.as_slice(), place).is_null() {
             count += 1;
         }
     }

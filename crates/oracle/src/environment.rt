@@ -2,7 +2,6 @@
 
 ghost use Rattle.std.specs.Prelude.{◌≡◌, [], slice_index_or};
 ghost use Rattle.values.specs.Cells.{value_of};
-ghost use Rattle.values.specs.Truth as logic;
 ghost use Rattle.query.specs.Rows as spec;
 ghost use Rattle.oracle.specs.Given.{env_of};
 
@@ -24,12 +23,6 @@ pub fn value_at(row: &[Value], place: usize) -> Cell<'_>
         Some(value) => value.as_cell(),
         None => Cell::Null,
     }
-}
-
-pub fn is_null(value: Cell<'_>) -> bool
-    ensures { result ≡ logic.is_null (value_of value.entry) }
-{
-    matches!(value, Cell::Null)
 }
 
 impl<'a> Env<'a> {

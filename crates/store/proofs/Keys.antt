@@ -1,5 +1,5 @@
 -- Keys of a unique list: when two are equal, and the map of those that were seen.
-use Rattle.std.proofs.Common.{◌≡◌, ℕ, zero, suc, ◌+◌, ◌<◌, ◌≤◌, List, [], ◌∷◌, length, get_or, Bool, true, false, cond, Option, Some, None, slice_index_or, refl, sym, ap, ◌∙◌, arith, inl, inr}
+use Rattle.std.proofs.Common.{◌≡◌, ℕ, zero, suc, ◌+◌, ◌<◌, List, [], ◌∷◌, length, get_or, Bool, true, false, cond, Option, Some, None, slice_index_or, refl, sym, ap, ◌∙◌, arith, inl, inr}
 use Rattle.std.specs.List.{list_any}
 use Rattle.std.specs.HashMap as hash
 use Rattle.std.specs.HashMap.{HashMap}
@@ -82,11 +82,3 @@ pub null_there : (places : List ℕ) (row : Row) (i : ℕ) → i < length places
 null_there [] row i lt e = absurd (omega arith)
 null_there (p ∷ ps) row zero lt e = rw e refl
 null_there (p ∷ ps) row (suc i) lt e = rw (null_there ps row i (omega arith) e) (or-true _)
-
-outside : (row : Row) (p : ℕ) → length row ≤ p → is_null (slice_index_or row p value.Null) ≡ true
-outside [] p h = refl
-outside (v ∷ row) zero h = absurd (omega arith)
-outside (v ∷ row) (suc p) h = outside row p (omega arith)
-
-pub nothing_there : (places : List ℕ) (row : Row) (i : ℕ) → i < length places → length row ≤ get_or places i 0 → list_any is_null (values_at places row) ≡ true
-nothing_there places row i lt out = null_there places row i lt (outside row (get_or places i 0) out)

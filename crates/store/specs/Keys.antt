@@ -1,11 +1,10 @@
--- Keys of a unique list: lists of values, which are equal where they are the same lists.
-use Rattle.std.specs.Prelude.{◌≡◌, ◌<◌, ℕ, Bool, true, List, [], length, slice_index_or, flat_map}
+-- Keys of rows: lists of values, which are equal where they are the same lists.
+use Rattle.std.specs.Prelude.{◌≡◌, Bool, true, flat_map}
 use Rattle.std.proofs.Common.{refl, sym, ap}
 use Rattle.std.specs.Bool.{Decides}
 use Rattle.std.specs.Hash.{HashWrites}
 use Rattle.std.specs.Cmp.{IsEquivalence, both_ways}
 use Rattle.std.specs.Cmp.Lexicographic.{pointwise, pointwise_decides}
-use Rattle.std.specs.List.{AllByRecursion}
 use Rattle.std.proofs.lemmas.Bool.Decides.{Decides-int_eq}
 use Rattle.std.proofs.lemmas.Slice.Eq.{bytes_eq-Decides}
 use Rattle.values.specs.declared.value.Value.{Value}
@@ -13,11 +12,6 @@ use Rattle.values.specs.declared.value.Value.TheVariants as value
 use Rattle.values.specs.contracts.value.ValuePartialEq.TheImpl as value_eq
 use Rattle.values.specs.contracts.value.ValueHash.TheImpl as value_hash
 use Rattle.schema.specs.Databases.{Row}
-
--- the row has a value at each of the places
-pub record IsWithin (rows : List Row) (row : ℕ) (places : List ℕ) : Type 0 where
-  pub below : row < length rows
-  pub wide : AllByRecursion (λ p. p < length (slice_index_or rows row [])) places
 
 abbrev pub key_eq : Row → Row → Bool
 key_eq = pointwise value_eq.ghosts.eq

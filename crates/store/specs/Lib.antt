@@ -8,5 +8,6 @@ pub mod Numbers
 pub mod Parsing
 pub mod Reading
 pub mod Reports
+pub mod RowCells
 pub mod Tables
 pub mod Texts

@@ -1,4 +1,4 @@
-//! Keys of a unique list, whose values stay in their table.
+//! Rows by their values at some places, which stay where they are.
 
 ghost use Rattle.std.specs.Prelude.{◌≡◌, ◌<◌, true, false, [], length, slice_index_or, MatchOption, flat_map};
 ghost use Rattle.std.specs.Cmp.{partial_equiv_from_equiv};
@@ -8,8 +8,9 @@ ghost use Rattle.values.specs.Truth as logic;
 ghost use Rattle.values.specs.declared.value.Value.TheVariants as value;
 ghost use Rattle.schema.specs.Databases.{values_at};
 ghost use Rattle.store.specs.Keys.{key_eq, key_writes, key_equiv, key_alike};
+ghost use Rattle.store.specs.RowCells.{row_of};
 
-use crate::source::RowSource;
+use crate::row::RowCells;
 use crate::table::Table;
 use std::hash::{Hash, Hasher};
 use std::marker::Model;
@@ -17,25 +18,27 @@ use values::{Cell, Items};
 
 /// The values of a row at some places, seen as their list.
 #[derive(Drop)]
-pub struct RowKey<'t> {
-    rows: &'t Table,
-    places: &'t Items<usize>,
-    row: usize,
+pub struct RowKey<'a, 't> {
+    row: RowCells<'a, 't>,
+    places: &'a [usize],
 }
 
-impl<'t> Model for RowKey<'t> {
-    ghost use Rattle.std.specs.Prelude.{slice_index_or, []};
+impl<'a, 't> Model for RowKey<'a, 't> {
     ghost use Rattle.schema.specs.Databases.{Row, values_at};
-    ghost use Rattle.store.specs.Keys.{IsWithin};
+    ghost use Rattle.store.specs.RowCells.{row_of};
 
     ghost Value = { Row };
 
-    ghost view = { λ k. values_at k.places.now (slice_index_or k.rows.now k.row []) };
-
-    ghost invariant = { λ k. IsWithin k.rows.now k.row k.places.now };
+    ghost view = { λ k. values_at k.places.now (row_of k.row) };
 }
 
-impl<'t> RowKey<'t> {
+impl<'a, 't> RowKey<'a, 't> {
+    pub fn new(row: RowCells<'a, 't>, places: &'a [usize]) -> RowKey<'a, 't>
+        ensures { result ≡ values_at places.entry.now (row_of row.entry) }
+    {
+        RowKey { row, places }
+    }
+
     fn len(&self) -> usize
         ensures { result ≡ length self.now }
     {
@@ -46,16 +49,16 @@ impl<'t> RowKey<'t> {
         requires { number < length self.now }
         ensures { value_of result ≡ slice_index_or self.now number value.Null }
     {
-        self.rows.cell(self.row, self.places.as_slice()[number])
+        self.row.cell(self.places[number])
     }
 }
 
-impl PartialEq for RowKey<'_> {
+impl PartialEq for RowKey<'_, '_> {
     ghost eq = { key_eq };
 
     ghost laws = { partial_equiv_from_equiv key_equiv };
 
-    fn eq(&self, other: &RowKey<'_>) -> bool {
+    fn eq(&self, other: &RowKey<'_, '_>) -> bool {
         if self.len() != other.len() {
             return false;
         }
@@ -68,11 +71,11 @@ impl PartialEq for RowKey<'_> {
     }
 }
 
-impl Eq for RowKey<'_> {
+impl Eq for RowKey<'_, '_> {
     ghost laws = { key_equiv };
 }
 
-impl Hash for RowKey<'_> {
+impl Hash for RowKey<'_, '_> {
     ghost hash_input = { key_writes };
 
     ghost respects_eq = { key_alike };
@@ -84,26 +87,16 @@ impl Hash for RowKey<'_> {
     }
 }
 
-fn is_null(cell: Cell<'_>) -> bool
-    ensures { result ≡ logic.is_null (value_of cell.entry) }
-{
-    matches!(cell, Cell::Null)
-}
-
-/// The key of a row at the places; none where a value is Null.
-pub fn key_of<'t>(rows: &'t Table, row: usize, places: &'t Items<usize>) -> Option<RowKey<'t>>
-    requires { row < length rows.now }
+/// The key of a table's row at the places; none where a value is Null.
+pub(crate) fn key_of<'t>(rows: &'t Table, row: usize, places: &'t Items<usize>) -> Option<RowKey<'t, 't>>
     ensures { MatchOption result (list_any logic.is_null (values_at places.now (slice_index_or rows.now row [])) ≡ true)
         (λ key. (key ≡ values_at places.now (slice_index_or rows.now row [])) × (list_any logic.is_null (values_at places.now (slice_index_or rows.now row [])) ≡ false)) }
 {
-    let width = rows.width();
+    let cells = RowCells::Stored(rows, row);
     for place in places.as_slice() {
-        if width <= *place {
-            return None;
-        }
-        if is_null(rows.cell(row, *place)) {
+        if cells.cell(*place).is_null() {
             return None;
         }
     }
-    Some(RowKey { rows, places, row })
+    Some(RowKey::new(cells, places.as_slice()))
 }

@@ -31,6 +31,12 @@ impl Cell<'_> {
             Cell::Text(text) => Ok(Value::Text(Text::from_str(alloc, text)?)),
         }
     }
+
+    pub fn is_null(self) -> bool
+        ensures { result ≡ logic.is_null (value_of self.entry) }
+    {
+        matches!(self, Cell::Null)
+    }
 }
 
 /// The total order: Null, then numbers, then texts by their bytes.

@@ -1,6 +1,0 @@
-use Rattle.std.proofs.Common.{◌≡◌, fold, take}
-use Rattle.store.specs.Keys.{key_writes}
-use Rattle.operators.proofs.keys.RowKeyHash.hash.Given as goal
-
-abbrev pub invariant-loop-number : goal.invariant-loop-number
-invariant-loop-number g l = l.state ≡ fold g.H.Hasher.write l.fn.state (key_writes (take l.number l.self))
