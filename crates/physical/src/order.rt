@@ -50,7 +50,11 @@ fn operator_columns(
 
 /// The columns of the first input.
 #[cycle(columns)]
-fn first_columns(alloc: Global, uses: &[TableInstance], inputs: &[Plan]) -> Result<Columns, AllocError>
+fn first_columns(
+    alloc: Global,
+    uses: &[TableInstance],
+    inputs: &[Plan],
+) -> Result<Columns, AllocError>
     ensures { IfOk result (λ columns. columns ≡ outputs.first_columns (map (λ p. (spec.delivered uses.now p).columns) inputs.now)) }
 {
     match inputs.first() {
@@ -61,7 +65,11 @@ fn first_columns(alloc: Global, uses: &[TableInstance], inputs: &[Plan]) -> Resu
 
 /// The columns of the second input.
 #[cycle(columns)]
-fn second_columns(alloc: Global, uses: &[TableInstance], inputs: &[Plan]) -> Result<Columns, AllocError>
+fn second_columns(
+    alloc: Global,
+    uses: &[TableInstance],
+    inputs: &[Plan],
+) -> Result<Columns, AllocError>
     ensures { IfOk result (λ columns. columns ≡ outputs.second_columns (map (λ p. (spec.delivered uses.now p).columns) inputs.now)) }
 {
     match inputs.get(1) {
