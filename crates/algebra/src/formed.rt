@@ -133,7 +133,12 @@ impl Expr {
 
     /// Whether the expression is well formed, in a query with these table instances and aggregates. The columns are
     /// those of the classes, by their numbers.
-    pub fn is_formed(&self, uses: &[TableInstance], own: &[Aggregation], columns: &[Columns]) -> bool
+    pub fn is_formed(
+        &self,
+        uses: &[TableInstance],
+        own: &[Aggregation],
+        columns: &[Columns],
+    ) -> bool
         requires { spec.classes_pass (λ g. nat_lt g (length columns.now)) self.now ≡ true }
         ensures { result ≡ spec.is_formed uses.now own.now (columns_at columns.now) self.now }
     {

@@ -86,6 +86,12 @@ fn worked_queries(rt: HostRuntime) {
         first: DEPT,
         second: RICH,
     };
-    assert_eq!(rt; query_differences(rt.alloc(), company, &lists, &Meaning).as_deref(), Ok(""));
-    assert_eq!(rt; query_differences(rt.alloc(), rich, &[SUM], &Meaning).as_deref(), Ok(""));
+    assert_eq!(rt;
+        query_differences(rt.alloc(), company, &lists, &Meaning).as_deref(),
+        Ok("")
+    );
+    assert_eq!(rt;
+        query_differences(rt.alloc(), rich, &[SUM], &Meaning).as_deref(),
+        Ok("")
+    );
 }

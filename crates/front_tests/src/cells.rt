@@ -64,7 +64,10 @@ fn values_stand_in_order(rt: HostRuntime) {
 'Ba => >>>>>=<<
 'a => >>>>>>=<
 'é => >>>>>>>=";
-    assert_eq!(rt; differences(rt.alloc(), &[CASES], &Orders).as_deref(), Ok(""));
+    assert_eq!(rt;
+        differences(rt.alloc(), &[CASES], &Orders).as_deref(),
+        Ok("")
+    );
 }
 
 fn comparison(sign: &str) -> Option<Comparison> {
@@ -125,7 +128,10 @@ fn null_compares_as_unknown(rt: HostRuntime) {
 'b <= 'ab => false
 'b > 'ab => true
 2 >= 2 => true";
-    assert_eq!(rt; differences(rt.alloc(), &[CASES], &Comparisons).as_deref(), Ok(""));
+    assert_eq!(rt;
+        differences(rt.alloc(), &[CASES], &Comparisons).as_deref(),
+        Ok("")
+    );
     assert!(rt; Comparison::NotEqual.admits(Ordering::Less));
 }
 
@@ -155,6 +161,9 @@ unknown true => unknown unknown true
 true false => false false true
 true unknown => false unknown true
 true true => false true true";
-    assert_eq!(rt; differences(rt.alloc(), &[CASES], &Connectives).as_deref(), Ok(""));
+    assert_eq!(rt;
+        differences(rt.alloc(), &[CASES], &Connectives).as_deref(),
+        Ok("")
+    );
     assert!(rt; truth("true").is_true() && !truth("unknown").is_true());
 }

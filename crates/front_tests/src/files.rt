@@ -1,6 +1,9 @@
 //! Tables loaded from CSV files, one after another, and by devices that fail.
 
-use fixtures::{COMPANY, Reporting, StepReporting, differences, push_cell, push_lines, push_number, report_steps, spelt};
+use fixtures::{
+    COMPANY, Reporting, StepReporting, differences, push_cell, push_lines, push_number,
+    report_steps, spelt,
+};
 use std::alloc::{AllocError, Global};
 use std::io;
 use std::io::{ErrorKind, Read};
@@ -9,7 +12,11 @@ use values::Cell;
 
 // ---- loads as texts
 
-fn push_optional(reported: &mut String, before: &str, number: Option<usize>) -> Result<(), AllocError> {
+fn push_optional(
+    reported: &mut String,
+    before: &str,
+    number: Option<usize>,
+) -> Result<(), AllocError> {
     match number {
         Some(number) => push_number(reported, before, number),
         None => Ok(()),
@@ -183,7 +190,10 @@ id,dept,pay,badge~1,^,500,7~ => T03 1 in 1";
         schema: COMPANY,
         table: 1,
     };
-    assert_eq!(rt; differences(rt.alloc(), &[CASES], &loads).as_deref(), Ok(""));
+    assert_eq!(rt;
+        differences(rt.alloc(), &[CASES], &loads).as_deref(),
+        Ok("")
+    );
 }
 
 /// A device that fails is reported before a fault of what was read, and leaves the table as it was.
@@ -212,7 +222,10 @@ id,name,boss~1,ops,10~ ; id,name,boss~ by 6 ; id~ => loaded / 1 <ops> 10 ; loade
         schema: COMPANY,
         table: 0,
     };
-    assert_eq!(rt; differences(rt.alloc(), &[CASES, DEVICES], &loads).as_deref(), Ok(""));
+    assert_eq!(rt;
+        differences(rt.alloc(), &[CASES, DEVICES], &loads).as_deref(),
+        Ok("")
+    );
 }
 
 #[test]
@@ -225,7 +238,10 @@ fn a_table_is_bounded(rt: HostRuntime) {
         schema: SCHEMA,
         table: 0,
     };
-    assert_eq!(rt; differences(rt.alloc(), &[CASES], &loads).as_deref(), Ok(""));
+    assert_eq!(rt;
+        differences(rt.alloc(), &[CASES], &loads).as_deref(),
+        Ok("")
+    );
 }
 
 // ---- files that are cut

@@ -2,7 +2,10 @@
 
 ghost use Rattle.query.specs.Bound.{IsBoundOver};
 
-use fixtures::{COMPANY, DEPT, EMP, QueryReporting, Reporting, Tables, differences, push_names, push_number, query_differences, spelt};
+use fixtures::{
+    COMPANY, DEPT, EMP, QueryReporting, Reporting, Tables, differences, push_names, push_number,
+    query_differences, spelt,
+};
 use query::{Aggregate, Block, Column, Cond, Item, Query, Term};
 use std::alloc::{AllocError, Global};
 use std::fmt::Write;
@@ -158,8 +161,14 @@ const WIDE: &str =
 #[test]
 fn names_are_bound(rt: HostRuntime) {
     let lists = [TABLES, COLUMNS, KINDS, GROUPS, ORDERS, FIRST, BOUND, SIZES];
-    assert_eq!(rt; differences(rt.alloc(), &lists, &Names { schema: COMPANY }).as_deref(), Ok(""));
-    assert_eq!(rt; differences(rt.alloc(), &[WIDTHS], &Names { schema: WIDE }).as_deref(), Ok(""));
+    assert_eq!(rt;
+        differences(rt.alloc(), &lists, &Names { schema: COMPANY }).as_deref(),
+        Ok("")
+    );
+    assert_eq!(rt;
+        differences(rt.alloc(), &[WIDTHS], &Names { schema: WIDE }).as_deref(),
+        Ok("")
+    );
 }
 
 // ---- the numbers of a query's parts
@@ -259,5 +268,8 @@ fn parts_are_numbered(rt: HostRuntime) {
         first: DEPT,
         second: EMP,
     };
-    assert_eq!(rt; query_differences(rt.alloc(), company, &[CASES], &Numbers).as_deref(), Ok(""));
+    assert_eq!(rt;
+        query_differences(rt.alloc(), company, &[CASES], &Numbers).as_deref(),
+        Ok("")
+    );
 }

@@ -97,7 +97,10 @@ impl Reporting for Codes<'_> {
 }
 
 fn are_read(rt: &impl Abort, alloc: Global, front: &str, cases: &str, back: &str) {
-    assert_eq!(rt; differences(alloc, &[cases], &Codes { front, back }).as_deref(), Ok(""));
+    assert_eq!(rt;
+        differences(alloc, &[cases], &Codes { front, back }).as_deref(),
+        Ok("")
+    );
 }
 
 /// The last of two members with one key is the one that counts.

@@ -203,6 +203,12 @@ fn texts_have_trees_or_faults(rt: HostRuntime) {
         NO_TEXT,
     ];
     let (bytes, text) = (Handed::Bytes, Handed::Text);
-    assert_eq!(rt; differences(rt.alloc(), &tables, &Trees { handed: bytes }).as_deref(), Ok(""));
-    assert_eq!(rt; differences(rt.alloc(), &tables, &Trees { handed: text }).as_deref(), Ok(""));
+    assert_eq!(rt;
+        differences(rt.alloc(), &tables, &Trees { handed: bytes }).as_deref(),
+        Ok("")
+    );
+    assert_eq!(rt;
+        differences(rt.alloc(), &tables, &Trees { handed: text }).as_deref(),
+        Ok("")
+    );
 }

@@ -17,7 +17,11 @@ fn append(mut left: Vec<usize>, right: Vec<usize>) -> Result<Vec<usize>, AllocEr
 }
 
 /// The column numbers of a FROM's rows.
-fn from_numbers(alloc: Global, uses: &[TableInstance], from: &From) -> Result<Vec<usize>, AllocError>
+fn from_numbers(
+    alloc: Global,
+    uses: &[TableInstance],
+    from: &From,
+) -> Result<Vec<usize>, AllocError>
     ensures { IfOk result (λ numbers. numbers.items ≡ (spec.from_frame uses.now from.now).numbers) }
 {
     match from {

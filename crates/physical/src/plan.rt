@@ -56,14 +56,9 @@ pub enum Operator {
 #[derive(Drop)]
 pub enum Node {
     /// An operator that computes the expression of this line of the derivation.
-    Implements {
-        line: LineId,
-        operator: Operator,
-    },
+    Implements { line: LineId, operator: Operator },
     /// The enforcer of an order: the input's rows by the keys, those that tie as they stood. It is of its input's class.
-    Sort {
-        keys: Items<OrderKey>,
-    },
+    Sort { keys: Items<OrderKey> },
 }
 
 #[derive(Drop)]

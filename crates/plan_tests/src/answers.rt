@@ -190,6 +190,12 @@ fn both_commands_answer_as_sql_does(rt: HostRuntime) {
         REFUSED,
     ];
     let (plan, meaning) = (Way::Plan, Way::Meaning);
-    assert_eq!(rt; differences(rt.alloc(), &tables, &Answers { way: plan }).as_deref(), Ok(""));
-    assert_eq!(rt; differences(rt.alloc(), &tables, &Answers { way: meaning }).as_deref(), Ok(""));
+    assert_eq!(rt;
+        differences(rt.alloc(), &tables, &Answers { way: plan }).as_deref(),
+        Ok("")
+    );
+    assert_eq!(rt;
+        differences(rt.alloc(), &tables, &Answers { way: meaning }).as_deref(),
+        Ok("")
+    );
 }

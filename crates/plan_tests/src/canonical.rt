@@ -143,5 +143,8 @@ SELECT DISTINCT dept, COUNT(*) FROM emp GROUP BY dept => get 0; group 0: 1; 4=co
         first: DEPT,
         second: EMP,
     };
-    assert_eq!(rt; query_differences(rt.alloc(), company, &[CASES], &Canonical).as_deref(), Ok(""));
+    assert_eq!(rt;
+        query_differences(rt.alloc(), company, &[CASES], &Canonical).as_deref(),
+        Ok("")
+    );
 }

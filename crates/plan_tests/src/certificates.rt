@@ -179,5 +179,8 @@ SELECT id FROM emp WHERE pay <> 500 => scan 0 0 | filter 1 | cut 2: 0 /  /  / SE
 
 #[test]
 fn certificates_are_judged(rt: HostRuntime) {
-    assert_eq!(rt; query_differences(rt.alloc(), TABLES, &[PLANS, ROWS, LINES], &Verdicts).as_deref(), Ok(""));
+    assert_eq!(rt;
+        query_differences(rt.alloc(), TABLES, &[PLANS, ROWS, LINES], &Verdicts).as_deref(),
+        Ok("")
+    );
 }

@@ -133,5 +133,8 @@ SELECT SUM(boss) FROM dept => keep 1: 0 1 => not formed
 SELECT SUM(boss) FROM dept => join 1 => formed
 SELECT SUM(boss) FROM dept => join 0 => not formed
 SELECT SUM(boss) FROM dept => join 2 => not formed";
-    assert_eq!(rt; query_differences(rt.alloc(), TABLES, &[CASES], &Expressions).as_deref(), Ok(""));
+    assert_eq!(rt;
+        query_differences(rt.alloc(), TABLES, &[CASES], &Expressions).as_deref(),
+        Ok("")
+    );
 }

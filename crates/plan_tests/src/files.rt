@@ -96,7 +96,10 @@ impl Reporting for Replaced<'_> {
 /// Both commands answer the cases so.
 fn are_answered(rt: &impl Abort, alloc: Global, given: Given, cases: &str, text: &str) {
     for way in [Way::Plan, Way::Meaning] {
-        assert_eq!(rt; differences(alloc, &[cases], &Replaced { way, given, text }).as_deref(), Ok(""));
+        assert_eq!(rt;
+            differences(alloc, &[cases], &Replaced { way, given, text }).as_deref(),
+            Ok("")
+        );
     }
 }
 

@@ -100,5 +100,8 @@ SELECT COUNT(*) FROM dept => get 0; group 0:; 2=count; keep 1: 2
 SELECT DISTINCT boss FROM dept WHERE (boss < 7 AND id < 9) AND boss < 7 => get 0; select 0 [<(c0,i9),<(c1,i7)]; keep 1: 1; distinct 2
 SELECT id FROM dept WHERE NOT boss < 7 OR boss IS NULL AND NULL = 3 => get 0; select 0 [or(not(<(c1,i7)),and(null(c1),=(n,i3)))]; keep 1: 0
 SELECT a FROM t, u WHERE d >= 'y' => get 0; get 1; join 0 1 []; select 2 [>=(c3,t79)]; keep 3: 0";
-    assert_eq!(rt; query_differences(rt.alloc(), TABLES, &[CASES], &Frames).as_deref(), Ok(""));
+    assert_eq!(rt;
+        query_differences(rt.alloc(), TABLES, &[CASES], &Frames).as_deref(),
+        Ok("")
+    );
 }

@@ -63,5 +63,8 @@ SELECT x.boss, x.id FROM dept x, dept y => scan 0 0 | sort: 1d 2 | scan 0 1 | lo
 SELECT x.boss, x.id FROM dept x, dept y => scan 0 0 | sort: 1d 0 | cut 0: 1 | distinct 0 => order 1d
 SELECT x.boss, x.id FROM dept x, dept y => scan 0 0 | sort: 1d 0 | group 0 => order
 SELECT boss, id FROM dept ORDER BY id DESC, boss => order 0d 1";
-    assert_eq!(rt; query_differences(rt.alloc(), TABLES, &[CASES], &Orders).as_deref(), Ok(""));
+    assert_eq!(rt;
+        query_differences(rt.alloc(), TABLES, &[CASES], &Orders).as_deref(),
+        Ok("")
+    );
 }

@@ -39,10 +39,7 @@ pub fn plus<'t>(v: Cell<'t>, w: Cell<'t>) -> Option<Cell<'t>>
         (λ total. value_of total ≡ spec.plus (value_of v.entry) (value_of w.entry)) }
 {
     match (v, w) {
-        (Cell::Int(m), Cell::Int(n)) => match m.checked_add(n) {
-            Some(total) => Some(Cell::Int(total)),
-            None => None,
-        },
+        (Cell::Int(m), Cell::Int(n)) => Some(Cell::Int(m.checked_add(n)?)),
         (Cell::Int(m), _) => Some(Cell::Int(m)),
         (_, w) => Some(w),
     }

@@ -88,7 +88,11 @@ impl Hash for RowKey<'_, '_> {
 }
 
 /// The key of a table's row at the places; none where a value is Null.
-pub(crate) fn key_of<'t>(rows: &'t Table, row: usize, places: &'t Items<usize>) -> Option<RowKey<'t, 't>>
+pub(crate) fn key_of<'t>(
+    rows: &'t Table,
+    row: usize,
+    places: &'t Items<usize>,
+) -> Option<RowKey<'t, 't>>
     ensures { MatchOption result (list_any logic.is_null (values_at places.now (slice_index_or rows.now row [])) ≡ true)
         (λ key. (key ≡ values_at places.now (slice_index_or rows.now row [])) × (list_any logic.is_null (values_at places.now (slice_index_or rows.now row [])) ≡ false)) }
 {

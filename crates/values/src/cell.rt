@@ -58,11 +58,7 @@ pub fn order(a: Cell<'_>, b: Cell<'_>) -> Ordering
 pub fn directed_order(descending: bool, a: Cell<'_>, b: Cell<'_>) -> Ordering
     ensures { result ≡ spec.directed descending (value_of a.entry) (value_of b.entry) }
 {
-    if descending {
-        order(b, a)
-    } else {
-        order(a, b)
-    }
+    if descending { order(b, a) } else { order(a, b) }
 }
 
 /// Whether two values are equal in the total order, in which Null equals Null.
