@@ -13,7 +13,7 @@ use Rattle.schema.specs.Databases.{Row}
 use Rattle.store.specs.declared.cells.Entries.{Entries}
 use Rattle.store.specs.declared.cells.Entries.TheVariants as entries
 use Rattle.store.specs.declared.cells.ColumnCells.{ColumnCells}
-use Rattle.store.specs.Columns.{Takes, TakeRow, kind_of, size_of, entry_at, HasCells, cell_at, row_at, rows_of, with_entry, with_value}
+use Rattle.store.specs.StoredColumns.{Takes, TakeRow, kind_of, size_of, entry_at, HasCells, cell_at, row_at, rows_of, with_entry, with_value}
 use Rattle.store.proofs.TextPlaces.{range_same}
 
 abbrev pub kinds_of : List ColumnCells → List Kind

@@ -7,7 +7,7 @@ use Rattle.values.specs.declared.value.Value.{Value}
 use Rattle.schema.specs.declared.schema.Column.{Column}
 use Rattle.values.specs.declared.value.Value.TheVariants as value
 use Rattle.schema.specs.Databases.{Row, FitsColumn, FitsColumns, most_rows}
-use Rattle.store.specs.Columns.{Takes, TakeRow}
+use Rattle.store.specs.StoredColumns.{Takes, TakeRow}
 use Rattle.store.specs.declared.fault.FieldFault.{FieldFault}
 use Rattle.store.specs.declared.fault.TableCause.{TableCause}
 use Rattle.store.specs.declared.fault.TableCause.TheVariants.{OtherHeader, OtherLength, Field, Repeated, TooMany}

@@ -1,4 +1,3 @@
-pub mod Columns
 pub mod Databases
 pub mod Devices
 pub mod Faults
@@ -9,5 +8,6 @@ pub mod Parsing
 pub mod Reading
 pub mod Reports
 pub mod RowCells
+pub mod StoredColumns
 pub mod Tables
 pub mod Texts

@@ -3,7 +3,7 @@
 ghost use Rattle.std.specs.Prelude.{◌≡◌, ◌<◌, length, OnOk};
 ghost use Rattle.values.specs.Cells.{value_of};
 ghost use Rattle.schema.specs.declared.schema.Kind.TheVariants as kind;
-ghost use Rattle.store.specs.Columns.{Takes, HasCells, kind_of, size_of, cell_at, number_in, text_in, with_entry, with_value};
+ghost use Rattle.store.specs.StoredColumns.{Takes, HasCells, kind_of, size_of, cell_at, number_in, text_in, with_entry, with_value};
 
 use crate::texts::Texts;
 use schema::Kind;

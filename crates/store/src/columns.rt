@@ -4,7 +4,7 @@ ghost use Rattle.std.specs.Prelude.{◌≡◌, ◌∷◌, ◌++◌, ◌<◌, [],
 ghost use Rattle.values.specs.Cells.{value_of};
 ghost use Rattle.values.specs.declared.value.Value.TheVariants as value;
 ghost use Rattle.schema.specs.Databases.{HaveWidth, most_rows};
-ghost use Rattle.store.specs.Columns.{TakeRow};
+ghost use Rattle.store.specs.StoredColumns.{TakeRow};
 
 use crate::cells::ColumnCells;
 use schema::Column;
@@ -14,15 +14,15 @@ use values::{Cell, Value};
 
 /// Rows and the kinds of their columns.
 #[derive(Drop)]
-pub struct Columns {
+pub struct ColumnStore {
     count: usize,
     columns: Vec<ColumnCells>,
 }
 
-impl Model for Columns {
+impl Model for ColumnStore {
     ghost use Rattle.std.specs.Prelude.{map};
     ghost use Rattle.std.specs.List.{AllByRecursion};
-    ghost use Rattle.store.specs.Columns.{Kept, HasCells, kind_of, rows_of};
+    ghost use Rattle.store.specs.StoredColumns.{Kept, HasCells, kind_of, rows_of};
 
     ghost Value = { Kept };
 
@@ -31,16 +31,16 @@ impl Model for Columns {
     ghost invariant = { λ t. AllByRecursion (HasCells t.count) t.columns.items };
 }
 
-impl Columns {
+impl ColumnStore {
     /// No row, of columns of the same kinds as these.
-    pub fn new(alloc: Global, columns: &[Column]) -> Result<Columns, AllocError>
+    pub fn new(alloc: Global, columns: &[Column]) -> Result<ColumnStore, AllocError>
         ensures { IfOk result (λ t. t ≡ record { kinds = map (λ c. c.kind) columns.now; rows = [] }) }
     {
         let mut kept = Vec::with_capacity(alloc, columns.len())?;
         for column in columns {
             kept.push(ColumnCells::new(alloc, column.kind))?;
         }
-        Ok(Columns {
+        Ok(ColumnStore {
             count: 0,
             columns: kept,
         })
@@ -59,16 +59,16 @@ impl Columns {
     }
 
     /// The rows and this one.
-    pub fn with_row(self, row: &[Value]) -> Result<Columns, AllocError>
+    pub fn with_row(self, row: &[Value]) -> Result<ColumnStore, AllocError>
         requires kinds { TakeRow self.kinds row.now }
         requires few { length self.rows < most_rows }
         ensures { IfOk result (λ t. t ≡ record { kinds = self.kinds; rows = self.rows ++ row.now ∷ [] }) }
     {
-        let Columns { count, mut columns } = self;
+        let ColumnStore { count, mut columns } = self;
         for place in 0..columns.len() {
             columns[place].push(&row[place])?;
         }
-        Ok(Columns {
+        Ok(ColumnStore {
             count: count + 1,
             columns,
         })

@@ -8,7 +8,7 @@ ghost use Rattle.store.specs.Devices.{Rose};
 ghost use Rattle.store.specs.Parsing.{ReadsTable};
 ghost use Rattle.store.specs.Databases.{Loads, ReplacesTable};
 
-use crate::columns::Columns;
+use crate::columns::ColumnStore;
 use crate::fault::{TableCause, TableFault, TableRefusal};
 use crate::input::{InputFault, TableInput, read_all};
 use crate::records::parse;
@@ -76,7 +76,7 @@ impl<'s> Database<'s> {
     {
         let mut tables = Vec::new(alloc);
         for entry in schema.tables.as_slice() {
-            let columns = Columns::new(alloc, entry.columns.as_slice())?;
+            let columns = ColumnStore::new(alloc, entry.columns.as_slice())?;
             tables.push(Table::new(columns))?;
         }
         Ok(Database { schema, tables })

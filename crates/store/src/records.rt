@@ -9,7 +9,7 @@ ghost use Rattle.store.specs.Tables.{Record, StandFor, names_of};
 ghost use Rattle.store.specs.Parsing.{RowFails, Parses, ParsesFile, in_field};
 ghost use Rattle.store.specs.Reports.{Reports};
 
-use crate::columns::Columns;
+use crate::columns::ColumnStore;
 use crate::fault::{FieldFault, TableCause, TableRefusal};
 use crate::field::value_of;
 use crate::source::RowSource;
@@ -95,7 +95,7 @@ fn row_of(
 }
 
 /// What is parsed where the record after these rows is at fault.
-fn stopped(rows: Columns, cause: TableCause) -> Parsed
+fn stopped(rows: ColumnStore, cause: TableCause) -> Parsed
     requires { length rows.rows ≤ most_rows }
     ensures { result ≡ record { rows = rows.rows; fault = Some (record { row = length rows.rows + 1; cause = cause }) } }
 {
@@ -107,7 +107,7 @@ fn stopped(rows: Columns, cause: TableCause) -> Parsed
 }
 
 /// What is parsed where the records end with these rows.
-fn whole(rows: Columns) -> Parsed
+fn whole(rows: ColumnStore) -> Parsed
     ensures { result ≡ record { rows = rows.rows; fault = None } }
 {
     Parsed {
@@ -125,7 +125,7 @@ fn rows_of<R: Read>(
 ) -> Result<Parsed, AllocError>
     ensures { (rest : List Record) → Remains R.remaining reader.old rest → IfOk result (Parses columns.now rest) }
 {
-    let mut rows = Columns::new(alloc, columns)?;
+    let mut rows = ColumnStore::new(alloc, columns)?;
     while rows.len() < MOST_ROWS {
         if !next_of(reader, fields)? {
             return Ok(whole(rows));
@@ -146,7 +146,7 @@ fn rows_of<R: Read>(
 fn no_header(alloc: Global, columns: &[Column]) -> Result<Parsed, AllocError>
     ensures { IfOk result (λ p. p ≡ record { rows = []; fault = Some (record { row = 0; cause = TableCause.OtherHeader }) }) }
 {
-    let none = Columns::new(alloc, columns)?;
+    let none = ColumnStore::new(alloc, columns)?;
     Ok(Parsed {
         rows: Table::new(none),
         fault: Some(TableRefusal {

@@ -2,7 +2,7 @@
 
 ghost use Rattle.std.specs.Prelude.{◌≡◌};
 
-use crate::columns::Columns;
+use crate::columns::ColumnStore;
 use crate::source::RowSource;
 use std::marker::Model;
 use values::Cell;
@@ -10,7 +10,7 @@ use values::Cell;
 /// A table, kept by columns and seen as its list of rows.
 #[derive(Drop)]
 pub struct Table {
-    columns: Columns,
+    columns: ColumnStore,
 }
 
 impl Model for Table {
@@ -23,7 +23,7 @@ impl Model for Table {
 }
 
 impl Table {
-    pub(crate) fn new(columns: Columns) -> Table
+    pub(crate) fn new(columns: ColumnStore) -> Table
         ensures { result ≡ columns.rows }
     {
         Table { columns }

@@ -1,8 +1,8 @@
 use Rattle.std.proofs.Common.{◌≡◌, map, take}
 use Rattle.std.specs.List.{AllByRecursion}
-use Rattle.store.specs.Columns.{HasCells}
+use Rattle.store.specs.StoredColumns.{HasCells}
 use Rattle.store.proofs.ColumnRows.{kinds_of}
-use Rattle.store.proofs.columns.Columns.new.Given as goal
+use Rattle.store.proofs.columns.ColumnStore.new.Given as goal
 
 abbrev pub invariant-loop-column : goal.invariant-loop-column
 invariant-loop-column l = record {

@@ -1,9 +1,9 @@
 use Rattle.std.proofs.Common.{◌≡◌, ◌∙◌, ◌<◌, ◌+◌, ◌^◌, List, length, sym, ap, arith, rules, refl, add-one}
 use Rattle.schema.specs.declared.schema.Kind.{Kind}
 use Rattle.schema.specs.Databases.{Row}
-use Rattle.store.specs.Columns.{Kept, TakeRow, rows_of}
+use Rattle.store.specs.StoredColumns.{Kept, TakeRow, rows_of}
 use Rattle.store.proofs.ColumnRows.{kinds_of, extend, row_long, takes_there, extend_more, kinds_stay, all_more, rows_more, length_rows}
-use Rattle.store.proofs.columns.Columns.with_row.Goals as goal
+use Rattle.store.proofs.columns.ColumnStore.with_row.Goals as goal
 
 pub loop-place-init : goal.loop-place-init
 loop-place-init c = refl

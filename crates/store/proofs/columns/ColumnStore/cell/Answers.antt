@@ -1,7 +1,7 @@
 use Rattle.std.proofs.Common.{◌∙◌, ◌<◌, length, ap, rules}
-use Rattle.store.specs.Columns.{Kept}
+use Rattle.store.specs.StoredColumns.{Kept}
 use Rattle.store.proofs.ColumnRows.{place_below, cell_of_rows, has_there}
-use Rattle.store.proofs.columns.Columns.cell.Goals as goal
+use Rattle.store.proofs.columns.ColumnStore.cell.Goals as goal
 
 pub offset_bounds-as_slice-column : goal.offset_bounds-as_slice-column
 offset_bounds-as_slice-column c =

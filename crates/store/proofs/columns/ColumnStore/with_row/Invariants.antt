@@ -1,6 +1,6 @@
 use Rattle.std.proofs.Common.{◌≡◌}
 use Rattle.store.proofs.ColumnRows.{extend}
-use Rattle.store.proofs.columns.Columns.with_row.Given as goal
+use Rattle.store.proofs.columns.ColumnStore.with_row.Given as goal
 
 abbrev pub invariant-loop-place : goal.invariant-loop-place
 invariant-loop-place l = l.columns.items ≡ extend l.place l.initial.columns.items l.row

@@ -3,10 +3,10 @@ use Rattle.std.proofs.lemmas.List.{map_push, take_all}
 use Rattle.values.proofs.Lists.{take_next}
 use Rattle.schema.specs.declared.schema.Column.{Column}
 use Rattle.schema.specs.declared.schema.Kind.{Kind}
-use Rattle.store.specs.Columns.{Kept, kind_of}
+use Rattle.store.specs.StoredColumns.{Kept, kind_of}
 use Rattle.store.specs.declared.cells.ColumnCells.{ColumnCells}
 use Rattle.store.proofs.ColumnRows.{has_push}
-use Rattle.store.proofs.columns.Columns.new.Goals as goal
+use Rattle.store.proofs.columns.ColumnStore.new.Goals as goal
 
 pub loop-column-init : goal.loop-column-init
 loop-column-init c = rw c.in_ok-kept.ensures.items (record { kinds = refl; empty = tt })
