@@ -1,5 +1,5 @@
 -- ORDER BY: its order is total, a sorted list is one that it allows, and a sort keeps how often each row stands.
-use Rattle.std.proofs.Common.{◌≡◌, refl, suc, ◌+◌, Bool, true, false, if◌then◌else◌, List, [], ◌∷◌, Bor, ap, sym, ◌∙◌, arith}
+use Rattle.std.proofs.Common.{◌≡◌, refl, suc, ◌+◌, Bool, if◌then◌else◌, List, [], ◌∷◌, Bor, ap, sym, ◌∙◌, arith}
 use denote.Param.Members.{Mut}
 use Rattle.std.specs.declared.cmp.Ordering.{Ordering}
 use Rattle.std.specs.declared.cmp.Ordering.TheVariants.{Less, Equal, Greater}
