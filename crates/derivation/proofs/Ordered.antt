@@ -1,5 +1,5 @@
 -- Rows in the order that a plan delivers are in one that the ORDER BY allows.
-use Rattle.std.proofs.Common.{◌≡◌, refl, ap, sym, ◌∙◌, subst, ℕ, zero, suc, Bool, true, false, if◌then◌else◌, List, [], ◌∷◌, map, take, length, Option, Some, None}
+use Rattle.std.proofs.Common.{◌≡◌, refl, ap, sym, ◌∙◌, subst, ℕ, zero, suc, Bool, true, false, List, [], ◌∷◌, map, take, length, Option, Some, None}
 use Rattle.std.specs.Coded.{coded_list}
 use Rattle.std.specs.List.{slice_get}
 use Rattle.std.specs.Ordering.{is_gt, on, ordering_then}
