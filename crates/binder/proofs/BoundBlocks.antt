@@ -19,10 +19,10 @@ use Rattle.binder.specs.Selects.{FromSoFar, condition_in, chain_in, select_in, f
 use Rattle.binder.specs.Extents.{of_condition, of_chain, of_filter}
 use Rattle.query.specs.Bound as numbers
 use Rattle.query.specs.Bound.{CondScope, cond_scope, from_scope, block_scope, bound_filter, aggregate_numbers, none_among, are_new}
-use Rattle.binder.specs.BoundStatements.{plainness, filter_ons}
+use Rattle.sql_parse.specs.PlainOns.{plainness, filter_ons}
 use Rattle.binder.proofs.SelectParts.{select_at}
 use Rattle.binder.proofs.ExtentParts.{extent-select}
-use Rattle.binder.proofs.PlainParts.{ons-select}
+use Rattle.sql_parse.proofs.PlainParts.{ons-select}
 use Rattle.query.proofs.ScopeEquations.{scope-Block}
 use Rattle.binder.proofs.Given.{Given, and-then, given-from, given-at, given-ok}
 use Rattle.binder.proofs.Rising.{Rising, AreBelow, rising-bounds, rising-below, apart, none-among, none-among-append}

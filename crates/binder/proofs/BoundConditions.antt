@@ -23,10 +23,10 @@ use Rattle.binder.specs.Selects.{condition_in, select_in, comparison_in, members
 use Rattle.binder.specs.Extents.{of_condition, of_select, beside, nothing, all_of}
 use Rattle.query.specs.Bound as numbers
 use Rattle.query.specs.Bound.{CondScope, cond_scope, bound_term}
-use Rattle.binder.specs.BoundStatements.{Plainness, plainness, all_plain, select_ons}
+use Rattle.sql_parse.specs.PlainOns.{Plainness, plainness, all_plain, select_ons}
 use Rattle.binder.proofs.SelectParts.{compared, null_tested, negated, conjoined, disjoined, existing, contained}
 use Rattle.binder.proofs.ExtentParts.{extent-Compare, extent-IsNull, extent-Not, extent-And, extent-Or, extent-Exists, extent-In}
-use Rattle.binder.proofs.PlainParts.{plain-Compare, plain-IsNull, plain-Not, plain-And, plain-Or, plain-Exists, plain-In}
+use Rattle.sql_parse.proofs.PlainParts.{plain-Compare, plain-IsNull, plain-Not, plain-And, plain-Or, plain-Exists, plain-In}
 use Rattle.query.proofs.ScopeEquations.{scope-Compare, scope-IsNull, scope-Not, scope-And, scope-Or, scope-Exists, scope-In}
 use Rattle.binder.proofs.Given.{Given, and-then, given-from, given-if, given-at, given-ok}
 use Rattle.binder.proofs.Growth.{Grown, Within, grown-none, grown-more, within-first, within-next}

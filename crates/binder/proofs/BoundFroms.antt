@@ -21,11 +21,11 @@ use Rattle.binder.specs.Selects.{FromSoFar, condition_in, join_in, chain_in, joi
 use Rattle.binder.specs.Extents.{of_condition, of_join, of_chain, one_table}
 use Rattle.binder.specs.Lent.{width}
 use Rattle.query.specs.Bound.{FromScope, CondScope, cond_scope, from_scope, join_scope, use_numbers}
-use Rattle.binder.specs.BoundStatements.{Plainness, plainness, join_ons, chain_ons}
+use Rattle.sql_parse.specs.PlainOns.{Plainness, plainness, join_ons, chain_ons}
 use Rattle.binder.proofs.Indexes.{width-append}
 use Rattle.binder.proofs.SelectParts.{join_at, chain_at}
 use Rattle.binder.proofs.ExtentParts.{extent-join, extent-chain}
-use Rattle.binder.proofs.PlainParts.{ons-join, ons-chain}
+use Rattle.sql_parse.proofs.PlainParts.{ons-join, ons-chain}
 use Rattle.query.proofs.ScopeEquations.{scope-Table, scope-Join, scope-LeftJoin, scope-Comma}
 use Rattle.binder.proofs.Given.{Given, and-then, given-at, weaker}
 use Rattle.binder.proofs.Rising.{Rising, rising-append, rising-to, rising-below}

@@ -14,7 +14,7 @@ use Rattle.binder.specs.Extents.{of_condition, of_join, of_chain, of_select}
 use Rattle.binder.specs.Lent.{width}
 use Rattle.query.specs.Bound as numbers
 use Rattle.query.specs.Bound.{CondScope, FromScope, BlockScope, cond_scope, from_scope, block_scope}
-use Rattle.binder.specs.BoundStatements.{Plainness, plainness, join_ons, chain_ons, select_ons}
+use Rattle.sql_parse.specs.PlainOns.{Plainness, plainness, join_ons, chain_ons, select_ons}
 use Rattle.binder.proofs.Given.{Given}
 use Rattle.binder.proofs.Growth.{Grown, Within}
 use Rattle.binder.proofs.NamesThere.{Around}

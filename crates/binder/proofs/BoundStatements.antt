@@ -27,7 +27,8 @@ use Rattle.binder.specs.Ordering.{order_in}
 use Rattle.binder.specs.Queries.{at_start, bound_statement}
 use Rattle.query.specs.Bound.{block_scope, is_bound, IsOver}
 use Rattle.query.proofs.TableUses.{uses-wide}
-use Rattle.binder.specs.BoundStatements.{select_ons, ons_are_plain, StatementsAreBound, StatementsAreOver, StatementsAreWide}
+use Rattle.sql_parse.specs.PlainOns.{select_ons, ons_are_plain}
+use Rattle.binder.specs.BoundStatements.{StatementsAreBound, StatementsAreOver, StatementsAreWide}
 use Rattle.binder.proofs.Given.{Given, and-then, given-from, given-if, given-ok}
 use Rattle.binder.proofs.BoundParts.{SelectIs, CondBound, JoinBound, ChainBound, SelectBound}
 use Rattle.binder.proofs.BoundConditions.{bound-Compare, bound-IsNull, bound-Not, bound-And, bound-Or, bound-Exists, bound-In}

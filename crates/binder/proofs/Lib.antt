@@ -13,8 +13,6 @@ pub mod NameKeys
 pub mod NamesThere
 pub mod Naming
 pub mod OutputLoops
-pub mod PlainParts
-pub mod PlainStatements
 pub mod Rising
 pub mod SelectExits
 pub mod SelectLoops

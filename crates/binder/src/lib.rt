@@ -16,4 +16,4 @@ mod tables;
 
 pub use fault::{BindFault, BindReason, BindRefusal};
 pub use laws::statements_are_bound;
-pub use statement::bind_statement;
+pub use statement::bind;

@@ -2,6 +2,7 @@
 
 ghost use Rattle.std.specs.Prelude.{◌≡◌, map, IfOk};
 ghost use Rattle.values.specs.Faults.{Gives};
+ghost use Rattle.query.specs.Bound.{TablesAreOver};
 ghost use Rattle.binder.specs.Queries as spec;
 
 use crate::extent::of_select;
@@ -11,8 +12,9 @@ use crate::output::Output;
 use crate::scope::Scopes;
 use crate::selects::select;
 use crate::tables::Numbered;
-use query::Query;
+use query::{BoundQuery, Query};
 use schema::Schema;
+use sql_parse::ParsedStatement;
 use sql_parse::statement::Statement;
 use std::alloc::{AllocError, Global};
 use values::{Items, Text};
@@ -30,15 +32,10 @@ fn names(alloc: Global, outputs: &[Output]) -> Result<Items<Text>, AllocError>
     Ok(names)
 }
 
-/// The query that a statement is over a schema, or its first fault. First of all are counted its table instances, the
-/// SELECTs in one another and its tests, and last of all its columns.
+/// The query that a tree is over a schema, or its first fault.
 #[tactic(auto, unfolding(crate::specs::Queries::bound_statement))]
-pub fn bind_statement(
-    alloc: Global,
-    schema: &Schema,
-    statement: &Statement,
-) -> Result<Query, BindFault>
-    ensures exact { Gives (λ query. query) result (spec.bound_statement schema.now statement.now) }
+fn query_of(alloc: Global, schema: &Schema, statement: &Statement) -> Result<Query, BindFault>
+    ensures { Gives (λ query. query) result (spec.bound_statement schema.now statement.now) }
 {
     let extent = of_select(schema, &statement.select)?;
     if !extent.is_within() {
@@ -63,4 +60,18 @@ pub fn bind_statement(
         names,
         order,
     })
+}
+
+/// The query that a statement is over a schema, or its first fault. First of all are counted its table instances, the
+/// SELECTs in one another and its tests, and last of all its columns.
+pub fn bind(
+    alloc: Global,
+    schema: &Schema,
+    statement: &ParsedStatement,
+) -> Result<BoundQuery, BindFault>
+    ensures exact { Gives (λ query. query) result (spec.bound_statement schema.now statement.now) }
+    ensures over { IfOk result (TablesAreOver schema.now) }
+{
+    let query = query_of(alloc, schema, statement.tree())?;
+    Ok(BoundQuery::new(query))
 }

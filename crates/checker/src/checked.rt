@@ -2,23 +2,21 @@
 
 ghost use Rattle.std.specs.Prelude.{◌≡◌, IfOk};
 ghost use Rattle.values.specs.Faults.{Gives};
-ghost use Rattle.query.specs.Bound.{IsBoundOver};
+ghost use Rattle.query.specs.Bound.{IsBoundOver, TablesAreOver};
 ghost use Rattle.derivation.specs.Replay.{replayed, IsChecked};
 
 use crate::fit::{is_delivered, plan_fits};
 use crate::replay::replay;
 use derivation::{Certificate, CheckFault};
 use logical::query_frame;
-use query::Query;
+use query::{BoundQuery, Query};
 use schema::Schema;
 use std::alloc::Global;
 use std::marker::Model;
 
-/// Checks that each line of a certificate may stand where it does, that each node of its plan is of the class that is wanted
-/// of it, and that the plan delivers the ORDER BY. Else the first fault is reported; lines go before nodes. A plan with
-/// more nodes than there are numbers has no room in memory, and is reported so.
+/// The check of a certificate against its query's tree.
 #[tactic(auto, unfolding(derivation::specs::Replay::replayed))]
-pub fn check<'a>(
+fn accepted<'a>(
     alloc: Global,
     schema: &'a Schema,
     query: &'a Query,
@@ -48,6 +46,22 @@ pub fn check<'a>(
         query,
         certificate,
     })
+}
+
+/// Checks that each line of a certificate may stand where it does, that each node of its plan is of the class that is wanted
+/// of it, and that the plan delivers the ORDER BY. Else the first fault is reported; lines go before nodes. A plan with
+/// more nodes than there are numbers has no room in memory, and is reported so.
+pub fn check<'a>(
+    alloc: Global,
+    schema: &'a Schema,
+    query: &'a BoundQuery,
+    certificate: &'a Certificate,
+) -> Result<Checked<'a>, CheckFault>
+    requires { TablesAreOver schema.now query.now }
+    ensures verdict { Gives (λ c. c.certificate) result (replayed query.now certificate.now) }
+    ensures of { IfOk result (λ c. (c.schema ≡ schema.now) × (c.query ≡ query.now)) }
+{
+    accepted(alloc, schema, query.query(), certificate)
 }
 
 /// A certificate that was checked against its query: its plan gives answers of the query.

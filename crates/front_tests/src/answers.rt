@@ -1,10 +1,10 @@
 //! Worked queries over two small tables, with the answers that SQL gives.
 
-ghost use Rattle.query.specs.Bound.{IsBoundOver};
+ghost use Rattle.query.specs.Bound.{TablesAreOver};
 
 use fixtures::{COMPANY, DEPT, EMP, QueryReporting, Tables, push_rows, query_differences};
 use oracle::meaning;
-use query::Query;
+use query::BoundQuery;
 use std::alloc::{AllocError, Global};
 use store::Database;
 
@@ -16,11 +16,11 @@ impl QueryReporting for Meaning {
         &self,
         alloc: Global,
         database: &Database<'_>,
-        query: &Query,
+        query: &BoundQuery,
         _more: &str,
         reported: &mut String,
     ) -> Result<(), AllocError> {
-        push_rows(reported, meaning(alloc, query, database)?.as_slice())
+        push_rows(reported, meaning(alloc, query.query(), database)?.as_slice())
     }
 }
 

@@ -1,12 +1,12 @@
 //! Texts over a small schema, and the first fault of their names.
 
-ghost use Rattle.query.specs.Bound.{IsBoundOver};
+ghost use Rattle.query.specs.Bound.{TablesAreOver};
 
 use fixtures::{
     COMPANY, DEPT, EMP, QueryReporting, Reporting, Tables, differences, push_names, push_number,
     query_differences, spelt,
 };
-use query::{Aggregate, Block, Column, Cond, Item, Query, Term};
+use query::{Aggregate, Block, BoundQuery, Column, Cond, Item, Query, Term};
 use std::alloc::{AllocError, Global};
 use std::fmt::Write;
 use store::Database;
@@ -247,10 +247,11 @@ impl QueryReporting for Numbers {
         &self,
         _alloc: Global,
         _database: &Database<'_>,
-        query: &Query,
+        query: &BoundQuery,
         _more: &str,
         reported: &mut String,
     ) -> Result<(), AllocError> {
+        let query = query.query();
         push_tables(reported, query)?;
         push_block(reported, &query.block)?;
         push_filter(reported, &query.block)?;

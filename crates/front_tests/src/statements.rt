@@ -3,7 +3,7 @@
 use crate::trees::push_statement;
 use fixtures::{Reporting, differences, drop_tree, spelt};
 use sql_parse::statement::Statement;
-use sql_parse::{ParseFault, parse_statement, parse_statement_bytes};
+use sql_parse::{ParseFault, parse, parse_bytes};
 use std::alloc::{AllocError, Global};
 use std::fmt::Write;
 use std::str;
@@ -18,8 +18,8 @@ enum Handed {
 
 fn parsed(alloc: Global, handed: Handed, bytes: &[u8]) -> Result<Statement, ParseFault> {
     match (handed, str::from_utf8(bytes)) {
-        (Handed::Text, Ok(text)) => parse_statement(alloc, text),
-        (_, _) => parse_statement_bytes(alloc, bytes),
+        (Handed::Text, Ok(text)) => parse(alloc, text),
+        (_, _) => parse_bytes(alloc, bytes),
     }
 }
 

@@ -101,7 +101,7 @@ unprepared_refused schema text S inputs refusal.Memory is h = tt
 unprepared_refused schema text S inputs (refusal.Text r) is h = (S, is, h)
 unprepared_refused schema text S inputs (refusal.Scope r) is h = (S, is, h)
 unprepared_refused schema text S inputs (refusal.Table n r) is h = (S, h.0, record { is_schema = is; is_query = h.1 }, h.2)
-unprepared_refused schema text S inputs (refusal.TableDevice n) is h = (S, h.0, record { is_schema = is; is_query = h.1 }, tt)
+unprepared_refused schema text S inputs (refusal.TableDevice n) is h = (S, h.0, record { is_schema = is; is_query = h.1 }, h.2)
 unprepared_refused schema text S inputs (refusal.Schema r) is h = absurd h
 unprepared_refused schema text S inputs (refusal.Check r) is h = absurd h
 unprepared_refused schema text S inputs refusal.Output is h = absurd h
@@ -120,7 +120,7 @@ unprepared_device text S inputs old new o refusal.Output h d = absurd h
 pub answer_refused : (schema text : List ℕ) (S : Schema) (q : Query) (d : Stored) (inputs : List Input) (o p : ℕ) (r : Refusal) → schema_of schema ≡ Ok S → IsPrepared S text inputs q d
     → IsAnswerFault o p r → IsRefusedBy schema text inputs r
 answer_refused schema text S q d inputs o p refusal.Memory is ready h = tt
-answer_refused schema text S q d inputs o p refusal.Output is ready h = (S, q, record { is_schema = is; is_query = ready.is_query }, tt)
+answer_refused schema text S q d inputs o p refusal.Output is ready h = (S, q, record { is_schema = is; is_query = ready.is_query }, (d.tables, ready.reported))
 answer_refused schema text S q d inputs o p (refusal.Text r) is ready h = absurd h
 answer_refused schema text S q d inputs o p (refusal.Scope r) is ready h = absurd h
 answer_refused schema text S q d inputs o p (refusal.Table n r) is ready h = absurd h

@@ -75,14 +75,13 @@ pub still_counted : {R : Type 0} (failures : R → ℕ) (tables : List R) (d y :
 still_counted failures tables d y n lt same = same ∙ sym (get_or-map failures tables n d 0 lt)
 
 -- a load that fails after these
-pub load_fails : (S : Schema) (inputs now : List Input) (counts later : List ℕ) (old new : Stored) (n : ℕ) (fault : TableFault) (refusal : Refusal) → old.schema ≡ S
+pub load_fails : (S : Schema) (inputs now : List Input) (counts later : List ℕ) (old new : Stored) (n : ℕ) (fault : TableFault) (refusal : Refusal) → n < length S.tables → old.schema ≡ S
     → ((bytes : List ℕ) → get_or now n None ≡ Some bytes → Loads old new n (records_of bytes) (Err fault))
     → IsLoaded S inputs now counts later n old.tables → refusal ≡ of_table n fault → IsLoadFault S inputs refusal
-load_fails S inputs now counts later old new n faults.Memory refusal same loads before is = rw is tt
-load_fails S inputs now counts later old new n faults.Device refusal same loads before is = rw is tt
-load_fails S inputs now counts later old new n (faults.Refused r) refusal same loads before is = rw is (record {
-  earlier = old.tables;
-  reported = before.reported;
+load_fails S inputs now counts later old new n faults.Memory refusal there same loads before is = rw is tt
+load_fails S inputs now counts later old new n faults.Device refusal there same loads before is = rw is (record { is_there = there; earlier = old.tables; reported = before.reported })
+load_fails S inputs now counts later old new n (faults.Refused r) refusal there same loads before is = rw is (record {
+  reached = record { is_there = there; earlier = old.tables; reported = before.reported };
   fault = λ t bytes at input. reported_there S old new n t bytes (Err (faults.Refused r)) same at (loads bytes (before.unread n (omega arith) ∙ input));
 })
 

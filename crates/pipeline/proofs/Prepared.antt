@@ -11,7 +11,7 @@ use Rattle.query.specs.declared.query.Query.{Query}
 use Rattle.binder.specs.declared.fault.BindRefusal.{BindRefusal}
 use Rattle.binder.specs.Queries.{bound_statement}
 use Rattle.binder.proofs.BoundStatements.{statements_bound, statements_over}
-use Rattle.binder.proofs.PlainStatements.{statements_plain}
+use Rattle.sql_parse.proofs.PlainStatements.{statements_plain}
 use Rattle.query.specs.Bound.{IsBoundOver}
 use Rattle.pipeline.specs.declared.refusal.Refusal.{Refusal}
 use Rattle.pipeline.specs.declared.refusal.Refusal.TheVariants as refusal

@@ -55,16 +55,25 @@ FileReports S inputs n reported = (t : Table) (bytes : List ℕ) → slice_get S
 abbrev pub TablesReported : Schema → List Input → ℕ → Database → Type 0
 TablesReported S inputs count D = (n : ℕ) → n < count → FileReports S inputs n (Ok (slice_index_or D n []))
 
--- the fault is the first of the table's file, and the files of the tables before it give rows
-pub record IsTableRefused (S : Schema) (inputs : List Input) (n : ℕ) (r : TableRefusal) : Type 0 where
+-- the files of all tables give rows
+abbrev pub AllReported : Schema → List Input → Type 0
+AllReported S inputs = (D : Database) × TablesReported S inputs (length S.tables) D
+
+-- there is a table of this number, and the files of the tables before it give rows
+pub record IsReached (S : Schema) (inputs : List Input) (n : ℕ) : Type 0 where
+  pub is_there : n < length S.tables
   pub earlier : Database
   pub reported : TablesReported S inputs n earlier
+
+-- so it is, and the fault is the first of the table's file
+pub record IsTableRefused (S : Schema) (inputs : List Input) (n : ℕ) (r : TableRefusal) : Type 0 where
+  pub reached : IsReached S inputs n
   pub fault : FileReports S inputs n (Err r)
 
 -- why the tables were not loaded
 abbrev pub IsLoadFault : Schema → List Input → Refusal → Type 0
 IsLoadFault S inputs refusal.Memory = Unit {0}
-IsLoadFault S inputs (refusal.TableDevice n) = Unit {0}
+IsLoadFault S inputs (refusal.TableDevice n) = IsReached S inputs n
 IsLoadFault S inputs (refusal.Table n r) = IsTableRefused S inputs n r
 IsLoadFault S inputs _ = ⊥
 
@@ -145,7 +154,7 @@ WithPlanned schema text inputs P = (written : List ℕ) × (A : IsAnswerText sch
 abbrev pub WithQuery : List ℕ → List ℕ → (Schema → Type 0) → Type 0
 WithQuery schema text P = (S : Schema) × (q : Query) × Asks schema text S q × P S
 
--- the first fault, in the order schema, text, scope, tables; no query is refused for its certificate
+-- the first fault, in the order schema, text, scope, tables, output; no query is refused for its certificate
 abbrev pub IsRefusedBy : List ℕ → List ℕ → List Input → Refusal → Type 0
 IsRefusedBy schema text inputs refusal.Memory = Unit {0}
 IsRefusedBy schema text inputs (refusal.Schema r) = schema_of schema ≡ Err r
@@ -153,8 +162,8 @@ IsRefusedBy schema text inputs (refusal.Text r) = (S : Schema) × (schema_of sch
 IsRefusedBy schema text inputs (refusal.Scope r) = (S : Schema) × (schema_of schema ≡ Ok S) × IsUnbound text S r
 IsRefusedBy schema text inputs (refusal.Check r) = ⊥
 IsRefusedBy schema text inputs (refusal.Table n r) = WithQuery schema text (λ S. IsTableRefused S inputs n r)
-IsRefusedBy schema text inputs (refusal.TableDevice n) = WithQuery schema text (λ S. Unit {0})
-IsRefusedBy schema text inputs refusal.Output = WithQuery schema text (λ S. Unit {0})
+IsRefusedBy schema text inputs (refusal.TableDevice n) = WithQuery schema text (λ S. IsReached S inputs n)
+IsRefusedBy schema text inputs refusal.Output = WithQuery schema text (λ S. AllReported S inputs)
 
 -- the refusal comes before anything is written
 abbrev pub IsBefore : Refusal → Type 0

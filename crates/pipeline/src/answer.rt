@@ -13,7 +13,7 @@ use derivation::Certificate;
 use executor::{AnswerOutput, write_answer, write_rows};
 use oracle::meaning;
 use planner::canonical;
-use query::Query;
+use query::BoundQuery;
 use schema::Schema;
 use std::alloc::Global;
 use store::Database;
@@ -22,7 +22,7 @@ use store::Database;
 fn answer_by<W: AnswerOutput>(
     alloc: Global,
     schema: &Schema,
-    query: &Query,
+    query: &BoundQuery,
     certificate: &Certificate,
     database: &Database<'_>,
     out: &mut W,
@@ -45,7 +45,7 @@ fn answer_by<W: AnswerOutput>(
 pub(crate) fn answer_by_plan<W: AnswerOutput>(
     alloc: Global,
     schema: &Schema,
-    query: &Query,
+    query: &BoundQuery,
     database: &Database<'_>,
     out: &mut W,
 ) -> Result<(), Refusal>
@@ -64,7 +64,7 @@ pub(crate) fn answer_by_plan<W: AnswerOutput>(
 /// Writes what the query means, by the slow evaluator.
 pub(crate) fn answer_by_meaning<W: AnswerOutput>(
     alloc: Global,
-    query: &Query,
+    query: &BoundQuery,
     database: &Database<'_>,
     out: &mut W,
 ) -> Result<(), Refusal>
@@ -74,6 +74,7 @@ pub(crate) fn answer_by_meaning<W: AnswerOutput>(
     ensures fails { IfErr result (IsAnswerFault (W.failures out.old) (W.failures out.new)) }
     ensures quiet { OnOk result (W.failures out.new ≡ W.failures out.old) }
 {
+    let query = query.query();
     let rows = meaning(alloc, query, database)?;
     write_rows(alloc, query, rows.as_slice(), out)?;
     Ok(())

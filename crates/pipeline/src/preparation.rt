@@ -4,17 +4,17 @@ ghost use Rattle.std.specs.Prelude.{◌≡◌, ◌≤◌, length, map, IfOk, IfE
 ghost use Rattle.pipeline.specs.EndToEnd.{IsQuery, IsNoQuery, TablesReported, IsLoadFault, IsPrepared, IsUnprepared, IsDeviceFault, AreQuiet};
 
 use crate::refusal::Refusal;
-use binder::bind_statement;
-use query::Query;
+use binder::bind;
+use query::BoundQuery;
 use schema::Schema;
-use sql_parse::parse_statement_bytes;
+use sql_parse::parse_bytes;
 use std::alloc::Global;
 use store::{Database, TableInput};
 
 /// A query over the tables that its inputs gave.
 #[derive(Drop)]
 pub(crate) struct Prepared<'s> {
-    pub query: Query,
+    pub query: BoundQuery,
     pub database: Database<'s>,
 }
 
@@ -24,7 +24,8 @@ fn load_all<R: TableInput>(
     database: &mut Database<'_>,
     tables: &mut [R],
 ) -> Result<(), Refusal>
-    requires { length tables.old ≤ length database.old.tables }
+    requires loaded { length tables.old ≤ length database.old.tables }
+    requires schema { length tables.old ≤ length database.old.schema.tables }
     ensures schema { database.new.schema ≡ database.old.schema }
     ensures reported { OnOk result (TablesReported database.old.schema (map R.remaining tables.old) (length tables.old) database.new.tables) }
     ensures fails { IfErr result (IsLoadFault database.old.schema (map R.remaining tables.old)) }
@@ -40,12 +41,12 @@ fn load_all<R: TableInput>(
 }
 
 /// The query that a text is.
-fn bound_query(alloc: Global, schema: &Schema, text: &[u8]) -> Result<Query, Refusal>
+fn bound_query(alloc: Global, schema: &Schema, text: &[u8]) -> Result<BoundQuery, Refusal>
     ensures ok { IfOk result (IsQuery text.now schema.now) }
     ensures fails { IfErr result (IsNoQuery text.now schema.now) }
 {
-    let statement = parse_statement_bytes(alloc, text)?;
-    match bind_statement(alloc, schema, &statement) {
+    let statement = parse_bytes(alloc, text)?;
+    match bind(alloc, schema, &statement) {
         Ok(query) => Ok(query),
         Err(fault) => Err(Refusal::from(fault)),
     }

@@ -6,7 +6,7 @@ use derivation::{Certificate, Line};
 use fixtures::{COMPANY, DEPT, EMP, QueryReporting, Tables, push_number, query_differences};
 use physical::{JoinKind, Node, Operator, Plan};
 use planner::canonical;
-use query::Query;
+use query::BoundQuery;
 use std::alloc::{AllocError, Global};
 use store::Database;
 
@@ -123,7 +123,7 @@ impl QueryReporting for Canonical {
         &self,
         alloc: Global,
         _database: &Database<'_>,
-        query: &Query,
+        query: &BoundQuery,
         _more: &str,
         reported: &mut String,
     ) -> Result<(), AllocError> {

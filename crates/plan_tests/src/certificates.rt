@@ -1,6 +1,6 @@
 //! Certificates of worked queries: the verdict on each, and the rows that its plan gives.
 
-ghost use Rattle.query.specs.Bound.{IsBoundOver};
+ghost use Rattle.query.specs.Bound.{TablesAreOver};
 
 use crate::plans::{cut, number, plan_of};
 use crate::tables::TABLES;
@@ -11,7 +11,7 @@ use executor::run;
 use fixtures::{QueryReporting, drop_query, push_rows, query_differences, query_of};
 use logical::query_frame;
 use physical::Plan;
-use query::Query;
+use query::{BoundQuery, Query};
 use schema::Schema;
 use std::alloc::{AllocError, Global};
 use std::fmt::Write;
@@ -30,7 +30,7 @@ fn frame_of(
     }
     let other = query_of(alloc, schema, other);
     let frame = match &other {
-        Some(other) => query_frame(alloc, other),
+        Some(other) => query_frame(alloc, other.query()),
         None => Ok(Items::new(alloc)),
     };
     drop_query(other);
@@ -105,10 +105,10 @@ fn push_verdict(
     alloc: Global,
     reported: &mut String,
     database: &Database<'_>,
-    query: &Query,
+    query: &BoundQuery,
     certificate: &Certificate,
 ) -> Result<(), AllocError>
-    requires { IsBoundOver database.now.schema query.now }
+    requires { TablesAreOver database.now.schema query.now }
 {
     match check(alloc, database.schema(), query, certificate) {
         Ok(checked) => push_answer(alloc, reported, &checked, database),
@@ -124,11 +124,11 @@ impl QueryReporting for Verdicts {
         &self,
         alloc: Global,
         database: &Database<'_>,
-        query: &Query,
+        query: &BoundQuery,
         more: &str,
         reported: &mut String,
     ) -> Result<(), AllocError> {
-        match &certificate_of(alloc, database.schema(), query, more)? {
+        match &certificate_of(alloc, database.schema(), query.query(), more)? {
             Some(certificate) => push_verdict(alloc, reported, database, query, certificate),
             None => reported.push_str("no plan"),
         }

@@ -7,7 +7,7 @@ use crate::plans::{columns_of, cut, number};
 use crate::tables::TABLES;
 use algebra::{Aggregation, Columns, Condition, Conjuncts, Expr, Term};
 use fixtures::{QueryReporting, Reporting, differences, query_differences};
-use query::{Aggregate, Query, TableInstance};
+use query::{Aggregate, BoundQuery, TableInstance};
 use std::alloc::{AllocError, Global};
 use store::Database;
 use values::{Comparison, Value};
@@ -101,10 +101,11 @@ impl QueryReporting for Expressions {
         &self,
         alloc: Global,
         _database: &Database<'_>,
-        query: &Query,
+        query: &BoundQuery,
         more: &str,
         reported: &mut String,
     ) -> Result<(), AllocError> {
+        let query = query.query();
         let uses = query.tables.as_slice();
         if let Some(occurrence) = more.strip_prefix("columns ") {
             return push_occurrence(alloc, reported, uses, number(occurrence));

@@ -5,7 +5,7 @@ use crate::tables::TABLES;
 use algebra::{Aggregation, Columns, Conjuncts, Expr};
 use fixtures::{QueryReporting, query_differences};
 use logical::query_frame;
-use query::{Query, TableInstance};
+use query::{BoundQuery, Query, TableInstance};
 use std::alloc::{AllocError, Global};
 use store::Database;
 
@@ -71,10 +71,11 @@ impl QueryReporting for Frames {
         &self,
         alloc: Global,
         _database: &Database<'_>,
-        query: &Query,
+        query: &BoundQuery,
         _more: &str,
         reported: &mut String,
     ) -> Result<(), AllocError> {
+        let query = query.query();
         let frame = query_frame(alloc, query)?;
         if !are_formed(alloc, query, frame.as_slice())? {
             reported.push_str("not well formed: ")?;

@@ -7,7 +7,7 @@ use derivation::query_order;
 use fixtures::{QueryReporting, query_differences};
 use logical::query_frame;
 use physical::{Plan, delivers};
-use query::Query;
+use query::{BoundQuery, Query};
 use std::alloc::{AllocError, Global};
 use store::Database;
 
@@ -38,10 +38,11 @@ impl QueryReporting for Orders {
         &self,
         alloc: Global,
         _database: &Database<'_>,
-        query: &Query,
+        query: &BoundQuery,
         plan: &str,
         reported: &mut String,
     ) -> Result<(), AllocError> {
+        let query = query.query();
         reported.push_str("order")?;
         if plan.is_empty() {
             push_keys(reported, query_order(alloc, query)?.as_slice())

@@ -11,7 +11,7 @@ use algebra::{ClassId, Expr};
 use derivation::{Certificate, Line, query_order};
 use logical::query_frame;
 use physical::{JoinKind, Node, Operator, OrderKey, Plan};
-use query::Query;
+use query::{BoundQuery, Query};
 use std::alloc::{AllocError, Global};
 use values::Items;
 
@@ -100,8 +100,8 @@ fn lines_of(alloc: Global, frame: Items<Expr>) -> Result<Items<Line>, AllocError
     Ok(lines)
 }
 
-/// The certificate whose lines are the query's frame and whose plan follows it, with the sort of the ORDER BY on top.
-pub fn canonical(alloc: Global, query: &Query) -> Result<Certificate, AllocError>
+/// The canonical certificate of a query's tree.
+fn certificate_of(alloc: Global, query: &Query) -> Result<Certificate, AllocError>
     requires { is_bound query.now ≡ true }
     ensures canonical { IfOk result (spec.IsCanonical query.now) }
     ensures replays { IfOk result (λ certificate. replayed query.now certificate ≡ Ok certificate) }
@@ -113,4 +113,13 @@ pub fn canonical(alloc: Global, query: &Query) -> Result<Certificate, AllocError
     let plan = sorted(alloc, Items::from_vec(order), below)?;
     let lines = lines_of(alloc, frame)?;
     Ok(Certificate { lines, plan })
+}
+
+/// The certificate whose lines are the query's frame and whose plan follows it, with the sort of the ORDER BY on top.
+pub fn canonical(alloc: Global, query: &BoundQuery) -> Result<Certificate, AllocError>
+    ensures canonical { IfOk result (spec.IsCanonical query.now) }
+    ensures replays { IfOk result (λ certificate. replayed query.now certificate ≡ Ok certificate) }
+    ensures only { IfOk result (spec.IsOnlyCanonical query.now) }
+{
+    certificate_of(alloc, query.query())
 }

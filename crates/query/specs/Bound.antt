@@ -177,7 +177,11 @@ is_bound q = (block_scope q.tables q.block).bound []
 abbrev pub IsOver : Schema → TableInstance → Type 0
 IsOver S t = slice_get S.tables t.table ≡ Some t.entry
 
--- the query is bound, and so are all its table instances
+-- so are all table instances of the query
+abbrev pub TablesAreOver : Schema → Query → Type 0
+TablesAreOver S q = AllByRecursion (IsOver S) q.tables
+
+-- the query is bound, and over the schema
 pub record IsBoundOver (S : Schema) (q : Query) : Type 0 where
   pub bound : is_bound q ≡ true
-  pub over : AllByRecursion (IsOver S) q.tables
+  pub over : TablesAreOver S q

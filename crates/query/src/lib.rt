@@ -2,9 +2,11 @@
 #![tactic(auto)]
 
 pub mod aggregates;
+mod bound_query;
 pub mod laws;
 pub mod query;
 
+pub use bound_query::BoundQuery;
 pub use laws::{
     answers_are_by_laws, laws_determine_meaning, meaning_obeys_laws, satisfying_databases_fit,
     worked_rows_hold,

@@ -1,3 +1,5 @@
+pub mod PlainParts
+pub mod PlainStatements
 pub mod SqlDecided
 pub mod SqlLoops
 pub mod SqlTexts

@@ -7,6 +7,7 @@ mod conditions;
 pub mod fault;
 mod lexer;
 pub mod name;
+mod parsed_statement;
 mod reading;
 pub mod statement;
 mod statement_parser;
@@ -14,4 +15,5 @@ mod token;
 
 pub use fault::{ParseFault, ParseReason, ParseRefusal};
 pub use name::Name;
-pub use statement_parser::{parse_statement, parse_statement_bytes};
+pub use parsed_statement::ParsedStatement;
+pub use statement_parser::{parse, parse_bytes};

@@ -13,6 +13,7 @@ use crate::clauses::order_by;
 use crate::conditions::select;
 use crate::fault::{ParseFault, ParseReason, refused};
 use crate::lexer::tokens;
+use crate::parsed_statement::ParsedStatement;
 use crate::reading::{Parsed, accept, fault};
 use crate::statement::Statement;
 use crate::token::{Symbol, Token};
@@ -67,12 +68,9 @@ fn most_open() -> usize
     64
 }
 
-/// The tree of a statement's text. A refusal reports the first fault: too long a text, then the first place where no token
-/// begins, a text isn't closed or a number is out of range, then the first token that can't stand where it does or opens a
-/// parenthesis too many.
-pub fn parse_statement(alloc: Global, text: &str) -> Result<Statement, ParseFault>
+/// The tree of a text.
+fn tree_of(alloc: Global, text: &str) -> Result<Statement, ParseFault>
     ensures found { IfOk result (λ tree. ReadsStatement text.now tree) }
-    // So no text has two trees, and a refusal comes only where there is none.
     ensures only { (tree : Statement) → ReadsStatement text.now tree → Gives (λ t. t) result (Ok tree) }
     ensures refused { IfErr result (λ fault. IfRefused fault (IsStatementFault text.now)) }
 {
@@ -84,8 +82,23 @@ pub fn parse_statement(alloc: Global, text: &str) -> Result<Statement, ParseFaul
     whole_statement(alloc, tokens.as_slice(), text.len(), depth)
 }
 
+/// The tree of a statement's text. A refusal reports the first fault: too long a text, then the first place where no token
+/// begins, a text isn't closed or a number is out of range, then the first token that can't stand where it does or opens a
+/// parenthesis too many.
+pub fn parse(alloc: Global, text: &str) -> Result<ParsedStatement, ParseFault>
+    ensures found { IfOk result (λ tree. ReadsStatement text.now tree) }
+    // So no text has two trees, and a refusal comes only where there is none.
+    ensures only { (tree : Statement) → ReadsStatement text.now tree → Gives (λ t. t) result (Ok tree) }
+    ensures refused { IfErr result (λ fault. IfRefused fault (IsStatementFault text.now)) }
+{
+    match tree_of(alloc, text) {
+        Ok(tree) => Ok(ParsedStatement::new(tree)),
+        Err(fault) => Err(fault),
+    }
+}
+
 /// The tree of the bytes of a statement's text. Bytes that are no text are refused at the first bad one.
-pub fn parse_statement_bytes(alloc: Global, bytes: &[u8]) -> Result<Statement, ParseFault>
+pub fn parse_bytes(alloc: Global, bytes: &[u8]) -> Result<ParsedStatement, ParseFault>
     ensures found { IfOk result (λ tree. ReadsStatement bytes.now tree) }
     ensures only { (tree : Statement) → ReadsStatement bytes.now tree → Gives (λ t. t) result (Ok tree) }
     ensures refused { IfErr result (λ fault. IfRefused fault (IsStatementFault bytes.now)) }
@@ -94,7 +107,7 @@ pub fn parse_statement_bytes(alloc: Global, bytes: &[u8]) -> Result<Statement, P
         return Err(refused(ParseReason::TooLong, MAX_TEXT));
     }
     match str::from_utf8(bytes) {
-        Ok(text) => parse_statement(alloc, text),
+        Ok(text) => parse(alloc, text),
         Err(error) => Err(refused(ParseReason::NoToken, error.valid_up_to())),
     }
 }

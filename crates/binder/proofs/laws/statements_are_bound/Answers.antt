@@ -1,5 +1,5 @@
 use Rattle.binder.proofs.BoundStatements.{statements_bound, statements_over, statements_wide}
-use Rattle.binder.proofs.PlainStatements.{statements_plain}
+use Rattle.sql_parse.proofs.PlainStatements.{statements_plain}
 use Rattle.binder.proofs.laws.statements_are_bound.Goals as goal
 
 pub returns-clause-plain : goal.returns-clause-plain

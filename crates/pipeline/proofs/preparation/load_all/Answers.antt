@@ -6,7 +6,8 @@ use Rattle.pipeline.proofs.preparation.load_all.Goals as goal
 
 pub returns-in-Err-clause-fails : goal.returns-in-Err-clause-fails
 returns-in-Err-clause-fails g c =
-    load_fails c.args.database.now.schema _ _ _ _ c.loop-number.database c.load.new.self c.loop-number.number c.in-Err.fault c.of_table.result c.loop-number.invariant.schema
+    load_fails c.args.database.now.schema _ _ _ _ c.loop-number.database c.load.new.self c.loop-number.number c.in-Err.fault c.of_table.result
+    (omega (arith, c.loop-number.invariant.count, c.loop-number-test.true, c.requires.schema)) c.loop-number.invariant.schema
     (said_there g.R.TableInput.remaining c.loop-number.tables c.index-tables-number.result c.loop-number.number _ (omega (arith, c.loop-number.invariant.count, c.loop-number-test.true)) c.in-Err.ensures.exact)
     c.loop-number.invariant.loaded c.of_table.ensures
 

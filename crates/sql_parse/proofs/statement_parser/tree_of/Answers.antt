@@ -1,7 +1,7 @@
 use Rattle.std.proofs.Common.{◌≤◌, length, arith}
 use Rattle.sql_parse.specs.declared.statement_parser.TheConstants.{MAX_TEXT}
 use Rattle.sql_parse.proofs.SqlTexts.{statement_found, statement_only, statement_refused}
-use Rattle.sql_parse.proofs.statement_parser.parse_statement.Goals as goal
+use Rattle.sql_parse.proofs.statement_parser.tree_of.Goals as goal
 
 pub returns-clause-found : goal.returns-clause-found
 returns-clause-found c =

@@ -7,7 +7,7 @@ use Rattle.planner.specs.Canonical.{NameEarlier, IsPlanOf, top}
 use Rattle.planner.proofs.FrameLines.{names_earlier}
 use Rattle.planner.proofs.OneCertificate.{one_certificate}
 use Rattle.planner.proofs.Accepted.{canonical_replays}
-use Rattle.planner.proofs.certificates.canonical.Goals as goal
+use Rattle.planner.proofs.certificates.certificate_of.Goals as goal
 
 pub overflow_sub-len : goal.overflow_sub-len
 overflow_sub-len c =

@@ -8,7 +8,7 @@ use Rattle.derivation.specs.declared.certificate.CheckRefusal.{CheckRefusal}
 use Rattle.derivation.specs.Replay.{founding, plan_fits}
 use Rattle.derivation.proofs.Soundness.{checked}
 use Rattle.checker.proofs.Verdicts.{verdict}
-use Rattle.checker.proofs.checked.check.Goals as goal
+use Rattle.checker.proofs.checked.accepted.Goals as goal
 
 pub overflow_sub-root : goal.overflow_sub-root
 overflow_sub-root c =

@@ -10,7 +10,7 @@ use Rattle.sql_parse.specs.declared.statement.Condition.TheFolds.{fold-roll-Cond
 use Rattle.sql_parse.specs.declared.statement.Join.{Join, out-Join}
 use Rattle.sql_parse.specs.declared.statement.Chain.{Chain, out-Chain}
 use Rattle.sql_parse.specs.declared.statement.Select.{Select, out-Select}
-use Rattle.binder.specs.BoundStatements.{Plainness, plainness, join_ons, chain_ons, select_ons, filter_ons, all_plain, condition_layer, join_layer, chain_layer, select_layer}
+use Rattle.sql_parse.specs.PlainOns.{Plainness, plainness, join_ons, chain_ons, select_ons, filter_ons, all_plain, condition_layer, join_layer, chain_layer, select_layer}
 
 condition_at : (x : Condition-F Condition Chain Join Select) (c : Condition) → roll-Condition x ≡ c → plainness c
     ≡ condition_layer (map-Condition Condition Chain Join Select Plainness Bool Bool Bool plainness chain_ons join_ons select_ons x)

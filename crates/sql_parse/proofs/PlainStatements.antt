@@ -21,8 +21,8 @@ use Rattle.sql_parse.specs.declared.token.Symbol.TheVariants as s
 use Rattle.sql_parse.specs.declared.token.Token.{Token}
 use Rattle.sql_parse.specs.declared.token.TokenKind.TheVariants as token
 use Rattle.sql_parse.specs.Sql.{Place, of_condition, of_select, of_count, of_column, Sql, sample, sql, body, null_test, a_comparison, a_null_test, a_membership, a_missing, a_test, a_tested, an_existence, a_primary, a_negation, all_of, any_of, a_conjunction, a_condition, a_join, a_chain, a_from, a_filter, a_select, a_statement}
-use Rattle.binder.specs.BoundStatements.{plainness, join_ons, chain_ons, select_ons, filter_ons, ons_are_plain, StatementsArePlain}
-use Rattle.binder.proofs.PlainParts.{plain-Compare, plain-IsNull, plain-Not, plain-And, plain-Or, plain-Exists, plain-In, ons-join, ons-chain, ons-select}
+use Rattle.sql_parse.specs.PlainOns.{plainness, join_ons, chain_ons, select_ons, filter_ons, ons_are_plain, StatementsArePlain}
+use Rattle.sql_parse.proofs.PlainParts.{plain-Compare, plain-IsNull, plain-Not, plain-And, plain-Or, plain-Exists, plain-In, ons-join, ons-chain, ons-select}
 
 -- ---- conditions of a WHERE, whose subqueries have such ONs, and of an ON, which has no subquery
 
