@@ -6,7 +6,7 @@ ghost use Rattle.algebra.specs.Equality.{same_conditions};
 use query::ColumnId;
 use std::alloc::{AllocError, Global};
 use std::marker::Model;
-use values::{Boxed, Comparison, Items, Value, same};
+use values::{Boxed, Comparison, Items, Literal, same};
 
 /// The number of a line of a derivation, from 0.
 pub type LineId = usize;
@@ -18,7 +18,7 @@ pub type ClassId = LineId;
 pub enum Term {
     /// A column, read in the row or else in the environment around it.
     Column(ColumnId),
-    Literal(Value),
+    Literal(Literal),
 }
 
 /// A condition. Its subqueries are classes, whose rows are taken in the environment overlaid with the row.

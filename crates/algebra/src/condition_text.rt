@@ -39,7 +39,7 @@ fn term_text(alloc: Global, term: &Term) -> Result<String, AllocError>
 {
     match term {
         Term::Column(number) => format!(in alloc; "c{number}"),
-        Term::Literal(value) => value_text(alloc, value),
+        Term::Literal(literal) => value_text(alloc, literal.value()),
     }
 }
 

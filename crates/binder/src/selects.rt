@@ -54,7 +54,7 @@ fn term(alloc: Global, text: &tree::Term, scopes: &Scopes<'_, '_>) -> Result<Bou
         }
         tree::Term::Literal(value) => Ok(BoundTerm {
             term: Term::Literal(value.copy(alloc)?),
-            kind: kind_of(value),
+            kind: kind_of(value.value()),
         }),
     }
 }

@@ -77,7 +77,7 @@ fn push_literal(reported: &mut String, value: &Value) -> Result<(), AllocError> 
 fn push_term(reported: &mut String, term: &Term) -> Result<(), AllocError> {
     match term {
         Term::Column(column) => push_column(reported, column),
-        Term::Literal(value) => push_literal(reported, value),
+        Term::Literal(literal) => push_literal(reported, literal.value()),
     }
 }
 

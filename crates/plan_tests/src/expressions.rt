@@ -10,7 +10,7 @@ use fixtures::{QueryReporting, Reporting, differences, query_differences};
 use query::{Aggregate, BoundQuery, TableInstance};
 use std::alloc::{AllocError, Global};
 use store::Database;
-use values::{Comparison, Value};
+use values::{Comparison, Literal};
 
 /// The union with the numbers 4 and 5.
 fn push_union(alloc: Global, reported: &mut String, set: &Columns) -> Result<(), AllocError> {
@@ -88,7 +88,7 @@ fn expr_of(alloc: Global, text: &str) -> Result<Expr, AllocError> {
     if name == "keep" {
         return Ok(Expr::Keep(columns_of(alloc, columns)?, class));
     }
-    let (sum, number) = (Term::Column(2), Term::Literal(Value::Int(7)));
+    let (sum, number) = (Term::Column(2), Term::Literal(Literal::number(7)));
     let conjuncts = Conjuncts::one(alloc, Condition::Compare(Comparison::Less, sum, number))?;
     Ok(Expr::Join(conjuncts, 0, class))
 }

@@ -1,7 +1,7 @@
 //! Bound queries as plain data.
 
 use schema::Table;
-use values::{Boxed, Comparison, Items, Text, Value};
+use values::{Boxed, Comparison, Items, Literal, Text};
 
 /// The number of a column, which is its own throughout a query: those of the table instances come first, in the order of the
 /// text, and then those of its aggregates.
@@ -21,7 +21,7 @@ pub struct Column {
 #[derive(Drop)]
 pub enum Term {
     Column(Column),
-    Literal(Value),
+    Literal(Literal),
 }
 
 /// A condition. `x IS NOT NULL` is `Not` of `IsNull`, and `x NOT IN Q` is `Not` of `In`.

@@ -17,7 +17,7 @@ use crate::name::Name;
 use crate::statement::{ColumnName, Operator, TableName, Term};
 use crate::token::{Keyword, Symbol, Token, TokenKind};
 use std::alloc::{AllocError, Global};
-use values::{Comparison, Items, Text, Value};
+use values::{Comparison, Items, Literal, Text};
 
 /// What is read, and the tokens behind it.
 pub type Parsed<'t, A> = Result<(A, &'t [Token]), ParseFault>;
@@ -89,13 +89,13 @@ fn name_of(alloc: Global, token: &Token) -> Result<Name, AllocError>
 }
 
 /// The value that a literal token is.
-fn value_in(alloc: Global, kind: &TokenKind) -> Result<Value, AllocError>
+fn value_in(alloc: Global, kind: &TokenKind) -> Result<Literal, AllocError>
     ensures { IfOk result (λ value. value ≡ grammar.value_in kind.now) }
 {
     match kind {
-        TokenKind::Number(number) => Ok(Value::Int(i128::from(*number))),
-        TokenKind::Text(text) => Ok(Value::Text(text.copy(alloc)?)),
-        _ => Ok(Value::Null),
+        TokenKind::Number(number) => Ok(Literal::number(*number)),
+        TokenKind::Text(text) => Ok(Literal::text(text.copy(alloc)?)),
+        _ => Ok(Literal::null()),
     }
 }
 
@@ -130,7 +130,7 @@ pub fn name(alloc: Global, tokens: &[Token], end: usize, depth: usize) -> Parsed
 
 /// `number | text | NULL`
 #[tactic(auto, unfolding(crate::specs::Sql::a_literal))]
-fn literal(alloc: Global, tokens: &[Token], end: usize, depth: usize) -> Parsed<'_, Value>
+fn literal(alloc: Global, tokens: &[Token], end: usize, depth: usize) -> Parsed<'_, Literal>
     ensures { Gives (λ x. (x.0, x.1.now)) result (reads end depth grammar.a_literal tokens.now) }
 {
     match tokens {

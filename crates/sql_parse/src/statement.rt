@@ -1,7 +1,7 @@
 //! The tree of a statement of the whole language.
 
 use crate::name::Name;
-use values::{Boxed, Comparison, Items, Value};
+use values::{Boxed, Comparison, Items, Literal};
 
 /// `name` or `table.name`
 #[derive(Drop)]
@@ -13,7 +13,7 @@ pub struct ColumnName {
 #[derive(Drop)]
 pub enum Term {
     Column(ColumnName),
-    Literal(Value),
+    Literal(Literal),
 }
 
 #[derive(Clone, Copy)]
