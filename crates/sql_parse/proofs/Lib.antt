@@ -1,3 +1,5 @@
+pub mod OneReadings
+pub mod OneTokens
 pub mod SqlDecided
 pub mod SqlLoops
 pub mod SqlTexts

@@ -1,5 +1,6 @@
 pub mod Classes
 pub mod Codes
+pub mod OneReading
 pub mod Reading
 pub mod ReadingFaults
 pub mod Sql

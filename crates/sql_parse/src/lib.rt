@@ -5,6 +5,7 @@ mod class;
 mod clauses;
 mod conditions;
 pub mod fault;
+pub mod laws;
 mod lexer;
 pub mod name;
 mod reading;
@@ -13,5 +14,6 @@ mod statement_parser;
 mod token;
 
 pub use fault::{ParseFault, ParseReason, ParseRefusal};
+pub use laws::texts_have_one_reading;
 pub use name::Name;
 pub use statement_parser::{parse_statement, parse_statement_bytes};
