@@ -5,11 +5,13 @@ pub mod BoundItems
 pub mod BoundParts
 pub mod BoundStatements
 pub mod ExtentParts
+pub mod FirstOnes
 pub mod Given
 pub mod Growth
 pub mod Indexes
 pub mod KeyOrder
 pub mod NameKeys
+pub mod NameMeanings
 pub mod NamesThere
 pub mod Naming
 pub mod OutputLoops

@@ -4,6 +4,7 @@ pub mod Codes
 pub mod Extents
 pub mod Lent
 pub mod Lookups
+pub mod Meanings
 pub mod Named
 pub mod Numbers
 pub mod Ordering

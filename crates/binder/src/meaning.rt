@@ -1,0 +1,9 @@
+//! The laws of what a statement means. The functions do nothing: their contracts are the laws.
+
+ghost use Rattle.binder.specs.Meanings.{NamesFail, NamesMean};
+
+/// A name means the column that the scope rules say, and a refusal of it is the fault that they say.
+pub fn names_are_resolved()
+    ensures meaning { NamesMean }
+    ensures fault { NamesFail }
+{}
