@@ -15,10 +15,15 @@ pub mod NameMeanings
 pub mod NamesThere
 pub mod Naming
 pub mod OutputLoops
+pub mod PartAnswers
 pub mod PlainParts
 pub mod PlainStatements
 pub mod Rising
 pub mod SelectExits
 pub mod SelectLoops
 pub mod SelectParts
+pub mod SenseAnswers
+pub mod SenseColumns
+pub mod SenseParts
+pub mod StatementAnswers
 pub mod Steps

@@ -9,6 +9,8 @@ pub mod Named
 pub mod Numbers
 pub mod Ordering
 pub mod Outputs
+pub mod Parts
 pub mod Queries
 pub mod Scopes
 pub mod Selects
+pub mod Senses

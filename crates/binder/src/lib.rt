@@ -17,5 +17,5 @@ mod tables;
 
 pub use fault::{BindFault, BindReason, BindRefusal};
 pub use laws::statements_are_bound;
-pub use meaning::names_are_resolved;
+pub use meaning::{names_are_resolved, statements_have_meaning};
 pub use statement::bind_statement;

@@ -1,0 +1,95 @@
+-- A statement without a fault becomes the query that it means, and any other is refused with its first fault.
+use Rattle.std.proofs.Common.{◌≡◌, refl, sym, ◌∙◌, ap, subst, ℕ, ◌+◌, Bool, List, [], ◌∷◌, ◌++◌, flat_map, map, nat_le, Option, Some, None, Ok, arith}
+use Rattle.values.specs.Faults.{◌>>=◌, wanted_if}
+use Rattle.schema.specs.declared.schema.Schema.{Schema}
+use Rattle.sql_parse.specs.declared.statement.Condition.{Condition, roll-Condition}
+use Rattle.sql_parse.specs.declared.statement.Condition.TheVariants as tree
+use Rattle.sql_parse.specs.declared.statement.Condition.TheOpen.{Condition-F, Join-F, Chain-F, Select-F}
+use Rattle.sql_parse.specs.declared.statement.Condition.TheFolds.{ind-Select, map-Condition, map-Join, map-Chain, map-Select}
+use Rattle.sql_parse.specs.declared.statement.Join.{Join, roll-Join, out-roll-Join}
+use Rattle.sql_parse.specs.declared.statement.Chain.{Chain, roll-Chain, out-roll-Chain}
+use Rattle.sql_parse.specs.declared.statement.Select.{Select, roll-Select, out-roll-Select}
+use Rattle.sql_parse.specs.declared.statement.Statement.{Statement}
+use Rattle.binder.specs.declared.fault.BindReason.TheVariants.{TooLarge}
+use Rattle.binder.specs.declared.statement.TheConstants.{MAX_COLUMNS}
+use Rattle.binder.specs.Extents.{is_within, of_select}
+use Rattle.binder.specs.Lookups.{refusal}
+use Rattle.binder.specs.Ordering.{order_in, without_repeats}
+use Rattle.binder.specs.Parts.{unless, widths, order_faults, the_sort_key}
+use Rattle.binder.specs.Queries.{at_start, bound_statement}
+use Rattle.binder.specs.Selects.{select_in}
+use Rattle.binder.specs.Senses.{Before, behind, first_aggregate, statement_outputs, statement_faults, statement_query, StatementsMean, condition_sense, join_sense, chain_sense, select_sense}
+use Rattle.binder.proofs.PartAnswers.{then-answer, if-answer, numbered, order-answer}
+use Rattle.binder.proofs.SenseColumns.{selects-wide}
+use Rattle.binder.proofs.SenseAnswers.{state, bound_select, ConditionIs, JoinIs, ChainIs, SelectIs, ProvedCondition, ProvedJoin, ProvedChain, answer-Compare, answer-IsNull, answer-Not, answer-And, answer-Or, answer-Exists, answer-In, answer-join, answer-chain, answer-select, has-kinds}
+
+module _ (S : Schema) where
+  abbrev ProvedSelect : Type 0
+  ProvedSelect = (q : Select) × SelectIs S q (select_sense S q)
+
+  abbrev plain_condition : Condition-F (ProvedCondition S) (ProvedChain S) (ProvedJoin S) ProvedSelect → Condition-F Condition Chain Join Select
+  plain_condition = map-Condition _ _ _ _ Condition Chain Join Select (λ c. c.0) (λ c. c.0) (λ j. j.0) (λ q. q.0)
+
+  abbrev plain_join : Join-F (ProvedCondition S) (ProvedChain S) (ProvedJoin S) ProvedSelect → Join-F Condition Chain Join Select
+  plain_join = map-Join _ _ _ _ Condition Chain Join Select (λ c. c.0) (λ c. c.0) (λ j. j.0) (λ q. q.0)
+
+  abbrev plain_chain : Chain-F (ProvedCondition S) (ProvedChain S) (ProvedJoin S) ProvedSelect → Chain-F Condition Chain Join Select
+  plain_chain = map-Chain _ _ _ _ Condition Chain Join Select (λ c. c.0) (λ c. c.0) (λ j. j.0) (λ q. q.0)
+
+  abbrev plain_select : Select-F (ProvedCondition S) (ProvedChain S) (ProvedJoin S) ProvedSelect → Select-F Condition Chain Join Select
+  plain_select = map-Select _ _ _ _ Condition Chain Join Select (λ c. c.0) (λ c. c.0) (λ j. j.0) (λ q. q.0)
+
+  abbrev ConditionAnswers : Condition → Type 0
+  ConditionAnswers c = ConditionIs S c (condition_sense S c)
+
+  condition-answers : (y : Condition-F (ProvedCondition S) (ProvedChain S) (ProvedJoin S) ProvedSelect) → ConditionAnswers (roll-Condition (plain_condition y))
+  condition-answers (Condition-F.Compare a op b) = subst ConditionAnswers (sym (tree.rolls-Compare a op b)) (answer-Compare S a op b)
+  condition-answers (Condition-F.IsNull a) = subst ConditionAnswers (sym (tree.rolls-IsNull a)) (answer-IsNull S a)
+  condition-answers (Condition-F.Not c) = subst ConditionAnswers (sym (tree.rolls-Not c.0)) (answer-Not S c.0 c.1)
+  condition-answers (Condition-F.And cs) = subst ConditionAnswers (sym (tree.rolls-And (map (λ c. c.0) cs))) (answer-And S cs)
+  condition-answers (Condition-F.Or cs) = subst ConditionAnswers (sym (tree.rolls-Or (map (λ c. c.0) cs))) (answer-Or S cs)
+  condition-answers (Condition-F.Exists q) = subst ConditionAnswers (sym (tree.rolls-Exists q.0)) (answer-Exists S q.0 q.1)
+  condition-answers (Condition-F.In a at q) = subst ConditionAnswers (sym (tree.rolls-In a at q.0)) (answer-In S a at q.0 q.1 (has-kinds S q.0))
+
+  join-answers : (y : Join-F (ProvedCondition S) (ProvedChain S) (ProvedJoin S) ProvedSelect) → JoinIs S (roll-Join (plain_join y)) (join_sense S (roll-Join (plain_join y)))
+  join-answers y = answer-join S (roll-Join (plain_join y)) (subst ConditionAnswers (sym (ap (λ x. x.condition) (out-roll-Join (plain_join y)))) y.condition.1)
+
+  chain-answers : (y : Chain-F (ProvedCondition S) (ProvedChain S) (ProvedJoin S) ProvedSelect) → ChainIs S (roll-Chain (plain_chain y)) (chain_sense S (roll-Chain (plain_chain y)))
+  chain-answers y = answer-chain S (roll-Chain (plain_chain y)) y.joins (sym (ap (λ x. x.joins) (out-roll-Chain (plain_chain y))))
+
+  select-answers : (y : Select-F (ProvedCondition S) (ProvedChain S) (ProvedJoin S) ProvedSelect) (w : Option (ProvedCondition S))
+      → SelectIs S (roll-Select (plain_select (record y { filter = w }))) (select_sense S (roll-Select (plain_select (record y { filter = w }))))
+  select-answers y None = answer-select S (roll-Select (plain_select (record y { filter = None }))) y.from None
+      (sym (ap (λ x. x.from) (out-roll-Select (plain_select (record y { filter = None }))))) (sym (ap (λ x. x.filter) (out-roll-Select (plain_select (record y { filter = None })))))
+  select-answers y (Some c) = answer-select S (roll-Select (plain_select (record y { filter = Some c }))) y.from (Some c)
+      (sym (ap (λ x. x.from) (out-roll-Select (plain_select (record y { filter = Some c }))))) (sym (ap (λ x. x.filter) (out-roll-Select (plain_select (record y { filter = Some c })))))
+
+  -- each SELECT, wherever it stands
+  pub selects-answer : (q : Select) → SelectIs S q (select_sense S q)
+  selects-answer = ind-Select ConditionAnswers (λ c. ChainIs S c (chain_sense S c)) (λ j. JoinIs S j (join_sense S j)) (λ q. SelectIs S q (select_sense S q))
+      (λ x y is. subst (λ z. ConditionAnswers (roll-Condition z)) is (condition-answers y))
+      (λ x y is. subst (λ z. ChainIs S (roll-Chain z) (chain_sense S (roll-Chain z))) is (chain-answers y))
+      (λ x y is. subst (λ z. JoinIs S (roll-Join z) (join_sense S (roll-Join z))) is (join-answers y))
+      (λ x y is. subst (λ z. SelectIs S (roll-Select z) (select_sense S (roll-Select z))) is (select-answers y y.filter))
+
+  -- ---- the whole
+
+  abbrev start : Select → Before
+  start q = record { tables = []; aggregates = widths S (select_sense S q).content.tables }
+
+  at-start : (q : Select) → at_start (of_select S q) ≡ state S (start q)
+  at-start q = ap (λ n. numbered S [] n) (selects-wide S q)
+
+pub statements_mean : StatementsMean
+unfolding bound_statement statement_faults statement_query
+statements_mean S s =
+    let q = s.select in
+    let sense = select_sense S q in
+    let first = start S q in
+    let extent = of_select S q in
+    then-answer (wanted_if (refusal TooLarge 0) (is_within extent) extent) (unless (is_within extent) TooLarge 0) extent _ _ _ (if-answer (is_within extent) TooLarge 0 extent)
+    (then-answer (select_in S q [] (at_start extent)) (sense.faults []) (bound_select S sense [] first, state S (behind first sense.content)) _ _ _
+    (ap (select_in S q []) (at-start S q) ∙ selects-answer S q [] first)
+    (then-answer (order_in sense.scope (statement_outputs S s) s.order) (flat_map (order_faults sense.scope (statement_outputs S s)) s.order) (without_repeats (map (the_sort_key sense.scope (statement_outputs S s)) s.order)) _ _ _
+    (order-answer sense.scope (statement_outputs S s) s.order)
+    (if-answer (nat_le (first_aggregate S s + sense.content.aggregates) MAX_COLUMNS) TooLarge 0 _)))
