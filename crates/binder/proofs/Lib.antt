@@ -14,6 +14,7 @@ pub mod NameKeys
 pub mod NameMeanings
 pub mod NamesThere
 pub mod Naming
+pub mod NumberedStatements
 pub mod OutputLoops
 pub mod PartAnswers
 pub mod PlainParts
@@ -24,6 +25,8 @@ pub mod SelectLoops
 pub mod SelectParts
 pub mod SenseAnswers
 pub mod SenseColumns
+pub mod SenseNumbers
 pub mod SenseParts
 pub mod StatementAnswers
 pub mod Steps
+pub mod ToldEquations

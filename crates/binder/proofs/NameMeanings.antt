@@ -1,20 +1,19 @@
 -- What is computed for a name is what the name means, and its fault is the name's.
-use Rattle.std.proofs.Common.{◌≡◌, refl, sym, ◌∙◌, ap, subst, inl, inr, ◌⊎◌, ◌↔◌, ℕ, zero, suc, ◌+◌, ◌≤◌, Bool, true, false, if◌then◌else◌, List, [], ◌∷◌, ◌++◌, length, take, Option, Some, None, option_map, Result, Ok, Err, arith, bytes_eq, length-append}
+use Rattle.std.proofs.Common.{◌≡◌, refl, sym, ◌∙◌, ap, subst, inl, inr, ◌⊎◌, ℕ, suc, ◌+◌, Bool, true, false, if◌then◌else◌, List, [], ◌∷◌, ◌++◌, length, take, Option, Some, None, option_map, Result, Ok, Err, arith, bytes_eq, length-append}
 use Rattle.std.proofs.lemmas.Slice.Eq.{bytes_eq-Decides}
 use Rattle.values.specs.Faults.{wanted}
 use Rattle.schema.specs.declared.schema.Kind.{Kind}
 use Rattle.schema.specs.declared.schema.Column as entries
 use Rattle.schema.specs.declared.schema.Table.{Table}
 use Rattle.sql_parse.specs.declared.name.Name.{Name}
-use Rattle.sql_parse.specs.declared.statement.ColumnName.{ColumnName}
 use Rattle.binder.specs.declared.scope.TypedColumn.{TypedColumn}
 use Rattle.binder.specs.declared.fault.BindReason.{BindReason}
 use Rattle.binder.specs.declared.fault.BindReason.TheVariants.{UnknownColumn, AmbiguousName}
 use Rattle.binder.specs.declared.fault.BindRefusal.{BindRefusal}
 use Rattle.binder.specs.Lookups.{find_column, refusal}
-use Rattle.binder.specs.Scopes.{Known, Scope, Scopes, columns_named, named_in, at_level, only, plain, occurrence_named, column_of, in_occurrence, qualified, meant_by, meant, front_of, place_in_text}
-use Rattle.binder.specs.Meanings.{Stands, HasAny, HasTwo, IsFirst, IsOnly, IsColumn, IsInstance, columns_of, HasColumn, HasInstance, MeansPlain, PlainFault, MeansQualified, LacksColumn, QualifiedFault, means_by, Means, fault_by, IsNameFault, NamesMean, NamesFail}
-use Rattle.binder.proofs.FirstOnes.{any-behind, none-here, first-here, first-behind, only-or-two, first-once, only-once, Listed, listed, listed-append, FoundColumn, found-column}
+use Rattle.binder.specs.Scopes.{Known, Scope, Scopes, columns_named, named_in, at_level, only, plain, occurrence_named, in_occurrence, qualified, meant_by, meant, front_of}
+use Rattle.binder.specs.Meanings.{IsFirst, IsOnly, IsColumn, IsInstance, columns_of, HasColumn, HasInstance, MeansPlain, PlainFault, MeansQualified, QualifiedFault, means_by, fault_by, NamesMean, NamesFail}
+use Rattle.binder.proofs.FirstOnes.{none-here, first-here, first-behind, only-or-two, first-once, only-once, Listed, listed, listed-append, FoundColumn, found-column}
 
 -- ---- the columns of one FROM
 
@@ -118,7 +117,13 @@ QualifiedIs table name level scopes (Err r) = (r ≡ refusal UnknownColumn table
 unknown-behind : (table name : Name) (scope : Scope) (outer : Scopes) → (HasInstance table scope → ⊥) → QualifiedFault UnknownColumn table name outer → QualifiedFault UnknownColumn table name (scope ∷ outer)
 unknown-behind table name scope outer none (inl nowhere) = inl (none-here (HasInstance table) scope outer none nowhere)
 unknown-behind table name scope outer none (inr lacks) = inr (record {
-  level = suc lacks.level; scope = lacks.scope; innermost = first-behind (HasInstance table) scope outer lacks.level lacks.scope none lacks.innermost; before = lacks.before; occurrence = lacks.occurrence; known = lacks.known; lacks = lacks.lacks;
+  level = suc lacks.level;
+  scope = lacks.scope;
+  innermost = first-behind (HasInstance table) scope outer lacks.level lacks.scope none lacks.innermost;
+  before = lacks.before;
+  occurrence = lacks.occurrence;
+  known = lacks.known;
+  lacks = lacks.lacks;
 })
 
 qualified-behind : (table name : Name) (level : ℕ) (scope : Scope) (outer : Scopes) (read : Result TypedColumn BindRefusal) → (HasInstance table scope → ⊥) → QualifiedIs table name (level + 1) outer read → QualifiedIs table name level (scope ∷ outer) read
@@ -126,8 +131,18 @@ unfolding QualifiedIs
 qualified-behind table name level scope outer (Ok found) none is =
     let at = is.at in
     record {
-      outside = suc is.outside; at = omega (arith, at); scope = is.scope; innermost = first-behind (HasInstance table) scope outer is.outside is.scope none is.innermost;
-      before = is.before; occurrence = is.occurrence; known = is.known; within = is.within; column = is.column; named = is.named; place = is.place; kind = is.kind;
+      outside = suc is.outside;
+      at = omega (arith, at);
+      scope = is.scope;
+      innermost = first-behind (HasInstance table) scope outer is.outside is.scope none is.innermost;
+      before = is.before;
+      occurrence = is.occurrence;
+      known = is.known;
+      within = is.within;
+      column = is.column;
+      named = is.named;
+      place = is.place;
+      kind = is.kind;
     }
 qualified-behind table name level scope outer (Err r) none is = (is.0, unknown-behind table name scope outer none is.1)
 
@@ -140,7 +155,18 @@ module _ (table name : Name) (level : ℕ) (scope : Scope) (outer : Scopes) (i :
   unfolding QualifiedIs
   column-here n None at lacks = (refl, inr (record { level = 0; scope = scope; innermost = innermost_here; before = i; occurrence = o; known = first; lacks = lacks }))
   column-here n (Some p) at (j, named, place) = record {
-    outside = 0; at = omega arith; scope = scope; innermost = innermost_here; before = i; occurrence = o; known = first; within = j; column = p.1; named = named; place = omega (arith, at, place); kind = refl;
+    outside = 0;
+    at = omega arith;
+    scope = scope;
+    innermost = innermost_here;
+    before = i;
+    occurrence = o;
+    known = first;
+    within = j;
+    column = p.1;
+    named = named;
+    place = omega (arith, at, place);
+    kind = refl;
   }
 
 qualified-here : (table name : Name) (level : ℕ) (scope : Scope) (outer : Scopes) (found : Option (ℕ × Table)) → FoundInstance table 0 scope found → QualifiedIs table name (level + 1) outer (qualified table name (level + 1) outer)
@@ -176,8 +202,16 @@ qualified-read table name scopes (Ok found) is =
     let at = is.at in
     let level : is.outside ≡ found.column.level = omega (arith, at) in
     record {
-      scope = is.scope; innermost = subst (λ l. IsFirst (HasInstance table) scopes l is.scope) level is.innermost; before = is.before; occurrence = is.occurrence; known = is.known;
-      within = is.within; column = is.column; named = is.named; place = is.place; kind = is.kind;
+      scope = is.scope;
+      innermost = subst (λ l. IsFirst (HasInstance table) scopes l is.scope) level is.innermost;
+      before = is.before;
+      occurrence = is.occurrence;
+      known = is.known;
+      within = is.within;
+      column = is.column;
+      named = is.named;
+      place = is.place;
+      kind = is.kind;
     }
 qualified-read table name scopes (Err r) is = rw is.0 (refl, is.1)
 

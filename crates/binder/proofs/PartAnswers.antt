@@ -1,5 +1,5 @@
 -- What is computed of names, terms, tables, items and keys is what they mean, or their first fault.
-use Rattle.std.proofs.Common.{◌≡◌, refl, sym, ◌∙◌, ap, subst, ℕ, ◌+◌, ◌==◌, Bool, true, false, not, if◌then◌else◌, List, [], ◌∷◌, ◌++◌, flat_map, length, map, is_some, unwrap_or, Option, Some, None, Result, Ok, Err, arith, append_assoc, append-nil, length-append}
+use Rattle.std.proofs.Common.{◌≡◌, refl, sym, ◌∙◌, ap, ℕ, ◌+◌, ◌==◌, Bool, true, false, not, if◌then◌else◌, List, [], ◌∷◌, ◌++◌, flat_map, length, map, is_some, unwrap_or, Option, Some, None, Result, Ok, Err, arith, append_assoc, append-nil}
 use Rattle.std.specs.List.{list_all}
 use Rattle.values.specs.Faults.{◌>>=◌, wanted, wanted_if}
 use Rattle.schema.specs.Each.{each}
@@ -20,7 +20,6 @@ use Rattle.sql_parse.specs.declared.statement.SelectList.TheVariants as list
 use Rattle.sql_parse.specs.declared.statement.TableName.{TableName}
 use Rattle.sql_parse.specs.declared.statement.Term as tree
 use Rattle.sql_parse.specs.declared.statement.Term.TheVariants as written
-use Rattle.query.specs.declared.query.Aggregate.{Aggregate}
 use Rattle.query.specs.declared.query.Cond.TheVariants as cond
 use Rattle.query.specs.declared.query.Item.{Item}
 use Rattle.query.specs.declared.query.Item.TheVariants as item
@@ -37,13 +36,18 @@ use Rattle.binder.specs.declared.selects.BoundTerm.{BoundTerm}
 use Rattle.binder.specs.declared.tables.Numbered.{Numbered}
 use Rattle.binder.specs.Lookups.{find_table, refusal, table_in}
 use Rattle.binder.specs.Numbers.{enter, entered, with_table}
-use Rattle.binder.specs.Ordering.{first_place, one_column, order_in, same_item, sort_key_in, without_repeats}
+use Rattle.binder.specs.Ordering.{first_place, one_column, order_in, sort_key_in, without_repeats}
 use Rattle.binder.specs.Outputs.{aggregate_in, aggregate_of, all_columns, is_aggregate, is_shown, item_in, items_in, key_in, output_in, output_name, outputs_in, shows}
 use Rattle.binder.specs.Scopes.{Scope, Scopes, is_taken, known_name, meant, place_in_text}
 use Rattle.binder.specs.Selects.{are_comparable, comparison_in, membership_in, one_output, term_in}
-use Rattle.binder.specs.Parts.{unless, answer, fault_in, value_in, name_faults, the_column, term_faults, the_term, no_table, the_table, known, table_faults, widths, the_occurrence, the_instance, instances_behind, key_faults, the_key, aggregate_by, kind_by, has_aggregate, aggregate_faults, the_aggregate, aggregate_kind, item_faults, the_item, item_kind, the_output, the_outputs, list_faults, shown, kinds_shown, is_one, first_kind, is_empty, are_one, place_of, items_meant, order_faults, the_sort_key}
+use Rattle.binder.specs.Parts.{unless, fault_in, value_in, name_faults, the_column, term_faults, the_term, no_table, the_table, known, table_faults, widths, the_occurrence, the_instance, instances_behind, key_faults, the_key, aggregate_by, kind_by, has_aggregate, aggregate_faults, the_aggregate, aggregate_kind, item_faults, the_item, item_kind, the_output, the_outputs, list_faults, shown, kinds_shown, is_one, first_kind, is_empty, are_one, place_of, items_meant, order_faults, the_sort_key}
 
 -- ---- answers
+
+-- refused with the first fault, if there is any
+abbrev pub answer : {A : Type 0} → List BindRefusal → A → Result A BindRefusal
+answer [] x = Ok x
+answer (r ∷ faults) x = Err r
 
 module _ {A B : Type 0} where
   -- one after the other

@@ -1,10 +1,10 @@
 -- What is computed of conditions, FROMs and SELECTs is what they mean, or their first fault.
-use Rattle.std.proofs.Common.{◌≡◌, refl, sym, ◌∙◌, ap, subst, ℕ, ◌+◌, Bool, true, false, not, List, [], ◌∷◌, ◌++◌, flat_map, length, map, Option, Some, None, option_map, Result, Ok, Err, arith, append_assoc, append-nil}
+use Rattle.std.proofs.Common.{◌≡◌, refl, sym, ◌∙◌, ap, subst, ℕ, ◌+◌, List, [], ◌∷◌, ◌++◌, flat_map, map, Option, Some, None, option_map, Result, Ok, arith, append_assoc, append-nil}
 use Rattle.values.specs.Faults.{◌>>=◌}
 use Rattle.schema.specs.Each.{each}
 use Rattle.schema.specs.declared.schema.Schema.{Schema}
 use Rattle.sql_parse.specs.declared.statement.Condition.{Condition}
-use Rattle.sql_parse.specs.declared.statement.Condition.TheOpen.{Condition-F, Join-F, Chain-F, Select-F}
+use Rattle.sql_parse.specs.declared.statement.Condition.TheOpen.{Condition-F, Select-F}
 use Rattle.sql_parse.specs.declared.statement.Condition.TheVariants as tree
 use Rattle.sql_parse.specs.declared.statement.Join.{Join, out-Join}
 use Rattle.sql_parse.specs.declared.statement.Chain.{Chain, out-Chain}
@@ -16,18 +16,16 @@ use Rattle.query.specs.declared.query.Cond.{Cond}
 use Rattle.query.specs.declared.query.Cond.TheVariants as cond
 use Rattle.query.specs.declared.query.From.{From}
 use Rattle.query.specs.declared.query.From.TheVariants as from
-use Rattle.query.specs.declared.query.TableInstance.{TableInstance}
-use Rattle.binder.specs.declared.fault.BindReason.TheVariants.{MixedKinds, NotOneColumn, UnknownTable}
 use Rattle.binder.specs.declared.fault.BindRefusal.{BindRefusal}
 use Rattle.binder.specs.declared.selects.BoundSelect.{BoundSelect}
 use Rattle.binder.specs.declared.tables.Numbered.{Numbered}
 use Rattle.binder.specs.Numbers.{enter, with_aggregates}
 use Rattle.binder.specs.Outputs.{aggregates, is_grouped, key_in, outputs_in}
 use Rattle.binder.specs.Scopes.{Scope, Scopes}
-use Rattle.binder.specs.Selects.{FromSoFar, condition_in, join_in, chain_in, select_in, comparison_in, membership_in, term_in, all_in, joined, through, commas, from_in, filter_in, block_of, are_comparable}
-use Rattle.binder.specs.Parts.{unless, answer, term_faults, the_term, known, table_faults, widths, the_occurrence, instances_behind, key_faults, the_key, list_faults, shown, kinds_shown, is_one, first_kind, is_empty}
-use Rattle.binder.specs.Senses.{Before, Content, behind, nothing, both, all_contents, ConditionSense, JoinSense, ChainSense, SelectSense, all_become, several, condition_layer, one_table, join_layer, joins_faults, joins_become, chain_layer, chains_faults, commas_become, from_faults, from_becomes, from_content, filter_content, filter_faults, filter_becomes, scope_of_from, select_layer, condition_sense, join_sense, chain_sense, select_sense}
-use Rattle.binder.proofs.PartAnswers.{then-answer, made-answer, each-answer, if-answer, term-answer, comparison-answer, membership-answer, key-answer, list-answer, shown-kinds, numbered, enter-answer}
+use Rattle.binder.specs.Selects.{FromSoFar, condition_in, join_in, chain_in, select_in, comparison_in, membership_in, term_in, all_in, joined, through, commas, from_in, filter_in, block_of}
+use Rattle.binder.specs.Parts.{term_faults, the_term, known, table_faults, the_occurrence, key_faults, the_key, list_faults, shown}
+use Rattle.binder.specs.Senses.{Before, Content, behind, nothing, both, all_contents, ConditionSense, JoinSense, ChainSense, SelectSense, all_become, one_table, joins_faults, joins_become, chain_layer, chains_faults, commas_become, from_faults, from_becomes, from_content, filter_content, filter_faults, filter_becomes, scope_of_from, select_layer, condition_sense, join_sense, chain_sense, select_sense}
+use Rattle.binder.proofs.PartAnswers.{answer, then-answer, made-answer, each-answer, term-answer, comparison-answer, membership-answer, key-answer, list-answer, shown-kinds, numbered, enter-answer}
 use Rattle.binder.proofs.SelectParts.{compared, null_tested, negated, conjoined, disjoined, existing, contained, join_at, chain_at, select_at}
 use Rattle.binder.proofs.SenseParts.{sense-condition, sense-join, sense-chain, select_parts, sense-select}
 
@@ -171,9 +169,9 @@ module _ (S : Schema) where
       then-answer (join_in S j.0 outer others (left, chain, state b)) (sense.faults outer others chain) (sense.becomes outer chain b left, right, state (behind b sense.content)) _ _ _ (j.1 outer others chain b left)
       (through-answer joins outer others right (behind b sense.content) (sense.becomes outer chain b left)
       ∙ ap (λ c. answer (joins_faults S outer others right senses) (joins_become S outer right (behind b sense.content) (sense.becomes outer chain b left) senses, c, state (behind (behind b sense.content) (all_contents (map (λ j. j.content) senses)))))
-          (append_assoc chain (known S sense.table ∷ []) (map (λ j. known S j.table) senses))
+      (append_assoc chain (known S sense.table ∷ []) (map (λ j. known S j.table) senses))
       ∙ ap (λ (m : Before). answer (joins_faults S outer others right senses) (joins_become S outer right (behind b sense.content) (sense.becomes outer chain b left) senses, chain ++ known S sense.table ∷ map (λ j. known S j.table) senses, state m))
-          (behind-both b sense.content (all_contents (map (λ j. j.content) senses))))
+      (behind-both b sense.content (all_contents (map (λ j. j.content) senses))))
 
   pub answer-chain : (c : Chain) (joins : List ProvedJoin) → joins_of joins ≡ (out-Chain c).joins → ChainIs c (chain_sense S c)
   answer-chain c joins same = subst (ChainIs c) (sym (sense-chain S c ∙ ap (λ js. chain_layer S (record { table = (out-Chain c).table; joins = map (join_sense S) js })) (sym same))) (λ outer others b.

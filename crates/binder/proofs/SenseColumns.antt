@@ -1,5 +1,5 @@
 -- The columns of a statement's table instances, counted as its size and as its tables.
-use Rattle.std.proofs.Common.{◌≡◌, refl, sym, ◌∙◌, ap, subst, ℕ, ◌+◌, List, [], ◌∷◌, ◌++◌, length, map, unwrap_or, Option, Some, None, option_map, arith}
+use Rattle.std.proofs.Common.{◌≡◌, refl, sym, ◌∙◌, ap, subst, ℕ, ◌+◌, List, [], ◌∷◌, length, map, unwrap_or, Option, Some, None, option_map, arith}
 use Rattle.schema.specs.declared.schema.Table.{Table}
 use Rattle.schema.specs.declared.schema.Schema.{Schema}
 use Rattle.sql_parse.specs.declared.statement.Condition.{Condition, roll-Condition}
@@ -93,7 +93,7 @@ module _ (S : Schema) where
   join-wide j on =
       let table = width-is (find_table 0 S.tables (out-Join j).table.name.text) in
       let sum : (table_extent S (out-Join j).table).columns + (of_condition S (out-Join j).condition).columns
-          ≡ length (the_table S (out-Join j).table).1.columns + wide (condition_sense S (out-Join j).condition).content = omega (arith, table, on) in
+      ≡ length (the_table S (out-Join j).table).1.columns + wide (condition_sense S (out-Join j).condition).content = omega (arith, table, on) in
       ap (λ e. e.columns) (extent-join S j) ∙ sum ∙ ap (λ (s : JoinSense). wide s.content) (sym (sense-join S j))
 
   chain-wide : (c : Chain) (joins : List ProvedJoin) → map (λ j. j.0) joins ≡ (out-Chain c).joins → ChainWide c
@@ -103,7 +103,7 @@ module _ (S : Schema) where
       let parts : columns_of (map (of_join S) (out-Chain c).joins) ≡ wide (all_contents (map (λ (j : JoinSense). j.content) (map (join_sense S) (out-Chain c).joins)))
       = subst (λ js. columns_of (map (of_join S) js) ≡ wide (all_contents (map (λ (j : JoinSense). j.content) (map (join_sense S) js)))) same (all-wide (of_join S) (join_sense S) (λ j. j.content) joins) in
       let sum : (table_extent S (out-Chain c).table).columns + (all_of (map (of_join S) (out-Chain c).joins)).columns
-          ≡ length (the_table S (out-Chain c).table).1.columns + wide (all_contents (map (λ (j : JoinSense). j.content) (map (join_sense S) (out-Chain c).joins))) = omega (arith, table, others, parts) in
+      ≡ length (the_table S (out-Chain c).table).1.columns + wide (all_contents (map (λ (j : JoinSense). j.content) (map (join_sense S) (out-Chain c).joins))) = omega (arith, table, others, parts) in
       ap (λ e. e.columns) (extent-chain S c) ∙ sum ∙ ap (λ (s : ChainSense). wide s.content) (sym (sense-chain S c))
 
   filter-wide : (w : Option ProvedCondition) → (of_filter (option_map (of_condition S) (filter_of w))).columns ≡ wide (filter_content (option_map (condition_sense S) (filter_of w)))
@@ -120,7 +120,7 @@ module _ (S : Schema) where
       = subst (λ o. (of_filter (option_map (of_condition S) o)).columns ≡ wide (filter_content (option_map (condition_sense S) o))) filter_is (filter-wide w) in
       let together = widths-append S (from_content (map (chain_sense S) x.from)).tables (filter_content (option_map (condition_sense S) x.filter)).tables in
       let sum : (all_of (map (of_chain S) x.from)).columns + (of_filter (option_map (of_condition S) x.filter)).columns
-          ≡ wide (both (from_content (map (chain_sense S) x.from)) (filter_content (option_map (condition_sense S) x.filter))) = omega (arith, others, from, where_, together) in
+      ≡ wide (both (from_content (map (chain_sense S) x.from)) (filter_content (option_map (condition_sense S) x.filter))) = omega (arith, others, from, where_, together) in
       ap (λ e. e.columns) (extent-select S q) ∙ sum ∙ ap (λ (s : SelectSense). wide s.content) (sym (sense-select S q))
 
   select-by : (y : Select-F ProvedCondition ProvedChain ProvedJoin ProvedSelect) (w : Option ProvedCondition)

@@ -1,6 +1,6 @@
 -- A statement without a fault becomes the query that it means, and any other is refused with its first fault.
-use Rattle.std.proofs.Common.{◌≡◌, refl, sym, ◌∙◌, ap, subst, ℕ, ◌+◌, Bool, List, [], ◌∷◌, ◌++◌, flat_map, map, nat_le, Option, Some, None, Ok, arith}
-use Rattle.values.specs.Faults.{◌>>=◌, wanted_if}
+use Rattle.std.proofs.Common.{◌≡◌, refl, sym, ◌∙◌, ap, subst, ◌+◌, List, [], ◌∷◌, flat_map, map, nat_le, Option, Some, None, Ok, Err}
+use Rattle.values.specs.Faults.{wanted_if}
 use Rattle.schema.specs.declared.schema.Schema.{Schema}
 use Rattle.sql_parse.specs.declared.statement.Condition.{Condition, roll-Condition}
 use Rattle.sql_parse.specs.declared.statement.Condition.TheVariants as tree
@@ -11,6 +11,7 @@ use Rattle.sql_parse.specs.declared.statement.Chain.{Chain, roll-Chain, out-roll
 use Rattle.sql_parse.specs.declared.statement.Select.{Select, roll-Select, out-roll-Select}
 use Rattle.sql_parse.specs.declared.statement.Statement.{Statement}
 use Rattle.binder.specs.declared.fault.BindReason.TheVariants.{TooLarge}
+use Rattle.binder.specs.declared.fault.BindRefusal.{BindRefusal}
 use Rattle.binder.specs.declared.statement.TheConstants.{MAX_COLUMNS}
 use Rattle.binder.specs.Extents.{is_within, of_select}
 use Rattle.binder.specs.Lookups.{refusal}
@@ -18,8 +19,8 @@ use Rattle.binder.specs.Ordering.{order_in, without_repeats}
 use Rattle.binder.specs.Parts.{unless, widths, order_faults, the_sort_key}
 use Rattle.binder.specs.Queries.{at_start, bound_statement}
 use Rattle.binder.specs.Selects.{select_in}
-use Rattle.binder.specs.Senses.{Before, behind, first_aggregate, statement_outputs, statement_faults, statement_query, StatementsMean, condition_sense, join_sense, chain_sense, select_sense}
-use Rattle.binder.proofs.PartAnswers.{then-answer, if-answer, numbered, order-answer}
+use Rattle.binder.specs.Senses.{Before, behind, first_aggregate, statement_outputs, statement_faults, statement_query, StatementsAccepted, StatementsRefused, condition_sense, join_sense, chain_sense, select_sense}
+use Rattle.binder.proofs.PartAnswers.{answer, then-answer, if-answer, numbered, order-answer}
 use Rattle.binder.proofs.SenseColumns.{selects-wide}
 use Rattle.binder.proofs.SenseAnswers.{state, bound_select, ConditionIs, JoinIs, ChainIs, SelectIs, ProvedCondition, ProvedJoin, ProvedChain, answer-Compare, answer-IsNull, answer-Not, answer-And, answer-Or, answer-Exists, answer-In, answer-join, answer-chain, answer-select, has-kinds}
 
@@ -80,7 +81,7 @@ module _ (S : Schema) where
   at-start : (q : Select) → at_start (of_select S q) ≡ state S (start q)
   at-start q = ap (λ n. numbered S [] n) (selects-wide S q)
 
-pub statements_mean : StatementsMean
+statements_mean : (S : Schema) (s : Statement) → bound_statement S s ≡ answer (statement_faults S s) (statement_query S s)
 unfolding bound_statement statement_faults statement_query
 statements_mean S s =
     let q = s.select in
@@ -93,3 +94,34 @@ statements_mean S s =
     (then-answer (order_in sense.scope (statement_outputs S s) s.order) (flat_map (order_faults sense.scope (statement_outputs S s)) s.order) (without_repeats (map (the_sort_key sense.scope (statement_outputs S s)) s.order)) _ _ _
     (order-answer sense.scope (statement_outputs S s) s.order)
     (if-answer (nat_le (first_aggregate S s + sense.content.aggregates) MAX_COLUMNS) TooLarge 0 _)))
+
+-- ---- the laws
+
+module _ {A : Type 0} (x : A) where
+  accepted : (faults : List BindRefusal) (y : A) → answer faults x ≡ Ok y → (faults ≡ []) × (y ≡ x)
+  accepted [] y is = let same : x ≡ y = cc is in (refl, sym same)
+  accepted (r ∷ faults) y is = cc is
+
+  accepting : (faults : List BindRefusal) (y : A) → (faults ≡ []) × (y ≡ x) → answer faults x ≡ Ok y
+  accepting [] y is = ap (λ z. Ok z) (sym is.1)
+  accepting (r ∷ faults) y is = let none = is.0 in cc
+
+  refused : (faults : List BindRefusal) (r : BindRefusal) → answer faults x ≡ Err r → (others : List BindRefusal) × (faults ≡ r ∷ others)
+  refused [] r is = cc is
+  refused (e ∷ faults) r is = let same : e ≡ r = cc is in (faults, ap (λ z. z ∷ faults) same)
+
+  refusing : (faults : List BindRefusal) (r : BindRefusal) → (others : List BindRefusal) × (faults ≡ r ∷ others) → answer faults x ≡ Err r
+  refusing [] r is = let some = is.1 in cc
+  refusing (e ∷ faults) r is = let some = is.1 in let same : e ≡ r = cc in ap (λ z. Err z) same
+
+pub statements_accepted : StatementsAccepted
+statements_accepted S s q = (
+  λ is. accepted (statement_query S s) (statement_faults S s) q (sym (statements_mean S s) ∙ is),
+  λ is. statements_mean S s ∙ accepting (statement_query S s) (statement_faults S s) q is,
+)
+
+pub statements_refused : StatementsRefused
+statements_refused S s r = (
+  λ is. refused (statement_query S s) (statement_faults S s) r (sym (statements_mean S s) ∙ is),
+  λ is. statements_mean S s ∙ refusing (statement_query S s) (statement_faults S s) r is,
+)

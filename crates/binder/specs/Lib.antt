@@ -14,3 +14,4 @@ pub mod Queries
 pub mod Scopes
 pub mod Selects
 pub mod Senses
+pub mod TextNumbers

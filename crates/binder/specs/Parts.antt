@@ -44,11 +44,6 @@ use Rattle.binder.specs.Selects.{kind_of}
 abbrev pub unless : Bool → BindReason → ℕ → List BindRefusal
 unless holds reason at = if holds then [] else refusal reason at ∷ []
 
--- refused with the first fault, if there is any
-abbrev pub answer : {A : Type 0} → List BindRefusal → A → Result A BindRefusal
-answer [] x = Ok x
-answer (r ∷ faults) x = Err r
-
 -- ---- names: what one means is said by specs/Meanings
 
 abbrev pub fault_in : {A : Type 0} → Result A BindRefusal → List BindRefusal

@@ -1,7 +1,7 @@
 -- What a statement means, and every fault of it in the order in which it is looked at: an attribute grammar over its tree
 -- (D. E. Knuth, Semantics of Context-Free Languages, 1968), by the rules of this project's profile of SQL. Faults are lists one
 -- behind the other, and numbers are lengths of what stands before.
-use Rattle.std.specs.Prelude.{◌≡◌, ◌+◌, ℕ, Bool, true, false, not, nat_le, List, [], ◌∷◌, ◌++◌, flat_map, length, map, Option, Some, None}
+use Rattle.std.specs.Prelude.{◌≡◌, ◌↔◌, ◌+◌, ℕ, not, nat_le, List, [], ◌∷◌, ◌++◌, flat_map, map, Option, Some, None, Ok, Err}
 use Rattle.schema.specs.declared.schema.Kind.{Kind}
 use Rattle.schema.specs.declared.schema.Schema.{Schema}
 use Rattle.sql_parse.specs.declared.statement.Condition.{Condition}
@@ -25,7 +25,7 @@ use Rattle.binder.specs.declared.statement.TheConstants.{MAX_COLUMNS}
 use Rattle.binder.specs.Extents.{is_within, of_select}
 use Rattle.binder.specs.Ordering.{without_repeats}
 use Rattle.binder.specs.Outputs.{aggregates, is_grouped}
-use Rattle.binder.specs.Parts.{unless, answer, term_faults, the_term, known, table_faults, widths, the_occurrence, instances_behind, key_faults, the_key, list_faults, shown, kinds_shown, is_empty, is_one, first_kind, order_faults, the_sort_key}
+use Rattle.binder.specs.Parts.{unless, term_faults, the_term, known, table_faults, widths, the_occurrence, instances_behind, key_faults, the_key, list_faults, shown, kinds_shown, is_empty, is_one, first_kind, order_faults, the_sort_key}
 use Rattle.binder.specs.Queries.{bound_statement}
 use Rattle.binder.specs.Scopes.{Scope, Scopes}
 use Rattle.binder.specs.Selects.{are_comparable, block_of, joined}
@@ -250,8 +250,12 @@ module _ (S : Schema) (s : Statement) where
     order = without_repeats (map (the_sort_key (select_sense S s.select).scope statement_outputs) s.order);
   }
 
--- ---- the law
+-- ---- the laws
 
--- a statement without a fault becomes its query, and any other is refused with its first fault
-abbrev pub StatementsMean : Type 0
-StatementsMean = (S : Schema) (s : Statement) → bound_statement S s ≡ answer (statement_faults S s) (statement_query S s)
+-- a statement becomes a query, if it has no fault
+abbrev pub StatementsAccepted : Type 0
+StatementsAccepted = (S : Schema) (s : Statement) (q : Query) → (bound_statement S s ≡ Ok q) ↔ ((statement_faults S s ≡ []) × (q ≡ statement_query S s))
+
+-- and else it is refused with the first of its faults
+abbrev pub StatementsRefused : Type 0
+StatementsRefused = (S : Schema) (s : Statement) (r : BindRefusal) → (bound_statement S s ≡ Err r) ↔ ((others : List BindRefusal) × (statement_faults S s ≡ r ∷ others))

@@ -1,7 +1,8 @@
 //! The laws of what a statement means. The functions do nothing: their contracts are the laws.
 
 ghost use Rattle.binder.specs.Meanings.{NamesFail, NamesMean};
-ghost use Rattle.binder.specs.Senses.{StatementsMean};
+ghost use Rattle.binder.specs.Senses.{StatementsAccepted, StatementsRefused};
+ghost use Rattle.binder.specs.TextNumbers.{StatementsAreNumbered};
 
 /// A name means the column that the scope rules say, and a refusal of it is the fault that they say.
 pub fn names_are_resolved()
@@ -10,6 +11,9 @@ pub fn names_are_resolved()
 {}
 
 /// A statement without a fault becomes the query that it means, and any other is refused with the first of its faults.
+/// The query's numbers are those of the text.
 pub fn statements_have_meaning()
-    ensures { StatementsMean }
+    ensures accepted { StatementsAccepted }
+    ensures refused { StatementsRefused }
+    ensures numbered { StatementsAreNumbered }
 {}
