@@ -1,3 +1,7 @@
+pub mod AnalysisAnswers
+pub mod AnalysisColumns
+pub mod AnalysisNumbers
+pub mod AnalysisParts
 pub mod BoundBlocks
 pub mod BoundConditions
 pub mod BoundFroms
@@ -10,6 +14,7 @@ pub mod Given
 pub mod Growth
 pub mod Indexes
 pub mod KeyOrder
+pub mod ListingEquations
 pub mod NameKeys
 pub mod NameMeanings
 pub mod NamesThere
@@ -23,10 +28,5 @@ pub mod Rising
 pub mod SelectExits
 pub mod SelectLoops
 pub mod SelectParts
-pub mod SenseAnswers
-pub mod SenseColumns
-pub mod SenseNumbers
-pub mod SenseParts
 pub mod StatementAnswers
 pub mod Steps
-pub mod ToldEquations

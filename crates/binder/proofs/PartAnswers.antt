@@ -1,8 +1,9 @@
 -- What is computed of names, terms, tables, items and keys is what they mean, or their first fault.
-use Rattle.std.proofs.Common.{◌≡◌, refl, sym, ◌∙◌, ap, ℕ, ◌+◌, ◌==◌, Bool, true, false, not, if◌then◌else◌, List, [], ◌∷◌, ◌++◌, flat_map, length, map, is_some, unwrap_or, Option, Some, None, Result, Ok, Err, arith, append_assoc, append-nil}
-use Rattle.std.specs.List.{list_all}
+use Rattle.std.proofs.Common.{◌≡◌, refl, sym, ◌∙◌, ap, ℕ, ◌+◌, ◌==◌, Bool, true, false, not, if◌then◌else◌, List, [], ◌∷◌, ◌++◌, flat_map, length, map, is_some, unwrap_or, zip, Option, Some, None, Result, Ok, Err, arith, append_assoc, append-nil}
+use Rattle.std.specs.List.{list_all, range_with_len}
 use Rattle.values.specs.Faults.{◌>>=◌, wanted, wanted_if}
 use Rattle.schema.specs.Each.{each}
+use Rattle.schema.specs.declared.schema.Column as entries
 use Rattle.schema.specs.declared.schema.Kind.{Kind}
 use Rattle.schema.specs.declared.schema.Kind.TheVariants as kind
 use Rattle.schema.specs.declared.schema.Table.{Table}
@@ -35,12 +36,13 @@ use Rattle.binder.specs.declared.selects.BoundSelect.{BoundSelect}
 use Rattle.binder.specs.declared.selects.BoundTerm.{BoundTerm}
 use Rattle.binder.specs.declared.tables.Numbered.{Numbered}
 use Rattle.binder.specs.Lookups.{find_table, refusal, table_in}
+use Rattle.binder.specs.Meanings.{columns_of}
 use Rattle.binder.specs.Numbers.{enter, entered, with_table}
 use Rattle.binder.specs.Ordering.{first_place, one_column, order_in, sort_key_in, without_repeats}
-use Rattle.binder.specs.Outputs.{aggregate_in, aggregate_of, all_columns, is_aggregate, is_shown, item_in, items_in, key_in, output_in, output_name, outputs_in, shows}
+use Rattle.binder.specs.Outputs.{aggregate_in, aggregate_of, all_columns as all_columns_from, columns_from, is_aggregate, is_shown, item_in, items_in, key_in, output_in, output_name, outputs_in, shows}
 use Rattle.binder.specs.Scopes.{Scope, Scopes, is_taken, known_name, meant, place_in_text}
 use Rattle.binder.specs.Selects.{are_comparable, comparison_in, membership_in, one_output, term_in}
-use Rattle.binder.specs.Parts.{unless, fault_in, value_in, name_faults, the_column, term_faults, the_term, no_table, the_table, known, table_faults, widths, the_occurrence, the_instance, instances_behind, key_faults, the_key, aggregate_by, kind_by, has_aggregate, aggregate_faults, the_aggregate, aggregate_kind, item_faults, the_item, item_kind, the_output, the_outputs, list_faults, shown, kinds_shown, is_one, first_kind, is_empty, are_one, place_of, items_meant, order_faults, the_sort_key}
+use Rattle.binder.specs.Parts.{all_columns, output_at, unless, fault_in, value_in, name_faults, the_column, term_faults, the_term, no_table, the_table, known, table_faults, widths, the_occurrence, the_instance, instances_behind, key_faults, the_key, aggregate_by, kind_by, has_aggregate, aggregate_faults, the_aggregate, aggregate_kind, item_faults, the_item, item_kind, the_output, the_outputs, list_faults, shown, kinds_shown, is_one, first_kind, is_empty, are_one, place_of, items_meant, order_faults, the_sort_key}
 
 -- ---- answers
 
@@ -111,6 +113,27 @@ membership-answer left at query kinds same =
 
 -- ---- items
 
+columns-from-append : (n : ℕ) (cs ds : List entries.Column) → columns_from n (cs ++ ds) ≡ columns_from n cs ++ columns_from (n + length cs) ds
+columns-from-append n [] ds = ap (λ m. columns_from m ds) (omega arith)
+columns-from-append n (c ∷ cs) ds =
+    ap (λ os. output_at (n, c) ∷ os) (columns-from-append (n + 1) cs ds ∙ ap (λ m. columns_from (n + 1) cs ++ columns_from m ds) (omega arith))
+
+columns-placed : (n : ℕ) (cs : List entries.Column) → columns_from n cs ≡ map output_at (zip (range_with_len n (length cs)) cs)
+columns-placed n [] = refl
+columns-placed n (c ∷ cs) = ap (λ os. output_at (n, c) ∷ os) (columns-placed (n + 1) cs)
+
+all-from : (n : ℕ) (scope : Scope) → all_columns_from n scope ≡ columns_from n (columns_of scope)
+all-from n [] = refl
+all-from n (o ∷ scope) =
+    ap (λ os. columns_from n o.entry.columns ++ os) (all-from (n + length o.entry.columns) scope) ∙ sym (columns-from-append n o.entry.columns (columns_of scope))
+
+-- the columns of a FROM are all of them, by their places
+star-is : (scope : Scope) → all_columns_from 0 scope ≡ all_columns scope
+star-is scope = all-from 0 scope ∙ columns-placed 0 (columns_of scope)
+
+pub star-columns : (scope : Scope) → all_columns scope ≡ columns_from 0 (columns_of scope)
+star-columns scope = sym (columns-placed 0 (columns_of scope))
+
 pub key-answer : (scopes : Scopes) (c : ColumnName) → key_in scopes c ≡ answer (key_faults scopes c) (the_key scopes c)
 key-answer scopes c =
     then-answer (meant c scopes) (name_faults scopes c) (the_column scopes c) _ _ _ (name-answer scopes c)
@@ -157,7 +180,9 @@ module _ (scopes : Scopes) (grouped : Bool) (keys : List ℕ) where
 
   pub list-answer : (scope : Scope) (number : ℕ) (l : SelectList) → outputs_in scope scopes grouped keys number l ≡ answer (list_faults scope scopes grouped keys l) (shown scope scopes number l)
   list-answer scope number (list.Items items) = items-answer number items
-  list-answer scope number (list.Star at) = if-answer (list_all (λ o. is_shown grouped keys o.item) (all_columns 0 scope)) UngroupedColumn at (all_columns 0 scope)
+  list-answer scope number (list.Star at) =
+      ap (λ os. wanted_if (refusal UngroupedColumn at) (list_all (λ o. is_shown grouped keys o.item) os) os) (star-is scope)
+      ∙ if-answer (list_all (λ o. is_shown grouped keys o.item) (all_columns scope)) UngroupedColumn at (all_columns scope)
 
 outputs-kinds : (scopes : Scopes) (number : ℕ) (items : List SelectItem) → kinds_of (the_outputs scopes number items) ≡ map (λ i. item_kind scopes i.value) items
 outputs-kinds scopes number [] = refl

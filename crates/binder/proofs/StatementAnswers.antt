@@ -19,14 +19,14 @@ use Rattle.binder.specs.Ordering.{order_in, without_repeats}
 use Rattle.binder.specs.Parts.{unless, widths, order_faults, the_sort_key}
 use Rattle.binder.specs.Queries.{at_start, bound_statement}
 use Rattle.binder.specs.Selects.{select_in}
-use Rattle.binder.specs.Senses.{Before, behind, first_aggregate, statement_outputs, statement_faults, statement_query, StatementsAccepted, StatementsRefused, condition_sense, join_sense, chain_sense, select_sense}
+use Rattle.binder.specs.Analyses.{Before, behind, first_aggregate, statement_outputs, statement_faults, statement_query, StatementsAccepted, StatementsRefused, condition_analysis, join_analysis, chain_analysis, select_analysis}
 use Rattle.binder.proofs.PartAnswers.{answer, then-answer, if-answer, numbered, order-answer}
-use Rattle.binder.proofs.SenseColumns.{selects-wide}
-use Rattle.binder.proofs.SenseAnswers.{state, bound_select, ConditionIs, JoinIs, ChainIs, SelectIs, ProvedCondition, ProvedJoin, ProvedChain, answer-Compare, answer-IsNull, answer-Not, answer-And, answer-Or, answer-Exists, answer-In, answer-join, answer-chain, answer-select, has-kinds}
+use Rattle.binder.proofs.AnalysisColumns.{selects-wide}
+use Rattle.binder.proofs.AnalysisAnswers.{state, bound_select, ConditionIs, JoinIs, ChainIs, SelectIs, ProvedCondition, ProvedJoin, ProvedChain, answer-Compare, answer-IsNull, answer-Not, answer-And, answer-Or, answer-Exists, answer-In, answer-join, answer-chain, answer-select, has-kinds}
 
 module _ (S : Schema) where
   abbrev ProvedSelect : Type 0
-  ProvedSelect = (q : Select) × SelectIs S q (select_sense S q)
+  ProvedSelect = (q : Select) × SelectIs S q (select_analysis S q)
 
   abbrev plain_condition : Condition-F (ProvedCondition S) (ProvedChain S) (ProvedJoin S) ProvedSelect → Condition-F Condition Chain Join Select
   plain_condition = map-Condition _ _ _ _ Condition Chain Join Select (λ c. c.0) (λ c. c.0) (λ j. j.0) (λ q. q.0)
@@ -41,7 +41,7 @@ module _ (S : Schema) where
   plain_select = map-Select _ _ _ _ Condition Chain Join Select (λ c. c.0) (λ c. c.0) (λ j. j.0) (λ q. q.0)
 
   abbrev ConditionAnswers : Condition → Type 0
-  ConditionAnswers c = ConditionIs S c (condition_sense S c)
+  ConditionAnswers c = ConditionIs S c (condition_analysis S c)
 
   condition-answers : (y : Condition-F (ProvedCondition S) (ProvedChain S) (ProvedJoin S) ProvedSelect) → ConditionAnswers (roll-Condition (plain_condition y))
   condition-answers (Condition-F.Compare a op b) = subst ConditionAnswers (sym (tree.rolls-Compare a op b)) (answer-Compare S a op b)
@@ -52,31 +52,31 @@ module _ (S : Schema) where
   condition-answers (Condition-F.Exists q) = subst ConditionAnswers (sym (tree.rolls-Exists q.0)) (answer-Exists S q.0 q.1)
   condition-answers (Condition-F.In a at q) = subst ConditionAnswers (sym (tree.rolls-In a at q.0)) (answer-In S a at q.0 q.1 (has-kinds S q.0))
 
-  join-answers : (y : Join-F (ProvedCondition S) (ProvedChain S) (ProvedJoin S) ProvedSelect) → JoinIs S (roll-Join (plain_join y)) (join_sense S (roll-Join (plain_join y)))
+  join-answers : (y : Join-F (ProvedCondition S) (ProvedChain S) (ProvedJoin S) ProvedSelect) → JoinIs S (roll-Join (plain_join y)) (join_analysis S (roll-Join (plain_join y)))
   join-answers y = answer-join S (roll-Join (plain_join y)) (subst ConditionAnswers (sym (ap (λ x. x.condition) (out-roll-Join (plain_join y)))) y.condition.1)
 
-  chain-answers : (y : Chain-F (ProvedCondition S) (ProvedChain S) (ProvedJoin S) ProvedSelect) → ChainIs S (roll-Chain (plain_chain y)) (chain_sense S (roll-Chain (plain_chain y)))
+  chain-answers : (y : Chain-F (ProvedCondition S) (ProvedChain S) (ProvedJoin S) ProvedSelect) → ChainIs S (roll-Chain (plain_chain y)) (chain_analysis S (roll-Chain (plain_chain y)))
   chain-answers y = answer-chain S (roll-Chain (plain_chain y)) y.joins (sym (ap (λ x. x.joins) (out-roll-Chain (plain_chain y))))
 
   select-answers : (y : Select-F (ProvedCondition S) (ProvedChain S) (ProvedJoin S) ProvedSelect) (w : Option (ProvedCondition S))
-      → SelectIs S (roll-Select (plain_select (record y { filter = w }))) (select_sense S (roll-Select (plain_select (record y { filter = w }))))
+      → SelectIs S (roll-Select (plain_select (record y { filter = w }))) (select_analysis S (roll-Select (plain_select (record y { filter = w }))))
   select-answers y None = answer-select S (roll-Select (plain_select (record y { filter = None }))) y.from None
       (sym (ap (λ x. x.from) (out-roll-Select (plain_select (record y { filter = None }))))) (sym (ap (λ x. x.filter) (out-roll-Select (plain_select (record y { filter = None })))))
   select-answers y (Some c) = answer-select S (roll-Select (plain_select (record y { filter = Some c }))) y.from (Some c)
       (sym (ap (λ x. x.from) (out-roll-Select (plain_select (record y { filter = Some c }))))) (sym (ap (λ x. x.filter) (out-roll-Select (plain_select (record y { filter = Some c })))))
 
   -- each SELECT, wherever it stands
-  pub selects-answer : (q : Select) → SelectIs S q (select_sense S q)
-  selects-answer = ind-Select ConditionAnswers (λ c. ChainIs S c (chain_sense S c)) (λ j. JoinIs S j (join_sense S j)) (λ q. SelectIs S q (select_sense S q))
+  pub selects-answer : (q : Select) → SelectIs S q (select_analysis S q)
+  selects-answer = ind-Select ConditionAnswers (λ c. ChainIs S c (chain_analysis S c)) (λ j. JoinIs S j (join_analysis S j)) (λ q. SelectIs S q (select_analysis S q))
       (λ x y is. subst (λ z. ConditionAnswers (roll-Condition z)) is (condition-answers y))
-      (λ x y is. subst (λ z. ChainIs S (roll-Chain z) (chain_sense S (roll-Chain z))) is (chain-answers y))
-      (λ x y is. subst (λ z. JoinIs S (roll-Join z) (join_sense S (roll-Join z))) is (join-answers y))
-      (λ x y is. subst (λ z. SelectIs S (roll-Select z) (select_sense S (roll-Select z))) is (select-answers y y.filter))
+      (λ x y is. subst (λ z. ChainIs S (roll-Chain z) (chain_analysis S (roll-Chain z))) is (chain-answers y))
+      (λ x y is. subst (λ z. JoinIs S (roll-Join z) (join_analysis S (roll-Join z))) is (join-answers y))
+      (λ x y is. subst (λ z. SelectIs S (roll-Select z) (select_analysis S (roll-Select z))) is (select-answers y y.filter))
 
   -- ---- the whole
 
   abbrev start : Select → Before
-  start q = record { tables = []; aggregates = widths S (select_sense S q).content.tables }
+  start q = record { tables = []; aggregates = widths S (select_analysis S q).content.tables }
 
   at-start : (q : Select) → at_start (of_select S q) ≡ state S (start q)
   at-start q = ap (λ n. numbered S [] n) (selects-wide S q)
@@ -85,15 +85,15 @@ statements_mean : (S : Schema) (s : Statement) → bound_statement S s ≡ answe
 unfolding bound_statement statement_faults statement_query
 statements_mean S s =
     let q = s.select in
-    let sense = select_sense S q in
+    let analysis = select_analysis S q in
     let first = start S q in
     let extent = of_select S q in
     then-answer (wanted_if (refusal TooLarge 0) (is_within extent) extent) (unless (is_within extent) TooLarge 0) extent _ _ _ (if-answer (is_within extent) TooLarge 0 extent)
-    (then-answer (select_in S q [] (at_start extent)) (sense.faults []) (bound_select S sense [] first, state S (behind first sense.content)) _ _ _
+    (then-answer (select_in S q [] (at_start extent)) (analysis.faults []) (bound_select S analysis [] first, state S (behind first analysis.content)) _ _ _
     (ap (select_in S q []) (at-start S q) ∙ selects-answer S q [] first)
-    (then-answer (order_in sense.scope (statement_outputs S s) s.order) (flat_map (order_faults sense.scope (statement_outputs S s)) s.order) (without_repeats (map (the_sort_key sense.scope (statement_outputs S s)) s.order)) _ _ _
-    (order-answer sense.scope (statement_outputs S s) s.order)
-    (if-answer (nat_le (first_aggregate S s + sense.content.aggregates) MAX_COLUMNS) TooLarge 0 _)))
+    (then-answer (order_in analysis.scope (statement_outputs S s) s.order) (flat_map (order_faults analysis.scope (statement_outputs S s)) s.order) (without_repeats (map (the_sort_key analysis.scope (statement_outputs S s)) s.order)) _ _ _
+    (order-answer analysis.scope (statement_outputs S s) s.order)
+    (if-answer (nat_le (first_aggregate S s + analysis.content.aggregates) MAX_COLUMNS) TooLarge 0 _)))
 
 -- ---- the laws
 

@@ -1,3 +1,4 @@
+pub mod Analyses
 pub mod BoundStatements
 pub mod Chained
 pub mod Codes
@@ -13,5 +14,4 @@ pub mod Parts
 pub mod Queries
 pub mod Scopes
 pub mod Selects
-pub mod Senses
 pub mod TextNumbers

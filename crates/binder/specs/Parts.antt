@@ -1,7 +1,8 @@
 -- What the names, terms, tables and items of a statement mean, and every fault of each (this project's profile of SQL). Nothing
 -- here stops at a fault: what a part with one means is never asked.
-use Rattle.std.specs.Prelude.{◌+◌, ◌==◌, ℕ, Bool, true, false, not, if◌then◌else◌, List, [], ◌∷◌, ◌++◌, flat_map, length, map, is_some, unwrap_or, Option, Some, None, Result, Ok, Err}
-use Rattle.std.specs.List.{list_all}
+use Rattle.std.specs.Prelude.{◌+◌, ◌==◌, ℕ, Bool, true, false, not, if◌then◌else◌, List, [], ◌∷◌, ◌++◌, flat_map, length, map, is_some, unwrap_or, zip, Option, Some, None, Result, Ok, Err}
+use Rattle.std.specs.List.{list_all, range_with_len}
+use Rattle.schema.specs.declared.schema.Column as entries
 use Rattle.schema.specs.declared.schema.Kind.{Kind}
 use Rattle.schema.specs.declared.schema.Kind.TheVariants as kind
 use Rattle.schema.specs.declared.schema.Table.{Table}
@@ -33,8 +34,9 @@ use Rattle.binder.specs.declared.output.Output.{Output}
 use Rattle.binder.specs.declared.scope.TypedColumn.{TypedColumn}
 use Rattle.binder.specs.declared.selects.BoundTerm.{BoundTerm}
 use Rattle.binder.specs.Lookups.{find_table, own, refusal}
+use Rattle.binder.specs.Meanings.{columns_of}
 use Rattle.binder.specs.Ordering.{first_place, outputs_meant, same_item}
-use Rattle.binder.specs.Outputs.{all_columns, is_aggregate, is_shown, output_name, shows}
+use Rattle.binder.specs.Outputs.{is_aggregate, is_shown, output_name, shows}
 use Rattle.binder.specs.Scopes.{Known, Scope, Scopes, is_taken, known_name, meant, place_in_text}
 use Rattle.binder.specs.Selects.{kind_of}
 
@@ -169,17 +171,24 @@ module _ (scopes : Scopes) where
 
 -- ---- what a SELECT shows, whose own FROM is the innermost of the scopes
 
+abbrev pub output_at : ℕ × entries.Column → Output
+output_at (place, c) = record { name = c.name; item = item.Column (own place); kind = c.kind }
+
+-- `*`: all columns of the FROM, by their places
+abbrev pub all_columns : Scope → List Output
+all_columns scope = map output_at (zip (range_with_len 0 (length (columns_of scope))) (columns_of scope))
+
 abbrev pub list_faults : Scope → Scopes → Bool → List ℕ → SelectList → List BindRefusal
 list_faults scope scopes grouped keys (list.Items items) = flat_map (λ i. item_faults scopes grouped keys i.value) items
-list_faults scope scopes grouped keys (list.Star at) = unless (list_all (λ o. is_shown grouped keys o.item) (all_columns 0 scope)) UngroupedColumn at
+list_faults scope scopes grouped keys (list.Star at) = unless (list_all (λ o. is_shown grouped keys o.item) (all_columns scope)) UngroupedColumn at
 
 abbrev pub shown : Scope → Scopes → ℕ → SelectList → List Output
 shown scope scopes number (list.Items items) = the_outputs scopes number items
-shown scope scopes number (list.Star at) = all_columns 0 scope
+shown scope scopes number (list.Star at) = all_columns scope
 
 abbrev pub kinds_shown : Scope → Scopes → SelectList → List Kind
 kinds_shown scope scopes (list.Items items) = map (λ i. item_kind scopes i.value) items
-kinds_shown scope scopes (list.Star at) = map (λ o. o.kind) (all_columns 0 scope)
+kinds_shown scope scopes (list.Star at) = map (λ o. o.kind) (all_columns scope)
 
 abbrev pub is_one : {A : Type 0} → List A → Bool
 is_one [] = false

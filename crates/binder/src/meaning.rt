@@ -1,7 +1,7 @@
 //! The laws of what a statement means. The functions do nothing: their contracts are the laws.
 
 ghost use Rattle.binder.specs.Meanings.{NamesFail, NamesMean};
-ghost use Rattle.binder.specs.Senses.{StatementsAccepted, StatementsRefused};
+ghost use Rattle.binder.specs.Analyses.{StatementsAccepted, StatementsRefused};
 ghost use Rattle.binder.specs.TextNumbers.{StatementsAreNumbered};
 
 /// A name means the column that the scope rules say, and a refusal of it is the fault that they say.

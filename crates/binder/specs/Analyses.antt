@@ -57,25 +57,25 @@ all_contents [] = nothing
 all_contents (c ∷ cs) = both c (all_contents cs)
 
 -- Each part has faults, and is something in the bound query, among the FROMs around it.
-pub record ConditionSense : Type 0 where
+pub record ConditionAnalysis : Type 0 where
   pub content : Content
   pub faults : Scopes → List BindRefusal
   pub becomes : Scopes → Before → Cond
 
 -- among the FROMs outside, behind the tables of the chains before it and of its own chain
-pub record JoinSense : Type 0 where
+pub record JoinAnalysis : Type 0 where
   pub table : TableName
   pub content : Content
   pub faults : Scopes → Scope → Scope → List BindRefusal
   pub becomes : Scopes → Scope → Before → From → From
 
-pub record ChainSense : Type 0 where
+pub record ChainAnalysis : Type 0 where
   pub scope : Scope
   pub content : Content
   pub faults : Scopes → Scope → List BindRefusal
   pub becomes : Scopes → Before → From
 
-pub record SelectSense : Type 0 where
+pub record SelectAnalysis : Type 0 where
   pub content : Content
   pub faults : Scopes → List BindRefusal
   pub becomes : Scopes → Before → Block
@@ -86,11 +86,11 @@ pub record SelectSense : Type 0 where
 
 -- ---- conditions
 
-abbrev pub all_become : Scopes → Before → List ConditionSense → List Cond
+abbrev pub all_become : Scopes → Before → List ConditionAnalysis → List Cond
 all_become scopes before [] = []
 all_become scopes before (c ∷ cs) = c.becomes scopes before ∷ all_become scopes (behind before c.content) cs
 
-abbrev pub several : (List Cond → Cond) → List ConditionSense → ConditionSense
+abbrev pub several : (List Cond → Cond) → List ConditionAnalysis → ConditionAnalysis
 several together cs = record {
   content = all_contents (map (λ c. c.content) cs);
   faults = λ scopes. flat_map (λ c. c.faults scopes) cs;
@@ -98,7 +98,7 @@ several together cs = record {
 }
 
 -- The terms and the subquery come first. Of an IN it is asked that it has one column, and then the kinds.
-abbrev pub condition_layer : Condition-F ConditionSense ChainSense JoinSense SelectSense → ConditionSense
+abbrev pub condition_layer : Condition-F ConditionAnalysis ChainAnalysis JoinAnalysis SelectAnalysis → ConditionAnalysis
 condition_layer (Condition-F.Compare a op b) = record {
   content = nothing;
   faults = λ scopes. term_faults scopes a ++ (term_faults scopes b ++ unless (are_comparable (the_term scopes a).kind (the_term scopes b).kind) MixedKinds op.at);
@@ -127,7 +127,7 @@ module _ (S : Schema) where
   one_table t = record { tables = t ∷ []; aggregates = 0 }
 
   -- the table, and then its ON, which sees both sides
-  abbrev pub join_layer : Join-F ConditionSense ChainSense JoinSense SelectSense → JoinSense
+  abbrev pub join_layer : Join-F ConditionAnalysis ChainAnalysis JoinAnalysis SelectAnalysis → JoinAnalysis
   join_layer x = record {
     table = x.table;
     content = both (one_table x.table) x.condition.content;
@@ -136,16 +136,16 @@ module _ (S : Schema) where
         joined x.kind left (the_occurrence S before.tables x.table) (x.condition.becomes ((chain ++ known S x.table ∷ []) ∷ outer) (behind before (one_table x.table)));
   }
 
-  abbrev pub joins_faults : Scopes → Scope → Scope → List JoinSense → List BindRefusal
+  abbrev pub joins_faults : Scopes → Scope → Scope → List JoinAnalysis → List BindRefusal
   joins_faults outer others chain [] = []
   joins_faults outer others chain (j ∷ joins) = j.faults outer others chain ++ joins_faults outer others (chain ++ known S j.table ∷ []) joins
 
-  abbrev pub joins_become : Scopes → Scope → Before → From → List JoinSense → From
+  abbrev pub joins_become : Scopes → Scope → Before → From → List JoinAnalysis → From
   joins_become outer chain before left [] = left
   joins_become outer chain before left (j ∷ joins) =
       joins_become outer (chain ++ known S j.table ∷ []) (behind before j.content) (j.becomes outer chain before left) joins
 
-  abbrev pub chain_layer : Chain-F ConditionSense ChainSense JoinSense SelectSense → ChainSense
+  abbrev pub chain_layer : Chain-F ConditionAnalysis ChainAnalysis JoinAnalysis SelectAnalysis → ChainAnalysis
   chain_layer x = record {
     scope = known S x.table ∷ map (λ j. known S j.table) x.joins;
     content = both (one_table x.table) (all_contents (map (λ j. j.content) x.joins));
@@ -153,44 +153,44 @@ module _ (S : Schema) where
     becomes = λ outer before. joins_become outer (known S x.table ∷ []) (behind before (one_table x.table)) (from.Table (the_occurrence S before.tables x.table)) x.joins;
   }
 
-abbrev pub chains_faults : Scopes → Scope → List ChainSense → List BindRefusal
+abbrev pub chains_faults : Scopes → Scope → List ChainAnalysis → List BindRefusal
 chains_faults outer others [] = []
 chains_faults outer others (c ∷ chains) = c.faults outer others ++ chains_faults outer (others ++ c.scope) chains
 
-abbrev pub commas_become : Scopes → Before → From → List ChainSense → From
+abbrev pub commas_become : Scopes → Before → From → List ChainAnalysis → From
 commas_become outer before left [] = left
 commas_become outer before left (c ∷ chains) = commas_become outer (behind before c.content) (from.Comma left (c.becomes outer before)) chains
 
 -- no text has a FROM without a table
-abbrev pub from_faults : Scopes → List ChainSense → List BindRefusal
+abbrev pub from_faults : Scopes → List ChainAnalysis → List BindRefusal
 from_faults outer chains = unless (not (is_empty chains)) UnknownTable 0 ++ chains_faults outer [] chains
 
-abbrev pub from_becomes : Scopes → Before → List ChainSense → From
+abbrev pub from_becomes : Scopes → Before → List ChainAnalysis → From
 from_becomes outer before [] = from.Table (record { number = 0; table = 0 })
 from_becomes outer before (c ∷ chains) = commas_become outer (behind before c.content) (c.becomes outer before) chains
 
 -- ---- SELECT
 
-abbrev pub filter_content : Option ConditionSense → Content
+abbrev pub filter_content : Option ConditionAnalysis → Content
 filter_content None = nothing
 filter_content (Some c) = c.content
 
-abbrev pub filter_faults : Scopes → Option ConditionSense → List BindRefusal
+abbrev pub filter_faults : Scopes → Option ConditionAnalysis → List BindRefusal
 filter_faults scopes None = []
 filter_faults scopes (Some c) = c.faults scopes
 
-abbrev pub filter_becomes : Scopes → Before → Option ConditionSense → Option Cond
+abbrev pub filter_becomes : Scopes → Before → Option ConditionAnalysis → Option Cond
 filter_becomes scopes before None = None
 filter_becomes scopes before (Some c) = Some (c.becomes scopes before)
 
-abbrev pub scope_of_from : List ChainSense → Scope
+abbrev pub scope_of_from : List ChainAnalysis → Scope
 scope_of_from = flat_map (λ c. c.scope)
 
-abbrev pub from_content : List ChainSense → Content
+abbrev pub from_content : List ChainAnalysis → Content
 from_content chains = all_contents (map (λ c. c.content) chains)
 
 -- FROM, WHERE, GROUP BY, and then the items
-abbrev pub select_layer : Select-F ConditionSense ChainSense JoinSense SelectSense → SelectSense
+abbrev pub select_layer : Select-F ConditionAnalysis ChainAnalysis JoinAnalysis SelectAnalysis → SelectAnalysis
 select_layer x = record {
   content = both (record { tables = []; aggregates = aggregates x.list }) (both (from_content x.from) (filter_content x.filter));
   faults = λ outer.
@@ -210,44 +210,44 @@ select_layer x = record {
 
 -- ---- the whole
 
-unfoldable pub condition_sense : Schema → Condition → ConditionSense
-condition_sense S = fold-Condition ConditionSense ChainSense JoinSense SelectSense condition_layer (chain_layer S) (join_layer S) select_layer
+unfoldable pub condition_analysis : Schema → Condition → ConditionAnalysis
+condition_analysis S = fold-Condition ConditionAnalysis ChainAnalysis JoinAnalysis SelectAnalysis condition_layer (chain_layer S) (join_layer S) select_layer
 
-unfoldable pub join_sense : Schema → Join → JoinSense
-join_sense S = fold-Join ConditionSense ChainSense JoinSense SelectSense condition_layer (chain_layer S) (join_layer S) select_layer
+unfoldable pub join_analysis : Schema → Join → JoinAnalysis
+join_analysis S = fold-Join ConditionAnalysis ChainAnalysis JoinAnalysis SelectAnalysis condition_layer (chain_layer S) (join_layer S) select_layer
 
-unfoldable pub chain_sense : Schema → Chain → ChainSense
-chain_sense S = fold-Chain ConditionSense ChainSense JoinSense SelectSense condition_layer (chain_layer S) (join_layer S) select_layer
+unfoldable pub chain_analysis : Schema → Chain → ChainAnalysis
+chain_analysis S = fold-Chain ConditionAnalysis ChainAnalysis JoinAnalysis SelectAnalysis condition_layer (chain_layer S) (join_layer S) select_layer
 
-unfoldable pub select_sense : Schema → Select → SelectSense
-select_sense S = fold-Select ConditionSense ChainSense JoinSense SelectSense condition_layer (chain_layer S) (join_layer S) select_layer
+unfoldable pub select_analysis : Schema → Select → SelectAnalysis
+select_analysis S = fold-Select ConditionAnalysis ChainAnalysis JoinAnalysis SelectAnalysis condition_layer (chain_layer S) (join_layer S) select_layer
 
 module _ (S : Schema) (s : Statement) where
   abbrev pub statement_content : Content
-  statement_content = (select_sense S s.select).content
+  statement_content = (select_analysis S s.select).content
 
   -- aggregates are numbered behind all columns
   abbrev pub first_aggregate : ℕ
   first_aggregate = widths S statement_content.tables
 
   abbrev pub statement_outputs : List Output
-  statement_outputs = (select_sense S s.select).outputs [] first_aggregate
+  statement_outputs = (select_analysis S s.select).outputs [] first_aggregate
 
   -- Every fault, in order. Sizes come first, and the columns last of all.
   unfoldable pub statement_faults : List BindRefusal
   statement_faults =
       unless (is_within (of_select S s.select)) TooLarge 0
-      ++ ((select_sense S s.select).faults []
-      ++ (flat_map (order_faults (select_sense S s.select).scope statement_outputs) s.order
+      ++ ((select_analysis S s.select).faults []
+      ++ (flat_map (order_faults (select_analysis S s.select).scope statement_outputs) s.order
       ++ unless (nat_le (first_aggregate + statement_content.aggregates) MAX_COLUMNS) TooLarge 0))
 
   -- what the statement becomes, if it has no fault
   unfoldable pub statement_query : Query
   statement_query = record {
     tables = instances_behind S [] statement_content.tables;
-    block = (select_sense S s.select).becomes [] (record { tables = []; aggregates = first_aggregate });
+    block = (select_analysis S s.select).becomes [] (record { tables = []; aggregates = first_aggregate });
     names = map (λ o. o.name) statement_outputs;
-    order = without_repeats (map (the_sort_key (select_sense S s.select).scope statement_outputs) s.order);
+    order = without_repeats (map (the_sort_key (select_analysis S s.select).scope statement_outputs) s.order);
   }
 
 -- ---- the laws

@@ -1,7 +1,6 @@
 -- Where a statement has no fault, its query is numbered in the order of the text.
 use Rattle.std.proofs.Common.{◌≡◌, refl, sym, ◌∙◌, ap, ℕ, zero, suc, ◌+◌, Bool, true, false, if◌then◌else◌, List, [], ◌∷◌, ◌++◌, filter, length, map, arith, append_assoc, append-nil}
 use Rattle.std.specs.List.{range_with_len}
-use Rattle.std.proofs.lemmas.List.{map-append}
 use Rattle.schema.specs.declared.schema.Column as entries
 use Rattle.schema.specs.declared.schema.Schema.{Schema}
 use Rattle.sql_parse.specs.declared.statement.ItemValue.{ItemValue}
@@ -15,17 +14,17 @@ use Rattle.sql_parse.specs.declared.statement.TableName.{TableName}
 use Rattle.query.specs.declared.query.Cond.{Cond}
 use Rattle.query.specs.declared.query.From.{From}
 use Rattle.query.specs.declared.query.Item.{Item}
-use Rattle.query.specs.declared.query.Item.TheVariants as item
 use Rattle.query.specs.declared.query.Occurrence.{Occurrence}
 use Rattle.query.specs.Bound.{aggregate_numbers}
-use Rattle.binder.specs.declared.output.Output.{Output}
-use Rattle.binder.specs.Outputs.{aggregates, all_columns, columns_from, is_aggregate, is_call}
+use Rattle.binder.specs.Meanings.{columns_of}
+use Rattle.binder.specs.Outputs.{aggregates, columns_from, is_aggregate, is_call}
 use Rattle.binder.specs.Scopes.{Scope, Scopes}
 use Rattle.binder.specs.Selects.{joined}
 use Rattle.binder.specs.Parts.{the_item, the_occurrence, the_outputs, shown}
-use Rattle.binder.specs.Senses.{Before, Content, behind, both}
-use Rattle.binder.specs.TextNumbers.{Told, untold, one, then_told, told_in_cond, told_in_from}
-use Rattle.binder.proofs.ToldEquations.{told-Join, told-LeftJoin}
+use Rattle.binder.specs.Analyses.{Before, Content, behind, both}
+use Rattle.binder.specs.TextNumbers.{Listing, no_listing, one_listing, both_listings, cond_listing, from_listing}
+use Rattle.binder.proofs.PartAnswers.{star-columns}
+use Rattle.binder.proofs.ListingEquations.{listing-Join, listing-LeftJoin}
 
 -- ---- lists
 
@@ -43,23 +42,23 @@ range-append n (suc a) b =
     let next : n + suc a ≡ (n + 1) + a = omega arith in
     rw (more, next) (ap (λ ks. n ∷ ks) (range-append (n + 1) a b))
 
--- ---- told
+-- ---- listed
 
-abbrev told_of : List Occurrence → List ℕ → Told
-told_of os ns = record { occurrences = os; aggregates = ns }
+abbrev listing_of : List Occurrence → List ℕ → Listing
+listing_of os ns = record { occurrences = os; aggregates = ns }
 
-told-is : (os ps : List Occurrence) (ms ns : List ℕ) → os ≡ ps → ms ≡ ns → told_of os ms ≡ told_of ps ns
-told-is os ps ms ns same also = ap (λ x. told_of x ms) same ∙ ap (λ x. told_of ps x) also
+listing-is : (os ps : List Occurrence) (ms ns : List ℕ) → os ≡ ps → ms ≡ ns → listing_of os ms ≡ listing_of ps ns
+listing-is os ps ms ns same also = ap (λ x. listing_of x ms) same ∙ ap (λ x. listing_of ps x) also
 
-pub then-assoc : (a b c : Told) → then_told (then_told a b) c ≡ then_told a (then_told b c)
-then-assoc a b c = told-is _ _ _ _ (append_assoc a.occurrences b.occurrences c.occurrences) (append_assoc a.aggregates b.aggregates c.aggregates)
+pub both-assoc : (a b c : Listing) → both_listings (both_listings a b) c ≡ both_listings a (both_listings b c)
+both-assoc a b c = listing-is _ _ _ _ (append_assoc a.occurrences b.occurrences c.occurrences) (append_assoc a.aggregates b.aggregates c.aggregates)
 
-pub then-untold : (a : Told) → then_told a untold ≡ a
-then-untold a = told-is _ _ _ _ (append-nil a.occurrences) (append-nil a.aggregates)
+pub then-no_listing : (a : Listing) → both_listings a no_listing ≡ a
+then-no_listing a = listing-is _ _ _ _ (append-nil a.occurrences) (append-nil a.aggregates)
 
-pub told-joined : (k : JoinKind) (f : From) (o : Occurrence) (on : Cond) → told_in_from (joined k f o on) ≡ then_told (told_in_from f) (then_told (one o) (told_in_cond on))
-told-joined by.Inner f o on = told-Join f o on
-told-joined by.Left f o on = told-LeftJoin f o on
+pub listing-joined : (k : JoinKind) (f : From) (o : Occurrence) (on : Cond) → from_listing (joined k f o on) ≡ both_listings (from_listing f) (both_listings (one_listing o) (cond_listing on))
+listing-joined by.Inner f o on = listing-Join f o on
+listing-joined by.Left f o on = listing-LeftJoin f o on
 
 module _ (S : Schema) where
   abbrev pub occurrences_behind : List TableName → List TableName → List Occurrence
@@ -72,19 +71,14 @@ module _ (S : Schema) where
       ap (λ os. the_occurrence S before t ∷ os) (occurrences-append (before ++ t ∷ []) xs ys
       ∙ ap (λ b. occurrences_behind (before ++ t ∷ []) xs ++ occurrences_behind b ys) (append_assoc before (t ∷ []) xs))
 
-  -- what is told of such a part
-  abbrev pub of_content : Before → Content → Told
+  -- what is listed of such a part
+  abbrev pub of_content : Before → Content → Listing
   of_content b c = record { occurrences = occurrences_behind b.tables c.tables; aggregates = range_with_len b.aggregates c.aggregates }
 
-  pub both-told : (b : Before) (c d : Content) → then_told (of_content b c) (of_content (behind b c) d) ≡ of_content b (both c d)
-  both-told b c d = told-is _ _ _ _ (sym (occurrences-append b.tables c.tables d.tables)) (sym (range-append b.aggregates c.aggregates d.aggregates))
+  pub both-listed : (b : Before) (c d : Content) → both_listings (of_content b c) (of_content (behind b c) d) ≡ of_content b (both c d)
+  both-listed b c d = listing-is _ _ _ _ (sym (occurrences-append b.tables c.tables d.tables)) (sym (range-append b.aggregates c.aggregates d.aggregates))
 
 -- ---- items
-
-aggregates-append : (xs ys : List Item) → aggregate_numbers (xs ++ ys) ≡ aggregate_numbers xs ++ aggregate_numbers ys
-aggregates-append [] ys = refl
-aggregates-append (item.Column c ∷ xs) ys = aggregates-append xs ys
-aggregates-append (item.Aggregate n a ∷ xs) ys = ap (λ ns. n ∷ ns) (aggregates-append xs ys)
 
 item-numbers : (scopes : Scopes) (number : ℕ) (v : ItemValue) (others : List Item) (n : ℕ) (count : ℕ)
     → aggregate_numbers others ≡ range_with_len (if is_call v then number + 1 else number) count
@@ -105,16 +99,7 @@ columns-numbers : (n : ℕ) (cs : List entries.Column) → aggregate_numbers (ma
 columns-numbers n [] = refl
 columns-numbers n (c ∷ cs) = columns-numbers (n + 1) cs
 
-outputs-append : (xs ys : List Output) → aggregate_numbers (map (λ o. o.item) (xs ++ ys)) ≡ aggregate_numbers (map (λ o. o.item) xs) ++ aggregate_numbers (map (λ o. o.item) ys)
-outputs-append xs ys = ap aggregate_numbers (map-append (λ o. o.item) xs ys) ∙ aggregates-append (map (λ o. o.item) xs) (map (λ o. o.item) ys)
-
-star-numbers : (n : ℕ) (scope : Scope) → aggregate_numbers (map (λ o. o.item) (all_columns n scope)) ≡ []
-star-numbers n [] = refl
-star-numbers n (o ∷ scope) =
-    outputs-append (columns_from n o.entry.columns) (all_columns (n + length o.entry.columns) scope)
-    ∙ ap (λ ns. ns ++ aggregate_numbers (map (λ o. o.item) (all_columns (n + length o.entry.columns) scope))) (columns-numbers n o.entry.columns) ∙ star-numbers (n + length o.entry.columns) scope
-
 -- the aggregates of a SELECT have the next numbers
 pub shown-numbers : (scope : Scope) (scopes : Scopes) (number : ℕ) (l : SelectList) → aggregate_numbers (map (λ o. o.item) (shown scope scopes number l)) ≡ range_with_len number (aggregates l)
 shown-numbers scope scopes number (list.Items items) = outputs-numbers scopes number items
-shown-numbers scope scopes number (list.Star at) = star-numbers 0 scope
+shown-numbers scope scopes number (list.Star at) = ap (λ os. aggregate_numbers (map (λ o. o.item) os)) (star-columns scope) ∙ columns-numbers 0 (columns_of scope)

@@ -13,11 +13,11 @@ use Rattle.binder.specs.declared.extent.Extent.{Extent}
 use Rattle.binder.specs.Extents.{all_of, of_condition, of_join, of_chain, of_select, of_filter, width_of, one_table as table_extent}
 use Rattle.binder.specs.Lookups.{find_table}
 use Rattle.binder.specs.Parts.{no_table, the_table, widths}
-use Rattle.binder.specs.Senses.{Content, all_contents, both, ConditionSense, JoinSense, ChainSense, SelectSense, condition_layer, condition_sense, join_sense, chain_sense, select_sense, filter_content, from_content}
+use Rattle.binder.specs.Analyses.{Content, all_contents, both, ConditionAnalysis, JoinAnalysis, ChainAnalysis, SelectAnalysis, condition_layer, condition_analysis, join_analysis, chain_analysis, select_analysis, filter_content, from_content}
 use Rattle.binder.proofs.BoundConditions.{columns_of, columns-all}
 use Rattle.binder.proofs.ExtentParts.{extent-Compare, extent-IsNull, extent-Not, extent-And, extent-Or, extent-Exists, extent-In, extent-join, extent-chain, extent-select}
 use Rattle.binder.proofs.PartAnswers.{widths-append}
-use Rattle.binder.proofs.SenseParts.{sense-condition, sense-join, sense-chain, sense-select}
+use Rattle.binder.proofs.AnalysisParts.{analysis-condition, analysis-join, analysis-chain, analysis-select}
 
 width-is : (o : Option (ℕ × Table)) → width_of o ≡ length (unwrap_or o no_table).1.columns
 width-is None = refl
@@ -28,25 +28,25 @@ module _ (S : Schema) where
   wide c = widths S c.tables
 
   abbrev ConditionWide : Condition → Type 0
-  ConditionWide c = (of_condition S c).columns ≡ wide (condition_sense S c).content
+  ConditionWide c = (of_condition S c).columns ≡ wide (condition_analysis S c).content
 
   abbrev JoinWide : Join → Type 0
-  JoinWide j = (of_join S j).columns ≡ wide (join_sense S j).content
+  JoinWide j = (of_join S j).columns ≡ wide (join_analysis S j).content
 
   abbrev ChainWide : Chain → Type 0
-  ChainWide c = (of_chain S c).columns ≡ wide (chain_sense S c).content
+  ChainWide c = (of_chain S c).columns ≡ wide (chain_analysis S c).content
 
   abbrev SelectWide : Select → Type 0
-  SelectWide q = (of_select S q).columns ≡ wide (select_sense S q).content
+  SelectWide q = (of_select S q).columns ≡ wide (select_analysis S q).content
 
   -- parts one after the other
-  all-wide : {A B : Type 0} (e : A → Extent) (sense : A → B) (content : B → Content) (xs : List ((x : A) × ((e x).columns ≡ wide (content (sense x)))))
-      → columns_of (map e (map (λ x. x.0) xs)) ≡ wide (all_contents (map content (map sense (map (λ x. x.0) xs))))
-  all-wide e sense content [] = refl
-  all-wide e sense content (x ∷ xs) =
+  all-wide : {A B : Type 0} (e : A → Extent) (analysis : A → B) (content : B → Content) (xs : List ((x : A) × ((e x).columns ≡ wide (content (analysis x)))))
+      → columns_of (map e (map (λ x. x.0) xs)) ≡ wide (all_contents (map content (map analysis (map (λ x. x.0) xs))))
+  all-wide e analysis content [] = refl
+  all-wide e analysis content (x ∷ xs) =
       let one = x.1 in
-      let others = all-wide e sense content xs in
-      let together = widths-append S (content (sense x.0)).tables (all_contents (map content (map sense (map (λ x. x.0) xs)))).tables in
+      let others = all-wide e analysis content xs in
+      let together = widths-append S (content (analysis x.0)).tables (all_contents (map content (map analysis (map (λ x. x.0) xs)))).tables in
       omega (arith, one, others, together)
 
   abbrev ProvedSelect : Type 0
@@ -65,10 +65,10 @@ module _ (S : Schema) where
   filter_of None = None
   filter_of (Some c) = Some c.0
 
-  -- the sense of a form, whose columns are these
+  -- the analysis of a form, whose columns are these
   form-wide : (x : Condition-F Condition Chain Join Select) (c : Condition) (is : roll-Condition x ≡ c) (n : ℕ) → (of_condition S c).columns ≡ n
-      → n ≡ wide (condition_layer (map-Condition Condition Chain Join Select ConditionSense ChainSense JoinSense SelectSense (condition_sense S) (chain_sense S) (join_sense S) (select_sense S) x)).content → ConditionWide c
-  form-wide x c is n first next = first ∙ next ∙ ap (λ (s : ConditionSense). wide s.content) (sym (sense-condition S x c is))
+      → n ≡ wide (condition_layer (map-Condition Condition Chain Join Select ConditionAnalysis ChainAnalysis JoinAnalysis SelectAnalysis (condition_analysis S) (chain_analysis S) (join_analysis S) (select_analysis S) x)).content → ConditionWide c
+  form-wide x c is n first next = first ∙ next ∙ ap (λ (s : ConditionAnalysis). wide s.content) (sym (analysis-condition S x c is))
 
   condition-wide : (y : Condition-F ProvedCondition ProvedChain ProvedJoin ProvedSelect) → ConditionWide (roll-Condition (map-Condition _ _ _ _ Condition Chain Join Select (λ c. c.0) (λ c. c.0) (λ j. j.0) (λ q. q.0) y))
   condition-wide (Condition-F.Compare a op b) = subst ConditionWide (sym (tree.rolls-Compare a op b)) (form-wide (Condition-F.Compare a op b) _ (tree.rolls-Compare a op b) _ (ap (λ e. e.columns) (extent-Compare S a op b)) refl)
@@ -77,11 +77,11 @@ module _ (S : Schema) where
   condition-wide (Condition-F.And cs) =
       let ds = map (λ c. c.0) cs in
       subst ConditionWide (sym (tree.rolls-And ds))
-      (form-wide (Condition-F.And ds) _ (tree.rolls-And ds) _ (ap (λ e. e.columns) (extent-And S ds) ∙ columns-all (map (of_condition S) ds)) (all-wide (of_condition S) (condition_sense S) (λ c. c.content) cs))
+      (form-wide (Condition-F.And ds) _ (tree.rolls-And ds) _ (ap (λ e. e.columns) (extent-And S ds) ∙ columns-all (map (of_condition S) ds)) (all-wide (of_condition S) (condition_analysis S) (λ c. c.content) cs))
   condition-wide (Condition-F.Or cs) =
       let ds = map (λ c. c.0) cs in
       subst ConditionWide (sym (tree.rolls-Or ds))
-      (form-wide (Condition-F.Or ds) _ (tree.rolls-Or ds) _ (ap (λ e. e.columns) (extent-Or S ds) ∙ columns-all (map (of_condition S) ds)) (all-wide (of_condition S) (condition_sense S) (λ c. c.content) cs))
+      (form-wide (Condition-F.Or ds) _ (tree.rolls-Or ds) _ (ap (λ e. e.columns) (extent-Or S ds) ∙ columns-all (map (of_condition S) ds)) (all-wide (of_condition S) (condition_analysis S) (λ c. c.content) cs))
   condition-wide (Condition-F.Exists q) =
       let one = q.1 in
       subst ConditionWide (sym (tree.rolls-Exists q.0)) (form-wide (Condition-F.Exists q.0) _ (tree.rolls-Exists q.0) _ (ap (λ e. e.columns) (extent-Exists S q.0)) (omega (arith, one)))
@@ -93,20 +93,20 @@ module _ (S : Schema) where
   join-wide j on =
       let table = width-is (find_table 0 S.tables (out-Join j).table.name.text) in
       let sum : (table_extent S (out-Join j).table).columns + (of_condition S (out-Join j).condition).columns
-      ≡ length (the_table S (out-Join j).table).1.columns + wide (condition_sense S (out-Join j).condition).content = omega (arith, table, on) in
-      ap (λ e. e.columns) (extent-join S j) ∙ sum ∙ ap (λ (s : JoinSense). wide s.content) (sym (sense-join S j))
+      ≡ length (the_table S (out-Join j).table).1.columns + wide (condition_analysis S (out-Join j).condition).content = omega (arith, table, on) in
+      ap (λ e. e.columns) (extent-join S j) ∙ sum ∙ ap (λ (s : JoinAnalysis). wide s.content) (sym (analysis-join S j))
 
   chain-wide : (c : Chain) (joins : List ProvedJoin) → map (λ j. j.0) joins ≡ (out-Chain c).joins → ChainWide c
   chain-wide c joins same =
       let table = width-is (find_table 0 S.tables (out-Chain c).table.name.text) in
       let others = columns-all (map (of_join S) (out-Chain c).joins) in
-      let parts : columns_of (map (of_join S) (out-Chain c).joins) ≡ wide (all_contents (map (λ (j : JoinSense). j.content) (map (join_sense S) (out-Chain c).joins)))
-      = subst (λ js. columns_of (map (of_join S) js) ≡ wide (all_contents (map (λ (j : JoinSense). j.content) (map (join_sense S) js)))) same (all-wide (of_join S) (join_sense S) (λ j. j.content) joins) in
+      let parts : columns_of (map (of_join S) (out-Chain c).joins) ≡ wide (all_contents (map (λ (j : JoinAnalysis). j.content) (map (join_analysis S) (out-Chain c).joins)))
+      = subst (λ js. columns_of (map (of_join S) js) ≡ wide (all_contents (map (λ (j : JoinAnalysis). j.content) (map (join_analysis S) js)))) same (all-wide (of_join S) (join_analysis S) (λ j. j.content) joins) in
       let sum : (table_extent S (out-Chain c).table).columns + (all_of (map (of_join S) (out-Chain c).joins)).columns
-      ≡ length (the_table S (out-Chain c).table).1.columns + wide (all_contents (map (λ (j : JoinSense). j.content) (map (join_sense S) (out-Chain c).joins))) = omega (arith, table, others, parts) in
-      ap (λ e. e.columns) (extent-chain S c) ∙ sum ∙ ap (λ (s : ChainSense). wide s.content) (sym (sense-chain S c))
+      ≡ length (the_table S (out-Chain c).table).1.columns + wide (all_contents (map (λ (j : JoinAnalysis). j.content) (map (join_analysis S) (out-Chain c).joins))) = omega (arith, table, others, parts) in
+      ap (λ e. e.columns) (extent-chain S c) ∙ sum ∙ ap (λ (s : ChainAnalysis). wide s.content) (sym (analysis-chain S c))
 
-  filter-wide : (w : Option ProvedCondition) → (of_filter (option_map (of_condition S) (filter_of w))).columns ≡ wide (filter_content (option_map (condition_sense S) (filter_of w)))
+  filter-wide : (w : Option ProvedCondition) → (of_filter (option_map (of_condition S) (filter_of w))).columns ≡ wide (filter_content (option_map (condition_analysis S) (filter_of w)))
   filter-wide None = refl
   filter-wide (Some c) = c.1
 
@@ -114,14 +114,14 @@ module _ (S : Schema) where
   select-wide q chains w from_is filter_is =
       let x = out-Select q in
       let others = columns-all (map (of_chain S) x.from) in
-      let from : columns_of (map (of_chain S) x.from) ≡ wide (from_content (map (chain_sense S) x.from))
-      = subst (λ cs. columns_of (map (of_chain S) cs) ≡ wide (from_content (map (chain_sense S) cs))) from_is (all-wide (of_chain S) (chain_sense S) (λ c. c.content) chains) in
-      let where_ : (of_filter (option_map (of_condition S) x.filter)).columns ≡ wide (filter_content (option_map (condition_sense S) x.filter))
-      = subst (λ o. (of_filter (option_map (of_condition S) o)).columns ≡ wide (filter_content (option_map (condition_sense S) o))) filter_is (filter-wide w) in
-      let together = widths-append S (from_content (map (chain_sense S) x.from)).tables (filter_content (option_map (condition_sense S) x.filter)).tables in
+      let from : columns_of (map (of_chain S) x.from) ≡ wide (from_content (map (chain_analysis S) x.from))
+      = subst (λ cs. columns_of (map (of_chain S) cs) ≡ wide (from_content (map (chain_analysis S) cs))) from_is (all-wide (of_chain S) (chain_analysis S) (λ c. c.content) chains) in
+      let where_ : (of_filter (option_map (of_condition S) x.filter)).columns ≡ wide (filter_content (option_map (condition_analysis S) x.filter))
+      = subst (λ o. (of_filter (option_map (of_condition S) o)).columns ≡ wide (filter_content (option_map (condition_analysis S) o))) filter_is (filter-wide w) in
+      let together = widths-append S (from_content (map (chain_analysis S) x.from)).tables (filter_content (option_map (condition_analysis S) x.filter)).tables in
       let sum : (all_of (map (of_chain S) x.from)).columns + (of_filter (option_map (of_condition S) x.filter)).columns
-      ≡ wide (both (from_content (map (chain_sense S) x.from)) (filter_content (option_map (condition_sense S) x.filter))) = omega (arith, others, from, where_, together) in
-      ap (λ e. e.columns) (extent-select S q) ∙ sum ∙ ap (λ (s : SelectSense). wide s.content) (sym (sense-select S q))
+      ≡ wide (both (from_content (map (chain_analysis S) x.from)) (filter_content (option_map (condition_analysis S) x.filter))) = omega (arith, others, from, where_, together) in
+      ap (λ e. e.columns) (extent-select S q) ∙ sum ∙ ap (λ (s : SelectAnalysis). wide s.content) (sym (analysis-select S q))
 
   select-by : (y : Select-F ProvedCondition ProvedChain ProvedJoin ProvedSelect) (w : Option ProvedCondition)
       → SelectWide (roll-Select (map-Select _ _ _ _ Condition Chain Join Select (λ c. c.0) (λ c. c.0) (λ j. j.0) (λ q. q.0) (record y { filter = w })))
@@ -143,7 +143,7 @@ module _ (S : Schema) where
       chain-wide (roll-Chain z) y.joins (sym (ap (λ x. x.joins) (out-roll-Chain z)))
 
   -- of each SELECT, wherever it stands
-  pub selects-wide : (q : Select) → (of_select S q).columns ≡ widths S (select_sense S q).content.tables
+  pub selects-wide : (q : Select) → (of_select S q).columns ≡ widths S (select_analysis S q).content.tables
   selects-wide = ind-Select ConditionWide ChainWide JoinWide SelectWide
       (λ x y is. subst (λ z. ConditionWide (roll-Condition z)) is (condition-wide y))
       (λ x y is. subst (λ z. ChainWide (roll-Chain z)) is (chain-by y))
