@@ -1,13 +1,17 @@
+pub mod Analyses
 pub mod BoundStatements
 pub mod Chained
 pub mod Codes
 pub mod Extents
 pub mod Lent
 pub mod Lookups
+pub mod Meanings
 pub mod Named
 pub mod Numbers
 pub mod Ordering
 pub mod Outputs
+pub mod Parts
 pub mod Queries
 pub mod Scopes
 pub mod Selects
+pub mod TextNumbers

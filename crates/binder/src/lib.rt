@@ -4,6 +4,7 @@
 mod extent;
 pub mod fault;
 pub mod laws;
+pub mod meaning;
 mod named;
 mod ordering;
 mod output;
@@ -16,4 +17,5 @@ mod tables;
 
 pub use fault::{BindFault, BindReason, BindRefusal};
 pub use laws::statements_are_bound;
+pub use meaning::{names_are_resolved, statements_have_meaning};
 pub use statement::bind;

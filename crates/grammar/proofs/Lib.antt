@@ -1,5 +1,6 @@
 pub mod Complete
 pub mod Laws
+pub mod OneFault
 pub mod Outcomes
 pub mod Reporting
 pub mod Rooms

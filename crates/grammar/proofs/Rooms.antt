@@ -21,7 +21,7 @@ module _ {T : Type 0} {P : Type 0 → Type 1} (L : Language T P) where
   none_stays false true = refl
   none_stays false false = refl
 
-  room_none : (w : List T) → room L None w ≡ None
+  pub room_none : (w : List T) → room L None w ≡ None
   unfolding step
   room_none [] = refl
   room_none (t ∷ w) = rw (none_stays (L.class t == L.class L.opening) (L.class t == L.class L.closing)) (room_none w)

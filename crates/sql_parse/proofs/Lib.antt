@@ -1,3 +1,5 @@
+pub mod OneReadings
+pub mod OneTokens
 pub mod PlainParts
 pub mod PlainStatements
 pub mod SqlDecided

@@ -43,7 +43,7 @@ stops p (c ∷ bs) = one (p c) refl (stops p bs) where
   one false e h = let m : prefix_len p (c ∷ bs) ≡ 0 = rw e refl in subst (λ n. Starts p (drop n (c ∷ bs))) (sym m) e
 
 -- where runs end is determined
-same_front : (p : ℕ → Bool) (a b x y : Bytes) → Are p a → Are p b → Starts p x → Starts p y → a ++ x ≡ b ++ y → (a ≡ b) × (x ≡ y)
+pub same_front : (p : ℕ → Bool) (a b x y : Bytes) → Are p a → Are p b → Starts p x → Starts p y → a ++ x ≡ b ++ y → (a ≡ b) × (x ≡ y)
 same_front p [] [] x y h k u v e = (refl, e)
 same_front p [] (c ∷ b) x y h k u v e = absurd (false≢true (sym (subst (Starts p) e u) ∙ k.0))
 same_front p (c ∷ a) [] x y h k u v e = absurd (false≢true (sym (subst (Starts p) (sym e) v) ∙ h.0))
@@ -59,12 +59,12 @@ word_starts : (w more : Bytes) → IsWord w → Starts is_space (w ++ more)
 word_starts [] more h = absurd h
 word_starts (c ∷ w) more h = let e = h.0 in grind (arith, nat_tests)
 
-number_begins : (w more : Bytes) → IsNumber w → Starts is_space (w ++ more)
+pub number_begins : (w more : Bytes) → IsNumber w → Starts is_space (w ++ more)
 number_begins [] more h = absurd h
 number_begins (c ∷ w) more (inl h) = let e = h.0 in grind (arith, nat_tests)
 number_begins (c ∷ w) more (inr h) = ap is_space h.0
 
-spelled_starts : (w more : Bytes) (kind : TokenKind) → Spells w kind → Starts is_space (w ++ more)
+pub spelled_starts : (w more : Bytes) (kind : TokenKind) → Spells w kind → Starts is_space (w ++ more)
 spelled_starts w more (token.Keyword k) h = word_starts w more h.0
 spelled_starts w more (token.Name n) h = word_starts w more h.0
 spelled_starts w more (token.Number n) h = number_begins w more h.0
@@ -123,7 +123,7 @@ trimmed_out place bs ts at h =
 
 -- ---- one token
 
-abbrev token_of : TokenKind → ℕ → Token
+abbrev pub token_of : TokenKind → ℕ → Token
 token_of kind at = record { kind = kind; at = at }
 
 step_into : (at : ℕ) (bs behind : Bytes) (kind : TokenKind) (more : List Token) (end : ℕ) (rest : Bytes) → token_at at bs ≡ Ok (kind, behind)
@@ -160,13 +160,13 @@ next at (c ∷ z) (t ∷ ts) end n l (b, w, behind, e, u, place, spells, longest
       rest = subst (λ n. Begins n behind ts end []) m more;
     }
 
-abbrev read_as : TokenKind × Bytes → Lexed
+abbrev pub read_as : TokenKind × Bytes → Lexed
 read_as x = Ok x
 
 same_ok : (x y : TokenKind × Bytes) → read_as x ≡ read_as y → x ≡ y
 same_ok x y e = cc
 
-same_pair : (x y : TokenKind × Bytes) → read_as x ≡ read_as y → (x.0 ≡ y.0) × (x.1 ≡ y.1)
+pub same_pair : (x y : TokenKind × Bytes) → read_as x ≡ read_as y → (x.0 ≡ y.0) × (x.1 ≡ y.1)
 same_pair x y e = let p = same_ok x y e in (ap (λ z. z.0) p, ap (λ z. z.1) p)
 
 -- ---- all of them

@@ -38,7 +38,7 @@ word_read (c ∷ v) rest kind h e at k =
     ∙ ap (λ w. Ok (word_kind (map to_ascii_lowercase w), drop (word_len bs) bs)) (take_at (c ∷ v) rest (word_len bs) n)
     ∙ ap (λ x. Ok (x, drop (word_len bs) bs)) e ∙ ap (λ r. Ok (kind, r)) (drop_at (c ∷ v) rest (word_len bs) n)
 
-number_starts : (w rest : Bytes) → IsNumber w → starts_number (w ++ rest) ≡ true
+pub number_starts : (w rest : Bytes) → IsNumber w → starts_number (w ++ rest) ≡ true
 number_starts [] rest h = absurd h
 number_starts (c ∷ w) rest (inl h) = let e = h.0 in grind arith
 number_starts (c ∷ w) rest (inr h) =
@@ -48,11 +48,11 @@ number_starts (c ∷ w) rest (inr h) =
 no_word : (c : ℕ) (b : Bool) → (is_ascii_digit c || (c == 45 && b)) ≡ true → is_word_start c ≡ false
 no_word c b h = grind (arith, nat_tests)
 
-number_reach : (bs : Bytes) → starts_number bs ≡ true → reach bs ≡ number_len bs
+pub number_reach : (bs : Bytes) → starts_number bs ≡ true → reach bs ≡ number_len bs
 unfolding reach
 number_reach bs h = rw (no_word (slice_index bs 0) (is_ascii_digit (slice_index bs 1)) h, h) refl
 
-at_number : (at : ℕ) (bs : Bytes) → starts_number bs ≡ true → token_at at bs ≡ number_at at bs
+pub at_number : (at : ℕ) (bs : Bytes) → starts_number bs ≡ true → token_at at bs ≡ number_at at bs
 unfolding token_at
 at_number at bs h = rw (no_word (slice_index bs 0) (is_ascii_digit (slice_index bs 1)) h, h) refl
 
@@ -69,7 +69,7 @@ number_read w rest n h at k =
     ∙ ap (λ b. if b then Ok (token.Number n, drop (length w) bs) else Err (refusal NumberRange at)) (fits_from n h.2)
     ∙ ap (λ r. Ok (token.Number n, r)) (drop_at w rest (length w) refl)
 
-at_text : (at : ℕ) (z : Bytes) → token_at at (39 ∷ z) ≡ text_at at (39 ∷ z)
+pub at_text : (at : ℕ) (z : Bytes) → token_at at (39 ∷ z) ≡ text_at at (39 ∷ z)
 unfolding token_at
 at_text at z = refl
 
@@ -139,7 +139,7 @@ no_farther_by w rest n longest Unexpected h = absurd h
 no_farther_by w rest n longest TooDeep h = absurd h
 no_farther_by w rest n longest TooLong h = absurd h
 
-no_farther : (at : ℕ) (w rest : Bytes) (n : ℕ) → IsLongest w rest → (r : Lexed) → Sound at (w ++ rest) n r → n ≤ length w
+pub no_farther : (at : ℕ) (w rest : Bytes) (n : ℕ) → IsLongest w rest → (r : Lexed) → Sound at (w ++ rest) n r → n ≤ length w
 no_farther at w rest n longest (Ok x) h = let k = longest h.0 x.1 (sym h.1) (inl (x.0, h.3)) in let l = h.2 in omega arith
 no_farther at w rest n longest (Err r) h = no_farther_by w rest n longest r.reason h.1
 

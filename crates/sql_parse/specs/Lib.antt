@@ -1,5 +1,6 @@
 pub mod Classes
 pub mod Codes
+pub mod OneReading
 pub mod PlainOns
 pub mod Reading
 pub mod ReadingFaults

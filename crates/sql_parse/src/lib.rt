@@ -5,6 +5,7 @@ mod class;
 mod clauses;
 mod conditions;
 pub mod fault;
+pub mod laws;
 mod lexer;
 pub mod name;
 mod parsed_statement;
@@ -14,6 +15,7 @@ mod statement_parser;
 mod token;
 
 pub use fault::{ParseFault, ParseReason, ParseRefusal};
+pub use laws::texts_have_one_reading;
 pub use name::Name;
 pub use parsed_statement::ParsedStatement;
 pub use statement_parser::{parse, parse_bytes};
