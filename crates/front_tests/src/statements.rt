@@ -2,8 +2,7 @@
 
 use crate::trees::push_statement;
 use fixtures::{Reporting, differences, drop_tree, spelt};
-use sql_parse::statement::Statement;
-use sql_parse::{ParseFault, parse, parse_bytes};
+use sql_parse::{ParseFault, ParsedStatement, parse, parse_bytes};
 use std::alloc::{AllocError, Global};
 use std::fmt::Write;
 use std::str;
@@ -16,7 +15,7 @@ enum Handed {
     Text,
 }
 
-fn parsed(alloc: Global, handed: Handed, bytes: &[u8]) -> Result<Statement, ParseFault> {
+fn parsed(alloc: Global, handed: Handed, bytes: &[u8]) -> Result<ParsedStatement, ParseFault> {
     match (handed, str::from_utf8(bytes)) {
         (Handed::Text, Ok(text)) => parse(alloc, text),
         (_, _) => parse_bytes(alloc, bytes),
@@ -26,10 +25,10 @@ fn parsed(alloc: Global, handed: Handed, bytes: &[u8]) -> Result<Statement, Pars
 fn push_tree(
     alloc: Global,
     reported: &mut String,
-    tree: &Result<Statement, ParseFault>,
+    tree: &Result<ParsedStatement, ParseFault>,
 ) -> Result<(), AllocError> {
     match tree {
-        Ok(tree) => push_statement(alloc, reported, tree),
+        Ok(parsed) => push_statement(alloc, reported, parsed.tree()),
         Err(fault) => write!(reported, "{fault}"),
     }
 }
