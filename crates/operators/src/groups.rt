@@ -1,24 +1,21 @@
 //! Groups and distinct rows by hash.
 
-ghost use Rattle.std.specs.Prelude.{◌≡◌, ◌++◌, [], ◌∷◌, map, length, pos, IfOk, OnOk};
+ghost use Rattle.std.specs.Prelude.{◌≡◌, ◌++◌, [], ◌∷◌, map, IfOk, OnOk};
 ghost use Rattle.values.specs.Cells.{value_of};
-ghost use Rattle.values.specs.declared.value.Value.TheVariants as value;
-ghost use Rattle.query.specs.Aggregates as spec;
 ghost use Rattle.algebra.specs.Bags as bags;
 ghost use Rattle.algebra.specs.Columns.{rising};
 ghost use Rattle.algebra.specs.Expressions as expressions;
 ghost use Rattle.operators.specs.Relations.{IsOutput, env_of, rows_of, values_of};
 ghost use Rattle.operators.specs.Groups as spec_groups;
-ghost use Rattle.operators.specs.Groups.{first_env, first_of, first_seen, firsts_of, group_env, group_of, member_envs, relation_groups, same_at};
+ghost use Rattle.operators.specs.Groups.{first_env, first_of, first_seen, firsts_of, group_env, group_of, relation_groups, same_at};
 
-use crate::aggregates::{greatest, known, least, sum};
+use crate::aggregates::aggregate;
 use crate::environment::{Env, row_cell};
 use crate::headings::Heading;
 use crate::keys::{Group, RowRef, groups_of};
 use crate::relation::Relation;
 use crate::rows::RowData;
 use algebra::{Aggregation, Columns};
-use query::Aggregate;
 use std::alloc::{AllocError, Global};
 use values::Cell;
 
@@ -67,32 +64,6 @@ pub fn distinct<'t>(alloc: Global, input: Relation<'t>) -> Result<Relation<'t>, 
     let places = heading.places_of(alloc, heading.columns.as_slice())?;
     let rows = first_rows(alloc, rows.as_slice(), places.as_slice())?;
     Ok(Relation { heading, rows })
-}
-
-/// A number of rows.
-fn number<'t>(count: usize) -> Cell<'t>
-    ensures { value_of result ≡ value.Int (pos count) }
-{
-    Cell::Int(count as i128)
-}
-
-/// An aggregate of the rows.
-fn aggregate<'t>(
-    heading: &Heading,
-    group: &Group<'_, 't>,
-    env: &Env<'_, 't>,
-    of: Aggregate,
-) -> Result<Cell<'t>, AllocError>
-    ensures { IfOk result (λ cell. value_of cell ≡ spec.aggregate_of of (length (member_envs heading.now (group_of group.now) (env_of env.now))) (λ k. map (λ r. r k) (member_envs heading.now (group_of group.now) (env_of env.now)))) }
-{
-    let rows = group.rows.as_slice();
-    match of {
-        Aggregate::CountRows => Ok(number(rows.len())),
-        Aggregate::Count(k) => Ok(number(known(heading, rows, env, k))),
-        Aggregate::Sum(k) => sum(heading, rows, env, k),
-        Aggregate::Min(k) => Ok(least(heading, rows, env, k)),
-        Aggregate::Max(k) => Ok(greatest(heading, rows, env, k)),
-    }
 }
 
 /// How rows are grouped: by which columns, and with which aggregates.

@@ -7,12 +7,14 @@
 
 pub mod cell;
 pub mod fault;
+pub mod keys;
 pub mod text;
 pub mod truth;
 pub mod value;
 
 pub use cell::{Cell, compare, directed_order, order, same};
 pub use fault::Fault;
+pub use keys::first_decided;
 pub use sqlite_items::{Boxed, Items};
 pub use text::Text;
 pub use truth::{Comparison, Truth};
