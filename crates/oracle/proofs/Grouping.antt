@@ -12,9 +12,3 @@ use Rattle.oracle.specs.Given.{rows_at, values_of}
 pub one-group : (keys : List ℕ) (rows : List Row) → length keys ≡ 0 → map (group_of keys rows) ([] ∷ []) ≡ groups keys rows
 one-group [] rows h = ap (λ l. record { key = []; rows = l } ∷ []) (filter_all rows)
 one-group (k ∷ keys) rows h = absurd (omega arith)
-
--- a row of short rows that are lent
-pub short-at : (rows : List (Bor Row)) (i : ℕ) (r : Bor Row) → i < length rows → r ≡ get_or rows i r → AreShort (rows_at rows) → AllByRecursion IsShort r.now
-short-at [] i r below is h = absurd (omega (arith, below))
-short-at (s ∷ rows) zero r below is h = subst (λ (t : Bor Row). AllByRecursion IsShort t.now) (sym is) h.0
-short-at (s ∷ rows) (suc i) r below is h = short-at rows i r (omega (arith, below)) is h.1

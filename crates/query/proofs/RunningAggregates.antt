@@ -50,10 +50,10 @@ aggregated-rows (by.Max c) read xs = refl
 
 -- ---- what it may read
 
--- an aggregate may read what a row of numbers of 64 bits has in its column
-pub may-read : (a : Aggregate) (v w : Value) → IsShort w → v ≡ w → MayRead a (λ place. v)
-may-read by.CountRows v w short is = tt
-may-read (by.Count c) v w short is = tt
-may-read (by.Sum c) v w short is = subst IsShort (sym is) short
-may-read (by.Min c) v w short is = tt
-may-read (by.Max c) v w short is = tt
+-- an aggregate that may read a row may read what the row has in its column
+pub read-column : (a : Aggregate) (row : ℕ → Value) (v : Value) → MayRead a row → v ≡ row (column_of a) → MayRead a (λ place. v)
+read-column by.CountRows row v read is = tt
+read-column (by.Count c) row v read is = tt
+read-column (by.Sum c) row v read is = subst IsShort (sym is) read
+read-column (by.Min c) row v read is = tt
+read-column (by.Max c) row v read is = tt

@@ -7,8 +7,10 @@ use Rattle.schema.specs.declared.schema.Schema.{Schema}
 use Rattle.schema.specs.declared.schema.Table.{Table}
 use Rattle.schema.specs.declared.schema.Column.{Column}
 use Rattle.schema.specs.Databases.{Row, Database, FitsColumn, FitsColumns, Satisfies, SatisfyTables}
+use Rattle.query.specs.declared.query.Aggregate.{Aggregate}
+use Rattle.query.specs.declared.query.Aggregate.TheVariants as by
 use Rattle.query.specs.Rows.{tables_of, value_at}
-use Rattle.query.specs.Aggregates.{IsShort, AreShort, AreShortTables}
+use Rattle.query.specs.Aggregates.{IsShort, AreShort, AreShortTables, MayRead}
 
 short-cell : (c : Column) (v : Value) → FitsColumn c v → IsShort v
 short-cell c Null h = tt
@@ -40,3 +42,11 @@ pub short-value : (place : ℕ) (r : Row) → AllByRecursion IsShort r → IsSho
 short-value place [] h = tt
 short-value zero (v ∷ r) h = h.0
 short-value (suc place) (v ∷ r) h = short-value place r h.1
+
+-- each aggregate may read it
+pub short-read : (a : Aggregate) (r : Row) → AllByRecursion IsShort r → MayRead a (λ place. value_at place r)
+short-read by.CountRows r short = tt
+short-read (by.Count c) r short = tt
+short-read (by.Sum c) r short = short-value c r short
+short-read (by.Min c) r short = tt
+short-read (by.Max c) r short = tt
