@@ -9,14 +9,13 @@ use Rattle.query.specs.declared.query.Item.{Item}
 use Rattle.query.specs.declared.query.TableInstance.{TableInstance}
 use Rattle.query.specs.declared.query.Cond.{Cond}
 use Rattle.query.specs.declared.query.From.{From}
-use Rattle.query.specs.declared.query.From.TheVariants as from
 use Rattle.query.specs.declared.query.Block.{Block}
 use Rattle.query.specs.declared.query.Query.{Query}
 use Rattle.query.specs.Bound.{Scope, use_numbers}
 use Rattle.algebra.specs.declared.condition.Condition.{Condition}
 use Rattle.algebra.specs.declared.expr.Expr.{Expr}
 use Rattle.algebra.specs.declared.expr.Expr.TheVariants.{Get, Select, Join, LeftJoin, Semi, Anti, Keep, Distinct, Group}
-use Rattle.logical.specs.Frames.{CondFrame, CondLines, FromFrame, BlockFrame, cond_frame, from_frame, block_frame, all_frames, where_lines, group_lines, keep_lines, distinct_lines, join_lines, ordered, last, query_frame}
+use Rattle.logical.specs.Frames.{CondFrame, FromFrame, BlockFrame, cond_frame, from_frame, block_frame, all_frames, where_lines, group_lines, keep_lines, distinct_lines, join_lines, ordered, last, query_frame}
 use Rattle.logical.proofs.FrameEquations.{frame-Compare, frame-IsNull, frame-Not, frame-And, frame-Or, frame-Exists, frame-In, frame-Table, frame-Join, frame-LeftJoin, frame-Comma, frame-Block}
 use Rattle.logical.proofs.FrameShapes.{cond-shape, from-shape}
 use Rattle.logical.proofs.Growth.{Grows, last-below}

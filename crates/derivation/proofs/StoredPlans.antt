@@ -1,5 +1,5 @@
 -- The groups of a plan whose certificate replays aggregate stored values alone.
-use Rattle.std.proofs.Common.{◌≡◌, refl, ap, sym, ◌∙◌, subst, ℕ, zero, suc, ◌+◌, ◌<◌, ◌≤◌, Bool, true, false, ◌&&◌, ◌==◌, nat_lt, List, [], ◌∷◌, ◌++◌, map, length, take, reverse, Result, Ok, Some, arith}
+use Rattle.std.proofs.Common.{◌≡◌, refl, ap, sym, ◌∙◌, subst, ℕ, zero, suc, ◌+◌, ◌<◌, ◌≤◌, Bool, true, ◌==◌, nat_lt, List, [], ◌∷◌, ◌++◌, map, length, take, reverse, Result, Ok, Some, arith}
 use Rattle.std.specs.List.{list_all, slice_get}
 use Rattle.std.proofs.lemmas.Bool.{and_parts, and_from, eqb-true, ltb-true, lt-ltb, false≢true}
 use Rattle.std.proofs.lemmas.List.{length-reverse, length-map, length-take-le, take-append-le}
@@ -12,9 +12,9 @@ use Rattle.query.specs.Rows.{Tables}
 use Rattle.algebra.specs.declared.condition.Condition.{Condition}
 use Rattle.algebra.specs.declared.expr.Aggregation.{Aggregation}
 use Rattle.algebra.specs.declared.expr.Expr.{Expr}
-use Rattle.algebra.specs.declared.expr.Expr.TheVariants.{Get, Select, Join, LeftJoin, Keep, Distinct, Group}
+use Rattle.algebra.specs.declared.expr.Expr.TheVariants.{Select, Join, LeftJoin, Keep, Distinct, Group}
 use Rattle.algebra.specs.Columns.{is_subset}
-use Rattle.algebra.specs.Expressions.{classes_pass, input_classes, is_formed, aggregation_formed, aggregate_reads}
+use Rattle.algebra.specs.Expressions.{classes_pass, input_classes, is_formed, aggregation_formed}
 use Rattle.algebra.specs.Classes.{class_columns}
 use Rattle.algebra.proofs.NamedClasses.{inputs-pass}
 use Rattle.algebra.proofs.Same.{equal_columns, equal_aggregations}
@@ -29,7 +29,7 @@ use Rattle.physical.specs.declared.plan.Node.{Node}
 use Rattle.physical.specs.declared.plan.Node.TheVariants.{Implements, Sort}
 use Rattle.physical.specs.declared.plan.Plan.{Plan, roll-Plan, out-roll-Plan, fold-roll-Plan, ind-Plan, map-Plan}
 use Rattle.physical.specs.declared.plan.Plan.TheOpen.{Plan-F}
-use Rattle.physical.specs.Origins.{Origin, columns_of_all, first_stored, operator_stored, node_stored, read_among, operator_reads, node_reads, all_read, origin_layer, plan_origin}
+use Rattle.physical.specs.Origins.{Origin, first_stored, operator_stored, node_stored, read_among, operator_reads, node_reads, all_read, origin_layer, plan_origin}
 use Rattle.physical.specs.Orders.{are_columns}
 use Rattle.physical.proofs.StoredValues.{origin-is}
 use Rattle.derivation.specs.declared.certificate.Certificate.{Certificate}
@@ -39,7 +39,7 @@ use Rattle.derivation.specs.Replay.{Fits, founding, refusal, implements, sort_fi
 use Rattle.derivation.proofs.ClassOutputs.{of_class}
 use Rattle.derivation.proofs.Fits.{plan_fits_out, operator-is}
 use Rattle.derivation.proofs.Founded.{Stands, line_at, begins, turned, before_columns}
-use Rattle.derivation.proofs.StoredClasses.{expr_stored, expr_reads, class_stored, AllRead, line-reads, line-stored, stored-before, frame-reads}
+use Rattle.derivation.proofs.StoredClasses.{expr_stored, expr_reads, class_stored, line-reads, line-stored, stored-before, frame-reads}
 
 -- ---- an operator and its inputs
 

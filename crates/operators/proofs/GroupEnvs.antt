@@ -23,9 +23,8 @@ use Rattle.operators.specs.declared.relation.Relation.{Relation}
 use Rattle.operators.specs.declared.rows.RowData.{RowData}
 use Rattle.operators.specs.Places.{listed, value_in}
 use Rattle.operators.specs.Relations.{values_of, column_place, column_places, row_env, rows_of}
-use Rattle.operators.specs.declared.keys.Group.{Group}
 use Rattle.operators.specs.declared.keys.RowRef.{RowRef}
-use Rattle.operators.specs.Groups.{GroupOf, first_seen, same_at, group_env, group_of, member_envs, relation_groups, lent_envs}
+use Rattle.operators.specs.Groups.{GroupOf, first_seen, same_at, group_env, relation_groups, lent_envs}
 use Rattle.operators.proofs.ColumnPlaces.{found-column, other-column}
 
 -- ---- the rows of a group

@@ -1,8 +1,7 @@
 -- What the groups of a plan's inputs read.
-use Rattle.std.proofs.Common.{◌≡◌, refl, ap, sym, ◌∙◌, subst, ℕ, zero, suc, ◌<◌, true, List, [], ◌∷◌, map, length, get_or, drop, Some}
-use Rattle.std.specs.List.{list_all, slice_get}
+use Rattle.std.proofs.Common.{◌≡◌, ap, sym, ◌∙◌, subst, ℕ, zero, suc, true, List, [], ◌∷◌, map, drop, Some}
+use Rattle.std.specs.List.{slice_get}
 use Rattle.std.proofs.lemmas.Bool.{and_parts}
-use Rattle.values.proofs.Lists.{passes_at}
 use Rattle.query.specs.declared.query.TableInstance.{TableInstance}
 use Rattle.query.specs.Rows.{Tables}
 use Rattle.query.specs.Aggregates.{AreShortTables}
@@ -13,7 +12,7 @@ use Rattle.physical.specs.declared.plan.Operator.TheVariants.{HashGroup}
 use Rattle.physical.specs.declared.plan.Node.{Node}
 use Rattle.physical.specs.declared.plan.Plan.{Plan, out-Plan, fold_out-Plan}
 use Rattle.physical.specs.Origins.{Origin, AreReadable, all_read, node_reads, operator_reads, origin_layer, plan_origin}
-use Rattle.physical.specs.Outputs.{first, plan_output}
+use Rattle.physical.specs.Outputs.{plan_output}
 use Rattle.physical.proofs.StoredValues.{group-readable}
 use Rattle.operators.specs.declared.relation.Relation.{Relation}
 use Rattle.operators.specs.Relations.{IsInputOutput, rows_of}

@@ -1,14 +1,10 @@
 -- The rows of a FROM are put together of the tables' rows and of Nulls, so their numbers have 64 bits.
-use Rattle.std.proofs.Common.{ℕ, zero, suc, List, [], ◌∷◌, flat_map, slice_index_or}
+use Rattle.std.proofs.Common.{ℕ, zero, suc, List, [], ◌∷◌}
 use Rattle.std.specs.List.{AllByRecursion}
-use Rattle.values.specs.declared.value.Value.{Value}
-use Rattle.values.specs.declared.value.Value.TheVariants.{Null, Int, Text}
 use Rattle.values.proofs.Each.{all_filter, all_flat_map}
 use Rattle.values.proofs.Lists.{all_append}
 use Rattle.schema.specs.declared.schema.Schema.{Schema}
-use Rattle.schema.specs.declared.schema.Table.{Table}
-use Rattle.schema.specs.declared.schema.Column.{Column}
-use Rattle.schema.specs.Databases.{Row, Database, FitsColumn, FitsColumns, Satisfies, SatisfyTables}
+use Rattle.schema.specs.Databases.{Row, Database, Satisfies}
 use Rattle.query.specs.declared.query.From.{From}
 use Rattle.query.specs.Rows.{Env, Tables, tables_of, nulls}
 use Rattle.query.specs.Meaning.{CondMeaning, source, truth, or_else_row, pairs_of, matches, padded, passes}

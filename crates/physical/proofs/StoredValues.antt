@@ -1,10 +1,9 @@
 -- Where a plan's values are stored ones, over tables whose numbers have 64 bits, its numbers have 64 bits.
-use Rattle.std.proofs.Common.{◌≡◌, refl, ap, sym, ◌∙◌, subst, inl, inr, ℕ, ◌-◌, Bool, true, false, ◌||◌, ◌==◌, not, if◌then◌else◌, List, [], ◌∷◌, ◌++◌, map, filter, flat_map, slice_get, Option, Some, None}
-use Rattle.std.specs.List.{AllByRecursion, list_all}
+use Rattle.std.proofs.Common.{◌≡◌, refl, ap, sym, ◌∙◌, subst, inl, inr, ℕ, ◌-◌, Bool, true, false, ◌||◌, ◌==◌, not, if◌then◌else◌, List, [], ◌∷◌, ◌++◌, map, slice_get, Option, Some, None}
+use Rattle.std.specs.List.{AllByRecursion}
 use Rattle.std.specs.Ordering.{is_gt}
 use Rattle.std.specs.declared.cmp.Ordering.{Ordering}
 use Rattle.std.proofs.lemmas.Bool.{and_parts, or_cases, eqb-true, false≢true}
-use Rattle.values.specs.declared.value.Value.{Value}
 use Rattle.values.proofs.Each.{all_filter, all_map, all_flat_map}
 use Rattle.schema.specs.Databases.{Row}
 use Rattle.query.specs.declared.query.TableInstance.{TableInstance}
@@ -12,15 +11,13 @@ use Rattle.query.specs.declared.query.Aggregate.{Aggregate}
 use Rattle.query.specs.declared.query.Aggregate.TheVariants as by
 use Rattle.query.specs.Rows.{Tables, value_at}
 use Rattle.query.specs.Meaning.{or_else_row}
-use Rattle.query.specs.Aggregates.{IsShort, AreShort, AreShortTables, MayRead}
+use Rattle.query.specs.Aggregates.{IsShort, AreShortTables, MayRead}
 use Rattle.query.proofs.ShortTables.{short-value}
-use Rattle.algebra.specs.declared.condition.Condition.{Condition}
 use Rattle.algebra.specs.declared.expr.Aggregation.{Aggregation}
-use Rattle.algebra.specs.Columns.{ColumnSet, has, is_subset, rising}
-use Rattle.algebra.specs.Bags.{Env, Bag, Test, lay, nulls, matches, same_on, distinct_on}
-use Rattle.algebra.specs.Conditions.{holds}
+use Rattle.algebra.specs.Columns.{has, is_subset, rising}
+use Rattle.algebra.specs.Bags.{Env, Test, lay, nulls, matches, same_on, distinct_on}
 use Rattle.algebra.specs.Expressions.{use_columns, use_row, get_rows, get_columns, aggregate_reads}
-use Rattle.algebra.proofs.Lists.{two, all-each}
+use Rattle.algebra.proofs.Lists.{two}
 use Rattle.algebra.proofs.Puts.{among-append}
 use Rattle.algebra.proofs.Sets.{has-rising}
 use Rattle.physical.specs.declared.plan.JoinKind.{JoinKind}
@@ -32,7 +29,7 @@ use Rattle.physical.specs.declared.plan.Node.TheVariants.{Implements, Sort}
 use Rattle.physical.specs.declared.plan.Plan.{Plan, roll-Plan, fold-roll-Plan, ind-Plan, map-Plan}
 use Rattle.physical.specs.declared.plan.Plan.TheOpen.{Plan-F}
 use Rattle.physical.specs.Sorts.{put_sorted, sorted, keys_order}
-use Rattle.physical.specs.Outputs.{Output, operator_columns, operator_rows, node_rows, node_columns, output_layer, plan_output, output_rows, first, rest, nested_loop_rows, first_columns, second_columns}
+use Rattle.physical.specs.Outputs.{Output, operator_columns, operator_rows, node_rows, node_columns, output_layer, plan_output, first, rest, nested_loop_rows, first_columns, second_columns}
 use Rattle.physical.specs.Origins.{Origin, columns_of_all, first_stored, second_stored, operator_stored, node_stored, read_among, operator_reads, origin_layer, plan_origin, AreReadable}
 
 -- the row's numbers in the columns have 64 bits

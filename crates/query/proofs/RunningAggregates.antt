@@ -1,17 +1,12 @@
 -- An aggregate of one value more, and of rows by the column that it reads.
-use Rattle.std.proofs.Common.{◌≡◌, refl, ap, sym, ◌∙◌, subst, ℕ, suc, ◌+◌, ◌*◌, ◌^◌, ◌<◌, ◌≤◌, ◌-◌, ℤ, pos, negsuc, ◌+ℤ◌, unsigned_abs, Bool, true, false, cond, ltb, if◌then◌else◌, FitsSigned, List, [], ◌∷◌, ◌++◌, length, map, Option, Some, None, MatchOption, arith}
-use Rattle.std.specs.Int.{w64, w128}
-use Rattle.std.specs.Option.{IsSome}
-use Rattle.std.proofs.lemmas.Int.{fits_signed_from_abs}
+use Rattle.std.proofs.Common.{◌≡◌, refl, ap, sym, ◌∙◌, subst, ℕ, ◌+◌, pos, if◌then◌else◌, List, [], ◌∷◌, ◌++◌, length, map, arith}
 use Rattle.std.proofs.lemmas.List.{length-append, length-map}
 use Rattle.values.specs.declared.value.Value.{Value}
 use Rattle.values.specs.declared.value.Value.TheVariants.{Null, Int, Text}
-use Rattle.values.specs.declared.cell.Cell.{Cell}
-use Rattle.values.specs.Cells.{value_of}
 use Rattle.values.specs.Truth.{is_null}
 use Rattle.query.specs.declared.query.Aggregate.{Aggregate}
 use Rattle.query.specs.declared.query.Aggregate.TheVariants as by
-use Rattle.query.specs.Aggregates.{known, plus, lesser, greater, together, aggregate_of, IsHeld, IsShort, MayRead, column_of, summand, one_more, magnitude, size_of}
+use Rattle.query.specs.Aggregates.{known, plus, lesser, greater, together, aggregate_of, IsShort, MayRead, column_of, one_more}
 use Rattle.query.proofs.Groups.{plus-swap, lesser-swap, greater-swap}
 
 -- ---- one value more

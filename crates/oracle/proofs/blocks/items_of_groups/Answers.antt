@@ -1,6 +1,5 @@
 use Rattle.std.proofs.Common.{◌≡◌, ◌∙◌, ap, sym, subst, List, [], ◌∷◌, ◌++◌, map, filter, take, arith}
 use Rattle.std.proofs.lemmas.List.{take_all, map_push}
-use Rattle.std.specs.List.{AllByRecursion}
 use Rattle.values.proofs.Each.{all_filter}
 use Rattle.values.proofs.Lists.{map_next}
 use Rattle.schema.specs.Databases.{Row, values_at}

@@ -1,4 +1,4 @@
-use Rattle.std.proofs.Common.{ap, sym, ◌∙◌, ◌+◌, [], ◌∷◌, length, arith}
+use Rattle.std.proofs.Common.{ap, sym, ◌∙◌, [], ◌∷◌, arith}
 use Rattle.std.proofs.lemmas.List.{length-append}
 use Rattle.values.specs.Cells.{value_of}
 use Rattle.query.specs.Aggregates.{one_more}
