@@ -5,3 +5,5 @@ pub mod Operators
 pub mod OrderKeys
 pub mod Ordered
 pub mod Soundness
+pub mod StoredClasses
+pub mod StoredPlans

@@ -1,17 +1,21 @@
--- The answer that a plan gives.
-use Rattle.std.proofs.Common.{◌≡◌, ap, subst, ◌∙◌, ℕ, List, map}
+-- The answer that a plan gives, and that the plan may be run.
+use Rattle.std.proofs.Common.{◌≡◌, ap, sym, subst, ◌∙◌, ℕ, true, List, map}
 use Rattle.schema.specs.declared.schema.Schema.{Schema}
 use Rattle.schema.specs.Databases.{Database, Satisfies}
 use Rattle.query.specs.declared.query.TableInstance.{TableInstance}
 use Rattle.query.specs.declared.query.Query.{Query}
 use Rattle.query.specs.Answer.{IsAnswer}
+use Rattle.query.specs.Aggregates.{AreShortTables}
 use Rattle.query.specs.Rows.{tables_of}
+use Rattle.query.proofs.ShortTables.{satisfying_short}
 use Rattle.derivation.specs.declared.certificate.Certificate.{Certificate}
 use Rattle.algebra.specs.Bags.{nulls}
 use Rattle.logical.specs.Frames.{query_numbers}
+use Rattle.physical.specs.Origins.{plan_origin}
 use Rattle.physical.specs.Outputs.{output_rows}
 use Rattle.derivation.specs.QueryOrders.{answer}
 use Rattle.derivation.specs.Replay.{IsChecked}
+use Rattle.derivation.proofs.StoredPlans.{plan-reads}
 
 -- the rows that a plan produces, read in the query's columns, are its answer
 pub answer_of : (q r : Query) (U V : Certificate) (S : Schema) (tables D : Database) (columns : List ℕ) (uses : List TableInstance) → columns ≡ query_numbers q → uses ≡ q.tables → q ≡ r → U ≡ V
@@ -26,3 +30,15 @@ pub answers_of : (S T : Schema) (q : Query) (V : Certificate) (D : Database) →
 answers_of S T q V D checked satisfies same =
     let Answers : Schema → Type 0 = λ U. Satisfies U D → IsAnswer q (tables_of U D) (answer q (tables_of U D) V.plan) in
     subst Answers same (checked.answers D) satisfies
+
+-- ---- what its groups read
+
+-- the groups of a checked plan aggregate stored values alone
+pub reads_of : (S : Schema) (q r : Query) (U V : Certificate) (uses : List TableInstance) → uses ≡ r.tables → r ≡ q → U ≡ V → IsChecked S q V → (plan_origin uses U.plan).reads ≡ true
+reads_of S q r U V uses instances same proof checked =
+    let is : uses ≡ q.tables = instances ∙ ap (λ (x : Query). x.tables) same in
+    ap (λ us. (plan_origin us U.plan).reads) is ∙ ap (λ (W : Certificate). (plan_origin q.tables W.plan).reads) proof ∙ plan-reads q V V checked.replays
+
+-- whose numbers have 64 bits
+pub short_of : (S : Schema) (tables D : Database) → tables ≡ D → Satisfies S D → (T : Schema) → AreShortTables (tables_of T tables)
+short_of S tables D given satisfies T = subst (λ ts. AreShortTables (tables_of T ts)) (sym given) (satisfying_short S D satisfies)

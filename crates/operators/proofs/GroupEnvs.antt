@@ -23,26 +23,15 @@ use Rattle.operators.specs.declared.relation.Relation.{Relation}
 use Rattle.operators.specs.declared.rows.RowData.{RowData}
 use Rattle.operators.specs.Places.{listed, value_in}
 use Rattle.operators.specs.Relations.{values_of, column_place, column_places, row_env, rows_of}
-use Rattle.operators.specs.declared.keys.Group.{Group}
 use Rattle.operators.specs.declared.keys.RowRef.{RowRef}
-use Rattle.operators.specs.Groups.{GroupOf, first_seen, same_at, group_env, group_of, member_envs, relation_groups, values_in}
+use Rattle.operators.specs.Groups.{GroupOf, first_seen, same_at, group_env, relation_groups, lent_envs}
 use Rattle.operators.proofs.ColumnPlaces.{found-column, other-column}
 
--- ---- the values of a group in a column
+-- ---- the rows of a group
 
-lent-values : (h : Heading) (rows : List RowRef) (e : Env) (k : ℕ) → values_in h rows e k ≡ map (λ r. r k) (map (λ r. row_env h r e) (map (λ r. r.row.now) rows))
-lent-values h [] e k = refl
-lent-values h (r ∷ rows) e k = ap (λ vs. row_env h r.row.now e k ∷ vs) (lent-values h rows e k)
-
-pub values-members : (h : Heading) (g : Group) (e : Env) (k : ℕ) → values_in h g.rows.items e k ≡ map (λ r. r k) (member_envs h (group_of g) e)
-values-members h g e k = lent-values h g.rows.items e k
-
-lent-count : (h : Heading) (rows : List RowRef) (e : Env) → length rows ≡ length (map (λ r. row_env h r e) (map (λ r. r.row.now) rows))
-lent-count h [] e = refl
-lent-count h (r ∷ rows) e = omega (arith, lent-count h rows e)
-
-pub count-members : (h : Heading) (g : Group) (e : Env) → length g.rows.items ≡ length (member_envs h (group_of g) e)
-count-members h g e = lent-count h g.rows.items e
+pub lent-members : (h : Heading) (rows : List RowRef) (e : Env) → lent_envs h rows e ≡ map (λ r. row_env h r e) (map (λ r. r.row.now) rows)
+lent-members h [] e = refl
+lent-members h (r ∷ rows) e = ap (λ envs. row_env h r.row.now e ∷ envs) (lent-members h rows e)
 
 -- ---- rows that are the same
 

@@ -4,5 +4,7 @@ pub mod GroupEnvs
 pub mod GroupRows
 pub mod JoinRows
 pub mod PlanOutputs
+pub mod PlanReads
+pub mod Readable
 pub mod RelationRows
 pub mod Steps

@@ -1,24 +1,23 @@
 //! Groups and distinct rows by hash.
 
-ghost use Rattle.std.specs.Prelude.{◌≡◌, ◌++◌, [], ◌∷◌, map, length, pos, IfOk, OnOk};
+ghost use Rattle.std.specs.Prelude.{◌≡◌, ◌++◌, [], ◌∷◌, map, IfOk, OnOk};
+ghost use Rattle.std.specs.List.{AllByRecursion};
 ghost use Rattle.values.specs.Cells.{value_of};
-ghost use Rattle.values.specs.declared.value.Value.TheVariants as value;
-ghost use Rattle.query.specs.Aggregates as spec;
 ghost use Rattle.algebra.specs.Bags as bags;
 ghost use Rattle.algebra.specs.Columns.{rising};
 ghost use Rattle.algebra.specs.Expressions as expressions;
+ghost use Rattle.physical.specs.Origins.{AreReadable};
 ghost use Rattle.operators.specs.Relations.{IsOutput, env_of, rows_of, values_of};
 ghost use Rattle.operators.specs.Groups as spec_groups;
 ghost use Rattle.operators.specs.Groups.{first_env, first_of, first_seen, firsts_of, group_env, group_of, member_envs, relation_groups, same_at};
 
-use crate::aggregates::{greatest, known, least, sum};
+use crate::aggregates::aggregate;
 use crate::environment::{Env, row_cell};
 use crate::headings::Heading;
 use crate::keys::{Group, RowRef, groups_of};
 use crate::relation::Relation;
 use crate::rows::RowData;
 use algebra::{Aggregation, Columns};
-use query::Aggregate;
 use std::alloc::{AllocError, Global};
 use values::Cell;
 
@@ -69,32 +68,6 @@ pub fn distinct<'t>(alloc: Global, input: Relation<'t>) -> Result<Relation<'t>, 
     Ok(Relation { heading, rows })
 }
 
-/// A number of rows.
-fn number<'t>(count: usize) -> Cell<'t>
-    ensures { value_of result ≡ value.Int (pos count) }
-{
-    Cell::Int(count as i128)
-}
-
-/// An aggregate of the rows.
-fn aggregate<'t>(
-    heading: &Heading,
-    group: &Group<'_, 't>,
-    env: &Env<'_, 't>,
-    of: Aggregate,
-) -> Result<Cell<'t>, AllocError>
-    ensures { IfOk result (λ cell. value_of cell ≡ spec.aggregate_of of (length (member_envs heading.now (group_of group.now) (env_of env.now))) (λ k. map (λ r. r k) (member_envs heading.now (group_of group.now) (env_of env.now)))) }
-{
-    let rows = group.rows.as_slice();
-    match of {
-        Aggregate::CountRows => Ok(number(rows.len())),
-        Aggregate::Count(k) => Ok(number(known(heading, rows, env, k))),
-        Aggregate::Sum(k) => sum(heading, rows, env, k),
-        Aggregate::Min(k) => Ok(least(heading, rows, env, k)),
-        Aggregate::Max(k) => Ok(greatest(heading, rows, env, k)),
-    }
-}
-
 /// How rows are grouped: by which columns, and with which aggregates.
 #[derive(Clone, Copy)]
 struct Grouping<'a> {
@@ -109,8 +82,9 @@ fn group_cell<'t>(
     group: &Group<'_, 't>,
     env: &Env<'_, 't>,
     column: usize,
-) -> Result<Cell<'t>, AllocError>
-    ensures { IfOk result (λ cell. value_of cell ≡ group_env grouping.entry heading.now (env_of env.now) (group_of group.now) column) }
+) -> Cell<'t>
+    requires { AreReadable grouping.added.now (member_envs heading.now (group_of group.now) (env_of env.now)) }
+    ensures { value_of result ≡ group_env grouping.entry heading.now (env_of env.now) (group_of group.now) column }
 {
     for added in grouping.added {
         if added.column == column {
@@ -118,9 +92,9 @@ fn group_cell<'t>(
         }
     }
     if grouping.keys.contains(column) {
-        Ok(first_cell(heading, group, env, column))
+        first_cell(heading, group, env, column)
     } else {
-        Ok(env.column(column))
+        env.column(column)
     }
 }
 
@@ -148,11 +122,12 @@ fn group_row<'t>(
     group: &Group<'_, 't>,
     env: &Env<'_, 't>,
 ) -> Result<RowData<'t>, AllocError>
+    requires { AreReadable grouping.added.now (member_envs heading.now (group_of group.now) (env_of env.now)) }
     ensures { IfOk result (λ row. values_of row ≡ map (group_env grouping.entry heading.now (env_of env.now) (group_of group.now)) columns.now) }
 {
     let mut cells = Vec::with_capacity(alloc, columns.as_slice().len())?;
     for column in columns.as_slice() {
-        cells.push(group_cell(grouping, heading, group, env, *column)?)?;
+        cells.push(group_cell(grouping, heading, group, env, *column))?;
     }
     Ok(RowData::Made(cells))
 }
@@ -188,6 +163,7 @@ fn row_of_all<'t>(
     input: &Relation<'t>,
     env: &Env<'_, 't>,
 ) -> Result<RowData<'t>, AllocError>
+    requires { AreReadable grouping.added.now (rows_of input.now (env_of env.now)) }
     ensures { IfOk result (λ row. values_of row ≡ map (group_env grouping.entry input.now.heading (env_of env.now) (spec_groups.all_of input.now)) columns.now) }
 {
     let group = all_of(alloc, input)?;
@@ -202,6 +178,7 @@ fn rows_of_all<'t>(
     input: &Relation<'t>,
     env: &Env<'_, 't>,
 ) -> Result<Vec<RowData<'t>>, AllocError>
+    requires { AreReadable grouping.added.now (rows_of input.now (env_of env.now)) }
     ensures { IfOk result (λ rows. map values_of rows.items ≡ map (group_env grouping.entry input.now.heading (env_of env.now) (spec_groups.all_of input.now)) columns.now ∷ []) }
 {
     let row = row_of_all(alloc, grouping, columns, input, env)?;
@@ -218,6 +195,7 @@ fn rows_of_groups<'t>(
     input: &Relation<'t>,
     env: &Env<'_, 't>,
 ) -> Result<Vec<RowData<'t>>, AllocError>
+    requires { AreReadable grouping.added.now (rows_of input.now (env_of env.now)) }
     ensures { IfOk result (λ rows. map values_of rows.items ≡ map (λ g. map (group_env grouping.entry input.now.heading (env_of env.now) g) columns.now) (relation_groups grouping.entry.keys.now input.now)) }
 {
     let places = input.heading.places_of(alloc, grouping.keys.as_slice())?;
@@ -241,6 +219,7 @@ fn shown_groups<'t>(
     groups: &[Group<'_, 't>],
     env: &Env<'_, 't>,
 ) -> Result<Vec<RowData<'t>>, AllocError>
+    requires { AllByRecursion (λ g. AreReadable grouping.added.now (member_envs heading.now g (env_of env.now))) (map group_of groups.now) }
     ensures { IfOk result (λ rows. map values_of rows.items ≡ map (λ g. map (group_env grouping.entry heading.now (env_of env.now) g) columns.now) (map group_of groups.now)) }
 {
     let mut rows = Vec::with_capacity(alloc, groups.len())?;
@@ -257,6 +236,7 @@ fn group_rows<'t>(
     input: &Relation<'t>,
     env: &Env<'_, 't>,
 ) -> Result<Vec<RowData<'t>>, AllocError>
+    requires { AreReadable grouping.added.now (rows_of input.now (env_of env.now)) }
     ensures { IfOk result (λ rows. map values_of rows.items ≡ map (λ r. map r columns.now) (bags.group grouping.entry.keys.now (expressions.with_aggregates grouping.entry.added.now) (rows_of input.now) (env_of env.now))) }
 {
     if grouping.keys.as_slice().len() == 0 {
@@ -273,6 +253,7 @@ pub fn grouped<'g, 't>(
     input: &Relation<'t>,
     env: &Env<'_, 't>,
 ) -> Result<Relation<'t>, AllocError>
+    requires { AreReadable added.now (rows_of input.now (env_of env.now)) }
     ensures { IfOk result (IsOutput (rising (keys.entry.now ++ expressions.aggregate_columns added.entry.now)) (bags.group keys.entry.now (expressions.with_aggregates added.entry.now) (rows_of input.now) (env_of env.now)) (env_of env.now)) }
 {
     let grouping = Grouping { keys, added };

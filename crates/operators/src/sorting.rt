@@ -11,7 +11,7 @@ use crate::rows::RowData;
 use physical::OrderKey;
 use std::alloc::AllocError;
 use std::cmp::Ordering;
-use values::directed_order;
+use values::{directed_order, first_decided};
 
 /// The order of two rows at a key.
 fn key_order(key: &OrderKey, a: &Env<'_, '_>, b: &Env<'_, '_>) -> Ordering
@@ -25,13 +25,7 @@ fn key_order(key: &OrderKey, a: &Env<'_, '_>, b: &Env<'_, '_>) -> Ordering
 fn keys_order(keys: &[OrderKey], a: &Env<'_, '_>, b: &Env<'_, '_>) -> Ordering
     ensures { result ≡ spec.keys_order keys.now (env_of a.now) (env_of b.now) }
 {
-    match keys {
-        [] => Ordering::Equal,
-        [key, keys @ ..] => match key_order(key, a, b) {
-            Ordering::Equal => keys_order(keys, a, b),
-            decided => decided,
-        },
-    }
+    first_decided(keys, |key| key_order(key, a, b))
 }
 
 fn rows_order(

@@ -3,4 +3,3 @@ mod Grouping
 mod Lists
 mod Short
 mod Sorting
-mod Sums

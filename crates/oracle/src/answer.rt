@@ -11,7 +11,7 @@ use query::{Query, SortKey};
 use std::alloc::{AllocError, Global};
 use std::cmp::Ordering;
 use store::Database;
-use values::{Value, directed_order};
+use values::{Value, directed_order, first_decided};
 
 /// The order of two rows at a key.
 fn key_order(key: &SortKey, a: &[Value], b: &[Value]) -> Ordering
@@ -25,13 +25,7 @@ fn key_order(key: &SortKey, a: &[Value], b: &[Value]) -> Ordering
 fn keys_order(keys: &[SortKey], a: &[Value], b: &[Value]) -> Ordering
     ensures { result ≡ spec.keys_order keys.now a.now b.now }
 {
-    match keys {
-        [] => Ordering::Equal,
-        [key, keys @ ..] => match key_order(key, a, b) {
-            Ordering::Equal => keys_order(keys, a, b),
-            decided => decided,
-        },
-    }
+    first_decided(keys, |key| key_order(key, a, b))
 }
 
 /// An answer of the query over the database, by nested loops.

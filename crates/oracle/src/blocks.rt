@@ -4,9 +4,10 @@ ghost use Rattle.std.specs.Prelude.{◌≡◌, ◌∷◌, [], map, filter, IfOk}
 ghost use Rattle.values.specs.Cells.{value_of};
 ghost use Rattle.schema.specs.Databases as databases;
 ghost use Rattle.query.specs.Aggregates as groups;
+ghost use Rattle.query.specs.Aggregates.{AreShort};
 ghost use Rattle.query.specs.Meaning as spec;
 ghost use Rattle.query.specs.Rows as rows;
-ghost use Rattle.oracle.specs.Given.{AreShort, env_of, rows_at};
+ghost use Rattle.oracle.specs.Given.{env_of, rows_at};
 
 use crate::aggregates::aggregate;
 use crate::environment::{Env, value_at};

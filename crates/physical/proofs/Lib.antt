@@ -4,3 +4,4 @@ pub mod Deliveries
 pub mod OrderedLists
 pub mod SortedRows
 pub mod Sorting
+pub mod StoredValues

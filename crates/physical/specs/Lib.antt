@@ -1,3 +1,4 @@
 pub mod Orders
+pub mod Origins
 pub mod Outputs
 pub mod Sorts

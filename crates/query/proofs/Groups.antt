@@ -28,7 +28,7 @@ use Rattle.query.proofs.SameCounts.{SameCounts, same-fold, same-map, same-filter
 
 -- ---- the steps of aggregates may be exchanged
 
-plus-swap : (a x m : Value) → plus a (plus x m) ≡ plus x (plus a m)
+pub plus-swap : (a x m : Value) → plus a (plus x m) ≡ plus x (plus a m)
 plus-swap Null x m = refl
 plus-swap (Text t) x m = refl
 plus-swap (Int a) Null m = refl
@@ -116,10 +116,10 @@ swap-by : (f : Value → Value → Value) (R : Value → Value → Ordering) →
 swap-by f R total anti is a x m =
     is a (f x m) ∙ ap (first_by R a) (is x m) ∙ first-swap R total anti a x m ∙ sym (is x (f a m) ∙ ap (first_by R x) (is a m))
 
-lesser-swap : (a x m : Value) → lesser a (lesser x m) ≡ lesser x (lesser a m)
+pub lesser-swap : (a x m : Value) → lesser a (lesser x m) ≡ lesser x (lesser a m)
 lesser-swap = swap-by lesser null_last (then_total (on_total null_rank nat_cmp_total) order_total) null_last-antisymmetric lesser-first
 
-greater-swap : (a x m : Value) → greater a (greater x m) ≡ greater x (greater a m)
+pub greater-swap : (a x m : Value) → greater a (greater x m) ≡ greater x (greater a m)
 greater-swap = swap-by greater (flip_args order) (back_total order_total) back-antisymmetric greater-first
 
 -- ---- a group's row

@@ -4,8 +4,10 @@ pub mod Equations
 pub mod Froms
 pub mod Groups
 pub mod Obeys
+pub mod RunningAggregates
 pub mod SameCounts
 pub mod ScopeEquations
+pub mod ShortTables
 pub mod Sources
 pub mod TableUses
 pub mod Truths

@@ -5,3 +5,4 @@ pub mod Examples
 pub mod Laws
 pub mod Meaning
 pub mod Rows
+pub mod Running

@@ -7,6 +7,7 @@
 
 pub mod cell;
 pub mod fault;
+pub mod keys;
 pub mod literal;
 pub mod text;
 pub mod truth;
@@ -14,6 +15,7 @@ pub mod value;
 
 pub use cell::{Cell, compare, directed_order, order, same};
 pub use fault::Fault;
+pub use keys::first_decided;
 pub use literal::Literal;
 pub use sqlite_items::{Boxed, Items};
 pub use text::Text;

@@ -3,7 +3,7 @@ use Rattle.std.proofs.lemmas.Result.{IfOk-weaker}
 use Rattle.schema.specs.Databases.{Row}
 use Rattle.query.specs.Answer.{IsAnswer}
 use Rattle.query.specs.Rows.{tables_in}
-use Rattle.executor.proofs.Plans.{answer_of, answers_of}
+use Rattle.executor.proofs.Plans.{answer_of, answers_of, reads_of, short_of}
 use Rattle.executor.proofs.execution.run.Goals as goal
 
 pub returns-clause-rows : goal.returns-clause-rows
@@ -18,3 +18,11 @@ returns-clause-answers c = λ same.
     let D = c.args.database.now in
     let answers = answers_of c.args.checked.now.schema D.schema c.args.checked.now.query c.args.checked.now.certificate D.tables c.certificate.ensures.checked c.tables.ensures.satisfies same in
     IfOk-weaker c.plan_rows.result _ (λ rows. IsAnswer c.args.checked.now.query (tables_in D) rows.items) (λ rows is. subst (IsAnswer c.args.checked.now.query (tables_in D)) (sym is) answers) (returns-clause-rows c)
+
+pub plan_rows-requires-clause-reads : goal.plan_rows-requires-clause-reads
+plan_rows-requires-clause-reads c =
+    let checked = c.args.checked.now in
+    reads_of checked.schema checked.query c.query-query.result.now c.certificate.result.now checked.certificate c.as_slice.result.now c.as_slice.ensures c.query-query.ensures c.certificate.ensures.certificate c.certificate.ensures.checked
+
+pub plan_rows-requires-clause-short : goal.plan_rows-requires-clause-short
+plan_rows-requires-clause-short c = short_of c.args.database.now.schema c.tables.result.now c.args.database.now.tables c.tables.ensures.tables c.tables.ensures.satisfies

@@ -1,6 +1,7 @@
 use Rattle.std.proofs.Common.{ap, sym, ◌∙◌, [], ◌∷◌, ◌++◌, map, take, arith}
 use Rattle.std.proofs.lemmas.List.{take_all, map-append}
 use mathlib.Core.List.{map-map}
+use Rattle.values.proofs.Each.{all_from_map, item_at}
 use Rattle.values.proofs.Lists.{map_next}
 use Rattle.schema.specs.Databases.{Row}
 use Rattle.operators.specs.declared.keys.Group.{Group}
@@ -24,3 +25,6 @@ returns c =
     c.loop-group.invariant
     ∙ ap (map (λ g. show (group_of g))) (take_all c.loop-group.group-index c.args.groups.now (omega arith))
     ∙ sym (map-map show group_of c.args.groups.now)
+
+pub group_row-requires : goal.group_row-requires
+group_row-requires c = item_at _ c.args.groups.now c.loop-group.group-index c.group-item.result (omega arith) c.group-item.is (all_from_map _ group_of c.args.groups.now c.requires)

@@ -1,12 +1,12 @@
 use Rattle.std.proofs.Common.{◌≡◌, ◌∙◌, ap, sym, subst, List, [], ◌∷◌, ◌++◌, map, filter, take, arith}
 use Rattle.std.proofs.lemmas.List.{take_all, map_push}
+use Rattle.values.proofs.Each.{all_filter}
 use Rattle.values.proofs.Lists.{map_next}
 use Rattle.schema.specs.Databases.{Row, values_at}
 use Rattle.query.specs.Rows.{same_rows}
-use Rattle.query.specs.Aggregates.{Group, group_of}
+use Rattle.query.specs.Aggregates.{Group, AreShort, group_of}
 use Rattle.query.specs.Meaning.{item_of_group}
-use Rattle.oracle.specs.Given.{AreShort, env_of, rows_at}
-use Rattle.oracle.proofs.Sums.{short-filter}
+use Rattle.oracle.specs.Given.{env_of, rows_at}
 use Rattle.oracle.proofs.blocks.items_of_groups.Goals as goal
 
 pub loop-key-preserved : goal.loop-key-preserved
@@ -29,7 +29,7 @@ loop-key-preserved c =
 pub items_of_group-requires : goal.items_of_group-requires
 items_of_group-requires c =
     let is = ap rows_at c.as_slice-in-loop-key-2.ensures.value ∙ c.in_ok-members.ensures in
-    subst AreShort (sym is) (short-filter (λ r. same_rows c.as_slice.result.now (values_at c.args.keys.now r)) c.args.source.now c.requires)
+    subst AreShort (sym is) (all_filter _ (λ r. same_rows c.as_slice.result.now (values_at c.args.keys.now r)) c.args.source.now c.requires)
 
 pub returns : goal.returns
 returns c =

@@ -1,0 +1,52 @@
+-- What the groups of a plan's inputs read.
+use Rattle.std.proofs.Common.{◌≡◌, ap, sym, ◌∙◌, subst, ℕ, zero, suc, true, List, [], ◌∷◌, map, drop, Some}
+use Rattle.std.specs.List.{slice_get}
+use Rattle.std.proofs.lemmas.Bool.{and_parts}
+use Rattle.query.specs.declared.query.TableInstance.{TableInstance}
+use Rattle.query.specs.Rows.{Tables}
+use Rattle.query.specs.Aggregates.{AreShortTables}
+use Rattle.algebra.specs.declared.expr.Aggregation.{Aggregation}
+use Rattle.algebra.specs.Bags.{Env}
+use Rattle.physical.specs.declared.plan.Operator.{Operator}
+use Rattle.physical.specs.declared.plan.Operator.TheVariants.{HashGroup}
+use Rattle.physical.specs.declared.plan.Node.{Node}
+use Rattle.physical.specs.declared.plan.Plan.{Plan, out-Plan, fold_out-Plan}
+use Rattle.physical.specs.Origins.{Origin, AreReadable, all_read, node_reads, operator_reads, origin_layer, plan_origin}
+use Rattle.physical.specs.Outputs.{plan_output}
+use Rattle.physical.proofs.StoredValues.{group-readable}
+use Rattle.operators.specs.declared.relation.Relation.{Relation}
+use Rattle.operators.specs.Relations.{IsInputOutput, rows_of}
+use Rattle.operators.proofs.PlanOutputs.{output-first}
+
+module _ (uses : List TableInstance) where
+  abbrev origins : List Plan → List Origin
+  origins inputs = map (plan_origin uses) inputs
+
+  -- where a plan's groups do so, its root's and its inputs' do
+  pub plan-parts : (p : Plan) (node : Node) (inputs : List Plan) → (out-Plan p).node ≡ node → inputs ≡ (out-Plan p).inputs → (plan_origin uses p).reads ≡ true → (node_reads node (origins inputs) ≡ true) × (all_read (origins inputs) ≡ true)
+  unfolding plan_origin
+  plan-parts p node inputs is given reads =
+      let here = sym (ap (λ (x : Origin). x.reads) (fold_out-Plan Origin (origin_layer uses) p)) ∙ reads in
+      let parts = and_parts (node_reads (out-Plan p).node (origins (out-Plan p).inputs)) _ here in (
+        subst (λ ps. node_reads node (origins ps) ≡ true) (sym given) (subst (λ (n : Node). node_reads n (origins (out-Plan p).inputs) ≡ true) is parts.0),
+        subst (λ ps. all_read (origins ps) ≡ true) (sym given) parts.1,
+      )
+
+  -- one of the inputs
+  pub input-reads : (inputs : List Plan) (number : ℕ) (p : Plan) → slice_get inputs number ≡ Some p → all_read (origins inputs) ≡ true → (plan_origin uses p).reads ≡ true
+  input-reads [] number p at reads = cc
+  input-reads (r ∷ inputs) zero p at reads = let is : r ≡ p = cc in subst (λ s. (plan_origin uses s).reads ≡ true) is (and_parts _ _ reads).0
+  input-reads (r ∷ inputs) (suc number) p at reads = input-reads inputs number p at (and_parts _ _ reads).1
+
+  -- those behind the first
+  pub rest-reads : (inputs : List Plan) → all_read (origins inputs) ≡ true → all_read (origins (drop 1 inputs)) ≡ true
+  rest-reads [] reads = reads
+  rest-reads (p ∷ inputs) reads = (and_parts _ _ reads).1
+
+  -- a group may read the relation of its input
+  pub input-readable : (D : Tables) → AreShortTables D → (operator : Operator) (K : List ℕ) (G added : List Aggregation) (inputs : List Plan) (e : Env) (r : Relation) → operator ≡ HashGroup K G → added ≡ G → operator_reads operator (origins inputs) ≡ true
+      → IsInputOutput (map (plan_output uses D) inputs) 0 e r → AreReadable added (rows_of r e)
+  input-readable D short operator K G added inputs e r is same reads given =
+      let rows = (output-first (map (plan_output uses D) inputs) e r given).rows_are in
+      subst (λ A. AreReadable A (rows_of r e)) (sym same)
+      (subst (AreReadable G) (sym rows) (group-readable uses D short K G inputs (subst (λ (o : Operator). operator_reads o (origins inputs) ≡ true) is reads) e))
