@@ -10,7 +10,8 @@ use Rattle.query.specs.Rows.{Env, Tables, tables_of, nulls}
 use Rattle.query.specs.Meaning.{CondMeaning, source, truth, or_else_row, pairs_of, matches, padded, passes}
 use Rattle.query.proofs.Equations.{source-Table, source-Join, source-LeftJoin, source-Comma}
 use Rattle.query.proofs.Froms.{each_from}
-use Rattle.query.specs.Aggregates.{IsShort, AreShort, AreShortTables}
+use Rattle.values.specs.Short.{IsShort}
+use Rattle.query.specs.Aggregates.{AreShort, AreShortTables}
 use Rattle.query.proofs.ShortTables.{satisfying_short}
 
 -- ---- lists

@@ -11,7 +11,8 @@ use Rattle.query.specs.declared.query.Aggregate.{Aggregate}
 use Rattle.query.specs.declared.query.Aggregate.TheVariants as by
 use Rattle.query.specs.Rows.{Tables, value_at}
 use Rattle.query.specs.Meaning.{or_else_row}
-use Rattle.query.specs.Aggregates.{IsShort, AreShortTables, MayRead}
+use Rattle.values.specs.Short.{IsShort}
+use Rattle.query.specs.Aggregates.{AreShortTables, MayRead}
 use Rattle.query.proofs.ShortTables.{short-value}
 use Rattle.algebra.specs.declared.expr.Aggregation.{Aggregation}
 use Rattle.algebra.specs.Columns.{has, is_subset, rising}

@@ -6,7 +6,8 @@ use Rattle.values.specs.declared.value.Value.TheVariants.{Null, Int, Text}
 use Rattle.values.specs.Truth.{is_null}
 use Rattle.query.specs.declared.query.Aggregate.{Aggregate}
 use Rattle.query.specs.declared.query.Aggregate.TheVariants as by
-use Rattle.query.specs.Aggregates.{known, plus, lesser, greater, together, aggregate_of, IsShort, MayRead, column_of, one_more}
+use Rattle.values.specs.Short.{IsShort}
+use Rattle.query.specs.Aggregates.{known, plus, lesser, greater, together, aggregate_of, MayRead, column_of, one_more}
 use Rattle.query.proofs.Groups.{plus-swap, lesser-swap, greater-swap}
 
 -- ---- one value more

@@ -10,7 +10,8 @@ use Rattle.schema.specs.Databases.{Row, Database, FitsColumn, FitsColumns, Satis
 use Rattle.query.specs.declared.query.Aggregate.{Aggregate}
 use Rattle.query.specs.declared.query.Aggregate.TheVariants as by
 use Rattle.query.specs.Rows.{tables_of, value_at}
-use Rattle.query.specs.Aggregates.{IsShort, AreShort, AreShortTables, MayRead}
+use Rattle.values.specs.Short.{IsShort}
+use Rattle.query.specs.Aggregates.{AreShort, AreShortTables, MayRead}
 
 short-cell : (c : Column) (v : Value) → FitsColumn c v → IsShort v
 short-cell c Null h = tt

@@ -1,12 +1,13 @@
 -- Groups, and the aggregates of a group (this project's profile of SQL). Null adds nothing to a COUNT of a column, a SUM,
 -- a MIN or a MAX.
 use Rattle.std.specs.Prelude.{ℕ, ◌+◌, ◌+ℤ◌, pos, unsigned_abs, if◌then◌else◌, List, [], ◌∷◌, length, map, filter, FitsSigned}
-use Rattle.std.specs.Int.{w64, w128}
+use Rattle.std.specs.Int.{w128}
 use Rattle.std.specs.List.{AllByRecursion}
 use Rattle.std.specs.Ordering.{is_gt}
 use Rattle.values.specs.declared.value.Value.{Value}
 use Rattle.values.specs.declared.value.Value.TheVariants as value
 use Rattle.values.specs.Order.{order}
+use Rattle.values.specs.Short.{IsShort}
 use Rattle.values.specs.Truth.{is_null}
 use Rattle.schema.specs.Databases.{Row, values_at}
 use Rattle.query.specs.declared.query.Aggregate.{Aggregate}
@@ -56,12 +57,6 @@ aggregate_of (by.Min c) rows values = together lesser (values c)
 aggregate_of (by.Max c) rows values = together greater (values c)
 
 -- ---- numbers of 64 bits, which a SUM may read
-
--- a number has 64 bits, as those of tables have
-abbrev pub IsShort : Value → Type 0
-IsShort value.Null = Unit {0}
-IsShort (value.Int n) = FitsSigned w64 n
-IsShort (value.Text t) = Unit {0}
 
 -- the numbers in the rows have 64 bits
 abbrev pub AreShort : List Row → Type 0

@@ -3,7 +3,8 @@ use Rattle.std.specs.List.{AllByRecursion}
 use Rattle.values.specs.Cells.{value_of}
 use Rattle.values.proofs.Each.{all_from_map, item_at}
 use Rattle.query.specs.Rows.{value_at}
-use Rattle.query.specs.Aggregates.{IsShort, MayRead}
+use Rattle.values.specs.Short.{IsShort}
+use Rattle.query.specs.Aggregates.{MayRead}
 use Rattle.query.proofs.RunningAggregates.{read-column}
 use Rattle.query.proofs.ShortTables.{short-read}
 use Rattle.oracle.proofs.aggregates.aggregate.Goals as goal
