@@ -25,6 +25,10 @@ pub mod PartAnswers
 pub mod PlainParts
 pub mod PlainStatements
 pub mod Rising
+pub mod RulesHold
+pub mod RulesOnly
+pub mod RulesStatements
+pub mod RulesTrees
 pub mod SelectExits
 pub mod SelectLoops
 pub mod SelectParts
