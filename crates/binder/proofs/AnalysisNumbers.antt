@@ -53,8 +53,8 @@ listing-is os ps ms ns same also = ap (λ x. listing_of x ms) same ∙ ap (λ x.
 pub both-assoc : (a b c : Listing) → both_listings (both_listings a b) c ≡ both_listings a (both_listings b c)
 both-assoc a b c = listing-is _ _ _ _ (append_assoc a.occurrences b.occurrences c.occurrences) (append_assoc a.aggregates b.aggregates c.aggregates)
 
-pub then-no_listing : (a : Listing) → both_listings a no_listing ≡ a
-then-no_listing a = listing-is _ _ _ _ (append-nil a.occurrences) (append-nil a.aggregates)
+pub both-none : (a : Listing) → both_listings a no_listing ≡ a
+both-none a = listing-is _ _ _ _ (append-nil a.occurrences) (append-nil a.aggregates)
 
 pub listing-joined : (k : JoinKind) (f : From) (o : Occurrence) (on : Cond) → from_listing (joined k f o on) ≡ both_listings (from_listing f) (both_listings (one_listing o) (cond_listing on))
 listing-joined by.Inner f o on = listing-Join f o on

@@ -23,6 +23,10 @@ pub mod NumberedStatements
 pub mod OutputLoops
 pub mod PartAnswers
 pub mod Rising
+pub mod RulesHold
+pub mod RulesOnly
+pub mod RulesStatements
+pub mod RulesTrees
 pub mod SelectExits
 pub mod SelectLoops
 pub mod SelectParts

@@ -76,7 +76,7 @@ plain-is name level (scope ∷ outer) =
 -- ---- names with a table's name before them
 
 -- the instance that is found, and the place of its first column, counted on from n
-FoundInstance : Name → ℕ → Scope → Option (ℕ × Table) → Type 0
+unfoldable pub FoundInstance : Name → ℕ → Scope → Option (ℕ × Table) → Type 0
 FoundInstance table n scope None = HasInstance table scope → ⊥
 FoundInstance table n scope (Some found) = (i : ℕ) × (o : Known) × IsFirst (IsInstance table) scope i o × (o.entry ≡ found.1) × (found.0 ≡ n + length (columns_of (take i scope)))
 
@@ -86,7 +86,7 @@ instance-behind table n o scope None other none = none-here (IsInstance table) o
 instance-behind table n o scope (Some found) other (i, p, first, entry, at) =
     (suc i, p, first-behind (IsInstance table) o scope i p other first, entry, omega (arith, at, length-append o.entry.columns (columns_of (take i scope))))
 
-found-instance : (table : Name) (n : ℕ) (scope : Scope) → FoundInstance table n scope (occurrence_named table.text n scope)
+pub found-instance : (table : Name) (n : ℕ) (scope : Scope) → FoundInstance table n scope (occurrence_named table.text n scope)
 unfolding FoundInstance
 found-instance table n [] = λ (i, o, (at, holds)). cc
 found-instance table n (o ∷ scope) = by (bytes_eq table.text o.name) refl (found-instance table (n + length o.entry.columns) scope) where

@@ -6,7 +6,7 @@ use Rattle.std.proofs.lemmas.List.FromFn.{length-range_with_len}
 use Rattle.schema.specs.declared.schema.Schema.{Schema}
 use Rattle.sql_parse.specs.declared.statement.Condition.{Condition, roll-Condition}
 use Rattle.sql_parse.specs.declared.statement.Condition.TheOpen.{Condition-F, Join-F, Chain-F, Select-F}
-use Rattle.sql_parse.specs.declared.statement.Condition.TheFolds.{ind-Select, map-Condition, map-Join, map-Chain, map-Select}
+use Rattle.sql_parse.specs.declared.statement.Condition.TheFolds.{ind-Chain, ind-Condition, ind-Join, ind-Select, map-Condition, map-Join, map-Chain, map-Select}
 use Rattle.sql_parse.specs.declared.statement.Join.{Join, out-Join, roll-Join, out-roll-Join}
 use Rattle.sql_parse.specs.declared.statement.Chain.{Chain, out-Chain, roll-Chain, out-roll-Chain}
 use Rattle.sql_parse.specs.declared.statement.Select.{Select, out-Select, roll-Select, out-roll-Select}
@@ -22,23 +22,23 @@ use Rattle.binder.specs.Selects.{block_of}
 use Rattle.binder.specs.Analyses.{Before, Content, behind, both, all_contents, ConditionAnalysis, JoinAnalysis, ChainAnalysis, SelectAnalysis, all_become, condition_layer, one_table, joins_faults, joins_become, chain_layer, chains_faults, commas_become, from_faults, from_becomes, from_content, filter_content, filter_faults, filter_becomes, scope_of_from, select_layer, condition_analysis, join_analysis, chain_analysis, select_analysis, statement_content, statement_faults, statement_query}
 use Rattle.binder.specs.TextNumbers.{Listing, one_listing, both_listings, all_listings, filter_listing, cond_listing, from_listing, block_listing, columns_together, IsNumbered, StatementsAreNumbered}
 use Rattle.binder.proofs.PartAnswers.{instances-length, widths-append}
-use Rattle.binder.proofs.AnalysisNumbers.{nil-parts, both-assoc, then-no_listing, listing-joined, occurrences_behind, of_content, both-listed, shown-numbers}
+use Rattle.binder.proofs.AnalysisNumbers.{nil-parts, both-assoc, both-none, listing-joined, occurrences_behind, of_content, both-listed, shown-numbers}
 use Rattle.binder.proofs.AnalysisParts.{analysis-condition, analysis-join, analysis-chain, select_parts, analysis-select}
 use Rattle.binder.proofs.StatementAnswers.{statements_accepted}
 use Rattle.binder.proofs.ListingEquations.{listing-Compare, listing-IsNull, listing-Not, listing-And, listing-Or, listing-Exists, listing-In, listing-Table, listing-Comma, listing-Block}
 
 module _ (S : Schema) where
-  abbrev ConditionListed : ConditionAnalysis → Type 0
+  abbrev pub ConditionListed : ConditionAnalysis → Type 0
   ConditionListed analysis = (scopes : Scopes) (b : Before) → analysis.faults scopes ≡ [] → cond_listing (analysis.becomes scopes b) ≡ of_content S b analysis.content
 
-  abbrev JoinListed : JoinAnalysis → Type 0
+  abbrev pub JoinListed : JoinAnalysis → Type 0
   JoinListed analysis = (outer : Scopes) (others chain : Scope) (b : Before) (left : From) → analysis.faults outer others chain ≡ []
       → from_listing (analysis.becomes outer chain b left) ≡ both_listings (from_listing left) (of_content S b analysis.content)
 
-  abbrev ChainListed : ChainAnalysis → Type 0
+  abbrev pub ChainListed : ChainAnalysis → Type 0
   ChainListed analysis = (outer : Scopes) (others : Scope) (b : Before) → analysis.faults outer others ≡ [] → from_listing (analysis.becomes outer b) ≡ of_content S b analysis.content
 
-  abbrev SelectListed : SelectAnalysis → Type 0
+  abbrev pub SelectListed : SelectAnalysis → Type 0
   SelectListed analysis = (outer : Scopes) (b : Before) → analysis.faults outer ≡ [] → block_listing (analysis.becomes outer b) ≡ of_content S b analysis.content
 
   abbrev ProvedCondition : Type 0
@@ -102,7 +102,7 @@ module _ (S : Schema) where
 
   joins-listed : (joins : List ProvedJoin) (outer : Scopes) (others chain : Scope) (b : Before) (left : From) → joins_faults S outer others chain (joins_of joins) ≡ []
       → from_listing (joins_become S outer chain b left (joins_of joins)) ≡ both_listings (from_listing left) (of_content S b (all_contents (map (λ j. j.content) (joins_of joins))))
-  joins-listed [] outer others chain b left none = sym (then-no_listing (from_listing left))
+  joins-listed [] outer others chain b left none = sym (both-none (from_listing left))
   joins-listed (j ∷ joins) outer others chain b left none =
       let analysis = join_analysis S j.0 in
       let right : Scope = chain ++ known S analysis.table ∷ [] in
@@ -127,7 +127,7 @@ module _ (S : Schema) where
 
   commas-listed : (chains : List ProvedChain) (outer : Scopes) (others : Scope) (b : Before) (left : From) → chains_faults outer others (chains_of chains) ≡ []
       → from_listing (commas_become outer b left (chains_of chains)) ≡ both_listings (from_listing left) (of_content S b (from_content (chains_of chains)))
-  commas-listed [] outer others b left none = sym (then-no_listing (from_listing left))
+  commas-listed [] outer others b left none = sym (both-none (from_listing left))
   commas-listed (c ∷ chains) outer others b left none =
       let analysis = chain_analysis S c.0 in
       let rest = from_content (chains_of chains) in
@@ -204,7 +204,42 @@ module _ (S : Schema) where
       let z = map-Chain _ _ _ _ Condition Chain Join Select (λ c. c.0) (λ c. c.0) (λ j. j.0) (λ q. q.0) y in
       chain-listed (roll-Chain z) y.joins (sym (ap (λ x. x.joins) (out-roll-Chain z)))
 
-  selects-listed : (q : Select) → SelectListed (select_analysis S q)
+  pub conditions-listed : (c : Condition) → ConditionListed (condition_analysis S c)
+  conditions-listed = ind-Condition (λ c. ConditionListed (condition_analysis S c)) (λ c. ChainListed (chain_analysis S c)) (λ j. JoinListed (join_analysis S j)) (λ q. SelectListed (select_analysis S q))
+      (λ x y is. subst (λ z. ConditionListed (condition_analysis S (roll-Condition z))) is (condition-listed y))
+      (λ x y is. subst (λ z. ChainListed (chain_analysis S (roll-Chain z))) is (chain-by y))
+      (λ x y is. subst (λ z. JoinListed (join_analysis S (roll-Join z))) is (join-by y))
+      (λ x y is. subst (λ z. SelectListed (select_analysis S (roll-Select z))) is (select-by y y.filter))
+
+  pub chains-listed : (c : Chain) → ChainListed (chain_analysis S c)
+  chains-listed = ind-Chain (λ c. ConditionListed (condition_analysis S c)) (λ c. ChainListed (chain_analysis S c)) (λ j. JoinListed (join_analysis S j)) (λ q. SelectListed (select_analysis S q))
+      (λ x y is. subst (λ z. ConditionListed (condition_analysis S (roll-Condition z))) is (condition-listed y))
+      (λ x y is. subst (λ z. ChainListed (chain_analysis S (roll-Chain z))) is (chain-by y))
+      (λ x y is. subst (λ z. JoinListed (join_analysis S (roll-Join z))) is (join-by y))
+      (λ x y is. subst (λ z. SelectListed (select_analysis S (roll-Select z))) is (select-by y y.filter))
+
+  pub joins-listed-each : (j : Join) → JoinListed (join_analysis S j)
+  joins-listed-each = ind-Join (λ c. ConditionListed (condition_analysis S c)) (λ c. ChainListed (chain_analysis S c)) (λ j. JoinListed (join_analysis S j)) (λ q. SelectListed (select_analysis S q))
+      (λ x y is. subst (λ z. ConditionListed (condition_analysis S (roll-Condition z))) is (condition-listed y))
+      (λ x y is. subst (λ z. ChainListed (chain_analysis S (roll-Chain z))) is (chain-by y))
+      (λ x y is. subst (λ z. JoinListed (join_analysis S (roll-Join z))) is (join-by y))
+      (λ x y is. subst (λ z. SelectListed (select_analysis S (roll-Select z))) is (select-by y y.filter))
+
+  -- of a FROM of any chains
+  all-proved : List Chain → List ProvedChain
+  all-proved [] = []
+  all-proved (c ∷ cs) = (c, chains-listed c) ∷ all-proved cs
+
+  proved-are : (cs : List Chain) → map (λ c. c.0) (all-proved cs) ≡ cs
+  unfolding all-proved
+  proved-are [] = refl
+  proved-are (c ∷ cs) = ap (λ ds. c ∷ ds) (proved-are cs)
+
+  pub froms-listed : (cs : List Chain) (outer : Scopes) (b : Before) → from_faults outer (map (chain_analysis S) cs) ≡ [] → from_listing (from_becomes outer b (map (chain_analysis S) cs)) ≡ of_content S b (from_content (map (chain_analysis S) cs))
+  froms-listed cs = subst (λ ds. (outer : Scopes) (b : Before) → from_faults outer (map (chain_analysis S) ds) ≡ [] → from_listing (from_becomes outer b (map (chain_analysis S) ds)) ≡ of_content S b (from_content (map (chain_analysis S) ds)))
+      (proved-are cs) (from-listed (all-proved cs))
+
+  pub selects-listed : (q : Select) → SelectListed (select_analysis S q)
   selects-listed = ind-Select (λ c. ConditionListed (condition_analysis S c)) (λ c. ChainListed (chain_analysis S c)) (λ j. JoinListed (join_analysis S j)) (λ q. SelectListed (select_analysis S q))
       (λ x y is. subst (λ z. ConditionListed (condition_analysis S (roll-Condition z))) is (condition-listed y))
       (λ x y is. subst (λ z. ChainListed (chain_analysis S (roll-Chain z))) is (chain-by y))
@@ -219,18 +254,18 @@ module _ (S : Schema) where
       let more : length (before ++ t ∷ []) ≡ length before + 1 = omega (arith, length-append before (t ∷ [])) in
       ap (λ ns. length before ∷ ns) (in-order (before ++ t ∷ []) ts ∙ ap (λ n. range_with_len n (length ts)) more)
 
-  same-tables : (before ts : List TableName) → map (λ o. o.table) (occurrences_behind S before ts) ≡ map (λ t. t.table) (instances_behind S before ts)
+  pub same-tables : (before ts : List TableName) → map (λ o. o.table) (occurrences_behind S before ts) ≡ map (λ t. t.table) (instances_behind S before ts)
   same-tables before [] = refl
   same-tables before (t ∷ ts) = ap (λ places. (the_table S t).0 ∷ places) (same-tables (before ++ t ∷ []) ts)
 
-  together-widths : (before ts : List TableName) → columns_together (instances_behind S before ts) ≡ widths S ts
+  pub together-widths : (before ts : List TableName) → columns_together (instances_behind S before ts) ≡ widths S ts
   together-widths before [] = refl
   together-widths before (t ∷ ts) =
       let sum = sum_by-cons (λ (t : TableInstance). length t.entry.columns) (the_instance S before t) (instances_behind S (before ++ t ∷ []) ts) in
       let more = together-widths (before ++ t ∷ []) ts in
       omega (arith, sum, more)
 
-  first-columns : (before ts : List TableName) (i : ℕ) (t : TableInstance) → slice_get (instances_behind S before ts) i ≡ Some t → t.first_column ≡ widths S before + columns_together (take i (instances_behind S before ts))
+  pub first-columns : (before ts : List TableName) (i : ℕ) (t : TableInstance) → slice_get (instances_behind S before ts) i ≡ Some t → t.first_column ≡ widths S before + columns_together (take i (instances_behind S before ts))
   first-columns before [] i t is = cc is
   first-columns before (u ∷ ts) zero t is =
       let same : the_instance S before u ≡ t = cc is in
@@ -259,11 +294,11 @@ module _ (S : Schema) where
           here ∙ ap (λ n. range_with_len n content.aggregates) (sym (together-widths [] content.tables)) ∙ ap (range_with_len (columns_together (instances_behind S [] content.tables))) count;
     }
 
-    no-select-fault : statement_faults S s ≡ [] → (select_analysis S s.select).faults [] ≡ []
+    pub no-select-fault : statement_faults S s ≡ [] → (select_analysis S s.select).faults [] ≡ []
     unfolding statement_faults
     no-select-fault none = (nil-parts ((select_analysis S s.select).faults []) _ (nil-parts _ _ none).1).0
 
-    numbered : statement_faults S s ≡ [] → IsNumbered (statement_query S s)
+    pub numbered : statement_faults S s ≡ [] → IsNumbered (statement_query S s)
     unfolding statement_query
     numbered none = numbered-query (selects-listed s.select [] _ (no-select-fault none))
 

@@ -75,10 +75,10 @@ module _ (S : Schema) where
 
   -- ---- the whole
 
-  abbrev start : Select → Before
+  abbrev pub start : Select → Before
   start q = record { tables = []; aggregates = widths S (select_analysis S q).content.tables }
 
-  at-start : (q : Select) → at_start (of_select S q) ≡ state S (start q)
+  pub at-start : (q : Select) → at_start (of_select S q) ≡ state S (start q)
   at-start q = ap (λ n. numbered S [] n) (selects-wide S q)
 
 statements_mean : (S : Schema) (s : Statement) → bound_statement S s ≡ answer (statement_faults S s) (statement_query S s)

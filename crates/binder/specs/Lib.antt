@@ -12,6 +12,7 @@ pub mod Ordering
 pub mod Outputs
 pub mod Parts
 pub mod Queries
+pub mod Rules
 pub mod Scopes
 pub mod Selects
 pub mod TextNumbers

@@ -2,6 +2,7 @@
 
 ghost use Rattle.binder.specs.Meanings.{NamesFail, NamesMean};
 ghost use Rattle.binder.specs.Analyses.{StatementsAccepted, StatementsRefused};
+ghost use Rattle.binder.specs.Rules.{StatementsBind};
 ghost use Rattle.binder.specs.TextNumbers.{StatementsAreNumbered};
 
 /// A name means the column that the scope rules say, and a refusal of it is the fault that they say.
@@ -13,6 +14,7 @@ pub fn names_are_resolved()
 /// A statement without a fault becomes the query that it means, and any other is refused with the first of its faults.
 /// The query's numbers are those of the text.
 pub fn statements_have_meaning()
+    ensures bound { StatementsBind }
     ensures accepted { StatementsAccepted }
     ensures refused { StatementsRefused }
     ensures numbered { StatementsAreNumbered }

@@ -1,3 +1,4 @@
+use Rattle.binder.proofs.RulesStatements.{statements_bind}
 use Rattle.binder.proofs.NumberedStatements.{statements_numbered}
 use Rattle.binder.proofs.StatementAnswers.{statements_accepted, statements_refused}
 use Rattle.binder.proofs.meaning.statements_have_meaning.Goals as goal
@@ -10,3 +11,6 @@ returns-clause-refused c = statements_refused
 
 pub returns-clause-numbered : goal.returns-clause-numbered
 returns-clause-numbered c = statements_numbered
+
+pub returns-clause-bound : goal.returns-clause-bound
+returns-clause-bound c = statements_bind
