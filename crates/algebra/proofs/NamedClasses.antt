@@ -10,10 +10,9 @@ use Rattle.algebra.specs.declared.condition.Condition.TheOpen.{Condition-F}
 use Rattle.algebra.specs.declared.condition.Condition.TheVariants.{Compare, IsNull, Not, And, Or, Exists, In, rolls-Compare, rolls-IsNull, rolls-Not, rolls-And, rolls-Or, rolls-Exists, rolls-In}
 use Rattle.algebra.specs.declared.condition.Term.{Term}
 use Rattle.algebra.specs.declared.expr.Expr.{Expr}
-use Rattle.algebra.specs.declared.expr.Expr.TheVariants.{Get, Select, Join, LeftJoin, Semi, Anti, Keep, Distinct, Group}
 use Rattle.algebra.specs.Columns.{insert, rising}
 use Rattle.algebra.specs.Conditions.{Passes, classes_layer, all_classes, named_layer, named_classes, classes_in}
-use Rattle.algebra.specs.Expressions.{subqueries_pass, classes_pass, input_classes}
+use Rattle.algebra.specs.Expressions.{children, conditions, subqueries_pass, classes_pass, input_classes}
 use Rattle.algebra.proofs.Lists.{two}
 
 -- ---- what conditions name
@@ -56,12 +55,12 @@ module _ (p : ℕ → Bool) where
   abbrev Part : Type 0
   Part = (c : Condition) × P c
 
-  abbrev conditions : List Part → List Condition
-  conditions parts = map (λ c. c.0) parts
+  abbrev wholes : List Part → List Condition
+  wholes parts = map (λ c. c.0) parts
 
-  all-parts : (parts : List Part) → list_all (λ c. c p) (map all_classes (conditions parts)) ≡ list_all p (flat_map (λ c. c) (map named_classes (conditions parts)))
+  all-parts : (parts : List Part) → list_all (λ c. c p) (map all_classes (wholes parts)) ≡ list_all p (flat_map (λ c. c) (map named_classes (wholes parts)))
   all-parts [] = refl
-  all-parts (c ∷ parts) = two (λ a b. a && b) c.1 (all-parts parts) ∙ sym (list_all-append p (named_classes c.0) (flat_map (λ c. c) (map named_classes (conditions parts))))
+  all-parts (c ∷ parts) = two (λ a b. a && b) c.1 (all-parts parts) ∙ sym (list_all-append p (named_classes c.0) (flat_map (λ c. c) (map named_classes (wholes parts))))
 
   layer : (y : Condition-F Part) → classes_layer (map-Condition Condition Passes all_classes (map-Condition Part Condition (λ c. c.0) y)) p
       ≡ list_all p (named_layer (map-Condition Condition (List ℕ) named_classes (map-Condition Part Condition (λ c. c.0) y)))
@@ -103,17 +102,8 @@ module _ (p : ℕ → Bool) where
   pub classes-pass : (C : List Condition) → subqueries_pass p C ≡ true → list_all p (classes_in C) ≡ true
   classes-pass C h = all-rising _ (sym (all-named C) ∙ h)
 
-  sides : (a b : ℕ) → (p a && p b) ≡ true → list_all p (a ∷ b ∷ []) ≡ true
-  sides a b h = let parts = and_parts _ _ h in and_from _ _ parts.0 (and_from _ _ parts.1 refl)
-
-  -- the inputs of an expression and the classes of its conditions
+  -- the classes whose rows an expression takes and the classes of its conditions
   pub inputs-pass : (x : Expr) → classes_pass p x ≡ true → list_all p (input_classes x) ≡ true
-  inputs-pass (Get o) h = refl
-  inputs-pass (Select C x) h = let parts = and_parts _ _ h in and_from _ _ parts.0 (classes-pass C parts.1)
-  inputs-pass (Join C a b) h = sides a b (and_parts _ _ h).0
-  inputs-pass (LeftJoin C a b) h = sides a b (and_parts _ _ h).0
-  inputs-pass (Semi C a b) h = sides a b (and_parts _ _ h).0
-  inputs-pass (Anti S M a b) h = sides a b (and_parts _ _ (and_parts _ _ h).0).0
-  inputs-pass (Keep K x) h = and_from _ _ h refl
-  inputs-pass (Distinct x) h = and_from _ _ h refl
-  inputs-pass (Group K G x) h = and_from _ _ h refl
+  inputs-pass x h =
+      let parts = and_parts (list_all p (children x)) (subqueries_pass p (conditions x)) h in
+      list_all-append p (children x) (classes_in (conditions x)) ∙ and_from _ _ parts.0 (classes-pass (conditions x) parts.1)

@@ -22,6 +22,32 @@ pub record Classes : Type 0 where
   pub columns : ℕ → List ℕ
   pub free : ℕ → ColumnSet
 
+-- ---- what an expression is made of
+
+-- the classes whose rows it takes, the left one first
+abbrev pub children : Expr → List ℕ
+children (Get o) = []
+children (Select C x) = x ∷ []
+children (Join C a b) = a ∷ b ∷ []
+children (LeftJoin C a b) = a ∷ b ∷ []
+children (Semi C a b) = a ∷ b ∷ []
+children (Anti S M a b) = a ∷ b ∷ []
+children (Keep K x) = x ∷ []
+children (Distinct x) = x ∷ []
+children (Group K G x) = x ∷ []
+
+-- its conditions
+abbrev pub conditions : Expr → List Condition
+conditions (Get o) = []
+conditions (Select C x) = C
+conditions (Join C a b) = C
+conditions (LeftJoin C a b) = C
+conditions (Semi C a b) = C
+conditions (Anti S M a b) = S ++ M
+conditions (Keep K x) = []
+conditions (Distinct x) = []
+conditions (Group K G x) = []
+
 -- ---- table instances
 
 -- the columns of a table instance
@@ -90,20 +116,9 @@ columns_of uses cols (Group K G x) = rising (K ++ aggregate_columns G)
 abbrev pub mentioned : (ℕ → List ℕ) → (ℕ → ColumnSet) → List Condition → ColumnSet
 mentioned cols free C c = list_any (λ d. mentions d cols free c) C
 
--- the free columns of the sides, and what the conditions read but for the sides' columns
-abbrev pub free_of_join : (ℕ → List ℕ) → (ℕ → ColumnSet) → List Condition → ℕ → ℕ → ColumnSet
-free_of_join cols free C a b c = free a c || free b c || (mentioned cols free C c && not (has (cols a) c) && not (has (cols b) c))
-
+-- the columns of the environment that it reads: its classes' free columns, and what its conditions read but for its classes' columns
 abbrev pub free_of : (ℕ → List ℕ) → (ℕ → ColumnSet) → Expr → ColumnSet
-free_of cols free (Get o) c = false
-free_of cols free (Select C x) c = free x c || (mentioned cols free C c && not (has (cols x) c))
-free_of cols free (Join C a b) c = free_of_join cols free C a b c
-free_of cols free (LeftJoin C a b) c = free_of_join cols free C a b c
-free_of cols free (Semi C a b) c = free_of_join cols free C a b c
-free_of cols free (Anti S M a b) c = free_of_join cols free (S ++ M) a b c
-free_of cols free (Keep K x) c = free x c
-free_of cols free (Distinct x) c = free x c
-free_of cols free (Group K G x) c = free x c
+free_of cols free x c = list_any (λ g. free g c) (children x) || (mentioned cols free (conditions x) c && not (list_any (λ g. has (cols g) c) (children x)))
 
 -- ---- well formed expressions
 
@@ -113,27 +128,11 @@ subqueries_pass p C = list_all (λ d. all_classes d p) C
 
 -- whether each class that an expression names passes
 abbrev pub classes_pass : (ℕ → Bool) → Expr → Bool
-classes_pass p (Get o) = true
-classes_pass p (Select C x) = p x && subqueries_pass p C
-classes_pass p (Join C a b) = p a && p b && subqueries_pass p C
-classes_pass p (LeftJoin C a b) = p a && p b && subqueries_pass p C
-classes_pass p (Semi C a b) = p a && p b && subqueries_pass p C
-classes_pass p (Anti S M a b) = p a && p b && subqueries_pass p S && subqueries_pass p M
-classes_pass p (Keep K x) = p x
-classes_pass p (Distinct x) = p x
-classes_pass p (Group K G x) = p x
+classes_pass p x = list_all p (children x) && subqueries_pass p (conditions x)
 
--- the classes that an expression names: its inputs, and those of its conditions, rising
+-- the classes that an expression names: those whose rows it takes, and those of its conditions, rising
 abbrev pub input_classes : Expr → List ℕ
-input_classes (Get o) = []
-input_classes (Select C x) = x ∷ classes_in C
-input_classes (Join C a b) = a ∷ b ∷ []
-input_classes (LeftJoin C a b) = a ∷ b ∷ []
-input_classes (Semi C a b) = a ∷ b ∷ []
-input_classes (Anti S M a b) = a ∷ b ∷ []
-input_classes (Keep K x) = x ∷ []
-input_classes (Distinct x) = x ∷ []
-input_classes (Group K G x) = x ∷ []
+input_classes x = children x ++ classes_in (conditions x)
 
 -- a column of the query: of a table instance, or of an aggregate of its own
 abbrev pub is_query_column : List TableInstance → List Aggregation → ColumnSet
@@ -147,8 +146,8 @@ abbrev pub is_plain : List Condition → Bool
 is_plain C = subqueries_pass (λ g. false) C
 
 -- the sides of a join share no column, and its conditions name no class
-abbrev pub joins_formed : List TableInstance → List Aggregation → List Condition → List ℕ → List ℕ → Bool
-joins_formed uses own C left right = names_own uses own C && is_plain C && are_disjoint left right
+abbrev pub sides_formed : List Condition → List ℕ → List ℕ → Bool
+sides_formed C left right = is_plain C && are_disjoint left right
 
 abbrev pub are_different : List ℕ → Bool
 are_different [] = true
@@ -158,14 +157,18 @@ are_different (c ∷ cs) = not (has cs c) && are_different cs
 abbrev pub aggregation_formed : List Aggregation → List ℕ → Aggregation → Bool
 aggregation_formed own columns a = list_any (same_aggregation a) own && is_subset (aggregate_reads a.aggregate) columns && not (has columns a.column)
 
--- whether the expression is well formed over classes with these columns, in a query with these table instances and aggregates
+-- what the operator itself asks, over classes with these columns, in a query with these table instances and aggregates
+abbrev pub operator_formed : List TableInstance → List Aggregation → (ℕ → List ℕ) → Expr → Bool
+operator_formed uses own cols (Get o) = nat_lt o (length uses)
+operator_formed uses own cols (Select C x) = true
+operator_formed uses own cols (Join C a b) = sides_formed C (cols a) (cols b)
+operator_formed uses own cols (LeftJoin C a b) = sides_formed C (cols a) (cols b)
+operator_formed uses own cols (Semi C a b) = sides_formed C (cols a) (cols b)
+operator_formed uses own cols (Anti S M a b) = sides_formed (S ++ M) (cols a) (cols b)
+operator_formed uses own cols (Keep K x) = is_subset K (cols x)
+operator_formed uses own cols (Distinct x) = true
+operator_formed uses own cols (Group K G x) = is_subset K (cols x) && are_different (aggregate_columns G) && list_all (aggregation_formed own (cols x)) G
+
+-- whether the expression is well formed: its conditions name columns of the query, and it is as its operator asks
 abbrev pub is_formed : List TableInstance → List Aggregation → (ℕ → List ℕ) → Expr → Bool
-is_formed uses own cols (Get o) = nat_lt o (length uses)
-is_formed uses own cols (Select C x) = names_own uses own C
-is_formed uses own cols (Join C a b) = joins_formed uses own C (cols a) (cols b)
-is_formed uses own cols (LeftJoin C a b) = joins_formed uses own C (cols a) (cols b)
-is_formed uses own cols (Semi C a b) = joins_formed uses own C (cols a) (cols b)
-is_formed uses own cols (Anti S M a b) = joins_formed uses own S (cols a) (cols b) && joins_formed uses own M (cols a) (cols b)
-is_formed uses own cols (Keep K x) = is_subset K (cols x)
-is_formed uses own cols (Distinct x) = true
-is_formed uses own cols (Group K G x) = is_subset K (cols x) && are_different (aggregate_columns G) && list_all (aggregation_formed own (cols x)) G
+is_formed uses own cols x = names_own uses own (conditions x) && operator_formed uses own cols x

@@ -1,10 +1,11 @@
 //! Expressions over classes.
 
-ghost use Rattle.std.specs.Prelude.{◌≡◌, ◌↔◌, IsTrue};
+ghost use Rattle.std.specs.Prelude.{◌≡◌, ◌↔◌, ◌++◌, IsTrue, option_to_list};
 ghost use Rattle.algebra.specs.Equality as spec;
+ghost use Rattle.algebra.specs.Expressions.{children, conditions};
 
 use crate::columns::Columns;
-use crate::condition::{ClassId, Conjuncts};
+use crate::condition::{ClassId, Condition, Conjuncts};
 use query::{Aggregate, ColumnId, OccurrenceId};
 use values::Items;
 
@@ -41,6 +42,39 @@ pub enum Expr {
 }
 
 impl Expr {
+    /// The classes whose rows it takes, the left one first.
+    pub fn children(&self) -> (Option<ClassId>, Option<ClassId>)
+        ensures { option_to_list result.0 ++ option_to_list result.1 ≡ children self.now }
+    {
+        match self {
+            Expr::Get(_) => (None, None),
+            Expr::Select(_, x) | Expr::Keep(_, x) | Expr::Distinct(x) | Expr::Group(_, _, x) => {
+                (Some(*x), None)
+            }
+            Expr::Join(_, a, b)
+            | Expr::LeftJoin(_, a, b)
+            | Expr::Semi(_, a, b)
+            | Expr::Anti(_, _, a, b) => (Some(*a), Some(*b)),
+        }
+    }
+
+    /// Its conditions, in two parts.
+    pub fn conditions(&self) -> (&[Condition], &[Condition])
+        ensures { result.0.now ++ result.1.now ≡ conditions self.now }
+    {
+        match self {
+            Expr::Select(c, _)
+            | Expr::Join(c, _, _)
+            | Expr::LeftJoin(c, _, _)
+            | Expr::Semi(c, _, _) => (c.as_slice(), &[]),
+            Expr::Anti(sure, maybe, _, _) => (sure.as_slice(), maybe.as_slice()),
+            Expr::Get(_) | Expr::Keep(_, _) | Expr::Distinct(_) | Expr::Group(_, _, _) => (
+                &[],
+                &[],
+            ),
+        }
+    }
+
     pub fn same(&self, other: &Expr) -> bool
         ensures equal { IsTrue result ↔ (self.now ≡ other.now) }
         ensures test { result ≡ spec.same_expr self.now other.now }

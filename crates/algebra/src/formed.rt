@@ -1,6 +1,6 @@
 //! When expressions are well formed.
 
-ghost use Rattle.std.specs.Prelude.{◌≡◌, ◌==◌, ◌&&◌, nat_lt, true, length, IfOk};
+ghost use Rattle.std.specs.Prelude.{◌≡◌, ◌==◌, ◌&&◌, nat_lt, true, length, option_to_list, IfOk};
 ghost use Rattle.std.specs.List.{list_all, list_any};
 ghost use Rattle.algebra.specs.Conditions as reads;
 ghost use Rattle.algebra.specs.Columns.{has, is_subset, columns_at};
@@ -8,7 +8,7 @@ ghost use Rattle.algebra.specs.Equality.{same_aggregation};
 ghost use Rattle.algebra.specs.Expressions as spec;
 
 use crate::columns::{Columns, are_disjoint_from, is_subset_of};
-use crate::condition::{Condition, Conjuncts, Term};
+use crate::condition::{ClassId, Condition, Conjuncts, Term};
 use crate::expr::{Aggregation, Expr};
 use query::{Aggregate, TableInstance};
 use std::alloc::{AllocError, Global};
@@ -110,25 +110,27 @@ fn all_name_below(conditions: &[Condition], bound: usize) -> bool
     true
 }
 
+/// Whether the class, if there is one, is below the bound.
+fn is_below(class: Option<ClassId>, bound: usize) -> bool
+    ensures { result ≡ list_all (λ g. nat_lt g bound) (option_to_list class) }
+{
+    match class {
+        Some(x) => x < bound,
+        None => true,
+    }
+}
+
 impl Expr {
     /// Whether each class that the expression names is below the bound.
     pub fn names_below(&self, bound: usize) -> bool
         ensures { result ≡ spec.classes_pass (λ g. nat_lt g bound) self.now }
     {
-        match self {
-            Expr::Get(_) => true,
-            Expr::Select(c, x) => *x < bound && all_name_below(c.as_slice(), bound),
-            Expr::Join(c, a, b) | Expr::LeftJoin(c, a, b) | Expr::Semi(c, a, b) => {
-                *a < bound && *b < bound && all_name_below(c.as_slice(), bound)
-            }
-            Expr::Anti(s, m, a, b) => {
-                *a < bound
-                    && *b < bound
-                    && all_name_below(s.as_slice(), bound)
-                    && all_name_below(m.as_slice(), bound)
-            }
-            Expr::Keep(_, x) | Expr::Distinct(x) | Expr::Group(_, _, x) => *x < bound,
-        }
+        let (left, right) = self.children();
+        let (first, second) = self.conditions();
+        is_below(left, bound)
+            && is_below(right, bound)
+            && all_name_below(first, bound)
+            && all_name_below(second, bound)
     }
 
     /// Whether the expression is well formed, in a query with these table instances and aggregates. The columns are
@@ -142,18 +144,34 @@ impl Expr {
         requires { spec.classes_pass (λ g. nat_lt g (length columns.now)) self.now ≡ true }
         ensures { result ≡ spec.is_formed uses.now own.now (columns_at columns.now) self.now }
     {
+        let (first, second) = self.conditions();
+        all_name_own(first, uses, own)
+            && all_name_own(second, uses, own)
+            && self.operator_formed(uses, own, columns)
+    }
+
+    /// Whether the expression is as its operator asks.
+    fn operator_formed(
+        &self,
+        uses: &[TableInstance],
+        own: &[Aggregation],
+        columns: &[Columns],
+    ) -> bool
+        requires { spec.classes_pass (λ g. nat_lt g (length columns.now)) self.now ≡ true }
+        ensures { result ≡ spec.operator_formed uses.now own.now (columns_at columns.now) self.now }
+    {
         match self {
             Expr::Get(o) => *o < uses.len(),
-            Expr::Select(c, _) => all_name_own(c.as_slice(), uses, own),
+            Expr::Select(_, _) | Expr::Distinct(_) => true,
             Expr::Join(c, a, b) | Expr::LeftJoin(c, a, b) | Expr::Semi(c, a, b) => {
-                joins_formed(c, &columns[*a], &columns[*b], uses, own)
+                c.is_plain() && are_disjoint_from(columns[*a].as_slice(), &columns[*b])
             }
-            Expr::Anti(s, m, a, b) => {
-                joins_formed(s, &columns[*a], &columns[*b], uses, own)
-                    && joins_formed(m, &columns[*a], &columns[*b], uses, own)
+            Expr::Anti(sure, maybe, a, b) => {
+                sure.is_plain()
+                    && maybe.is_plain()
+                    && are_disjoint_from(columns[*a].as_slice(), &columns[*b])
             }
             Expr::Keep(k, x) => is_subset_of(k.as_slice(), &columns[*x]),
-            Expr::Distinct(_) => true,
             Expr::Group(k, added, x) => {
                 is_subset_of(k.as_slice(), &columns[*x])
                     && aggregations_formed(added.as_slice(), &columns[*x], own)
@@ -180,21 +198,6 @@ impl Expr {
             Expr::Group(k, added, _) => Columns::of_groups(alloc, k, added.as_slice()),
         }
     }
-}
-
-/// Whether the conditions of a join name the query's columns and no class, and its sides share no column.
-fn joins_formed(
-    conjuncts: &Conjuncts,
-    left: &Columns,
-    right: &Columns,
-    uses: &[TableInstance],
-    own: &[Aggregation],
-) -> bool
-    ensures { result ≡ spec.joins_formed uses.now own.now conjuncts.now left.now right.now }
-{
-    all_name_own(conjuncts.as_slice(), uses, own)
-        && conjuncts.is_plain()
-        && are_disjoint_from(left.as_slice(), right)
 }
 
 impl Conjuncts {

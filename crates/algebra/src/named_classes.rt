@@ -1,11 +1,11 @@
 //! The classes that conditions and expressions name.
 
-ghost use Rattle.std.specs.Prelude.{◌≡◌, ◌++◌, flat_map, IfOk, OnOk};
+ghost use Rattle.std.specs.Prelude.{◌≡◌, ◌++◌, flat_map, option_to_list, IfOk, OnOk};
 ghost use Rattle.algebra.specs.Conditions as spec;
 ghost use Rattle.algebra.specs.Expressions.{input_classes};
 
 use crate::columns::in_rising_order;
-use crate::condition::{Condition, Conjuncts};
+use crate::condition::{ClassId, Condition, Conjuncts};
 use crate::expr::Expr;
 use std::alloc::{AllocError, Global};
 
@@ -52,32 +52,42 @@ impl Conjuncts {
     }
 }
 
+/// The classes that the conditions of two lists name, in rising order.
+fn classes_in_both(
+    alloc: Global,
+    first: &[Condition],
+    second: &[Condition],
+) -> Result<Vec<usize>, AllocError>
+    ensures { IfOk result (λ classes. classes.items ≡ spec.classes_in (first.now ++ second.now)) }
+{
+    let mut classes = Vec::new(alloc);
+    add_all_classes(first, &mut classes)?;
+    add_all_classes(second, &mut classes)?;
+    Ok(in_rising_order(classes))
+}
+
+/// Adds the class, if there is one.
+fn add_class(class: Option<ClassId>, classes: &mut Vec<usize>) -> Result<(), AllocError>
+    ensures { OnOk result (classes.new.items ≡ classes.old.items ++ option_to_list class) }
+{
+    if let Some(class) = class {
+        classes.push(class)?;
+    }
+    Ok(())
+}
+
 impl Expr {
-    /// The classes of its inputs, the left one first, and then those that a selection's conditions name, in rising order.
+    /// The classes of its inputs, the left one first, and then those that its conditions name, in rising order.
     pub fn inputs(&self, alloc: Global) -> Result<Vec<usize>, AllocError>
         ensures { IfOk result (λ classes. classes.items ≡ input_classes self.now) }
     {
-        match self {
-            Expr::Get(_) => Ok(Vec::new(alloc)),
-            Expr::Select(conjuncts, x) => {
-                let mut classes = listed(alloc, &[*x])?;
-                let named = conjuncts.classes(alloc)?;
-                classes.extend_from_slice(named.as_slice())?;
-                Ok(classes)
-            }
-            Expr::Join(_, a, b)
-            | Expr::LeftJoin(_, a, b)
-            | Expr::Semi(_, a, b)
-            | Expr::Anti(_, _, a, b) => listed(alloc, &[*a, *b]),
-            Expr::Keep(_, x) | Expr::Distinct(x) | Expr::Group(_, _, x) => listed(alloc, &[*x]),
-        }
+        let (left, right) = self.children();
+        let (first, second) = self.conditions();
+        let named = classes_in_both(alloc, first, second)?;
+        let mut classes = Vec::new(alloc);
+        add_class(left, &mut classes)?;
+        add_class(right, &mut classes)?;
+        classes.extend_from_slice(named.as_slice())?;
+        Ok(classes)
     }
-}
-
-fn listed(alloc: Global, classes: &[usize]) -> Result<Vec<usize>, AllocError>
-    ensures { IfOk result (λ listed. listed.items ≡ classes.now) }
-{
-    let mut listed = Vec::new(alloc);
-    listed.extend_from_slice(classes)?;
-    Ok(listed)
 }

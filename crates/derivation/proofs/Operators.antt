@@ -96,7 +96,7 @@ module _ (uses : List TableInstance) (own : List Aggregation) (D : Tables) (W : 
   join-gives C (Join E g k) (a ∷ []) h formed all = absurd all.1
   join-gives C (Join E g k) (a ∷ b ∷ inputs) h formed all =
       let is : C ≡ E = equal_conditions C E h in
-      let plain : is_plain E ≡ true = (and_parts _ _ (and_parts _ _ formed).0).1 in
+      let plain : is_plain E ≡ true = (and_parts _ _ (and_parts _ _ formed).1).0 in
       record {
         columns = two all.0.columns all.1.0.columns;
         rows = subst (λ K. SameBag (join (holds no_classes C) (has K) a.rows b.rows) (join (holds W.rows E) (has (W.columns k)) (W.rows g) (W.rows k))) (sym all.1.0.columns)
@@ -112,7 +112,7 @@ module _ (uses : List TableInstance) (own : List Aggregation) (D : Tables) (W : 
   left-gives C (LeftJoin E g k) (a ∷ []) h formed all = absurd all.1
   left-gives C (LeftJoin E g k) (a ∷ b ∷ inputs) h formed all =
       let is : C ≡ E = equal_conditions C E h in
-      let plain : is_plain E ≡ true = (and_parts _ _ (and_parts _ _ formed).0).1 in
+      let plain : is_plain E ≡ true = (and_parts _ _ (and_parts _ _ formed).1).0 in
       record {
         columns = two all.0.columns all.1.0.columns;
         rows = subst (λ K. SameBag (left_join (holds no_classes C) (has K) a.rows b.rows) (left_join (holds W.rows E) (has (W.columns k)) (W.rows g) (W.rows k))) (sym all.1.0.columns)
@@ -159,11 +159,11 @@ module _ (uses : List TableInstance) (own : List Aggregation) (D : Tables) (W : 
   operator-stands (Projection K) x inputs h formed all = refl
   operator-stands (NestedLoopJoin Inner C) (Join E g k) [] h formed all = absurd all
   operator-stands (NestedLoopJoin Inner C) (Join E g k) (a ∷ []) h formed all = absurd all.1
-  operator-stands (NestedLoopJoin Inner C) (Join E g k) (a ∷ b ∷ inputs) h formed all = rw (all.0.columns, all.1.0.columns) (and_parts _ _ formed).1
+  operator-stands (NestedLoopJoin Inner C) (Join E g k) (a ∷ b ∷ inputs) h formed all = rw (all.0.columns, all.1.0.columns) (and_parts _ _ (and_parts _ _ formed).1).1
   operator-stands (NestedLoopJoin Inner C) x inputs h formed all = cc
   operator-stands (NestedLoopJoin Left C) (LeftJoin E g k) [] h formed all = absurd all
   operator-stands (NestedLoopJoin Left C) (LeftJoin E g k) (a ∷ []) h formed all = absurd all.1
-  operator-stands (NestedLoopJoin Left C) (LeftJoin E g k) (a ∷ b ∷ inputs) h formed all = rw (all.0.columns, all.1.0.columns) (and_parts _ _ formed).1
+  operator-stands (NestedLoopJoin Left C) (LeftJoin E g k) (a ∷ b ∷ inputs) h formed all = rw (all.0.columns, all.1.0.columns) (and_parts _ _ (and_parts _ _ formed).1).1
   operator-stands (NestedLoopJoin Left C) x inputs h formed all = cc
   operator-stands (HashGroup K G) x inputs h formed all = refl
   operator-stands HashDistinct x inputs h formed all = refl

@@ -118,8 +118,8 @@ module _ (uses : List TableInstance) (own : List Aggregation) where
       let below : last A < length A = last-below A some in
       let longer : length A ≤ length framed.lines = grows-longer framed.lines A shape.grows in
       let p : ℕ → Bool = λ g. nat_lt g (length framed.lines) in (
-        and_from _ _ (lt-ltb _ _ (omega (arith, below, longer))) (in_order-all (λ d. all_classes d p) framed.conjuncts ∙ shape.conjuncts p (λ g low lt. lt-ltb _ _ lt)),
-        in_order-all (λ d. all_columns d (is_query_column uses own)) framed.conjuncts ∙ test.conjuncts,
+        rw (lt-ltb (last A) (length framed.lines) (omega (arith, below, longer)), in_order-all (λ d. all_classes d p) framed.conjuncts ∙ shape.conjuncts p (λ g low lt. lt-ltb _ _ lt)) refl,
+        and_from _ _ (in_order-all (λ d. all_columns d (is_query_column uses own)) framed.conjuncts ∙ test.conjuncts) refl,
         test.lines,
       )
 
@@ -196,11 +196,11 @@ module _ (uses : List TableInstance) (own : List Aggregation) where
 
     keep-formed : (items : List Item) (G : List Expr) → 0 < length G → AreFormed uses own G → AllByRecursion (λ i. frame.is_block_item i ≡ true → has (class_columns uses G (last G)) (item_number (numbers ∷ scope) i) ≡ true) items
         → AreFormed uses own (keep_lines (numbers ∷ scope) items G)
-    keep-formed items G some formed all = (lt-ltb _ _ (last-below G some), kept-all (has (class_columns uses G (last G))) (numbers ∷ scope) items all, formed)
+    keep-formed items G some formed all = (rw (lt-ltb (last G) (length G) (last-below G some)) refl, kept-all (has (class_columns uses G (last G))) (numbers ∷ scope) items all, formed)
 
     distinct-formed : (twice : Bool) (G : List Expr) → 0 < length G → AreFormed uses own G → AreFormed uses own (distinct_lines twice G)
     distinct-formed false G some formed = formed
-    distinct-formed true G some formed = (lt-ltb _ _ (last-below G some), refl, formed)
+    distinct-formed true G some formed = (rw (lt-ltb (last G) (length G) (last-below G some)) refl, refl, formed)
 
     without-distinct : (twice : Bool) (G : List Expr) → GroupsOwn uses own (distinct_lines twice G) → GroupsOwn uses own G
     without-distinct false G groups = groups
@@ -217,7 +217,7 @@ module _ (uses : List TableInstance) (own : List Aggregation) where
         let kept_columns : AllByRecursion (λ i. frame.is_block_item i ≡ true → has (class_columns uses (top ∷ B) (length B)) (item_number (numbers ∷ scope) i) ≡ true) items =
         subst (λ cs. AllByRecursion (λ i. frame.is_block_item i ≡ true → has cs (item_number (numbers ∷ scope) i) ≡ true) items) (sym (top-columns uses top B)) (group-kept keys items items (have-numbers items) parts.1) in
         distinct-formed twice (keep_lines (numbers ∷ scope) items (top ∷ B)) (omega arith)
-        (keep-formed items (top ∷ B) (omega arith) (lt-ltb _ _ (last-below B some), group-formed keys items parts.0 differ parts.1 among, formed) kept_columns)
+        (keep-formed items (top ∷ B) (omega arith) (rw (lt-ltb (last B) (length B) (last-below B some)) refl, group-formed keys items parts.0 differ parts.1 among, formed) kept_columns)
 
   -- ---- what is shown
 

@@ -16,11 +16,11 @@ use Rattle.algebra.specs.declared.expr.Expr.{Expr}
 use Rattle.algebra.specs.declared.expr.Expr.TheVariants.{Get, Join, LeftJoin}
 use Rattle.algebra.specs.Columns.{has, are_disjoint}
 use Rattle.algebra.specs.Conditions.{all_classes, all_columns}
-use Rattle.algebra.specs.Expressions.{classes_pass, is_formed, is_query_column, is_plain, joins_formed, names_own, subqueries_pass}
+use Rattle.algebra.specs.Expressions.{classes_pass, is_formed, is_query_column, is_plain, sides_formed, names_own, subqueries_pass}
 use Rattle.algebra.specs.Classes.{class_columns, AreFormed}
 use Rattle.algebra.specs.ConjunctOrder.{in_order}
 use Rattle.logical.specs.Frames.{CondLines, FromFrame, cond_frame, from_frame, join_frame, last}
-use Rattle.logical.proofs.FormedParts.{all-three, AreOwn, AllOwn, GroupsOwn, groups-before, FormedCond, CondFormed, FromFormed}
+use Rattle.logical.proofs.FormedParts.{AreOwn, AllOwn, GroupsOwn, groups-before, FormedCond, CondFormed, FromFormed}
 use Rattle.logical.proofs.FrameEquations.{frame-Table, frame-Join, frame-LeftJoin, frame-Comma}
 use Rattle.logical.proofs.FrameShapes.{FromShape, Sides, JoinParts, left_of, on_of, from-shape, join-sides, join-parts}
 use Rattle.logical.proofs.Growth.{grows-longer, kept-columns, last-below}
@@ -54,8 +54,8 @@ module _ (uses : List TableInstance) (own : List Aggregation) where
       from-as _ _ _ _ scope E (frame-Table uses o) (scope-Table uses o) (λ used differ groups. (refl, lt-ltb _ _ (used-below uses o used), formed))
 
   -- a join of either kind
-  module _ (join : List Condition → ℕ → ℕ → Expr) (names : (p : ℕ → Bool) (C : List Condition) (a b : ℕ) → classes_pass p (join C a b) ≡ (p a && p b && subqueries_pass p C))
-      (needs : (cols : ℕ → List ℕ) (C : List Condition) (a b : ℕ) → is_formed uses own cols (join C a b) ≡ joins_formed uses own C (cols a) (cols b)) where
+  module _ (join : List Condition → ℕ → ℕ → Expr) (names : (p : ℕ → Bool) (C : List Condition) (a b : ℕ) → classes_pass p (join C a b) ≡ (list_all p (a ∷ b ∷ []) && subqueries_pass p C))
+      (needs : (cols : ℕ → List ℕ) (C : List Condition) (a b : ℕ) → is_formed uses own cols (join C a b) ≡ (names_own uses own C && sides_formed C (cols a) (cols b))) where
     joined-formed : (f : From) (o : Occurrence) (on : Cond) → FromFormed uses own f → CondFormed uses own on → (scope : Scope) (E : List Expr) → AllOwn uses own scope → AreFormed uses own E
         → (join_scope uses (from_scope uses f) o (cond_scope uses on)).bound scope ≡ true → all_differ ((from_frame uses f).numbers ++ use_numbers uses o) ≡ true
         → GroupsOwn uses own ((join_frame join uses (from_frame uses f) o (cond_frame uses on)).lines scope E) → AreFormed uses own ((join_frame join uses (from_frame uses f) o (cond_frame uses on)).lines scope E)
@@ -82,8 +82,8 @@ module _ (uses : List TableInstance) (own : List Aggregation) where
         let plain : is_plain C ≡ true =
         in_order-all (λ d. all_classes d (λ g. false)) framed.conjuncts ∙ sides.test.conjuncts (λ g. false) (λ g low lt. absurd (let none : length framed.lines ≡ length lines = ap length same in omega (arith, low, lt, none))) in
         let own_columns : names_own uses own C ≡ true = in_order-all (λ d. all_columns d (is_query_column uses own)) framed.conjuncts ∙ test.conjuncts in (
-          names (λ g. nat_lt g (length framed.lines)) C (last A) (length A) ∙ all-three _ _ _ (lt-ltb (last A) (length framed.lines) (omega (arith, below, longer))) (lt-ltb (length A) (length framed.lines) (omega (arith, longer))) earlier,
-          needs cols C (last A) (length A) ∙ all-three _ _ _ own_columns plain (sides-disjoint (cols (last A)) (cols (length A)) ks ls sides.left_columns sides.right_columns (differ-disjoint ks ls differ)),
+          names (λ g. nat_lt g (length framed.lines)) C (last A) (length A) ∙ rw (lt-ltb (last A) (length framed.lines) (omega (arith, below, longer)), lt-ltb (length A) (length framed.lines) (omega (arith, longer)), earlier) refl,
+          needs cols C (last A) (length A) ∙ and_from _ _ own_columns (and_from _ _ plain (sides-disjoint (cols (last A)) (cols (length A)) ks ls sides.left_columns sides.right_columns (differ-disjoint ks ls differ))),
           test.lines,
         )
 
@@ -111,7 +111,7 @@ module _ (uses : List TableInstance) (own : List Aggregation) where
       let parts = and_parts ((from_scope uses f).bound scope) ((from_scope uses g).bound scope) bound in
       let formed_left : AreFormed uses own A = first scope E all formed parts.0 (differ-left ks ls differ) (groups-before uses own B A right.grows groups.1) in
       let formed_right : AreFormed uses own B = second scope A all formed_left parts.1 (differ-right ks ls differ) groups.1 in (
-        all-three _ _ _ (lt-ltb _ _ (omega (arith, low, longer))) (lt-ltb _ _ high) refl,
-        all-three _ _ _ refl refl (sides-disjoint (class_columns uses B (last A)) (class_columns uses B (last B)) ks ls left_columns right.columns (differ-disjoint ks ls differ)),
+        rw (lt-ltb (last A) (length B) (omega (arith, low, longer)), lt-ltb (last B) (length B) high) refl,
+        sides-disjoint (class_columns uses B (last A)) (class_columns uses B (last B)) ks ls left_columns right.columns (differ-disjoint ks ls differ),
         formed_right,
       ))

@@ -6,7 +6,7 @@ use crate::lines::push_columns;
 use crate::plans::{columns_of, cut, number};
 use crate::tables::TABLES;
 use algebra::{Aggregation, Columns, Condition, Conjuncts, Expr, Term};
-use fixtures::{QueryReporting, Reporting, differences, query_differences};
+use fixtures::{QueryReporting, Reporting, differences, push_number, query_differences};
 use query::{Aggregate, BoundQuery, TableInstance};
 use std::alloc::{AllocError, Global};
 use store::Database;
@@ -93,7 +93,23 @@ fn expr_of(alloc: Global, text: &str) -> Result<Expr, AllocError> {
     Ok(Expr::Join(conjuncts, 0, class))
 }
 
-/// Reports the columns of an occurrence or of groups, or whether an expression is well formed.
+/// The classes whose rows it takes, how many conditions stand in each of their lists, and the classes of its inputs.
+fn push_parts(alloc: Global, reported: &mut String, expr: &Expr) -> Result<(), AllocError> {
+    let (left, right) = expr.children();
+    if let Some(class) = left {
+        push_number(reported, "left ", class)?;
+    }
+    if let Some(class) = right {
+        push_number(reported, " right ", class)?;
+    }
+    let (first, second) = expr.conditions();
+    push_number(reported, "; ", first.len())?;
+    push_number(reported, " and ", second.len())?;
+    reported.push_str(";")?;
+    push_columns(reported, expr.inputs(alloc)?.as_slice())
+}
+
+/// Reports the columns of an occurrence or of groups, the parts of an expression, or whether it is well formed.
 struct Expressions;
 
 impl QueryReporting for Expressions {
@@ -113,6 +129,9 @@ impl QueryReporting for Expressions {
         if more == "groups" {
             return push_groups(alloc, reported);
         }
+        if let Some(text) = more.strip_prefix("parts ") {
+            return push_parts(alloc, reported, &expr_of(alloc, text)?);
+        }
         let expr = expr_of(alloc, more)?;
         reported.push_str(if is_formed(alloc, uses, &expr)? {
             "formed"
@@ -128,6 +147,8 @@ fn expressions_are_well_formed(rt: HostRuntime) {
     const CASES: &str = "SELECT SUM(boss) FROM dept => columns 0 =>  0 1
 SELECT SUM(boss) FROM dept => columns 1 =>
 SELECT SUM(boss) FROM dept => groups =>  0 2
+SELECT SUM(boss) FROM dept => parts keep 1: 0 => left 1; 0 and 0; 1
+SELECT SUM(boss) FROM dept => parts join 1 => left 0 right 1; 1 and 0; 0 1
 SELECT SUM(boss) FROM dept => keep 0: 0 1 => formed
 SELECT SUM(boss) FROM dept => keep 0: 0 2 => not formed
 SELECT SUM(boss) FROM dept => keep 1: 0 1 => not formed
