@@ -45,8 +45,8 @@ abbrev pub text_layer : Condition-F (List ℕ) → List ℕ
 text_layer (Condition-F.Compare c a b) = comparison_text c ++ (codes "(" ++ (term_text a ++ (codes "," ++ (term_text b ++ codes ")"))))
 text_layer (Condition-F.IsNull a) = codes "null(" ++ (term_text a ++ codes ")")
 text_layer (Condition-F.Not c) = codes "not(" ++ (c ++ codes ")")
-text_layer (Condition-F.And cs) = codes "and(" ++ (listed cs ++ codes ")")
-text_layer (Condition-F.Or cs) = codes "or(" ++ (listed cs ++ codes ")")
+text_layer (Condition-F.And a b cs) = codes "and(" ++ (listed (a ∷ b ∷ cs) ++ codes ")")
+text_layer (Condition-F.Or a b cs) = codes "or(" ++ (listed (a ∷ b ∷ cs) ++ codes ")")
 text_layer (Condition-F.Exists g) = codes "exists(" ++ (decimal g ++ codes ")")
 text_layer (Condition-F.In a g k) = codes "in(" ++ (term_text a ++ (codes "," ++ (decimal g ++ (codes ",c" ++ (decimal k ++ codes ")")))))
 

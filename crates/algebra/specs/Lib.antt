@@ -3,5 +3,6 @@ pub mod Classes
 pub mod Columns
 pub mod Conditions
 pub mod ConjunctOrder
+pub mod Connectives
 pub mod Equality
 pub mod Expressions

@@ -21,14 +21,15 @@ pub enum Term {
     Literal(Literal),
 }
 
-/// A condition. Its subqueries are classes, whose rows are taken in the environment overlaid with the row.
+/// A condition. Its subqueries are classes, whose rows are taken in the environment overlaid with the row. AND and OR have at
+/// least two parts.
 #[derive(Drop)]
 pub enum Condition {
     Compare(Comparison, Term, Term),
     IsNull(Term),
     Not(Boxed<Condition>),
-    And(Items<Condition>),
-    Or(Items<Condition>),
+    And(Boxed<Condition>, Boxed<Condition>, Items<Condition>),
+    Or(Boxed<Condition>, Boxed<Condition>, Items<Condition>),
     /// Whether the class has a row.
     Exists(ClassId),
     /// Whether the term is among the values of a column of a class: `In(term, class, column)`.
@@ -132,8 +133,12 @@ impl Condition {
                 && b.same(t),
             (Condition::IsNull(a), Condition::IsNull(s)) => a.same(s),
             (Condition::Not(c), Condition::Not(d)) => c.get().same(d.get()),
-            (Condition::And(cs), Condition::And(ds)) => same_all(cs.as_slice(), ds.as_slice()),
-            (Condition::Or(cs), Condition::Or(ds)) => same_all(cs.as_slice(), ds.as_slice()),
+            (Condition::And(a, b, cs), Condition::And(s, t, ds)) => a.get().same(s.get())
+                && b.get().same(t.get())
+                && same_all(cs.as_slice(), ds.as_slice()),
+            (Condition::Or(a, b, cs), Condition::Or(s, t, ds)) => a.get().same(s.get())
+                && b.get().same(t.get())
+                && same_all(cs.as_slice(), ds.as_slice()),
             (Condition::Exists(g), Condition::Exists(h)) => *g == *h,
             (Condition::In(a, g, k), Condition::In(s, h, l)) => a.same(s) && *g == *h && *k == *l,
             _ => false,
@@ -151,9 +156,17 @@ impl Condition {
                 b.copy(alloc)?,
             )),
             Condition::IsNull(a) => Ok(Condition::IsNull(a.copy(alloc)?)),
-            Condition::Not(c) => Ok(Condition::Not(Boxed::new(alloc, c.get().copy(alloc)?)?)),
-            Condition::And(cs) => Ok(Condition::And(copy_all(alloc, cs.as_slice())?)),
-            Condition::Or(cs) => Ok(Condition::Or(copy_all(alloc, cs.as_slice())?)),
+            Condition::Not(c) => Ok(Condition::Not(copy_boxed(alloc, c)?)),
+            Condition::And(a, b, cs) => Ok(Condition::And(
+                copy_boxed(alloc, a)?,
+                copy_boxed(alloc, b)?,
+                copy_all(alloc, cs.as_slice())?,
+            )),
+            Condition::Or(a, b, cs) => Ok(Condition::Or(
+                copy_boxed(alloc, a)?,
+                copy_boxed(alloc, b)?,
+                copy_all(alloc, cs.as_slice())?,
+            )),
             Condition::Exists(g) => Ok(Condition::Exists(*g)),
             Condition::In(a, g, k) => Ok(Condition::In(a.copy(alloc)?, *g, *k)),
         }
@@ -173,6 +186,13 @@ fn same_all(conditions: &[Condition], others: &[Condition]) -> bool
         }
     }
     true
+}
+
+#[cycle(copy)]
+fn copy_boxed(alloc: Global, condition: &Boxed<Condition>) -> Result<Boxed<Condition>, AllocError>
+    ensures { IfOk result (λ copied. copied ≡ condition.now) }
+{
+    Boxed::new(alloc, condition.get().copy(alloc)?)
 }
 
 #[cycle(copy)]
