@@ -1,5 +1,6 @@
 pub mod BagSums
 pub mod ConditionNames
+pub mod ConjunctLists
 pub mod Equations
 pub mod Lists
 pub mod NamedClasses

@@ -1,6 +1,7 @@
 //! Conditions on rows.
 
-ghost use Rattle.std.specs.Prelude.{◌≡◌, ◌↔◌, ◌∷◌, [], IfOk, IsTrue};
+ghost use Rattle.std.specs.Prelude.{◌≡◌, ◌↔◌, [], IfOk, IsTrue};
+ghost use Rattle.algebra.specs.ConjunctOrder.{AreConjuncts};
 ghost use Rattle.algebra.specs.Equality.{same_conditions};
 
 use query::ColumnId;
@@ -36,7 +37,7 @@ pub enum Condition {
     In(Term, ClassId, ColumnId),
 }
 
-/// Conditions that must all be true.
+/// Conditions that must all be true: none is an AND, and they stand in rising order of their texts, each once.
 #[derive(Drop)]
 pub struct Conjuncts {
     conditions: Items<Condition>,
@@ -54,6 +55,10 @@ impl Model for Conjuncts {
     ghost coded = { Prim.hlevel (codes, e.the_row.coded) };
 
     ghost view = { λ c. c.conditions };
+
+    ghost use Rattle.algebra.specs.ConjunctOrder.{AreConjuncts};
+
+    ghost invariant = { λ c. AreConjuncts c.conditions };
 }
 
 impl Conjuncts {
@@ -65,22 +70,16 @@ impl Conjuncts {
         }
     }
 
-    pub fn one(alloc: Global, condition: Condition) -> Result<Conjuncts, AllocError>
-        ensures { IfOk result (λ c. c ≡ condition ∷ []) }
-    {
-        let mut conditions = Items::new(alloc);
-        conditions.push(condition)?;
-        Ok(Conjuncts { conditions })
-    }
-
-    pub fn from_items(conditions: Items<Condition>) -> Conjuncts
+    pub(crate) fn from_items(conditions: Items<Condition>) -> Conjuncts
+        requires { AreConjuncts conditions }
         ensures { result ≡ conditions }
     {
         Conjuncts { conditions }
     }
 
     pub fn as_slice(&self) -> &[Condition]
-        ensures { result.now ≡ self.now }
+        ensures conditions { result.now ≡ self.now }
+        ensures conjuncts { AreConjuncts self.now }
     {
         self.conditions.as_slice()
     }
