@@ -116,7 +116,7 @@ columns_of uses cols (Group K G x) = rising (K ++ aggregate_columns G)
 abbrev pub mentioned : (ℕ → List ℕ) → (ℕ → ColumnSet) → List Condition → ColumnSet
 mentioned cols free C c = list_any (λ d. mentions d cols free c) C
 
--- the columns of the environment that it reads: its classes' free columns, and what its conditions read but for its classes' columns
+-- what it reads of its environment: its classes' free columns, and what its conditions read but for its classes' columns
 abbrev pub free_of : (ℕ → List ℕ) → (ℕ → ColumnSet) → Expr → ColumnSet
 free_of cols free x c = list_any (λ g. free g c) (children x) || (mentioned cols free (conditions x) c && not (list_any (λ g. has (cols g) c) (children x)))
 

@@ -1,0 +1,5 @@
+pub mod Expressions
+pub mod Groups
+pub mod Mentions
+pub mod Operators
+pub mod Overlays

@@ -1,0 +1,6 @@
+//! Laws of the algebra, on which rules and facts rest. The functions do nothing: their contracts are the laws.
+#![tactic(auto)]
+
+pub mod fitting;
+
+pub use fitting::{classes_fit, conditions_read_mentions};
