@@ -1,8 +1,8 @@
 -- Conjuncts are no ANDs, stand in order, and hold where their conditions do.
-use Rattle.std.proofs.Common.{◌≡◌, refl, ap, sym, ◌∙◌, subst, Bool, true, false, ◌&&◌, List, [], ◌∷◌, ◌++◌, map}
+use Rattle.std.proofs.Common.{◌≡◌, refl, ap, sym, ◌∙◌, subst, Bool, true, false, ◌&&◌, List, [], ◌∷◌, ◌++◌, map, Ordering, Less, Equal, Greater}
 use Rattle.std.specs.List.{AllByRecursion, list_all, flat_map}
-use Rattle.std.specs.Ordering.{Ordering, Less, Equal, Greater, nat_cmp, is_lt, ordering_reverse}
-use Rattle.std.specs.Cmp.{IsTotalOrder, on}
+use Rattle.std.specs.Ordering.{on, nat_cmp, is_lt, ordering_reverse}
+use Rattle.std.specs.Cmp.{IsTotalOrder}
 use Rattle.std.specs.Cmp.Lexicographic.{slice_cmp, on_texts}
 use Rattle.std.proofs.lemmas.Bool.{cond_both}
 use Rattle.std.proofs.lemmas.List.Folds.{list_all-append}
@@ -10,7 +10,7 @@ use Rattle.std.proofs.Math.Bool.{and-true}
 use Rattle.algebra.specs.declared.condition.Condition.{Condition, roll-Condition, fold-roll-Condition, ind-Condition, map-Condition, out-Condition, roll-out-Condition}
 use Rattle.algebra.specs.declared.condition.Condition.TheOpen.{Condition-F}
 use Rattle.algebra.specs.declared.condition.Condition.TheVariants.{Compare, IsNull, Not, And, Or, Exists, In, rolls-Compare, rolls-IsNull, rolls-Not, rolls-And, rolls-Or, rolls-Exists, rolls-In}
-use Rattle.algebra.specs.Equality.{same_condition}
+use Rattle.algebra.specs.ConditionEquality.{same_condition}
 use Rattle.algebra.specs.ConjunctOrder.{condition_text, goes_before, put_in_order, in_order, Flat, flat, flat_layer, parts_of, conjuncts, IsPart, IsInOrder, AreConjuncts}
 use Rattle.algebra.proofs.Ordered.{in_order-all}
 use Rattle.algebra.proofs.Same.{equal_condition}
@@ -92,7 +92,7 @@ module _ (c : Condition) (not : (a b : Condition) (cs : List Condition) → c �
 
 -- ---- order
 
-order : Condition → Condition → Ordering
+abbrev order : Condition → Condition → Ordering
 order = on condition_text (slice_cmp nat_cmp)
 
 total : IsTotalOrder order
@@ -177,6 +177,9 @@ parts-are : (cs : List Condition) → AllByRecursion IsPart (flat_map parts_of c
 parts-are [] = tt
 parts-are (c ∷ cs) = all-append IsPart (parts_of c) _ (is-flat c).parts (parts-are cs)
 
+pub no_conjuncts : AreConjuncts []
+no_conjuncts = record { parts = tt; ordered = tt }
+
 pub are_conjuncts : (cs : List Condition) → AreConjuncts (conjuncts cs)
 are_conjuncts cs = record { parts = in_order-each IsPart (flat_map parts_of cs) (parts-are cs); ordered = ordered-all (flat_map parts_of cs) }
 
@@ -216,3 +219,6 @@ module _ (p : Condition → Bool) (and : (a b : Condition) (cs : List Condition)
 
   pub conjuncts-all : (cs : List Condition) → list_all p (conjuncts cs) ≡ list_all p cs
   conjuncts-all cs = in_order-all p (flat_map parts_of cs) ∙ flattened-all cs
+
+  pub conjuncts-one : (c : Condition) → list_all p (conjuncts (c ∷ [])) ≡ p c
+  conjuncts-one c = conjuncts-all (c ∷ []) ∙ and-true (p c)

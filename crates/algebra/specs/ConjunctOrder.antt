@@ -15,7 +15,7 @@ use Rattle.algebra.specs.declared.condition.Term.TheVariants as term
 use Rattle.algebra.specs.declared.condition.Condition.{Condition, fold-Condition}
 use Rattle.algebra.specs.declared.condition.Condition.TheOpen.{Condition-F}
 use Rattle.algebra.specs.declared.condition.Condition.TheVariants.{Compare, IsNull, Not, And, Or, Exists, In}
-use Rattle.algebra.specs.Equality.{same_condition}
+use Rattle.algebra.specs.ConditionEquality.{same_condition}
 
 -- ---- texts
 
@@ -107,7 +107,7 @@ abbrev pub IsPart : Condition → Type 0
 IsPart c = parts_of c ≡ c ∷ []
 
 -- of two conditions the later one neither goes before the other nor is the same
-pub IsInOrder : List Condition → Type 0
+abbrev pub IsInOrder : List Condition → Type 0
 IsInOrder [] = Unit {0}
 IsInOrder (c ∷ C) = AllByRecursion (λ d. (goes_before d c ≡ false) × (same_condition c d ≡ false)) C × IsInOrder C
 

@@ -1,6 +1,7 @@
 pub mod Bags
 pub mod Classes
 pub mod Columns
+pub mod ConditionEquality
 pub mod Conditions
 pub mod ConjunctOrder
 pub mod Connectives

@@ -2,7 +2,7 @@
 
 ghost use Rattle.std.specs.Prelude.{◌≡◌, ◌↔◌, [], IfOk, IsTrue};
 ghost use Rattle.algebra.specs.ConjunctOrder.{AreConjuncts};
-ghost use Rattle.algebra.specs.Equality.{same_conditions};
+ghost use Rattle.algebra.specs.ConditionEquality.{same_conditions};
 
 use query::ColumnId;
 use std::alloc::{AllocError, Global};

@@ -2,7 +2,7 @@
 
 ghost use Rattle.std.specs.Prelude.{◌≡◌, ◌++◌, flat_map, IfOk, OnOk};
 ghost use Rattle.std.specs.List.{position_or_len};
-ghost use Rattle.algebra.specs.Equality.{same_condition};
+ghost use Rattle.algebra.specs.ConditionEquality.{same_condition};
 ghost use Rattle.algebra.specs.ConjunctOrder as spec;
 
 use crate::condition::{Condition, Conjuncts};
