@@ -1,5 +1,5 @@
 -- What folds over conditions give at lists of conditions.
-use Rattle.std.proofs.Common.{◌≡◌, refl, ap, sym, ◌∙◌, ℕ, Bool, not, ◌&&◌, ◌||◌, ◌==◌, ◌<◌, ◌+◌, ◌-◌, length, take, drop, get_or, add-one, nat_lt, arith, List, [], ◌∷◌}
+use Rattle.std.proofs.Common.{◌≡◌, refl, ap, sym, ◌∙◌, ℕ, Bool, true, not, ◌&&◌, ◌||◌, ◌==◌, ◌<◌, ◌+◌, ◌-◌, length, take, drop, get_or, add-one, nat_lt, arith, List, [], ◌∷◌}
 use Rattle.std.specs.List.{list_all, list_any}
 use Rattle.std.proofs.lemmas.Bool.{le-ltb}
 use Rattle.std.proofs.lemmas.List.{take_all, length-drop}
@@ -14,21 +14,28 @@ use Rattle.algebra.specs.declared.condition.Condition.TheVariants.{And, Or, roll
 use Rattle.algebra.specs.declared.condition.Condition.TheOpen.{Condition-F}
 use Rattle.algebra.specs.Conditions.{Passes, columns_layer, all_columns, classes_layer, all_classes}
 
-pub all_columns_and : (cs : List Condition) (p : ℕ → Bool) → all_columns (And cs) p ≡ list_all (λ c. all_columns c p) cs
+pub all_columns_and : (a b : Condition) (cs : List Condition) (p : ℕ → Bool) → all_columns (And a b cs) p ≡ list_all (λ c. all_columns c p) (a ∷ b ∷ cs)
 unfolding all_columns
-all_columns_and cs p = ap (λ c. all_columns c p) (sym (rolls-And cs)) ∙ ap (λ f. f p) (fold-roll-Condition Passes columns_layer (Condition-F.And cs)) ∙ list_all-map (λ c. c p) all_columns cs
+all_columns_and a b cs p = ap (λ c. all_columns c p) (sym (rolls-And a b cs)) ∙ ap (λ f. f p) (fold-roll-Condition Passes columns_layer (Condition-F.And a b cs)) ∙ list_all-map (λ c. c p) all_columns (a ∷ b ∷ cs)
 
-pub all_columns_or : (cs : List Condition) (p : ℕ → Bool) → all_columns (Or cs) p ≡ list_all (λ c. all_columns c p) cs
+pub all_columns_or : (a b : Condition) (cs : List Condition) (p : ℕ → Bool) → all_columns (Or a b cs) p ≡ list_all (λ c. all_columns c p) (a ∷ b ∷ cs)
 unfolding all_columns
-all_columns_or cs p = ap (λ c. all_columns c p) (sym (rolls-Or cs)) ∙ ap (λ f. f p) (fold-roll-Condition Passes columns_layer (Condition-F.Or cs)) ∙ list_all-map (λ c. c p) all_columns cs
+all_columns_or a b cs p = ap (λ c. all_columns c p) (sym (rolls-Or a b cs)) ∙ ap (λ f. f p) (fold-roll-Condition Passes columns_layer (Condition-F.Or a b cs)) ∙ list_all-map (λ c. c p) all_columns (a ∷ b ∷ cs)
 
-pub all_classes_and : (cs : List Condition) (p : ℕ → Bool) → all_classes (And cs) p ≡ list_all (λ c. all_classes c p) cs
+pub all_classes_and : (a b : Condition) (cs : List Condition) (p : ℕ → Bool) → all_classes (And a b cs) p ≡ list_all (λ c. all_classes c p) (a ∷ b ∷ cs)
 unfolding all_classes
-all_classes_and cs p = ap (λ c. all_classes c p) (sym (rolls-And cs)) ∙ ap (λ f. f p) (fold-roll-Condition Passes classes_layer (Condition-F.And cs)) ∙ list_all-map (λ c. c p) all_classes cs
+all_classes_and a b cs p = ap (λ c. all_classes c p) (sym (rolls-And a b cs)) ∙ ap (λ f. f p) (fold-roll-Condition Passes classes_layer (Condition-F.And a b cs)) ∙ list_all-map (λ c. c p) all_classes (a ∷ b ∷ cs)
 
-pub all_classes_or : (cs : List Condition) (p : ℕ → Bool) → all_classes (Or cs) p ≡ list_all (λ c. all_classes c p) cs
+pub all_classes_or : (a b : Condition) (cs : List Condition) (p : ℕ → Bool) → all_classes (Or a b cs) p ≡ list_all (λ c. all_classes c p) (a ∷ b ∷ cs)
 unfolding all_classes
-all_classes_or cs p = ap (λ c. all_classes c p) (sym (rolls-Or cs)) ∙ ap (λ f. f p) (fold-roll-Condition Passes classes_layer (Condition-F.Or cs)) ∙ list_all-map (λ c. c p) all_classes cs
+all_classes_or a b cs p = ap (λ c. all_classes c p) (sym (rolls-Or a b cs)) ∙ ap (λ f. f p) (fold-roll-Condition Passes classes_layer (Condition-F.Or a b cs)) ∙ list_all-map (λ c. c p) all_classes (a ∷ b ∷ cs)
+
+-- where the first two parts pass, all do if the others do
+pub and_more : (d a b : Condition) (cs : List Condition) (p : ℕ → Bool) → d ≡ And a b cs → all_classes a p ≡ true → all_classes b p ≡ true → subqueries_pass p cs ≡ all_classes d p
+and_more d a b cs p is first second = sym (ap (λ d. all_classes d p) is ∙ all_classes_and a b cs p ∙ rw (first, second) refl)
+
+pub or_more : (d a b : Condition) (cs : List Condition) (p : ℕ → Bool) → d ≡ Or a b cs → all_classes a p ≡ true → all_classes b p ≡ true → subqueries_pass p cs ≡ all_classes d p
+or_more d a b cs p is first second = sym (ap (λ d. all_classes d p) is ∙ all_classes_or a b cs p ∙ rw (first, second) refl)
 
 -- what names no class below 0 names none
 pub plain_below : (C : List Condition) → subqueries_pass (λ g. nat_lt g 0) C ≡ is_plain C

@@ -1,5 +1,7 @@
 pub mod BagSums
 pub mod ConditionNames
+pub mod ConjunctLists
+pub mod ConnectiveParts
 pub mod Equations
 pub mod Lists
 pub mod NamedClasses

@@ -34,11 +34,11 @@ named-IsNull a = named-at (Condition-F.IsNull a) _ (rolls-IsNull a)
 pub named-Not : (c : Condition) → named_classes (Not c) ≡ named_classes c
 named-Not c = named-at (Condition-F.Not c) _ (rolls-Not c)
 
-pub named-And : (cs : List Condition) → named_classes (And cs) ≡ flat_map named_classes cs
-named-And cs = named-at (Condition-F.And cs) _ (rolls-And cs) ∙ named-parts cs
+pub named-And : (a b : Condition) (cs : List Condition) → named_classes (And a b cs) ≡ flat_map named_classes (a ∷ b ∷ cs)
+named-And a b cs = named-at (Condition-F.And a b cs) _ (rolls-And a b cs) ∙ named-parts (a ∷ b ∷ cs)
 
-pub named-Or : (cs : List Condition) → named_classes (Or cs) ≡ flat_map named_classes cs
-named-Or cs = named-at (Condition-F.Or cs) _ (rolls-Or cs) ∙ named-parts cs
+pub named-Or : (a b : Condition) (cs : List Condition) → named_classes (Or a b cs) ≡ flat_map named_classes (a ∷ b ∷ cs)
+named-Or a b cs = named-at (Condition-F.Or a b cs) _ (rolls-Or a b cs) ∙ named-parts (a ∷ b ∷ cs)
 
 pub named-Exists : (g : ℕ) → named_classes (Exists g) ≡ g ∷ []
 named-Exists g = named-at (Condition-F.Exists g) _ (rolls-Exists g)
@@ -67,8 +67,8 @@ module _ (p : ℕ → Bool) where
   layer (Condition-F.Compare op a b) = refl
   layer (Condition-F.IsNull a) = refl
   layer (Condition-F.Not c) = c.1
-  layer (Condition-F.And cs) = all-parts cs
-  layer (Condition-F.Or cs) = all-parts cs
+  layer (Condition-F.And a b cs) = all-parts (a ∷ b ∷ cs)
+  layer (Condition-F.Or a b cs) = all-parts (a ∷ b ∷ cs)
   layer (Condition-F.Exists g) = sym (and-true (p g))
   layer (Condition-F.In a g k) = sym (and-true (p g))
 

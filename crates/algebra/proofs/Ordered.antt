@@ -3,7 +3,7 @@ use Rattle.std.proofs.Common.{◌≡◌, refl, ap, sym, ◌∙◌, Bool, true, f
 use Rattle.std.specs.List.{list_all}
 use Rattle.std.proofs.lemmas.Bool.{cond_both}
 use Rattle.algebra.specs.declared.condition.Condition.{Condition}
-use Rattle.algebra.specs.Equality.{same_condition}
+use Rattle.algebra.specs.ConditionEquality.{same_condition}
 use Rattle.algebra.specs.ConjunctOrder.{goes_before, put_in_order, in_order}
 use Rattle.algebra.proofs.Same.{equal_condition}
 

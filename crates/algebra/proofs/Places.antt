@@ -4,7 +4,7 @@ use Rattle.std.proofs.lemmas.Bool.{cond_both, ltb-false}
 use Rattle.std.proofs.lemmas.List.Sums.{prefix_len-le-length}
 use Rattle.std.specs.List.{slice_get, insert, position_or_len}
 use Rattle.algebra.specs.declared.condition.Condition.{Condition}
-use Rattle.algebra.specs.Equality.{same_condition}
+use Rattle.algebra.specs.ConditionEquality.{same_condition}
 use Rattle.algebra.specs.ConjunctOrder.{goes_before, ends_search, put_in_order}
 
 there-step : (s b : Bool) (c d e : Condition) (ds rest : List Condition) (n m : ℕ) → m ≡ suc n → s ≡ same_condition c d → slice_get (d ∷ ds) (if not (s || b) then m else zero) ≡ Some e → same_condition c e ≡ true

@@ -32,8 +32,8 @@ layer : (y : Condition-F Part) → classes_layer (map-Condition Condition Passes
 layer (Condition-F.Compare op a b) none V W r = refl
 layer (Condition-F.IsNull a) none V W r = refl
 layer (Condition-F.Not p) none V W r = ap negation (p.1 none V W r)
-layer (Condition-F.And ps) none V W r = ap all_of (truths ps none V W r)
-layer (Condition-F.Or ps) none V W r = ap any_of (truths ps none V W r)
+layer (Condition-F.And a b ps) none V W r = ap all_of (truths (a ∷ b ∷ ps) none V W r)
+layer (Condition-F.Or a b ps) none V W r = ap any_of (truths (a ∷ b ∷ ps) none V W r)
 layer (Condition-F.Exists g) none V W r = cc
 layer (Condition-F.In a g k) none V W r = cc
 

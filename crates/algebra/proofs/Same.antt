@@ -10,7 +10,8 @@ use Rattle.algebra.specs.declared.expr.Expr.{Expr}
 use Rattle.algebra.specs.contracts.condition.Condition as condition
 use Rattle.algebra.specs.contracts.expr.Aggregation as aggregation
 use Rattle.algebra.specs.contracts.expr.Expr as expr
-use Rattle.algebra.specs.Equality.{same_code, same_by, same_condition, same_conditions, same_columns, same_expr, same_aggregation, same_aggregations}
+use Rattle.algebra.specs.ConditionEquality.{same_code, same_by, same_condition, same_conditions}
+use Rattle.algebra.specs.Equality.{same_columns, same_expr, same_aggregation, same_aggregations}
 
 two : (a b : Gv) {c d : Gv} → a ≡ c → b ≡ d → gcons a b ≡ gcons c d
 two a b e f = rw (e, f) refl

@@ -94,8 +94,8 @@ layer : (y : Condition-F Part) (V W : ℕ → Bag) → SameClasses (named_layer 
 layer (Condition-F.Compare op a b) V W same r = refl
 layer (Condition-F.IsNull a) V W same r = refl
 layer (Condition-F.Not p) V W same r = ap negation (p.1 V W same r)
-layer (Condition-F.And ps) V W same r = ap all_of (truths ps V W same r)
-layer (Condition-F.Or ps) V W same r = ap any_of (truths ps V W same r)
+layer (Condition-F.And a b ps) V W same r = ap all_of (truths (a ∷ b ∷ ps) V W same r)
+layer (Condition-F.Or a b ps) V W same r = ap any_of (truths (a ∷ b ∷ ps) V W same r)
 layer (Condition-F.Exists g) V W same r = ap (λ b. truth_of (not b)) (is_empty-same (V g r) (W g r) (same-first g V W same r))
 layer (Condition-F.In a g k) V W same r = any_of-same (λ s. compare by.Equal (term_value a r) (s k)) (V g r) (W g r) (same-first g V W same r)
 

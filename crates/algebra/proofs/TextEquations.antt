@@ -21,13 +21,13 @@ pub text-Not : (c : Condition) (s : List ℕ) → s ≡ condition_text c → (co
 unfolding condition_text
 text-Not c s ss = rw ss (sym (ap condition_text (sym (rolls-Not c)) ∙ fold-roll-Condition (List ℕ) text_layer (Condition-F.Not c)))
 
-pub text-And : (cs : List Condition) (s : List ℕ) → s ≡ listed (map condition_text cs) → (codes "and(" ++ (s ++ codes ")")) ≡ condition_text (And cs)
+pub text-And : (a b : Condition) (cs : List Condition) (s : List ℕ) → s ≡ listed (map condition_text (a ∷ b ∷ cs)) → (codes "and(" ++ (s ++ codes ")")) ≡ condition_text (And a b cs)
 unfolding condition_text
-text-And cs s ss = rw ss (sym (ap condition_text (sym (rolls-And cs)) ∙ fold-roll-Condition (List ℕ) text_layer (Condition-F.And cs)))
+text-And a b cs s ss = rw ss (sym (ap condition_text (sym (rolls-And a b cs)) ∙ fold-roll-Condition (List ℕ) text_layer (Condition-F.And a b cs)))
 
-pub text-Or : (cs : List Condition) (s : List ℕ) → s ≡ listed (map condition_text cs) → (codes "or(" ++ (s ++ codes ")")) ≡ condition_text (Or cs)
+pub text-Or : (a b : Condition) (cs : List Condition) (s : List ℕ) → s ≡ listed (map condition_text (a ∷ b ∷ cs)) → (codes "or(" ++ (s ++ codes ")")) ≡ condition_text (Or a b cs)
 unfolding condition_text
-text-Or cs s ss = rw ss (sym (ap condition_text (sym (rolls-Or cs)) ∙ fold-roll-Condition (List ℕ) text_layer (Condition-F.Or cs)))
+text-Or a b cs s ss = rw ss (sym (ap condition_text (sym (rolls-Or a b cs)) ∙ fold-roll-Condition (List ℕ) text_layer (Condition-F.Or a b cs)))
 
 pub text-Exists : (g : ℕ) → (codes "exists(" ++ (decimal g ++ codes ")")) ≡ condition_text (Exists g)
 unfolding condition_text

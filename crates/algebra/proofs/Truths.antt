@@ -31,13 +31,13 @@ pub truth-Not : (c : Condition) (W : ℕ → Bag) (r : Env) → truth (Not c) W 
 unfolding truth
 truth-Not c W r = ap (λ d. truth d W r) (sym (rolls-Not c)) ∙ ap (λ m. m W r) (fold-roll-Condition Meaning truth_layer (Condition-F.Not c))
 
-pub truth-And : (cs : List Condition) (W : ℕ → Bag) (r : Env) → truth (And cs) W r ≡ all_of (map (λ c. truth c W r) cs)
+pub truth-And : (a b : Condition) (cs : List Condition) (W : ℕ → Bag) (r : Env) → truth (And a b cs) W r ≡ all_of (map (λ c. truth c W r) (a ∷ b ∷ cs))
 unfolding truth
-truth-And cs W r = ap (λ d. truth d W r) (sym (rolls-And cs)) ∙ ap (λ m. m W r) (fold-roll-Condition Meaning truth_layer (Condition-F.And cs)) ∙ ap all_of (truths-map W r cs)
+truth-And a b cs W r = ap (λ d. truth d W r) (sym (rolls-And a b cs)) ∙ ap (λ m. m W r) (fold-roll-Condition Meaning truth_layer (Condition-F.And a b cs)) ∙ ap all_of (truths-map W r (a ∷ b ∷ cs))
 
-pub truth-Or : (cs : List Condition) (W : ℕ → Bag) (r : Env) → truth (Or cs) W r ≡ any_of (map (λ c. truth c W r) cs)
+pub truth-Or : (a b : Condition) (cs : List Condition) (W : ℕ → Bag) (r : Env) → truth (Or a b cs) W r ≡ any_of (map (λ c. truth c W r) (a ∷ b ∷ cs))
 unfolding truth
-truth-Or cs W r = ap (λ d. truth d W r) (sym (rolls-Or cs)) ∙ ap (λ m. m W r) (fold-roll-Condition Meaning truth_layer (Condition-F.Or cs)) ∙ ap any_of (truths-map W r cs)
+truth-Or a b cs W r = ap (λ d. truth d W r) (sym (rolls-Or a b cs)) ∙ ap (λ m. m W r) (fold-roll-Condition Meaning truth_layer (Condition-F.Or a b cs)) ∙ ap any_of (truths-map W r (a ∷ b ∷ cs))
 
 pub truth-Exists : (g : ℕ) (W : ℕ → Bag) (r : Env) → truth (Exists g) W r ≡ truth_of (not (is_empty (W g r)))
 unfolding truth

@@ -32,8 +32,8 @@ abbrev pub truth_layer : Condition-F Meaning → Meaning
 truth_layer (Condition-F.Compare c a b) W r = compare c (term_value a r) (term_value b r)
 truth_layer (Condition-F.IsNull a) W r = truth_of (is_null (term_value a r))
 truth_layer (Condition-F.Not c) W r = negation (c W r)
-truth_layer (Condition-F.And cs) W r = all_of (map (λ c. c W r) cs)
-truth_layer (Condition-F.Or cs) W r = any_of (map (λ c. c W r) cs)
+truth_layer (Condition-F.And a b cs) W r = all_of (map (λ c. c W r) (a ∷ b ∷ cs))
+truth_layer (Condition-F.Or a b cs) W r = any_of (map (λ c. c W r) (a ∷ b ∷ cs))
 truth_layer (Condition-F.Exists g) W r = truth_of (not (is_empty (W g r)))
 truth_layer (Condition-F.In a g k) W r = any_of (map (λ s. compare by.Equal (term_value a r) (s k)) (W g r))
 
@@ -66,8 +66,8 @@ abbrev pub columns_layer : Condition-F Passes → Passes
 columns_layer (Condition-F.Compare c a b) p = term_passes p a && term_passes p b
 columns_layer (Condition-F.IsNull a) p = term_passes p a
 columns_layer (Condition-F.Not c) p = c p
-columns_layer (Condition-F.And cs) p = list_all (λ c. c p) cs
-columns_layer (Condition-F.Or cs) p = list_all (λ c. c p) cs
+columns_layer (Condition-F.And a b cs) p = list_all (λ c. c p) (a ∷ b ∷ cs)
+columns_layer (Condition-F.Or a b cs) p = list_all (λ c. c p) (a ∷ b ∷ cs)
 columns_layer (Condition-F.Exists g) p = true
 columns_layer (Condition-F.In a g k) p = term_passes p a && p k
 
@@ -79,8 +79,8 @@ abbrev pub classes_layer : Condition-F Passes → Passes
 classes_layer (Condition-F.Compare c a b) p = true
 classes_layer (Condition-F.IsNull a) p = true
 classes_layer (Condition-F.Not c) p = c p
-classes_layer (Condition-F.And cs) p = list_all (λ c. c p) cs
-classes_layer (Condition-F.Or cs) p = list_all (λ c. c p) cs
+classes_layer (Condition-F.And a b cs) p = list_all (λ c. c p) (a ∷ b ∷ cs)
+classes_layer (Condition-F.Or a b cs) p = list_all (λ c. c p) (a ∷ b ∷ cs)
 classes_layer (Condition-F.Exists g) p = p g
 classes_layer (Condition-F.In a g k) p = p g
 
@@ -92,8 +92,8 @@ abbrev pub named_layer : Condition-F (List ℕ) → List ℕ
 named_layer (Condition-F.Compare c a b) = []
 named_layer (Condition-F.IsNull a) = []
 named_layer (Condition-F.Not c) = c
-named_layer (Condition-F.And cs) = flat_map (λ c. c) cs
-named_layer (Condition-F.Or cs) = flat_map (λ c. c) cs
+named_layer (Condition-F.And a b cs) = flat_map (λ c. c) (a ∷ b ∷ cs)
+named_layer (Condition-F.Or a b cs) = flat_map (λ c. c) (a ∷ b ∷ cs)
 named_layer (Condition-F.Exists g) = g ∷ []
 named_layer (Condition-F.In a g k) = g ∷ []
 
@@ -113,8 +113,8 @@ abbrev pub mentions_layer : Condition-F Mentions → Mentions
 mentions_layer (Condition-F.Compare op a b) cols free c = has (term_columns a) c || has (term_columns b) c
 mentions_layer (Condition-F.IsNull a) cols free c = has (term_columns a) c
 mentions_layer (Condition-F.Not d) cols free c = d cols free c
-mentions_layer (Condition-F.And ds) cols free c = list_any (λ d. d cols free c) ds
-mentions_layer (Condition-F.Or ds) cols free c = list_any (λ d. d cols free c) ds
+mentions_layer (Condition-F.And a b ds) cols free c = list_any (λ d. d cols free c) (a ∷ b ∷ ds)
+mentions_layer (Condition-F.Or a b ds) cols free c = list_any (λ d. d cols free c) (a ∷ b ∷ ds)
 mentions_layer (Condition-F.Exists g) cols free c = free g c
 mentions_layer (Condition-F.In a g k) cols free c = has (term_columns a) c || free g c || (k == c && not (has (cols g) k))
 

@@ -1,7 +1,8 @@
 //! Conditions on rows.
 
-ghost use Rattle.std.specs.Prelude.{◌≡◌, ◌↔◌, ◌∷◌, [], IfOk, IsTrue};
-ghost use Rattle.algebra.specs.Equality.{same_conditions};
+ghost use Rattle.std.specs.Prelude.{◌≡◌, ◌↔◌, [], IfOk, IsTrue};
+ghost use Rattle.algebra.specs.ConjunctOrder.{AreConjuncts};
+ghost use Rattle.algebra.specs.ConditionEquality.{same_conditions};
 
 use query::ColumnId;
 use std::alloc::{AllocError, Global};
@@ -21,21 +22,22 @@ pub enum Term {
     Literal(Literal),
 }
 
-/// A condition. Its subqueries are classes, whose rows are taken in the environment overlaid with the row.
+/// A condition. Its subqueries are classes, whose rows are taken in the environment overlaid with the row. AND and OR have at
+/// least two parts.
 #[derive(Drop)]
 pub enum Condition {
     Compare(Comparison, Term, Term),
     IsNull(Term),
     Not(Boxed<Condition>),
-    And(Items<Condition>),
-    Or(Items<Condition>),
+    And(Boxed<Condition>, Boxed<Condition>, Items<Condition>),
+    Or(Boxed<Condition>, Boxed<Condition>, Items<Condition>),
     /// Whether the class has a row.
     Exists(ClassId),
     /// Whether the term is among the values of a column of a class: `In(term, class, column)`.
     In(Term, ClassId, ColumnId),
 }
 
-/// Conditions that must all be true.
+/// Conditions that must all be true: none is an AND, and they stand in rising order of their texts, each once.
 #[derive(Drop)]
 pub struct Conjuncts {
     conditions: Items<Condition>,
@@ -53,6 +55,10 @@ impl Model for Conjuncts {
     ghost coded = { Prim.hlevel (codes, e.the_row.coded) };
 
     ghost view = { λ c. c.conditions };
+
+    ghost use Rattle.algebra.specs.ConjunctOrder.{AreConjuncts};
+
+    ghost invariant = { λ c. AreConjuncts c.conditions };
 }
 
 impl Conjuncts {
@@ -64,22 +70,16 @@ impl Conjuncts {
         }
     }
 
-    pub fn one(alloc: Global, condition: Condition) -> Result<Conjuncts, AllocError>
-        ensures { IfOk result (λ c. c ≡ condition ∷ []) }
-    {
-        let mut conditions = Items::new(alloc);
-        conditions.push(condition)?;
-        Ok(Conjuncts { conditions })
-    }
-
-    pub fn from_items(conditions: Items<Condition>) -> Conjuncts
+    pub(crate) fn from_items(conditions: Items<Condition>) -> Conjuncts
+        requires { AreConjuncts conditions }
         ensures { result ≡ conditions }
     {
         Conjuncts { conditions }
     }
 
     pub fn as_slice(&self) -> &[Condition]
-        ensures { result.now ≡ self.now }
+        ensures conditions { result.now ≡ self.now }
+        ensures conjuncts { AreConjuncts self.now }
     {
         self.conditions.as_slice()
     }
@@ -132,8 +132,12 @@ impl Condition {
                 && b.same(t),
             (Condition::IsNull(a), Condition::IsNull(s)) => a.same(s),
             (Condition::Not(c), Condition::Not(d)) => c.get().same(d.get()),
-            (Condition::And(cs), Condition::And(ds)) => same_all(cs.as_slice(), ds.as_slice()),
-            (Condition::Or(cs), Condition::Or(ds)) => same_all(cs.as_slice(), ds.as_slice()),
+            (Condition::And(a, b, cs), Condition::And(s, t, ds)) => a.get().same(s.get())
+                && b.get().same(t.get())
+                && same_all(cs.as_slice(), ds.as_slice()),
+            (Condition::Or(a, b, cs), Condition::Or(s, t, ds)) => a.get().same(s.get())
+                && b.get().same(t.get())
+                && same_all(cs.as_slice(), ds.as_slice()),
             (Condition::Exists(g), Condition::Exists(h)) => *g == *h,
             (Condition::In(a, g, k), Condition::In(s, h, l)) => a.same(s) && *g == *h && *k == *l,
             _ => false,
@@ -151,9 +155,17 @@ impl Condition {
                 b.copy(alloc)?,
             )),
             Condition::IsNull(a) => Ok(Condition::IsNull(a.copy(alloc)?)),
-            Condition::Not(c) => Ok(Condition::Not(Boxed::new(alloc, c.get().copy(alloc)?)?)),
-            Condition::And(cs) => Ok(Condition::And(copy_all(alloc, cs.as_slice())?)),
-            Condition::Or(cs) => Ok(Condition::Or(copy_all(alloc, cs.as_slice())?)),
+            Condition::Not(c) => Ok(Condition::Not(copy_boxed(alloc, c)?)),
+            Condition::And(a, b, cs) => Ok(Condition::And(
+                copy_boxed(alloc, a)?,
+                copy_boxed(alloc, b)?,
+                copy_all(alloc, cs.as_slice())?,
+            )),
+            Condition::Or(a, b, cs) => Ok(Condition::Or(
+                copy_boxed(alloc, a)?,
+                copy_boxed(alloc, b)?,
+                copy_all(alloc, cs.as_slice())?,
+            )),
             Condition::Exists(g) => Ok(Condition::Exists(*g)),
             Condition::In(a, g, k) => Ok(Condition::In(a.copy(alloc)?, *g, *k)),
         }
@@ -173,6 +185,13 @@ fn same_all(conditions: &[Condition], others: &[Condition]) -> bool
         }
     }
     true
+}
+
+#[cycle(copy)]
+fn copy_boxed(alloc: Global, condition: &Boxed<Condition>) -> Result<Boxed<Condition>, AllocError>
+    ensures { IfOk result (λ copied. copied ≡ condition.now) }
+{
+    Boxed::new(alloc, condition.get().copy(alloc)?)
 }
 
 #[cycle(copy)]

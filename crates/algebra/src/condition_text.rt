@@ -1,6 +1,6 @@
 //! Conditions as certificates spell them, by whose texts conjuncts are ordered.
 
-ghost use Rattle.std.specs.Prelude.{◌≡◌, map, string_bytes, IfOk};
+ghost use Rattle.std.specs.Prelude.{◌≡◌, ◌∷◌, map, string_bytes, IfOk};
 ghost use Rattle.algebra.specs.ConjunctOrder as spec;
 
 use crate::condition::{Condition, Term};
@@ -63,12 +63,16 @@ pub fn condition_text(alloc: Global, condition: &Condition) -> Result<String, Al
             let part = condition_text(alloc, part.get())?;
             format!(in alloc; "not({part})")
         }
-        Condition::And(parts) => {
-            let parts = listed(alloc, parts.as_slice())?;
+        Condition::And(a, b, more) => {
+            let a = condition_text(alloc, a.get())?;
+            let b = condition_text(alloc, b.get())?;
+            let parts = listed(alloc, a, b, more.as_slice())?;
             format!(in alloc; "and({parts})")
         }
-        Condition::Or(parts) => {
-            let parts = listed(alloc, parts.as_slice())?;
+        Condition::Or(a, b, more) => {
+            let a = condition_text(alloc, a.get())?;
+            let b = condition_text(alloc, b.get())?;
+            let parts = listed(alloc, a, b, more.as_slice())?;
             format!(in alloc; "or({parts})")
         }
         Condition::Exists(class) => format!(in alloc; "exists({class})"),
@@ -79,13 +83,20 @@ pub fn condition_text(alloc: Global, condition: &Condition) -> Result<String, Al
     }
 }
 
-/// The texts of conditions, with commas between them.
+/// Two texts and those of more conditions, with commas between them.
 #[cycle(texts)]
-fn listed(alloc: Global, conditions: &[Condition]) -> Result<String, AllocError>
-    ensures { IfOk result (λ text. string_bytes text ≡ spec.listed (map spec.condition_text conditions.now)) }
+fn listed(
+    alloc: Global,
+    first: String,
+    second: String,
+    more: &[Condition],
+) -> Result<String, AllocError>
+    ensures { IfOk result (λ text. string_bytes text ≡ spec.listed (string_bytes first ∷ string_bytes second ∷ map spec.condition_text more.now)) }
 {
     let mut texts = Vec::new(alloc);
-    for condition in conditions {
+    texts.push(first)?;
+    texts.push(second)?;
+    for condition in more {
         texts.push(condition_text(alloc, condition)?)?;
     }
     texts.as_slice().join(alloc, ",")

@@ -1,8 +1,8 @@
 //! Conjuncts in the order in which certificates spell them.
 
-ghost use Rattle.std.specs.Prelude.{◌≡◌, IfOk};
+ghost use Rattle.std.specs.Prelude.{◌≡◌, ◌++◌, flat_map, IfOk, OnOk};
 ghost use Rattle.std.specs.List.{position_or_len};
-ghost use Rattle.algebra.specs.Equality.{same_condition};
+ghost use Rattle.algebra.specs.ConditionEquality.{same_condition};
 ghost use Rattle.algebra.specs.ConjunctOrder as spec;
 
 use crate::condition::{Condition, Conjuncts};
@@ -95,25 +95,70 @@ fn put_in_order(mut order: Vec<Spelt>, new: Spelt) -> Result<Vec<Spelt>, AllocEr
     Ok(order)
 }
 
-impl Conjuncts {
-    /// The conditions in rising order of their texts, each once.
-    pub fn in_order(alloc: Global, mut conditions: Vec<Condition>) -> Result<Conjuncts, AllocError>
-        ensures { IfOk result (λ c. c ≡ spec.in_order conditions.items) }
-    {
-        let mut order = Vec::new(alloc);
-        while let Some(condition) = conditions.pop() {
-            order = put_in_order(order, Spelt::new(alloc, condition)?)?;
-        }
-        conditions_of(alloc, order)
-    }
-}
-
-fn conditions_of(alloc: Global, order: Vec<Spelt>) -> Result<Conjuncts, AllocError>
-    ensures { IfOk result (λ c. c ≡ order.items) }
+fn conditions_of(alloc: Global, order: Vec<Spelt>) -> Result<Items<Condition>, AllocError>
+    ensures { IfOk result (λ conditions. conditions ≡ order.items) }
 {
     let mut conditions = Items::new(alloc);
     for spelt in order {
         conditions.push(spelt.into_condition())?;
     }
-    Ok(Conjuncts::from_items(conditions))
+    Ok(conditions)
+}
+
+/// The conditions in rising order of their texts, each once.
+fn in_order(alloc: Global, mut conditions: Vec<Condition>) -> Result<Items<Condition>, AllocError>
+    ensures { IfOk result (λ ordered. ordered ≡ spec.in_order conditions.items) }
+{
+    let mut order = Vec::new(alloc);
+    while let Some(condition) = conditions.pop() {
+        order = put_in_order(order, Spelt::new(alloc, condition)?)?;
+    }
+    conditions_of(alloc, order)
+}
+
+/// Adds the parts of the ANDs at the top of a condition.
+#[cycle(parts)]
+fn add_parts(
+    alloc: Global,
+    condition: &Condition,
+    parts: &mut Vec<Condition>,
+) -> Result<(), AllocError>
+    ensures { OnOk result (parts.new.items ≡ parts.old.items ++ spec.parts_of condition.now) }
+{
+    match condition {
+        Condition::And(a, b, more) => {
+            add_parts(alloc, a.get(), parts)?;
+            add_parts(alloc, b.get(), parts)?;
+            add_all_parts(alloc, more.as_slice(), parts)
+        }
+        _ => {
+            parts.push(condition.copy(alloc)?)?;
+            Ok(())
+        }
+    }
+}
+
+#[cycle(parts)]
+fn add_all_parts(
+    alloc: Global,
+    conditions: &[Condition],
+    parts: &mut Vec<Condition>,
+) -> Result<(), AllocError>
+    ensures { OnOk result (parts.new.items ≡ parts.old.items ++ flat_map spec.parts_of conditions.now) }
+{
+    for condition in conditions {
+        add_parts(alloc, condition, parts)?;
+    }
+    Ok(())
+}
+
+impl Conjuncts {
+    /// The conjuncts of conditions: the parts of the ANDs at their tops, in rising order of their texts, each once.
+    pub fn of(alloc: Global, conditions: &[Condition]) -> Result<Conjuncts, AllocError>
+        ensures { IfOk result (λ c. c ≡ spec.conjuncts conditions.now) }
+    {
+        let mut parts = Vec::new(alloc);
+        add_all_parts(alloc, conditions, &mut parts)?;
+        Ok(Conjuncts::from_items(in_order(alloc, parts)?))
+    }
 }

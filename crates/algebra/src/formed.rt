@@ -62,8 +62,18 @@ fn names_own(condition: &Condition, uses: &[TableInstance], own: &[Aggregation])
         Condition::Compare(_, a, b) => term_names_own(a, uses, own) && term_names_own(b, uses, own),
         Condition::IsNull(a) => term_names_own(a, uses, own),
         Condition::Not(c) => names_own(c.get(), uses, own),
-        Condition::And(cs) => all_name_own(cs.as_slice(), uses, own),
-        Condition::Or(cs) => all_name_own(cs.as_slice(), uses, own),
+        Condition::And(a, b, cs) => {
+            let first = names_own(a.get(), uses, own);
+            let second = names_own(b.get(), uses, own);
+            let more = all_name_own(cs.as_slice(), uses, own);
+            first && (second && more)
+        }
+        Condition::Or(a, b, cs) => {
+            let first = names_own(a.get(), uses, own);
+            let second = names_own(b.get(), uses, own);
+            let more = all_name_own(cs.as_slice(), uses, own);
+            first && (second && more)
+        }
         Condition::Exists(_) => true,
         Condition::In(a, _, k) => term_names_own(a, uses, own) && is_query_column(uses, own, *k),
     }
@@ -91,8 +101,18 @@ fn names_below(condition: &Condition, bound: usize) -> bool
         Condition::Compare(_, _, _) => true,
         Condition::IsNull(_) => true,
         Condition::Not(c) => names_below(c.get(), bound),
-        Condition::And(cs) => all_name_below(cs.as_slice(), bound),
-        Condition::Or(cs) => all_name_below(cs.as_slice(), bound),
+        Condition::And(a, b, cs) => {
+            let first = names_below(a.get(), bound);
+            let second = names_below(b.get(), bound);
+            let more = all_name_below(cs.as_slice(), bound);
+            first && (second && more)
+        }
+        Condition::Or(a, b, cs) => {
+            let first = names_below(a.get(), bound);
+            let second = names_below(b.get(), bound);
+            let more = all_name_below(cs.as_slice(), bound);
+            first && (second && more)
+        }
         Condition::Exists(g) => *g < bound,
         Condition::In(_, g, _) => *g < bound,
     }

@@ -9,6 +9,7 @@ pub mod columns;
 pub mod condition;
 pub mod condition_text;
 mod conjunct_order;
+mod connectives;
 pub mod expr;
 pub mod formed;
 mod named_classes;

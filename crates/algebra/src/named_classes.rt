@@ -18,8 +18,16 @@ fn add_classes(condition: &Condition, classes: &mut Vec<usize>) -> Result<(), Al
         Condition::Compare(_, _, _) => Ok(()),
         Condition::IsNull(_) => Ok(()),
         Condition::Not(part) => add_classes(part.get(), classes),
-        Condition::And(parts) => add_all_classes(parts.as_slice(), classes),
-        Condition::Or(parts) => add_all_classes(parts.as_slice(), classes),
+        Condition::And(a, b, more) => {
+            add_classes(a.get(), classes)?;
+            add_classes(b.get(), classes)?;
+            add_all_classes(more.as_slice(), classes)
+        }
+        Condition::Or(a, b, more) => {
+            add_classes(a.get(), classes)?;
+            add_classes(b.get(), classes)?;
+            add_all_classes(more.as_slice(), classes)
+        }
         Condition::Exists(class) => {
             classes.push(*class)?;
             Ok(())

@@ -11,7 +11,7 @@ use Rattle.algebra.specs.declared.expr.Expr.TheVariants.{Get, Select, Join, Left
 use Rattle.algebra.specs.Columns.{has, rising}
 use Rattle.algebra.specs.Bags.{SameBag, join, left_join, distinct}
 use Rattle.algebra.specs.Conditions.{holds, classes_in}
-use Rattle.algebra.specs.Equality.{same_conditions}
+use Rattle.algebra.specs.ConditionEquality.{same_conditions}
 use Rattle.algebra.specs.Expressions.{Classes, means, columns_of, is_formed, is_plain, input_classes, get_columns, get_rows}
 use Rattle.algebra.proofs.Plain.{plain_holds}
 use Rattle.algebra.proofs.Same.{equal_conditions, equal_columns, equal_aggregations}

@@ -13,7 +13,8 @@ use Rattle.query.specs.Bound.{IsBoundOver}
 use Rattle.query.specs.Answer.{IsAnswer}
 use Rattle.algebra.specs.declared.expr.Expr.{Expr}
 use Rattle.algebra.specs.declared.expr.Expr.TheVariants.{Get, Select, Join, LeftJoin, Keep, Distinct, Group}
-use Rattle.algebra.specs.Equality.{same_conditions, same_columns, same_aggregations, same_expr, same_by}
+use Rattle.algebra.specs.ConditionEquality.{same_conditions, same_by}
+use Rattle.algebra.specs.Equality.{same_columns, same_aggregations, same_expr}
 use Rattle.algebra.specs.Expressions.{classes_pass, input_classes, is_plain, is_formed}
 use Rattle.algebra.specs.Classes.{class_columns}
 use Rattle.logical.specs.Frames.{query_frame}

@@ -64,8 +64,8 @@ module _ (W : Classes) (fits : AreFitting W) where
       two (compare op) (term-same a r s (λ k in_. on k (or_left _ _ in_))) (term-same b r s (λ k in_. on k (or_right (has (term_columns a) k) _ in_)))
   layer (Condition-F.IsNull a) r s on = ap (λ v. truth_of (is_null v)) (term-same a r s on)
   layer (Condition-F.Not p) r s on = ap negation (p.1 r s on)
-  layer (Condition-F.And ps) r s on = ap all_of (truths ps r s on)
-  layer (Condition-F.Or ps) r s on = ap any_of (truths ps r s on)
+  layer (Condition-F.And p q ps) r s on = ap all_of (truths (p ∷ q ∷ ps) r s on)
+  layer (Condition-F.Or p q ps) r s on = ap any_of (truths (p ∷ q ∷ ps) r s on)
   layer (Condition-F.Exists g) r s on =
       ap (λ b. truth_of (not b)) (sym (by_rows (has (W.columns g)) (W.free g) (W.rows g) (fits g) r s on is_empty is_empty (empty-map _ _)))
   layer (Condition-F.In a g k) r s on =

@@ -30,7 +30,7 @@ use Rattle.logical.proofs.FrameGroups.{place-has, key-has, key-below}
 use Rattle.logical.proofs.FrameShapes.{end-grows, FromShape, CondShape, WhereShape, BoundParts, cond-shape, from-shape, where-shape, bound-parts}
 use Rattle.logical.proofs.Growth.{grows-none, grows-longer, grows-some, top-columns, last-below}
 use Rattle.logical.proofs.Induction.{OfFilter}
-use Rattle.algebra.proofs.Ordered.{in_order-all}
+use Rattle.algebra.proofs.ConnectiveParts.{conjuncts-columns, conjuncts-classes}
 use Rattle.algebra.proofs.Puts.{differ-left, differ-right}
 use Rattle.algebra.proofs.Same.{equal_aggregation}
 use Rattle.algebra.proofs.Sets.{has-rising}
@@ -118,8 +118,8 @@ module _ (uses : List TableInstance) (own : List Aggregation) where
       let below : last A < length A = last-below A some in
       let longer : length A ≤ length framed.lines = grows-longer framed.lines A shape.grows in
       let p : ℕ → Bool = λ g. nat_lt g (length framed.lines) in (
-        rw (lt-ltb (last A) (length framed.lines) (omega (arith, below, longer)), in_order-all (λ d. all_classes d p) framed.conjuncts ∙ shape.conjuncts p (λ g low lt. lt-ltb _ _ lt)) refl,
-        and_from _ _ (in_order-all (λ d. all_columns d (is_query_column uses own)) framed.conjuncts ∙ test.conjuncts) refl,
+        rw (lt-ltb (last A) (length framed.lines) (omega (arith, below, longer)), conjuncts-classes framed.condition p ∙ shape.named p (λ g low lt. lt-ltb _ _ lt)) refl,
+        and_from _ _ (conjuncts-columns framed.condition (is_query_column uses own) ∙ test.named) refl,
         test.lines,
       )
 

@@ -18,13 +18,12 @@ use Rattle.algebra.specs.Columns.{has, are_disjoint}
 use Rattle.algebra.specs.Conditions.{all_classes, all_columns}
 use Rattle.algebra.specs.Expressions.{classes_pass, is_formed, is_query_column, is_plain, sides_formed, names_own, subqueries_pass}
 use Rattle.algebra.specs.Classes.{class_columns, AreFormed}
-use Rattle.algebra.specs.ConjunctOrder.{in_order}
-use Rattle.logical.specs.Frames.{CondLines, FromFrame, cond_frame, from_frame, join_frame, last}
+use Rattle.logical.specs.Frames.{conjuncts_of, CondLines, FromFrame, cond_frame, from_frame, join_frame, last}
 use Rattle.logical.proofs.FormedParts.{AreOwn, AllOwn, GroupsOwn, groups-before, FormedCond, CondFormed, FromFormed}
 use Rattle.logical.proofs.FrameEquations.{frame-Table, frame-Join, frame-LeftJoin, frame-Comma}
 use Rattle.logical.proofs.FrameShapes.{FromShape, Sides, JoinParts, left_of, on_of, from-shape, join-sides, join-parts}
 use Rattle.logical.proofs.Growth.{grows-longer, kept-columns, last-below}
-use Rattle.algebra.proofs.Ordered.{in_order-all}
+use Rattle.algebra.proofs.ConnectiveParts.{conjuncts-columns, conjuncts-classes}
 use Rattle.algebra.proofs.Puts.{AreDisjoint, differ-left, differ-right, differ-disjoint}
 
 -- what holds of each column of a list
@@ -76,12 +75,12 @@ module _ (uses : List TableInstance) (own : List Aggregation) where
         let longer : length lines ≤ length framed.lines = grows-longer framed.lines lines sides.test.grows in
         let below : last A < length A = last-below A sides.left.some in
         let same : framed.lines ≡ lines = sides.test.plain parts.plain in
-        let C : List Condition = in_order framed.conjuncts in
+        let C : List Condition = conjuncts_of framed in
         let earlier : subqueries_pass (λ g. nat_lt g (length framed.lines)) C ≡ true =
-        in_order-all (λ d. all_classes d (λ g. nat_lt g (length framed.lines))) framed.conjuncts ∙ sides.test.conjuncts (λ g. nat_lt g (length framed.lines)) (λ g low lt. lt-ltb _ _ lt) in
+        conjuncts-classes framed.condition (λ g. nat_lt g (length framed.lines)) ∙ sides.test.named (λ g. nat_lt g (length framed.lines)) (λ g low lt. lt-ltb _ _ lt) in
         let plain : is_plain C ≡ true =
-        in_order-all (λ d. all_classes d (λ g. false)) framed.conjuncts ∙ sides.test.conjuncts (λ g. false) (λ g low lt. absurd (let none : length framed.lines ≡ length lines = ap length same in omega (arith, low, lt, none))) in
-        let own_columns : names_own uses own C ≡ true = in_order-all (λ d. all_columns d (is_query_column uses own)) framed.conjuncts ∙ test.conjuncts in (
+        conjuncts-classes framed.condition (λ g. false) ∙ sides.test.named (λ g. false) (λ g low lt. absurd (let none : length framed.lines ≡ length lines = ap length same in omega (arith, low, lt, none))) in
+        let own_columns : names_own uses own C ≡ true = conjuncts-columns framed.condition (is_query_column uses own) ∙ test.named in (
           names (λ g. nat_lt g (length framed.lines)) C (last A) (length A) ∙ rw (lt-ltb (last A) (length framed.lines) (omega (arith, below, longer)), lt-ltb (length A) (length framed.lines) (omega (arith, longer)), earlier) refl,
           needs cols C (last A) (length A) ∙ and_from _ _ own_columns (and_from _ _ plain (sides-disjoint (cols (last A)) (cols (length A)) ks ls sides.left_columns sides.right_columns (differ-disjoint ks ls differ))),
           test.lines,

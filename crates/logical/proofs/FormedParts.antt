@@ -71,12 +71,10 @@ module _ (uses : List TableInstance) (own : List Aggregation) where
   pub record FormedCond (f : CondLines) : Type 0 where
     pub lines : AreFormed uses own f.lines
     pub named : all_columns f.condition (is_query_column uses own) ≡ true
-    pub conjuncts : names_own uses own f.conjuncts ≡ true
 
   pub record FormedAll (f : AllLines) : Type 0 where
     pub lines : AreFormed uses own f.lines
     pub named : names_own uses own f.conditions ≡ true
-    pub conjuncts : names_own uses own f.conjuncts ≡ true
 
   -- of a block: it shows the query's own columns
   pub record FormedBlock (f : BlockFrame) (scope : Scope) (E : List Expr) : Type 0 where

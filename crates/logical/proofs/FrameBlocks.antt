@@ -11,6 +11,7 @@ use Rattle.query.specs.declared.query.Cond.{Cond}
 use Rattle.query.specs.declared.query.Block.{Block}
 use Rattle.query.specs.Rows as rows
 use Rattle.query.specs.Rows.{Tables, IsFitting}
+use Rattle.values.specs.Truth.{is_true}
 use Rattle.query.specs.Meaning as query
 use Rattle.query.specs.Meaning.{item_of_row, item_of_group, all_shown, passes_filter, source}
 use Rattle.query.specs.Bound.{Scope, bound_filter, bound_items, aggregate_numbers, all_differ, number_at, cond_scope, from_scope}
@@ -24,8 +25,7 @@ use Rattle.algebra.specs.Bags.{Env, lay, distinct_on}
 use Rattle.algebra.specs.Conditions.{holds}
 use Rattle.algebra.specs.Expressions.{with_aggregates}
 use Rattle.algebra.specs.Classes.{class_rows, class_columns}
-use Rattle.algebra.specs.ConjunctOrder.{in_order}
-use Rattle.logical.specs.Frames.{CondLines, cond_frame, from_frame, where_lines, group_lines, keep_lines, distinct_lines, aggregations, item_number, own_numbers, last}
+use Rattle.logical.specs.Frames.{conjuncts_of, CondLines, cond_frame, from_frame, where_lines, group_lines, keep_lines, distinct_lines, aggregations, item_number, own_numbers, last}
 use Rattle.logical.proofs.FrameEquations.{frame-Block}
 use Rattle.logical.proofs.FrameGroups.{plain-items, group-items, group-keyed, groups-keyed, with_key, first_rows}
 use Rattle.logical.proofs.FrameRight.{CondRight, FromRight, CondMeans, FromMeans, BlockMeans, block-right, last_rows}
@@ -33,7 +33,7 @@ use Rattle.logical.proofs.FrameShapes.{FromShape, BoundParts, cond-shape, from-s
 use Rattle.logical.proofs.Growth.{grows-none, kept-rows, top-rows, top-columns, last-below}
 use Rattle.logical.proofs.Induction.{OfFilter}
 use Rattle.algebra.proofs.Lists.{through, all-filter, all-distinct}
-use Rattle.algebra.proofs.Ordered.{in_order-all}
+use Rattle.algebra.proofs.ConnectiveParts.{conjuncts-hold}
 use Rattle.algebra.proofs.Puts.{put, Agrees, IsNew, agrees-put, new-right}
 use Rattle.logical.proofs.Shown.{Reads, shows, shows-once}
 
@@ -51,11 +51,11 @@ module _ (uses : List TableInstance) (D : Tables) (fits : IsFitting D) where
   where-right (Some c) means inner A some ρ e g width L is bound agrees wide =
       let framed : CondLines = cond_frame uses c inner A in
       let right : CondRight uses D framed (cond_scope uses c) (λ ρ. query.truth c D ρ) inner = means inner A in
-      let test : Env → Bool = holds (class_rows uses D framed.lines) (in_order framed.conjuncts) in
-      top-rows uses D (Select (in_order framed.conjuncts) (last A)) framed.lines e
+      let test : Env → Bool = holds (class_rows uses D framed.lines) (conjuncts_of framed) in
+      top-rows uses D (Select (conjuncts_of framed) (last A)) framed.lines e
       ∙ ap (filter test) (kept-rows uses D framed.lines A (last A) e (cond-shape uses c inner A).grows (last-below A some) ∙ is)
       ∙ through (λ s. length s ≡ width) g test (passes_filter (Some (query.truth c)) D ρ) L
-      (λ s w. in_order-all _ framed.conjuncts ∙ right.holds framed.lines (s ∷ ρ) (g s) (grows-none framed.lines) bound (agrees s w)) wide
+      (λ s w. conjuncts-hold framed.condition _ _ ∙ ap is_true (right.truth framed.lines (s ∷ ρ) (g s) (grows-none framed.lines) bound (agrees s w))) wide
 
   -- ---- the last lines, over rows that read as they show
 

@@ -14,6 +14,7 @@ use Rattle.query.specs.declared.query.From.{From}
 use Rattle.query.specs.declared.query.From.TheVariants as from
 use Rattle.query.specs.Rows as rows
 use Rattle.query.specs.Rows.{Tables, IsFitting}
+use Rattle.values.specs.Truth.{is_true}
 use Rattle.query.specs.Meaning as query
 use Rattle.query.specs.Meaning.{from_width, pairs_of, passes, source, or_else_row}
 use Rattle.query.specs.Bound.{Scope, is_use_of, is_used, numbers_of_use, use_numbers, cond_scope, from_scope, join_scope}
@@ -28,14 +29,13 @@ use Rattle.algebra.specs.Bags.{Env, lay, nulls, matches}
 use Rattle.algebra.specs.Conditions.{holds}
 use Rattle.algebra.specs.Expressions.{means, use_columns, use_row, get_rows}
 use Rattle.algebra.specs.Classes.{class_rows, class_columns, classes}
-use Rattle.algebra.specs.ConjunctOrder.{in_order}
-use Rattle.logical.specs.Frames.{AreOver, cond_frame, from_frame, join_frame, last}
+use Rattle.logical.specs.Frames.{conjuncts_of, AreOver, cond_frame, from_frame, join_frame, last}
 use Rattle.logical.proofs.FrameEquations.{frame-Table, frame-Join, frame-LeftJoin, frame-Comma}
 use Rattle.logical.proofs.FrameRight.{FromRight, CondMeans, FromMeans, from-right}
 use Rattle.logical.proofs.FrameShapes.{FromShape, Sides, JoinParts, from-shape, join-sides, join-parts, table-columns}
 use Rattle.logical.proofs.Growth.{Grows, grows-none, grows-one, kept-rows, top-rows, top-columns, last-below}
 use Rattle.algebra.proofs.Lists.{two, map-same, through, loops, all-map}
-use Rattle.algebra.proofs.Ordered.{in_order-all}
+use Rattle.algebra.proofs.ConnectiveParts.{conjuncts-hold}
 use Rattle.algebra.proofs.Puts.{put, pointwise, AreDisjoint, Agrees, IsNew, lay-put, lay-nulls, use-put, agrees-put, differ-disjoint, new-left, new-right}
 
 -- ---- pairs of rows
@@ -122,7 +122,7 @@ module _ (uses : List TableInstance) (D : Tables) (fits : IsFitting D) (over : A
     inner = (ks ++ ls) ∷ scope
 
     abbrev conjuncts : List Condition
-    conjuncts = in_order (cond_frame uses on inner lines).conjuncts
+    conjuncts = conjuncts_of (cond_frame uses on inner lines)
 
     abbrev Bound : Type 0
     Bound = JoinParts uses f o on scope
@@ -130,8 +130,8 @@ module _ (uses : List TableInstance) (D : Tables) (fits : IsFitting D) (over : A
     on-passes : (ρ : List Row) (e : Env) → Bound → IsNew (ks ++ ls) scope → Agrees scope ρ e → (z : Row) → length z ≡ length ks + length ls
         → holds (class_rows uses D lines) conjuncts (put (ks ++ ls) z e) ≡ passes (query.truth on) D ρ z
     on-passes ρ e bound new agree z wide =
-        in_order-all _ (cond_frame uses on inner lines).conjuncts
-        ∙ (on_means inner lines).holds lines (z ∷ ρ) (put (ks ++ ls) z e) (subst (λ L. Grows lines L) (sym (shape.test.plain bound.plain)) (grows-none lines)) bound.test (agrees-put (ks ++ ls) z e scope ρ new (wide ∙ sym (length-append ks ls)) agree)
+        conjuncts-hold (cond_frame uses on inner lines).condition _ _
+        ∙ ap is_true ((on_means inner lines).truth lines (z ∷ ρ) (put (ks ++ ls) z e) (subst (λ L. Grows lines L) (sym (shape.test.plain bound.plain)) (grows-none lines)) bound.test (agrees-put (ks ++ ls) z e scope ρ new (wide ∙ sym (length-append ks ls)) agree))
 
     left-rows : (ρ : List Row) (e : Env) → Bound → IsNew (ks ++ ls) scope → Agrees scope ρ e → class_rows uses D lines (last left_lines) e ≡ map (λ s. put ks s e) (source f D ρ)
     left-rows ρ e bound new agree = kept-rows uses D lines left_lines _ e (grows-one _ left_lines) (last-below left_lines shape.left.some) ∙ left.rows ρ e bound.left (new-left ks ls scope new) agree

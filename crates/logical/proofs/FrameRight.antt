@@ -2,7 +2,6 @@
 use Rattle.std.proofs.Common.{◌≡◌, ap, sym, ◌∙◌, ℕ, true, List, map, length}
 use Rattle.std.specs.List.{list_all}
 use Rattle.values.specs.declared.truth.Truth.{Truth}
-use Rattle.values.specs.Truth.{is_true}
 use Rattle.schema.specs.Databases.{Row}
 use Rattle.query.specs.declared.query.TableInstance.{TableInstance}
 use Rattle.query.specs.declared.query.Cond.{Cond}
@@ -14,7 +13,7 @@ use Rattle.query.specs.Meaning.{from_width}
 use Rattle.query.specs.Bound.{Scope, CondScope, FromScope, BlockScope, cond_scope, from_scope, block_scope}
 use Rattle.algebra.specs.declared.expr.Expr.{Expr}
 use Rattle.algebra.specs.Bags.{Env}
-use Rattle.algebra.specs.Conditions.{truth, holds}
+use Rattle.algebra.specs.Conditions.{truth}
 use Rattle.algebra.specs.Classes.{class_rows}
 use Rattle.logical.specs.Frames.{CondLines, AllLines, FromFrame, BlockFrame, cond_frame, from_frame, block_frame, last}
 use Rattle.logical.proofs.Growth.{Grows}
@@ -28,14 +27,11 @@ module _ (uses : List TableInstance) (D : Tables) where
   -- what a condition became is at an environment what the condition is of the rows that it agrees with
   pub record CondRight (f : CondLines) (s : CondScope) (m : List Row → Truth) (scope : Scope) : Type 0 where
     pub truth : (F : List Expr) (ρ : List Row) (e : Env) → Grows F f.lines → s.bound scope ≡ true → Agrees scope ρ e → Rattle.algebra.specs.Conditions.truth f.condition (class_rows uses D F) e ≡ m ρ
-    pub holds : (F : List Expr) (ρ : List Row) (e : Env) → Grows F f.lines → s.bound scope ≡ true → Agrees scope ρ e → Rattle.algebra.specs.Conditions.holds (class_rows uses D F) f.conjuncts e ≡ is_true (m ρ)
 
   -- the same of a list of conditions
   pub record AllRight (f : AllLines) (cs : List Cond) (scope : Scope) : Type 0 where
     pub truths : (F : List Expr) (ρ : List Row) (e : Env) → Grows F f.lines → list_all (λ s. s.bound scope) (map (cond_scope uses) cs) ≡ true → Agrees scope ρ e
         → map (λ c. Rattle.algebra.specs.Conditions.truth c (class_rows uses D F) e) f.conditions ≡ map (λ c. query.truth c D ρ) cs
-    pub holds : (F : List Expr) (ρ : List Row) (e : Env) → Grows F f.lines → list_all (λ s. s.bound scope) (map (cond_scope uses) cs) ≡ true → Agrees scope ρ e
-        → Rattle.algebra.specs.Conditions.holds (class_rows uses D F) f.conjuncts e ≡ list_all is_true (map (λ c. query.truth c D ρ) cs)
 
   -- the last class of a FROM's lines has its rows, put into its columns
   pub record FromRight (f : FromFrame) (s : FromScope) (m : List Row → List Row) (w : ℕ) (scope : Scope) (E : List Expr) : Type 0 where
@@ -57,10 +53,7 @@ module _ (uses : List TableInstance) (D : Tables) where
 
   -- the meaning may be said in other words
   pub cond-right : (f g : CondLines) (s t : CondScope) (m n : List Row → Truth) (scope : Scope) → f ≡ g → s ≡ t → ((ρ : List Row) → m ρ ≡ n ρ) → CondRight g t n scope → CondRight f s m scope
-  cond-right f g s t m n scope is as_ same right = rw (is, as_) (record {
-    truth = λ F ρ e grows bound agree. right.truth F ρ e grows bound agree ∙ sym (same ρ);
-    holds = λ F ρ e grows bound agree. right.holds F ρ e grows bound agree ∙ ap is_true (sym (same ρ));
-  })
+  cond-right f g s t m n scope is as_ same right = rw (is, as_) (record { truth = λ F ρ e grows bound agree. right.truth F ρ e grows bound agree ∙ sym (same ρ) })
 
   pub from-right : (f g : FromFrame) (s t : FromScope) (m n : List Row → List Row) (v w : ℕ) (scope : Scope) (E : List Expr) → f ≡ g → s ≡ t → ((ρ : List Row) → m ρ ≡ n ρ) → v ≡ w → FromRight g t n w scope E → FromRight f s m v scope E
   from-right f g s t m n v w scope E is as_ same wide right = rw (is, as_, wide) (record {

@@ -23,10 +23,9 @@ use Rattle.algebra.specs.Columns.{has, rising}
 use Rattle.algebra.specs.Conditions.{all_classes}
 use Rattle.algebra.specs.Expressions.{columns_of, use_columns, get_columns, subqueries_pass}
 use Rattle.algebra.specs.Classes.{class_columns}
-use Rattle.algebra.specs.ConjunctOrder.{in_order}
-use Rattle.logical.specs.Frames.{CondLines, AllLines, FromFrame, BlockFrame, cond_frame, from_frame, block_frame, join_frame, on_lines, all_frames, alone, numbered, item_number, where_lines, group_lines, keep_lines, distinct_lines, last}
+use Rattle.logical.specs.Frames.{CondLines, AllLines, conjuncts_of, FromFrame, BlockFrame, cond_frame, from_frame, block_frame, join_frame, on_lines, all_frames, framed_as, numbered, item_number, where_lines, group_lines, keep_lines, distinct_lines, last}
 use Rattle.algebra.proofs.ConditionNames.{classes-Compare, classes-IsNull, classes-Not, classes-Exists, classes-In}
-use Rattle.algebra.proofs.Equations.{all_classes_and, all_classes_or}
+use Rattle.algebra.proofs.ConnectiveParts.{classes-and_of, classes-or_of}
 use Rattle.logical.proofs.FrameEquations.{frame-Compare, frame-IsNull, frame-Not, frame-And, frame-Or, frame-Exists, frame-In, frame-Table, frame-Join, frame-LeftJoin, frame-Comma, frame-Block}
 use Rattle.logical.proofs.Growth.{Grows, grows-none, grows-one, grows-more, grows-longer, kept-columns, top-columns, last-below, last-is}
 use Rattle.logical.proofs.Induction.{Steps, OfFilter, each-cond, each-from, each-block}
@@ -77,14 +76,12 @@ module _ (uses : List TableInstance) where
     pub grows : Grows f.lines E
     pub plain : s.plain ≡ true → f.lines ≡ E
     pub named : (p : ℕ → Bool) → PassesAdded p E f.lines → all_classes f.condition p ≡ true
-    pub conjuncts : (p : ℕ → Bool) → PassesAdded p E f.lines → subqueries_pass p f.conjuncts ≡ true
 
   -- the same of a list of conditions
   pub record AllShape (f : AllLines) (cs : List Cond) (E : List Expr) : Type 0 where
     pub grows : Grows f.lines E
     pub plain : list_all (λ s. s.plain) (map (cond_scope uses) cs) ≡ true → f.lines ≡ E
     pub named : (p : ℕ → Bool) → PassesAdded p E f.lines → subqueries_pass p f.conditions ≡ true
-    pub conjuncts : (p : ℕ → Bool) → PassesAdded p E f.lines → subqueries_pass p f.conjuncts ≡ true
 
   -- of a FROM: its last class has its columns, each of a table instance
   pub record FromShape (f : FromFrame) (s : FromScope) (scope : Scope) (E : List Expr) : Type 0 where
@@ -114,33 +111,27 @@ module _ (uses : List TableInstance) where
   cond-as : (f g : CondLines) (s t : CondScope) (E : List Expr) → f ≡ g → s ≡ t → CondShape g t E → CondShape f s E
   cond-as f g s t E is as_ shape = rw (is, as_) shape
 
-  -- a condition that is no AND
-  alone-shape : (c : Condition) (lines : List Expr) (s : CondScope) (E : List Expr) → Grows lines E → (s.plain ≡ true → lines ≡ E) → ((p : ℕ → Bool) → PassesAdded p E lines → all_classes c p ≡ true) → CondShape (alone c lines) s E
-  alone-shape c lines s E grows plain named = record {
-    grows = grows;
-    plain = plain;
-    named = named;
-    conjuncts = λ p pass. and_from _ _ (named p pass) refl;
-  }
+  framed-shape : (c : Condition) (lines : List Expr) (s : CondScope) (E : List Expr) → Grows lines E → (s.plain ≡ true → lines ≡ E) → ((p : ℕ → Bool) → PassesAdded p E lines → all_classes c p ≡ true) → CondShape (framed_as c lines) s E
+  framed-shape c lines s E grows plain named = record { grows = grows; plain = plain; named = named }
 
   shape-Compare : (op : Comparison) (a b : Term) → CondShaped (cond.Compare op a b)
   shape-Compare op a b scope E =
       cond-as _ _ _ _ E (ap (λ f. f scope E) (frame-Compare uses op a b)) (scope-Compare uses op a b)
-      (alone-shape _ E _ E (grows-none E) (λ h. refl) (λ p pass. classes-Compare op (numbered scope a) (numbered scope b) p))
+      (framed-shape _ E _ E (grows-none E) (λ h. refl) (λ p pass. classes-Compare op (numbered scope a) (numbered scope b) p))
 
   shape-IsNull : (a : Term) → CondShaped (cond.IsNull a)
   shape-IsNull a scope E =
       cond-as _ _ _ _ E (ap (λ f. f scope E) (frame-IsNull uses a)) (scope-IsNull uses a)
-      (alone-shape _ E _ E (grows-none E) (λ h. refl) (λ p pass. classes-IsNull (numbered scope a) p))
+      (framed-shape _ E _ E (grows-none E) (λ h. refl) (λ p pass. classes-IsNull (numbered scope a) p))
 
   shape-Not : (c : Cond) → CondShaped c → CondShaped (cond.Not c)
   shape-Not c has_shape scope E =
       let part = has_shape scope E in
       cond-as _ _ _ _ E (ap (λ f. f scope E) (frame-Not uses c)) (scope-Not uses c)
-      (alone-shape _ _ _ E part.grows part.plain (λ p pass. classes-Not (cond_frame uses c scope E).condition p ∙ part.named p pass))
+      (framed-shape _ _ _ E part.grows part.plain (λ p pass. classes-Not (cond_frame uses c scope E).condition p ∙ part.named p pass))
 
   all-shape : (cs : List Cond) → AllByRecursion CondShaped cs → (scope : Scope) (E : List Expr) → AllShape (all_frames (map (cond_frame uses) cs) scope E) cs E
-  all-shape [] have scope E = record { grows = grows-none E; plain = λ h. refl; named = λ p pass. refl; conjuncts = λ p pass. refl }
+  all-shape [] have scope E = record { grows = grows-none E; plain = λ h. refl; named = λ p pass. refl }
   all-shape (c ∷ cs) have scope E =
       let framed : CondLines = cond_frame uses c scope E in
       let others : AllLines = all_frames (map (cond_frame uses) cs) scope framed.lines in
@@ -152,21 +143,18 @@ module _ (uses : List TableInstance) where
         grows = grows-more _ framed.lines E rest.grows first.grows;
         plain = λ h. let parts = and_parts (cond_scope uses c).plain _ h in rest.plain parts.1 ∙ first.plain parts.0;
         named = λ p pass. and_from _ _ (first.named p (λ g le lt. pass g le (omega (arith, lt, high)))) (rest.named p (λ g le lt. pass g (omega (arith, le, low)) lt));
-        conjuncts = λ p pass.
-            list_all-append (λ d. all_classes d p) framed.conjuncts others.conjuncts
-            ∙ and_from _ _ (first.conjuncts p (λ g le lt. pass g le (omega (arith, lt, high)))) (rest.conjuncts p (λ g le lt. pass g (omega (arith, le, low)) lt));
       }
 
   shape-And : (cs : List Cond) → AllByRecursion CondShaped cs → CondShaped (cond.And cs)
   shape-And cs have scope E =
       let all = all-shape cs have scope E in
       cond-as _ _ _ _ E (ap (λ f. f scope E) (frame-And uses cs)) (scope-And uses cs)
-      (record { grows = all.grows; plain = all.plain; named = λ p pass. all_classes_and _ p ∙ all.named p pass; conjuncts = all.conjuncts })
+      (framed-shape _ _ _ E all.grows all.plain (λ p pass. classes-and_of _ p ∙ all.named p pass))
 
   shape-Or : (cs : List Cond) → AllByRecursion CondShaped cs → CondShaped (cond.Or cs)
   shape-Or cs have scope E =
       let all = all-shape cs have scope E in
-      cond-as _ _ _ _ E (ap (λ f. f scope E) (frame-Or uses cs)) (scope-Or uses cs) (alone-shape _ _ _ E all.grows all.plain (λ p pass. all_classes_or _ p ∙ all.named p pass))
+      cond-as _ _ _ _ E (ap (λ f. f scope E) (frame-Or uses cs)) (scope-Or uses cs) (framed-shape _ _ _ E all.grows all.plain (λ p pass. classes-or_of _ p ∙ all.named p pass))
 
   -- the last class of lines that were added is one of theirs
   last-passes : (p : ℕ → Bool) (E F : List Expr) → length E < length F → PassesAdded p E F → p (last F) ≡ true
@@ -176,13 +164,13 @@ module _ (uses : List TableInstance) where
   shape-Exists q has_shape scope E =
       let block = has_shape scope E in
       cond-as _ _ _ _ E (ap (λ f. f scope E) (frame-Exists uses q)) (scope-Exists uses q)
-      (alone-shape _ _ _ E block.grows (λ h. cc) (λ p pass. classes-Exists (last ((block_frame uses q).lines scope E)) p ∙ last-passes p E ((block_frame uses q).lines scope E) block.adds pass))
+      (framed-shape _ _ _ E block.grows (λ h. cc) (λ p pass. classes-Exists (last ((block_frame uses q).lines scope E)) p ∙ last-passes p E ((block_frame uses q).lines scope E) block.adds pass))
 
   shape-In : (a : Term) (q : Block) → BlockShaped q → CondShaped (cond.In a q)
   shape-In a q has_shape scope E =
       let block = has_shape scope E in
       cond-as _ _ _ _ E (ap (λ f. f scope E) (frame-In uses a q)) (scope-In uses a q)
-      (alone-shape _ _ _ E block.grows (λ h. cc) (λ p pass. classes-In (numbered scope a) (last ((block_frame uses q).lines scope E)) _ p ∙ last-passes p E ((block_frame uses q).lines scope E) block.adds pass))
+      (framed-shape _ _ _ E block.grows (λ h. cc) (λ p pass. classes-In (numbered scope a) (last ((block_frame uses q).lines scope E)) _ p ∙ last-passes p E ((block_frame uses q).lines scope E) block.adds pass))
 
   -- ---- FROMs
 
@@ -247,7 +235,7 @@ module _ (uses : List TableInstance) where
       let A : List Expr = left_of f scope E in
       let lines : List Expr = Get o.number ∷ A in
       let framed : CondLines = on_of f o on scope E in
-      let top : Expr = join (in_order framed.conjuncts) (last A) (length A) in
+      let top : Expr = join (conjuncts_of framed) (last A) (length A) in
       let both : Sides f o on scope E = sides f o on left_has on_has scope E in
       record {
         numbers = ap (λ ns. ns ++ use_numbers uses o) both.left.numbers;
@@ -295,7 +283,7 @@ module _ (uses : List TableInstance) where
   filter-shape (Some c) has_shape inner A some =
       let framed : CondLines = cond_frame uses c inner A in
       let test : CondShape framed (cond_scope uses c) A = has_shape inner A in
-      let top : Expr = Select (in_order framed.conjuncts) (last A) in
+      let top : Expr = Select (conjuncts_of framed) (last A) in
       record {
         grows = grows-more (top ∷ framed.lines) framed.lines A (grows-one top framed.lines) test.grows;
         columns = top-columns uses top framed.lines ∙ kept-columns uses framed.lines A (last A) test.grows (last-below A some);

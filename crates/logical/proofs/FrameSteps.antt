@@ -1,12 +1,11 @@
 -- The frame of each form of condition, FROM and block, by the steps that compute it.
-use Rattle.std.proofs.Common.{◌≡◌, refl, ap, sym, ◌∙◌, ℕ, List, [], ◌∷◌, ◌++◌, length, map, reverse, option_map}
+use Rattle.std.proofs.Common.{◌≡◌, refl, ap, sym, ◌∙◌, ℕ, List, [], ◌∷◌, ◌++◌, length, map, reverse, option_map, Result, Ok, Err, IfOk, OnOk}
 use Rattle.values.specs.declared.truth.Comparison.{Comparison}
 use Rattle.query.specs.declared.query.Term as named
 use Rattle.query.specs.declared.query.Occurrence.{Occurrence}
 use Rattle.query.specs.declared.query.TableInstance.{TableInstance}
-use Rattle.query.specs.declared.query.Cond.{Cond, roll-Cond, out-Cond, roll-out-Cond}
+use Rattle.query.specs.declared.query.Cond.{Cond}
 use Rattle.query.specs.declared.query.Cond.TheVariants as cond
-use Rattle.query.specs.declared.query.Cond.TheOpen.{Cond-F}
 use Rattle.query.specs.declared.query.From.{From}
 use Rattle.query.specs.declared.query.From.TheVariants as from
 use Rattle.query.specs.declared.query.Block.{Block, out-Block}
@@ -15,10 +14,11 @@ use Rattle.query.specs.declared.query.Query.{Query}
 use Rattle.query.specs.Bound.{Scope, use_numbers}
 use Rattle.algebra.specs.declared.condition.Term.{Term}
 use Rattle.algebra.specs.declared.condition.Condition.{Condition}
-use Rattle.algebra.specs.declared.condition.Condition.TheVariants.{Compare, IsNull, Not, And, Or, Exists, In}
+use Rattle.algebra.specs.declared.condition.Condition.TheVariants.{Compare, IsNull, Not, Exists, In}
 use Rattle.algebra.specs.declared.expr.Expr.{Expr}
 use Rattle.algebra.specs.declared.expr.Expr.TheVariants.{Get, Join, LeftJoin}
-use Rattle.logical.specs.Frames.{CondLines, AllLines, FromFrame, cond_frame, from_frame, block_frame, all_frames, alone, numbered, last, first_shown, ordered, on_lines, join_frame, item_number, where_lines, group_lines, keep_lines, distinct_lines, query_frame}
+use Rattle.algebra.specs.Connectives.{and_of, or_of}
+use Rattle.logical.specs.Frames.{CondLines, AllLines, FromFrame, cond_frame, from_frame, block_frame, all_frames, framed_as, numbered, last, first_shown, conjuncts_of, on_lines, join_frame, item_number, where_lines, group_lines, keep_lines, distinct_lines, query_frame}
 use Rattle.logical.proofs.FrameEquations.{frame-Compare, frame-IsNull, frame-Not, frame-And, frame-Or, frame-Exists, frame-In, frame-Table, frame-Join, frame-LeftJoin, frame-Comma, frame-Block}
 
 -- ---- conditions
@@ -27,8 +27,16 @@ use Rattle.logical.proofs.FrameEquations.{frame-Compare, frame-IsNull, frame-Not
 abbrev pub IsFramed : Condition → List Expr → CondLines → Type 0
 IsFramed x lines framed = record { condition : x ≡ framed.condition; lines : lines ≡ framed.lines }
 
-reported : (x y : Condition) (lines more : List Expr) (framed : CondLines) → framed ≡ alone y more → x ≡ y → lines ≡ more → IsFramed x lines framed
+reported : (x y : Condition) (lines more : List Expr) (framed : CondLines) → framed ≡ framed_as y more → x ≡ y → lines ≡ more → IsFramed x lines framed
 reported x y lines more framed is same behind = rw is (record { condition = same; lines = behind })
+
+-- the same, where it is made if memory is there
+abbrev pub IsMade : {E : Type 0} → Result Condition E → List Expr → CondLines → Type 0
+IsMade r lines framed = record { condition : IfOk r (λ x. x ≡ framed.condition); lines : OnOk r (lines ≡ framed.lines) }
+
+when_made : {E : Type 0} (r : Result Condition E) (x : Condition) (lines : List Expr) (framed : CondLines) → IfOk r (λ y. y ≡ x) → IsFramed x lines framed → IsMade r lines framed
+when_made (Ok y) x lines framed is same = record { condition = is ∙ same.condition; lines = same.lines }
+when_made (Err e) x lines framed is same = record { condition = tt; lines = tt }
 
 module _ (uses : List TableInstance) (scope : Scope) (lines : List Expr) (c : Cond) where
   pub compare_is : (op : Comparison) (a b : named.Term) (left right : Term) → c ≡ cond.Compare op a b → left ≡ numbered scope a → right ≡ numbered scope b → IsFramed (Compare op left right) lines (cond_frame uses c scope lines)
@@ -43,19 +51,19 @@ module _ (uses : List TableInstance) (scope : Scope) (lines : List Expr) (c : Co
       reported _ (Not (cond_frame uses lent scope lines).condition) _ (cond_frame uses lent scope lines).lines (cond_frame uses c scope lines)
       (rw at (ap (λ d. cond_frame uses d scope lines) is ∙ ap (λ m. m scope lines) (frame-Not uses part))) (ap Not (same ∙ framed)) behind
 
-  pub and_is : (parts lent : List Cond) (xs : List Condition) (more : List Expr) → c ≡ cond.And parts → lent ≡ parts → xs ≡ (all_frames (map (cond_frame uses) lent) scope lines).conditions
-      → more ≡ (all_frames (map (cond_frame uses) lent) scope lines).lines → IsFramed (And xs) more (cond_frame uses c scope lines)
-  and_is parts lent xs more is at framed behind =
+  pub and_is : (parts lent : List Cond) {E : Type 0} (r : Result Condition E) (xs : List Condition) (more : List Expr) → c ≡ cond.And parts → lent ≡ parts → xs ≡ (all_frames (map (cond_frame uses) lent) scope lines).conditions
+      → more ≡ (all_frames (map (cond_frame uses) lent) scope lines).lines → IfOk r (λ x. x ≡ and_of xs) → IsMade r more (cond_frame uses c scope lines)
+  and_is parts lent r xs more is at framed behind made =
       let all : AllLines = all_frames (map (cond_frame uses) lent) scope lines in
-      let form : cond_frame uses c scope lines ≡ record { condition = And all.conditions; conjuncts = all.conjuncts; lines = all.lines } =
-      rw at (ap (λ d. cond_frame uses d scope lines) is ∙ ap (λ m. m scope lines) (frame-And uses parts)) in
-      rw form (record { condition = ap And framed; lines = behind })
+      when_made r (and_of xs) more _ made (reported (and_of xs) (and_of all.conditions) _ all.lines (cond_frame uses c scope lines)
+      (rw at (ap (λ d. cond_frame uses d scope lines) is ∙ ap (λ m. m scope lines) (frame-And uses parts))) (ap and_of framed) behind)
 
-  pub or_is : (parts lent : List Cond) (xs : List Condition) (more : List Expr) → c ≡ cond.Or parts → lent ≡ parts → xs ≡ (all_frames (map (cond_frame uses) lent) scope lines).conditions
-      → more ≡ (all_frames (map (cond_frame uses) lent) scope lines).lines → IsFramed (Or xs) more (cond_frame uses c scope lines)
-  or_is parts lent xs more is at framed behind =
+  pub or_is : (parts lent : List Cond) {E : Type 0} (r : Result Condition E) (xs : List Condition) (more : List Expr) → c ≡ cond.Or parts → lent ≡ parts → xs ≡ (all_frames (map (cond_frame uses) lent) scope lines).conditions
+      → more ≡ (all_frames (map (cond_frame uses) lent) scope lines).lines → IfOk r (λ x. x ≡ or_of xs) → IsMade r more (cond_frame uses c scope lines)
+  or_is parts lent r xs more is at framed behind made =
       let all : AllLines = all_frames (map (cond_frame uses) lent) scope lines in
-      reported _ (Or all.conditions) _ all.lines (cond_frame uses c scope lines) (rw at (ap (λ d. cond_frame uses d scope lines) is ∙ ap (λ m. m scope lines) (frame-Or uses parts))) (ap Or framed) behind
+      when_made r (or_of xs) more _ made (reported (or_of xs) (or_of all.conditions) _ all.lines (cond_frame uses c scope lines)
+      (rw at (ap (λ d. cond_frame uses d scope lines) is ∙ ap (λ m. m scope lines) (frame-Or uses parts))) (ap or_of framed) behind)
 
   pub exists_is : (q lent : Block) (more : List Expr) (n : ℕ) → c ≡ cond.Exists q → lent ≡ q → more ≡ (block_frame uses lent).lines scope lines → n ≡ last more → IsFramed (Exists n) more (cond_frame uses c scope lines)
   exists_is q lent more n is at behind n_is =
@@ -69,32 +77,6 @@ module _ (uses : List TableInstance) (scope : Scope) (lines : List Expr) (c : Co
       let shown : ℕ = first_shown ((block_frame uses lent).shown scope) in
       reported _ (In (numbered scope a) (last all) shown) _ all (cond_frame uses c scope lines) (rw at (ap (λ d. cond_frame uses d scope lines) is ∙ ap (λ m. m scope lines) (frame-In uses a q)))
       (ap (λ t. In t n k) l ∙ ap (λ m. In (numbered scope a) m k) (n_is ∙ ap last behind) ∙ ap (In (numbered scope a) (last all)) k_is) behind
-
-  -- its conjuncts behind others, and the lines then
-  abbrev pub AreAppended : List Condition → List Condition → List Expr → Type 0
-  AreAppended all xs more = record { conjuncts : all ≡ xs ++ (cond_frame uses c scope lines).conjuncts; lines : more ≡ (cond_frame uses c scope lines).lines }
-
-  -- the conjuncts of an AND are those of its parts
-  pub parts_appended : (parts lent : List Cond) (all xs : List Condition) (more : List Expr) → c ≡ cond.And parts → lent ≡ parts → all ≡ xs ++ (all_frames (map (cond_frame uses) lent) scope lines).conjuncts
-      → more ≡ (all_frames (map (cond_frame uses) lent) scope lines).lines → AreAppended all xs more
-  parts_appended parts lent all xs more is at joined behind = rw (is, ← at, frame-And uses lent) (record { conjuncts = joined; lines = behind })
-
-  -- a condition that is no AND has one conjunct, itself
-  no_and : (x : Cond-F Cond From Block) → roll-Cond x ≡ c → ((parts : List Cond) → c ≡ cond.And parts → ⊥) → (cond_frame uses c scope lines).conjuncts ≡ (cond_frame uses c scope lines).condition ∷ []
-  no_and (Cond-F.Compare op a b) is not = rw (sym is ∙ cond.rolls-Compare op a b, frame-Compare uses op a b) refl
-  no_and (Cond-F.IsNull a) is not = rw (sym is ∙ cond.rolls-IsNull a, frame-IsNull uses a) refl
-  no_and (Cond-F.Not d) is not = rw (sym is ∙ cond.rolls-Not d, frame-Not uses d) refl
-  no_and (Cond-F.And ds) is not = absurd (not ds (sym is ∙ cond.rolls-And ds))
-  no_and (Cond-F.Or ds) is not = rw (sym is ∙ cond.rolls-Or ds, frame-Or uses ds) refl
-  no_and (Cond-F.Exists q) is not = rw (sym is ∙ cond.rolls-Exists q, frame-Exists uses q) refl
-  no_and (Cond-F.In a q) is not = rw (sym is ∙ cond.rolls-In a q, frame-In uses a q) refl
-
-  pub one_appended : (x : Condition) (all xs : List Condition) (more : List Expr) → ((parts : List Cond) → c ≡ cond.And parts → ⊥) → all ≡ xs ++ x ∷ [] → IsFramed x more (cond_frame uses c scope lines)
-      → AreAppended all xs more
-  one_appended x all xs more not is framed = record {
-    conjuncts = is ∙ ap (λ y. xs ++ y ∷ []) framed.condition ∙ ap (λ ys. xs ++ ys) (sym (no_and (out-Cond c) (roll-out-Cond c) not));
-    lines = framed.lines;
-  }
 
 -- ---- FROM
 
@@ -119,7 +101,7 @@ module _ (uses : List TableInstance) (scope : Scope) (lines : List Expr) (f : Fr
   -- a join, by its left side, its table and its ON
   module _ (left lent : From) (o : Occurrence) (on lent_on : Cond) (at : lent ≡ left) (at_on : lent_on ≡ on) (numbers all : List ℕ) (behind_left behind : List Expr) (conjuncts : List Condition) (a b : ℕ) where
     sides_are : (join : List Condition → ℕ → ℕ → Expr) → numbers ≡ (from_frame uses lent).numbers → behind_left ≡ (from_frame uses lent).lines scope lines → all ≡ numbers ++ use_numbers uses o
-        → conjuncts ≡ ordered (on_lines uses numbers o lent_on scope behind_left) → a ≡ last behind_left → b ≡ length behind_left → behind ≡ (on_lines uses numbers o lent_on scope behind_left).lines
+        → conjuncts ≡ conjuncts_of (on_lines uses numbers o lent_on scope behind_left) → a ≡ last behind_left → b ≡ length behind_left → behind ≡ (on_lines uses numbers o lent_on scope behind_left).lines
         → IsSourced all (join conjuncts a b ∷ behind) scope lines (join_frame join uses (from_frame uses left) o (cond_frame uses on))
     sides_are join n l all_is c_is a_is b_is r = rw (← at, ← at_on) (record {
       numbers = rw (all_is, n) refl;
@@ -127,12 +109,12 @@ module _ (uses : List TableInstance) (scope : Scope) (lines : List Expr) (f : Fr
     })
 
     pub join_is : f ≡ from.Join left o on → numbers ≡ (from_frame uses lent).numbers → behind_left ≡ (from_frame uses lent).lines scope lines → all ≡ numbers ++ use_numbers uses o
-        → conjuncts ≡ ordered (on_lines uses numbers o lent_on scope behind_left) → a ≡ last behind_left → b ≡ length behind_left → behind ≡ (on_lines uses numbers o lent_on scope behind_left).lines
+        → conjuncts ≡ conjuncts_of (on_lines uses numbers o lent_on scope behind_left) → a ≡ last behind_left → b ≡ length behind_left → behind ≡ (on_lines uses numbers o lent_on scope behind_left).lines
         → IsSourced all (Join conjuncts a b ∷ behind) scope lines (from_frame uses f)
     join_is is n l all_is c_is a_is b_is r = rw (is, frame-Join uses left o on) (sides_are Join n l all_is c_is a_is b_is r)
 
     pub left_join_is : f ≡ from.LeftJoin left o on → numbers ≡ (from_frame uses lent).numbers → behind_left ≡ (from_frame uses lent).lines scope lines → all ≡ numbers ++ use_numbers uses o
-        → conjuncts ≡ ordered (on_lines uses numbers o lent_on scope behind_left) → a ≡ last behind_left → b ≡ length behind_left → behind ≡ (on_lines uses numbers o lent_on scope behind_left).lines
+        → conjuncts ≡ conjuncts_of (on_lines uses numbers o lent_on scope behind_left) → a ≡ last behind_left → b ≡ length behind_left → behind ≡ (on_lines uses numbers o lent_on scope behind_left).lines
         → IsSourced all (LeftJoin conjuncts a b ∷ behind) scope lines (from_frame uses f)
     left_join_is is n l all_is c_is a_is b_is r = rw (is, frame-LeftJoin uses left o on) (sides_are LeftJoin n l all_is c_is a_is b_is r)
 

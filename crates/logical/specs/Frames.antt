@@ -23,14 +23,15 @@ use Rattle.query.specs.Bound.{is_bound, Scope, number, number_at, use_numbers}
 use Rattle.algebra.specs.declared.condition.Term.{Term}
 use Rattle.algebra.specs.declared.condition.Term.TheVariants as term
 use Rattle.algebra.specs.declared.condition.Condition.{Condition}
-use Rattle.algebra.specs.declared.condition.Condition.TheVariants.{Compare, IsNull, Not, And, Or, Exists, In}
+use Rattle.algebra.specs.declared.condition.Condition.TheVariants.{Compare, IsNull, Not, Exists, In}
 use Rattle.algebra.specs.declared.expr.Aggregation.{Aggregation}
 use Rattle.algebra.specs.declared.expr.Expr.{Expr}
 use Rattle.algebra.specs.declared.expr.Expr.TheVariants.{Get, Select, Join, LeftJoin, Semi, Anti, Keep, Distinct, Group}
 use Rattle.algebra.specs.Columns.{rising}
 use Rattle.algebra.specs.Bags.{Env}
 use Rattle.algebra.specs.Classes.{root_rows}
-use Rattle.algebra.specs.ConjunctOrder.{in_order}
+use Rattle.algebra.specs.Connectives.{and_of, or_of}
+use Rattle.algebra.specs.ConjunctOrder.{conjuncts}
 
 -- ---- lines, the last first
 
@@ -39,11 +40,9 @@ abbrev pub last : List Expr → ℕ
 last [] = 0
 last (x ∷ lines) = length lines
 
--- what a condition becomes behind some lines: itself over classes, the parts of the ANDs at its top, and the lines with
--- those of its subqueries
+-- what a condition becomes behind some lines: itself over classes, and the lines with those of its subqueries
 pub record CondLines : Type 0 where
   pub condition : Condition
-  pub conjuncts : List Condition
   pub lines : List Expr
 
 abbrev pub CondFrame : Type 0
@@ -66,48 +65,46 @@ abbrev pub numbered : Scope → named.Term → Term
 numbered scope (place.Column c) = term.Column (number scope c)
 numbered scope (place.Literal v) = term.Literal v
 
--- a condition that is no AND
-abbrev pub alone : Condition → List Expr → CondLines
-alone c lines = record { condition = c; conjuncts = c ∷ []; lines = lines }
+abbrev pub framed_as : Condition → List Expr → CondLines
+framed_as c lines = record { condition = c; lines = lines }
 
 -- what conditions become, one after another
 pub record AllLines : Type 0 where
   pub conditions : List Condition
-  pub conjuncts : List Condition
   pub lines : List Expr
 
 abbrev pub all_frames : List CondFrame → Scope → List Expr → AllLines
-all_frames [] scope lines = record { conditions = []; conjuncts = []; lines = lines }
+all_frames [] scope lines = record { conditions = []; lines = lines }
 all_frames (c ∷ cs) scope lines =
     let first = c scope lines in
     let rest = all_frames cs scope first.lines in
-    record { conditions = first.condition ∷ rest.conditions; conjuncts = first.conjuncts ++ rest.conjuncts; lines = rest.lines }
+    record { conditions = first.condition ∷ rest.conditions; lines = rest.lines }
 
 -- the number of the first item
 abbrev pub first_shown : List ℕ → ℕ
 first_shown shown = number_at shown 0
 
 abbrev pub cond_frame_layer : Cond-F CondFrame FromFrame BlockFrame → CondFrame
-cond_frame_layer (Cond-F.Compare op a b) scope lines = alone (Compare op (numbered scope a) (numbered scope b)) lines
-cond_frame_layer (Cond-F.IsNull a) scope lines = alone (IsNull (numbered scope a)) lines
-cond_frame_layer (Cond-F.Not c) scope lines = let part = c scope lines in alone (Not part.condition) part.lines
-cond_frame_layer (Cond-F.And cs) scope lines = let parts = all_frames cs scope lines in record { condition = And parts.conditions; conjuncts = parts.conjuncts; lines = parts.lines }
-cond_frame_layer (Cond-F.Or cs) scope lines = let parts = all_frames cs scope lines in alone (Or parts.conditions) parts.lines
-cond_frame_layer (Cond-F.Exists q) scope lines = let more = q.lines scope lines in alone (Exists (last more)) more
-cond_frame_layer (Cond-F.In a q) scope lines = let more = q.lines scope lines in alone (In (numbered scope a) (last more) (first_shown (q.shown scope))) more
+cond_frame_layer (Cond-F.Compare op a b) scope lines = framed_as (Compare op (numbered scope a) (numbered scope b)) lines
+cond_frame_layer (Cond-F.IsNull a) scope lines = framed_as (IsNull (numbered scope a)) lines
+cond_frame_layer (Cond-F.Not c) scope lines = let part = c scope lines in framed_as (Not part.condition) part.lines
+cond_frame_layer (Cond-F.And cs) scope lines = let parts = all_frames cs scope lines in framed_as (and_of parts.conditions) parts.lines
+cond_frame_layer (Cond-F.Or cs) scope lines = let parts = all_frames cs scope lines in framed_as (or_of parts.conditions) parts.lines
+cond_frame_layer (Cond-F.Exists q) scope lines = let more = q.lines scope lines in framed_as (Exists (last more)) more
+cond_frame_layer (Cond-F.In a q) scope lines = let more = q.lines scope lines in framed_as (In (numbered scope a) (last more) (first_shown (q.shown scope))) more
 
 -- ---- FROM
 
--- the conjuncts of a condition, in order
-abbrev pub ordered : CondLines → List Condition
-ordered framed = in_order framed.conjuncts
+-- the conjuncts of a condition
+abbrev pub conjuncts_of : CondLines → List Condition
+conjuncts_of framed = conjuncts (framed.condition ∷ [])
 
 -- the table of a join and the join; a bound ON has no subquery, so it stands directly behind its table
 abbrev pub join_lines : (List Condition → ℕ → ℕ → Expr) → Occurrence → CondFrame → Scope → List Expr → List Expr
 join_lines join o on scope left =
     let lines = Get o.number ∷ left in
     let framed = on scope lines in
-    join (ordered framed) (last left) (last lines) ∷ framed.lines
+    join (conjuncts_of framed) (last left) (last lines) ∷ framed.lines
 
 -- all that is left of a comma, the chain at its right, and their pairs
 abbrev pub comma_lines : List Expr → List Expr → List Expr
@@ -132,7 +129,7 @@ from_frame_layer uses (From-F.Comma f g) = record {
 -- the lines of a WHERE's subqueries and its Select
 abbrev pub where_lines : Option CondFrame → Scope → List Expr → List Expr
 where_lines None scope lines = lines
-where_lines (Some c) scope lines = let framed = c scope lines in Select (ordered framed) (last lines) ∷ framed.lines
+where_lines (Some c) scope lines = let framed = c scope lines in Select (conjuncts_of framed) (last lines) ∷ framed.lines
 
 -- an aggregate that names its column by its number
 abbrev pub numbered_aggregate : List ℕ → Aggregate → Aggregate

@@ -135,11 +135,11 @@ fn condition(
         }
         Cond::And(parts) => {
             let parts = conditions(alloc, uses, parts.as_slice(), scope, lines)?;
-            Ok(Condition::And(parts))
+            Condition::and(alloc, parts)
         }
         Cond::Or(parts) => {
             let parts = conditions(alloc, uses, parts.as_slice(), scope, lines)?;
-            Ok(Condition::Or(parts))
+            Condition::or(alloc, parts)
         }
         Cond::Exists(block) => {
             add_block(alloc, uses, block.get(), scope, lines)?;
@@ -172,35 +172,7 @@ fn conditions(
     Ok(framed)
 }
 
-/// Adds the parts of the ANDs at the top of a condition; the lines of its subqueries are added too.
-#[cycle(frames)]
-fn add_conjuncts(
-    alloc: Global,
-    uses: &[TableInstance],
-    cond: &Cond,
-    scope: &Scope<'_>,
-    lines: &mut Lines,
-    conjuncts: &mut Vec<Condition>,
-) -> Result<(), AllocError>
-    ensures conjuncts { OnOk result (conjuncts.new.items ≡ conjuncts.old.items ++ (spec.cond_frame uses.now cond.now (scope_of scope.now) lines.old).conjuncts) }
-    ensures lines { OnOk result (lines.new ≡ (spec.cond_frame uses.now cond.now (scope_of scope.now) lines.old).lines) }
-{
-    match cond {
-        Cond::And(parts) => {
-            for part in parts.as_slice() {
-                add_conjuncts(alloc, uses, part, scope, lines, conjuncts)?;
-            }
-            Ok(())
-        }
-        _ => {
-            let framed = condition(alloc, uses, cond, scope, lines)?;
-            conjuncts.push(framed)?;
-            Ok(())
-        }
-    }
-}
-
-/// The conjuncts of a condition in their order; the lines of its subqueries are added.
+/// The conjuncts of a condition; the lines of its subqueries are added.
 #[cycle(frames)]
 fn conjuncts(
     alloc: Global,
@@ -209,12 +181,11 @@ fn conjuncts(
     scope: &Scope<'_>,
     lines: &mut Lines,
 ) -> Result<Conjuncts, AllocError>
-    ensures conjuncts { IfOk result (λ c. c ≡ spec.ordered (spec.cond_frame uses.now cond.now (scope_of scope.now) lines.old)) }
+    ensures conjuncts { IfOk result (λ c. c ≡ spec.conjuncts_of (spec.cond_frame uses.now cond.now (scope_of scope.now) lines.old)) }
     ensures lines { OnOk result (lines.new ≡ (spec.cond_frame uses.now cond.now (scope_of scope.now) lines.old).lines) }
 {
-    let mut parts = Vec::new(alloc);
-    add_conjuncts(alloc, uses, cond, scope, lines, &mut parts)?;
-    Conjuncts::in_order(alloc, parts)
+    let framed = condition(alloc, uses, cond, scope, lines)?;
+    Conjuncts::of(alloc, &[framed])
 }
 
 /// The two sides of a join and its ON.
@@ -239,7 +210,7 @@ fn join_sides(
     lines: &mut Lines,
 ) -> Result<JoinSides, AllocError>
     ensures numbers { IfOk result (λ s. s.numbers.items ≡ left_numbers.items ++ use_numbers uses.now occurrence) }
-    ensures on { IfOk result (λ s. s.on ≡ spec.ordered (spec.on_lines uses.now left_numbers.items occurrence on.now (scope_of outer.now) lines.old)) }
+    ensures on { IfOk result (λ s. s.on ≡ spec.conjuncts_of (spec.on_lines uses.now left_numbers.items occurrence on.now (scope_of outer.now) lines.old)) }
     ensures classes { IfOk result (λ s. (s.left ≡ spec.last lines.old) × (s.right ≡ length lines.old)) }
     ensures lines { OnOk result (lines.new ≡ (spec.on_lines uses.now left_numbers.items occurrence on.now (scope_of outer.now) lines.old).lines) }
 {

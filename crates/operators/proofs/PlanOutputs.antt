@@ -111,8 +111,10 @@ module _ (W V : ℕ → Bag) (r : Env) (same : (g : ℕ) → W g r ≡ V g r) wh
   same-layer (Condition-F.Compare op a b) = subst (SameAt W V r) (sym (rolls-Compare op a b)) (truth-Compare op a b W r ∙ sym (truth-Compare op a b V r))
   same-layer (Condition-F.IsNull a) = subst (SameAt W V r) (sym (rolls-IsNull a)) (truth-IsNull a W r ∙ sym (truth-IsNull a V r))
   same-layer (Condition-F.Not c) = subst (SameAt W V r) (sym (rolls-Not c.0)) (truth-Not c.0 W r ∙ ap negation c.1 ∙ sym (truth-Not c.0 V r))
-  same-layer (Condition-F.And cs) = subst (SameAt W V r) (sym (rolls-And (map (λ c. c.0) cs))) (truth-And (map (λ c. c.0) cs) W r ∙ ap all_of (all-parts cs) ∙ sym (truth-And (map (λ c. c.0) cs) V r))
-  same-layer (Condition-F.Or cs) = subst (SameAt W V r) (sym (rolls-Or (map (λ c. c.0) cs))) (truth-Or (map (λ c. c.0) cs) W r ∙ ap any_of (all-parts cs) ∙ sym (truth-Or (map (λ c. c.0) cs) V r))
+  same-layer (Condition-F.And a b cs) =
+      subst (SameAt W V r) (sym (rolls-And a.0 b.0 (map (λ c. c.0) cs))) (truth-And a.0 b.0 (map (λ c. c.0) cs) W r ∙ ap all_of (all-parts (a ∷ b ∷ cs)) ∙ sym (truth-And a.0 b.0 (map (λ c. c.0) cs) V r))
+  same-layer (Condition-F.Or a b cs) =
+      subst (SameAt W V r) (sym (rolls-Or a.0 b.0 (map (λ c. c.0) cs))) (truth-Or a.0 b.0 (map (λ c. c.0) cs) W r ∙ ap any_of (all-parts (a ∷ b ∷ cs)) ∙ sym (truth-Or a.0 b.0 (map (λ c. c.0) cs) V r))
   same-layer (Condition-F.Exists g) = subst (SameAt W V r) (sym (rolls-Exists g)) (truth-Exists g W r ∙ ap (λ rows. truth_of (not (is_empty rows))) (same g) ∙ sym (truth-Exists g V r))
   same-layer (Condition-F.In a g k) = subst (SameAt W V r) (sym (rolls-In a g k)) (truth-In a g k W r ∙ ap (λ rows. any_of (map (λ s. compare by.Equal (term_value a r) (s k)) rows)) (same g) ∙ sym (truth-In a g k V r))
 

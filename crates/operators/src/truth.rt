@@ -1,10 +1,10 @@
 //! The truth of conditions.
 
-ghost use Rattle.std.specs.Prelude.{◌≡◌, map, not};
+ghost use Rattle.std.specs.Prelude.{◌≡◌, fold, map, not};
 ghost use Rattle.values.specs.Cells.{value_of};
 ghost use Rattle.values.specs.declared.truth.Comparison.TheVariants as by;
 ghost use Rattle.values.specs.Truth as logic;
-ghost use Rattle.query.specs.Meaning.{all_of, any_of};
+ghost use Rattle.query.specs.Meaning.{any_of};
 ghost use Rattle.algebra.specs.Bags as bags;
 ghost use Rattle.algebra.specs.Conditions as spec;
 ghost use Rattle.physical.specs.Outputs.{no_classes};
@@ -98,8 +98,16 @@ pub fn truth(condition: &Condition, subqueries: Subqueries<'_, '_>, env: &Env<'_
         }
         Condition::IsNull(term) => Truth::from(matches!(term_cell(term, env), Cell::Null)),
         Condition::Not(part) => truth(part.get(), subqueries, env).not(),
-        Condition::And(parts) => all(parts.as_slice(), subqueries, env),
-        Condition::Or(parts) => any(parts.as_slice(), subqueries, env),
+        Condition::And(a, b, more) => {
+            let first = truth(a.get(), subqueries, env);
+            let second = truth(b.get(), subqueries, env);
+            all(first.and(second), more.as_slice(), subqueries, env)
+        }
+        Condition::Or(a, b, more) => {
+            let first = truth(a.get(), subqueries, env);
+            let second = truth(b.get(), subqueries, env);
+            any(first.or(second), more.as_slice(), subqueries, env)
+        }
         Condition::Exists(class) => Truth::from(subqueries.has_row(*class)),
         Condition::In(term, class, column) => {
             subqueries.is_among(term_cell(term, env), *class, *column, env)
@@ -107,22 +115,34 @@ pub fn truth(condition: &Condition, subqueries: Subqueries<'_, '_>, env: &Env<'_
     }
 }
 
+/// The AND of a truth and those of conditions.
 #[cycle(truth)]
-fn all(conditions: &[Condition], subqueries: Subqueries<'_, '_>, env: &Env<'_, '_>) -> Truth
-    ensures { result ≡ all_of (map (λ c. spec.truth c (subqueries_given subqueries.entry) (env_of env.now)) conditions.now) }
+fn all(
+    first: Truth,
+    conditions: &[Condition],
+    subqueries: Subqueries<'_, '_>,
+    env: &Env<'_, '_>,
+) -> Truth
+    ensures { result ≡ fold logic.conjunction first (map (λ c. spec.truth c (subqueries_given subqueries.entry) (env_of env.now)) conditions.now) }
 {
-    let mut all = Truth::True;
+    let mut all = first;
     for condition in conditions {
         all = all.and(truth(condition, subqueries, env));
     }
     all
 }
 
+/// The OR of a truth and those of conditions.
 #[cycle(truth)]
-fn any(conditions: &[Condition], subqueries: Subqueries<'_, '_>, env: &Env<'_, '_>) -> Truth
-    ensures { result ≡ any_of (map (λ c. spec.truth c (subqueries_given subqueries.entry) (env_of env.now)) conditions.now) }
+fn any(
+    first: Truth,
+    conditions: &[Condition],
+    subqueries: Subqueries<'_, '_>,
+    env: &Env<'_, '_>,
+) -> Truth
+    ensures { result ≡ fold logic.disjunction first (map (λ c. spec.truth c (subqueries_given subqueries.entry) (env_of env.now)) conditions.now) }
 {
-    let mut any = Truth::False;
+    let mut any = first;
     for condition in conditions {
         any = any.or(truth(condition, subqueries, env));
     }

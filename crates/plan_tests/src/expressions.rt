@@ -89,7 +89,7 @@ fn expr_of(alloc: Global, text: &str) -> Result<Expr, AllocError> {
         return Ok(Expr::Keep(columns_of(alloc, columns)?, class));
     }
     let (sum, number) = (Term::Column(2), Term::Literal(Literal::number(7)));
-    let conjuncts = Conjuncts::one(alloc, Condition::Compare(Comparison::Less, sum, number))?;
+    let conjuncts = Conjuncts::of(alloc, &[Condition::Compare(Comparison::Less, sum, number)])?;
     Ok(Expr::Join(conjuncts, 0, class))
 }
 

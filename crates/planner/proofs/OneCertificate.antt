@@ -8,7 +8,8 @@ use Rattle.query.specs.declared.query.Query.{Query}
 use Rattle.algebra.specs.declared.expr.Expr.{Expr}
 use Rattle.algebra.specs.declared.expr.Expr.TheVariants.{Get, Select, Join, LeftJoin, Keep, Distinct, Group}
 use Rattle.algebra.specs.Columns.{has}
-use Rattle.algebra.specs.Equality.{same_conditions, same_columns, same_aggregations}
+use Rattle.algebra.specs.ConditionEquality.{same_conditions}
+use Rattle.algebra.specs.Equality.{same_columns, same_aggregations}
 use Rattle.algebra.specs.Expressions.{input_classes, is_plain}
 use Rattle.algebra.specs.Classes.{class_columns}
 use Rattle.logical.specs.Frames.{query_frame}

@@ -4,7 +4,8 @@ use Rattle.algebra.specs.declared.condition.Condition.{Condition}
 use Rattle.algebra.specs.declared.expr.Aggregation.{Aggregation}
 use Rattle.algebra.specs.declared.expr.Expr.{Expr}
 use Rattle.algebra.specs.declared.expr.Expr.TheVariants.{Select, Join, LeftJoin, Keep, Group}
-use Rattle.algebra.specs.Equality.{same_conditions, same_columns, same_aggregations}
+use Rattle.algebra.specs.ConditionEquality.{same_conditions}
+use Rattle.algebra.specs.Equality.{same_columns, same_aggregations}
 use Rattle.algebra.specs.Expressions.{is_plain}
 use Rattle.algebra.proofs.Same.{tested_conditions, tested_columns, tested_aggregations}
 use Rattle.physical.specs.declared.plan.JoinKind.TheVariants.{Inner, Left}

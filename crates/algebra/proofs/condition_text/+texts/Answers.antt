@@ -1,4 +1,4 @@
-use Rattle.std.proofs.Common.{◌≡◌, ◌∙◌, ap, sym, subst, List, ℕ, map, codes, string_bytes, IfOk, arith}
+use Rattle.std.proofs.Common.{◌≡◌, refl, ◌∷◌, ◌∙◌, ap, sym, subst, List, ℕ, map, codes, string_bytes, IfOk, arith}
 use Rattle.std.proofs.lemmas.List.{take_all}
 use Rattle.std.specs.List.{join_by}
 use Rattle.algebra.specs.declared.condition.Condition.{Condition}
@@ -33,16 +33,16 @@ condition_text-returns-in_ok-a-in-In t c =
 
 pub condition_text-returns-in_ok-parts-in-And : goal.condition_text-returns-in_ok-parts-in-And
 condition_text-returns-in_ok-parts-in-And t c =
-    let is = text-And c.in-And.parts _ (c.in_ok-parts-in-And.ensures ∙ ap (λ (cs : List Condition). spec.listed (map spec.condition_text cs)) c.as_slice.ensures) ∙ sym (ap spec.condition_text c.in-And.is) in
+    let is = text-And c.in-And.a c.in-And.b c.in-And.more _ (c.in_ok-parts-in-And.ensures ∙ rw (c.in_ok-a-in-And.ensures, c.in_ok-b-in-And.ensures, c.get-in-And.ensures, c.get-in-And-2.ensures, c.as_slice.ensures) refl) ∙ sym (ap spec.condition_text c.in-And.is) in
     subst (λ (z : List ℕ). IfOk c.format-in-And.result (λ text. string_bytes text ≡ z)) is c.format-in-And.ensures.ok
 
 pub condition_text-returns-in_ok-parts-in-Or : goal.condition_text-returns-in_ok-parts-in-Or
 condition_text-returns-in_ok-parts-in-Or t c =
-    let is = text-Or c.in-Or.parts _ (c.in_ok-parts-in-Or.ensures ∙ ap (λ (cs : List Condition). spec.listed (map spec.condition_text cs)) c.as_slice-in-Or.ensures) ∙ sym (ap spec.condition_text c.in-Or.is) in
+    let is = text-Or c.in-Or.a c.in-Or.b c.in-Or.more _ (c.in_ok-parts-in-Or.ensures ∙ rw (c.in_ok-a-in-Or.ensures, c.in_ok-b-in-Or.ensures, c.get-in-Or.ensures, c.get-in-Or-2.ensures, c.as_slice-in-Or.ensures) refl) ∙ sym (ap spec.condition_text c.in-Or.is) in
     subst (λ (z : List ℕ). IfOk c.format-in-Or.result (λ text. string_bytes text ≡ z)) is c.format-in-Or.ensures.ok
 
 pub listed-returns : goal.listed-returns
 listed-returns t c =
     let is = ap (join_by string_bytes (codes ",")) c.as_slice.ensures.value ∙ listed-by string_bytes c.loop-condition.texts.items
-    ∙ ap spec.listed (c.loop-condition.invariant ∙ ap (map spec.condition_text) (take_all c.loop-condition.condition-index c.args.conditions.now (omega arith))) in
+    ∙ ap spec.listed (c.loop-condition.invariant ∙ ap (λ cs. string_bytes c.args.first ∷ string_bytes c.args.second ∷ map spec.condition_text cs) (take_all c.loop-condition.condition-index c.args.more.now (omega arith))) in
     subst (λ (z : List ℕ). IfOk c.join.result (λ text. string_bytes text ≡ z)) is c.join.ensures.ok

@@ -3,7 +3,7 @@ use Rattle.std.specs.List.{slice_get, insert, position_or_len}
 use Rattle.std.proofs.lemmas.List.Sums.{prefix_len-le-length}
 use Rattle.std.proofs.lemmas.Option.{slice_get_read, slice_get_past}
 use Rattle.algebra.specs.declared.condition.Condition.{Condition}
-use Rattle.algebra.specs.Equality.{same_condition}
+use Rattle.algebra.specs.ConditionEquality.{same_condition}
 use Rattle.algebra.specs.ConjunctOrder.{ends_search}
 use Rattle.algebra.proofs.Places.{put-there, put-new}
 use Rattle.algebra.proofs.conjunct_order.put_in_order.Goals as goal

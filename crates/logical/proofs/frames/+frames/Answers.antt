@@ -2,8 +2,8 @@ use Rattle.std.proofs.Common.{arith}
 use Rattle.values.proofs.Exits.{no_change, no_value}
 use Rattle.logical.specs.Frames as spec
 use Rattle.logical.specs.Lent.{scope_of}
-use Rattle.logical.proofs.FrameLoops.{conditions_on, conjuncts_on, lines_on, conditions_end, conjuncts_end, lines_end}
-use Rattle.logical.proofs.FrameSteps.{compare_is, null_is, not_is, and_is, or_is, exists_is, in_is, parts_appended, one_appended, table_is, join_is, left_join_is, comma_is, first_shown_is, block_lines_are}
+use Rattle.logical.proofs.FrameLoops.{conditions_on, lines_on, conditions_end, lines_end}
+use Rattle.logical.proofs.FrameSteps.{compare_is, null_is, not_is, and_is, or_is, exists_is, in_is, table_is, join_is, left_join_is, comma_is, first_shown_is, block_lines_are}
 use Rattle.logical.proofs.frames.+frames.Goals as goal
 
 -- ---- conditions
@@ -24,13 +24,13 @@ condition-returns-in_ok-new-in-Not t c =
 
 pub condition-returns-in_ok-parts-in-And : goal.condition-returns-in_ok-parts-in-And
 condition-returns-in_ok-parts-in-And t c =
-    and_is c.args.uses.now (scope_of c.args.scope.now) c.args.lines.now c.args.cond.now c.in-And.parts c.as_slice.result.now c.in_ok-parts-in-And.parts
-    c.conditions.new.lines c.in-And.is c.as_slice.ensures c.in_ok-parts-in-And.ensures.conditions c.in_ok-parts-in-And.ensures.lines
+    and_is c.args.uses.now (scope_of c.args.scope.now) c.args.lines.now c.args.cond.now c.in-And.parts c.as_slice.result.now c.and.result c.in_ok-parts-in-And.parts
+    c.conditions.new.lines c.in-And.is c.as_slice.ensures c.in_ok-parts-in-And.ensures.conditions c.in_ok-parts-in-And.ensures.lines c.and.ensures
 
 pub condition-returns-in_ok-parts-in-Or : goal.condition-returns-in_ok-parts-in-Or
 condition-returns-in_ok-parts-in-Or t c =
-    or_is c.args.uses.now (scope_of c.args.scope.now) c.args.lines.now c.args.cond.now c.in-Or.parts c.as_slice-in-Or.result.now c.in_ok-parts-in-Or.parts
-    c.conditions-in-Or.new.lines c.in-Or.is c.as_slice-in-Or.ensures c.in_ok-parts-in-Or.ensures.conditions c.in_ok-parts-in-Or.ensures.lines
+    or_is c.args.uses.now (scope_of c.args.scope.now) c.args.lines.now c.args.cond.now c.in-Or.parts c.as_slice-in-Or.result.now c.or.result c.in_ok-parts-in-Or.parts
+    c.conditions-in-Or.new.lines c.in-Or.is c.as_slice-in-Or.ensures c.in_ok-parts-in-Or.ensures.conditions c.in_ok-parts-in-Or.ensures.lines c.or.ensures
 
 pub condition-returns-in_ok-add_block-in-Exists : goal.condition-returns-in_ok-add_block-in-Exists
 condition-returns-in_ok-add_block-in-Exists t c =
@@ -57,29 +57,6 @@ conditions-returns t c = record {
   conditions = conditions_end (spec.cond_frame c.args.uses.now) (scope_of c.args.scope.now) c.args.conds.now c.loop-cond.cond-index c.loop-cond.framed _ c.loop-cond.lines (omega arith) c.loop-cond.invariant.conditions;
   lines = lines_end (spec.cond_frame c.args.uses.now) (scope_of c.args.scope.now) c.args.conds.now c.loop-cond.cond-index _ c.loop-cond.lines (omega arith) c.loop-cond.invariant.lines;
 }
-
-pub add_conjuncts-loop-part-preserved : goal.add_conjuncts-loop-part-preserved
-add_conjuncts-loop-part-preserved t c = record {
-  conjuncts = conjuncts_on (spec.cond_frame c.args.uses.now) (scope_of c.args.scope.now) c.as_slice-part-items.result.now c.loop-part.part-index c.part-item.result
-      c.loop-part.conjuncts.items c.add_conjuncts.new.conjuncts.items _ c.loop-part.lines c.add_conjuncts.new.lines (omega arith) c.part-item.is c.in_ok-add_conjuncts-in-And.ensures.lines
-      c.in_ok-add_conjuncts-in-And.ensures.conjuncts c.loop-part.invariant.conjuncts;
-  lines = lines_on (spec.cond_frame c.args.uses.now) (scope_of c.args.scope.now) c.as_slice-part-items.result.now c.loop-part.part-index c.part-item.result _ c.loop-part.lines c.add_conjuncts.new.lines
-      (omega arith) c.part-item.is c.in_ok-add_conjuncts-in-And.ensures.lines c.loop-part.invariant.lines;
-}
-
-pub add_conjuncts-returns-after-loop-part : goal.add_conjuncts-returns-after-loop-part
-add_conjuncts-returns-after-loop-part t c =
-    let f = spec.cond_frame c.args.uses.now in
-    let scope = scope_of c.args.scope.now in
-    let parts = c.as_slice-part-items.result.now in
-    parts_appended c.args.uses.now scope c.args.lines.now c.args.cond.now c.in-And.parts parts c.loop-part.conjuncts.items c.args.conjuncts.now.items c.loop-part.lines c.in-And.is c.as_slice-part-items.ensures
-    (conjuncts_end f scope parts c.loop-part.part-index c.loop-part.conjuncts.items _ c.loop-part.lines (omega arith) c.loop-part.invariant.conjuncts)
-    (lines_end f scope parts c.loop-part.part-index _ c.loop-part.lines (omega arith) c.loop-part.invariant.lines)
-
-pub add_conjuncts-returns-in_ok-push-in_default : goal.add_conjuncts-returns-in_ok-push-in_default
-add_conjuncts-returns-in_ok-push-in_default t c =
-    one_appended c.args.uses.now (scope_of c.args.scope.now) c.args.lines.now c.args.cond.now c.in_ok-framed-in_default.framed c.push.new.self.items c.args.conjuncts.now.items c.condition.new.lines
-    c.in_default.not-And c.in_ok-push-in_default.ensures.items c.in_ok-framed-in_default.ensures
 
 -- ---- FROM
 
@@ -147,21 +124,6 @@ pub add_block-returns-in_err-add_end : goal.add_block-returns-in_err-add_end
 add_block-returns-in_err-add_end t c =
     let exit = c.from_residual-in_err-add_end in
     record { shown = no_value exit.result _ _ exit.ensures.1; lines = no_change exit.result _ _ exit.ensures.1 }
-
-pub add_conjuncts-returns-in_err-add_conjuncts-in-And : goal.add_conjuncts-returns-in_err-add_conjuncts-in-And
-add_conjuncts-returns-in_err-add_conjuncts-in-And t c =
-    let exit = c.from_residual in
-    record { conjuncts = no_change exit.result _ _ exit.ensures.1; lines = no_change exit.result _ _ exit.ensures.1 }
-
-pub add_conjuncts-returns-in_err-framed-in_default : goal.add_conjuncts-returns-in_err-framed-in_default
-add_conjuncts-returns-in_err-framed-in_default t c =
-    let exit = c.from_residual-in_err-framed-in_default in
-    record { conjuncts = no_change exit.result _ _ exit.ensures.1; lines = no_change exit.result _ _ exit.ensures.1 }
-
-pub add_conjuncts-returns-in_err-push-in_default : goal.add_conjuncts-returns-in_err-push-in_default
-add_conjuncts-returns-in_err-push-in_default t c =
-    let exit = c.from_residual-in_err-push-in_default in
-    record { conjuncts = no_change exit.result _ _ exit.ensures.1; lines = no_change exit.result _ _ exit.ensures.1 }
 
 pub add_filter-returns-in_err-conjuncts : goal.add_filter-returns-in_err-conjuncts
 add_filter-returns-in_err-conjuncts t c =
@@ -288,8 +250,8 @@ conditions-returns-in_err-push t c =
     let exit = c.from_residual-in_err-push in
     record { conditions = no_value exit.result _ _ exit.ensures.1; lines = no_change exit.result _ _ exit.ensures.1 }
 
-pub conjuncts-returns-in_err-add_conjuncts : goal.conjuncts-returns-in_err-add_conjuncts
-conjuncts-returns-in_err-add_conjuncts t c =
+pub conjuncts-returns-in_err-framed : goal.conjuncts-returns-in_err-framed
+conjuncts-returns-in_err-framed t c =
     let exit = c.from_residual in
     record { conjuncts = no_value exit.result _ _ exit.ensures.1; lines = no_change exit.result _ _ exit.ensures.1 }
 

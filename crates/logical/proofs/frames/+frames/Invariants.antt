@@ -4,13 +4,6 @@ use Rattle.logical.specs.Lent.{scope_of}
 use Rattle.logical.proofs.FrameLoops.{from_place}
 use Rattle.logical.proofs.frames.+frames.Given as goal
 
-abbrev pub invariant-add_conjuncts-loop-part : goal.invariant-add_conjuncts-loop-part
-invariant-add_conjuncts-loop-part l = record {
-  conjuncts : l.conjuncts.items ++ (from_place (spec.cond_frame l.uses) (scope_of l.scope) l.part-items l.part-index l.lines).conjuncts
-      ≡ l.fn.conjuncts.items ++ (spec.all_frames (map (spec.cond_frame l.uses) l.part-items) (scope_of l.scope) l.fn.lines).conjuncts;
-  lines : (from_place (spec.cond_frame l.uses) (scope_of l.scope) l.part-items l.part-index l.lines).lines ≡ (spec.all_frames (map (spec.cond_frame l.uses) l.part-items) (scope_of l.scope) l.fn.lines).lines;
-}
-
 abbrev pub invariant-conditions-loop-cond : goal.invariant-conditions-loop-cond
 invariant-conditions-loop-cond l = record {
   conditions : l.framed ++ (from_place (spec.cond_frame l.uses) (scope_of l.scope) l.conds l.cond-index l.lines).conditions

@@ -1,12 +1,11 @@
-use Rattle.std.proofs.Common.{◌≡◌, ◌≢◌, ◌∙◌, refl, ap, sym, map, take, arith, false}
+use Rattle.std.proofs.Common.{◌≡◌, ◌≢◌, ◌∙◌, refl, ap, sym, fold, map, take, arith, false}
 use Rattle.values.specs.Cells.{value_of}
 use Rattle.values.specs.declared.cell.Cell.{Cell}
 use Rattle.values.specs.declared.cell.Cell.TheVariants.{Null, Int, Text}
 use Rattle.values.specs.declared.truth.Comparison.TheVariants as by
 use Rattle.values.specs.declared.truth.Truth.{Truth}
-use Rattle.values.specs.declared.truth.Truth.TheVariants.{True, False}
 use Rattle.values.specs.Truth.{truth_of, is_null, compare, conjunction, disjunction}
-use Rattle.query.specs.Meaning.{all_of, any_of}
+use Rattle.query.specs.Meaning.{any_of}
 use Rattle.algebra.specs.declared.condition.Condition.{Condition}
 use Rattle.algebra.specs.Conditions.{truth}
 use Rattle.algebra.proofs.Truths.{truth-Compare, truth-IsNull, truth-Not, truth-And, truth-Or, truth-Exists, truth-In}
@@ -37,10 +36,16 @@ pub truth-returns-in-Not : goal.truth-returns-in-Not
 truth-returns-in-Not t c = cc (truth-Not c.in-Not.part (subqueries_given c.args.subqueries) (env_of c.args.env.now))
 
 pub truth-returns-in-And : goal.truth-returns-in-And
-truth-returns-in-And t c = cc (truth-And c.in-And.parts (subqueries_given c.args.subqueries) (env_of c.args.env.now))
+truth-returns-in-And t c =
+    let W = subqueries_given c.args.subqueries in
+    let r = env_of c.args.env.now in
+    rw (c.all.ensures, c.and.ensures, c.truth-first.ensures, c.truth-second.ensures, c.get-in-And.ensures, c.get-in-And-2.ensures, c.as_slice.ensures, c.in-And.is, truth-And c.in-And.a c.in-And.b c.in-And.more W r) refl
 
 pub truth-returns-in-Or : goal.truth-returns-in-Or
-truth-returns-in-Or t c = cc (truth-Or c.in-Or.parts (subqueries_given c.args.subqueries) (env_of c.args.env.now))
+truth-returns-in-Or t c =
+    let W = subqueries_given c.args.subqueries in
+    let r = env_of c.args.env.now in
+    rw (c.any.ensures, c.or.ensures, c.truth-first-in-Or.ensures, c.truth-second-in-Or.ensures, c.get-in-Or.ensures, c.get-in-Or-2.ensures, c.as_slice-in-Or.ensures, c.in-Or.is, truth-Or c.in-Or.a c.in-Or.b c.in-Or.more W r) refl
 
 pub truth-returns-in-Exists : goal.truth-returns-in-Exists
 truth-returns-in-Exists t c =
@@ -62,8 +67,8 @@ all-loop-condition-preserved t c =
     let i = c.loop-condition.condition-index in
     c.and-all.ensures
     ∙ ap (λ (a : Truth). conjunction a c.truth.result) c.loop-condition.invariant
-    ∙ ap (conjunction (all_of (map true_of (take i c.args.conditions.now)))) c.truth.ensures
-    ∙ sym (fold_next conjunction True true_of c.args.conditions.now i c.condition-item.result (omega arith) c.condition-item.is)
+    ∙ ap (conjunction (fold conjunction c.args.first (map true_of (take i c.args.conditions.now)))) c.truth.ensures
+    ∙ sym (fold_next conjunction c.args.first true_of c.args.conditions.now i c.condition-item.result (omega arith) c.condition-item.is)
 
 pub any-loop-condition-preserved : goal.any-loop-condition-preserved
 any-loop-condition-preserved t c =
@@ -71,5 +76,5 @@ any-loop-condition-preserved t c =
     let i = c.loop-condition.condition-index in
     c.or-any.ensures
     ∙ ap (λ (a : Truth). disjunction a c.truth.result) c.loop-condition.invariant
-    ∙ ap (disjunction (any_of (map true_of (take i c.args.conditions.now)))) c.truth.ensures
-    ∙ sym (fold_next disjunction False true_of c.args.conditions.now i c.condition-item.result (omega arith) c.condition-item.is)
+    ∙ ap (disjunction (fold disjunction c.args.first (map true_of (take i c.args.conditions.now)))) c.truth.ensures
+    ∙ sym (fold_next disjunction c.args.first true_of c.args.conditions.now i c.condition-item.result (omega arith) c.condition-item.is)

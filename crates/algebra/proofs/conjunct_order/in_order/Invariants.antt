@@ -1,7 +1,7 @@
 use Rattle.std.proofs.Common.{◌≡◌, ◌++◌, List, length}
 use Rattle.algebra.specs.declared.condition.Condition.{Condition}
 use Rattle.algebra.specs.ConjunctOrder as spec
-use Rattle.algebra.proofs.condition.Conjuncts.in_order.Given as goal
+use Rattle.algebra.proofs.conjunct_order.in_order.Given as goal
 
 -- the conditions that were taken are in order
 abbrev pub invariant-loop-condition : goal.invariant-loop-condition
