@@ -8,7 +8,7 @@ ghost use Rattle.derivation.specs.Replay.{replayed, IsChecked};
 use crate::fit::{is_delivered, plan_fits};
 use crate::replay::replay;
 use derivation::{Certificate, CheckFault};
-use logical::query_frame;
+use logical::frame;
 use query::{BoundQuery, Query};
 use schema::Schema;
 use std::alloc::Global;
@@ -26,7 +26,7 @@ fn accepted<'a>(
     ensures verdict { Gives (λ c. c.certificate) result (replayed query.now certificate.now) }
     ensures of { IfOk result (λ c. (c.schema ≡ schema.now) × (c.query ≡ query.now)) }
 {
-    let frame = query_frame(alloc, query)?;
+    let frame = frame(alloc, query)?;
     let lines = certificate.lines.as_slice();
     let columns = replay(alloc, query, frame.as_slice(), lines)?;
     let plan = &certificate.plan;

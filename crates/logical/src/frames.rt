@@ -349,7 +349,7 @@ fn add_block(
 }
 
 /// The expressions that found a query's classes, each naming earlier ones. The last is the query's own.
-pub fn query_frame(alloc: Global, query: &Query) -> Result<Items<Expr>, AllocError>
+pub fn frame(alloc: Global, query: &Query) -> Result<Items<Expr>, AllocError>
     ensures lines { IfOk result (λ lines. lines ≡ spec.query_frame query.now) }
     ensures meaning { IfOk result (λ lines. is_bound query.now ≡ true → spec.FrameMeans query.now lines) }
 {

@@ -7,5 +7,5 @@ mod lines;
 mod numbers;
 mod scope;
 
-pub use frames::query_frame;
+pub use frames::frame;
 pub use numbers::query_numbers;

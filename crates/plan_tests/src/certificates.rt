@@ -9,7 +9,7 @@ use checker::{Checked, check};
 use derivation::{Certificate, Line};
 use executor::run;
 use fixtures::{QueryReporting, drop_query, push_rows, query_differences, query_of};
-use logical::query_frame;
+use logical::frame;
 use physical::Plan;
 use query::{BoundQuery, Query};
 use schema::Schema;
@@ -26,11 +26,11 @@ fn frame_of(
     other: &str,
 ) -> Result<Items<Expr>, AllocError> {
     if other.is_empty() {
-        return query_frame(alloc, query);
+        return frame(alloc, query);
     }
     let other = query_of(alloc, schema, other);
     let frame = match &other {
-        Some(other) => query_frame(alloc, other.query()),
+        Some(other) => frame(alloc, other.query()),
         None => Ok(Items::new(alloc)),
     };
     drop_query(other);

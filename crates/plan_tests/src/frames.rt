@@ -4,7 +4,7 @@ use crate::lines::push_line;
 use crate::tables::TABLES;
 use algebra::{Aggregation, Columns, Conjuncts, Expr};
 use fixtures::{QueryReporting, query_differences};
-use logical::query_frame;
+use logical::frame;
 use query::{BoundQuery, Query, TableInstance};
 use std::alloc::{AllocError, Global};
 use store::Database;
@@ -76,7 +76,7 @@ impl QueryReporting for Frames {
         reported: &mut String,
     ) -> Result<(), AllocError> {
         let query = query.query();
-        let frame = query_frame(alloc, query)?;
+        let frame = frame(alloc, query)?;
         if !are_formed(alloc, query, frame.as_slice())? {
             reported.push_str("not well formed: ")?;
         }

@@ -9,7 +9,7 @@ ghost use Rattle.planner.specs.Canonical as spec;
 
 use algebra::{ClassId, Expr};
 use derivation::{Certificate, Line, query_order};
-use logical::query_frame;
+use logical::frame;
 use physical::{JoinKind, Node, Operator, OrderKey, Plan};
 use query::{BoundQuery, Query};
 use std::alloc::{AllocError, Global};
@@ -108,7 +108,7 @@ fn certificate_of(alloc: Global, query: &Query) -> Result<Certificate, AllocErro
     ensures only { IfOk result (spec.IsOnlyCanonical query.now) }
 {
     let order = query_order(alloc, query)?;
-    let frame = query_frame(alloc, query)?;
+    let frame = frame(alloc, query)?;
     let below = plan_of(alloc, frame.as_slice(), frame.len() - 1)?;
     let plan = sorted(alloc, Items::from_vec(order), below)?;
     let lines = lines_of(alloc, frame)?;

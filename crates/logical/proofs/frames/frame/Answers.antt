@@ -2,7 +2,7 @@ use Rattle.std.proofs.Common.{sym, subst}
 use Rattle.logical.specs.Frames as spec
 use Rattle.logical.proofs.FrameMeaning.{frame_means}
 use Rattle.logical.proofs.FrameSteps.{query_is}
-use Rattle.logical.proofs.frames.query_frame.Goals as goal
+use Rattle.logical.proofs.frames.frame.Goals as goal
 
 pub returns-clause-lines : goal.returns-clause-lines
 returns-clause-lines c = query_is c.args.query.now c.as_slice.result.now c.new-lines.result c.add_block.new.lines c.into_items.result c.as_slice.ensures c.new-lines.ensures c.in_ok-add_block.ensures.lines c.into_items.ensures
