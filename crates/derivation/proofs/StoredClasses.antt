@@ -15,7 +15,7 @@ use Rattle.query.specs.Bound.{Scope, use_numbers}
 use Rattle.algebra.specs.declared.condition.Condition.{Condition}
 use Rattle.algebra.specs.declared.expr.Expr.{Expr}
 use Rattle.algebra.specs.declared.expr.Expr.TheVariants.{Get, Select, Join, LeftJoin, Semi, Anti, Keep, Distinct, Group}
-use Rattle.logical.specs.Frames.{CondFrame, FromFrame, BlockFrame, cond_frame, from_frame, block_frame, all_frames, where_lines, group_lines, keep_lines, distinct_lines, join_lines, ordered, last, query_frame}
+use Rattle.logical.specs.Frames.{CondFrame, FromFrame, BlockFrame, cond_frame, from_frame, block_frame, all_frames, where_lines, group_lines, keep_lines, distinct_lines, join_lines, conjuncts_of, last, query_frame}
 use Rattle.logical.proofs.FrameEquations.{frame-Compare, frame-IsNull, frame-Not, frame-And, frame-Or, frame-Exists, frame-In, frame-Table, frame-Join, frame-LeftJoin, frame-Comma, frame-Block}
 use Rattle.logical.proofs.FrameShapes.{cond-shape, from-shape}
 use Rattle.logical.proofs.Growth.{Grows, last-below}
@@ -174,7 +174,7 @@ module _ (uses : List TableInstance) where
   where-reads (Some c) reads inner A some is =
       let framed : List Expr = (cond_frame uses c inner A).lines in (
         (refl, reads inner A is.0),
-        top (Select (ordered (cond_frame uses c inner A)) (last A)) framed ∙ kept framed A (last A) (cond-shape uses c inner A).grows (last-below A some) ∙ is.1,
+        top (Select (conjuncts_of (cond_frame uses c inner A)) (last A)) framed ∙ kept framed A (last A) (cond-shape uses c inner A).grows (last-below A some) ∙ is.1,
       )
 
   steps : Steps CondReads FromReads BlockReads
