@@ -6,7 +6,7 @@ use Rattle.std.proofs.lemmas.List.FromFn.{length-range_with_len}
 use Rattle.schema.specs.declared.schema.Schema.{Schema}
 use Rattle.sql_parse.specs.declared.statement.Condition.{Condition, roll-Condition}
 use Rattle.sql_parse.specs.declared.statement.Condition.TheOpen.{Condition-F, Join-F, Chain-F, Select-F}
-use Rattle.sql_parse.specs.declared.statement.Condition.TheFolds.{ind-Chain, ind-Condition, ind-Join, ind-Select, map-Condition, map-Join, map-Chain, map-Select}
+use Rattle.sql_parse.specs.declared.statement.Condition.TheFolds.{ind-Chain, ind-Condition, ind-Select, map-Condition, map-Join, map-Chain, map-Select}
 use Rattle.sql_parse.specs.declared.statement.Join.{Join, out-Join, roll-Join, out-roll-Join}
 use Rattle.sql_parse.specs.declared.statement.Chain.{Chain, out-Chain, roll-Chain, out-roll-Chain}
 use Rattle.sql_parse.specs.declared.statement.Select.{Select, out-Select, roll-Select, out-roll-Select}
@@ -20,11 +20,10 @@ use Rattle.binder.specs.Parts.{known, table_faults, term_faults, the_term, the_k
 use Rattle.binder.specs.Scopes.{Scope, Scopes}
 use Rattle.binder.specs.Selects.{block_of}
 use Rattle.binder.specs.Analyses.{Before, Content, behind, both, all_contents, ConditionAnalysis, JoinAnalysis, ChainAnalysis, SelectAnalysis, all_become, condition_layer, one_table, joins_faults, joins_become, chain_layer, chains_faults, commas_become, from_faults, from_becomes, from_content, filter_content, filter_faults, filter_becomes, scope_of_from, select_layer, condition_analysis, join_analysis, chain_analysis, select_analysis, statement_content, statement_faults, statement_query}
-use Rattle.binder.specs.TextNumbers.{Listing, one_listing, both_listings, all_listings, filter_listing, cond_listing, from_listing, block_listing, columns_together, IsNumbered, StatementsAreNumbered}
+use Rattle.binder.specs.TextNumbers.{Listing, one_listing, both_listings, all_listings, filter_listing, cond_listing, from_listing, block_listing, columns_together, IsNumbered}
 use Rattle.binder.proofs.PartAnswers.{instances-length, widths-append}
 use Rattle.binder.proofs.AnalysisNumbers.{nil-parts, both-assoc, both-none, listing-joined, occurrences_behind, of_content, both-listed, shown-numbers}
 use Rattle.binder.proofs.AnalysisParts.{analysis-condition, analysis-join, analysis-chain, select_parts, analysis-select}
-use Rattle.binder.proofs.StatementAnswers.{statements_accepted}
 use Rattle.binder.proofs.ListingEquations.{listing-Compare, listing-IsNull, listing-Not, listing-And, listing-Or, listing-Exists, listing-In, listing-Table, listing-Comma, listing-Block}
 
 module _ (S : Schema) where
@@ -218,13 +217,6 @@ module _ (S : Schema) where
       (λ x y is. subst (λ z. JoinListed (join_analysis S (roll-Join z))) is (join-by y))
       (λ x y is. subst (λ z. SelectListed (select_analysis S (roll-Select z))) is (select-by y y.filter))
 
-  pub joins-listed-each : (j : Join) → JoinListed (join_analysis S j)
-  joins-listed-each = ind-Join (λ c. ConditionListed (condition_analysis S c)) (λ c. ChainListed (chain_analysis S c)) (λ j. JoinListed (join_analysis S j)) (λ q. SelectListed (select_analysis S q))
-      (λ x y is. subst (λ z. ConditionListed (condition_analysis S (roll-Condition z))) is (condition-listed y))
-      (λ x y is. subst (λ z. ChainListed (chain_analysis S (roll-Chain z))) is (chain-by y))
-      (λ x y is. subst (λ z. JoinListed (join_analysis S (roll-Join z))) is (join-by y))
-      (λ x y is. subst (λ z. SelectListed (select_analysis S (roll-Select z))) is (select-by y y.filter))
-
   -- of a FROM of any chains
   all-proved : List Chain → List ProvedChain
   all-proved [] = []
@@ -301,8 +293,3 @@ module _ (S : Schema) where
     pub numbered : statement_faults S s ≡ [] → IsNumbered (statement_query S s)
     unfolding statement_query
     numbered none = numbered-query (selects-listed s.select [] _ (no-select-fault none))
-
-pub statements_numbered : StatementsAreNumbered
-statements_numbered S s q is =
-    let accepted = (statements_accepted S s q).0 is in
-    subst IsNumbered (sym accepted.1) (numbered S s accepted.0)

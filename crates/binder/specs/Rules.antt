@@ -88,21 +88,26 @@ module _ (S : Schema) where
     pub name : k.name ≡ (known_name t).text
     pub free : HasAny (λ (other : Known). other.name ≡ k.name) others → ⊥
 
-  -- ---- conditions, FROMs and SELECTs
+  -- ---- conditions, FROMs and SELECTs: what a part is in the text, what its own parts are, and what it is in the query
 
   mutual
     pub data BindsCondition : Scopes → Condition → Cond → Type 0 where
+      -- a comparison of two terms, whose kinds go together
       comparison : {scopes : Scopes} {c : Condition} {x : Cond} (a b : terms.Term) (op : Operator) (l r : BoundTerm) → c ≡ tree.Compare a op b
           → BindsTerm scopes a l → BindsTerm scopes b r → are_comparable l.kind r.kind ≡ true → x ≡ cond.Compare op.comparison l.term r.term → BindsCondition scopes c x
+      -- IS NULL
       null_test : {scopes : Scopes} {c : Condition} {x : Cond} (a : terms.Term) (l : BoundTerm) → c ≡ tree.IsNull a → BindsTerm scopes a l → x ≡ cond.IsNull l.term → BindsCondition scopes c x
+      -- NOT, AND and OR of conditions
       negation : {scopes : Scopes} {c : Condition} {x : Cond} (d : Condition) (y : Cond) → c ≡ tree.Not d → BindsCondition scopes d y → x ≡ cond.Not y → BindsCondition scopes c x
       conjunction : {scopes : Scopes} {c : Condition} {x : Cond} (ds : List Condition) (ys : List Cond) → c ≡ tree.And ds → BindsConditions scopes ds ys → x ≡ cond.And ys → BindsCondition scopes c x
       disjunction : {scopes : Scopes} {c : Condition} {x : Cond} (ds : List Condition) (ys : List Cond) → c ≡ tree.Or ds → BindsConditions scopes ds ys → x ≡ cond.Or ys → BindsCondition scopes c x
+      -- EXISTS of a subquery
       existence : {scopes : Scopes} {c : Condition} {x : Cond} (q : Select) (r : BoundSelect) → c ≡ tree.Exists q → BindsSelect scopes q r → x ≡ cond.Exists r.block → BindsCondition scopes c x
-      -- the subquery shows one column
+      -- IN of a subquery that shows one column, whose kind and the term's go together
       membership : {scopes : Scopes} {c : Condition} {x : Cond} (a : terms.Term) (at : ℕ) (q : Select) (l : BoundTerm) (r : BoundSelect) (o : Output) → c ≡ tree.In a at q
           → BindsTerm scopes a l → BindsSelect scopes q r → r.outputs ≡ o ∷ [] → are_comparable l.kind (Some o.kind) ≡ true → x ≡ cond.In l.term r.block → BindsCondition scopes c x
 
+    -- one by one
     pub data BindsConditions : Scopes → List Condition → List Cond → Type 0 where
       no_condition : {scopes : Scopes} → BindsConditions scopes [] []
       conditions : {scopes : Scopes} {c : Condition} {cs : List Condition} {x : Cond} {xs : List Cond} → BindsCondition scopes c x → BindsConditions scopes cs xs → BindsConditions scopes (c ∷ cs) (x ∷ xs)
@@ -115,10 +120,12 @@ module _ (S : Schema) where
           → BindsCondition ((chain ++ k ∷ []) ∷ outer) (out-Join j).condition on → BindsJoins outer others (chain ++ k ∷ []) (joined (out-Join j).kind left o on) js all whole
           → BindsJoins outer others chain left (j ∷ js) all whole
 
+    -- a table and what is joined to it
     pub data BindsChain : Scopes → Scope → Chain → Scope → From → Type 0 where
       chain : {outer : Scopes} {others all : Scope} {whole : From} (c : Chain) (o : Occurrence) (k : Known) → BindsTable others (out-Chain c).table o k
           → BindsJoins outer others (k ∷ []) (from.Table o) (out-Chain c).joins all whole → BindsChain outer others c all whole
 
+    -- behind the tables and the FROM so far
     pub data BindsCommas : Scopes → Scope → From → List Chain → Scope → From → Type 0 where
       no_comma : {outer : Scopes} {scope : Scope} {left : From} → BindsCommas outer scope left [] scope left
       commas : {outer : Scopes} {scope right all : Scope} {left next whole : From} {c : Chain} {cs : List Chain} → BindsChain outer scope c right next
@@ -128,7 +135,7 @@ module _ (S : Schema) where
       no_filter : {scopes : Scopes} → BindsFilter scopes None None
       filter : {scopes : Scopes} {c : Condition} {x : Cond} → BindsCondition scopes c x → BindsFilter scopes (Some c) (Some x)
 
-    -- a FROM has at least one chain
+    -- A FROM has at least one chain. WHERE, GROUP BY and the items see all of its tables.
     pub data BindsSelect : Scopes → Select → BoundSelect → Type 0 where
       select : {outer : Scopes} {q : Select} {r : BoundSelect} (c : Chain) (cs : List Chain) (first scope : Scope) (left sources : From) (where_ : Option Cond) (keys : List ℕ) (outputs : List Output)
           → (out-Select q).from ≡ c ∷ cs → BindsChain outer [] c first left → BindsCommas outer first left cs scope sources
@@ -146,11 +153,14 @@ module _ (S : Schema) where
 
   -- the statement is this query
   pub record Binds (s : Statement) (q : Query) : Type 0 where
+    -- so many table instances, SELECTs and tests, and in all so many columns and aggregates
     pub sizes : is_within (of_select S s.select) ≡ true
+    pub columns : columns_together q.tables + length (block_listing q.block).aggregates ≤ MAX_COLUMNS
     pub shown : BoundSelect
     pub select : BindsSelect [] s.select shown
     pub block : q.block ≡ shown.block
     pub names : q.names ≡ map (λ o. o.name) shown.outputs
+    -- a later key over a column that is a key already is dropped
     pub keys : List SortKey
     pub order_by : Pairs (BindsOrder shown.scope shown.outputs) s.order keys
     pub order : q.order ≡ without_repeats keys
@@ -158,7 +168,6 @@ module _ (S : Schema) where
     pub over : AllByRecursion (IsOver S) q.tables
     pub known : map (λ t. t.name) q.tables ≡ map (λ t. (known_name t).text) (statement_content S s).tables
     pub numbered : IsNumbered q
-    pub columns : columns_together q.tables + length (block_listing q.block).aggregates ≤ MAX_COLUMNS
 
 -- ---- the law
 

@@ -1,8 +1,6 @@
 -- The numbers of a bound query, in the order of its text (this project's profile of SQL).
-use Rattle.std.specs.Prelude.{◌≡◌, ℕ, List, [], ◌∷◌, ◌++◌, length, map, take, sum_by, slice_get, Option, Some, None, Ok}
+use Rattle.std.specs.Prelude.{◌≡◌, ℕ, List, [], ◌∷◌, ◌++◌, length, map, take, sum_by, slice_get, Option, Some, None}
 use Rattle.std.specs.List.{range_with_len}
-use Rattle.schema.specs.declared.schema.Schema.{Schema}
-use Rattle.sql_parse.specs.declared.statement.Statement.{Statement}
 use Rattle.query.specs.declared.query.Block.{Block}
 use Rattle.query.specs.declared.query.Cond.{Cond}
 use Rattle.query.specs.declared.query.Cond.TheFolds.{fold-Cond, fold-From, fold-Block}
@@ -12,7 +10,6 @@ use Rattle.query.specs.declared.query.Occurrence.{Occurrence}
 use Rattle.query.specs.declared.query.Query.{Query}
 use Rattle.query.specs.declared.query.TableInstance.{TableInstance}
 use Rattle.query.specs.Bound.{aggregate_numbers}
-use Rattle.binder.specs.Queries.{bound_statement}
 
 -- What stands in a part: its occurrences, as they stand in the text, and the numbers of its aggregates, SELECT by SELECT from
 -- the outside.
@@ -76,8 +73,3 @@ pub record IsNumbered (q : Query) : Type 0 where
   pub columns : (i : ℕ) (t : TableInstance) → slice_get q.tables i ≡ Some t → t.first_column ≡ columns_together (take i q.tables)
   -- and behind all of these the aggregates
   pub aggregates : (block_listing q.block).aggregates ≡ range_with_len (columns_together q.tables) (length (block_listing q.block).aggregates)
-
--- ---- the law
-
-abbrev pub StatementsAreNumbered : Type 0
-StatementsAreNumbered = (S : Schema) (s : Statement) (q : Query) → bound_statement S s ≡ Ok q → IsNumbered q

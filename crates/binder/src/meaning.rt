@@ -1,9 +1,8 @@
 //! The laws of what a statement means. The functions do nothing: their contracts are the laws.
 
-ghost use Rattle.binder.specs.Meanings.{NamesFail, NamesMean};
 ghost use Rattle.binder.specs.Analyses.{StatementsAccepted, StatementsRefused};
+ghost use Rattle.binder.specs.Meanings.{NamesFail, NamesMean};
 ghost use Rattle.binder.specs.Rules.{StatementsBind};
-ghost use Rattle.binder.specs.TextNumbers.{StatementsAreNumbered};
 
 /// A name means the column that the scope rules say, and a refusal of it is the fault that they say.
 pub fn names_are_resolved()
@@ -11,11 +10,10 @@ pub fn names_are_resolved()
     ensures fault { NamesFail }
 {}
 
-/// A statement without a fault becomes the query that it means, and any other is refused with the first of its faults.
-/// The query's numbers are those of the text.
+/// A statement becomes the query that it is by the rules. It is accepted if the list of its faults is empty, and else refused
+/// with the first.
 pub fn statements_have_meaning()
-    ensures bound { StatementsBind }
+    ensures rules { StatementsBind }
     ensures accepted { StatementsAccepted }
     ensures refused { StatementsRefused }
-    ensures numbered { StatementsAreNumbered }
 {}
