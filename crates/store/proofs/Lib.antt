@@ -5,6 +5,7 @@ pub mod Keys
 pub mod Loads
 pub mod ReadRecords
 pub mod Repeats
+pub mod Rising
 pub mod RowKeys
 pub mod Satisfies
 pub mod Steps

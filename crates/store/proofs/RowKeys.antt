@@ -2,11 +2,14 @@
 use Rattle.std.proofs.Common.{◌≡◌, ℕ, ◌+◌, ◌<◌, ◌≤◌, length, take, get_or, Bool, true, false, not, refl, sym, ap, ◌∙◌}
 use Rattle.std.proofs.lemmas.List.{take_all, take_more_same}
 use Rattle.std.proofs.lemmas.Bool.{not-false}
+use Rattle.std.specs.declared.cmp.Ordering.TheVariants.{Equal}
 use Rattle.values.specs.declared.value.Value.{Value}
 use Rattle.values.specs.declared.value.Value.TheVariants as value
 use Rattle.values.specs.declared.cell.Cell.{Cell}
 use Rattle.values.specs.declared.cell.Cell.TheVariants as cell
 use Rattle.values.specs.Cells.{value_of}
+use Rattle.values.specs.Order.{order}
+use Rattle.values.proofs.Orders.{order_antisymmetric}
 use Rattle.values.specs.contracts.value.ValuePartialEq.TheImpl as value_eq
 use Rattle.values.specs.contracts.cell.CellPartialEq.TheImpl as cell_eq
 use Rattle.schema.specs.Databases.{Row}
@@ -49,3 +52,10 @@ keys_go_on k l i x y low high p q n h =
 
 pub keys_same : (k l : Row) (i : ℕ) → length k ≤ i → length l ≤ i → take i k ≡ take i l → true ≡ key_eq k l
 keys_same k l i low high h = sym ((key_decides k l).1 (sym (take_all i k low) ∙ h ∙ take_all i l high))
+
+-- two cells that tie are the same value
+pub keys_tie : (k l : Row) (i : ℕ) (x y : Cell) → i < length k → i < length l → value_of x ≡ get_or k i value.Null → value_of y ≡ get_or l i value.Null → order (value_of x) (value_of y) ≡ Equal
+    → take i k ≡ take i l → take (i + 1) k ≡ take (i + 1) l
+keys_tie k l i x y low high p q tied h =
+    let same : get_or k i value.Null ≡ get_or l i value.Null = sym p ∙ order_antisymmetric (value_of x) (value_of y) tied ∙ q in
+    take_more_same k l i value.Null low high h same

@@ -71,7 +71,7 @@ pub fn read_all<R: TableInput>(alloc: Global, input: &mut R) -> Result<Vec<u8>, 
     ensures device { IfErr result (λ e. e ≡ InputFault.Device → Rose (R.failures input.old) (R.failures input.new)) }
 {
     let mut bytes = Vec::new(alloc);
-    let mut buffer = [0u8; 4096];
+    let mut buffer = [0u8; 65_536];
     for _ in 0..u64::MAX {
         match input.read_some(&mut buffer) {
             Ok(0) => return Ok(bytes),

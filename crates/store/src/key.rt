@@ -1,9 +1,12 @@
 //! Rows by their values at some places, which stay where they are.
 
-ghost use Rattle.std.specs.Prelude.{◌≡◌, ◌<◌, true, false, [], length, slice_index_or, MatchOption, flat_map};
+ghost use Rattle.std.specs.Prelude.{◌≡◌, ◌<◌, true, false, [], length, slice_index_or, IsTrue, MatchOption, flat_map};
 ghost use Rattle.std.specs.Cmp.{partial_equiv_from_equiv};
+ghost use Rattle.std.specs.Cmp.Lexicographic.{slice_cmp};
+ghost use Rattle.std.specs.declared.cmp.Ordering.TheVariants.{Less};
 ghost use Rattle.std.specs.List.{list_any};
 ghost use Rattle.values.specs.Cells.{value_of};
+ghost use Rattle.values.specs.Order.{order};
 ghost use Rattle.values.specs.Truth as logic;
 ghost use Rattle.values.specs.declared.value.Value.TheVariants as value;
 ghost use Rattle.schema.specs.Databases.{values_at};
@@ -12,9 +15,10 @@ ghost use Rattle.store.specs.RowCells.{row_of};
 
 use crate::row::RowCells;
 use crate::table::Table;
+use std::cmp::Ordering;
 use std::hash::{Hash, Hasher};
 use std::marker::Model;
-use values::{Cell, Items};
+use values::{Cell, Items, order};
 
 /// The values of a row at some places, seen as their list.
 #[derive(Drop)]
@@ -50,6 +54,23 @@ impl<'a, 't> RowKey<'a, 't> {
         ensures { value_of result ≡ slice_index_or self.now number value.Null }
     {
         self.row.cell(self.places[number])
+    }
+
+    /// Whether the first value that differs from the other key's comes before it in the total order.
+    pub(crate) fn is_below(&self, other: &RowKey<'_, '_>) -> bool
+        ensures { IsTrue result → slice_cmp order self.now other.now ≡ Less }
+    {
+        if self.len() != other.len() {
+            return false;
+        }
+        for number in 0..self.len() {
+            match order(self.cell(number), other.cell(number)) {
+                Ordering::Less => return true,
+                Ordering::Equal => {}
+                Ordering::Greater => return false,
+            }
+        }
+        false
     }
 }
 

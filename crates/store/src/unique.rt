@@ -1,6 +1,6 @@
 //! Rows that repeat a unique list of an earlier row.
 
-ghost use Rattle.std.specs.Prelude.{◌≡◌, ◌≤◌, ◌<◌, true, false, [], map, length, slice_index_or, IfOk, MatchOption};
+ghost use Rattle.std.specs.Prelude.{◌≡◌, ◌≤◌, ◌<◌, true, false, [], map, length, slice_index_or, IfOk, IsTrue, MatchOption};
 ghost use Rattle.std.specs.List.{list_any, AllByRecursion};
 ghost use Rattle.values.specs.Cells.{value_of};
 ghost use Rattle.values.specs.Truth as logic;
@@ -8,7 +8,7 @@ ghost use Rattle.schema.specs.Databases.{values_at, IsUnique};
 ghost use Rattle.store.specs.Tables.{UniqueTo, RepeatsAt};
 ghost use Rattle.store.specs.Parsing.{EarliestRepeat};
 
-use crate::key::key_of;
+use crate::key::{RowKey, key_of};
 use crate::source::RowSource;
 use crate::table::Table;
 use std::alloc::{AllocError, Global};
@@ -22,6 +22,27 @@ pub struct Repeat {
     pub earlier: usize,
 }
 
+/// Whether the keys of the first rows, as many as `limit`, rise from each to the next, those with a Null apart. Then none
+/// repeats another, and no map of them is needed.
+fn rises(rows: &Table, limit: usize, places: &Items<usize>) -> bool
+    requires { limit ≤ length rows.now }
+    ensures { IsTrue result → UniqueTo limit rows.now places.now }
+{
+    let mut last: Option<RowKey<'_, '_>> = None;
+    for row in 0..limit {
+        let Some(key) = key_of(rows, row, places) else {
+            continue;
+        };
+        if let Some(before) = &last {
+            if !before.is_below(&key) {
+                return false;
+            }
+        }
+        last = Some(key);
+    }
+    true
+}
+
 /// Of the first rows, as many as `limit`, the first that repeats an earlier one at the places.
 fn first_repeat(
     alloc: Global,
@@ -33,7 +54,10 @@ fn first_repeat(
     ensures { IfOk result (λ o. MatchOption o (UniqueTo limit rows.now places.now)
         (λ r. (r.row < limit) × UniqueTo r.row rows.now places.now × RepeatsAt rows.now r.row r.earlier places.now)) }
 {
-    let mut seen = HashMap::new(alloc);
+    if rises(rows, limit, places) {
+        return Ok(None);
+    }
+    let mut seen = HashMap::with_capacity(alloc, limit)?;
     for row in 0..limit {
         let Some(key) = key_of(rows, row, places) else {
             continue;
