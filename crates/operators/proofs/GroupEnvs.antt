@@ -24,10 +24,14 @@ use Rattle.operators.specs.declared.rows.RowData.{RowData}
 use Rattle.operators.specs.Places.{listed, value_in}
 use Rattle.operators.specs.Relations.{values_of, column_place, column_places, row_env, rows_of}
 use Rattle.operators.specs.declared.keys.RowRef.{RowRef}
-use Rattle.operators.specs.Groups.{GroupOf, first_seen, same_at, group_env, relation_groups, lent_envs}
+use Rattle.operators.specs.Groups.{GroupOf, first_seen, same_at, group_env, relation_groups}
 use Rattle.operators.proofs.ColumnPlaces.{found-column, other-column}
 
 -- ---- the rows of a group
+
+-- rows that are lent, in an environment
+abbrev pub lent_envs : Heading → List RowRef → Env → List Env
+lent_envs h rows e = map (λ r. row_env h r.row.now e) rows
 
 pub lent-members : (h : Heading) (rows : List RowRef) (e : Env) → lent_envs h rows e ≡ map (λ r. row_env h r e) (map (λ r. r.row.now) rows)
 lent-members h [] e = refl

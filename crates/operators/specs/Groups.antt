@@ -8,7 +8,6 @@ use Rattle.algebra.specs.Expressions.{with_aggregates}
 use Rattle.operators.specs.declared.rows.RowData.{RowData}
 use Rattle.operators.specs.declared.relation.Relation.{Relation}
 use Rattle.operators.specs.declared.keys.Group as lent
-use Rattle.operators.specs.declared.keys.RowRef.{RowRef}
 use Rattle.operators.specs.declared.headings.Heading.{Heading}
 use Rattle.operators.specs.declared.groups.Grouping.{Grouping}
 use Rattle.operators.specs.Relations.{values_of, row_env, column_places}
@@ -49,10 +48,6 @@ same_at places r s = key_eq (values_at places (values_of r)) (values_at places (
 
 abbrev pub group_of : lent.Group → GroupOf RowData
 group_of g = record { first = option_map (λ r. r.now) g.first; rows = map (λ r. r.row.now) g.rows.items }
-
--- rows that are lent, in an environment
-abbrev pub lent_envs : Heading → List RowRef → Env → List Env
-lent_envs h rows e = map (λ r. row_env h r.row.now e) rows
 
 -- the rows of a group
 abbrev pub member_envs : Heading → GroupOf RowData → Env → List Env

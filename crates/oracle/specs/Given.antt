@@ -1,7 +1,6 @@
 -- What the evaluator is lent, as the meaning of queries sees it.
-use Rattle.std.specs.Prelude.{ℕ, List, [], ◌∷◌, map}
+use Rattle.std.specs.Prelude.{List, [], ◌∷◌, map}
 use Rattle.std.specs.Borrow.{Bor}
-use Rattle.values.specs.declared.value.Value.{Value}
 use Rattle.schema.specs.Databases.{Row}
 use Rattle.query.specs.Rows as rows
 use Rattle.oracle.specs.declared.environment.Env.{Env, Empty, Inner'}
@@ -14,7 +13,3 @@ env_of (Inner' row _ outer) = row.now ∷ env_of outer
 -- the rows that are lent
 abbrev pub rows_at : List (Bor Row) → List Row
 rows_at lent = map (λ r. r.now) lent
-
--- their values at a place
-abbrev pub values_of : ℕ → List (Bor Row) → List Value
-values_of place lent = map (rows.value_at place) (rows_at lent)

@@ -6,9 +6,8 @@ use Rattle.values.proofs.Each.{all_from_map, item_at}
 use Rattle.query.specs.Aggregates.{MayRead, aggregate_of, column_of}
 use Rattle.query.proofs.RunningAggregates.{aggregated, aggregated-rows, read-column}
 use Rattle.operators.specs.declared.keys.RowRef.{RowRef}
-use Rattle.operators.specs.Groups.{lent_envs}
 use Rattle.operators.specs.Relations.{env_of, row_env}
-use Rattle.operators.proofs.GroupEnvs.{lent-members}
+use Rattle.operators.proofs.GroupEnvs.{lent_envs, lent-members}
 use Rattle.operators.proofs.aggregates.aggregate.Goals as goal
 
 pub returns : goal.returns

@@ -1,8 +1,8 @@
 use Rattle.std.proofs.Common.{map, take}
 use Rattle.query.specs.Aggregates.{column_of}
 use Rattle.query.specs.Running.{IsAfter}
-use Rattle.operators.specs.Groups.{lent_envs}
 use Rattle.operators.specs.Relations.{env_of}
+use Rattle.operators.proofs.GroupEnvs.{lent_envs}
 use Rattle.operators.proofs.aggregates.aggregate.Given as goal
 
 abbrev pub invariant-loop-row : goal.invariant-loop-row
