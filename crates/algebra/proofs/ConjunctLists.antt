@@ -7,6 +7,7 @@ use Rattle.std.specs.Cmp.Lexicographic.{slice_cmp, on_texts}
 use Rattle.std.proofs.lemmas.Bool.{cond_both}
 use Rattle.std.proofs.lemmas.List.Folds.{list_all-append}
 use Rattle.std.proofs.Math.Bool.{and-true}
+use Rattle.values.proofs.Lists.{all_append}
 use Rattle.algebra.specs.declared.condition.Condition.{Condition, roll-Condition, fold-roll-Condition, ind-Condition, map-Condition, out-Condition, roll-out-Condition}
 use Rattle.algebra.specs.declared.condition.Condition.TheOpen.{Condition-F}
 use Rattle.algebra.specs.declared.condition.Condition.TheVariants.{Compare, IsNull, Not, And, Or, Exists, In, rolls-Compare, rolls-IsNull, rolls-Not, rolls-And, rolls-Or, rolls-Exists, rolls-In}
@@ -41,13 +42,9 @@ wholes : (ps : List Part) → map (λ c. c.whole) (map flat (map (λ p. p.0) ps)
 wholes [] = refl
 wholes (p ∷ ps) = two (λ c cs. c ∷ cs) p.1.whole (wholes ps)
 
-all-append : {A : Type 0} (P : A → Type 0) (xs ys : List A) → AllByRecursion P xs → AllByRecursion P ys → AllByRecursion P (xs ++ ys)
-all-append P [] ys all more = more
-all-append P (x ∷ xs) ys all more = (all.0, all-append P xs ys all.1 more)
-
 all-parts : (ps : List Part) → AllByRecursion IsPart (flat_map (λ c. c.parts) (map flat (map (λ p. p.0) ps)))
 all-parts [] = tt
-all-parts (p ∷ ps) = all-append IsPart (parts_of p.0) _ p.1.parts (all-parts ps)
+all-parts (p ∷ ps) = all_append IsPart (parts_of p.0) _ p.1.parts (all-parts ps)
 
 -- a condition that stands alone
 by-itself : (c : Condition) → flat c ≡ record { whole = c; parts = c ∷ [] } → IsFlat c
@@ -175,7 +172,7 @@ in_order-each P (c ∷ cs) all = put-each P c (in_order cs) all.0 (in_order-each
 
 parts-are : (cs : List Condition) → AllByRecursion IsPart (flat_map parts_of cs)
 parts-are [] = tt
-parts-are (c ∷ cs) = all-append IsPart (parts_of c) _ (is-flat c).parts (parts-are cs)
+parts-are (c ∷ cs) = all_append IsPart (parts_of c) _ (is-flat c).parts (parts-are cs)
 
 pub no_conjuncts : AreConjuncts []
 no_conjuncts = record { parts = tt; ordered = tt }

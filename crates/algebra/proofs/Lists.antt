@@ -2,6 +2,7 @@
 use Rattle.std.proofs.Common.{◌≡◌, refl, ap, sym, ◌∙◌, Bool, true, false, not, if◌then◌else◌, List, [], ◌∷◌, map, filter, flat_map}
 use Rattle.std.specs.List.{AllByRecursion}
 use Rattle.std.proofs.lemmas.List.{map-append}
+use Rattle.values.proofs.Each.{all_filter}
 use Rattle.values.proofs.Lists.{filter-map}
 
 pub two : {X Y Z : Type 0} (f : X → Y → Z) {a b : X} {c d : Y} → a ≡ b → c ≡ d → f a c ≡ f b d
@@ -33,14 +34,6 @@ pub all-map : {X Y : Type 0} (P : X → Type 0) (Q : Y → Type 0) (g : X → Y)
 all-map P Q g [] h all = tt
 all-map P Q g (x ∷ xs) h all = (h x all.0, all-map P Q g xs h all.1)
 
-pub all-filter : {X : Type 0} (P : X → Type 0) (p : X → Bool) (xs : List X) → AllByRecursion P xs → AllByRecursion P (filter p xs)
-all-filter P p [] all = tt
-all-filter P p (x ∷ xs) all = by (p x) (all-filter P p xs all.1)
-  where
-    by : (b : Bool) → AllByRecursion P (filter p xs) → AllByRecursion P (if b then x ∷ filter p xs else filter p xs)
-    by true more = (all.0, more)
-    by false more = more
-
 pub all-each : {X : Type 0} (P : X → Type 0) → ((x : X) → P x) → (xs : List X) → AllByRecursion P xs
 all-each P h [] = tt
 all-each P h (x ∷ xs) = (h x, all-each P h xs)
@@ -58,7 +51,7 @@ filter-same P p q (x ∷ xs) same all = rw (same x all.0, filter-same P p q xs s
 
 pub all-distinct : {X : Type 0} (P : X → Type 0) (same : X → X → Bool) (xs : List X) → AllByRecursion P xs → AllByRecursion P (distinct_by same xs)
 all-distinct P same [] all = tt
-all-distinct P same (x ∷ xs) all = (all.0, all-filter P (λ y. not (same x y)) (distinct_by same xs) (all-distinct P same xs all.1))
+all-distinct P same (x ∷ xs) all = (all.0, all_filter P (λ y. not (same x y)) (distinct_by same xs) (all-distinct P same xs all.1))
 
 pub distinct-map : {X Y : Type 0} (g : X → Y) (same : Y → Y → Bool) (xs : List X) → distinct_by same (map g xs) ≡ map g (distinct_by (λ x y. same (g x) (g y)) xs)
 distinct-map g same [] = refl

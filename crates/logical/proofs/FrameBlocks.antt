@@ -32,7 +32,8 @@ use Rattle.logical.proofs.FrameRight.{CondRight, FromRight, CondMeans, FromMeans
 use Rattle.logical.proofs.FrameShapes.{FromShape, BoundParts, cond-shape, from-shape, bound-parts}
 use Rattle.logical.proofs.Growth.{grows-none, kept-rows, top-rows, top-columns, last-below}
 use Rattle.logical.proofs.Induction.{OfFilter}
-use Rattle.algebra.proofs.Lists.{through, all-filter, all-distinct}
+use Rattle.values.proofs.Each.{all_filter}
+use Rattle.algebra.proofs.Lists.{through, all-distinct}
 use Rattle.algebra.proofs.ConnectiveParts.{conjuncts-hold}
 use Rattle.algebra.proofs.Puts.{put, Agrees, IsNew, agrees-put, new-right}
 use Rattle.logical.proofs.Shown.{Reads, shows, shows-once}
@@ -106,7 +107,7 @@ module _ (uses : List TableInstance) (D : Tables) (fits : IsFitting D) where
       firsts = first_rows (k ∷ keys) L;
       members = with_key (k ∷ keys) L;
       wide = all-distinct Wide _ L wide;
-      members_wide = λ s. all-filter Wide _ L wide;
+      members_wide = λ s. all_filter Wide _ L wide;
       rows = top-rows uses D (Group (rising (map (number_at numbers) (k ∷ keys))) (aggregations numbers items) (last A)) A e
           ∙ group-keyed numbers scope ρ e agree new items k keys (class_rows uses D A (last A)) L is wide within;
       shown = groups-keyed numbers scope ρ e agree new items k keys L;
@@ -148,4 +149,4 @@ module _ (uses : List TableInstance) (D : Tables) (fits : IsFitting D) where
       let wide : HaveWidth (length numbers) (source q.from D ρ) = subst (λ w. HaveWidth w (source q.from D ρ)) (first.width parts.from) (source_fits q.from D ρ fits) in
       shown-rows numbers scope ρ e agree new q.distinct q.grouped q.keys q.items B _
       (where-right q.filter where_ (numbers ∷ scope) A shape.some ρ e (λ s. put numbers s e) (length numbers) (source q.from D ρ) (first.rows ρ e parts.from new agree) parts.filter (λ s w. agrees-put numbers s e scope ρ new w agree) wide)
-      (all-filter (λ s. length s ≡ length numbers) _ (source q.from D ρ) wide) apart parts.items)
+      (all_filter (λ s. length s ≡ length numbers) _ (source q.from D ρ) wide) apart parts.items)

@@ -15,7 +15,8 @@ use Rattle.algebra.specs.Bags.{Env, Bag, Test, lay, nulls, matches, distinct_on}
 use Rattle.algebra.specs.Conditions.{holds}
 use Rattle.algebra.proofs.Sets.{has-rising}
 use Rattle.algebra.proofs.Puts.{among-append}
-use Rattle.algebra.proofs.Lists.{two, all-map, all-filter, all-each}
+use Rattle.values.proofs.Each.{all_filter}
+use Rattle.algebra.proofs.Lists.{two, all-map, all-each}
 use Rattle.physical.specs.declared.plan.JoinKind.{JoinKind}
 use Rattle.physical.specs.declared.plan.JoinKind.TheVariants.{Inner, Left}
 use Rattle.physical.specs.declared.plan.OrderKey.{OrderKey}
@@ -114,7 +115,7 @@ module _ (right : List ℕ) (keys : List OrderKey) where
 
   matches-alike : (p : Test) (rows : List Env) (r : Env) → AllByRecursion (λ t. Alike left_order t r) (matches p (has right) rows r)
   matches-alike p rows r =
-      all-filter _ p (map (λ s. lay (has right) s r) rows) (all-map (λ s. Alike left_order (lay (has right) s r) r) _ (λ s. lay (has right) s r) rows (λ s h. h) (all-each _ (λ s. pair-alike s r) rows))
+      all_filter _ p (map (λ s. lay (has right) s r) rows) (all-map (λ s. Alike left_order (lay (has right) s r) r) _ (λ s. lay (has right) s r) rows (λ s h. h) (all-each _ (λ s. pair-alike s r) rows))
 
   or_else-alike : (r : Env) (rows : List Env) → AllByRecursion (λ t. Alike left_order t r) rows → AllByRecursion (λ t. Alike left_order t r) (or_else_row (lay (has right) nulls r) rows)
   or_else-alike r [] all = (pair-alike nulls r, tt)

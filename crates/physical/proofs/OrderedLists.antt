@@ -7,7 +7,8 @@ use Rattle.std.specs.List.{AllByRecursion}
 use Rattle.std.proofs.lemmas.Cmp.{tied_itself}
 use Rattle.values.proofs.Lists.{all_append, all_weaker}
 use Rattle.algebra.specs.Bags.{Env, same_on, distinct_on}
-use Rattle.algebra.proofs.Lists.{all-map, all-filter, all-each}
+use Rattle.values.proofs.Each.{all_filter}
+use Rattle.algebra.proofs.Lists.{all-map, all-each}
 use Rattle.physical.proofs.Sorting.{Precedes, Ascends}
 
 -- an order that distinguishes no elements
@@ -28,7 +29,7 @@ ascends-weaker cmp by h (x ∷ xs) up = (all_weaker _ _ (λ y k. h x y k) xs up.
 
 pub ascends-filter : {X : Type 0} (cmp : X → X → Ordering) (p : X → Bool) (xs : List X) → Ascends cmp xs → Ascends cmp (filter p xs)
 ascends-filter cmp p [] up = tt
-ascends-filter cmp p (x ∷ xs) up = by (p x) (all-filter _ p xs up.0) (ascends-filter cmp p xs up.1)
+ascends-filter cmp p (x ∷ xs) up = by (p x) (all_filter _ p xs up.0) (ascends-filter cmp p xs up.1)
   where
     by : (b : Bool) → Precedes cmp x (filter p xs) → Ascends cmp (filter p xs) → Ascends cmp (if b then x ∷ filter p xs else filter p xs)
     by true low rest = (low, rest)
@@ -36,12 +37,12 @@ ascends-filter cmp p (x ∷ xs) up = by (p x) (all-filter _ p xs up.0) (ascends-
 
 all-distinct_on : (P : Env → Type 0) (K : List ℕ) (rows : List Env) → AllByRecursion P rows → AllByRecursion P (distinct_on K rows)
 all-distinct_on P K [] all = tt
-all-distinct_on P K (r ∷ rows) all = (all.0, all-filter P (λ s. not (same_on K r s)) (distinct_on K rows) (all-distinct_on P K rows all.1))
+all-distinct_on P K (r ∷ rows) all = (all.0, all_filter P (λ s. not (same_on K r s)) (distinct_on K rows) (all-distinct_on P K rows all.1))
 
 pub ascends-distinct_on : (cmp : Env → Env → Ordering) (K : List ℕ) (rows : List Env) → Ascends cmp rows → Ascends cmp (distinct_on K rows)
 ascends-distinct_on cmp K [] up = tt
 ascends-distinct_on cmp K (r ∷ rows) up =
-    (all-filter _ (λ s. not (same_on K r s)) (distinct_on K rows) (all-distinct_on _ K rows up.0), ascends-filter cmp (λ s. not (same_on K r s)) (distinct_on K rows) (ascends-distinct_on cmp K rows up.1))
+    (all_filter _ (λ s. not (same_on K r s)) (distinct_on K rows) (all-distinct_on _ K rows up.0), ascends-filter cmp (λ s. not (same_on K r s)) (distinct_on K rows) (ascends-distinct_on cmp K rows up.1))
 
 -- ---- lists of lists
 
