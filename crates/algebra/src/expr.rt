@@ -98,9 +98,7 @@ fn is_same(expr: &Expr, other: &Expr) -> bool
             && m.same(n),
         (Expr::Keep(k, x), Expr::Keep(l, y)) => *x == *y && k.same(l),
         (Expr::Distinct(x), Expr::Distinct(y)) => *x == *y,
-        (Expr::Group(k, g, x), Expr::Group(l, h, y)) => *x == *y
-            && k.same(l)
-            && g.same(h),
+        (Expr::Group(k, g, x), Expr::Group(l, h, y)) => *x == *y && k.same(l) && g.same(h),
         _ => false,
     }
 }
