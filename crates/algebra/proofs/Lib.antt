@@ -1,3 +1,4 @@
+pub mod AggregateLists
 pub mod BagSums
 pub mod ConditionNames
 pub mod ConjunctLists

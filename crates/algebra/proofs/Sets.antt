@@ -11,6 +11,7 @@ use Rattle.std.proofs.lemmas.List.{get_or_default, map-id}
 use Rattle.std.proofs.lemmas.List.FromFn.{length-range_with_len, get_or-range_with_len, map-range_with_len_more}
 use Rattle.std.proofs.lemmas.List.Sorted.{searched}
 use Rattle.algebra.specs.Columns.{has, insert, rising}
+use Rattle.algebra.specs.Expressions.{are_different}
 use Rattle.algebra.proofs.Lists.{cons-same}
 
 -- each element is greater than x
@@ -74,6 +75,22 @@ rises-insert c (x ∷ xs) r =
 pub rises-rising : (cs : List ℕ) → Rises (rising cs)
 rises-rising [] = tt
 rises-rising (c ∷ cs) = rises-insert c (rising cs) (rises-rising cs)
+
+increasing-rises : (xs : List ℕ) → Rises xs → IsStrictlyIncreasing xs
+increasing-rises [] r k h = absurd (omega (arith, h))
+increasing-rises (x ∷ []) r k h = absurd (omega (arith, h))
+increasing-rises (x ∷ y ∷ xs) r zero h = r.0.0
+increasing-rises (x ∷ y ∷ xs) r (suc k) h = let next : suc k + 1 ≡ suc (k + 1) = omega arith in rw next (increasing-rises (y ∷ xs) r.1 k (omega (arith, h)))
+
+pub increasing-rising : (cs : List ℕ) → IsStrictlyIncreasing (rising cs)
+increasing-rising cs = increasing-rises (rising cs) (rises-rising cs)
+
+different-rises : (xs : List ℕ) → Rises xs → are_different xs ≡ true
+different-rises [] r = refl
+different-rises (x ∷ xs) r = rw (above-disjoint x x xs (omega arith) r.0) (different-rises xs r.1)
+
+pub different-rising : (cs : List ℕ) → are_different (rising cs) ≡ true
+different-rising cs = different-rises (rising cs) (rises-rising cs)
 
 or-turn : (a b c : Bool) → (a || (b || c)) ≡ (b || (a || c))
 or-turn true true c = refl

@@ -1,3 +1,4 @@
+pub mod AggregateOrder
 pub mod Bags
 pub mod Classes
 pub mod Columns

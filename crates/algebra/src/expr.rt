@@ -4,10 +4,10 @@ ghost use Rattle.std.specs.Prelude.{◌≡◌, ◌↔◌, ◌++◌, IsTrue, opti
 ghost use Rattle.algebra.specs.Equality as spec;
 ghost use Rattle.algebra.specs.Expressions.{children, conditions};
 
+use crate::aggregations::Aggregations;
 use crate::columns::Columns;
 use crate::condition::{ClassId, Condition, Conjuncts};
 use query::{Aggregate, ColumnId, OccurrenceId};
-use values::Items;
 
 /// An aggregate in a column of its own. Here the aggregate names the column that it reads by its number.
 #[derive(Clone, Copy, PartialEq, Eq)]
@@ -38,7 +38,7 @@ pub enum Expr {
     /// One of each row.
     Distinct(ClassId),
     /// One row for each different key, or one row where there is no key column, and the aggregates of each group.
-    Group(Columns, Items<Aggregation>, ClassId),
+    Group(Columns, Aggregations, ClassId),
 }
 
 impl Expr {
@@ -98,9 +98,7 @@ fn is_same(expr: &Expr, other: &Expr) -> bool
             && m.same(n),
         (Expr::Keep(k, x), Expr::Keep(l, y)) => *x == *y && k.same(l),
         (Expr::Distinct(x), Expr::Distinct(y)) => *x == *y,
-        (Expr::Group(k, g, x), Expr::Group(l, h, y)) => *x == *y
-            && k.same(l)
-            && same_aggregations(g.as_slice(), h.as_slice()),
+        (Expr::Group(k, g, x), Expr::Group(l, h, y)) => *x == *y && k.same(l) && g.same(h),
         _ => false,
     }
 }
@@ -112,25 +110,4 @@ impl Aggregation {
     {
         self == other
     }
-}
-
-pub fn same_aggregations(added: &[Aggregation], others: &[Aggregation]) -> bool
-    ensures equal { IsTrue result ↔ (added.now ≡ others.now) }
-    ensures test { result ≡ spec.same_aggregations added.now others.now }
-{
-    are_same(added, others)
-}
-
-fn are_same(added: &[Aggregation], others: &[Aggregation]) -> bool
-    ensures { IsTrue result ↔ (added.now ≡ others.now) }
-{
-    if added.len() != others.len() {
-        return false;
-    }
-    for i in 0..added.len() {
-        if !added[i].same(others[i]) {
-            return false;
-        }
-    }
-    true
 }

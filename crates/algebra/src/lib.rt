@@ -5,6 +5,7 @@
 //! are one thing: what every column number reads as.
 #![tactic(auto)]
 
+pub mod aggregations;
 pub mod columns;
 pub mod condition;
 pub mod condition_text;
@@ -15,6 +16,7 @@ pub mod formed;
 mod named_classes;
 mod operator_columns;
 
+pub use aggregations::Aggregations;
 pub use columns::Columns;
 pub use condition::{ClassId, Condition, Conjuncts, LineId, Term};
-pub use expr::{Aggregation, Expr, same_aggregations};
+pub use expr::{Aggregation, Expr};

@@ -9,7 +9,7 @@ ghost use Rattle.derivation.specs.declared.certificate.CheckRefusal.{CheckRefusa
 ghost use Rattle.derivation.specs.Replay as spec;
 
 use crate::replay::refused;
-use algebra::{ClassId, Columns, Expr, LineId, same_aggregations};
+use algebra::{ClassId, Columns, Expr, LineId};
 use derivation::{CheckFault, CheckReason, Line, query_order};
 use physical::{JoinKind, Node, Operator, OrderKey, Plan, delivers};
 use query::{ColumnId, Query};
@@ -34,7 +34,7 @@ fn implements(operator: &Operator, expr: &Expr) -> bool
             *kind == JoinKind::Left && conjuncts.same(own)
         }
         (Operator::HashGroup { keys, added }, Expr::Group(own, others, _)) => {
-            keys.same(own) && same_aggregations(added.as_slice(), others.as_slice())
+            keys.same(own) && added.same(others)
         }
         (Operator::HashDistinct, Expr::Distinct(_)) => true,
         _ => false,

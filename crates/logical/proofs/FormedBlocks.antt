@@ -17,6 +17,7 @@ use Rattle.query.proofs.ScopeEquations.{scope-Block}
 use Rattle.algebra.specs.declared.expr.Aggregation.{Aggregation}
 use Rattle.algebra.specs.declared.expr.Expr.{Expr}
 use Rattle.algebra.specs.declared.expr.Expr.TheVariants.{Group}
+use Rattle.algebra.specs.AggregateOrder.{by_column}
 use Rattle.algebra.specs.Columns.{has, is_subset, rising}
 use Rattle.algebra.specs.Conditions.{all_classes, all_columns}
 use Rattle.algebra.specs.Equality.{same_aggregation}
@@ -30,6 +31,7 @@ use Rattle.logical.proofs.FrameGroups.{place-has, key-has, key-below}
 use Rattle.logical.proofs.FrameShapes.{end-grows, FromShape, CondShape, WhereShape, BoundParts, cond-shape, from-shape, where-shape, bound-parts}
 use Rattle.logical.proofs.Growth.{grows-none, grows-longer, grows-some, top-columns, last-below}
 use Rattle.logical.proofs.Induction.{OfFilter}
+use Rattle.algebra.proofs.AggregateLists.{has-ordered, different-ordered, each-ordered}
 use Rattle.algebra.proofs.ConnectiveParts.{conjuncts-columns, conjuncts-classes}
 use Rattle.algebra.proofs.Puts.{differ-left, differ-right}
 use Rattle.algebra.proofs.Same.{equal_aggregation}
@@ -47,6 +49,15 @@ columns-are numbers (item.Aggregate n a ∷ items) = ap (λ ns. n ∷ ns) (colum
 different-are : (ks : List ℕ) → are_different ks ≡ all_differ ks
 different-are [] = refl
 different-are (k ∷ ks) = ap (λ b. not (has ks k) && b) (different-are ks)
+
+-- the columns of a block's aggregates differ
+apart : (numbers : List ℕ) (items : List Item) (others : List ℕ) → all_differ (aggregate_numbers items ++ others) ≡ true → are_different (aggregate_columns (aggregations numbers items)) ≡ true
+apart numbers items others differ = ap are_different (columns-are numbers items) ∙ different-are (aggregate_numbers items) ∙ differ-left (aggregate_numbers items) others differ
+
+-- the query's own aggregates are its own in order too
+among-ordered : (uses : List TableInstance) (own : List Aggregation) (numbers : List ℕ) (items : List Item) → are_different (aggregate_columns (aggregations numbers items)) ≡ true
+    → among_own uses own (by_column (aggregations numbers items)) ≡ true → among_own uses own (aggregations numbers items) ≡ true
+among-ordered uses own numbers items differ among = sym (each-ordered (λ a. list_any (same_aggregation a) own) (aggregations numbers items) differ) ∙ among
 
 -- an aggregate of the query's own stands in a column of its own
 aggregate-own : (own : List Aggregation) (a : Aggregation) → list_any (same_aggregation a) own ≡ true → list_any (λ b. b.column == a.column) own ≡ true
@@ -157,10 +168,10 @@ module _ (uses : List TableInstance) (own : List Aggregation) where
 
     group-formed : (keys : List ℕ) (items : List Item) → list_all (λ k. nat_lt k (length numbers)) keys ≡ true → all_differ (aggregate_numbers items ++ numbers) ≡ true
         → list_all (bound_group_item (length numbers) keys (numbers ∷ scope)) items ≡ true → among_own uses own (aggregations numbers items) ≡ true
-        → is_formed uses own (class_columns uses B) (Group (key_columns numbers keys) (aggregations numbers items) (last B)) ≡ true
+        → is_formed uses own (class_columns uses B) (Group (key_columns numbers keys) (by_column (aggregations numbers items)) (last B)) ≡ true
     group-formed keys items below differ bound among =
         all-three _ _ _ (all-rising (has cols) (map (number_at numbers) keys) ∙ keys-in keys below)
-        (ap are_different (columns-are numbers items) ∙ different-are (aggregate_numbers items) ∙ differ-left (aggregate_numbers items) numbers differ) (aggregates-formed keys items differ bound among)
+        (different-ordered (aggregations numbers items)) (each-ordered (aggregation_formed own cols) (aggregations numbers items) (apart numbers items numbers differ) ∙ aggregates-formed keys items differ bound among)
 
     -- ---- what is kept
 
@@ -173,12 +184,12 @@ module _ (uses : List TableInstance) (own : List Aggregation) where
 
     -- the columns of a Group are its keys' and its aggregates'
     abbrev grouped : List ℕ → List Item → List ℕ
-    grouped keys items = rising (key_columns numbers keys ++ aggregate_columns (aggregations numbers items))
+    grouped keys items = rising (key_columns numbers keys ++ aggregate_columns (by_column (aggregations numbers items)))
 
     grouped-has : (keys : List ℕ) (items : List Item) (c : ℕ) → has (grouped keys items) c ≡ (has (map (number_at numbers) keys) c || has (aggregate_numbers items) c)
     grouped-has keys items c =
-        has-rising c (key_columns numbers keys ++ aggregate_columns (aggregations numbers items)) ∙ list_any-append (λ k. k == c) (key_columns numbers keys) (aggregate_columns (aggregations numbers items))
-        ∙ rw (has-rising c (map (number_at numbers) keys), columns-are numbers items) refl
+        has-rising c (key_columns numbers keys ++ aggregate_columns (by_column (aggregations numbers items))) ∙ list_any-append (λ k. k == c) (key_columns numbers keys) (aggregate_columns (by_column (aggregations numbers items)))
+        ∙ rw (has-rising c (map (number_at numbers) keys), has-ordered (aggregations numbers items) c, columns-are numbers items) refl
 
     group-kept : (keys : List ℕ) (items its : List Item) → AllByRecursion (HasNumber items) its → list_all (bound_group_item (length numbers) keys (numbers ∷ scope)) its ≡ true
         → AllByRecursion (λ i. frame.is_block_item i ≡ true → has (grouped keys items) (item_number (numbers ∷ scope) i) ≡ true) its
@@ -212,8 +223,8 @@ module _ (uses : List TableInstance) (own : List Aggregation) where
     end-formed twice false keys items differ bound formed groups = distinct-formed twice (keep_lines (numbers ∷ scope) items B) (omega arith) (keep-formed items B some formed (plain-kept items bound))
     end-formed twice true keys items differ bound formed groups =
         let parts = and_parts (list_all (λ k. nat_lt k (length numbers)) keys) _ bound in
-        let top : Expr = Group (key_columns numbers keys) (aggregations numbers items) (last B) in
-        let among : among_own uses own (aggregations numbers items) ≡ true = (without-distinct twice (keep_lines (numbers ∷ scope) items (top ∷ B)) groups).1.0 in
+        let top : Expr = Group (key_columns numbers keys) (by_column (aggregations numbers items)) (last B) in
+        let among : among_own uses own (aggregations numbers items) ≡ true = among-ordered uses own numbers items (apart numbers items numbers differ) (without-distinct twice (keep_lines (numbers ∷ scope) items (top ∷ B)) groups).1.0 in
         let kept_columns : AllByRecursion (λ i. frame.is_block_item i ≡ true → has (class_columns uses (top ∷ B) (length B)) (item_number (numbers ∷ scope) i) ≡ true) items =
         subst (λ cs. AllByRecursion (λ i. frame.is_block_item i ≡ true → has cs (item_number (numbers ∷ scope) i) ≡ true) items) (sym (top-columns uses top B)) (group-kept keys items items (have-numbers items) parts.1) in
         distinct-formed twice (keep_lines (numbers ∷ scope) items (top ∷ B)) (omega arith)
@@ -237,11 +248,15 @@ module _ (uses : List TableInstance) (own : List Aggregation) where
       let listed = and_parts (list_any (same_aggregation a_own) own) _ among in
       and_from _ _ (or_right _ _ (aggregate-own own a_own listed.0)) (group-shown numbers keys scope all below items (and_parts (bound_aggregate (length numbers) a) _ bound).1 listed.1)
 
-  end-shown : (twice is_grouped : Bool) (numbers keys : List ℕ) (scope : Scope) (items : List Item) (B : List Expr) → AllOwn uses own (numbers ∷ scope) → bound_items is_grouped (length numbers) keys items (numbers ∷ scope) ≡ true
+  end-shown : (twice is_grouped : Bool) (numbers keys : List ℕ) (scope : Scope) (items : List Item) (B : List Expr) → AllOwn uses own (numbers ∷ scope) → all_differ (aggregate_numbers items ++ numbers) ≡ true → bound_items is_grouped (length numbers) keys items (numbers ∷ scope) ≡ true
       → GroupsOwn uses own (distinct_lines twice (keep_lines (numbers ∷ scope) items (group_lines is_grouped numbers keys items B))) → list_all (is_query_column uses own) (map (item_number (numbers ∷ scope)) items) ≡ true
-  end-shown twice false numbers keys scope items B all bound groups = plain-shown (numbers ∷ scope) all items bound
-  end-shown false true numbers keys scope items B all bound groups = let parts = and_parts (list_all (λ k. nat_lt k (length numbers)) keys) _ bound in group-shown numbers keys scope all parts.0 items parts.1 groups.1.0
-  end-shown true true numbers keys scope items B all bound groups = let parts = and_parts (list_all (λ k. nat_lt k (length numbers)) keys) _ bound in group-shown numbers keys scope all parts.0 items parts.1 groups.1.1.0
+  end-shown twice false numbers keys scope items B all differ bound groups = plain-shown (numbers ∷ scope) all items bound
+  end-shown false true numbers keys scope items B all differ bound groups =
+      let parts = and_parts (list_all (λ k. nat_lt k (length numbers)) keys) _ bound in
+      group-shown numbers keys scope all parts.0 items parts.1 (among-ordered uses own numbers items (apart numbers items numbers differ) groups.1.0)
+  end-shown true true numbers keys scope items B all differ bound groups =
+      let parts = and_parts (list_all (λ k. nat_lt k (length numbers)) keys) _ bound in
+      group-shown numbers keys scope all parts.0 items parts.1 (among-ordered uses own numbers items (apart numbers items numbers differ) groups.1.1.0)
 
   -- ---- blocks
 
@@ -266,5 +281,5 @@ module _ (uses : List TableInstance) (own : List Aggregation) where
       let filtered : AreFormed uses own B = where-formed q.filter (numbers ∷ scope) A filter_formed inner source first.some parts.filter behind in
       record {
         lines = end-formed numbers scope B (grows-some B A second.grows first.some) (λ k. ap (λ ns. has ns k) second.columns ∙ first.columns k) q.distinct q.grouped q.keys q.items differ parts.items filtered groups;
-        shown = end-shown q.distinct q.grouped numbers q.keys scope q.items B inner parts.items groups;
+        shown = end-shown q.distinct q.grouped numbers q.keys scope q.items B inner differ parts.items groups;
       })

@@ -20,8 +20,9 @@ use Rattle.query.proofs.ScopeEquations.{scope-Block}
 use Rattle.query.proofs.Widths.{source_fits, length-nulls}
 use Rattle.algebra.specs.declared.expr.Expr.{Expr}
 use Rattle.algebra.specs.declared.expr.Expr.TheVariants.{Select, Group, Keep, Distinct}
+use Rattle.algebra.specs.AggregateOrder.{by_column}
 use Rattle.algebra.specs.Columns.{has, rising}
-use Rattle.algebra.specs.Bags.{Env, lay, distinct_on}
+use Rattle.algebra.specs.Bags.{Env, lay, group, distinct_on}
 use Rattle.algebra.specs.Conditions.{holds}
 use Rattle.algebra.specs.Expressions.{with_aggregates}
 use Rattle.algebra.specs.Classes.{class_rows, class_columns}
@@ -34,6 +35,7 @@ use Rattle.logical.proofs.Growth.{grows-none, kept-rows, top-rows, top-columns, 
 use Rattle.logical.proofs.Induction.{OfFilter}
 use Rattle.values.proofs.Each.{all_filter}
 use Rattle.algebra.proofs.Lists.{through, all-distinct}
+use Rattle.algebra.proofs.AggregateLists.{with-ordered}
 use Rattle.algebra.proofs.ConnectiveParts.{conjuncts-hold}
 use Rattle.algebra.proofs.Puts.{put, Agrees, IsNew, agrees-put, new-right}
 use Rattle.logical.proofs.Shown.{Reads, shows, shows-once}
@@ -100,7 +102,7 @@ module _ (uses : List TableInstance) (D : Tables) (fits : IsFitting D) where
       members = λ s. L;
       wide = (length-nulls (length numbers), tt);
       members_wide = λ s. wide;
-      rows = top-rows uses D (Group [] (aggregations numbers items) (last A)) A e ∙ ap (λ X. with_aggregates (aggregations numbers items) X e ∷ []) is;
+      rows = top-rows uses D (Group [] (by_column (aggregations numbers items)) (last A)) A e ∙ ap (λ w. group [] w (class_rows uses D A (last A)) e) (with-ordered (aggregations numbers items)) ∙ ap (λ X. with_aggregates (aggregations numbers items) X e ∷ []) is;
       shown = refl;
     }
     group-rows (k ∷ keys) items A L is wide within = record {
@@ -108,7 +110,8 @@ module _ (uses : List TableInstance) (D : Tables) (fits : IsFitting D) where
       members = with_key (k ∷ keys) L;
       wide = all-distinct Wide _ L wide;
       members_wide = λ s. all_filter Wide _ L wide;
-      rows = top-rows uses D (Group (rising (map (number_at numbers) (k ∷ keys))) (aggregations numbers items) (last A)) A e
+      rows = top-rows uses D (Group (rising (map (number_at numbers) (k ∷ keys))) (by_column (aggregations numbers items)) (last A)) A e
+          ∙ ap (λ w. group (rising (map (number_at numbers) (k ∷ keys))) w (class_rows uses D A (last A)) e) (with-ordered (aggregations numbers items))
           ∙ group-keyed numbers scope ρ e agree new items k keys (class_rows uses D A (last A)) L is wide within;
       shown = groups-keyed numbers scope ρ e agree new items k keys L;
     }

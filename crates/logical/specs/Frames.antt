@@ -27,6 +27,7 @@ use Rattle.algebra.specs.declared.condition.Condition.TheVariants.{Compare, IsNu
 use Rattle.algebra.specs.declared.expr.Aggregation.{Aggregation}
 use Rattle.algebra.specs.declared.expr.Expr.{Expr}
 use Rattle.algebra.specs.declared.expr.Expr.TheVariants.{Get, Select, Join, LeftJoin, Semi, Anti, Keep, Distinct, Group}
+use Rattle.algebra.specs.AggregateOrder.{by_column}
 use Rattle.algebra.specs.Columns.{rising}
 use Rattle.algebra.specs.Bags.{Env}
 use Rattle.algebra.specs.Classes.{root_rows}
@@ -151,7 +152,7 @@ key_columns numbers keys = rising (map (number_at numbers) keys)
 
 abbrev pub group_lines : Bool → List ℕ → List ℕ → List Item → List Expr → List Expr
 group_lines false numbers keys items lines = lines
-group_lines true numbers keys items lines = Group (key_columns numbers keys) (aggregations numbers items) (last lines) ∷ lines
+group_lines true numbers keys items lines = Group (key_columns numbers keys) (by_column (aggregations numbers items)) (last lines) ∷ lines
 
 -- the number of what an item shows
 abbrev pub item_number : Scope → Item → ℕ

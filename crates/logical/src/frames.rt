@@ -8,7 +8,7 @@ ghost use Rattle.logical.specs.Lent.{scope_of};
 
 use crate::lines::Lines;
 use crate::scope::{Scope, number_at, use_numbers};
-use algebra::{Aggregation, Columns, Condition, Conjuncts, Expr, Term};
+use algebra::{Aggregation, Aggregations, Columns, Condition, Conjuncts, Expr, Term};
 use query::{Aggregate, Block, Cond, From, Item, Occurrence, Query, TableInstance};
 use std::alloc::{AllocError, Global};
 use values::{Boxed, Items};
@@ -41,10 +41,10 @@ fn aggregations(
     alloc: Global,
     numbers: &[usize],
     items: &[Item],
-) -> Result<Items<Aggregation>, AllocError>
-    ensures { IfOk result (λ added. added ≡ spec.aggregations numbers.now items.now) }
+) -> Result<Vec<Aggregation>, AllocError>
+    ensures { IfOk result (λ added. added.items ≡ spec.aggregations numbers.now items.now) }
 {
-    let mut added = Items::new(alloc);
+    let mut added = Vec::new(alloc);
     for item in items {
         if let Item::Aggregate(column, aggregate) = item {
             added.push(Aggregation {
@@ -305,6 +305,7 @@ fn add_group(
     }
     let keys = key_columns(alloc, numbers, block.keys.as_slice())?;
     let added = aggregations(alloc, numbers, block.items.as_slice())?;
+    let added = Aggregations::of(alloc, added.as_slice())?;
     let input = lines.last();
     lines.push(Expr::Group(keys, added, input))
 }

@@ -1,6 +1,6 @@
 //! What a plan is.
 
-use algebra::{Aggregation, Columns, Conjuncts, LineId};
+use algebra::{Aggregations, Columns, Conjuncts, LineId};
 use query::{ColumnId, OccurrenceId};
 use values::Items;
 
@@ -46,7 +46,7 @@ pub enum Operator {
     /// One row for each different key, as first seen, with its aggregates.
     HashGroup {
         keys: Columns,
-        added: Items<Aggregation>,
+        added: Aggregations,
     },
     /// One of each row, as first seen.
     HashDistinct,

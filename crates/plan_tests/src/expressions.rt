@@ -2,10 +2,10 @@
 
 ghost use Rattle.std.specs.Prelude.{◌≡◌, IfOk, length};
 
-use crate::lines::push_columns;
+use crate::lines::{push_aggregates, push_columns};
 use crate::plans::{columns_of, cut, number};
 use crate::tables::TABLES;
-use algebra::{Aggregation, Columns, Condition, Conjuncts, Expr, Term};
+use algebra::{Aggregation, Aggregations, Columns, Condition, Conjuncts, Expr, Term};
 use fixtures::{QueryReporting, Reporting, differences, push_number, query_differences};
 use query::{Aggregate, BoundQuery, TableInstance};
 use std::alloc::{AllocError, Global};
@@ -49,6 +49,20 @@ fn push_groups(alloc: Global, reported: &mut String) -> Result<(), AllocError> {
     let keys = columns_of(alloc, "0")?;
     let groups = Columns::of_groups(alloc, &keys, &[SUM_OF_BOSSES])?;
     push_columns(reported, groups.as_slice())
+}
+
+/// A count of the rows.
+fn count_in(column: usize) -> Aggregation {
+    Aggregation {
+        column,
+        aggregate: Aggregate::CountRows,
+    }
+}
+
+/// The sum between a count in column 3 and one in the sum's own, in order.
+fn push_ordered(alloc: Global, reported: &mut String) -> Result<(), AllocError> {
+    let added = Aggregations::of(alloc, &[count_in(3), SUM_OF_BOSSES, count_in(2)])?;
+    push_aggregates(reported, added.as_slice())
 }
 
 /// The columns of an occurrence.
@@ -126,6 +140,9 @@ impl QueryReporting for Expressions {
         if let Some(occurrence) = more.strip_prefix("columns ") {
             return push_occurrence(alloc, reported, uses, number(occurrence));
         }
+        if more == "aggregates" {
+            return push_ordered(alloc, reported);
+        }
         if more == "groups" {
             return push_groups(alloc, reported);
         }
@@ -147,6 +164,7 @@ fn expressions_are_well_formed(rt: HostRuntime) {
     const CASES: &str = "SELECT SUM(boss) FROM dept => columns 0 =>  0 1
 SELECT SUM(boss) FROM dept => columns 1 =>
 SELECT SUM(boss) FROM dept => groups =>  0 2
+SELECT SUM(boss) FROM dept => aggregates => ; 2=sum:1 3=count
 SELECT SUM(boss) FROM dept => parts keep 1: 0 => left 1; 0 and 0; 1
 SELECT SUM(boss) FROM dept => parts join 1 => left 0 right 1; 1 and 0; 0 1
 SELECT SUM(boss) FROM dept => keep 0: 0 1 => formed

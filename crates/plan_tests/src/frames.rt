@@ -20,6 +20,7 @@ fn has_copies(alloc: Global, line: &Expr) -> Result<bool, AllocError> {
         Expr::Join(conjuncts, _, _) => is_copied(alloc, conjuncts)?,
         Expr::LeftJoin(conjuncts, _, _) => is_copied(alloc, conjuncts)?,
         Expr::Keep(columns, _) => columns.copy(alloc)?.same(columns),
+        Expr::Group(_, added, _) => added.copy(alloc)?.same(added),
         _ => true,
     };
     Ok(same && line.same(line))

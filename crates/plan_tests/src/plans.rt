@@ -2,7 +2,7 @@
 //! `subqueries LINE COUNT`, `cut LINE: COLUMNS`, `loop LINE`, `left LINE`, `sort: KEYS`, `group LINE`, `distinct LINE`.
 //! What else a node holds is that of a line with its number.
 
-use algebra::{Columns, Conjuncts, Expr};
+use algebra::{Aggregations, Columns, Conjuncts, Expr};
 use physical::{JoinKind, Node, Operator, OrderKey, Plan};
 use std::alloc::{AllocError, Global};
 use values::Items;
@@ -93,11 +93,11 @@ fn group_of(alloc: Global, lines: &[Expr], line: usize) -> Result<Operator, Allo
     let Some(Expr::Group(own, added, _)) = lines.get(line) else {
         return Ok(Operator::HashGroup {
             keys: Columns::from_vec(Vec::new(alloc)),
-            added: Items::new(alloc),
+            added: Aggregations::of(alloc, &[])?,
         });
     };
     let keys = own.copy(alloc)?;
-    let added = Items::from_slice(alloc, added.as_slice())?;
+    let added = added.copy(alloc)?;
     Ok(Operator::HashGroup { keys, added })
 }
 

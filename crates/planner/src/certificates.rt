@@ -48,7 +48,7 @@ fn operator_of(alloc: Global, expr: &Expr) -> Result<Operator, AllocError>
         Expr::Distinct(_) => Ok(Operator::HashDistinct),
         Expr::Group(own, added, _) => Ok(Operator::HashGroup {
             keys: own.copy(alloc)?,
-            added: Items::from_slice(alloc, added.as_slice())?,
+            added: added.copy(alloc)?,
         }),
     }
 }

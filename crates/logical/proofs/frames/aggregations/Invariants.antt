@@ -3,4 +3,4 @@ use Rattle.logical.specs.Frames as spec
 use Rattle.logical.proofs.frames.aggregations.Given as goal
 
 abbrev pub invariant-loop-item : goal.invariant-loop-item
-invariant-loop-item l = l.added ++ spec.aggregations l.numbers (drop l.item-index l.items) ≡ spec.aggregations l.numbers l.items
+invariant-loop-item l = l.added.items ++ spec.aggregations l.numbers (drop l.item-index l.items) ≡ spec.aggregations l.numbers l.items

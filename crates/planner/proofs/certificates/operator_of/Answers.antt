@@ -17,6 +17,6 @@ returns-in_ok-copy-in-LeftJoin c = left_join_of c.args.expr.now _ _ _ _ c.in-Lef
 pub returns-in_ok-copy-in-Keep : goal.returns-in_ok-copy-in-Keep
 returns-in_ok-copy-in-Keep c = projection_of c.args.expr.now _ _ _ c.in-Keep.is c.in_ok-copy-in-Keep.ensures
 
-pub returns-in_ok-from_slice-in-Group : goal.returns-in_ok-from_slice-in-Group
-returns-in_ok-from_slice-in-Group c =
-    group_of c.args.expr.now _ _ _ _ _ c.in-Group.is c.in_ok-copy-in-Group.ensures (c.in_ok-from_slice-in-Group.ensures ∙ c.as_slice.ensures)
+pub returns-in_ok-copy-in-Group-2 : goal.returns-in_ok-copy-in-Group-2
+returns-in_ok-copy-in-Group-2 c =
+    group_of c.args.expr.now _ _ _ _ _ c.in-Group.is c.in_ok-copy-in-Group.ensures c.in_ok-copy-in-Group-2.ensures
