@@ -1,10 +1,11 @@
 //! The value that a field of a table's file stands for.
 
-ghost use Rattle.std.specs.Prelude.{◌≡◌, ◌∷◌, MatchOption, MatchResult, FitsSigned};
+ghost use Rattle.std.specs.Prelude.{◌≡◌, ◌∷◌, IfSome, MatchOption, MatchResult, FitsSigned};
 ghost use Rattle.std.specs.Int.{w64};
 ghost use Rattle.std.specs.Fmt.{signed_decimal};
 ghost use Rattle.values.specs.Cells.{value_of};
 ghost use Rattle.store.specs.Numbers as numbers;
+ghost use Rattle.store.specs.Numbers.{IsCount};
 ghost use Rattle.store.specs.Tables.{IsNumber, Stands, FieldFails};
 ghost use Rattle.store.specs.Parsing.{IsPlain, PlainFails};
 
@@ -40,12 +41,34 @@ fn begins_number(bytes: &[u8]) -> bool
     }
 }
 
+/// The number that the bytes are the digits of; none where one is no digit, or they are more than 18. So many fit, and are
+/// read without a test of each sum.
+fn short_count_of(bytes: &[u8]) -> Option<u64>
+    ensures { IfSome result (λ n. IsCount bytes.now n) }
+{
+    if bytes.len() > 18 {
+        return None;
+    }
+    let mut count: u64 = 0;
+    for place in 0..bytes.len() {
+        let byte = bytes[place];
+        if byte < b'0' || byte > b'9' {
+            return None;
+        }
+        count = count * 10 + u64::from(byte - b'0');
+    }
+    Some(count)
+}
+
 /// The whole number of 64 bits that the bytes are in decimal.
 fn number_of(bytes: &[u8]) -> Option<i64>
     ensures { MatchOption result (¬ (IsNumber bytes.now)) (λ n. (bytes.now ≡ signed_decimal n) × FitsSigned w64 n) }
 {
     if !begins_number(bytes) {
         return None;
+    }
+    if let Some(count) = short_count_of(bytes) {
+        return Some(count as i64);
     }
     let Ok(text) = str::from_utf8(bytes) else {
         return None;
