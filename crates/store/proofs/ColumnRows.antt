@@ -7,6 +7,8 @@ use Rattle.std.proofs.lemmas.List.FromFn.{length-map-range_with_len, get_or-map-
 use Rattle.std.proofs.Math.Seq.{get_or-append_seam}
 use Rattle.values.specs.declared.value.Value.{Value}
 use Rattle.values.specs.declared.value.Value.TheVariants as value
+use Rattle.values.specs.declared.cell.Cell.{Cell}
+use Rattle.values.specs.Cells.{value_of}
 use Rattle.values.specs.Truth.{is_null}
 use Rattle.schema.specs.declared.schema.Kind.{Kind}
 use Rattle.schema.specs.Databases.{Row}
@@ -47,6 +49,11 @@ has_there (k ∷ cs) n zero c h lt at = subst (λ (x : ColumnCells). HasCells n 
 has_there (k ∷ cs) n (suc j) c h lt at = has_there cs n j c h.1 (omega arith) at
 
 -- ---- one row more, column after column
+
+pub cell_in_row : (xs : List Cell) (i : ℕ) (d : Cell) → i < length xs → value_of (get_or xs i d) ≡ get_or (map value_of xs) i (value_of (get_or xs i d))
+cell_in_row [] i d lt = absurd (omega arith)
+cell_in_row (x ∷ xs) zero d lt = refl
+cell_in_row (x ∷ xs) (suc i) d lt = cell_in_row xs i d (omega arith)
 
 abbrev pub extend : ℕ → List ColumnCells → Row → List ColumnCells
 extend zero cs vs = cs

@@ -1,16 +1,18 @@
 -- Bytes as a whole number's decimal.
-use Rattle.std.proofs.Common.{◌≡◌, ◌≢◌, ℕ, zero, suc, ◌<◌, ◌≤◌, ◌^◌, ◌==◌, List, [], ◌∷◌, length, get_or, Bool, true, false, cond, Ok, Err, ℤ, pos, negsuc, FitsSigned, neg_ℤ, refl, sym, ap, arith}
+use Rattle.std.proofs.Common.{◌≡◌, ◌≢◌, ℕ, zero, suc, ◌+◌, ◌-◌, ◌*◌, ◌<◌, ◌≤◌, ◌^◌, ◌==◌, List, [], ◌∷◌, length, take, get_or, Bool, true, false, cond, Ok, Err, ℤ, pos, negsuc, FitsSigned, neg_ℤ, refl, sym, ap, arith}
 use Rattle.std.proofs.lemmas.Bool.Decides.{nat_tests}
 use Rattle.std.specs.Int.{w64}
 use Rattle.std.specs.Result.{OkIff}
 use Rattle.std.specs.Fmt.{decimal, signed_decimal}
 use Rattle.std.specs.Str.{IsUtf8}
 use Rattle.std.specs.Str.Parse.{AllDigits, digits_value, ParsesSigned}
-use Rattle.std.proofs.lemmas.Str.{IsUtf8-from_ascii}
-use Rattle.std.proofs.lemmas.Str.Parse.{IsNumeralModel, numerals_by_value, tells_digits, digit_at, parse_signed_plain, parse_signed_minus}
+use Rattle.std.proofs.lemmas.List.{take_all, length-take-le}
+use Rattle.std.proofs.lemmas.Int.Digits.{digits_more, digits_value_more}
+use Rattle.std.proofs.lemmas.Str.{IsUtf8-from_ascii, digit_value_digit}
+use Rattle.std.proofs.lemmas.Str.Parse.{IsNumeralModel, numerals_by_value, digits_value_short, tells_digits, digit_at, parse_signed_plain, parse_signed_minus}
 use Rattle.std.proofs.lemmas.Fmt.{decimal_digit, decimal_nonempty, first_decimal, digits_decimal, decimal-digits_value, parse-signed_decimal, IsAscii-signed}
 use Rattle.std.proofs.lemmas.Bool.{ne_eqb}
-use Rattle.store.specs.Numbers.{begins_count, begins_number}
+use Rattle.store.specs.Numbers.{IsCount, begins_count, begins_number}
 use Rattle.store.specs.Tables.{IsNumber}
 
 own : IsNumeralModel (AllDigits 10) (digits_value 10)
@@ -45,6 +47,15 @@ pub signed_begins : (n : ℤ) → FitsSigned w64 n → begins_number (signed_dec
 signed_begins (pos zero) fits = rw (decimal_digit 0 (omega arith)) refl
 signed_begins (pos (suc n)) fits = let h = fits.sfits in number_from_count (decimal (suc n)) (decimal_begins (suc n) (omega arith) (omega arith))
 signed_begins (negsuc n) fits = let h = fits.sfits in minus_count (decimal (suc n)) (decimal_begins (suc n) (omega arith) (omega arith))
+
+begins_some : (bs : List ℕ) → begins_number bs ≡ true → 0 < length bs
+begins_some [] e = cc e
+begins_some (b ∷ bs) e = omega arith
+
+zero_alone : (bs : List ℕ) → begins_number bs ≡ true → get_or bs 0 0 ≡ 48 → length bs ≡ 1
+zero_alone [] e z = cc e
+zero_alone (b ∷ []) e z = refl
+zero_alone (b ∷ c ∷ bs) e z = let bad : begins_count (48 ∷ c ∷ bs) ≡ true = rw z at e in cc bad
 
 -- ---- what isn't a number
 
@@ -95,3 +106,28 @@ is_decimal (b ∷ c ∷ bs) z e h = by_first b c bs z (b == 45) refl e h
 
 pub fits_decimal : (bs : List ℕ) (z : ℤ) → ParsesSigned {E = Unit {0}} w64 10 bs (Ok z) → FitsSigned w64 z
 fits_decimal bs z h = rw h.1 h.0.1
+
+-- ---- digits, one after the other
+
+-- so few digits leave room for one more
+pub count_fits : (bs : List ℕ) (i n : ℕ) → length bs ≤ 18 → i < length bs → AllDigits 10 (take i bs) → n ≡ digits_value 10 (take i bs) → n < 10 ^ 17
+count_fits bs i n few low digits is = rw is (digits_value_short own (take i bs) 17 digits (omega (arith, length-take-le i bs)))
+
+pub count_next : (bs : List ℕ) (i n : ℕ) → i < length bs → 48 ≤ get_or bs i 0 → get_or bs i 0 ≤ 57 → AllDigits 10 (take i bs) → n ≡ digits_value 10 (take i bs)
+    → AllDigits 10 (take (i + 1) bs) × (n * 10 + (get_or bs i 0 - 48) ≡ digits_value 10 (take (i + 1) bs))
+count_next bs i n low from to digits is =
+    let one = digit_value_digit (get_or bs i 0) (from, to) in
+    let more = digits_value_more 10 bs i low in
+    (digits_more 10 bs i low digits (omega arith), omega arith)
+
+pub count_all : (bs : List ℕ) (i n : ℕ) → length bs ≤ 18 → length bs ≤ i → AllDigits 10 (take i bs) → n ≡ digits_value 10 (take i bs) → IsCount bs n
+count_all bs i n few all digits is =
+    let whole = take_all i bs all in
+    let here : AllDigits 10 bs = rw whole at digits in
+    let value : n ≡ digits_value 10 bs = rw whole at is in
+    record { digits = here; number = value; short = omega (arith, digits_value_short own bs 18 here few) }
+
+-- and then the decimal begins as one does
+pub count_written : (bs : List ℕ) (n : ℕ) → begins_number bs ≡ true → IsCount bs n → bs ≡ decimal n
+count_written bs n e h =
+    rw h.number (sym (decimal-digits_value own bs h.digits (begins_some bs e) (zero_alone bs e) (omega (arith, h.number, h.short))))

@@ -13,14 +13,13 @@ use Rattle.store.specs.declared.fault.TableCause.{TableCause}
 use Rattle.store.specs.declared.fault.TableCause.TheVariants.{OtherHeader, OtherLength, Field, Repeated, TooMany}
 use Rattle.store.specs.Reading.{NextOf}
 use Rattle.std.proofs.lemmas.Slice.Eq.{bytes_eq-Decides}
-use Rattle.values.specs.declared.fault.Fault.{Fault}
-use Rattle.values.specs.declared.fault.Fault.TheVariants as fault
+use Rattle.values.specs.declared.cell.Cell.{Cell}
+use Rattle.values.specs.Cells.{value_of}
 use Rattle.values.proofs.Lists.{all_append}
 use Rattle.store.specs.declared.records.Parsed.{Parsed}
-use Rattle.store.specs.Reports.{Reports}
 use Rattle.store.specs.Tables.{Record, IsText, Stands, StandFor, FieldFails, FieldsFail, names_of}
 use Rattle.store.specs.Fields.{field_of}
-use Rattle.store.specs.Parsing.{in_field, Parses, ParsesFile, RowFails, Written, RecordFails}
+use Rattle.store.specs.Parsing.{Parses, ParsesFile, RowFails, Written, RecordFails}
 
 -- ---- the fields of a record, one after the other
 
@@ -148,16 +147,11 @@ same_name cs fs i c f lt at here eq so_far =
 
 -- ---- the values of a row
 
-pub value_fails : (cs : List Column) (fs : Record) (i : ℕ) (vs : Row) (c : Column) (f : List ℕ) (wrong : Fault FieldFault) → length fs ≡ length cs → i < length cs → c ≡ get_or cs i c → Some f ≡ field_at fs i
-    → StandFor (take i cs) (take i fs) vs → Reports {X = Value} (Stands c f) (FieldFails c f) (Err wrong) → Reports {X = Row} (StandFor cs fs) (RowFails cs fs) (Err (in_field i wrong))
-value_fails cs fs i vs c f fault.Memory len lt at here so_far bad = tt
-value_fails cs fs i vs c f (fault.Refused wrong) len lt at here so_far bad = (len, fails_there cs fs i vs c f wrong lt at here so_far bad)
-
-pub stands_next : (cs : List Column) (fs : Record) (i : ℕ) (vs : Row) (c : Column) (v : Value) (f : List ℕ) → i < length cs → c ≡ get_or cs i c → Some f ≡ field_at fs i
-    → StandFor (take i cs) (take i fs) vs → Stands c f v → StandFor (take (i + 1) cs) (take (i + 1) fs) (vs ++ v ∷ [])
-stands_next cs fs i vs c v f lt at here so_far more =
+pub stands_next : (cs : List Column) (fs : Record) (i : ℕ) (xs : List Cell) (c : Column) (x : Cell) (f : List ℕ) → i < length cs → c ≡ get_or cs i c → Some f ≡ field_at fs i
+    → StandFor (take i cs) (take i fs) (map value_of xs) → Stands c f (value_of x) → StandFor (take (i + 1) cs) (take (i + 1) fs) (map value_of (xs ++ x ∷ []))
+stands_next cs fs i xs c x f lt at here so_far more =
     let next : suc i ≡ i + 1 = omega arith in
-    subst (λ (j : ℕ). StandFor (take j cs) (take j fs) (vs ++ v ∷ [])) next (stands_more cs fs i vs c v f lt at here so_far more)
+    rw (map-append value_of xs (x ∷ [])) (subst (λ (j : ℕ). StandFor (take j cs) (take j fs) (map value_of xs ++ value_of x ∷ [])) next (stands_more cs fs i (map value_of xs) c (value_of x) f lt at here so_far more))
 
 pub after_header : {E : Type 0} (cs : List Column) (all rest : List Record) (r : Result Parsed E) → all ≡ names_of cs ∷ rest → IfOk r (Parses cs rest) → IfOk r (ParsesFile cs all)
 after_header cs all rest (Ok p) e h = inl (rest, e, h)

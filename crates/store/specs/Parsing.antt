@@ -6,8 +6,6 @@ use Rattle.std.specs.List.{AllByRecursion}
 use Rattle.std.specs.Str.{IsUtf8}
 use Rattle.values.specs.declared.value.Value.{Value}
 use Rattle.values.specs.declared.value.Value.TheVariants as value
-use Rattle.values.specs.declared.fault.Fault.{Fault}
-use Rattle.values.specs.declared.fault.Fault.TheVariants as fault
 use Rattle.schema.specs.declared.schema.Kind.{Kind}
 use Rattle.schema.specs.declared.schema.Kind.TheVariants as kind
 use Rattle.schema.specs.declared.schema.Column.{Column}
@@ -45,11 +43,6 @@ RowFails cs fs (Field place wrong) = (length fs ≡ length cs) × FieldsFail cs 
 RowFails cs fs OtherHeader = ⊥
 RowFails cs fs (Repeated earlier) = ⊥
 RowFails cs fs TooMany = ⊥
-
--- the fault of a record whose field at this place has one
-abbrev pub in_field : ℕ → Fault FieldFault → Fault TableCause
-in_field place fault.Memory = fault.Memory
-in_field place (fault.Refused f) = fault.Refused (Field place f)
 
 -- the records are those of the rows, and then the rest
 pub record Written (cs : List Column) (records : List Record) (rows : List Row) (rest : List Record) : Type 0 where

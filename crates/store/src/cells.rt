@@ -8,29 +8,29 @@ ghost use Rattle.store.specs.StoredColumns.{Takes, HasCells, kind_of, size_of, c
 use crate::texts::Texts;
 use schema::Kind;
 use std::alloc::{AllocError, Global};
-use values::{Cell, Items, Value};
+use values::{Cell, Items};
 
 /// The number of a value in an INT column; any where it is Null.
-fn number_in(value: &Value) -> i64
-    requires { Takes kind.Int value.now }
-    ensures { result ≡ number_in value.now }
+fn number_in(cell: Cell<'_>) -> i64
+    requires { Takes kind.Int (value_of cell) }
+    ensures { result ≡ number_in (value_of cell.entry) }
 {
-    match value {
-        Value::Null => 0,
-        Value::Int(number) => *number as i64,
-        Value::Text(_) => unreachable!(),
+    match cell {
+        Cell::Null => 0,
+        Cell::Int(number) => number as i64,
+        Cell::Text(_) => unreachable!(),
     }
 }
 
 /// The text of a value in a TEXT column; none where it is Null.
-fn text_in(value: &Value) -> &str
-    requires { Takes kind.Text value.now }
-    ensures { result.now ≡ text_in value.now }
+fn text_in<'t>(cell: Cell<'t>) -> &'t str
+    requires { Takes kind.Text (value_of cell) }
+    ensures { result.now ≡ text_in (value_of cell.entry) }
 {
-    match value {
-        Value::Null => "",
-        Value::Text(text) => text.as_str(),
-        Value::Int(_) => unreachable!(),
+    match cell {
+        Cell::Null => "",
+        Cell::Text(text) => text,
+        Cell::Int(_) => unreachable!(),
     }
 }
 
@@ -42,13 +42,13 @@ pub enum Entries {
 }
 
 impl Entries {
-    fn push(&mut self, value: &Value) -> Result<(), AllocError>
-        requires { Takes (kind_of self.old) value.now }
-        ensures { OnOk result (self.new ≡ with_entry self.old value.now) }
+    fn push(&mut self, cell: Cell<'_>) -> Result<(), AllocError>
+        requires { Takes (kind_of self.old) (value_of cell) }
+        ensures { OnOk result (self.new ≡ with_entry self.old (value_of cell.entry)) }
     {
         match self {
-            Entries::Numbers(numbers) => numbers.push(number_in(value)),
-            Entries::Texts(texts) => texts.push(text_in(value)),
+            Entries::Numbers(numbers) => numbers.push(number_in(cell)),
+            Entries::Texts(texts) => texts.push(text_in(cell)),
         }
     }
 }
@@ -74,12 +74,12 @@ impl ColumnCells {
         }
     }
 
-    pub fn push(&mut self, value: &Value) -> Result<(), AllocError>
-        requires { Takes (kind_of self.old.entries) value.now }
-        ensures { OnOk result (self.new ≡ with_value self.old value.now) }
+    pub fn push(&mut self, cell: Cell<'_>) -> Result<(), AllocError>
+        requires { Takes (kind_of self.old.entries) (value_of cell) }
+        ensures { OnOk result (self.new ≡ with_value self.old (value_of cell.entry)) }
     {
-        self.known.push(!matches!(value, Value::Null))?;
-        self.entries.push(value)
+        self.known.push(!cell.is_null())?;
+        self.entries.push(cell)
     }
 
     pub fn cell(&self, row: usize) -> Cell<'_>

@@ -10,7 +10,7 @@ use crate::cells::ColumnCells;
 use schema::Column;
 use std::alloc::{AllocError, Global};
 use std::marker::Model;
-use values::{Cell, Value};
+use values::Cell;
 
 /// Rows and the kinds of their columns.
 #[derive(Drop)]
@@ -59,14 +59,15 @@ impl ColumnStore {
     }
 
     /// The rows and this one.
-    pub fn with_row(self, row: &[Value]) -> Result<ColumnStore, AllocError>
-        requires kinds { TakeRow self.kinds row.now }
+    pub fn with_row(self, row: &[Cell<'_>]) -> Result<ColumnStore, AllocError>
+        requires kinds { TakeRow self.kinds (map value_of row.now) }
         requires few { length self.rows < most_rows }
-        ensures { IfOk result (λ t. t ≡ record { kinds = self.kinds; rows = self.rows ++ row.now ∷ [] }) }
+        ensures { IfOk result (λ t. t ≡ record { kinds = self.kinds; rows = self.rows ++ map value_of row.now ∷ [] }) }
     {
         let ColumnStore { count, mut columns } = self;
         for place in 0..columns.len() {
-            columns[place].push(&row[place])?;
+            let cell = row[place];
+            columns[place].push(cell)?;
         }
         Ok(ColumnStore {
             count: count + 1,

@@ -1,18 +1,18 @@
 //! The value that a field of a table's file stands for.
 
-ghost use Rattle.std.specs.Prelude.{◌≡◌, ◌∷◌, MatchOption, FitsSigned};
+ghost use Rattle.std.specs.Prelude.{◌≡◌, ◌∷◌, IfSome, MatchOption, MatchResult, FitsSigned};
 ghost use Rattle.std.specs.Int.{w64};
 ghost use Rattle.std.specs.Fmt.{signed_decimal};
+ghost use Rattle.values.specs.Cells.{value_of};
 ghost use Rattle.store.specs.Numbers as numbers;
+ghost use Rattle.store.specs.Numbers.{IsCount};
 ghost use Rattle.store.specs.Tables.{IsNumber, Stands, FieldFails};
 ghost use Rattle.store.specs.Parsing.{IsPlain, PlainFails};
-ghost use Rattle.store.specs.Reports.{Reports};
 
 use crate::fault::FieldFault;
 use schema::{Column, Kind};
-use std::alloc::Global;
 use std::str;
-use values::{Fault, Text, Value};
+use values::Cell;
 
 /// Whether the bytes begin with a digit that isn't `0`.
 fn begins_count(bytes: &[u8]) -> bool
@@ -41,12 +41,34 @@ fn begins_number(bytes: &[u8]) -> bool
     }
 }
 
+/// The number that the bytes are the digits of; none where one is no digit, or they are more than 18. So many fit, and are
+/// read without a test of each sum.
+fn short_count_of(bytes: &[u8]) -> Option<u64>
+    ensures { IfSome result (λ n. IsCount bytes.now n) }
+{
+    if bytes.len() > 18 {
+        return None;
+    }
+    let mut count: u64 = 0;
+    for place in 0..bytes.len() {
+        let byte = bytes[place];
+        if byte < b'0' || byte > b'9' {
+            return None;
+        }
+        count = count * 10 + u64::from(byte - b'0');
+    }
+    Some(count)
+}
+
 /// The whole number of 64 bits that the bytes are in decimal.
 fn number_of(bytes: &[u8]) -> Option<i64>
     ensures { MatchOption result (¬ (IsNumber bytes.now)) (λ n. (bytes.now ≡ signed_decimal n) × FitsSigned w64 n) }
 {
     if !begins_number(bytes) {
         return None;
+    }
+    if let Some(count) = short_count_of(bytes) {
+        return Some(count as i64);
     }
     let Ok(text) = str::from_utf8(bytes) else {
         return None;
@@ -58,53 +80,53 @@ fn number_of(bytes: &[u8]) -> Option<i64>
 }
 
 /// The value of a field that isn't Null, after its escape is taken off.
-fn plain_value_of(alloc: Global, kind: Kind, bytes: &[u8]) -> Result<Value, Fault<FieldFault>>
-    ensures { Reports (IsPlain kind bytes.now) (PlainFails kind bytes.now) result }
+fn plain_cell_of(kind: Kind, bytes: &[u8]) -> Result<Cell<'_>, FieldFault>
+    ensures { MatchResult result (λ x. IsPlain kind bytes.now (value_of x)) (PlainFails kind bytes.now) }
 {
     match kind {
         Kind::Int => match number_of(bytes) {
-            Some(number) => Ok(Value::Int(i128::from(number))),
-            None => Err(Fault::Refused(FieldFault::NotNumber)),
+            Some(number) => Ok(Cell::Int(i128::from(number))),
+            None => Err(FieldFault::NotNumber),
         },
         Kind::Text => match str::from_utf8(bytes) {
-            Ok(text) => Ok(Value::Text(Text::from_str(alloc, text)?)),
-            Err(_) => Err(Fault::Refused(FieldFault::NotText)),
+            Ok(text) => Ok(Cell::Text(text)),
+            Err(_) => Err(FieldFault::NotText),
         },
     }
 }
 
 /// The value of a field that begins with a backslash, after which `rest` stands.
-fn escaped_value_of(alloc: Global, column: &Column, rest: &[u8]) -> Result<Value, Fault<FieldFault>>
-    ensures { Reports (Stands column.now (92 ∷ rest.now)) (FieldFails column.now (92 ∷ rest.now)) result }
+fn escaped_cell_of<'f>(column: &Column, rest: &'f [u8]) -> Result<Cell<'f>, FieldFault>
+    ensures { MatchResult result (λ x. Stands column.now (92 ∷ rest.now) (value_of x)) (FieldFails column.now (92 ∷ rest.now)) }
 {
     match rest {
-        [] => Err(Fault::Refused(FieldFault::BadEscape)),
+        [] => Err(FieldFault::BadEscape),
         [first, more @ ..] => {
             if *first == b'\\' {
-                return plain_value_of(alloc, column.kind, rest);
+                return plain_cell_of(column.kind, rest);
             }
             if *first != b'N' || more.len() > 0 {
-                return Err(Fault::Refused(FieldFault::BadEscape));
+                return Err(FieldFault::BadEscape);
             }
             if column.not_null {
-                return Err(Fault::Refused(FieldFault::NullValue));
+                return Err(FieldFault::NullValue);
             }
-            Ok(Value::Null)
+            Ok(Cell::Null)
         }
     }
 }
 
-/// The value that a field of the column stands for.
-pub fn value_of(alloc: Global, column: &Column, field: &[u8]) -> Result<Value, Fault<FieldFault>>
-    ensures { Reports (Stands column.now field.now) (FieldFails column.now field.now) result }
+/// The value that a field of the column stands for. Its text stays where it is.
+pub fn cell_of<'f>(column: &Column, field: &'f [u8]) -> Result<Cell<'f>, FieldFault>
+    ensures { MatchResult result (λ x. Stands column.now field.now (value_of x)) (FieldFails column.now field.now) }
 {
     match field {
-        [] => plain_value_of(alloc, column.kind, field),
+        [] => plain_cell_of(column.kind, field),
         [first, rest @ ..] => {
             if *first == b'\\' {
-                escaped_value_of(alloc, column, rest)
+                escaped_cell_of(column, rest)
             } else {
-                plain_value_of(alloc, column.kind, field)
+                plain_cell_of(column.kind, field)
             }
         }
     }

@@ -1,24 +1,25 @@
 //! Rows read from the records of a table's file.
 
-ghost use Rattle.std.specs.Prelude.{◌≡◌, ◌≤◌, ◌+◌, ◌↔◌, List, [], None, length, IfOk, IsTrue};
+ghost use Rattle.std.specs.Prelude.{◌≡◌, ◌≤◌, ◌+◌, ◌↔◌, List, [], None, length, map, IfOk, IsTrue};
+ghost use Rattle.values.specs.Cells.{value_of};
 ghost use Rattle.schema.specs.Databases.{most_rows};
 ghost use Rattle.store.specs.Tables.{records_of};
 ghost use Rattle.csv.specs.Records.{fields_of};
 ghost use Rattle.store.specs.Reading.{Remains, NextOf};
 ghost use Rattle.store.specs.Tables.{Record, StandFor, names_of};
-ghost use Rattle.store.specs.Parsing.{RowFails, Parses, ParsesFile, in_field};
+ghost use Rattle.store.specs.Parsing.{RowFails, Parses, ParsesFile};
 ghost use Rattle.store.specs.Reports.{Reports};
 
 use crate::columns::ColumnStore;
-use crate::fault::{FieldFault, TableCause, TableRefusal};
-use crate::field::value_of;
+use crate::fault::{TableCause, TableRefusal};
+use crate::field::cell_of;
 use crate::source::RowSource;
 use crate::table::Table;
 use csv::{ByteRecord, Reader, ReaderBuilder};
 use schema::Column;
 use std::alloc::{AllocError, Global};
 use std::io::Read;
-use values::{Fault, Items, Value};
+use values::{Cell, Fault};
 
 /// The most rows that a table may have.
 pub const MOST_ROWS: usize = 1_000_000;
@@ -60,38 +61,28 @@ fn is_header(columns: &[Column], fields: &ByteRecord) -> bool
     true
 }
 
-/// The fault of a record whose field at this place has one.
-fn in_column(place: usize, fault: Fault<FieldFault>) -> Fault<TableCause>
-    ensures { result ≡ in_field place fault }
-{
-    match fault {
-        Fault::Memory => Fault::Memory,
-        Fault::Refused(fault) => Fault::Refused(TableCause::Field(place, fault)),
-    }
-}
-
-/// The row that a record stands for.
-fn row_of(
+/// The row that a record stands for. Its texts stay in the record.
+fn row_of<'f>(
     alloc: Global,
     columns: &[Column],
-    fields: &ByteRecord,
-) -> Result<Items<Value>, Fault<TableCause>>
-    ensures { Reports (StandFor columns.now (fields_of fields.now)) (RowFails columns.now (fields_of fields.now)) result }
+    fields: &'f ByteRecord,
+) -> Result<Vec<Cell<'f>>, Fault<TableCause>>
+    ensures { Reports (λ cells. StandFor columns.now (fields_of fields.now) (map value_of cells.items)) (RowFails columns.now (fields_of fields.now)) result }
 {
     if fields.len() != columns.len() {
         return Err(Fault::Refused(TableCause::OtherLength));
     }
-    let mut values = Vec::with_capacity(alloc, columns.len())?;
+    let mut cells = Vec::with_capacity(alloc, columns.len())?;
     for place in 0..columns.len() {
         let Some(field) = fields.get(place) else {
             return Err(Fault::Refused(TableCause::OtherLength));
         };
-        match value_of(alloc, &columns[place], field) {
-            Ok(value) => values.push(value)?,
-            Err(fault) => return Err(in_column(place, fault)),
+        match cell_of(&columns[place], field) {
+            Ok(cell) => cells.push(cell)?,
+            Err(fault) => return Err(Fault::Refused(TableCause::Field(place, fault))),
         }
     }
-    Ok(Items::from_vec(values))
+    Ok(cells)
 }
 
 /// What is parsed where the record after these rows is at fault.

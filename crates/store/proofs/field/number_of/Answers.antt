@@ -1,9 +1,9 @@
 use Rattle.std.proofs.Common.{◌≡◌, true, false, ℤ, FitsSigned, rules, sym, subst}
 use Rattle.std.specs.Int.{w64}
 use Rattle.std.specs.Fmt.{signed_decimal}
-use Rattle.std.proofs.lemmas.Int.{to_z-of_z}
-use Rattle.store.specs.Numbers.{begins_number}
-use Rattle.store.proofs.Decimals.{other_front, no_text, not_parsed, is_decimal, fits_decimal}
+use Rattle.std.proofs.lemmas.Int.{to_z-of_z, to_z_pos}
+use Rattle.store.specs.Numbers.{IsCount, begins_number}
+use Rattle.store.proofs.Decimals.{other_front, count_written, no_text, not_parsed, is_decimal, fits_decimal}
 use Rattle.store.proofs.field.number_of.Goals as goal
 
 pub returns-then-not-begins_number : goal.returns-then-not-begins_number
@@ -11,8 +11,8 @@ returns-then-not-begins_number c =
     let e : begins_number c.args.bytes.now ≡ false = search rules in
     other_front c.args.bytes.now e
 
-pub returns-in_default : goal.returns-in_default
-returns-in_default c = no_text c.args.bytes.now c.in_default.ensures.cases.0
+pub returns-in_default-from_utf8 : goal.returns-in_default-from_utf8
+returns-in_default-from_utf8 c = no_text c.args.bytes.now c.in_default-from_utf8.ensures.cases.0
 
 pub returns-in-Ok-parse : goal.returns-in-Ok-parse
 returns-in-Ok-parse c =
@@ -24,3 +24,9 @@ returns-in-Ok-parse c =
 
 pub returns-in-Err : goal.returns-in-Err
 returns-in-Err c = not_parsed c.args.bytes.now c.in-Err.field-0 (rw c.in-Ok.ensures.cases.0 at c.in-Err.ensures.value.0)
+
+pub returns-in-Some : goal.returns-in-Some
+returns-in-Some c =
+    let e : begins_number c.args.bytes.now ≡ true = search rules in
+    let h : IsCount c.args.bytes.now c.in-Some.count = c.in-Some.ensures in
+    rw (to_z_pos w64 c.in-Some.count h.short) (count_written c.args.bytes.now c.in-Some.count e h, record { sfits = h.short })

@@ -1,4 +1,5 @@
-use Rattle.std.proofs.Common.{◌≡◌, ◌<◌, ◌∷◌, [], length, arith, rules, length-append}
+use Rattle.std.proofs.Common.{◌≡◌, ◌<◌, ◌∷◌, [], length, map, arith, rules, length-append}
+use Rattle.values.specs.Cells.{value_of}
 use Rattle.schema.specs.Databases.{most_rows}
 use Rattle.store.specs.declared.fault.TableCause.TheVariants.{TooMany}
 use Rattle.store.specs.Reading.{Remains}
@@ -11,17 +12,18 @@ returns-then-not-branch g c = λ rest h.
     rw c.whole.ensures (ends_there c.args.columns.now rest c.loop-alloc.rows.rows more c.in_ok-next_of.field-0 _ (λ m. Remains g.R.Read.remaining c.next_of.new.reader m) (c.in_ok-next_of.ensures more held) (search rules) c.loop-alloc.invariant.few w)
 
 pub with_row-requires-clause-kinds : goal.with_row-requires-clause-kinds
-with_row-requires-clause-kinds g c = rw (c.loop-alloc.invariant.kinds, c.as_slice.ensures) (take_row c.args.columns.now _ c.in-Ok.row c.in-Ok.ensures)
+with_row-requires-clause-kinds g c = rw (c.loop-alloc.invariant.kinds, c.as_slice.ensures.value) (take_row c.args.columns.now _ (map value_of c.in-Ok.row.items) c.in-Ok.ensures)
 
 pub loop-alloc-preserved : goal.loop-alloc-preserved
 loop-alloc-preserved g c =
     let few : length c.loop-alloc.rows.rows < most_rows = omega arith in
-    rw (c.in_ok-rows-in-Ok.ensures, c.as_slice.ensures) (record {
+    let row = map value_of c.in-Ok.row.items in
+    rw (c.in_ok-rows-in-Ok.ensures, c.as_slice.ensures.value) (record {
       kinds = c.loop-alloc.invariant.kinds;
-      few = omega (arith, length-append c.loop-alloc.rows.rows (c.in-Ok.row ∷ []));
+      few = omega (arith, length-append c.loop-alloc.rows.rows (row ∷ []));
       written = λ rest h.
           let (more, held, w) = c.loop-alloc.invariant.written rest h in
-          goes_on c.args.columns.now rest c.loop-alloc.rows.rows more c.in_ok-next_of.field-0 _ (λ m. Remains g.R.Read.remaining c.next_of.new.reader m) c.in-Ok.row (c.in_ok-next_of.ensures more held) (search rules) w c.in-Ok.ensures;
+          goes_on c.args.columns.now rest c.loop-alloc.rows.rows more c.in_ok-next_of.field-0 _ (λ m. Remains g.R.Read.remaining c.next_of.new.reader m) row (c.in_ok-next_of.ensures more held) (search rules) w c.in-Ok.ensures;
     })
 
 pub returns-in-Err-Refused : goal.returns-in-Err-Refused
