@@ -11,6 +11,7 @@ use Rattle.algebra.specs.Columns as columns
 use Rattle.algebra.specs.Columns.{has, rising}
 use Rattle.algebra.specs.Expressions.{with_aggregates, aggregate_columns, are_different}
 use Rattle.algebra.proofs.Sets.{increasing-rising, different-rising, has-rising}
+use Rattle.algebra.proofs.Ordered.{and-turn}
 
 -- ---- columns
 
@@ -75,12 +76,6 @@ with-ordered G = λ i rows r c. at G rows r c i
     at (a ∷ H) rows r c = with-put a (by_column H) rows r c ∙ ap (λ w. if a.column == c then aggregate_of a.aggregate (length rows) (λ k. map (λ s. s k) rows) else w) (at H rows r c)
 
 -- ---- tests
-
-and-turn : (a b c : Bool) → (a && (b && c)) ≡ (b && (a && c))
-and-turn true true c = refl
-and-turn true false c = refl
-and-turn false true c = refl
-and-turn false false c = refl
 
 module _ (p : Aggregation → Bool) where
   put-each : (a : Aggregation) (G : List Aggregation) → has (aggregate_columns G) a.column ≡ false → list_all p (put_aggregate a G) ≡ (p a && list_all p G)
