@@ -20,7 +20,10 @@ impl QueryReporting for Meaning {
         _more: &str,
         reported: &mut String,
     ) -> Result<(), AllocError> {
-        push_rows(reported, meaning(alloc, query.query(), database)?.as_slice())
+        push_rows(
+            reported,
+            meaning(alloc, query.query(), database)?.as_slice(),
+        )
     }
 }
 
