@@ -10,7 +10,7 @@ use Rattle.std.proofs.Math.Bool.{and-true}
 use Rattle.values.proofs.Lists.{all_append}
 use Rattle.algebra.specs.declared.condition.Condition.{Condition, roll-Condition, fold-roll-Condition, ind-Condition, map-Condition, out-Condition, roll-out-Condition}
 use Rattle.algebra.specs.declared.condition.Condition.TheOpen.{Condition-F}
-use Rattle.algebra.specs.declared.condition.Condition.TheVariants.{Compare, IsNull, Not, And, Or, Exists, In, rolls-Compare, rolls-IsNull, rolls-Not, rolls-And, rolls-Or, rolls-Exists, rolls-In}
+use Rattle.algebra.specs.declared.condition.Condition.TheVariants.{Not, And, rolls-Compare, rolls-IsNull, rolls-Not, rolls-And, rolls-Or, rolls-Exists, rolls-In}
 use Rattle.algebra.specs.ConditionEquality.{same_condition}
 use Rattle.algebra.specs.ConjunctOrder.{condition_text, goes_before, put_in_order, in_order, Flat, flat, flat_layer, parts_of, conjuncts, IsPart, IsInOrder, AreConjuncts}
 use Rattle.algebra.proofs.Ordered.{in_order-all}

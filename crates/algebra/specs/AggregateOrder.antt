@@ -1,5 +1,5 @@
 -- The aggregates of a group in rising order of their columns, the first of each column (this project's profile).
-use Rattle.std.specs.Prelude.{ℕ, Bool, ◌==◌, nat_le, if◌then◌else◌, List, [], ◌∷◌, map}
+use Rattle.std.specs.Prelude.{Bool, ◌==◌, nat_le, if◌then◌else◌, List, [], ◌∷◌, map}
 use Rattle.std.specs.List.Sorted.{IsStrictlyIncreasing}
 use Rattle.algebra.specs.declared.expr.Aggregation.{Aggregation}
 

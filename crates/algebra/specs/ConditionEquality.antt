@@ -1,6 +1,6 @@
 -- Whether two values are the same. The prover gives each type of plain data a code, a tree of numbers that distinguishes its
 -- values: two values are the same where their codes are. Here of conditions, specs/Equality has the others.
-use Rattle.std.specs.Prelude.{ℕ, Bool, true, false, ◌&&◌, ◌==◌, List}
+use Rattle.std.specs.Prelude.{Bool, true, false, ◌&&◌, ◌==◌, List}
 use Rattle.std.specs.Coded.{Coded, coded_list}
 use base.Stored.{Gv, gnil, gnum, gcons}
 use Rattle.algebra.specs.declared.condition.Condition.{Condition}

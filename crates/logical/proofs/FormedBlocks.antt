@@ -19,7 +19,6 @@ use Rattle.algebra.specs.declared.expr.Expr.{Expr}
 use Rattle.algebra.specs.declared.expr.Expr.TheVariants.{Group}
 use Rattle.algebra.specs.AggregateOrder.{by_column}
 use Rattle.algebra.specs.Columns.{has, is_subset, rising}
-use Rattle.algebra.specs.Conditions.{all_classes, all_columns}
 use Rattle.algebra.specs.Equality.{same_aggregation}
 use Rattle.algebra.specs.Expressions.{is_query_column, is_formed, aggregate_reads, aggregate_columns, aggregation_formed, are_different}
 use Rattle.algebra.specs.Classes.{class_columns, AreFormed}

@@ -15,7 +15,6 @@ use Rattle.algebra.specs.declared.expr.Aggregation.{Aggregation}
 use Rattle.algebra.specs.declared.expr.Expr.{Expr}
 use Rattle.algebra.specs.declared.expr.Expr.TheVariants.{Get, Join, LeftJoin}
 use Rattle.algebra.specs.Columns.{has, are_disjoint}
-use Rattle.algebra.specs.Conditions.{all_classes, all_columns}
 use Rattle.algebra.specs.Expressions.{classes_pass, is_formed, is_query_column, is_plain, sides_formed, names_own, subqueries_pass}
 use Rattle.algebra.specs.Classes.{class_columns, AreFormed}
 use Rattle.logical.specs.Frames.{conjuncts_of, CondLines, FromFrame, cond_frame, from_frame, join_frame, last}

@@ -1,5 +1,5 @@
 -- What the frame makes of a condition means it, if it does so of the parts.
-use Rattle.std.proofs.Common.{◌≡◌, refl, ap, sym, ◌∙◌, ℕ, true, ◌&&◌, not, List, [], ◌∷◌, map}
+use Rattle.std.proofs.Common.{◌≡◌, refl, ap, ◌∙◌, ℕ, true, not, List, [], ◌∷◌, map}
 use Rattle.std.specs.List.{AllByRecursion}
 use Rattle.std.proofs.lemmas.Bool.{and_parts}
 use Rattle.values.specs.declared.truth.Truth.{Truth}

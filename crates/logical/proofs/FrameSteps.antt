@@ -1,5 +1,5 @@
 -- The frame of each form of condition, FROM and block, by the steps that compute it.
-use Rattle.std.proofs.Common.{◌≡◌, refl, ap, sym, ◌∙◌, ℕ, List, [], ◌∷◌, ◌++◌, length, map, reverse, option_map, Result, Ok, Err, IfOk, OnOk}
+use Rattle.std.proofs.Common.{◌≡◌, refl, ap, ◌∙◌, ℕ, List, [], ◌∷◌, ◌++◌, length, map, reverse, option_map, Result, Ok, Err, IfOk, OnOk}
 use Rattle.values.specs.declared.truth.Comparison.{Comparison}
 use Rattle.query.specs.declared.query.Term as named
 use Rattle.query.specs.declared.query.Occurrence.{Occurrence}

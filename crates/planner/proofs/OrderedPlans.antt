@@ -1,5 +1,5 @@
 -- The plan with the sort on top is of the same class, and delivers the ORDER BY.
-use Rattle.std.proofs.Common.{◌≡◌, refl, ap, sym, ◌∙◌, ℕ, ◌+◌, true, List, [], ◌∷◌, length, take, Option, Some, None, Ok}
+use Rattle.std.proofs.Common.{◌≡◌, refl, sym, ◌∙◌, ℕ, ◌+◌, true, List, [], ◌∷◌, length, take, Option, Some, None, Ok}
 use Rattle.std.specs.List.{slice_get, list_all}
 use Rattle.std.specs.Coded.{coded_list}
 use Rattle.std.proofs.lemmas.Bool.{and_from}

@@ -1,7 +1,6 @@
 use Rattle.std.proofs.Common.{◌≡◌, refl, ◌∷◌, ◌∙◌, ap, sym, subst, List, ℕ, map, codes, string_bytes, IfOk, arith}
 use Rattle.std.proofs.lemmas.List.{take_all}
 use Rattle.std.specs.List.{join_by}
-use Rattle.algebra.specs.declared.condition.Condition.{Condition}
 use Rattle.algebra.specs.ConjunctOrder as spec
 use Rattle.algebra.proofs.TextEquations.{text-Compare, text-IsNull, text-Not, text-And, text-Or, text-Exists, text-In, listed-by}
 use Rattle.algebra.proofs.condition_text.+texts.Goals as goal
