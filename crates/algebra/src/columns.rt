@@ -7,6 +7,7 @@ ghost use Rattle.algebra.specs.Columns.{has, is_subset, are_disjoint, rising};
 ghost use Rattle.std.specs.List.Sorted.{IsStrictlyIncreasing};
 
 use query::ColumnId;
+use query::ids::id_behind;
 use std::alloc::{AllocError, Global};
 use std::marker::Model;
 use values::Items;
@@ -38,14 +39,14 @@ impl Columns {
         }
     }
 
-    /// So many columns from the first on. No query has columns past the numbers of the machine; they are reported as out of
+    /// So many columns from the first on. No query has columns past 32 bits; they are reported as out of
     /// memory.
     pub fn run(alloc: Global, first: ColumnId, count: usize) -> Result<Columns, AllocError>
         ensures { IfOk result (λ c. c ≡ range_with_len first count) }
     {
         let mut columns = Items::new(alloc);
         for place in 0..count {
-            columns.push(first.checked_add(place).ok_or(AllocError)?)?;
+            columns.push(id_behind(first, place)?)?;
         }
         Ok(Columns { columns })
     }
@@ -91,7 +92,7 @@ impl Columns {
 }
 
 /// The numbers in rising order, each once.
-pub(crate) fn in_rising_order(mut numbers: Vec<usize>) -> Vec<usize>
+pub(crate) fn in_rising_order(mut numbers: Vec<u32>) -> Vec<u32>
     ensures rising { result.items ≡ rising numbers.items }
     ensures increasing { IsStrictlyIncreasing result.items }
 {

@@ -10,7 +10,7 @@ use std::marker::Model;
 use values::{Boxed, Comparison, Items, Literal, same};
 
 /// The number of a line of a derivation, from 0.
-pub type LineId = usize;
+pub type LineId = u32;
 
 /// The number of a class: that of the line that founds it.
 pub type ClassId = LineId;

@@ -10,33 +10,34 @@ ghost use Rattle.algebra.specs.Expressions as spec;
 use crate::columns::{Columns, are_disjoint_from, is_subset_of};
 use crate::condition::{ClassId, Condition, Conjuncts, Term};
 use crate::expr::{Aggregation, Expr};
-use query::{Aggregate, TableInstance};
+use query::{Aggregate, ColumnId, TableInstance};
 use std::alloc::{AllocError, Global};
 
 /// Whether the column is one of a table instance.
 #[tactic(auto, using(crate::proofs::Sets::range_has))]
-fn is_in_table(table: &TableInstance, column: usize) -> bool
+fn is_in_table(table: &TableInstance, column: ColumnId) -> bool
     ensures { result ≡ has (spec.use_columns table.now) column }
 {
-    table.first_column <= column && column - table.first_column < table.entry.columns.len()
+    table.first_column <= column
+        && ((column - table.first_column) as usize) < table.entry.columns.len()
 }
 
 /// Whether the column is one of the query's: of a table instance, or of an aggregate of its own.
-fn is_query_column(uses: &[TableInstance], own: &[Aggregation], column: usize) -> bool
+fn is_query_column(uses: &[TableInstance], own: &[Aggregation], column: ColumnId) -> bool
     ensures { result ≡ spec.is_query_column uses.now own.now column }
 {
     is_in_tables(uses, column) || is_added(own, column)
 }
 
 /// Whether the column is one of a table instance of the list.
-fn is_in_tables(uses: &[TableInstance], column: usize) -> bool
+fn is_in_tables(uses: &[TableInstance], column: ColumnId) -> bool
     ensures { result ≡ list_any (λ t. has (spec.use_columns t) column) uses.now }
 {
     uses.iter().any(|t| is_in_table(t, column))
 }
 
 /// Whether the column is that of an aggregate of the list.
-fn is_added(added: &[Aggregation], column: usize) -> bool
+fn is_added(added: &[Aggregation], column: ColumnId) -> bool
     ensures { result ≡ list_any (λ a. a.column == column) added.now }
 {
     added.iter().any(|a| a.column == column)
@@ -113,8 +114,8 @@ fn names_below(condition: &Condition, bound: usize) -> bool
             let more = all_name_below(cs.as_slice(), bound);
             first && (second && more)
         }
-        Condition::Exists(g) => *g < bound,
-        Condition::In(_, g, _) => *g < bound,
+        Condition::Exists(g) => (*g as usize) < bound,
+        Condition::In(_, g, _) => (*g as usize) < bound,
     }
 }
 
@@ -135,7 +136,7 @@ fn is_below(class: Option<ClassId>, bound: usize) -> bool
     ensures { result ≡ list_all (λ g. nat_lt g bound) (option_to_list class) }
 {
     match class {
-        Some(x) => x < bound,
+        Some(x) => (x as usize) < bound,
         None => true,
     }
 }
@@ -181,20 +182,21 @@ impl Expr {
         ensures { result ≡ spec.operator_formed uses.now own.now (columns_at columns.now) self.now }
     {
         match self {
-            Expr::Get(o) => *o < uses.len(),
+            Expr::Get(o) => (*o as usize) < uses.len(),
             Expr::Select(_, _) | Expr::Distinct(_) => true,
             Expr::Join(c, a, b) | Expr::LeftJoin(c, a, b) | Expr::Semi(c, a, b) => {
-                c.is_plain() && are_disjoint_from(columns[*a].as_slice(), &columns[*b])
+                c.is_plain()
+                    && are_disjoint_from(columns[*a as usize].as_slice(), &columns[*b as usize])
             }
             Expr::Anti(sure, maybe, a, b) => {
                 sure.is_plain()
                     && maybe.is_plain()
-                    && are_disjoint_from(columns[*a].as_slice(), &columns[*b])
+                    && are_disjoint_from(columns[*a as usize].as_slice(), &columns[*b as usize])
             }
-            Expr::Keep(k, x) => is_subset_of(k.as_slice(), &columns[*x]),
+            Expr::Keep(k, x) => is_subset_of(k.as_slice(), &columns[*x as usize]),
             Expr::Group(k, added, x) => {
-                is_subset_of(k.as_slice(), &columns[*x])
-                    && aggregations_formed(added.as_slice(), &columns[*x], own)
+                is_subset_of(k.as_slice(), &columns[*x as usize])
+                    && aggregations_formed(added.as_slice(), &columns[*x as usize], own)
             }
         }
     }
@@ -211,9 +213,12 @@ impl Expr {
     {
         match self {
             Expr::Get(o) => Columns::of_occurrence(alloc, uses, *o),
-            Expr::Join(_, a, b) | Expr::LeftJoin(_, a, b) => columns[*a].union(alloc, &columns[*b]),
+            Expr::Join(_, a, b) | Expr::LeftJoin(_, a, b) => columns[*a as usize].union(
+                alloc,
+                &columns[*b as usize],
+            ),
             Expr::Select(_, x) | Expr::Semi(_, x, _) | Expr::Anti(_, _, x, _) | Expr::Distinct(x) =>
-                columns[*x].copy(alloc),
+                columns[*x as usize].copy(alloc),
             Expr::Keep(k, _) => k.copy(alloc),
             Expr::Group(k, added, _) => Columns::of_groups(alloc, k, added.as_slice()),
         }

@@ -11,7 +11,7 @@ use std::alloc::{AllocError, Global};
 
 /// Adds the classes that a condition names.
 #[cycle(classes)]
-fn add_classes(condition: &Condition, classes: &mut Vec<usize>) -> Result<(), AllocError>
+fn add_classes(condition: &Condition, classes: &mut Vec<ClassId>) -> Result<(), AllocError>
     ensures { OnOk result (classes.new.items ≡ classes.old.items ++ spec.named_classes condition.now) }
 {
     match condition {
@@ -40,7 +40,7 @@ fn add_classes(condition: &Condition, classes: &mut Vec<usize>) -> Result<(), Al
 }
 
 #[cycle(classes)]
-fn add_all_classes(conditions: &[Condition], classes: &mut Vec<usize>) -> Result<(), AllocError>
+fn add_all_classes(conditions: &[Condition], classes: &mut Vec<ClassId>) -> Result<(), AllocError>
     ensures { OnOk result (classes.new.items ≡ classes.old.items ++ flat_map spec.named_classes conditions.now) }
 {
     for condition in conditions {
@@ -51,7 +51,7 @@ fn add_all_classes(conditions: &[Condition], classes: &mut Vec<usize>) -> Result
 
 impl Conjuncts {
     /// The classes that the conditions name, in rising order.
-    pub fn classes(&self, alloc: Global) -> Result<Vec<usize>, AllocError>
+    pub fn classes(&self, alloc: Global) -> Result<Vec<ClassId>, AllocError>
         ensures { IfOk result (λ classes. classes.items ≡ spec.classes_in self.now) }
     {
         let mut classes = Vec::new(alloc);
@@ -65,7 +65,7 @@ fn classes_in_both(
     alloc: Global,
     first: &[Condition],
     second: &[Condition],
-) -> Result<Vec<usize>, AllocError>
+) -> Result<Vec<ClassId>, AllocError>
     ensures { IfOk result (λ classes. classes.items ≡ spec.classes_in (first.now ++ second.now)) }
 {
     let mut classes = Vec::new(alloc);
@@ -75,7 +75,7 @@ fn classes_in_both(
 }
 
 /// Adds the class, if there is one.
-fn add_class(class: Option<ClassId>, classes: &mut Vec<usize>) -> Result<(), AllocError>
+fn add_class(class: Option<ClassId>, classes: &mut Vec<ClassId>) -> Result<(), AllocError>
     ensures { OnOk result (classes.new.items ≡ classes.old.items ++ option_to_list class) }
 {
     if let Some(class) = class {
@@ -86,7 +86,7 @@ fn add_class(class: Option<ClassId>, classes: &mut Vec<usize>) -> Result<(), All
 
 impl Expr {
     /// The classes of its inputs, the left one first, and then those that its conditions name, in rising order.
-    pub fn inputs(&self, alloc: Global) -> Result<Vec<usize>, AllocError>
+    pub fn inputs(&self, alloc: Global) -> Result<Vec<ClassId>, AllocError>
         ensures { IfOk result (λ classes. classes.items ≡ input_classes self.now) }
     {
         let (left, right) = self.children();

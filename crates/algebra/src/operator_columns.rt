@@ -6,7 +6,7 @@ ghost use Rattle.algebra.specs.Expressions as spec;
 
 use crate::columns::Columns;
 use crate::expr::Aggregation;
-use query::TableInstance;
+use query::{OccurrenceId, TableInstance};
 use std::alloc::{AllocError, Global};
 
 impl Columns {
@@ -14,11 +14,11 @@ impl Columns {
     pub fn of_occurrence(
         alloc: Global,
         uses: &[TableInstance],
-        occurrence: usize,
+        occurrence: OccurrenceId,
     ) -> Result<Columns, AllocError>
         ensures { IfOk result (λ columns. columns ≡ spec.get_columns (slice_get uses.now occurrence)) }
     {
-        match uses.get(occurrence) {
+        match uses.get(occurrence as usize) {
             Some(table) => Columns::run(alloc, table.first_column, table.entry.columns.len()),
             None => Columns::run(alloc, 0, 0),
         }

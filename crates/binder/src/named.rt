@@ -5,7 +5,7 @@ ghost use Rattle.binder.specs.Named as view;
 ghost use Rattle.binder.specs.Ordering as spec;
 
 use crate::output::Output;
-use query::Item;
+use query::{ColumnId, Item};
 use std::alloc::{AllocError, Global};
 use std::collections::HashMap;
 use std::marker::Model;
@@ -16,7 +16,7 @@ pub enum Identity {
     /// A level, and a place of its row.
     Column(usize, usize),
     /// The number of an aggregate.
-    Aggregate(usize),
+    Aggregate(ColumnId),
 }
 
 /// What an output name means, if it means anything.

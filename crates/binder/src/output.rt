@@ -10,6 +10,7 @@ ghost use Rattle.binder.specs.Chained.{scopes_of};
 use crate::fault::{BindFault, BindReason, refused};
 use crate::places::Places;
 use crate::scope::{Scope, Scopes, TypedColumn, meant, place_in_text};
+use query::ids::id_of;
 use query::{Aggregate, Column, Item};
 use schema::Kind;
 use sql_parse::statement::{
@@ -115,7 +116,7 @@ fn function_name(function: AggregateFunction) -> &'static str
 fn aggregate_of(call: &AggregateCall, own: TypedColumn) -> Result<(Aggregate, Kind), BindFault>
     ensures { Gives (λ found. found) result (spec.aggregate_of call.now.function call.now.at own) }
 {
-    let place = own.column.place;
+    let place = id_of(own.column.place)?;
     match call.function {
         AggregateFunction::Count => Ok((Aggregate::Count(place), Kind::Int)),
         AggregateFunction::Sum => match own.kind {
@@ -162,7 +163,7 @@ fn item_and_kind(
         }
         ItemValue::Aggregate(call) => {
             let (aggregate, kind) = aggregate_in(call, scopes)?;
-            Ok((Item::Aggregate(number, aggregate), kind))
+            Ok((Item::Aggregate(id_of(number)?, aggregate), kind))
         }
     }
 }

@@ -6,6 +6,7 @@ ghost use Rattle.binder.specs.Numbers as spec;
 
 use crate::fault::{BindFault, BindReason, refused};
 use crate::scope::{Scope, find_table, known_name};
+use query::ids::id_of;
 use query::{Occurrence, TableInstance};
 use schema::{Schema, Table};
 use sql_parse::statement::TableName;
@@ -35,12 +36,12 @@ impl Numbered {
         ensures occurrence { IfOk result (λ o. o ≡ spec.next_occurrence self.old table) }
         ensures pushed { OnOk result (self.new ≡ spec.with_table self.old table entry.now name.now) }
     {
-        let number = self.tables.len();
+        let number = id_of(self.tables.len())?;
         self.tables.push(TableInstance {
             table,
             entry: entry.copy(alloc)?,
             name: name.copy(alloc)?,
-            first_column: self.next_column,
+            first_column: id_of(self.next_column)?,
         })?;
         let columns = entry.columns.len();
         self.next_column = self.next_column.checked_add(columns).ok_or(AllocError)?;

@@ -9,6 +9,7 @@ use crate::fit::{is_delivered, plan_fits};
 use crate::replay::replay;
 use derivation::{Certificate, CheckFault};
 use logical::frame;
+use query::ids::id_of;
 use query::{BoundQuery, Query};
 use schema::Schema;
 use std::alloc::Global;
@@ -31,7 +32,8 @@ fn accepted<'a>(
     let columns = replay(alloc, query, frame.as_slice(), lines)?;
     let plan = &certificate.plan;
     let ordered = is_delivered(alloc, query, plan)?;
-    let root = frame.len() - 1;
+    let last = frame.len() - 1;
+    let root = id_of(last)?;
     plan_fits(
         alloc,
         lines,

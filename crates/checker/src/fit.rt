@@ -45,7 +45,7 @@ fn implements(operator: &Operator, expr: &Expr) -> bool
 fn is_column(columns: &[Columns], class: ClassId, column: ColumnId) -> bool
     ensures { result ≡ has (columns_at columns.now class) column }
 {
-    match columns.get(class) {
+    match columns.get(class as usize) {
         Some(own) => own.contains(column),
         None => false,
     }
@@ -66,7 +66,7 @@ fn sort_fits(
     inputs: usize,
     class: ClassId,
     number: usize,
-) -> Result<Vec<usize>, CheckFault>
+) -> Result<Vec<ClassId>, CheckFault>
     ensures classes { Gives (λ classes. classes.items) result (spec.sort_fits (columns_at columns.now) keys.now inputs class number) }
     ensures count { IfOk result (λ classes. length classes.items ≡ inputs) }
 {
@@ -82,7 +82,7 @@ fn only_input(
     inputs: usize,
     class: ClassId,
     number: usize,
-) -> Result<Vec<usize>, CheckFault>
+) -> Result<Vec<ClassId>, CheckFault>
     ensures classes { Gives (λ classes. classes.items) result (wanted_if (spec.refusal number OtherOperator) (inputs == 1) (class ∷ [])) }
     ensures count { IfOk result (λ classes. length classes.items ≡ inputs) }
 {
@@ -110,11 +110,11 @@ fn operator_fits(
     inputs: usize,
     class: ClassId,
     number: usize,
-) -> Result<Vec<usize>, CheckFault>
+) -> Result<Vec<ClassId>, CheckFault>
     ensures classes { Gives (λ classes. classes.items) result (spec.operator_fits (map spec.founding lines.now) line operator.now inputs class number) }
     ensures count { IfOk result (λ classes. length classes.items ≡ inputs) }
 {
-    let expr = match lines.get(line) {
+    let expr = match lines.get(line as usize) {
         Some(line) => line.founding(),
         None => return Err(refused(number, CheckReason::UnknownLine)),
     };
@@ -138,7 +138,7 @@ fn node_fits(
     inputs: usize,
     class: ClassId,
     number: usize,
-) -> Result<Vec<usize>, CheckFault>
+) -> Result<Vec<ClassId>, CheckFault>
     ensures classes { Gives (λ classes. classes.items) result (spec.node_fits (map spec.founding lines.now) (columns_at columns.now) node.now inputs class number) }
     ensures count { IfOk result (λ classes. length classes.items ≡ inputs) }
 {
@@ -237,7 +237,7 @@ fn inputs_fit(
     lines: &[Line],
     columns: &[Columns],
     inputs: &[Plan],
-    classes: &[usize],
+    classes: &[ClassId],
     number: usize,
 ) -> Result<usize, CheckFault>
     requires { length inputs.now ≡ length classes.now }

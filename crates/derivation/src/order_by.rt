@@ -5,13 +5,13 @@ ghost use Rattle.derivation.specs.QueryOrders as spec;
 
 use logical::query_numbers;
 use physical::OrderKey;
-use query::{Query, SortKey};
+use query::{ColumnId, Query, SortKey};
 use std::alloc::{AllocError, Global};
 
 /// The order by the items' columns that ORDER BY asks for.
 fn ordered_columns(
     alloc: Global,
-    numbers: &[usize],
+    numbers: &[ColumnId],
     keys: &[SortKey],
 ) -> Result<Vec<OrderKey>, AllocError>
     ensures { IfOk result (λ order. order.items ≡ spec.ordered_columns numbers.now keys.now) }

@@ -224,7 +224,7 @@ fn push_filter(reported: &mut String, block: &Block) -> Result<(), AllocError> {
 fn push_tables(reported: &mut String, query: &Query) -> Result<(), AllocError> {
     for table in query.tables.as_slice() {
         reported.push_str(table.name.as_str())?;
-        push_number(reported, "@", table.first_column)?;
+        push_number(reported, "@", table.first_column as usize)?;
         reported.push_str(" ")?;
     }
     Ok(())

@@ -8,8 +8,8 @@ ghost use Rattle.logical.specs.Lent.{scope_of};
 
 use crate::lines::Lines;
 use crate::scope::{Scope, number_at, use_numbers};
-use algebra::{Aggregation, Aggregations, Columns, Condition, Conjuncts, Expr, Term};
-use query::{Aggregate, Block, Cond, From, Item, Occurrence, Query, TableInstance};
+use algebra::{Aggregation, Aggregations, ClassId, Columns, Condition, Conjuncts, Expr, Term};
+use query::{Aggregate, Block, ColumnId, Cond, From, Item, Occurrence, Query, TableInstance};
 use std::alloc::{AllocError, Global};
 use values::{Boxed, Items};
 
@@ -24,22 +24,22 @@ fn numbered(alloc: Global, term: &query::Term, scope: &Scope<'_>) -> Result<Term
 }
 
 /// An aggregate that names its column by its number.
-fn numbered_aggregate(numbers: &[usize], aggregate: Aggregate) -> Aggregate
+fn numbered_aggregate(numbers: &[ColumnId], aggregate: Aggregate) -> Aggregate
     ensures { result ≡ spec.numbered_aggregate numbers.now aggregate }
 {
     match aggregate {
         Aggregate::CountRows => Aggregate::CountRows,
-        Aggregate::Count(place) => Aggregate::Count(number_at(numbers, place)),
-        Aggregate::Sum(place) => Aggregate::Sum(number_at(numbers, place)),
-        Aggregate::Min(place) => Aggregate::Min(number_at(numbers, place)),
-        Aggregate::Max(place) => Aggregate::Max(number_at(numbers, place)),
+        Aggregate::Count(place) => Aggregate::Count(number_at(numbers, place as usize)),
+        Aggregate::Sum(place) => Aggregate::Sum(number_at(numbers, place as usize)),
+        Aggregate::Min(place) => Aggregate::Min(number_at(numbers, place as usize)),
+        Aggregate::Max(place) => Aggregate::Max(number_at(numbers, place as usize)),
     }
 }
 
 /// The aggregates of the items.
 fn aggregations(
     alloc: Global,
-    numbers: &[usize],
+    numbers: &[ColumnId],
     items: &[Item],
 ) -> Result<Vec<Aggregation>, AllocError>
     ensures { IfOk result (λ added. added.items ≡ spec.aggregations numbers.now items.now) }
@@ -57,7 +57,7 @@ fn aggregations(
 }
 
 /// The number of what an item shows.
-pub(crate) fn item_number(scope: &Scope<'_>, item: Item) -> usize
+pub(crate) fn item_number(scope: &Scope<'_>, item: Item) -> ColumnId
     ensures { result ≡ spec.item_number (scope_of scope.now) item }
 {
     match item {
@@ -90,7 +90,7 @@ fn kept(alloc: Global, scope: &Scope<'_>, items: &[Item]) -> Result<Columns, All
 }
 
 /// The key columns of a group.
-fn key_columns(alloc: Global, numbers: &[usize], keys: &[usize]) -> Result<Columns, AllocError>
+fn key_columns(alloc: Global, numbers: &[ColumnId], keys: &[usize]) -> Result<Columns, AllocError>
     ensures { IfOk result (λ columns. columns ≡ spec.key_columns numbers.now keys.now) }
 {
     let mut columns = Vec::new(alloc);
@@ -101,7 +101,7 @@ fn key_columns(alloc: Global, numbers: &[usize], keys: &[usize]) -> Result<Colum
 }
 
 /// The number of what the first item shows.
-fn first_number(scope: &Scope<'_>, items: &[Item]) -> usize
+fn first_number(scope: &Scope<'_>, items: &[Item]) -> ColumnId
     ensures { result ≡ spec.first_shown (map (spec.item_number (scope_of scope.now)) items.now) }
 {
     match items {
@@ -192,10 +192,10 @@ fn conjuncts(
 #[derive(Drop)]
 struct JoinSides {
     /// The column numbers of both.
-    numbers: Vec<usize>,
+    numbers: Vec<ColumnId>,
     on: Conjuncts,
-    left: usize,
-    right: usize,
+    left: ClassId,
+    right: ClassId,
 }
 
 /// Adds the table to the right of a join, behind its left side, and reads the ON.
@@ -203,7 +203,7 @@ struct JoinSides {
 fn join_sides(
     alloc: Global,
     uses: &[TableInstance],
-    left_numbers: Vec<usize>,
+    left_numbers: Vec<ColumnId>,
     occurrence: Occurrence,
     on: &Cond,
     outer: &Scope<'_>,
@@ -238,7 +238,7 @@ fn add_from(
     from: &From,
     outer: &Scope<'_>,
     lines: &mut Lines,
-) -> Result<Vec<usize>, AllocError>
+) -> Result<Vec<ColumnId>, AllocError>
     ensures numbers { IfOk result (λ numbers. numbers.items ≡ (spec.from_frame uses.now from.now).numbers) }
     ensures lines { OnOk result (lines.new ≡ (spec.from_frame uses.now from.now).lines (scope_of outer.now) lines.old) }
 {
@@ -294,7 +294,7 @@ fn add_filter(
 /// Adds the Group of a grouped block.
 fn add_group(
     alloc: Global,
-    numbers: &[usize],
+    numbers: &[ColumnId],
     block: &Block,
     lines: &mut Lines,
 ) -> Result<(), AllocError>
@@ -337,7 +337,7 @@ fn add_block(
     block: &Block,
     outer: &Scope<'_>,
     lines: &mut Lines,
-) -> Result<usize, AllocError>
+) -> Result<ColumnId, AllocError>
     ensures shown { IfOk result (λ number. number ≡ spec.first_shown ((spec.block_frame uses.now block.now).shown (scope_of outer.now))) }
     ensures lines { OnOk result (lines.new ≡ (spec.block_frame uses.now block.now).lines (scope_of outer.now) lines.old) }
 {

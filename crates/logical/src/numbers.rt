@@ -6,10 +6,10 @@ ghost use Rattle.logical.specs.Lent.{scope_of};
 
 use crate::frames::item_number;
 use crate::scope::{Scope, use_numbers};
-use query::{From, Item, Query, TableInstance};
+use query::{ColumnId, From, Item, Query, TableInstance};
 use std::alloc::{AllocError, Global};
 
-fn append(mut left: Vec<usize>, right: Vec<usize>) -> Result<Vec<usize>, AllocError>
+fn append(mut left: Vec<ColumnId>, right: Vec<ColumnId>) -> Result<Vec<ColumnId>, AllocError>
     ensures { IfOk result (λ numbers. numbers.items ≡ left.items ++ right.items) }
 {
     left.extend_from_slice(right.as_slice())?;
@@ -21,7 +21,7 @@ fn from_numbers(
     alloc: Global,
     uses: &[TableInstance],
     from: &From,
-) -> Result<Vec<usize>, AllocError>
+) -> Result<Vec<ColumnId>, AllocError>
     ensures { IfOk result (λ numbers. numbers.items ≡ (spec.from_frame uses.now from.now).numbers) }
 {
     match from {
@@ -41,7 +41,11 @@ fn from_numbers(
     }
 }
 
-fn item_numbers(alloc: Global, scope: &Scope<'_>, items: &[Item]) -> Result<Vec<usize>, AllocError>
+fn item_numbers(
+    alloc: Global,
+    scope: &Scope<'_>,
+    items: &[Item],
+) -> Result<Vec<ColumnId>, AllocError>
     ensures { IfOk result (λ numbers. numbers.items ≡ map (spec.item_number (scope_of scope.now)) items.now) }
 {
     let mut numbers = Vec::new(alloc);
@@ -52,7 +56,7 @@ fn item_numbers(alloc: Global, scope: &Scope<'_>, items: &[Item]) -> Result<Vec<
 }
 
 /// The column numbers of a query's items, in their order.
-pub fn query_numbers(alloc: Global, query: &Query) -> Result<Vec<usize>, AllocError>
+pub fn query_numbers(alloc: Global, query: &Query) -> Result<Vec<ColumnId>, AllocError>
     ensures { IfOk result (λ numbers. numbers.items ≡ spec.query_numbers query.now) }
 {
     let numbers = from_numbers(alloc, query.tables.as_slice(), &query.block.from)?;

@@ -8,6 +8,7 @@ ghost use Rattle.operators.specs.Relations.{env_of, row_env, values_of};
 use crate::headings::Heading;
 use crate::rows::RowData;
 use algebra::Term;
+use query::ColumnId;
 use std::alloc::{AllocError, Global};
 use values::Cell;
 
@@ -20,7 +21,7 @@ pub enum Env<'e, 't> {
 
 impl<'t> Env<'_, 't> {
     /// A column as the innermost row with it has it; Null where none has it.
-    pub fn column(&self, column: usize) -> Cell<'t>
+    pub fn column(&self, column: ColumnId) -> Cell<'t>
         ensures { value_of result ≡ env_of self.now column }
     {
         match self {
@@ -33,7 +34,7 @@ impl<'t> Env<'_, 't> {
     }
 
     /// A row with the columns as they are here.
-    pub fn row(&self, alloc: Global, columns: &[usize]) -> Result<RowData<'t>, AllocError>
+    pub fn row(&self, alloc: Global, columns: &[ColumnId]) -> Result<RowData<'t>, AllocError>
         ensures { IfOk result (λ row. values_of row ≡ map (env_of self.now) columns.now) }
     {
         let mut cells = Vec::with_capacity(alloc, columns.len())?;
@@ -59,7 +60,7 @@ pub fn row_cell<'t>(
     heading: &Heading,
     row: &RowData<'t>,
     env: &Env<'_, 't>,
-    column: usize,
+    column: ColumnId,
 ) -> Cell<'t>
     ensures { value_of result ≡ row_env heading.now row.now (env_of env.now) column }
 {

@@ -18,6 +18,7 @@ use crate::keys::{Group, RowRef, groups_of};
 use crate::relation::Relation;
 use crate::rows::RowData;
 use algebra::{Aggregation, Columns};
+use query::ColumnId;
 use std::alloc::{AllocError, Global};
 use values::Cell;
 
@@ -81,7 +82,7 @@ fn group_cell<'t>(
     heading: &Heading,
     group: &Group<'_, 't>,
     env: &Env<'_, 't>,
-    column: usize,
+    column: ColumnId,
 ) -> Cell<'t>
     requires { AreReadable grouping.added.now (member_envs heading.now (group_of group.now) (env_of env.now)) }
     ensures { value_of result ≡ group_env grouping.entry heading.now (env_of env.now) (group_of group.now) column }
@@ -103,7 +104,7 @@ fn first_cell<'t>(
     heading: &Heading,
     group: &Group<'_, 't>,
     env: &Env<'_, 't>,
-    column: usize,
+    column: ColumnId,
 ) -> Cell<'t>
     ensures { value_of result ≡ first_env heading.now (group_of group.now).first (env_of env.now) column }
 {

@@ -15,7 +15,7 @@ use crate::relation::Relation;
 use crate::rows::{RowData, stored_rows};
 use crate::truth::{Subqueries, holds};
 use algebra::{Columns, Condition};
-use query::TableInstance;
+use query::{ColumnId, OccurrenceId, TableInstance};
 use std::alloc::{AllocError, Global};
 use store::Table;
 
@@ -38,11 +38,11 @@ pub fn scanned<'t>(
     alloc: Global,
     uses: &[TableInstance],
     tables: &'t [Table],
-    occurrence: usize,
+    occurrence: OccurrenceId,
 ) -> Result<Relation<'t>, AllocError>
     ensures { (S : Schema) (e : bags.Env) → IfOk result (IsOutput (get_columns (slice_get uses.now occurrence)) (get_rows (slice_get uses.now occurrence) (tables_of S tables.entry.now) e) e) }
 {
-    let Some(table_use) = uses.get(occurrence) else {
+    let Some(table_use) = uses.get(occurrence as usize) else {
         return Relation::none(alloc);
     };
     let columns = Columns::of_occurrence(alloc, uses, occurrence)?;
@@ -118,7 +118,7 @@ fn copied<'t>(
 /// The rows with the columns as they are in the environment of each.
 fn copies<'t>(
     alloc: Global,
-    columns: &[usize],
+    columns: &[ColumnId],
     input: &Relation<'t>,
     env: &Env<'_, 't>,
 ) -> Result<Vec<RowData<'t>>, AllocError>

@@ -6,6 +6,7 @@ ghost use Rattle.operators.specs.Relations.{env_of, rows_of};
 
 use crate::environment::Env;
 use crate::relation::Relation;
+use query::ColumnId;
 use std::alloc::{AllocError, Global};
 use values::{Items, Value};
 
@@ -13,7 +14,7 @@ use values::{Items, Value};
 pub type Row = Items<Value>;
 
 /// The columns as they are here.
-fn shown_row(alloc: Global, columns: &[usize], row: &Env<'_, '_>) -> Result<Row, AllocError>
+fn shown_row(alloc: Global, columns: &[ColumnId], row: &Env<'_, '_>) -> Result<Row, AllocError>
     ensures { IfOk result (λ shown. shown ≡ map (env_of row.now) columns.now) }
 {
     let mut values = Vec::with_capacity(alloc, columns.len())?;
@@ -26,7 +27,7 @@ fn shown_row(alloc: Global, columns: &[usize], row: &Env<'_, '_>) -> Result<Row,
 /// The columns of each row.
 pub fn answer_rows(
     alloc: Global,
-    columns: &[usize],
+    columns: &[ColumnId],
     found: &Relation<'_>,
 ) -> Result<Vec<Row>, AllocError>
     ensures { IfOk result (λ shown. shown.items ≡ map (λ r. map r columns.now) (rows_of found.now nulls)) }

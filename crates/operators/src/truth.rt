@@ -12,21 +12,22 @@ ghost use Rattle.operators.specs.Relations.{env_of, given, rows_given, rows_of, 
 
 use crate::environment::{Env, term_cell};
 use crate::relation::Relation;
-use algebra::Condition;
+use algebra::{ClassId, Condition};
+use query::ColumnId;
 use values::{Cell, Comparison, Truth, compare};
 
 /// The classes that conditions name, and their rows where the conditions stand.
 #[derive(Clone, Copy)]
 pub struct Subqueries<'a, 't> {
-    pub classes: &'a [usize],
+    pub classes: &'a [ClassId],
     pub relations: &'a [Relation<'t>],
 }
 
 /// The rows of a class; none where it is not among the classes.
 fn relation_of<'a, 't>(
-    classes: &[usize],
+    classes: &[ClassId],
     relations: &'a [Relation<'t>],
-    class: usize,
+    class: ClassId,
 ) -> Option<&'a Relation<'t>>
     ensures { (e : bags.Env) → rows_given result e ≡ given classes.now relations.entry.now class e }
 {
@@ -55,7 +56,7 @@ impl<'a, 't> Subqueries<'a, 't> {
     }
 
     /// Whether the class has a row.
-    fn has_row(self, class: usize) -> bool
+    fn has_row(self, class: ClassId) -> bool
         ensures { (e : bags.Env) → result ≡ not (spec.is_empty (subqueries_given self.entry class e)) }
     {
         match relation_of(self.classes, self.relations, class) {
@@ -65,7 +66,7 @@ impl<'a, 't> Subqueries<'a, 't> {
     }
 
     /// Whether a value is among those of a column of the class.
-    fn is_among(self, cell: Cell<'_>, class: usize, column: usize, env: &Env<'_, '_>) -> Truth
+    fn is_among(self, cell: Cell<'_>, class: ClassId, column: ColumnId, env: &Env<'_, '_>) -> Truth
         ensures { result ≡ any_of (map (λ s. logic.compare by.Equal (value_of cell.entry) (s column)) (subqueries_given self.entry class (env_of env.now))) }
     {
         match relation_of(self.classes, self.relations, class) {
@@ -76,7 +77,12 @@ impl<'a, 't> Subqueries<'a, 't> {
 }
 
 /// Whether a value equals that of the column in some of the rows.
-fn equals_some(cell: Cell<'_>, relation: &Relation<'_>, column: usize, env: &Env<'_, '_>) -> Truth
+fn equals_some(
+    cell: Cell<'_>,
+    relation: &Relation<'_>,
+    column: ColumnId,
+    env: &Env<'_, '_>,
+) -> Truth
     ensures { result ≡ any_of (map (λ s. logic.compare by.Equal (value_of cell.entry) (s column)) (rows_of relation.now (env_of env.now))) }
 {
     let mut any = Truth::False;

@@ -18,7 +18,7 @@ pub fn aggregate(alloc: Global, of: Aggregate, rows: &[&Row]) -> Result<Value, A
 {
     let mut running = Running::new(of);
     for row in rows {
-        running.add(value_at(row.as_slice(), column_of(of)));
+        running.add(value_at(row.as_slice(), column_of(of) as usize));
     }
     running.value().to_value(alloc)
 }

@@ -1,7 +1,7 @@
 //! The canonical certificates of three queries: their lines, and their plans as texts.
 
 use crate::lines::{push_aggregates, push_columns, push_keys, push_line};
-use algebra::{Conjuncts, Expr};
+use algebra::{Conjuncts, Expr, LineId};
 use derivation::{Certificate, Line};
 use fixtures::{COMPANY, DEPT, EMP, QueryReporting, Tables, push_number, query_differences};
 use physical::{JoinKind, Node, Operator, Plan};
@@ -20,8 +20,8 @@ fn conjuncts_of(expr: &Expr) -> Option<&Conjuncts> {
 }
 
 /// Whether the conjuncts are those of the line.
-fn are_of_line(lines: &[Line], line: usize, conjuncts: &Conjuncts) -> bool {
-    let Some(own) = lines.get(line) else {
+fn are_of_line(lines: &[Line], line: LineId, conjuncts: &Conjuncts) -> bool {
+    let Some(own) = lines.get(line as usize) else {
         return false;
     };
     match conjuncts_of(own.founding()) {
@@ -35,11 +35,11 @@ fn push_filter(
     reported: &mut String,
     lines: &[Line],
     name: &str,
-    line: usize,
+    line: LineId,
     conjuncts: &Conjuncts,
 ) -> Result<(), AllocError> {
     if are_of_line(lines, line, conjuncts) {
-        push_number(reported, name, line)
+        push_number(reported, name, line as usize)
     } else {
         reported.push_str("other conjuncts")
     }
@@ -48,20 +48,20 @@ fn push_filter(
 fn push_operator(
     reported: &mut String,
     lines: &[Line],
-    line: usize,
+    line: LineId,
     operator: &Operator,
 ) -> Result<(), AllocError> {
     match operator {
         Operator::Scan { occurrence } => {
-            push_number(reported, "scan ", line)?;
-            push_number(reported, " of ", *occurrence)
+            push_number(reported, "scan ", line as usize)?;
+            push_number(reported, " of ", *occurrence as usize)
         }
         Operator::Filter { conjuncts } => push_filter(reported, lines, "filter ", line, conjuncts),
         Operator::FilterSubqueries { conjuncts } => {
             push_filter(reported, lines, "filter by subqueries ", line, conjuncts)
         }
         Operator::Projection { columns } => {
-            push_number(reported, "cut ", line)?;
+            push_number(reported, "cut ", line as usize)?;
             push_columns(reported, columns.as_slice())
         }
         Operator::NestedLoopJoin { kind, conjuncts } => {
@@ -72,11 +72,11 @@ fn push_operator(
             push_filter(reported, lines, name, line, conjuncts)
         }
         Operator::HashGroup { keys, added } => {
-            push_number(reported, "group ", line)?;
+            push_number(reported, "group ", line as usize)?;
             push_columns(reported, keys.as_slice())?;
             push_aggregates(reported, added.as_slice())
         }
-        Operator::HashDistinct => push_number(reported, "distinct ", line),
+        Operator::HashDistinct => push_number(reported, "distinct ", line as usize),
     }
 }
 

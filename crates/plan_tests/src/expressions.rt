@@ -3,11 +3,11 @@
 ghost use Rattle.std.specs.Prelude.{◌≡◌, IfOk, length};
 
 use crate::lines::{push_aggregates, push_columns};
-use crate::plans::{columns_of, cut, number};
+use crate::plans::{columns_of, cut, id};
 use crate::tables::TABLES;
 use algebra::{Aggregation, Aggregations, Columns, Condition, Conjuncts, Expr, Term};
 use fixtures::{QueryReporting, Reporting, differences, push_number, query_differences};
-use query::{Aggregate, BoundQuery, TableInstance};
+use query::{Aggregate, BoundQuery, ColumnId, OccurrenceId, TableInstance};
 use std::alloc::{AllocError, Global};
 use store::Database;
 use values::{Comparison, Literal};
@@ -52,7 +52,7 @@ fn push_groups(alloc: Global, reported: &mut String) -> Result<(), AllocError> {
 }
 
 /// A count of the rows.
-fn count_in(column: usize) -> Aggregation {
+fn count_in(column: ColumnId) -> Aggregation {
     Aggregation {
         column,
         aggregate: Aggregate::CountRows,
@@ -70,7 +70,7 @@ fn push_occurrence(
     alloc: Global,
     reported: &mut String,
     uses: &[TableInstance],
-    occurrence: usize,
+    occurrence: OccurrenceId,
 ) -> Result<(), AllocError> {
     let own = Columns::of_occurrence(alloc, uses, occurrence)?;
     push_columns(reported, own.as_slice())
@@ -98,7 +98,7 @@ fn is_formed(alloc: Global, uses: &[TableInstance], expr: &Expr) -> Result<bool,
 fn expr_of(alloc: Global, text: &str) -> Result<Expr, AllocError> {
     let (name, rest) = cut(text, " ");
     let (class, columns) = cut(rest, ": ");
-    let class = number(class);
+    let class = id(class);
     if name == "keep" {
         return Ok(Expr::Keep(columns_of(alloc, columns)?, class));
     }
@@ -111,10 +111,10 @@ fn expr_of(alloc: Global, text: &str) -> Result<Expr, AllocError> {
 fn push_parts(alloc: Global, reported: &mut String, expr: &Expr) -> Result<(), AllocError> {
     let (left, right) = expr.children();
     if let Some(class) = left {
-        push_number(reported, "left ", class)?;
+        push_number(reported, "left ", class as usize)?;
     }
     if let Some(class) = right {
-        push_number(reported, " right ", class)?;
+        push_number(reported, " right ", class as usize)?;
     }
     let (first, second) = expr.conditions();
     push_number(reported, "; ", first.len())?;
@@ -138,7 +138,7 @@ impl QueryReporting for Expressions {
         let query = query.query();
         let uses = query.tables.as_slice();
         if let Some(occurrence) = more.strip_prefix("columns ") {
-            return push_occurrence(alloc, reported, uses, number(occurrence));
+            return push_occurrence(alloc, reported, uses, id(occurrence));
         }
         if more == "aggregates" {
             return push_ordered(alloc, reported);

@@ -2,7 +2,7 @@
 //! `subqueries LINE COUNT`, `cut LINE: COLUMNS`, `loop LINE`, `left LINE`, `sort: KEYS`, `group LINE`, `distinct LINE`.
 //! What else a node holds is that of a line with its number.
 
-use algebra::{Aggregations, Columns, Conjuncts, Expr};
+use algebra::{Aggregations, Columns, Conjuncts, Expr, LineId};
 use physical::{JoinKind, Node, Operator, OrderKey, Plan};
 use std::alloc::{AllocError, Global};
 use values::Items;
@@ -11,9 +11,9 @@ use values::Items;
 #[derive(Clone, Copy)]
 struct Words<'a> {
     name: &'a str,
-    line: usize,
+    line: LineId,
     /// The number after the line.
-    more: usize,
+    more: u32,
     /// What stands after `:`.
     columns: &'a str,
 }
@@ -23,6 +23,14 @@ pub fn number(word: &str) -> usize {
     match word.parse() {
         Ok(number) => number,
         Err(_) => usize::MAX,
+    }
+}
+
+/// The number of a column, a table instance or a line; the greatest if the word is none.
+pub fn id(word: &str) -> u32 {
+    match word.parse() {
+        Ok(id) => id,
+        Err(_) => u32::MAX,
     }
 }
 
@@ -40,8 +48,8 @@ fn node_words(text: &str) -> Words<'_> {
     let (line, more) = cut(numbers, " ");
     Words {
         name,
-        line: number(line),
-        more: number(more),
+        line: id(line),
+        more: id(more),
         columns,
     }
 }
@@ -50,7 +58,7 @@ fn node_words(text: &str) -> Words<'_> {
 pub fn columns_of(alloc: Global, text: &str) -> Result<Columns, AllocError> {
     let mut columns = Vec::new(alloc);
     for word in text.split_whitespace() {
-        columns.push(number(word))?;
+        columns.push(id(word))?;
     }
     Ok(Columns::from_vec(columns))
 }
@@ -61,7 +69,7 @@ fn keys_of(alloc: Global, text: &str) -> Result<Items<OrderKey>, AllocError> {
     for word in text.split_whitespace() {
         let (column, _) = cut(word, "d");
         keys.push(OrderKey {
-            column: number(column),
+            column: id(column),
             descending: column.len() < word.len(),
         })?;
     }
@@ -69,8 +77,8 @@ fn keys_of(alloc: Global, text: &str) -> Result<Items<OrderKey>, AllocError> {
 }
 
 /// The conjuncts of a line; none if it has none.
-fn conjuncts_of(alloc: Global, lines: &[Expr], line: usize) -> Result<Conjuncts, AllocError> {
-    match lines.get(line) {
+fn conjuncts_of(alloc: Global, lines: &[Expr], line: LineId) -> Result<Conjuncts, AllocError> {
+    match lines.get(line as usize) {
         Some(Expr::Select(own, _)) => own.copy(alloc),
         Some(Expr::Join(own, _, _)) => own.copy(alloc),
         Some(Expr::LeftJoin(own, _, _)) => own.copy(alloc),
@@ -81,7 +89,7 @@ fn conjuncts_of(alloc: Global, lines: &[Expr], line: usize) -> Result<Conjuncts,
 fn join_of(
     alloc: Global,
     lines: &[Expr],
-    line: usize,
+    line: LineId,
     kind: JoinKind,
 ) -> Result<Operator, AllocError> {
     let conjuncts = conjuncts_of(alloc, lines, line)?;
@@ -89,8 +97,8 @@ fn join_of(
 }
 
 /// The group of a line; by no key and without aggregates if the line is no group.
-fn group_of(alloc: Global, lines: &[Expr], line: usize) -> Result<Operator, AllocError> {
-    let Some(Expr::Group(own, added, _)) = lines.get(line) else {
+fn group_of(alloc: Global, lines: &[Expr], line: LineId) -> Result<Operator, AllocError> {
+    let Some(Expr::Group(own, added, _)) = lines.get(line as usize) else {
         return Ok(Operator::HashGroup {
             keys: Columns::from_vec(Vec::new(alloc)),
             added: Aggregations::of(alloc, &[])?,
@@ -140,7 +148,7 @@ fn inputs(words: Words<'_>) -> usize {
     match words.name {
         "scan" => 0,
         "loop" | "left" => 2,
-        "subqueries" => words.more.saturating_add(1),
+        "subqueries" => (words.more as usize).saturating_add(1),
         _ => 1,
     }
 }

@@ -11,6 +11,7 @@ use algebra::{ClassId, Expr};
 use derivation::{Certificate, Line, query_order};
 use logical::frame;
 use physical::{JoinKind, Node, Operator, OrderKey, Plan};
+use query::ids::id_of;
 use query::{BoundQuery, Query};
 use std::alloc::{AllocError, Global};
 use values::Items;
@@ -59,7 +60,7 @@ fn plan_of(alloc: Global, frame: &[Expr], class: ClassId) -> Result<Plan, AllocE
     requires class { class < length frame.now }
     ensures { IfOk result (spec.IsPlanOf frame.now class) }
 {
-    let expr = &frame[class];
+    let expr = &frame[class as usize];
     let classes = expr.inputs(alloc)?;
     let mut inputs = Items::new(alloc);
     for input in classes.as_slice() {
@@ -109,7 +110,9 @@ fn certificate_of(alloc: Global, query: &Query) -> Result<Certificate, AllocErro
 {
     let order = query_order(alloc, query)?;
     let frame = frame(alloc, query)?;
-    let below = plan_of(alloc, frame.as_slice(), frame.len() - 1)?;
+    let last = frame.len() - 1;
+    let root = id_of(last)?;
+    let below = plan_of(alloc, frame.as_slice(), root)?;
     let plan = sorted(alloc, Items::from_vec(order), below)?;
     let lines = lines_of(alloc, frame)?;
     Ok(Certificate { lines, plan })

@@ -48,7 +48,7 @@ pub fn plus<'t>(v: Cell<'t>, w: Cell<'t>) -> Option<Cell<'t>>
 }
 
 /// The column that an aggregate reads; COUNT(*) reads none, and any serves.
-pub fn column_of(of: Aggregate) -> usize
+pub fn column_of(of: Aggregate) -> u32
     ensures { result ≡ spec.column_of of }
 {
     match of {

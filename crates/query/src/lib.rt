@@ -3,6 +3,7 @@
 
 pub mod aggregates;
 mod bound_query;
+pub mod ids;
 pub mod laws;
 pub mod query;
 

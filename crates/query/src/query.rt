@@ -5,10 +5,10 @@ use values::{Boxed, Comparison, Items, Literal, Text};
 
 /// The number of a column, which is its own throughout a query: those of the table instances come first, in the order of the
 /// text, and then those of its aggregates.
-pub type ColumnId = usize;
+pub type ColumnId = u32;
 
 /// The number of a table instance, from 0 in the order of the text, those in subqueries among them.
-pub type OccurrenceId = usize;
+pub type OccurrenceId = u32;
 
 /// The column at a place of the row at a level. Level 0 is the innermost row: that of the block's own FROM, and in an ON
 /// the row of the join's two sides. Level 1 is the row of the enclosing block, and so on.
@@ -61,10 +61,10 @@ pub enum From {
 #[derive(Clone, Copy, PartialEq, Eq)]
 pub enum Aggregate {
     CountRows,
-    Count(usize),
-    Sum(usize),
-    Min(usize),
-    Max(usize),
+    Count(u32),
+    Sum(u32),
+    Min(u32),
+    Max(u32),
 }
 
 #[derive(Clone, Copy)]

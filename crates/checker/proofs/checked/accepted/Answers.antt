@@ -10,10 +10,10 @@ use Rattle.derivation.proofs.Soundness.{checked}
 use Rattle.checker.proofs.Verdicts.{verdict}
 use Rattle.checker.proofs.checked.accepted.Goals as goal
 
-pub overflow_sub-root : goal.overflow_sub-root
-overflow_sub-root c =
+pub overflow_sub-last : goal.overflow_sub-last
+overflow_sub-last c =
     let some : 0 < length (query_frame c.args.query.now) = (frames_formed c.args.query.now c.requires.bound).some in
-    rw (c.len-root.ensures, c.in_ok-frame.ensures.lines) (omega (arith, some))
+    rw (c.len-last.ensures, c.in_ok-frame.ensures.lines) (omega (arith, some))
 
 pub returns-in_err-plan_fits-clause-verdict : goal.returns-in_err-plan_fits-clause-verdict
 returns-in_err-plan_fits-clause-verdict c =
@@ -25,12 +25,12 @@ pub returns-clause-verdict : goal.returns-clause-verdict
 returns-clause-verdict c =
     let left = verdict c.args.query.now c.args.certificate.now c.as_slice-lines.result.now c.as_slice-2.result.now c.in_ok-ordered.ordered c.in_ok-frame.frame c.as_slice-lines.ensures
     c.in_ok-columns.ensures.verdict (ap columns_at c.as_slice-2.ensures.value ∙ c.in_ok-columns.ensures.columns) c.in_ok-ordered.ensures c.in_ok-frame.ensures.lines in
-    let fits = subst (λ k. plan_fits (map founding c.as_slice-lines.result.now) (columns_at c.as_slice-2.result.now) c.args.certificate.now.plan c.in_ok-ordered.ordered (k - 1) (length c.as_slice-lines.result.now) ≡ Ok c.in_ok-plan_fits.field-0) c.len-root.ensures c.in_ok-plan_fits.ensures in
+    let fits = subst (λ k. plan_fits (map founding c.as_slice-lines.result.now) (columns_at c.as_slice-2.result.now) c.args.certificate.now.plan c.in_ok-ordered.ordered k (length c.as_slice-lines.result.now) ≡ Ok c.in_ok-plan_fits.field-0) (c.in_ok-root.ensures ∙ ap (λ k. k - 1) c.len-last.ensures) c.in_ok-plan_fits.ensures in
     left ∙ ap (λ (r : Result ℕ CheckRefusal). r >>= λ n. Ok c.args.certificate.now) fits
 
 pub invariant_of-result : goal.invariant_of-result
 invariant_of-result c =
     let left = verdict c.args.query.now c.args.certificate.now c.as_slice-lines.result.now c.as_slice-2.result.now c.in_ok-ordered.ordered c.in_ok-frame.frame c.as_slice-lines.ensures
     c.in_ok-columns.ensures.verdict (ap columns_at c.as_slice-2.ensures.value ∙ c.in_ok-columns.ensures.columns) c.in_ok-ordered.ensures c.in_ok-frame.ensures.lines in
-    let fits = subst (λ k. plan_fits (map founding c.as_slice-lines.result.now) (columns_at c.as_slice-2.result.now) c.args.certificate.now.plan c.in_ok-ordered.ordered (k - 1) (length c.as_slice-lines.result.now) ≡ Ok c.in_ok-plan_fits.field-0) c.len-root.ensures c.in_ok-plan_fits.ensures in
+    let fits = subst (λ k. plan_fits (map founding c.as_slice-lines.result.now) (columns_at c.as_slice-2.result.now) c.args.certificate.now.plan c.in_ok-ordered.ordered k (length c.as_slice-lines.result.now) ≡ Ok c.in_ok-plan_fits.field-0) (c.in_ok-root.ensures ∙ ap (λ k. k - 1) c.len-last.ensures) c.in_ok-plan_fits.ensures in
     checked c.args.schema.now c.args.query.now c.requires c.args.certificate.now (left ∙ ap (λ (r : Result ℕ CheckRefusal). r >>= λ n. Ok c.args.certificate.now) fits)

@@ -11,7 +11,7 @@ to_end : (uses : List TableInstance) (o : Occurrence) (t : TableInstance) (n : �
 to_end uses o t n xs there end is = is ∙ ap (range_with_len t.first_column) end ∙ sym (ap numbers_of_use there)
 
 pub loop-place-preserved : goal.loop-place-preserved
-loop-place-preserved c = run_more c.in-Some.table.now.first_column c.loop-place.place c.in_ok-ok_or.field-0 c.loop-place.numbers.items c.push.new.self.items c.in_ok-push.ensures.items c.loop-place.invariant (search rules)
+loop-place-preserved c = run_more c.in-Some.table.now.first_column c.loop-place.place _ c.loop-place.numbers.items c.push.new.self.items c.in_ok-push.ensures.items c.loop-place.invariant (search rules)
 
 pub returns : goal.returns
 returns c =

@@ -9,10 +9,10 @@ use Rattle.planner.proofs.OneCertificate.{one_certificate}
 use Rattle.planner.proofs.Accepted.{canonical_replays}
 use Rattle.planner.proofs.certificates.certificate_of.Goals as goal
 
-pub overflow_sub-len : goal.overflow_sub-len
-overflow_sub-len c =
+pub overflow_sub-last : goal.overflow_sub-last
+overflow_sub-last c =
     let some : 0 < length (query_frame c.args.query.now) = (frames_formed c.args.query.now c.requires).some in
-    rw (c.len.ensures, c.in_ok-frame.ensures.lines) (omega (arith, some))
+    rw (c.len-last.ensures, c.in_ok-frame.ensures.lines) (omega (arith, some))
 
 pub plan_of-requires-clause-earlier : goal.plan_of-requires-clause-earlier
 plan_of-requires-clause-earlier c = subst NameEarlier (sym (c.as_slice.ensures ∙ c.in_ok-frame.ensures.lines)) (names_earlier c.args.query.now c.requires)
@@ -20,13 +20,13 @@ plan_of-requires-clause-earlier c = subst NameEarlier (sym (c.as_slice.ensures �
 pub plan_of-requires-clause-class : goal.plan_of-requires-clause-class
 plan_of-requires-clause-class c =
     let some : 0 < length (query_frame c.args.query.now) = (frames_formed c.args.query.now c.requires).some in
-    rw (c.len.ensures, c.as_slice.ensures, c.in_ok-frame.ensures.lines) (omega (arith, some))
+    subst (λ k. k < length c.as_slice.result.now) (sym c.in_ok-root.ensures) (rw (c.len-last.ensures, c.as_slice.ensures, c.in_ok-frame.ensures.lines) (omega (arith, some)))
 
 pub returns-clause-replays : goal.returns-clause-replays
 returns-clause-replays c =
     let q = c.args.query.now in
     let frame : c.as_slice.result.now ≡ query_frame q = c.as_slice.ensures ∙ c.in_ok-frame.ensures.lines in
-    let below : IsPlanOf (query_frame q) (root q) c.in_ok-below.below = subst (λ g. IsPlanOf (query_frame q) g c.in_ok-below.below) (ap (λ n. n - 1) (c.len.ensures ∙ ap length c.in_ok-frame.ensures.lines)) (subst (λ L. IsPlanOf L (c.len.result - 1) c.in_ok-below.below) frame c.in_ok-below.ensures) in
+    let below : IsPlanOf (query_frame q) (root q) c.in_ok-below.below = subst (λ g. IsPlanOf (query_frame q) g c.in_ok-below.below) (c.in_ok-root.ensures ∙ ap (λ n. n - 1) (c.len-last.ensures ∙ ap length c.in_ok-frame.ensures.lines)) (subst (λ L. IsPlanOf L c.in_ok-root.root c.in_ok-below.below) frame c.in_ok-below.ensures) in
     canonical_replays q c.requires (record { lines = c.in_ok-lines.lines; plan = c.in_ok-plan.plan }) c.in_ok-below.below (c.in_ok-lines.ensures ∙ ap (map Founds) c.in_ok-frame.ensures.lines) (c.in_ok-plan.ensures ∙ ap (λ ks. top ks c.in_ok-below.below) (c.from_vec.ensures ∙ c.in_ok-order.ensures)) below
 
 pub returns-clause-only : goal.returns-clause-only
