@@ -89,25 +89,25 @@ module _ (c : Condition) (not : (a b : Condition) (cs : List Condition) → c �
 
 -- ---- order
 
-abbrev order : Condition → Condition → Ordering
+abbrev pub order : Condition → Condition → Ordering
 order = on condition_text (slice_cmp nat_cmp)
 
-total : IsTotalOrder order
+pub total : IsTotalOrder order
 total = on_texts condition_text
 
-turned : (c d : Condition) (o : Ordering) → order c d ≡ o → order d c ≡ ordering_reverse o
+pub turned : (c d : Condition) (o : Ordering) → order c d ≡ o → order d c ≡ ordering_reverse o
 turned c d o is = total.antisymm d c ∙ ap ordering_reverse is
 
-less-only : (o : Ordering) → is_lt o ≡ true → o ≡ Less
+pub less-only : (o : Ordering) → is_lt o ≡ true → o ≡ Less
 less-only Less h = refl
 less-only Equal h = absurd (let e : true ≡ false = sym h in cc)
 less-only Greater h = absurd (let e : true ≡ false = sym h in cc)
 
-before-not-behind : (c d : Condition) → goes_before c d ≡ true → goes_before d c ≡ false
+pub before-not-behind : (c d : Condition) → goes_before c d ≡ true → goes_before d c ≡ false
 unfolding goes_before
 before-not-behind c d h = ap is_lt (turned c d Less (less-only (order c d) h))
 
-before-not-same : (c d : Condition) → goes_before c d ≡ true → same_condition c d ≡ false
+pub before-not-same : (c d : Condition) → goes_before c d ≡ true → same_condition c d ≡ false
 before-not-same c d h = by (same_condition c d) refl
   where
     by : (b : Bool) → same_condition c d ≡ b → same_condition c d ≡ false
@@ -147,7 +147,7 @@ later-all c d (e ∷ ds) before all =
     let here : goes_before c e ≡ true = before-later c d e before all.0.0 in
     ((before-not-behind c e here, before-not-same c e here), later-all c d ds before all.1)
 
-same-turned : (c d : Condition) → same_condition c d ≡ false → same_condition d c ≡ false
+pub same-turned : (c d : Condition) → same_condition c d ≡ false → same_condition d c ≡ false
 same-turned c d not = by (same_condition d c) refl
   where
     by : (b : Bool) → same_condition d c ≡ b → same_condition d c ≡ false
@@ -162,7 +162,7 @@ put-ordered c (d ∷ ds) ordered =
     (λ before. (((before-not-behind c d before, isnt), later-all c d ds before ordered.0), ordered))
     (λ after. (put-each (IsLater d) c ds (after, same-turned c d isnt) ordered.0, put-ordered c ds ordered.1)))
 
-ordered-all : (cs : List Condition) → IsInOrder (in_order cs)
+pub ordered-all : (cs : List Condition) → IsInOrder (in_order cs)
 ordered-all [] = tt
 ordered-all (c ∷ cs) = put-ordered c (in_order cs) (ordered-all cs)
 

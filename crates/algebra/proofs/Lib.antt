@@ -14,6 +14,7 @@ pub mod Same
 pub mod SameBags
 pub mod SameConditions
 pub mod SameGroups
+pub mod Searches
 pub mod Sets
 pub mod TextEquations
 pub mod Truths

@@ -1,7 +1,8 @@
 //! Conjuncts in the order in which certificates spell them.
 
-ghost use Rattle.std.specs.Prelude.{◌≡◌, ◌++◌, flat_map, IfOk, OnOk};
+ghost use Rattle.std.specs.Prelude.{◌≡◌, ◌≤◌, ◌++◌, true, false, length, flat_map, IfOk, OnOk};
 ghost use Rattle.std.specs.List.{position_or_len};
+ghost use Rattle.std.specs.List.Sorted.{IsPartitionPoint};
 ghost use Rattle.algebra.specs.ConditionEquality.{same_condition};
 ghost use Rattle.algebra.specs.ConjunctOrder as spec;
 
@@ -9,7 +10,7 @@ use crate::condition::{Condition, Conjuncts};
 use crate::condition_text::condition_text;
 use std::alloc::{AllocError, Global};
 use std::marker::Model;
-use values::Items;
+use values::{Boxed, Items};
 
 /// A condition and its text, by which conjuncts are ordered.
 #[derive(Drop)]
@@ -73,34 +74,58 @@ impl Spelt {
 }
 
 /// The place of the first condition that is the same or goes after it, or the place behind all.
-fn place_of(order: &[Spelt], new: &Spelt) -> usize
-    ensures { result ≡ position_or_len (spec.ends_search new.now) order.now }
+fn end_of_search(order: &[Boxed<Spelt>], new: &Spelt) -> usize
+    ensures within { result ≤ length order.now }
+    ensures place { result ≡ position_or_len (spec.ends_search new.now) order.now }
 {
-    let place = order.iter().position(|other| new.ends_search(other));
+    let place = order.iter().position(|other| new.ends_search(other.get()));
     place.unwrap_or(order.len())
 }
 
+/// How many conditions go before it, of some in order.
+fn count_before(order: &[Boxed<Spelt>], new: &Spelt) -> usize
+    requires { spec.IsInOrder order.now }
+    ensures within { result ≤ length order.now }
+    ensures before { IsPartitionPoint (λ c. spec.goes_before c new.now ≡ true) (λ c. spec.goes_before c new.now ≡ false) order.now result }
+{
+    order.partition_point(|other| other.get().goes_before(new))
+}
+
+/// The place of the first condition that is the same or goes after it, of some in order, or the place behind all.
+fn place_of(order: &[Boxed<Spelt>], new: &Spelt) -> usize
+    requires { spec.IsInOrder order.now }
+    ensures { result ≡ position_or_len (spec.ends_search new.now) order.now }
+{
+    let before = count_before(order, new);
+    before + end_of_search(&order[before..], new)
+}
+
 /// Puts a condition at its place, unless it is there.
-fn put_in_order(mut order: Vec<Spelt>, new: Spelt) -> Result<Vec<Spelt>, AllocError>
+fn put_in_order(
+    alloc: Global,
+    mut order: Vec<Boxed<Spelt>>,
+    new: Spelt,
+) -> Result<Vec<Boxed<Spelt>>, AllocError>
+    requires { spec.IsInOrder order.items }
     ensures { IfOk result (λ o. o.items ≡ spec.put_in_order new order.items) }
 {
     let place = place_of(order.as_slice(), &new);
     if let Some(other) = order.get(place) {
-        if new.same(other) {
+        if new.same(other.get()) {
             drop(new);
             return Ok(order);
         }
     }
-    order.insert(place, new)?;
+    order.insert(place, Boxed::new(alloc, new)?)?;
     Ok(order)
 }
 
-fn conditions_of(alloc: Global, order: Vec<Spelt>) -> Result<Items<Condition>, AllocError>
+fn conditions_of(alloc: Global, order: Vec<Boxed<Spelt>>) -> Result<Items<Condition>, AllocError>
     ensures { IfOk result (λ conditions. conditions ≡ order.items) }
 {
     let mut conditions = Items::new(alloc);
     for spelt in order {
-        conditions.push(spelt.into_condition())?;
+        conditions.push(spelt.into_inner().into_condition())?;
     }
     Ok(conditions)
 }
@@ -111,7 +136,7 @@ fn in_order(alloc: Global, mut conditions: Vec<Condition>) -> Result<Items<Condi
 {
     let mut order = Vec::new(alloc);
     while let Some(condition) = conditions.pop() {
-        order = put_in_order(order, Spelt::new(alloc, condition)?)?;
+        order = put_in_order(alloc, order, Spelt::new(alloc, condition)?)?;
     }
     conditions_of(alloc, order)
 }

@@ -33,11 +33,11 @@ returns c =
           ∙ slice_get_read c.deref.result.now (length c.deref.result.now) c.place_of-place.result w.in-Some.other.now refl w.in-Some.ensures.lookup.3.0 (w.in-Some.ensures.lookup.3.1 w.in-Some.other.now) in
           let found : Some e ≡ Some w.in-Some.other.now = sym at ∙ ap (slice_get c.args.order.items) (sym place) ∙ there in
           let is : e ≡ w.in-Some.other.now = cc in
-          ap (same_condition c.args.new) is ∙ sym w.same.ensures ∙ w.if-same.false
+          ap (same_condition c.args.new) (is ∙ sym w.get-in-Some.ensures) ∙ sym w.same.ensures ∙ w.if-same.false
       | in_default w ↦
           let past : length c.args.order.items ≤ c.place_of-place.result = subst (λ (ds : List Condition). length ds ≤ c.place_of-place.result) c.deref.ensures.value w.in_default.ensures.lookup.3 in
           let none : slice_get c.args.order.items c.place_of-place.result ≡ None = slice_get_past c.args.order.items c.place_of-place.result past in
           let never : None ≡ Some e = sym none ∙ ap (slice_get c.args.order.items) place ∙ at in
           cc
     ] in
-    c.in_ok-insert.ensures.items ∙ ap (λ (n : ℕ). insert c.args.order.items n c.args.new) place ∙ sym (put-new c.args.new c.args.order.items other)
+    c.in_ok-insert.ensures.items ∙ ap (λ (d : Condition). insert c.args.order.items c.place_of-place.result d) c.in_ok-new.ensures ∙ ap (λ (n : ℕ). insert c.args.order.items n c.args.new) place ∙ sym (put-new c.args.new c.args.order.items other)
