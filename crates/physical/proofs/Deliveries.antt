@@ -1,9 +1,10 @@
 -- Each plan's rows stand in the order that it delivers.
-use Rattle.std.proofs.Common.{◌≡◌, refl, ap, sym, ◌∙◌, subst, inl, inr, ℕ, Bool, true, false, not, ◌==◌, if◌then◌else◌, List, [], ◌∷◌, ◌++◌, map}
+use Rattle.std.proofs.Common.{◌≡◌, refl, ap, sym, ◌∙◌, subst, inl, inr, ℕ, Bool, true, false, not, ◌||◌, ◌==◌, filter, if◌then◌else◌, List, [], ◌∷◌, ◌++◌, map}
 use Rattle.std.specs.declared.cmp.Ordering.{Ordering}
 use Rattle.std.specs.Ordering.{is_gt, flip_args, ordering_then}
 use Rattle.std.specs.List.{AllByRecursion, list_all}
 use Rattle.std.proofs.lemmas.Bool.{cond-true, not-true, and_parts, and_from, or_cases, eqb-true}
+use Rattle.values.specs.declared.value.Value.{Value}
 use Rattle.values.specs.Order.{order}
 use Rattle.values.proofs.Orders.{not_gt-then}
 use Rattle.query.specs.declared.query.TableInstance.{TableInstance}
@@ -11,23 +12,28 @@ use Rattle.query.specs.Rows.{Tables}
 use Rattle.query.specs.Meaning.{or_else_row}
 use Rattle.algebra.specs.declared.condition.Condition.{Condition}
 use Rattle.algebra.specs.Columns.{ColumnSet, has, rising, are_disjoint}
-use Rattle.algebra.specs.Bags.{Env, Bag, Test, lay, nulls, matches, distinct_on}
+use Rattle.algebra.specs.Bags.{Env, Bag, Test, lay, nulls, matches, join, left_join, same_on, distinct_on, group}
 use Rattle.algebra.specs.Conditions.{holds}
+use Rattle.algebra.specs.Expressions.{with_aggregates, aggregate_columns}
+use Rattle.algebra.specs.declared.expr.Aggregation.{Aggregation}
 use Rattle.algebra.proofs.Sets.{has-rising}
 use Rattle.algebra.proofs.Puts.{among-append}
 use Rattle.values.proofs.Each.{all_filter}
 use Rattle.algebra.proofs.Lists.{two, all-map, all-each}
-use Rattle.physical.specs.declared.plan.JoinKind.{JoinKind}
-use Rattle.physical.specs.declared.plan.JoinKind.TheVariants.{Inner, Left}
+use Rattle.physical.specs.declared.plan.Matching.{Matching}
+use Rattle.physical.specs.declared.plan.Matching.TheVariants.{Inner, Left, Semi, Anti}
 use Rattle.physical.specs.declared.plan.OrderKey.{OrderKey}
 use Rattle.physical.specs.declared.plan.Operator.{Operator}
-use Rattle.physical.specs.declared.plan.Operator.TheVariants.{Scan, Filter, FilterSubqueries, Projection, NestedLoopJoin, HashGroup, HashDistinct}
+use Rattle.physical.specs.declared.plan.JoinMethod.{JoinMethod}
+use Rattle.physical.specs.declared.plan.GroupMethod.{GroupMethod}
+use Rattle.physical.specs.declared.plan.GroupMethod.TheVariants.{Hash, Sorted}
+use Rattle.physical.specs.declared.plan.Operator.TheVariants.{Scan, Filter, FilterSubqueries, Projection, JoinRows, GroupRows, DistinctRows}
 use Rattle.physical.specs.declared.plan.Node.{Node}
 use Rattle.physical.specs.declared.plan.Node.TheVariants.{Implements, Sort}
 use Rattle.physical.specs.declared.plan.Plan.{Plan, roll-Plan, fold-roll-Plan, ind-Plan, map-Plan}
 use Rattle.physical.specs.declared.plan.Plan.TheOpen.{Plan-F}
 use Rattle.physical.specs.Sorts.{key_order, keys_order}
-use Rattle.physical.specs.Outputs.{Output, operator_columns, operator_rows, node_rows, output_layer, plan_output, output_rows, first, rest, no_classes, nested_loop_rows, first_columns, second_columns, node_columns}
+use Rattle.physical.specs.Outputs.{Output, operator_columns, operator_rows, node_rows, output_layer, plan_output, output_rows, first, rest, no_classes, is_match, join_columns, join_rows, first_columns, second_columns, node_columns}
 use Rattle.physical.specs.Orders.{IsOrdered, front, first_order, operator_order, node_order, order_layer, plan_order, are_columns, operator_stands, node_stands, Shape, shape_layer, plan_shape, PlansDeliver}
 use Rattle.physical.proofs.Sorting.{Ascends, ascends-sorted}
 use Rattle.physical.proofs.SortedRows.{keys_total}
@@ -121,13 +127,36 @@ module _ (right : List ℕ) (keys : List OrderKey) where
   or_else-alike r [] all = (pair-alike nulls r, tt)
   or_else-alike r (t ∷ rows) all = all
 
-  -- a nested-loop join goes through its left side in order
-  ascends-nested_loop : (kind : JoinKind) (p : Test) (a b : Bag) (e : Env) → Ascends (keys_order keys) (a e) → Ascends left_order (nested_loop_rows kind p right a b e)
-  ascends-nested_loop Inner p a b e up =
-      ascends-laid_out left_order (keys_total (front shown keys)) (matches p (has right) (b e)) (matches-alike p (b e)) (a e) (ascends-weaker _ _ (front-weaker shown keys) (a e) up)
-  ascends-nested_loop Left p a b e up =
+  -- a join goes through its left side in order
+  ascends-join : (p : Test) (a b : Bag) (e : Env) → Ascends (keys_order keys) (a e) → Ascends left_order (join p (has right) a b e)
+  ascends-join p a b e up = ascends-laid_out left_order (keys_total (front shown keys)) (matches p (has right) (b e)) (matches-alike p (b e)) (a e) (ascends-weaker _ _ (front-weaker shown keys) (a e) up)
+
+  ascends-left_join : (p : Test) (a b : Bag) (e : Env) → Ascends (keys_order keys) (a e) → Ascends left_order (left_join p (has right) a b e)
+  ascends-left_join p a b e up =
       ascends-laid_out left_order (keys_total (front shown keys)) (λ r. or_else_row (lay (has right) nulls r) (matches p (has right) (b e) r)) (λ r. or_else-alike r _ (matches-alike p (b e) r)) (a e)
       (ascends-weaker _ _ (front-weaker shown keys) (a e) up)
+
+-- a column that no aggregate has is that of the row
+aggregates-off : (G : List Aggregation) (rows : List Env) (r : Env) (c : ℕ) → not (has (aggregate_columns G) c) ≡ true → with_aggregates G rows r c ≡ r c
+aggregates-off [] rows r c off = refl
+aggregates-off (a ∷ G) rows r c off = by (a.column == c) _ off (aggregates-off G rows r c)
+  where
+    by : (b : Bool) (v : Value) → not (b || has (aggregate_columns G) c) ≡ true → (not (has (aggregate_columns G) c) ≡ true → with_aggregates G rows r c ≡ r c)
+        → (if b then v else with_aggregates G rows r c) ≡ r c
+    by true v off later = cc
+    by false v off later = later off
+
+-- groups of rows in an order, by a front of it, as their keys are first seen
+ascends-group : (K : List ℕ) (G : List Aggregation) (keys : List OrderKey) (x : Bag) (e : Env) → are_disjoint K (aggregate_columns G) ≡ true → Ascends (keys_order keys) (x e)
+    → Ascends (keys_order (front (has K) keys)) (group K (with_aggregates G) x e)
+ascends-group [] G keys x e apart up = (tt, tt)
+ascends-group (k ∷ K) G keys x e apart up =
+    let row : Env → Env = λ r. with_aggregates G (filter (same_on (k ∷ K) r) (x e)) (lay (has (k ∷ K)) r e) in
+    let agree : (r : Env) (c : ℕ) → has (k ∷ K) c ≡ true → row r c ≡ r c = λ r c in_.
+        aggregates-off G (filter (same_on (k ∷ K) r) (x e)) (lay (has (k ∷ K)) r e) c (passes (λ d. not (has (aggregate_columns G) d)) (k ∷ K) c apart in_) ∙ lay-on (has (k ∷ K)) r e c in_ in
+    ascends-map (keys_order keys) (keys_order (front (has (k ∷ K)) keys)) row (λ a b h.
+    ap is_gt ((front-alike (has (k ∷ K)) (row a) a (agree a) keys).before (row b) ∙ (front-alike (has (k ∷ K)) (row b) b (agree b) keys).behind a) ∙ front-weaker (has (k ∷ K)) keys a b h)
+    (distinct_on (k ∷ K) (x e)) (ascends-distinct_on (keys_order keys) (k ∷ K) (x e) up)
 
 -- ---- plans
 
@@ -171,10 +200,11 @@ module _ (uses : List TableInstance) (D : Tables) where
   first-in-order [] all = record { among = refl; ascends = λ e. tt }
   first-in-order (p ∷ parts) all = p.1.ordered (and_parts _ _ all).0
 
-  -- a nested-loop join of sides that share no column
-  join-in-order : (kind : JoinKind) (C : List Condition) (parts : List Part) → are_disjoint (first_columns (columns_of parts)) (second_columns (columns_of parts)) ≡ true → all_stand parts ≡ true
-      → AreInOrder (rising (first_columns (columns_of parts) ++ second_columns (columns_of parts))) (first_order (orders_of parts)) (operator_rows uses D (NestedLoopJoin kind C) (outputs_of parts))
-  join-in-order kind C parts apart all =
+  -- a join of sides that share no column, both of which it shows
+  wide-in-order : (rows : Bag) (parts : List Part) → are_disjoint (first_columns (columns_of parts)) (second_columns (columns_of parts)) ≡ true → all_stand parts ≡ true
+      → ((e : Env) → Ascends (keys_order (front (λ c. not (has (second_columns (map (λ (x : Output). x.columns) (outputs_of parts))) c)) (first_order (orders_of parts)))) (rows e))
+      → AreInOrder (rising (first_columns (columns_of parts) ++ second_columns (columns_of parts))) (first_order (orders_of parts)) rows
+  wide-in-order rows parts apart all up =
       let left : List ℕ = first_columns (columns_of parts) in
       let right : List ℕ = second_columns (columns_of parts) in
       let keys : List OrderKey = first_order (orders_of parts) in
@@ -182,20 +212,41 @@ module _ (uses : List TableInstance) (D : Tables) where
       let shown : front (λ c. not (has right c)) keys ≡ keys = front-all (λ c. not (has right c)) keys (all-among (has left) (λ c. not (has right c)) (λ c in_. passes (λ c. not (has right c)) left c apart in_) keys input.among) in
       record {
         among = all-among (has left) (has (rising (left ++ right))) (λ c in_. has-rising c (left ++ right) ∙ among-append c left right ∙ rw in_ refl) keys input.among;
-        ascends = λ e. subst (λ keys. Ascends (keys_order keys) (operator_rows uses D (NestedLoopJoin kind C) (outputs_of parts) e)) shown
-            (subst (λ Ks. Ascends (keys_order (front (λ c. not (has (second_columns Ks) c)) keys)) (operator_rows uses D (NestedLoopJoin kind C) (outputs_of parts) e)) (sym (columns-same parts))
-            (ascends-nested_loop (second_columns (map (λ (x : Output). x.columns) (outputs_of parts))) keys kind (holds no_classes C) (first (outputs_of parts)) (first (rest (outputs_of parts))) e (input.ascends e)));
+        ascends = λ e. subst (λ keys. Ascends (keys_order keys) (rows e)) shown
+            (subst (λ Ks. Ascends (keys_order (front (λ c. not (has (second_columns Ks) c)) keys)) (rows e)) (sym (columns-same parts)) (up e));
       }
 
-  distinct-in-order : (parts : List Part) → all_stand parts ≡ true → AreInOrder (first_columns (columns_of parts)) (first_order (orders_of parts)) (operator_rows uses D HashDistinct (outputs_of parts))
-  distinct-in-order parts all =
+  join-in-order : (method : JoinMethod) (j : Matching) (parts : List Part) → operator_stands (JoinRows method j) (columns_of parts) ≡ true → all_stand parts ≡ true
+      → AreInOrder (join_columns j (first_columns (columns_of parts)) (second_columns (columns_of parts))) (first_order (orders_of parts)) (operator_rows uses D (JoinRows method j) (outputs_of parts))
+  join-in-order method (Inner C) parts apart all =
+      wide-in-order _ parts apart all (λ e. ascends-join (second_columns (map (λ (x : Output). x.columns) (outputs_of parts))) (first_order (orders_of parts)) (is_match (Inner C)) (first (outputs_of parts)) (first (rest (outputs_of parts))) e ((first-in-order parts all).ascends e))
+  join-in-order method (Left C) parts apart all =
+      wide-in-order _ parts apart all (λ e. ascends-left_join (second_columns (map (λ (x : Output). x.columns) (outputs_of parts))) (first_order (orders_of parts)) (is_match (Left C)) (first (outputs_of parts)) (first (rest (outputs_of parts))) e ((first-in-order parts all).ascends e))
+  join-in-order method (Semi C) parts apart all =
+      let input = first-in-order parts all in
+      record { among = input.among; ascends = λ e. ascends-filter _ _ _ (input.ascends e) }
+  join-in-order method (Anti S M) parts apart all =
+      let input = first-in-order parts all in
+      record { among = input.among; ascends = λ e. ascends-filter _ _ _ (input.ascends e) }
+
+  group-in-order : (K : List ℕ) (G : List Aggregation) (parts : List Part) → are_disjoint K (aggregate_columns G) ≡ true → all_stand parts ≡ true
+      → AreInOrder (rising (K ++ aggregate_columns G)) (front (has K) (first_order (orders_of parts))) (operator_rows uses D (GroupRows Sorted K G) (outputs_of parts))
+  group-in-order K G parts apart all =
+      let keys : List OrderKey = first_order (orders_of parts) in
+      record {
+        among = all-among (has K) (has (rising (K ++ aggregate_columns G))) (λ c in_. has-rising c (K ++ aggregate_columns G) ∙ among-append c K (aggregate_columns G) ∙ rw in_ refl) (front (has K) keys) (front-among (has K) keys);
+        ascends = λ e. ascends-group K G keys (first (outputs_of parts)) e apart ((first-in-order parts all).ascends e);
+      }
+
+  distinct-in-order : (method : GroupMethod) (parts : List Part) → all_stand parts ≡ true → AreInOrder (first_columns (columns_of parts)) (first_order (orders_of parts)) (operator_rows uses D (DistinctRows method) (outputs_of parts))
+  distinct-in-order method parts all =
       let K : List ℕ = first_columns (map (λ (x : Output). x.columns) (outputs_of parts)) in
       let keys : List OrderKey = first_order (orders_of parts) in
       let input = first-in-order parts all in
       let among : are_columns K keys ≡ true = subst (λ Ks. are_columns (first_columns Ks) keys ≡ true) (columns-same parts) input.among in
       record {
         among = input.among;
-        ascends = λ e. subst (λ keys. Ascends (keys_order keys) (operator_rows uses D HashDistinct (outputs_of parts) e)) (front-all (has K) keys among)
+        ascends = λ e. subst (λ keys. Ascends (keys_order keys) (operator_rows uses D (DistinctRows method) (outputs_of parts) e)) (front-all (has K) keys among)
             (ascends-projection (has K) keys e (distinct_on K (first (outputs_of parts) e)) (ascends-distinct_on (keys_order keys) K (first (outputs_of parts) e) (input.ascends e)));
       }
 
@@ -212,9 +263,10 @@ module _ (uses : List TableInstance) (D : Tables) where
     among = front-among (has K) (first_order (orders_of parts));
     ascends = λ e. ascends-projection (has K) _ e _ ((first-in-order parts all).ascends e);
   }
-  in-order (NestedLoopJoin kind C) parts stands all = join-in-order kind C parts stands all
-  in-order (HashGroup K G) parts stands all = record { among = refl; ascends = λ e. ascends-any (keys_order []) (λ a b. refl) _ }
-  in-order HashDistinct parts stands all = distinct-in-order parts all
+  in-order (JoinRows method j) parts stands all = join-in-order method j parts stands all
+  in-order (GroupRows Sorted K G) parts stands all = group-in-order K G parts stands all
+  in-order (GroupRows Hash K G) parts stands all = record { among = refl; ascends = λ e. ascends-any (keys_order []) (λ a b. refl) _ }
+  in-order (DistinctRows method) parts stands all = distinct-in-order method parts all
 
   layer : (node : Node) (parts : List Part) → node_stands node (columns_of parts) ≡ true → all_stand parts ≡ true
       → AreInOrder (node_columns uses node (columns_of parts)) (node_order node (orders_of parts)) (node_rows uses D node (outputs_of parts))

@@ -16,22 +16,23 @@ use Rattle.query.specs.Aggregates.{AreShortTables, MayRead}
 use Rattle.query.proofs.ShortTables.{short-value}
 use Rattle.algebra.specs.declared.expr.Aggregation.{Aggregation}
 use Rattle.algebra.specs.Columns.{has, is_subset, rising}
-use Rattle.algebra.specs.Bags.{Env, Test, lay, nulls, matches, same_on, distinct_on}
+use Rattle.algebra.specs.Bags.{Env, Bag, Test, lay, nulls, matches, same_on, distinct_on}
 use Rattle.algebra.specs.Expressions.{use_columns, use_row, get_rows, get_columns, aggregate_reads}
 use Rattle.algebra.proofs.Lists.{two}
 use Rattle.algebra.proofs.Puts.{among-append}
 use Rattle.algebra.proofs.Sets.{has-rising}
-use Rattle.physical.specs.declared.plan.JoinKind.{JoinKind}
-use Rattle.physical.specs.declared.plan.JoinKind.TheVariants.{Inner, Left}
+use Rattle.physical.specs.declared.plan.Matching.{Matching}
+use Rattle.physical.specs.declared.plan.Matching.TheVariants.{Inner, Left, Semi, Anti}
+use Rattle.physical.specs.declared.plan.GroupMethod.{GroupMethod}
 use Rattle.physical.specs.declared.plan.Operator.{Operator}
-use Rattle.physical.specs.declared.plan.Operator.TheVariants.{Scan, Filter, FilterSubqueries, Projection, NestedLoopJoin, HashGroup, HashDistinct}
+use Rattle.physical.specs.declared.plan.Operator.TheVariants.{Scan, Filter, FilterSubqueries, Projection, JoinRows, GroupRows, DistinctRows}
 use Rattle.physical.specs.declared.plan.Node.{Node}
 use Rattle.physical.specs.declared.plan.Node.TheVariants.{Implements, Sort}
 use Rattle.physical.specs.declared.plan.Plan.{Plan, roll-Plan, fold-roll-Plan, ind-Plan, map-Plan}
 use Rattle.physical.specs.declared.plan.Plan.TheOpen.{Plan-F}
 use Rattle.physical.specs.Sorts.{put_sorted, sorted, keys_order}
-use Rattle.physical.specs.Outputs.{Output, operator_columns, operator_rows, node_rows, node_columns, output_layer, plan_output, first, rest, nested_loop_rows, first_columns, second_columns}
-use Rattle.physical.specs.Origins.{Origin, columns_of_all, first_stored, second_stored, operator_stored, node_stored, read_among, operator_reads, origin_layer, plan_origin, AreReadable}
+use Rattle.physical.specs.Outputs.{Output, operator_columns, operator_rows, node_rows, node_columns, output_layer, plan_output, first, rest, is_match, join_columns, join_rows, first_columns, second_columns}
+use Rattle.physical.specs.Origins.{Origin, columns_of_all, first_stored, second_stored, join_stored, operator_stored, node_stored, read_among, operator_reads, origin_layer, plan_origin, AreReadable}
 
 -- the row's numbers in the columns have 64 bits
 abbrev pub IsShortIn : List ℕ → Env → Type 0
@@ -99,10 +100,19 @@ module _ (K L : List ℕ) (p : Test) (rights : List Env) (right : AreShortIn L r
   padded-short r short [] all = (laid L K (rising (K ++ L)) nulls r (either K L) (nulls-short L) short, tt)
   padded-short r short (s ∷ found) all = all
 
-  join-short : (kind : JoinKind) (lefts : List Env) → AreShortIn K lefts → AreShortIn (rising (K ++ L)) (nested_loop_rows kind p L (λ e. lefts) (λ e. rights) nulls)
-  join-short Inner lefts left = all_flat_map (IsShortIn K) (IsShortIn (rising (K ++ L))) (matches p (has L) rights) matches-short lefts left
-  join-short Left lefts left =
-      all_flat_map (IsShortIn K) (IsShortIn (rising (K ++ L))) (λ r. or_else_row (lay (has L) nulls r) (matches p (has L) rights r)) (λ r h. padded-short r h (matches p (has L) rights r) (matches-short r h)) lefts left
+-- a join of sides of which those that it shows have stored values
+join-short : (K L : List ℕ) (j : Matching) (s t : Bool) (a b : Bag) (e : Env) → join_stored j s t ≡ true → (s ≡ true → AreShortIn K (a e)) → (t ≡ true → AreShortIn L (b e))
+    → AreShortIn (join_columns j K L) (join_rows j L a b e)
+join-short K L (Inner C) s t a b e stored left right =
+    let both = and_parts s t stored in
+    all_flat_map (IsShortIn K) (IsShortIn (rising (K ++ L))) (matches (is_match (Inner C)) (has L) (b e)) (matches-short K L (is_match (Inner C)) (b e) (right both.1)) (a e) (left both.0)
+join-short K L (Left C) s t a b e stored left right =
+    let both = and_parts s t stored in
+    let p : Test = is_match (Left C) in
+    all_flat_map (IsShortIn K) (IsShortIn (rising (K ++ L))) (λ r. or_else_row (lay (has L) nulls r) (matches p (has L) (b e) r))
+    (λ r h. padded-short K L p (b e) (right both.1) r h (matches p (has L) (b e) r) (matches-short K L p (b e) (right both.1) r h)) (a e) (left both.0)
+join-short K L (Semi C) s t a b e stored left right = all_filter _ _ _ (left stored)
+join-short K L (Anti S M) s t a b e stored left right = all_filter _ _ _ (left stored)
 
 use-short : (t : TableInstance) (row : Row) (e : Env) → AllByRecursion IsShort row → IsShortIn (use_columns t) (use_row t row e)
 use-short t row e short = laid-own (use_columns t) (λ c. value_at (c - t.first_column) row) e (λ c in_. short-value (c - t.first_column) row short)
@@ -166,14 +176,11 @@ module _ (uses : List TableInstance) (D : Tables) (tables : AreShortTables D) wh
   operator-short (Projection K) parts stored e =
       let both = and_parts (first_stored (origins_of parts)) _ stored in
       narrower K (first_columns (columns_of parts)) (first (outputs_of parts) e) (ap (λ Ks. is_subset K (first_columns Ks)) (sym (columns-same parts)) ∙ both.1) (first-short parts both.0 e) e
-  operator-short (NestedLoopJoin Inner C) parts stored e =
-      let both = and_parts (first_stored (origins_of parts)) _ stored in
-      join-short (first_columns (columns_of parts)) (second_columns (columns_of parts)) _ _ (second-short parts both.1 e) Inner (first (outputs_of parts) e) (first-short parts both.0 e)
-  operator-short (NestedLoopJoin Left C) parts stored e =
-      let both = and_parts (first_stored (origins_of parts)) _ stored in
-      join-short (first_columns (columns_of parts)) (second_columns (columns_of parts)) _ _ (second-short parts both.1 e) Left (first (outputs_of parts) e) (first-short parts both.0 e)
-  operator-short (HashGroup K G) parts stored e = absurd (false≢true stored)
-  operator-short HashDistinct parts stored e =
+  operator-short (JoinRows method j) parts stored e =
+      join-short (first_columns (columns_of parts)) (second_columns (columns_of parts)) j (first_stored (origins_of parts)) (second_stored (origins_of parts)) (first (outputs_of parts)) (first (rest (outputs_of parts))) e
+      stored (λ is. first-short parts is e) (λ is. second-short parts is e)
+  operator-short (GroupRows method K G) parts stored e = absurd (false≢true stored)
+  operator-short (DistinctRows method) parts stored e =
       let K : List ℕ = first_columns (columns_of parts) in
       all_map (IsShortIn K) (IsShortIn K) (λ r. lay (has K) r e) (λ r h. laid-own K r e h) _ (distinct-short K K (first (outputs_of parts) e) (first-short parts stored e))
 
@@ -213,9 +220,9 @@ module _ (uses : List TableInstance) (D : Tables) (tables : AreShortTables D) wh
       go (r ∷ rows) all = (row-readable K r all.0 G among, go rows all.1)
 
   -- a group whose plan says so may read its input's rows
-  pub group-readable : (K : List ℕ) (G : List Aggregation) (inputs : List Plan) → operator_reads (HashGroup K G) (map (plan_origin uses) inputs) ≡ true → (e : Env) → AreReadable G (first (map (plan_output uses D) inputs) e)
-  group-readable K G [] reads e = tt
-  group-readable K G (p ∷ inputs) reads e =
+  pub group-readable : (method : GroupMethod) (K : List ℕ) (G : List Aggregation) (inputs : List Plan) → operator_reads (GroupRows method K G) (map (plan_origin uses) inputs) ≡ true → (e : Env) → AreReadable G (first (map (plan_output uses D) inputs) e)
+  group-readable method K G [] reads e = tt
+  group-readable method K G (p ∷ inputs) reads e =
       let parts = and_parts (plan_origin uses p).stored _ reads in
       let is = origin-is p in
       rows-readable (plan_output uses D p).columns G (ap (λ L. read_among L G) (sym is.columns) ∙ parts.1) ((plan_output uses D p).rows e) (is.short parts.0 e)

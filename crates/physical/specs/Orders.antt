@@ -7,9 +7,12 @@ use Rattle.query.specs.declared.query.TableInstance.{TableInstance}
 use Rattle.query.specs.Rows.{Tables}
 use Rattle.algebra.specs.Columns.{ColumnSet, has, are_disjoint}
 use Rattle.algebra.specs.Bags.{Env}
+use Rattle.algebra.specs.Expressions.{aggregate_columns}
 use Rattle.physical.specs.declared.plan.OrderKey.{OrderKey}
 use Rattle.physical.specs.declared.plan.Operator.{Operator}
-use Rattle.physical.specs.declared.plan.Operator.TheVariants.{Scan, Filter, FilterSubqueries, Projection, NestedLoopJoin, HashGroup, HashDistinct}
+use Rattle.physical.specs.declared.plan.Matching.TheVariants.{Inner, Left}
+use Rattle.physical.specs.declared.plan.GroupMethod.TheVariants.{Hash, Sorted}
+use Rattle.physical.specs.declared.plan.Operator.TheVariants.{Scan, Filter, FilterSubqueries, Projection, JoinRows, GroupRows, DistinctRows}
 use Rattle.physical.specs.declared.plan.Node.{Node}
 use Rattle.physical.specs.declared.plan.Node.TheVariants.{Implements, Sort}
 use Rattle.physical.specs.declared.plan.Plan.{Plan, fold-Plan}
@@ -42,9 +45,10 @@ operator_order (Scan o) inputs = []
 operator_order (Filter C) inputs = first_order inputs
 operator_order (FilterSubqueries C) inputs = first_order inputs
 operator_order (Projection K) inputs = front (has K) (first_order inputs)
-operator_order (NestedLoopJoin kind C) inputs = first_order inputs
-operator_order (HashGroup K G) inputs = []
-operator_order HashDistinct inputs = first_order inputs
+operator_order (JoinRows method j) inputs = first_order inputs
+operator_order (GroupRows Hash K G) inputs = []
+operator_order (GroupRows Sorted K G) inputs = front (has K) (first_order inputs)
+operator_order (DistinctRows method) inputs = first_order inputs
 
 abbrev pub node_order : Node → List (List OrderKey) → List OrderKey
 node_order (Implements line operator) inputs = operator_order operator inputs
@@ -62,9 +66,11 @@ plan_order = fold-Plan (List OrderKey) order_layer
 abbrev pub are_columns : List ℕ → List OrderKey → Bool
 are_columns columns keys = list_all (λ k. has columns k.column) keys
 
--- no join hides a column of its left side, and a sort is by columns of its input
+-- no join hides a column of its left side, no aggregate a key, and a sort is by columns of its input
 abbrev pub operator_stands : Operator → List (List ℕ) → Bool
-operator_stands (NestedLoopJoin kind C) inputs = are_disjoint (first_columns inputs) (second_columns inputs)
+operator_stands (JoinRows method (Inner C)) inputs = are_disjoint (first_columns inputs) (second_columns inputs)
+operator_stands (JoinRows method (Left C)) inputs = are_disjoint (first_columns inputs) (second_columns inputs)
+operator_stands (GroupRows method K G) inputs = are_disjoint K (aggregate_columns G)
 operator_stands operator inputs = true
 
 abbrev pub node_stands : Node → List (List ℕ) → Bool

@@ -9,7 +9,9 @@ use Rattle.algebra.specs.Columns.{is_subset}
 use Rattle.algebra.specs.Bags.{Env}
 use Rattle.algebra.specs.Expressions.{aggregate_reads}
 use Rattle.physical.specs.declared.plan.Operator.{Operator}
-use Rattle.physical.specs.declared.plan.Operator.TheVariants.{Scan, Filter, FilterSubqueries, Projection, NestedLoopJoin, HashGroup, HashDistinct}
+use Rattle.physical.specs.declared.plan.Matching.{Matching}
+use Rattle.physical.specs.declared.plan.Matching.TheVariants.{Inner, Left, Semi, Anti}
+use Rattle.physical.specs.declared.plan.Operator.TheVariants.{Scan, Filter, FilterSubqueries, Projection, JoinRows, GroupRows, DistinctRows}
 use Rattle.physical.specs.declared.plan.Node.{Node}
 use Rattle.physical.specs.declared.plan.Node.TheVariants.{Implements, Sort}
 use Rattle.physical.specs.declared.plan.Plan.{Plan, fold-Plan}
@@ -35,15 +37,22 @@ abbrev pub second_stored : List Origin → Bool
 second_stored [] = true
 second_stored (x ∷ inputs) = first_stored inputs
 
+-- a join's, given whether those of its sides are
+abbrev pub join_stored : Matching → Bool → Bool → Bool
+join_stored (Inner C) left right = left && right
+join_stored (Left C) left right = left && right
+join_stored (Semi C) left right = left
+join_stored (Anti S M) left right = left
+
 -- an aggregate makes values of its own
 abbrev pub operator_stored : Operator → List Origin → Bool
 operator_stored (Scan o) inputs = true
 operator_stored (Filter C) inputs = first_stored inputs
 operator_stored (FilterSubqueries C) inputs = first_stored inputs
 operator_stored (Projection K) inputs = first_stored inputs && is_subset K (first_columns (columns_of_all inputs))
-operator_stored (NestedLoopJoin kind C) inputs = first_stored inputs && second_stored inputs
-operator_stored (HashGroup K G) inputs = false
-operator_stored HashDistinct inputs = first_stored inputs
+operator_stored (JoinRows method j) inputs = join_stored j (first_stored inputs) (second_stored inputs)
+operator_stored (GroupRows method K G) inputs = false
+operator_stored (DistinctRows method) inputs = first_stored inputs
 
 abbrev pub node_stored : Node → List Origin → Bool
 node_stored (Implements line operator) inputs = operator_stored operator inputs
@@ -54,7 +63,7 @@ abbrev pub read_among : List ℕ → List Aggregation → Bool
 read_among columns added = list_all (λ a. is_subset (aggregate_reads a.aggregate) columns) added
 
 abbrev pub operator_reads : Operator → List Origin → Bool
-operator_reads (HashGroup K G) inputs = first_stored inputs && read_among (first_columns (columns_of_all inputs)) G
+operator_reads (GroupRows method K G) inputs = first_stored inputs && read_among (first_columns (columns_of_all inputs)) G
 operator_reads operator inputs = true
 
 abbrev pub node_reads : Node → List Origin → Bool

@@ -1,17 +1,17 @@
--- What a plan produces: each operator on whole lists of rows. The operators are those of the algebra, on lists; that a nested-loop
--- join goes through the left rows and for each through the right ones, that a sort is stable, and that groups and distinct rows
--- come as first seen, is this project's profile.
-use Rattle.std.specs.Prelude.{ℕ, ◌==◌, if◌then◌else◌, List, [], ◌∷◌, ◌++◌, map, slice_get}
+-- What a plan produces: each operator on whole lists of rows. The operators are those of the algebra, on lists; that a join, by
+-- whatever method, goes through the left rows and for each through the right ones, that a sort is stable, and that groups and
+-- distinct rows come as first seen, is this project's profile.
+use Rattle.std.specs.Prelude.{ℕ, ◌==◌, ◌&&◌, if◌then◌else◌, List, [], ◌∷◌, ◌++◌, map, slice_get}
 use Rattle.query.specs.declared.query.TableInstance.{TableInstance}
 use Rattle.query.specs.Rows.{Tables}
 use Rattle.algebra.specs.Columns.{has, rising}
-use Rattle.algebra.specs.Bags.{Bag, Test, select, join, left_join, keep, distinct, group}
-use Rattle.algebra.specs.Conditions.{holds, classes_in}
+use Rattle.algebra.specs.Bags.{Bag, Test, select, join, left_join, semi, anti, keep, distinct, group}
+use Rattle.algebra.specs.Conditions.{holds, allows, classes_in}
 use Rattle.algebra.specs.Expressions.{get_rows, get_columns, with_aggregates, aggregate_columns}
-use Rattle.physical.specs.declared.plan.JoinKind.{JoinKind}
-use Rattle.physical.specs.declared.plan.JoinKind.TheVariants.{Inner, Left}
+use Rattle.physical.specs.declared.plan.Matching.{Matching}
+use Rattle.physical.specs.declared.plan.Matching.TheVariants.{Inner, Left, Semi, Anti}
 use Rattle.physical.specs.declared.plan.Operator.{Operator}
-use Rattle.physical.specs.declared.plan.Operator.TheVariants.{Scan, Filter, FilterSubqueries, Projection, NestedLoopJoin, HashGroup, HashDistinct}
+use Rattle.physical.specs.declared.plan.Operator.TheVariants.{Scan, Filter, FilterSubqueries, Projection, JoinRows, GroupRows, DistinctRows}
 use Rattle.physical.specs.declared.plan.Node.{Node}
 use Rattle.physical.specs.declared.plan.Node.TheVariants.{Implements, Sort}
 use Rattle.physical.specs.declared.plan.Plan.{Plan, fold-Plan}
@@ -29,15 +29,22 @@ abbrev pub second_columns : List (List ℕ) → List ℕ
 second_columns [] = []
 second_columns (K ∷ inputs) = first_columns inputs
 
+-- the columns of a join's rows, given those of its sides
+abbrev pub join_columns : Matching → List ℕ → List ℕ → List ℕ
+join_columns (Inner C) left right = rising (left ++ right)
+join_columns (Left C) left right = rising (left ++ right)
+join_columns (Semi C) left right = left
+join_columns (Anti S M) left right = left
+
 -- the columns of an operator's rows, given those of its inputs
 abbrev pub operator_columns : List TableInstance → Operator → List (List ℕ) → List ℕ
 operator_columns uses (Scan o) inputs = get_columns (slice_get uses o)
 operator_columns uses (Filter C) inputs = first_columns inputs
 operator_columns uses (FilterSubqueries C) inputs = first_columns inputs
 operator_columns uses (Projection K) inputs = K
-operator_columns uses (NestedLoopJoin kind C) inputs = rising (first_columns inputs ++ second_columns inputs)
-operator_columns uses (HashGroup K G) inputs = rising (K ++ aggregate_columns G)
-operator_columns uses HashDistinct inputs = first_columns inputs
+operator_columns uses (JoinRows method j) inputs = join_columns j (first_columns inputs) (second_columns inputs)
+operator_columns uses (GroupRows method K G) inputs = rising (K ++ aggregate_columns G)
+operator_columns uses (DistinctRows method) inputs = first_columns inputs
 
 abbrev pub node_columns : List TableInstance → Node → List (List ℕ) → List ℕ
 node_columns uses (Implements line operator) inputs = operator_columns uses operator inputs
@@ -72,9 +79,19 @@ subquery_rows [] inputs = no_classes
 subquery_rows (g ∷ classes) [] = no_classes
 subquery_rows (g ∷ classes) (x ∷ inputs) = λ h. if g == h then x.rows else subquery_rows classes inputs h
 
-abbrev pub nested_loop_rows : JoinKind → Test → List ℕ → Bag → Bag → Bag
-nested_loop_rows Inner p right a b = join p (has right) a b
-nested_loop_rows Left p right a b = left_join p (has right) a b
+-- whether a left and a right row match
+abbrev pub is_match : Matching → Test
+is_match (Inner C) = holds no_classes C
+is_match (Left C) = holds no_classes C
+is_match (Semi C) = holds no_classes C
+is_match (Anti S M) = λ r. holds no_classes S r && allows no_classes M r
+
+-- the rows of a join, given the columns of its right side
+abbrev pub join_rows : Matching → List ℕ → Bag → Bag → Bag
+join_rows (Inner C) right a b = join (is_match (Inner C)) (has right) a b
+join_rows (Left C) right a b = left_join (is_match (Left C)) (has right) a b
+join_rows (Semi C) right a b = semi (is_match (Semi C)) (has right) a b
+join_rows (Anti S M) right a b = anti (is_match (Anti S M)) (has right) a b
 
 -- the rows that an operator produces, given its inputs' output
 abbrev pub operator_rows : List TableInstance → Tables → Operator → List Output → Bag
@@ -82,9 +99,9 @@ operator_rows uses D (Scan o) inputs = get_rows (slice_get uses o) D
 operator_rows uses D (Filter C) inputs = select (holds no_classes C) (first inputs)
 operator_rows uses D (FilterSubqueries C) inputs = select (holds (subquery_rows (classes_in C) (rest inputs)) C) (first inputs)
 operator_rows uses D (Projection K) inputs = keep (has K) (first inputs)
-operator_rows uses D (NestedLoopJoin kind C) inputs = nested_loop_rows kind (holds no_classes C) (second_columns (map (λ x. x.columns) inputs)) (first inputs) (first (rest inputs))
-operator_rows uses D (HashGroup K G) inputs = group K (with_aggregates G) (first inputs)
-operator_rows uses D HashDistinct inputs = distinct (first_columns (map (λ x. x.columns) inputs)) (first inputs)
+operator_rows uses D (JoinRows method j) inputs = join_rows j (second_columns (map (λ x. x.columns) inputs)) (first inputs) (first (rest inputs))
+operator_rows uses D (GroupRows method K G) inputs = group K (with_aggregates G) (first inputs)
+operator_rows uses D (DistinctRows method) inputs = distinct (first_columns (map (λ x. x.columns) inputs)) (first inputs)
 
 abbrev pub node_rows : List TableInstance → Tables → Node → List Output → Bag
 node_rows uses D (Implements line operator) inputs = operator_rows uses D operator inputs

@@ -9,4 +9,4 @@ pub mod order;
 pub mod plan;
 
 pub use order::delivers;
-pub use plan::{JoinKind, Node, Operator, OrderKey, Plan};
+pub use plan::{GroupMethod, JoinMethod, Matching, Node, Operator, OrderKey, Plan};

@@ -4,7 +4,7 @@ ghost use Rattle.std.specs.Prelude.{◌≡◌, map, IfOk};
 ghost use Rattle.algebra.specs.Columns.{has};
 ghost use Rattle.physical.specs.Orders as spec;
 
-use crate::plan::{Node, Operator, OrderKey, Plan};
+use crate::plan::{GroupMethod, Node, Operator, OrderKey, Plan};
 use algebra::Columns;
 use std::alloc::{AllocError, Global};
 
@@ -48,15 +48,22 @@ fn operator_order(
     ensures { IfOk result (λ order. order.items ≡ spec.operator_order operator.now (map spec.plan_order inputs.now)) }
 {
     match operator {
-        Operator::Scan { .. } | Operator::HashGroup { .. } => Ok(Vec::new(alloc)),
+        Operator::Scan { .. } => Ok(Vec::new(alloc)),
         Operator::Filter { .. } => first_order(alloc, inputs),
         Operator::FilterSubqueries { .. } => first_order(alloc, inputs),
         Operator::Projection { columns } => {
             let order = first_order(alloc, inputs)?;
             front(alloc, order.as_slice(), columns)
         }
-        Operator::NestedLoopJoin { .. } => first_order(alloc, inputs),
-        Operator::HashDistinct => first_order(alloc, inputs),
+        Operator::JoinRows { .. } => first_order(alloc, inputs),
+        Operator::GroupRows { method, keys, .. } => match method {
+            GroupMethod::Hash => Ok(Vec::new(alloc)),
+            GroupMethod::Sorted => {
+                let order = first_order(alloc, inputs)?;
+                front(alloc, order.as_slice(), keys)
+            }
+        },
+        Operator::DistinctRows { .. } => first_order(alloc, inputs),
     }
 }
 

@@ -4,11 +4,36 @@ use algebra::{Aggregations, Columns, Conjuncts, LineId};
 use query::{ColumnId, OccurrenceId};
 use values::Items;
 
-/// Whether a join pads the left rows that have no match.
-#[derive(Clone, Copy)]
-pub enum JoinKind {
-    Inner,
-    Left,
+/// Which rows a join gives. A left row *matches* the right rows with which it makes all conjuncts true.
+#[derive(Drop)]
+pub enum Matching {
+    /// Each left row with each right row that it matches.
+    Inner(Conjuncts),
+    /// The same, and the left rows that match none, with Nulls.
+    Left(Conjuncts),
+    /// The left rows that match some.
+    Semi(Conjuncts),
+    /// The left rows for which no right row makes all of the first true and none of the second false: `Anti(sure, maybe)`.
+    Anti(Conjuncts, Conjuncts),
+}
+
+/// How a join finds the right rows for a left one. What it gives doesn't depend on it.
+#[derive(Clone, Copy, PartialEq, Eq)]
+pub enum JoinMethod {
+    /// It tries them all.
+    NestedLoop,
+    /// It tries those that have the left row's values in the columns that an equality compares, found by hash.
+    Hash,
+    /// Both sides stand in the order of a column each, which a conjunct equates: `Merge(left, right)`.
+    Merge(ColumnId, ColumnId),
+}
+
+/// How a group or a distinct finds the rows that are the same. What it gives doesn't depend on it.
+#[derive(Clone, Copy, PartialEq, Eq)]
+pub enum GroupMethod {
+    Hash,
+    /// They stand together.
+    Sorted,
 }
 
 /// A column by which rows are ordered.
@@ -38,18 +63,21 @@ pub enum Operator {
     Projection {
         columns: Columns,
     },
-    /// For each left row in order the right rows in order with which it makes all conjuncts true.
-    NestedLoopJoin {
-        kind: JoinKind,
-        conjuncts: Conjuncts,
+    /// The left rows in order, and for each the right rows in order.
+    JoinRows {
+        method: JoinMethod,
+        matching: Matching,
     },
     /// One row for each different key, as first seen, with its aggregates.
-    HashGroup {
+    GroupRows {
+        method: GroupMethod,
         keys: Columns,
         added: Aggregations,
     },
     /// One of each row, as first seen.
-    HashDistinct,
+    DistinctRows {
+        method: GroupMethod,
+    },
 }
 
 /// A node of a plan.
