@@ -1,13 +1,13 @@
 -- What conditions without subqueries mean depends on no class.
-use Rattle.std.proofs.Common.{◌≡◌, refl, ap, sym, ◌∙◌, subst, ℕ, true, false, List, [], ◌∷◌, map}
+use Rattle.std.proofs.Common.{◌≡◌, refl, ap, sym, ◌∙◌, subst, ℕ, true, false, List, [], ◌∷◌, ◌++◌, map}
 use Rattle.std.specs.List.{list_all}
-use Rattle.std.proofs.lemmas.Bool.{and_parts}
+use Rattle.std.proofs.lemmas.Bool.{and_parts, and_from}
 use Rattle.values.specs.Truth.{negation}
 use Rattle.query.specs.Meaning.{all_of, any_of}
 use Rattle.algebra.specs.declared.condition.Condition.{Condition, roll-Condition, fold-roll-Condition, ind-Condition, map-Condition}
 use Rattle.algebra.specs.declared.condition.Condition.TheOpen.{Condition-F}
 use Rattle.algebra.specs.Bags.{Env, Bag}
-use Rattle.algebra.specs.Conditions.{Meaning, Passes, truth_layer, truth, classes_layer, all_classes, holds}
+use Rattle.algebra.specs.Conditions.{Meaning, Passes, truth_layer, truth, classes_layer, all_classes, holds, allows}
 use Rattle.algebra.specs.Expressions.{is_plain}
 use Rattle.algebra.proofs.Lists.{cons-same}
 
@@ -52,3 +52,17 @@ plain_holds [] none V W r = refl
 plain_holds (c ∷ C) none V W r =
     let both : (all_classes c (λ g. false) ≡ true) × (is_plain C ≡ true) = and_parts _ _ none in
     rw (plain_truth c both.0 V W r, plain_holds C both.1 V W r) refl
+
+pub plain_allows : (C : List Condition) → is_plain C ≡ true → (V W : ℕ → Bag) (r : Env) → allows V C r ≡ allows W C r
+plain_allows [] none V W r = refl
+plain_allows (c ∷ C) none V W r =
+    let both : (all_classes c (λ g. false) ≡ true) × (is_plain C ≡ true) = and_parts _ _ none in
+    rw (plain_truth c both.0 V W r, plain_allows C both.1 V W r) refl
+
+-- of conditions without subqueries each part is such
+pub plain_parts : (C D : List Condition) → is_plain (C ++ D) ≡ true → (is_plain C ≡ true) × (is_plain D ≡ true)
+plain_parts [] D none = (refl, none)
+plain_parts (c ∷ C) D none =
+    let both : (all_classes c (λ g. false) ≡ true) × (is_plain (C ++ D) ≡ true) = and_parts _ _ none in
+    let later = plain_parts C D both.1 in
+    (and_from _ _ both.0 later.0, later.1)

@@ -22,14 +22,14 @@ use Rattle.physical.specs.declared.plan.Node.TheVariants.{Implements, Sort}
 use Rattle.physical.specs.declared.plan.Plan.{Plan, roll-Plan, out-roll-Plan, fold-roll-Plan, ind-Plan, map-Plan}
 use Rattle.physical.specs.declared.plan.Plan.TheOpen.{Plan-F}
 use Rattle.physical.specs.Outputs.{Output, node_columns, node_rows, output_layer, plan_output}
-use Rattle.physical.specs.Orders.{are_columns, node_stands, Shape, shape_layer, plan_shape}
+use Rattle.physical.specs.Orders.{are_columns, plan_order, node_stands, Shape, shape_layer, plan_shape}
 use Rattle.physical.specs.Sorts.{keys_order}
 use Rattle.physical.proofs.Deliveries.{delivers}
 use Rattle.physical.proofs.SortedRows.{same_bag-sorted}
 use Rattle.derivation.specs.declared.certificate.CheckRefusal.{CheckRefusal}
 use Rattle.derivation.specs.declared.certificate.CheckReason.TheVariants.{IllFormed, OtherOperator, UnsortedAnswer}
 use Rattle.derivation.specs.Replay.{Fits, refusal, sort_fits, operator_fits, node_fits, inputs_fit, plan_fits, lines_replay}
-use Rattle.derivation.proofs.Fits.{plan_fits_out, operator-is}
+use Rattle.derivation.proofs.Fits.{after_node, after-is, plan_fits_out, operator-is}
 use Rattle.derivation.proofs.Founded.{Stands, line_at, founded, before, founded_columns, before_columns}
 use Rattle.derivation.proofs.Operators.{Is, AllAre, operator-gives, operator-stands}
 
@@ -99,15 +99,15 @@ module _ (q : Query) (D : Tables) (lines F : List Expr) (replays : lines_replay 
   abbrev at_node : Node → List Part → Output
   at_node node parts = record { columns = node_columns q.tables node (map (λ x. x.columns) (outputs_of parts)); rows = node_rows q.tables D node (outputs_of parts) }
 
-  abbrev inputs_after : List Part → Bool → ℕ → List ℕ → Result ℕ CheckRefusal
-  inputs_after parts ordered n needed = wanted_if (refusal n UnsortedAnswer) ordered needed >>= λ needed. inputs_fit (fits_of parts) needed (n + 1)
+  abbrev orders_of : List Part → List (List OrderKey)
+  orders_of parts = map plan_order (map (λ p. p.0) parts)
+
+  abbrev inputs_after : Node → List Part → Bool → ℕ → List ℕ → Result ℕ CheckRefusal
+  inputs_after node parts = after_node cols node (orders_of parts) (fits_of parts)
 
   -- the inputs of a node fit the classes that it needs
-  inputs-output : (parts : List Part) (ordered : Bool) (n m : ℕ) (needed : List ℕ) → length (fits_of parts) ≡ length needed → inputs_after parts ordered n needed ≡ Ok m → AreOfClasses parts needed
-  inputs-output parts ordered n m needed count fits =
-      let steps = both_ok (wanted_if (refusal n UnsortedAnswer) ordered needed) (λ needed. inputs_fit (fits_of parts) needed (n + 1)) m fits in
-      let same = wanted_if_ok (refusal n UnsortedAnswer) ordered needed steps.0 steps.1 in
-      all-output parts needed (n + 1) m count (ap (λ needed. inputs_fit (fits_of parts) needed (n + 1)) same.1 ∙ steps.2)
+  inputs-output : (node : Node) (parts : List Part) (ordered : Bool) (n m : ℕ) (needed : List ℕ) → length (fits_of parts) ≡ length needed → inputs_after node parts ordered n needed ≡ Ok m → AreOfClasses parts needed
+  inputs-output node parts ordered n m needed count fits = all-output parts needed (n + 1) m count (after-is cols node (orders_of parts) (fits_of parts) ordered n m needed fits).inputs
 
   -- what a node produces, and that the order which it delivers stands
   record IsNodeOf (node : Node) (parts : List Part) (g : ℕ) : Type 0 where
@@ -115,40 +115,40 @@ module _ (q : Query) (D : Tables) (lines F : List Expr) (replays : lines_replay 
     stands : node_stands node (map (λ (x : Output). x.columns) (outputs_of parts)) ≡ true
     inputs : list_all (λ (x : Shape). x.stands) (shapes_of parts) ≡ true
 
-  operator-output : (line : ℕ) (operator : Operator) (parts : List Part) (ordered : Bool) (g n m : ℕ) → (operator_fits lines line operator (length (fits_of parts)) g n >>= inputs_after parts ordered n) ≡ Ok m → IsNodeOf (Implements line operator) parts g
+  operator-output : (line : ℕ) (operator : Operator) (parts : List Part) (ordered : Bool) (g n m : ℕ) → (operator_fits lines cols line operator (length (fits_of parts)) g n >>= inputs_after (Implements line operator) parts ordered n) ≡ Ok m → IsNodeOf (Implements line operator) parts g
   operator-output line operator parts ordered g n m fits =
-      let steps = both_ok (operator_fits lines line operator (length (fits_of parts)) g n) (inputs_after parts ordered n) m fits in
-      let found = operator-is lines line operator (length (fits_of parts)) g n steps.0 steps.1 in
+      let steps = both_ok (operator_fits lines cols line operator (length (fits_of parts)) g n) (inputs_after (Implements line operator) parts ordered n) m fits in
+      let found = operator-is lines cols line operator (length (fits_of parts)) g n steps.0 steps.1 in
       let x : Expr = found.expr in
       let within_ : g < length lines = slice_get_within lines g x found.at in
       let le : g ≤ length lines = omega (arith, within_) in
       let count : length (reverse (take g lines)) ≡ g = length-reverse (take g lines) ∙ length-take-le g lines le in
       let stands : Stands q (reverse (take g lines)) x = line_at q lines [] F g x replays found.at in
       let below : list_all (λ h. nat_lt h g) (input_classes x) ≡ true = inputs-pass (λ h. nat_lt h g) x (subst (λ n. classes_pass (λ h. nat_lt h n) x ≡ true) count stands.backward) in
-      let of_classes = inputs-output parts ordered n m steps.0 found.count steps.2 in
+      let of_classes = inputs-output (Implements line operator) parts ordered n m steps.0 found.count steps.2 in
       let all : AllAre W (outputs_of parts) (input_classes x) = subst (AllAre W (outputs_of parts)) (sym found.needs) of_classes.outputs in
       let earlier = all-before g le (outputs_of parts) (input_classes x) below all in
-      let gives = operator-gives q.tables (own_aggregates q) D (classes q.tables D (reverse (take g lines))) operator x (outputs_of parts) found.implemented stands.formed earlier in
+      let gives = operator-gives q.tables (own_aggregates q) D (classes q.tables D (reverse (take g lines))) operator x cols (outputs_of parts) found.implemented stands.formed earlier in
       record {
         output = record {
           columns = gives.columns ∙ sym (founded_columns q.tables lines g x found.at);
           rows = same_bag-trans _ _ (class_rows q.tables D (reverse lines) g) gives.rows (same_bag-equal _ _ (λ e. sym (founded q.tables D lines g x e found.at)));
         };
-        stands = operator-stands q.tables (own_aggregates q) D (classes q.tables D (reverse (take g lines))) operator x (outputs_of parts) found.implemented stands.formed earlier;
+        stands = operator-stands q.tables (own_aggregates q) D (classes q.tables D (reverse (take g lines))) operator x cols (outputs_of parts) found.implemented stands.formed earlier;
         inputs = of_classes.stand;
       }
 
-  sort-output : (keys : List OrderKey) (parts : List Part) (ordered : Bool) (g n m : ℕ) → (sort_fits cols keys (length (fits_of parts)) g n >>= inputs_after parts ordered n) ≡ Ok m → IsNodeOf (Sort keys) parts g
+  sort-output : (keys : List OrderKey) (parts : List Part) (ordered : Bool) (g n m : ℕ) → (sort_fits cols keys (length (fits_of parts)) g n >>= inputs_after (Sort keys) parts ordered n) ≡ Ok m → IsNodeOf (Sort keys) parts g
   sort-output keys parts ordered g n m fits =
       let k : ℕ = length (fits_of parts) in
-      let steps = both_ok (sort_fits cols keys k g n) (inputs_after parts ordered n) m fits in
+      let steps = both_ok (sort_fits cols keys k g n) (inputs_after (Sort keys) parts ordered n) m fits in
       let last : List ℕ → Result (List ℕ) CheckRefusal = λ needed. wanted_if (refusal n OtherOperator) (k == 1) needed in
       let first = both_ok (wanted_if (refusal n IllFormed) (are_columns (cols g) keys) (g ∷ [])) last steps.0 steps.1 in
       let one = wanted_if_ok (refusal n IllFormed) _ (g ∷ []) first.0 first.1 in
       let two = wanted_if_ok (refusal n OtherOperator) (k == 1) first.0 steps.0 first.2 in
       let needs : g ∷ [] ≡ steps.0 = one.1 ∙ two.1 in
       let count : k ≡ length (g ∷ []) = eqb-true _ _ two.0 in
-      let of_classes = inputs-output parts ordered n m (g ∷ []) count (ap (inputs_after parts ordered n) needs ∙ steps.2) in
+      let of_classes = inputs-output (Sort keys) parts ordered n m (g ∷ []) count (ap (inputs_after (Sort keys) parts ordered n) needs ∙ steps.2) in
       input parts one.0 of_classes.stand of_classes.outputs
     where
       input : (parts : List Part) → are_columns (cols g) keys ≡ true → list_all (λ (x : Shape). x.stands) (shapes_of parts) ≡ true → AllAre W (outputs_of parts) (g ∷ []) → IsNodeOf (Sort keys) parts g
@@ -161,7 +161,7 @@ module _ (q : Query) (D : Tables) (lines F : List Expr) (replays : lines_replay 
             inputs = stand;
           }
 
-  layer : (node : Node) (parts : List Part) (ordered : Bool) (g n m : ℕ) → (node_fits lines cols node (length (fits_of parts)) g n >>= inputs_after parts ordered n) ≡ Ok m → IsNodeOf node parts g
+  layer : (node : Node) (parts : List Part) (ordered : Bool) (g n m : ℕ) → (node_fits lines cols node (length (fits_of parts)) g n >>= inputs_after node parts ordered n) ≡ Ok m → IsNodeOf node parts g
   layer (Implements line operator) = operator-output line operator
   layer (Sort keys) = sort-output keys
 
@@ -169,10 +169,10 @@ module _ (q : Query) (D : Tables) (lines F : List Expr) (replays : lines_replay 
   unfolding plan_output plan_shape
   step y ordered g n m fits =
       let z : Plan-F Plan = map-Plan Part Plan (λ p. p.0) y in
-      let here : (node_fits lines cols z.node (length z.inputs) g n >>= inputs_after y.inputs ordered n) ≡ Ok m =
-      subst (λ (w : Plan-F Plan). (node_fits lines cols w.node (length w.inputs) g n >>= λ needed. wanted_if (refusal n UnsortedAnswer) ordered needed >>= λ needed. inputs_fit (map (plan_fits lines cols) w.inputs) needed (n + 1)) ≡ Ok m)
+      let here : (node_fits lines cols z.node (length z.inputs) g n >>= inputs_after z.node y.inputs ordered n) ≡ Ok m =
+      subst (λ (w : Plan-F Plan). (node_fits lines cols w.node (length w.inputs) g n >>= after_node cols w.node (map plan_order w.inputs) (map (plan_fits lines cols) w.inputs) ordered n) ≡ Ok m)
       (out-roll-Plan z) (sym (plan_fits_out lines cols (roll-Plan z) ordered g n) ∙ fits) in
-      let node = layer y.node y.inputs ordered g n m (subst (λ k. (node_fits lines cols z.node k g n >>= inputs_after y.inputs ordered n) ≡ Ok m) (sym (length-map z.inputs (plan_fits lines cols))) here) in
+      let node = layer y.node y.inputs ordered g n m (subst (λ k. (node_fits lines cols z.node k g n >>= inputs_after z.node y.inputs ordered n) ≡ Ok m) (sym (length-map z.inputs (plan_fits lines cols))) here) in
       record {
         output = subst (λ x. Is W x g) (sym (fold-roll-Plan Output (output_layer q.tables D) z)) node.output;
         stands = ap (λ (x : Shape). x.stands) (fold-roll-Plan Shape (shape_layer q.tables) z)

@@ -1,5 +1,5 @@
 -- One node of a plan that fits, and its inputs.
-use Rattle.std.proofs.Common.{◌≡◌, refl, ℕ, ◌+◌, Bool, true, ◌&&◌, ◌==◌, List, map, length, Some, Result, Ok, ◌∙◌, ap, sym}
+use Rattle.std.proofs.Common.{◌≡◌, refl, ℕ, ◌+◌, Bool, true, ◌&&◌, ◌==◌, List, [], ◌∷◌, map, length, Some, Result, Ok, ◌∙◌, ap, sym, subst}
 use Rattle.std.specs.List.{slice_get}
 use Rattle.std.proofs.lemmas.Bool.{and_parts, eqb-true}
 use Rattle.std.proofs.lemmas.List.{length-map}
@@ -9,32 +9,89 @@ use Rattle.algebra.specs.declared.expr.Expr.{Expr}
 use Rattle.algebra.specs.Expressions.{input_classes}
 use mathlib.Core.List.{map-map}
 use Rattle.physical.specs.declared.plan.Operator.{Operator}
-use Rattle.physical.specs.declared.plan.Plan.{Plan, out-Plan, fold-Plan, fold_out-Plan}
-use Rattle.derivation.specs.declared.certificate.CheckReason.TheVariants.{UnknownLine, OtherOperator, UnsortedAnswer}
+use Rattle.algebra.proofs.Lists.{two}
+use Rattle.physical.specs.declared.plan.OrderKey.{OrderKey}
+use Rattle.physical.specs.declared.plan.Node.{Node}
+use Rattle.physical.specs.declared.plan.Plan.{Plan, out-Plan, roll-Plan, fold-Plan, fold-roll-Plan, fold_out-Plan, ind-Plan, map-Plan}
+use Rattle.physical.specs.declared.plan.Plan.TheOpen.{Plan-F}
+use Rattle.physical.specs.Orders.{node_order, order_layer, plan_order}
+use Rattle.derivation.specs.declared.certificate.CheckReason.TheVariants.{UnknownLine, OtherOperator, UnsortedInput, UnsortedAnswer}
 use Rattle.derivation.specs.declared.certificate.CheckRefusal.{CheckRefusal}
-use Rattle.derivation.specs.Replay.{refusal, implements, operator_fits, Fitted, fitted_layer, fitted, node_fits, inputs_fit, plan_fits}
+use Rattle.derivation.specs.Replay.{Fits, refusal, implements, operator_fits, Fitted, fitted_layer, fitted, inputs_sorted, node_fits, inputs_fit, plan_fits}
+
+-- ---- orders
+
+module _ (lines : List Expr) (cols : ℕ → List ℕ) where
+  abbrev Ordered : Plan → Type 0
+  Ordered p = (fitted lines cols p).order ≡ plan_order p
+
+  abbrev Part : Type 0
+  Part = (p : Plan) × Ordered p
+
+  orders-same : (parts : List Part) → map (λ (x : Fitted). x.order) (map (fitted lines cols) (map (λ p. p.0) parts)) ≡ map plan_order (map (λ p. p.0) parts)
+  orders-same [] = refl
+  orders-same (p ∷ parts) = two (λ k ks. k ∷ ks) p.1 (orders-same parts)
+
+  order-step : (y : Plan-F Part) → Ordered (roll-Plan (map-Plan Part Plan (λ p. p.0) y))
+  unfolding fitted plan_order
+  order-step y =
+      let z : Plan-F Plan = map-Plan Part Plan (λ p. p.0) y in
+      ap (λ (x : Fitted). x.order) (fold-roll-Plan Fitted (fitted_layer lines cols) z) ∙ ap (node_order y.node) (orders-same y.inputs) ∙ sym (fold-roll-Plan (List OrderKey) order_layer z)
+
+  -- the order of a plan that is judged is that which it delivers
+  fitted-order : (p : Plan) → Ordered p
+  fitted-order = ind-Plan Ordered (λ x y is. subst (λ z. Ordered (roll-Plan z)) is (order-step y))
+
+  all-ordered : (plans : List Plan) → map (λ (x : Fitted). x.order) (map (fitted lines cols) plans) ≡ map plan_order plans
+  all-ordered [] = refl
+  all-ordered (p ∷ plans) = two (λ k ks. k ∷ ks) (fitted-order p) (all-ordered plans)
+
+-- ---- a node
+
+-- what is judged behind what a node is, given the orders that its inputs deliver
+abbrev pub after_node : (ℕ → List ℕ) → Node → List (List OrderKey) → List Fits → Bool → ℕ → List ℕ → Result ℕ CheckRefusal
+after_node cols node orders fits ordered n needed =
+    wanted_if (refusal n UnsortedInput) (inputs_sorted node (map cols needed) orders) needed
+    >>= λ needed. wanted_if (refusal n UnsortedAnswer) ordered needed
+    >>= λ needed. inputs_fit fits needed (n + 1)
+
+pub record FitsAfter (cols : ℕ → List ℕ) (node : Node) (orders : List (List OrderKey)) (fits : List Fits) (ordered : Bool) (n m : ℕ) (needed : List ℕ) : Type 0 where
+  pub sorted : inputs_sorted node (map cols needed) orders ≡ true
+  pub delivered : ordered ≡ true
+  pub inputs : inputs_fit fits needed (n + 1) ≡ Ok m
+
+pub after-is : (cols : ℕ → List ℕ) (node : Node) (orders : List (List OrderKey)) (fits : List Fits) (ordered : Bool) (n m : ℕ) (needed : List ℕ) → after_node cols node orders fits ordered n needed ≡ Ok m
+    → FitsAfter cols node orders fits ordered n m needed
+after-is cols node orders fits ordered n m needed ok =
+    let last : List ℕ → Result ℕ CheckRefusal = λ needed. inputs_fit fits needed (n + 1) in
+    let next : List ℕ → Result ℕ CheckRefusal = λ needed. wanted_if (refusal n UnsortedAnswer) ordered needed >>= last in
+    let first = both_ok (wanted_if (refusal n UnsortedInput) (inputs_sorted node (map cols needed) orders) needed) next m ok in
+    let one = wanted_if_ok (refusal n UnsortedInput) (inputs_sorted node (map cols needed) orders) needed first.0 first.1 in
+    let second = both_ok (wanted_if (refusal n UnsortedAnswer) ordered first.0) last m first.2 in
+    let two = wanted_if_ok (refusal n UnsortedAnswer) ordered first.0 second.0 second.1 in
+    record { sorted = one.0; delivered = two.0; inputs = ap last (one.1 ∙ two.1) ∙ second.2 }
 
 pub plan_fits_out : (lines : List Expr) (cols : ℕ → List ℕ) (p : Plan) (ordered : Bool) (g n : ℕ) → plan_fits lines cols p ordered g n
-    ≡ (node_fits lines cols (out-Plan p).node (length (out-Plan p).inputs) g n >>= λ classes. wanted_if (refusal n UnsortedAnswer) ordered classes >>= λ classes. inputs_fit (map (plan_fits lines cols) (out-Plan p).inputs) classes (n + 1))
+    ≡ (node_fits lines cols (out-Plan p).node (length (out-Plan p).inputs) g n >>= after_node cols (out-Plan p).node (map plan_order (out-Plan p).inputs) (map (plan_fits lines cols) (out-Plan p).inputs) ordered n)
 unfolding fitted
 plan_fits_out lines cols p ordered g n =
     ap (λ (x : Fitted). x.fits ordered g n) (fold_out-Plan Fitted (fitted_layer lines cols) p)
-    ∙ rw (length-map, map-map (λ (x : Fitted). x.fits) (fold-Plan Fitted (fitted_layer lines cols)) (out-Plan p).inputs) refl
+    ∙ rw (length-map, all-ordered lines cols (out-Plan p).inputs, map-map (λ (x : Fitted). x.fits) (fold-Plan Fitted (fitted_layer lines cols)) (out-Plan p).inputs) refl
 
 -- an operator that fits at its line
-pub record FitsLine (lines : List Expr) (operator : Operator) (inputs g : ℕ) (needed : List ℕ) : Type 0 where
+pub record FitsLine (lines : List Expr) (cols : ℕ → List ℕ) (operator : Operator) (inputs g : ℕ) (needed : List ℕ) : Type 0 where
   pub expr : Expr
   pub at : slice_get lines g ≡ Some expr
-  pub implemented : implements operator expr ≡ true
+  pub implemented : implements cols operator expr ≡ true
   pub needs : input_classes expr ≡ needed
   pub count : inputs ≡ length needed
 
-pub operator-is : (lines : List Expr) (line : ℕ) (operator : Operator) (inputs g n : ℕ) (needed : List ℕ) → operator_fits lines line operator inputs g n ≡ Ok needed → FitsLine lines operator inputs g needed
-operator-is lines line operator inputs g n needed e =
-    let next : Expr → Result (List ℕ) CheckRefusal = λ x. wanted_if (refusal n OtherOperator) (line == g && implements operator x && inputs == length (input_classes x)) (input_classes x) in
+pub operator-is : (lines : List Expr) (cols : ℕ → List ℕ) (line : ℕ) (operator : Operator) (inputs g n : ℕ) (needed : List ℕ) → operator_fits lines cols line operator inputs g n ≡ Ok needed → FitsLine lines cols operator inputs g needed
+operator-is lines cols line operator inputs g n needed e =
+    let next : Expr → Result (List ℕ) CheckRefusal = λ x. wanted_if (refusal n OtherOperator) (line == g && implements cols operator x && inputs == length (input_classes x)) (input_classes x) in
     let first = both_ok (wanted (refusal n UnknownLine) (slice_get lines line)) next needed e in
     let x : Expr = first.0 in
-    let all = wanted_if_ok (refusal n OtherOperator) (line == g && implements operator x && inputs == length (input_classes x)) (input_classes x) needed first.2 in
+    let all = wanted_if_ok (refusal n OtherOperator) (line == g && implements cols operator x && inputs == length (input_classes x)) (input_classes x) needed first.2 in
     let tests = and_parts _ _ all.0 in
     let tests' = and_parts _ _ tests.0 in
     record {

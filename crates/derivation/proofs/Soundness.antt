@@ -16,13 +16,13 @@ use Rattle.logical.proofs.FrameMeaning.{frame_means}
 use Rattle.logical.proofs.FormedQueries.{frames_formed}
 use Rattle.physical.specs.declared.plan.Plan.{Plan, out-Plan}
 use Rattle.physical.specs.Outputs.{output_rows}
-use Rattle.physical.specs.Orders.{plan_shape}
+use Rattle.physical.specs.Orders.{plan_order, plan_shape}
 use Rattle.physical.proofs.Deliveries.{plans_deliver}
 use Rattle.derivation.specs.declared.certificate.Certificate.{Certificate}
 use Rattle.derivation.specs.declared.certificate.CheckRefusal.{CheckRefusal}
 use Rattle.derivation.specs.declared.certificate.CheckReason.TheVariants.{UnsortedAnswer}
 use Rattle.derivation.specs.Replay.{founding, refusal, lines_replay, node_fits, inputs_fit, plan_fits, is_delivered, root, replayed, ReplayIsSound}
-use Rattle.derivation.proofs.Fits.{plan_fits_out}
+use Rattle.derivation.proofs.Fits.{after_node, after-is, plan_fits_out}
 use Rattle.derivation.proofs.Founded.{begins, later, turned}
 use Rattle.derivation.proofs.Ordered.{delivered-allowed}
 use Rattle.derivation.proofs.ClassOutputs.{of_class}
@@ -39,11 +39,10 @@ root-is q some D lines rest e is =
 -- a plan that fits delivers the order that is wanted
 ordered-is : (lines : List Expr) (cols : ℕ → List ℕ) (p : Plan) (ordered : Bool) (g n m : ℕ) → plan_fits lines cols p ordered g n ≡ Ok m → ordered ≡ true
 ordered-is lines cols p ordered g n m fits =
-    let inputs : List ℕ → Result ℕ CheckRefusal = λ classes. inputs_fit (map (plan_fits lines cols) (out-Plan p).inputs) classes (n + 1) in
-    let next : List ℕ → Result ℕ CheckRefusal = λ classes. wanted_if (refusal n UnsortedAnswer) ordered classes >>= inputs in
-    let first = both_ok (node_fits lines cols (out-Plan p).node (length (out-Plan p).inputs) g n) next m (sym (plan_fits_out lines cols p ordered g n) ∙ fits) in
-    let second = both_ok (wanted_if (refusal n UnsortedAnswer) ordered first.0) inputs m first.2 in
-    (wanted_if_ok (refusal n UnsortedAnswer) ordered first.0 second.0 second.1).0
+    let node = (out-Plan p).node in
+    let after : List ℕ → Result ℕ CheckRefusal = after_node cols node (map plan_order (out-Plan p).inputs) (map (plan_fits lines cols) (out-Plan p).inputs) ordered n in
+    let first = both_ok (node_fits lines cols node (length (out-Plan p).inputs) g n) after m (sym (plan_fits_out lines cols p ordered g n) ∙ fits) in
+    (after-is cols node (map plan_order (out-Plan p).inputs) (map (plan_fits lines cols) (out-Plan p).inputs) ordered n m first.0 first.2).delivered
 
 pub record IsRootOutput (q : Query) (c : Certificate) (D : Tables) : Type 0 where
   pub rows : (e : Env) → SameRows (output_rows q.tables D c.plan e) (root_rows q.tables D (query_frame q) e)

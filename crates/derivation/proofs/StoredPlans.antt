@@ -12,6 +12,7 @@ use Rattle.query.specs.Rows.{Tables}
 use Rattle.algebra.specs.declared.condition.Condition.{Condition}
 use Rattle.algebra.specs.declared.expr.Aggregation.{Aggregation}
 use Rattle.algebra.specs.declared.expr.Expr.{Expr}
+use Rattle.algebra.specs.declared.expr.Expr.TheVariants as expr
 use Rattle.algebra.specs.declared.expr.Expr.TheVariants.{Select, Join, LeftJoin, Keep, Distinct, Group}
 use Rattle.algebra.specs.Columns.{is_subset}
 use Rattle.algebra.specs.Expressions.{classes_pass, input_classes, is_formed, aggregation_formed}
@@ -21,23 +22,26 @@ use Rattle.algebra.proofs.Same.{equal_columns, equal_aggregations}
 use Rattle.logical.specs.Frames.{block_frame, query_frame}
 use Rattle.logical.specs.FormedFrames.{own_aggregates}
 use Rattle.logical.proofs.FrameShapes.{block-shape}
-use Rattle.physical.specs.declared.plan.JoinKind.TheVariants.{Inner, Left}
+use Rattle.physical.specs.declared.plan.JoinMethod.{JoinMethod}
+use Rattle.physical.specs.declared.plan.GroupMethod.{GroupMethod}
+use Rattle.physical.specs.declared.plan.Matching.{Matching}
+use Rattle.physical.specs.declared.plan.Matching.TheVariants.{Inner, Left, Semi, Anti}
 use Rattle.physical.specs.declared.plan.OrderKey.{OrderKey}
 use Rattle.physical.specs.declared.plan.Operator.{Operator}
-use Rattle.physical.specs.declared.plan.Operator.TheVariants.{Scan, Filter, FilterSubqueries, Projection, NestedLoopJoin, HashGroup, HashDistinct}
+use Rattle.physical.specs.declared.plan.Operator.TheVariants.{Scan, Filter, FilterSubqueries, Projection, JoinRows, GroupRows, DistinctRows}
 use Rattle.physical.specs.declared.plan.Node.{Node}
 use Rattle.physical.specs.declared.plan.Node.TheVariants.{Implements, Sort}
 use Rattle.physical.specs.declared.plan.Plan.{Plan, roll-Plan, out-roll-Plan, fold-roll-Plan, ind-Plan, map-Plan}
 use Rattle.physical.specs.declared.plan.Plan.TheOpen.{Plan-F}
 use Rattle.physical.specs.Origins.{Origin, first_stored, operator_stored, node_stored, read_among, operator_reads, node_reads, all_read, origin_layer, plan_origin}
-use Rattle.physical.specs.Orders.{are_columns}
+use Rattle.physical.specs.Orders.{are_columns, plan_order}
 use Rattle.physical.proofs.StoredValues.{origin-is}
 use Rattle.derivation.specs.declared.certificate.Certificate.{Certificate}
 use Rattle.derivation.specs.declared.certificate.CheckRefusal.{CheckRefusal}
 use Rattle.derivation.specs.declared.certificate.CheckReason.TheVariants.{IllFormed, OtherOperator, UnsortedAnswer}
 use Rattle.derivation.specs.Replay.{Fits, founding, refusal, implements, sort_fits, operator_fits, node_fits, inputs_fit, plan_fits, lines_replay, is_delivered, root, replayed}
 use Rattle.derivation.proofs.ClassOutputs.{of_class}
-use Rattle.derivation.proofs.Fits.{plan_fits_out, operator-is}
+use Rattle.derivation.proofs.Fits.{after_node, after-is, plan_fits_out, operator-is}
 use Rattle.derivation.proofs.Founded.{Stands, line_at, begins, turned, before_columns}
 use Rattle.derivation.proofs.StoredClasses.{expr_stored, expr_reads, class_stored, line-reads, line-stored, stored-before, frame-reads}
 
@@ -69,42 +73,50 @@ module _ (uses : List TableInstance) (own : List Aggregation) (cols : ℕ → Li
     reads : expr_reads W x ≡ true → operator_reads operator inputs ≡ true
 
   abbrev Implementing : Operator → Expr → Type 0
-  Implementing operator x = (inputs : List Origin) → implements operator x ≡ true → is_formed uses own cols x ≡ true → AllAre cols W inputs (input_classes x) → Follows operator x inputs
+  Implementing operator x = (sides : ℕ → List ℕ) (inputs : List Origin) → implements sides operator x ≡ true → is_formed uses own cols x ≡ true → AllAre cols W inputs (input_classes x) → Follows operator x inputs
 
   first-is : (inputs : List Origin) (g : ℕ) (classes : List ℕ) → AllAre cols W inputs (g ∷ classes) → W g ≡ true → first_stored inputs ≡ true
   first-is [] g classes all is = absurd all
   first-is (x ∷ inputs) g classes all is = all.0.stored is
 
   scan-follows : (o : ℕ) (x : Expr) → Implementing (Scan o) x
-  scan-follows o x inputs h formed all = record { stored = λ is. refl; reads = λ is. refl }
+  scan-follows o x sides inputs h formed all = record { stored = λ is. refl; reads = λ is. refl }
 
   filter-follows : (C : List Condition) (x : Expr) → Implementing (Filter C) x
-  filter-follows C (Select E g) inputs h formed all = record { stored = first-is inputs g _ all; reads = λ is. refl }
-  filter-follows C x inputs h formed all = cc
+  filter-follows C (Select E g) sides inputs h formed all = record { stored = first-is inputs g _ all; reads = λ is. refl }
+  filter-follows C x sides inputs h formed all = cc
 
   subqueries-follow : (C : List Condition) (x : Expr) → Implementing (FilterSubqueries C) x
-  subqueries-follow C (Select E g) inputs h formed all = record { stored = first-is inputs g _ all; reads = λ is. refl }
-  subqueries-follow C x inputs h formed all = cc
+  subqueries-follow C (Select E g) sides inputs h formed all = record { stored = first-is inputs g _ all; reads = λ is. refl }
+  subqueries-follow C x sides inputs h formed all = cc
 
   projection-follows : (K : List ℕ) (x : Expr) → Implementing (Projection K) x
-  projection-follows K (Keep L g) [] h formed all = absurd all
-  projection-follows K (Keep L g) (x ∷ inputs) h formed all = record {
+  projection-follows K (Keep L g) sides [] h formed all = absurd all
+  projection-follows K (Keep L g) sides (x ∷ inputs) h formed all = record {
     stored = λ is. and_from _ _ (all.0.stored is) (ap (λ M. is_subset K M) all.0.columns ∙ ap (λ M. is_subset M (cols g)) (equal_columns K L h) ∙ formed);
     reads = λ is. refl;
   }
-  projection-follows K x inputs h formed all = cc
+  projection-follows K x sides inputs h formed all = cc
 
-  join-follows : (C : List Condition) (x : Expr) → Implementing (NestedLoopJoin Inner C) x
-  join-follows C (Join E g k) [] h formed all = absurd all
-  join-follows C (Join E g k) (x ∷ []) h formed all = absurd all.1
-  join-follows C (Join E g k) (x ∷ y ∷ inputs) h formed all = record { stored = λ is. let both = and_parts _ _ is in and_from _ _ (all.0.stored both.0) (all.1.0.stored both.1); reads = λ is. refl }
-  join-follows C x inputs h formed all = cc
+  join-follows : (method : JoinMethod) (C : List Condition) (x : Expr) → Implementing (JoinRows method (Inner C)) x
+  join-follows method C (Join E g k) sides [] h formed all = absurd all
+  join-follows method C (Join E g k) sides (x ∷ []) h formed all = absurd all.1
+  join-follows method C (Join E g k) sides (x ∷ y ∷ inputs) h formed all = record { stored = λ is. let both = and_parts _ _ is in and_from _ _ (all.0.stored both.0) (all.1.0.stored both.1); reads = λ is. refl }
+  join-follows method C x sides inputs h formed all = cc
 
-  left_join-follows : (C : List Condition) (x : Expr) → Implementing (NestedLoopJoin Left C) x
-  left_join-follows C (LeftJoin E g k) [] h formed all = absurd all
-  left_join-follows C (LeftJoin E g k) (x ∷ []) h formed all = absurd all.1
-  left_join-follows C (LeftJoin E g k) (x ∷ y ∷ inputs) h formed all = record { stored = λ is. let both = and_parts _ _ is in and_from _ _ (all.0.stored both.0) (all.1.0.stored both.1); reads = λ is. refl }
-  left_join-follows C x inputs h formed all = cc
+  left_join-follows : (method : JoinMethod) (C : List Condition) (x : Expr) → Implementing (JoinRows method (Left C)) x
+  left_join-follows method C (LeftJoin E g k) sides [] h formed all = absurd all
+  left_join-follows method C (LeftJoin E g k) sides (x ∷ []) h formed all = absurd all.1
+  left_join-follows method C (LeftJoin E g k) sides (x ∷ y ∷ inputs) h formed all = record { stored = λ is. let both = and_parts _ _ is in and_from _ _ (all.0.stored both.0) (all.1.0.stored both.1); reads = λ is. refl }
+  left_join-follows method C x sides inputs h formed all = cc
+
+  semi-follows : (method : JoinMethod) (C : List Condition) (x : Expr) → Implementing (JoinRows method (Semi C)) x
+  semi-follows method C (expr.Semi E g k) sides inputs h formed all = record { stored = first-is inputs g _ all; reads = λ is. refl }
+  semi-follows method C x sides inputs h formed all = cc
+
+  anti-follows : (method : JoinMethod) (S M : List Condition) (x : Expr) → Implementing (JoinRows method (Anti S M)) x
+  anti-follows method S M (expr.Anti T N g k) sides inputs h formed all = record { stored = first-is inputs g _ all; reads = λ is. refl }
+  anti-follows method S M x sides inputs h formed all = cc
 
   -- well-formed aggregates read columns of the class
   formed-among : (K : List ℕ) (G : List Aggregation) → list_all (aggregation_formed own K) G ≡ true → read_among K G ≡ true
@@ -113,29 +125,31 @@ module _ (uses : List TableInstance) (own : List Aggregation) (cols : ℕ → Li
       let parts = and_parts (aggregation_formed own K a) _ formed in
       and_from _ _ (and_parts _ _ (and_parts _ _ parts.0).0).1 (formed-among K G parts.1)
 
-  group-follows : (K : List ℕ) (G : List Aggregation) (x : Expr) → Implementing (HashGroup K G) x
-  group-follows K G (Group L H g) [] h formed all = absurd all
-  group-follows K G (Group L H g) (x ∷ inputs) h formed all =
+  group-follows : (method : GroupMethod) (K : List ℕ) (G : List Aggregation) (x : Expr) → Implementing (GroupRows method K G) x
+  group-follows method K G (Group L H g) sides [] h formed all = absurd all
+  group-follows method K G (Group L H g) sides (x ∷ inputs) h formed all =
       let same : G ≡ H = equal_aggregations G H (and_parts _ _ h).1 in
       record {
         stored = λ is. absurd (false≢true is);
         reads = λ is. and_from _ _ (all.0.stored is) (ap (λ M. read_among M G) all.0.columns ∙ ap (read_among (cols g)) same ∙ formed-among (cols g) H (and_parts _ _ formed).1);
       }
-  group-follows K G x inputs h formed all = cc
+  group-follows method K G x sides inputs h formed all = cc
 
-  distinct-follows : (x : Expr) → Implementing HashDistinct x
-  distinct-follows (Distinct g) inputs h formed all = record { stored = first-is inputs g _ all; reads = λ is. refl }
-  distinct-follows x inputs h formed all = cc
+  distinct-follows : (method : GroupMethod) (x : Expr) → Implementing (DistinctRows method) x
+  distinct-follows method (Distinct g) sides inputs h formed all = record { stored = first-is inputs g _ all; reads = λ is. refl }
+  distinct-follows method x sides inputs h formed all = cc
 
   follows : (operator : Operator) (x : Expr) → Implementing operator x
   follows (Scan o) x = scan-follows o x
   follows (Filter C) x = filter-follows C x
   follows (FilterSubqueries C) x = subqueries-follow C x
   follows (Projection K) x = projection-follows K x
-  follows (NestedLoopJoin Inner C) x = join-follows C x
-  follows (NestedLoopJoin Left C) x = left_join-follows C x
-  follows (HashGroup K G) x = group-follows K G x
-  follows HashDistinct x = distinct-follows x
+  follows (JoinRows method (Inner C)) x = join-follows method C x
+  follows (JoinRows method (Left C)) x = left_join-follows method C x
+  follows (JoinRows method (Semi C)) x = semi-follows method C x
+  follows (JoinRows method (Anti S M)) x = anti-follows method S M x
+  follows (GroupRows method K G) x = group-follows method K G x
+  follows (DistinctRows method) x = distinct-follows method x
 
 -- ---- a plan that fits
 
@@ -185,15 +199,15 @@ module _ (q : Query) (lines F rest : List Expr) (replays : lines_replay q [] lin
         all-before g le inputs needed parts.1 all.1,
       )
 
-  abbrev inputs_after : List Part → Bool → ℕ → List ℕ → Result ℕ CheckRefusal
-  inputs_after parts ordered n needed = wanted_if (refusal n UnsortedAnswer) ordered needed >>= λ needed. inputs_fit (fits_of parts) needed (n + 1)
+  abbrev orders_of : List Part → List (List OrderKey)
+  orders_of parts = map plan_order (map (λ p. p.0) parts)
 
-  inputs-are : (parts : List Part) (ordered : Bool) (n m : ℕ) (needed : List ℕ) → length (fits_of parts) ≡ length needed → list_all (λ h. nat_lt h (length (query_frame q))) needed ≡ true → inputs_after parts ordered n needed ≡ Ok m
+  abbrev inputs_after : Node → List Part → Bool → ℕ → List ℕ → Result ℕ CheckRefusal
+  inputs_after node parts = after_node cols node (orders_of parts) (fits_of parts)
+
+  inputs-are : (node : Node) (parts : List Part) (ordered : Bool) (n m : ℕ) (needed : List ℕ) → length (fits_of parts) ≡ length needed → list_all (λ h. nat_lt h (length (query_frame q))) needed ≡ true → inputs_after node parts ordered n needed ≡ Ok m
       → AllAre cols W (origins_of parts) needed
-  inputs-are parts ordered n m needed count low fits =
-      let steps = both_ok (wanted_if (refusal n UnsortedAnswer) ordered needed) (λ needed. inputs_fit (fits_of parts) needed (n + 1)) m fits in
-      let same = wanted_if_ok (refusal n UnsortedAnswer) ordered needed steps.0 steps.1 in
-      all-are parts needed (n + 1) m count low (ap (λ needed. inputs_fit (fits_of parts) needed (n + 1)) same.1 ∙ steps.2)
+  inputs-are node parts ordered n m needed count low fits = all-are parts needed (n + 1) m count low (after-is cols node (orders_of parts) (fits_of parts) ordered n m needed fits).inputs
 
   -- a node has stored values where its class has, and aggregates none but such
   record IsNodeOf (node : Node) (parts : List Part) (g : ℕ) : Type 0 where
@@ -212,42 +226,42 @@ module _ (q : Query) (lines F rest : List Expr) (replays : lines_replay q [] lin
       slice_get-front (y ∷ xs) ys zero x lt at = at
       slice_get-front (y ∷ xs) ys (suc i) x lt at = slice_get-front xs ys i x (omega (arith, lt)) at
 
-  operator-is-of : (line : ℕ) (operator : Operator) (parts : List Part) (ordered : Bool) (g n m : ℕ) → g < length (query_frame q) → (operator_fits lines line operator (length (fits_of parts)) g n >>= inputs_after parts ordered n) ≡ Ok m → IsNodeOf (Implements line operator) parts g
+  operator-is-of : (line : ℕ) (operator : Operator) (parts : List Part) (ordered : Bool) (g n m : ℕ) → g < length (query_frame q) → (operator_fits lines cols line operator (length (fits_of parts)) g n >>= inputs_after (Implements line operator) parts ordered n) ≡ Ok m → IsNodeOf (Implements line operator) parts g
   operator-is-of line operator parts ordered g n m low fits =
-      let steps = both_ok (operator_fits lines line operator (length (fits_of parts)) g n) (inputs_after parts ordered n) m fits in
-      let found = operator-is lines line operator (length (fits_of parts)) g n steps.0 steps.1 in
+      let steps = both_ok (operator_fits lines cols line operator (length (fits_of parts)) g n) (inputs_after (Implements line operator) parts ordered n) m fits in
+      let found = operator-is lines cols line operator (length (fits_of parts)) g n steps.0 steps.1 in
       let x : Expr = found.expr in
       let within_ : g < length lines = slice_get_within lines g x found.at in
       let le : g ≤ length lines = omega (arith, within_) in
       let count : length (reverse (take g lines)) ≡ g = length-reverse (take g lines) ∙ length-take-le g lines le in
       let stands : Stands q (reverse (take g lines)) x = line_at q lines [] F g x replays found.at in
       let below : list_all (λ h. nat_lt h g) (input_classes x) ≡ true = inputs-pass (λ h. nat_lt h g) x (subst (λ n. classes_pass (λ h. nat_lt h n) x ≡ true) count stands.backward) in
-      let all = inputs-are parts ordered n m steps.0 found.count (ap (list_all (λ h. nat_lt h (length (query_frame q)))) (sym found.needs) ∙ lower g (length (query_frame q)) (input_classes x) (omega (arith, low)) below) steps.2 in
+      let all = inputs-are (Implements line operator) parts ordered n m steps.0 found.count (ap (list_all (λ h. nat_lt h (length (query_frame q)))) (sym found.needs) ∙ lower g (length (query_frame q)) (input_classes x) (omega (arith, low)) below) steps.2 in
       let earlier = all-before g le (origins_of parts) (input_classes x) below (subst (AllAre cols W (origins_of parts)) (sym found.needs) all) in
-      let is = follows q.tables (own_aggregates q) (class_columns q.tables (reverse (take g lines))) (class_stored (reverse (take g lines))) operator x (origins_of parts) found.implemented stands.formed earlier in
+      let is = follows q.tables (own_aggregates q) (class_columns q.tables (reverse (take g lines))) (class_stored (reverse (take g lines))) operator x cols (origins_of parts) found.implemented stands.formed earlier in
       record { stored = λ s. is.stored (sym (line-stored lines g x found.at) ∙ s); reads = is.reads (frame-line g x low found.at); inputs = inputs-read cols W (origins_of parts) steps.0 all }
     where
       lower : (g k : ℕ) (needed : List ℕ) → g ≤ k → list_all (λ h. nat_lt h g) needed ≡ true → list_all (λ h. nat_lt h k) needed ≡ true
       lower g k [] le below = refl
       lower g k (h ∷ needed) le below = let parts = and_parts _ _ below in let lt : h < g = ltb-true h g parts.0 in and_from _ _ (lt-ltb h k (omega (arith, lt, le))) (lower g k needed le parts.1)
 
-  sort-is-of : (keys : List OrderKey) (parts : List Part) (ordered : Bool) (g n m : ℕ) → g < length (query_frame q) → (sort_fits cols keys (length (fits_of parts)) g n >>= inputs_after parts ordered n) ≡ Ok m → IsNodeOf (Sort keys) parts g
+  sort-is-of : (keys : List OrderKey) (parts : List Part) (ordered : Bool) (g n m : ℕ) → g < length (query_frame q) → (sort_fits cols keys (length (fits_of parts)) g n >>= inputs_after (Sort keys) parts ordered n) ≡ Ok m → IsNodeOf (Sort keys) parts g
   sort-is-of keys parts ordered g n m low fits =
       let k : ℕ = length (fits_of parts) in
-      let steps = both_ok (sort_fits cols keys k g n) (inputs_after parts ordered n) m fits in
+      let steps = both_ok (sort_fits cols keys k g n) (inputs_after (Sort keys) parts ordered n) m fits in
       let last : List ℕ → Result (List ℕ) CheckRefusal = λ needed. wanted_if (refusal n OtherOperator) (k == 1) needed in
       let first = both_ok (wanted_if (refusal n IllFormed) (are_columns (cols g) keys) (g ∷ [])) last steps.0 steps.1 in
       let one = wanted_if_ok (refusal n IllFormed) _ (g ∷ []) first.0 first.1 in
       let two = wanted_if_ok (refusal n OtherOperator) (k == 1) first.0 steps.0 first.2 in
       let count : k ≡ length (g ∷ []) = eqb-true _ _ two.0 in
-      let all = inputs-are parts ordered n m (g ∷ []) count (and_from _ _ (lt-ltb _ _ low) refl) (ap (inputs_after parts ordered n) (one.1 ∙ two.1) ∙ steps.2) in
+      let all = inputs-are (Sort keys) parts ordered n m (g ∷ []) count (and_from _ _ (lt-ltb _ _ low) refl) (ap (inputs_after (Sort keys) parts ordered n) (one.1 ∙ two.1) ∙ steps.2) in
       record { stored = input parts all; reads = refl; inputs = inputs-read cols W (origins_of parts) (g ∷ []) all }
     where
       input : (parts : List Part) → AllAre cols W (origins_of parts) (g ∷ []) → W g ≡ true → node_stored (Sort keys) (origins_of parts) ≡ true
       input [] all is = absurd all
       input (p ∷ parts) all is = all.0.stored is
 
-  layer : (node : Node) (parts : List Part) (ordered : Bool) (g n m : ℕ) → g < length (query_frame q) → (node_fits lines cols node (length (fits_of parts)) g n >>= inputs_after parts ordered n) ≡ Ok m → IsNodeOf node parts g
+  layer : (node : Node) (parts : List Part) (ordered : Bool) (g n m : ℕ) → g < length (query_frame q) → (node_fits lines cols node (length (fits_of parts)) g n >>= inputs_after node parts ordered n) ≡ Ok m → IsNodeOf node parts g
   layer (Implements line operator) = operator-is-of line operator
   layer (Sort keys) = sort-is-of keys
 
@@ -255,10 +269,10 @@ module _ (q : Query) (lines F rest : List Expr) (replays : lines_replay q [] lin
   unfolding plan_origin
   step y ordered g n m low fits =
       let z : Plan-F Plan = map-Plan Part Plan (λ p. p.0) y in
-      let here : (node_fits lines cols z.node (length z.inputs) g n >>= inputs_after y.inputs ordered n) ≡ Ok m =
-      subst (λ (w : Plan-F Plan). (node_fits lines cols w.node (length w.inputs) g n >>= λ needed. wanted_if (refusal n UnsortedAnswer) ordered needed >>= λ needed. inputs_fit (map (plan_fits lines cols) w.inputs) needed (n + 1)) ≡ Ok m)
+      let here : (node_fits lines cols z.node (length z.inputs) g n >>= inputs_after z.node y.inputs ordered n) ≡ Ok m =
+      subst (λ (w : Plan-F Plan). (node_fits lines cols w.node (length w.inputs) g n >>= after_node cols w.node (map plan_order w.inputs) (map (plan_fits lines cols) w.inputs) ordered n) ≡ Ok m)
       (out-roll-Plan z) (sym (plan_fits_out lines cols (roll-Plan z) ordered g n) ∙ fits) in
-      let node = layer y.node y.inputs ordered g n m low (subst (λ k. (node_fits lines cols z.node k g n >>= inputs_after y.inputs ordered n) ≡ Ok m) (sym (length-map z.inputs (plan_fits lines cols))) here) in
+      let node = layer y.node y.inputs ordered g n m low (subst (λ k. (node_fits lines cols z.node k g n >>= inputs_after z.node y.inputs ordered n) ≡ Ok m) (sym (length-map z.inputs (plan_fits lines cols))) here) in
       let rolled = fold-roll-Plan Origin (origin_layer q.tables) z in
       record {
         columns = (origin-is q.tables none (λ t. tt) (roll-Plan z)).columns ∙ (of_class q none lines F replays (roll-Plan z) ordered g n m fits).output.columns;

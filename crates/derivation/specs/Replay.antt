@@ -1,9 +1,10 @@
 -- When a certificate replays, and its first fault: lines go before nodes, and what stands first here goes first in a line or
 -- node. A derivation that a checker replays is this project's own idea of a certificate; what a node may compute is
 -- G. Graefe's (The Cascades framework for query optimization, 1995: implementation and enforcement).
-use Rattle.std.specs.Prelude.{◌≡◌, ℕ, ◌+◌, ◌-◌, Bool, true, false, not, ◌&&◌, ◌==◌, nat_lt, nat_le, List, [], ◌∷◌, map, length, take, slice_get, Option, Some, None, Result, Ok}
+use Rattle.std.specs.Prelude.{◌≡◌, ℕ, ◌+◌, ◌-◌, Bool, true, false, not, ◌&&◌, ◌||◌, ◌==◌, nat_lt, nat_le, List, [], ◌∷◌, map, length, take, slice_get, Option, Some, None, Result, Ok}
 use Rattle.std.specs.Coded.{coded_list}
-use Rattle.std.specs.List.{AllByRecursion}
+use Rattle.std.specs.List.{AllByRecursion, list_any}
+use Rattle.values.specs.declared.truth.Comparison.TheVariants as by
 use Rattle.values.specs.Faults.{◌>>=◌, wanted, wanted_if}
 use Rattle.schema.specs.declared.schema.Schema.{Schema}
 use Rattle.schema.specs.Databases.{Database, Satisfies}
@@ -12,23 +13,33 @@ use Rattle.query.specs.Rows.{tables_of}
 use Rattle.query.specs.Bound.{IsBoundOver}
 use Rattle.query.specs.Answer.{IsAnswer}
 use Rattle.algebra.specs.declared.expr.Expr.{Expr}
+use Rattle.algebra.specs.declared.condition.Condition.{Condition, out-Condition}
+use Rattle.algebra.specs.declared.condition.Condition.TheOpen.{Condition-F}
+use Rattle.algebra.specs.declared.condition.Term.TheVariants.{Column}
+use Rattle.algebra.specs.declared.expr.Expr.TheVariants as expr
 use Rattle.algebra.specs.declared.expr.Expr.TheVariants.{Get, Select, Join, LeftJoin, Keep, Distinct, Group}
+use Rattle.algebra.specs.Columns.{ColumnSet, has, rising}
 use Rattle.algebra.specs.ConditionEquality.{same_conditions, same_by}
 use Rattle.algebra.specs.Equality.{same_columns, same_aggregations, same_expr}
-use Rattle.algebra.specs.Expressions.{classes_pass, input_classes, is_plain, is_formed}
+use Rattle.algebra.specs.Expressions.{children, classes_pass, input_classes, is_plain, is_formed}
 use Rattle.algebra.specs.Classes.{class_columns}
 use Rattle.logical.specs.Frames.{query_frame}
 use Rattle.logical.specs.FormedFrames.{own_aggregates}
-use Rattle.physical.specs.declared.plan.JoinKind.TheVariants.{Inner, Left}
+use Rattle.physical.specs.declared.plan.Matching.{Matching}
+use Rattle.physical.specs.declared.plan.Matching.TheVariants.{Inner, Left, Semi, Anti}
+use Rattle.physical.specs.declared.plan.JoinMethod.{JoinMethod}
+use Rattle.physical.specs.declared.plan.JoinMethod.TheVariants.{NestedLoop, Hash, Merge}
+use Rattle.physical.specs.declared.plan.GroupMethod.TheVariants.{Sorted}
 use Rattle.physical.specs.declared.plan.Operator.{Operator}
-use Rattle.physical.specs.declared.plan.Operator.TheVariants.{Scan, Filter, FilterSubqueries, Projection, NestedLoopJoin, HashGroup, HashDistinct}
+use Rattle.physical.specs.declared.plan.Operator.TheVariants.{Scan, Filter, FilterSubqueries, Projection, JoinRows, GroupRows, DistinctRows}
 use Rattle.physical.specs.declared.plan.Node.{Node}
 use Rattle.physical.specs.declared.plan.Node.TheVariants.{Implements, Sort}
 use Rattle.physical.specs.declared.plan.Plan.{Plan, fold-Plan}
 use Rattle.physical.specs.declared.plan.Plan.TheOpen.{Plan-F}
 use Rattle.physical.specs.declared.plan.OrderKey.{OrderKey}
 use Rattle.physical.specs.contracts.plan.OrderKey as order_key
-use Rattle.physical.specs.Orders.{are_columns, node_order, plan_order}
+use Rattle.physical.specs.Outputs.{first_columns, second_columns}
+use Rattle.physical.specs.Orders.{are_columns, first_order, node_order, plan_order}
 use Rattle.derivation.specs.QueryOrders.{query_order}
 use Rattle.derivation.specs.QueryOrders.{answer}
 use Rattle.derivation.specs.declared.certificate.Line.{Line}
@@ -71,17 +82,48 @@ lines_replay q E (x ∷ lines) = line_replays q (length E) (class_columns q.tabl
 
 -- ---- nodes
 
--- whether an operator computes an expression from what its inputs produce
-abbrev pub implements : Operator → Expr → Bool
-implements (Scan o) (Get p) = o == p
-implements (Filter C) (Select D x) = is_plain D && same_conditions C D
-implements (FilterSubqueries C) (Select D x) = not (is_plain D) && same_conditions C D
-implements (Projection K) (Keep L x) = same_columns K L
-implements (NestedLoopJoin Inner C) (Join D a b) = same_conditions C D
-implements (NestedLoopJoin Left C) (LeftJoin D a b) = same_conditions C D
-implements (HashGroup K G) (Group L H x) = same_columns K L && same_aggregations G H
-implements HashDistinct (Distinct x) = true
-implements operator x = false
+-- a condition equates a column of the one side with one of the other
+abbrev pub equates_layer : ColumnSet → ColumnSet → Condition-F Condition → Bool
+equates_layer left right (Condition-F.Compare by.Equal (Column a) (Column b)) = left a && right b || left b && right a
+equates_layer left right c = false
+
+abbrev pub equates : ColumnSet → ColumnSet → Condition → Bool
+equates left right c = equates_layer left right (out-Condition c)
+
+-- the conjuncts of which one has to equate columns, so that a match is found by hash: a row that makes it unknown or false matches
+-- none, but for the second list of an antijoin, where it is found by hash if it stands alone
+abbrev pub hashed : Matching → List Condition
+hashed (Inner C) = C
+hashed (Left C) = C
+hashed (Semi C) = C
+hashed (Anti [] (c ∷ [])) = c ∷ []
+hashed (Anti S M) = S
+
+-- whether a join by the method finds the matches of sides with these columns
+abbrev pub finds : JoinMethod → Matching → List ℕ → List ℕ → Bool
+finds NestedLoop j left right = true
+finds Hash j left right = list_any (equates (has left) (has right)) (hashed j)
+finds (Merge a b) (Inner C) left right = has left a && has right b && list_any (equates (has (a ∷ [])) (has (b ∷ []))) C
+finds (Merge a b) j left right = false
+
+-- whether an expression is a join with this matching
+abbrev pub is_join : Matching → Expr → Bool
+is_join (Inner C) (Join D a b) = same_conditions C D
+is_join (Left C) (LeftJoin D a b) = same_conditions C D
+is_join (Semi C) (expr.Semi D a b) = same_conditions C D
+is_join (Anti S M) (expr.Anti T N a b) = same_conditions S T && same_conditions M N
+is_join j x = false
+
+-- whether an operator computes an expression over classes with these columns from what its inputs produce
+abbrev pub implements : (ℕ → List ℕ) → Operator → Expr → Bool
+implements cols (Scan o) (Get p) = o == p
+implements cols (Filter C) (Select D x) = is_plain D && same_conditions C D
+implements cols (FilterSubqueries C) (Select D x) = not (is_plain D) && same_conditions C D
+implements cols (Projection K) (Keep L x) = same_columns K L
+implements cols (JoinRows method j) x = is_join j x && finds method j (first_columns (map cols (children x))) (second_columns (map cols (children x)))
+implements cols (GroupRows method K G) (Group L H x) = same_columns K L && same_aggregations G H
+implements cols (DistinctRows method) (Distinct x) = true
+implements cols operator x = false
 
 -- a sort at number n, over so many inputs, of the class: by columns of the class, over the class itself
 abbrev pub sort_fits : (ℕ → List ℕ) → List OrderKey → ℕ → ℕ → ℕ → Result (List ℕ) CheckRefusal
@@ -98,19 +140,15 @@ abbrev pub needed_classes : Operator → Expr → List ℕ
 needed_classes operator x = input_classes x
 
 -- an operator: its line is a member of the class, it implements the line's expression, and has an input for each class that it needs
-abbrev pub operator_fits : List Expr → ℕ → Operator → ℕ → ℕ → ℕ → Result (List ℕ) CheckRefusal
-operator_fits lines line operator inputs g n =
+abbrev pub operator_fits : List Expr → (ℕ → List ℕ) → ℕ → Operator → ℕ → ℕ → ℕ → Result (List ℕ) CheckRefusal
+operator_fits lines cols line operator inputs g n =
     wanted (refusal n UnknownLine) (slice_get lines line)
-    >>= λ x. wanted_if (refusal n OtherOperator) (is_member line g && implements operator x && inputs == length (needed_classes operator x)) (needed_classes operator x)
+    >>= λ x. wanted_if (refusal n OtherOperator) (is_member line g && implements cols operator x && inputs == length (needed_classes operator x)) (needed_classes operator x)
 
 -- the classes that the node at number n needs as inputs, if it is of the class
 abbrev pub node_fits : List Expr → (ℕ → List ℕ) → Node → ℕ → ℕ → ℕ → Result (List ℕ) CheckRefusal
-node_fits lines cols (Implements line operator) inputs g n = operator_fits lines line operator inputs g n
+node_fits lines cols (Implements line operator) inputs g n = operator_fits lines cols line operator inputs g n
 node_fits lines cols (Sort keys) inputs g n = sort_fits cols keys inputs g n
-
--- the orders that a node needs of its inputs; none of these operators needs one
-abbrev pub needed_orders : Node → List (List OrderKey)
-needed_orders node = []
 
 unfoldable pub same_order : List OrderKey → List OrderKey → Bool
 same_order = same_by (coded_list order_key.the_row.coded)
@@ -119,11 +157,28 @@ same_order = same_by (coded_list order_key.the_row.coded)
 abbrev pub begins_with : List OrderKey → List OrderKey → Bool
 begins_with order wanted = same_order (take (length wanted) order) wanted
 
--- each input delivers the order that is needed of it
-abbrev pub are_sorted : List (List OrderKey) → List (List OrderKey) → Bool
-are_sorted [] orders = true
-are_sorted (needed ∷ more) [] = false
-are_sorted (needed ∷ more) (order ∷ orders) = begins_with order needed && are_sorted more orders
+-- an order begins with the column, rising
+abbrev pub rises_by : ℕ → List OrderKey → Bool
+rises_by c order = begins_with order (record { column = c; descending = false } ∷ [])
+
+-- an order begins with the columns, in whatever order of their own
+abbrev pub begins_with_all : List ℕ → List OrderKey → Bool
+begins_with_all K order = same_columns (rising (map (λ k. k.column) (take (length K) order))) K
+
+abbrev pub second_order : List (List OrderKey) → List OrderKey
+second_order [] = []
+second_order (order ∷ orders) = first_order orders
+
+-- the inputs, with these columns, deliver the orders that the operator needs
+abbrev pub are_sorted : Operator → List (List ℕ) → List (List OrderKey) → Bool
+are_sorted (JoinRows (Merge a b) j) columns orders = rises_by a (first_order orders) && rises_by b (second_order orders)
+are_sorted (GroupRows Sorted K G) columns orders = begins_with_all K (first_order orders)
+are_sorted (DistinctRows Sorted) columns orders = begins_with_all (first_columns columns) (first_order orders)
+are_sorted operator columns orders = true
+
+abbrev pub inputs_sorted : Node → List (List ℕ) → List (List OrderKey) → Bool
+inputs_sorted (Implements line operator) columns orders = are_sorted operator columns orders
+inputs_sorted (Sort keys) columns orders = true
 
 -- whether a plan is of a class, and delivers the order that is wanted (as the first argument says), its nodes being numbered
 -- from a number on; gives the number after them
@@ -149,7 +204,7 @@ fitted_layer lines cols p =
       order = node_order p.node orders;
       fits = λ ordered g n.
           node_fits lines cols p.node (length p.inputs) g n
-          >>= λ classes. wanted_if (refusal n UnsortedInput) (are_sorted (needed_orders p.node) orders) classes
+          >>= λ classes. wanted_if (refusal n UnsortedInput) (inputs_sorted p.node (map cols classes) orders) classes
           >>= λ classes. wanted_if (refusal n UnsortedAnswer) ordered classes
           >>= λ classes. inputs_fit (map (λ x. x.fits) p.inputs) classes (n + 1);
     }
