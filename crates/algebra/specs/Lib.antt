@@ -7,4 +7,5 @@ pub mod Conditions
 pub mod ConjunctOrder
 pub mod Connectives
 pub mod Equality
+pub mod Equated
 pub mod Expressions

@@ -11,6 +11,7 @@ pub mod condition;
 pub mod condition_text;
 mod conjunct_order;
 mod connectives;
+pub mod equated;
 pub mod expr;
 pub mod formed;
 mod named_classes;

@@ -1,43 +1,173 @@
 //! The nodes of a plan against the lines.
 
-ghost use Rattle.std.specs.Prelude.{◌≡◌, ◌↔◌, ◌+◌, ◌==◌, ◌∷◌, [], IfOk, IsTrue, length, map, take};
+ghost use Rattle.std.specs.Prelude.{◌≡◌, ◌↔◌, ◌+◌, ◌==◌, ◌&&◌, ◌∷◌, [], true, false, IfOk, IsTrue, MatchOption, length, map, take};
+ghost use Rattle.std.specs.List.{list_any};
 ghost use Rattle.values.specs.Faults.{Gives, wanted_if};
-ghost use Rattle.algebra.specs.Columns.{has, columns_at};
+ghost use Rattle.algebra.specs.Columns.{has, columns_at, rising};
+ghost use Rattle.algebra.specs.Equated.{equates};
+ghost use Rattle.algebra.specs.Expressions.{children};
+ghost use Rattle.physical.specs.declared.plan.JoinMethod.TheVariants.{Merge};
+ghost use Rattle.physical.specs.Orders as orders;
 ghost use Rattle.physical.specs.Orders.{are_columns};
+ghost use Rattle.physical.specs.Outputs as outputs;
+ghost use Rattle.physical.specs.Outputs.{first_columns, second_columns};
 ghost use Rattle.derivation.specs.declared.certificate.CheckReason.TheVariants.{OtherOperator};
 ghost use Rattle.derivation.specs.declared.certificate.CheckRefusal.{CheckRefusal};
 ghost use Rattle.derivation.specs.Replay as spec;
 
 use crate::replay::refused;
-use algebra::{ClassId, Columns, Expr, LineId};
+use algebra::{ClassId, Columns, Condition, Expr, LineId};
 use derivation::{CheckFault, CheckReason, Line, query_order};
-use physical::{JoinKind, Node, Operator, OrderKey, Plan, delivers};
+use physical::{GroupMethod, JoinMethod, Matching, Node, Operator, OrderKey, Plan, delivers};
 use query::{ColumnId, Query};
 use std::alloc::{AllocError, Global};
 use values::Fault;
 
-/// Whether an operator computes an expression from what its inputs produce.
-fn implements(operator: &Operator, expr: &Expr) -> bool
-    ensures { result ≡ spec.implements operator.now expr.now }
+/// The conjuncts of which one has to equate columns, so that a match is found by hash.
+fn hashed(matching: &Matching) -> &[Condition]
+    ensures { result.now ≡ spec.hashed matching.now }
+{
+    match matching {
+        Matching::Inner(conjuncts) | Matching::Left(conjuncts) | Matching::Semi(conjuncts) => {
+            conjuncts.as_slice()
+        }
+        Matching::Anti(sure, maybe) => match (sure.as_slice(), maybe.as_slice()) {
+            ([], [only]) => maybe.as_slice(),
+            (sure, _) => sure,
+        },
+    }
+}
+
+/// Whether one of the conditions equates a column of the one side with one of the other.
+fn is_equated(conditions: &[Condition], left: &Columns, right: &Columns) -> bool
+    ensures { result ≡ list_any (equates (has left.now) (has right.now)) conditions.now }
+{
+    conditions.iter().any(|c| c.equates(left, right))
+}
+
+/// Whether a merge by the columns finds the matches of sides with these columns.
+fn merges(
+    alloc: Global,
+    a: ColumnId,
+    b: ColumnId,
+    matching: &Matching,
+    left: &Columns,
+    right: &Columns,
+) -> Result<bool, AllocError>
+    ensures { IfOk result (λ r. r ≡ spec.finds (Merge a b) matching.now left.now right.now) }
+{
+    let Matching::Inner(conjuncts) = matching else {
+        return Ok(false);
+    };
+    let first = Columns::run(alloc, a, 1)?;
+    let second = Columns::run(alloc, b, 1)?;
+    Ok(left.contains(a) && right.contains(b) && is_equated(conjuncts.as_slice(), &first, &second))
+}
+
+/// Whether a join by the method finds the matches of sides with these columns.
+fn finds(
+    alloc: Global,
+    method: JoinMethod,
+    matching: &Matching,
+    left: &Columns,
+    right: &Columns,
+) -> Result<bool, AllocError>
+    ensures { IfOk result (λ r. r ≡ spec.finds method matching.now left.now right.now) }
+{
+    match method {
+        JoinMethod::NestedLoop => Ok(true),
+        JoinMethod::Hash => Ok(is_equated(hashed(matching), left, right)),
+        JoinMethod::Merge(a, b) => merges(alloc, a, b, matching, left, right),
+    }
+}
+
+/// The sides of an expression that is a join with this matching.
+fn joined_classes(matching: &Matching, expr: &Expr) -> Option<(ClassId, ClassId)>
+    ensures { MatchOption result (spec.is_join matching.now expr.now ≡ false) (λ s. (spec.is_join matching.now expr.now ≡ true) × (children expr.now ≡ s.0 ∷ s.1 ∷ [])) }
+{
+    match (matching, expr) {
+        (Matching::Inner(conjuncts), Expr::Join(own, a, b)) => if conjuncts.same(own) {
+            Some((*a, *b))
+        } else {
+            None
+        },
+        (Matching::Left(conjuncts), Expr::LeftJoin(own, a, b)) => if conjuncts.same(own) {
+            Some((*a, *b))
+        } else {
+            None
+        },
+        (Matching::Semi(conjuncts), Expr::Semi(own, a, b)) => if conjuncts.same(own) {
+            Some((*a, *b))
+        } else {
+            None
+        },
+        (Matching::Anti(sure, maybe), Expr::Anti(own, others, a, b)) => {
+            if sure.same(own) && maybe.same(others) {
+                Some((*a, *b))
+            } else {
+                None
+            }
+        }
+        _ => None,
+    }
+}
+
+/// The columns of a class; none where there is no such class.
+fn columns_of<'c>(columns: &'c [Columns], class: ClassId, none: &'c Columns) -> &'c Columns
+    requires { none.now ≡ [] }
+    ensures { result.now ≡ columns_at columns.now class }
+{
+    match columns.get(class as usize) {
+        Some(own) => own,
+        None => none,
+    }
+}
+
+/// Whether a join computes an expression over classes with these columns from what its inputs produce.
+fn join_implements(
+    alloc: Global,
+    columns: &[Columns],
+    method: JoinMethod,
+    matching: &Matching,
+    expr: &Expr,
+) -> Result<bool, AllocError>
+    ensures { IfOk result (λ r. r ≡ (spec.is_join matching.now expr.now && spec.finds method matching.now (first_columns (map (columns_at columns.now) (children expr.now))) (second_columns (map (columns_at columns.now) (children expr.now))))) }
+{
+    let Some((a, b)) = joined_classes(matching, expr) else {
+        return Ok(false);
+    };
+    let none = Columns::from_vec(Vec::new(alloc));
+    let left = columns_of(columns, a, &none);
+    let right = columns_of(columns, b, &none);
+    finds(alloc, method, matching, left, right)
+}
+
+/// Whether an operator computes an expression over classes with these columns from what its inputs produce.
+fn implements(
+    alloc: Global,
+    columns: &[Columns],
+    operator: &Operator,
+    expr: &Expr,
+) -> Result<bool, AllocError>
+    ensures { IfOk result (λ r. r ≡ spec.implements (columns_at columns.now) operator.now expr.now) }
 {
     match (operator, expr) {
-        (Operator::Scan { occurrence }, Expr::Get(own)) => *occurrence == *own,
-        (Operator::Filter { conjuncts }, Expr::Select(own, _)) => own.is_plain()
-            && conjuncts.same(own),
-        (Operator::FilterSubqueries { conjuncts }, Expr::Select(own, _)) => !own.is_plain()
-            && conjuncts.same(own),
-        (Operator::Projection { columns }, Expr::Keep(own, _)) => columns.same(own),
-        (Operator::NestedLoopJoin { kind, conjuncts }, Expr::Join(own, _, _)) => {
-            *kind == JoinKind::Inner && conjuncts.same(own)
+        (Operator::Scan { occurrence }, Expr::Get(own)) => Ok(*occurrence == *own),
+        (Operator::Filter { conjuncts }, Expr::Select(own, _)) => Ok(
+            own.is_plain() && conjuncts.same(own),
+        ),
+        (Operator::FilterSubqueries { conjuncts }, Expr::Select(own, _)) => Ok(
+            !own.is_plain() && conjuncts.same(own),
+        ),
+        (Operator::Projection { columns }, Expr::Keep(own, _)) => Ok(columns.same(own)),
+        (Operator::JoinRows { method, matching }, _) => {
+            join_implements(alloc, columns, *method, matching, expr)
         }
-        (Operator::NestedLoopJoin { kind, conjuncts }, Expr::LeftJoin(own, _, _)) => {
-            *kind == JoinKind::Left && conjuncts.same(own)
-        }
-        (Operator::HashGroup { keys, added }, Expr::Group(own, others, _)) => {
-            keys.same(own) && added.same(others)
-        }
-        (Operator::HashDistinct, Expr::Distinct(_)) => true,
-        _ => false,
+        (Operator::GroupRows { keys, added, .. }, Expr::Group(own, others, _)) => Ok(
+            keys.same(own) && added.same(others),
+        ),
+        (Operator::DistinctRows { .. }, Expr::Distinct(_)) => Ok(true),
+        _ => Ok(false),
     }
 }
 
@@ -105,20 +235,21 @@ fn is_member(line: LineId, class: ClassId) -> bool
 fn operator_fits(
     alloc: Global,
     lines: &[Line],
+    columns: &[Columns],
     line: LineId,
     operator: &Operator,
     inputs: usize,
     class: ClassId,
     number: usize,
 ) -> Result<Vec<ClassId>, CheckFault>
-    ensures classes { Gives (λ classes. classes.items) result (spec.operator_fits (map spec.founding lines.now) line operator.now inputs class number) }
+    ensures classes { Gives (λ classes. classes.items) result (spec.operator_fits (map spec.founding lines.now) (columns_at columns.now) line operator.now inputs class number) }
     ensures count { IfOk result (λ classes. length classes.items ≡ inputs) }
 {
     let expr = match lines.get(line as usize) {
         Some(line) => line.founding(),
         None => return Err(refused(number, CheckReason::UnknownLine)),
     };
-    if !is_member(line, class) || !implements(operator, expr) {
+    if !is_member(line, class) || !implements(alloc, columns, operator, expr)? {
         return Err(refused(number, CheckReason::OtherOperator));
     }
     let classes = expr.inputs(alloc)?;
@@ -144,7 +275,7 @@ fn node_fits(
 {
     match node {
         Node::Implements { line, operator } => {
-            operator_fits(alloc, lines, *line, operator, inputs, class, number)
+            operator_fits(alloc, lines, columns, *line, operator, inputs, class, number)
         }
         Node::Sort { keys } => sort_fits(alloc, columns, keys.as_slice(), inputs, class, number),
     }
@@ -192,6 +323,146 @@ fn are_same(keys: &[OrderKey], others: &[OrderKey]) -> bool
     true
 }
 
+/// Whether an order begins with the column, rising.
+fn rises_by(order: &[OrderKey], column: ColumnId) -> bool
+    ensures { result ≡ spec.rises_by column order.now }
+{
+    begins_with(
+        order,
+        &[
+            OrderKey {
+                column,
+                descending: false,
+            },
+        ],
+    )
+}
+
+/// The first keys, so many, or all where there are fewer.
+fn front_of(order: &[OrderKey], count: usize) -> &[OrderKey]
+    ensures { result.now ≡ take count order.now }
+{
+    if count < order.len() {
+        &order[..count]
+    } else {
+        order
+    }
+}
+
+/// The set of the columns of keys.
+fn key_columns(alloc: Global, keys: &[OrderKey]) -> Result<Columns, AllocError>
+    ensures { IfOk result (λ columns. columns ≡ rising (map (λ k. k.column) keys.now)) }
+{
+    let mut columns = Vec::new(alloc);
+    for key in keys {
+        columns.push(key.column)?;
+    }
+    Ok(Columns::from_vec(columns))
+}
+
+/// Whether an order begins with the columns, in whatever order of their own.
+fn begins_with_all(
+    alloc: Global,
+    order: &[OrderKey],
+    columns: &Columns,
+) -> Result<bool, AllocError>
+    ensures { IfOk result (λ r. r ≡ spec.begins_with_all columns.now order.now) }
+{
+    let front = front_of(order, columns.as_slice().len());
+    let first = key_columns(alloc, front)?;
+    Ok(first.same(columns))
+}
+
+/// The order that the first of some plans delivers.
+fn first_order(alloc: Global, plans: &[Plan]) -> Result<Vec<OrderKey>, AllocError>
+    ensures { IfOk result (λ order. order.items ≡ orders.first_order (map orders.plan_order plans.now)) }
+{
+    match plans {
+        [] => Ok(Vec::new(alloc)),
+        [first, ..] => delivers(alloc, first),
+    }
+}
+
+/// The order that the second of some plans delivers.
+fn second_order(alloc: Global, plans: &[Plan]) -> Result<Vec<OrderKey>, AllocError>
+    ensures { IfOk result (λ order. order.items ≡ spec.second_order (map orders.plan_order plans.now)) }
+{
+    match plans {
+        [] => Ok(Vec::new(alloc)),
+        [_, rest @ ..] => first_order(alloc, rest),
+    }
+}
+
+/// The columns of the first of some classes; none where there is none.
+fn first_class_columns<'c>(
+    columns: &'c [Columns],
+    classes: &[ClassId],
+    none: &'c Columns,
+) -> &'c Columns
+    requires { none.now ≡ [] }
+    ensures { result.now ≡ outputs.first_columns (map (columns_at columns.now) classes.now) }
+{
+    match classes {
+        [] => none,
+        [first, ..] => columns_of(columns, *first, none),
+    }
+}
+
+/// Whether the inputs, of these classes, deliver the orders that the operator needs.
+fn are_sorted(
+    alloc: Global,
+    columns: &[Columns],
+    operator: &Operator,
+    classes: &[ClassId],
+    inputs: &[Plan],
+) -> Result<bool, AllocError>
+    ensures { IfOk result (λ r. r ≡ spec.are_sorted operator.now (map (columns_at columns.now) classes.now) (map orders.plan_order inputs.now)) }
+{
+    match operator {
+        Operator::JoinRows { method, .. } => match method {
+            JoinMethod::Merge(a, b) => {
+                let first = first_order(alloc, inputs)?;
+                let second = second_order(alloc, inputs)?;
+                Ok(rises_by(first.as_slice(), *a) && rises_by(second.as_slice(), *b))
+            }
+            _ => Ok(true),
+        },
+        Operator::GroupRows { method, keys, .. } => match method {
+            GroupMethod::Sorted => {
+                let first = first_order(alloc, inputs)?;
+                begins_with_all(alloc, first.as_slice(), keys)
+            }
+            GroupMethod::Hash => Ok(true),
+        },
+        Operator::DistinctRows { method } => match method {
+            GroupMethod::Sorted => {
+                let first = first_order(alloc, inputs)?;
+                let none = Columns::from_vec(Vec::new(alloc));
+                let own = first_class_columns(columns, classes, &none);
+                begins_with_all(alloc, first.as_slice(), own)
+            }
+            GroupMethod::Hash => Ok(true),
+        },
+        _ => Ok(true),
+    }
+}
+
+/// Whether the inputs, of these classes, deliver the orders that the node needs.
+fn inputs_sorted(
+    alloc: Global,
+    columns: &[Columns],
+    node: &Node,
+    classes: &[ClassId],
+    inputs: &[Plan],
+) -> Result<bool, AllocError>
+    ensures { IfOk result (λ r. r ≡ spec.inputs_sorted node.now (map (columns_at columns.now) classes.now) (map orders.plan_order inputs.now)) }
+{
+    match node {
+        Node::Implements { operator, .. } => are_sorted(alloc, columns, operator, classes, inputs),
+        Node::Sort { .. } => Ok(true),
+    }
+}
+
 /// Checks that the plan is of the class, its nodes being numbered from a number on, and that it is ordered as is wanted.
 /// Gives the number after them.
 #[cycle(fits)]
@@ -217,7 +488,9 @@ pub fn plan_fits(
         class,
         number,
     )?;
-    // None of these operators needs an order of its inputs.
+    if !inputs_sorted(alloc, columns, &plan.node, classes.as_slice(), inputs)? {
+        return Err(refused(number, CheckReason::UnsortedInput));
+    }
     if !ordered {
         return Err(refused(number, CheckReason::UnsortedAnswer));
     }

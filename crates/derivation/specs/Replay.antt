@@ -1,10 +1,9 @@
 -- When a certificate replays, and its first fault: lines go before nodes, and what stands first here goes first in a line or
 -- node. A derivation that a checker replays is this project's own idea of a certificate; what a node may compute is
 -- G. Graefe's (The Cascades framework for query optimization, 1995: implementation and enforcement).
-use Rattle.std.specs.Prelude.{◌≡◌, ℕ, ◌+◌, ◌-◌, Bool, true, false, not, ◌&&◌, ◌||◌, ◌==◌, nat_lt, nat_le, List, [], ◌∷◌, map, length, take, slice_get, Option, Some, None, Result, Ok}
+use Rattle.std.specs.Prelude.{◌≡◌, ℕ, ◌+◌, ◌-◌, Bool, true, false, not, ◌&&◌, ◌==◌, nat_lt, nat_le, List, [], ◌∷◌, map, length, take, slice_get, Option, Some, None, Result, Ok}
 use Rattle.std.specs.Coded.{coded_list}
 use Rattle.std.specs.List.{AllByRecursion, list_any}
-use Rattle.values.specs.declared.truth.Comparison.TheVariants as by
 use Rattle.values.specs.Faults.{◌>>=◌, wanted, wanted_if}
 use Rattle.schema.specs.declared.schema.Schema.{Schema}
 use Rattle.schema.specs.Databases.{Database, Satisfies}
@@ -13,12 +12,11 @@ use Rattle.query.specs.Rows.{tables_of}
 use Rattle.query.specs.Bound.{IsBoundOver}
 use Rattle.query.specs.Answer.{IsAnswer}
 use Rattle.algebra.specs.declared.expr.Expr.{Expr}
-use Rattle.algebra.specs.declared.condition.Condition.{Condition, out-Condition}
-use Rattle.algebra.specs.declared.condition.Condition.TheOpen.{Condition-F}
-use Rattle.algebra.specs.declared.condition.Term.TheVariants.{Column}
+use Rattle.algebra.specs.declared.condition.Condition.{Condition}
 use Rattle.algebra.specs.declared.expr.Expr.TheVariants as expr
 use Rattle.algebra.specs.declared.expr.Expr.TheVariants.{Get, Select, Join, LeftJoin, Keep, Distinct, Group}
-use Rattle.algebra.specs.Columns.{ColumnSet, has, rising}
+use Rattle.algebra.specs.Columns.{has, rising}
+use Rattle.algebra.specs.Equated.{equates}
 use Rattle.algebra.specs.ConditionEquality.{same_conditions, same_by}
 use Rattle.algebra.specs.Equality.{same_columns, same_aggregations, same_expr}
 use Rattle.algebra.specs.Expressions.{children, classes_pass, input_classes, is_plain, is_formed}
@@ -81,14 +79,6 @@ lines_replay q E [] = wanted_if (refusal (length E) OtherLine) (nat_le (length (
 lines_replay q E (x ∷ lines) = line_replays q (length E) (class_columns q.tables E) x >>= λ x. lines_replay q (x ∷ E) lines
 
 -- ---- nodes
-
--- a condition equates a column of the one side with one of the other
-abbrev pub equates_layer : ColumnSet → ColumnSet → Condition-F Condition → Bool
-equates_layer left right (Condition-F.Compare by.Equal (Column a) (Column b)) = left a && right b || left b && right a
-equates_layer left right c = false
-
-abbrev pub equates : ColumnSet → ColumnSet → Condition → Bool
-equates left right c = equates_layer left right (out-Condition c)
 
 -- the conjuncts of which one has to equate columns, so that a match is found by hash: a row that makes it unknown or false matches
 -- none, but for the second list of an antijoin, where it is found by hash if it stands alone
