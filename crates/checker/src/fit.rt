@@ -275,7 +275,9 @@ fn node_fits(
 {
     match node {
         Node::Implements { line, operator } => {
-            operator_fits(alloc, lines, columns, *line, operator, inputs, class, number)
+            operator_fits(
+                alloc, lines, columns, *line, operator, inputs, class, number,
+            )
         }
         Node::Sort { keys } => sort_fits(alloc, columns, keys.as_slice(), inputs, class, number),
     }
@@ -329,12 +331,10 @@ fn rises_by(order: &[OrderKey], column: ColumnId) -> bool
 {
     begins_with(
         order,
-        &[
-            OrderKey {
-                column,
-                descending: false,
-            },
-        ],
+        &[OrderKey {
+            column,
+            descending: false,
+        }],
     )
 }
 
@@ -361,11 +361,7 @@ fn key_columns(alloc: Global, keys: &[OrderKey]) -> Result<Columns, AllocError>
 }
 
 /// Whether an order begins with the columns, in whatever order of their own.
-fn begins_with_all(
-    alloc: Global,
-    order: &[OrderKey],
-    columns: &Columns,
-) -> Result<bool, AllocError>
+fn begins_with_all(alloc: Global, order: &[OrderKey], columns: &Columns) -> Result<bool, AllocError>
     ensures { IfOk result (λ r. r ≡ spec.begins_with_all columns.now order.now) }
 {
     let front = front_of(order, columns.as_slice().len());

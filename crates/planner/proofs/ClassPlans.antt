@@ -7,13 +7,18 @@ use Rattle.values.proofs.Lists.{passes_at}
 use Rattle.algebra.specs.declared.expr.Expr.{Expr}
 use Rattle.algebra.specs.Expressions.{input_classes}
 use Rattle.algebra.proofs.NamedClasses.{inputs-pass}
+use Rattle.physical.specs.declared.plan.JoinMethod.TheVariants.{NestedLoop, Hash, Merge}
+use Rattle.physical.specs.declared.plan.GroupMethod.TheVariants as by
+use Rattle.physical.specs.declared.plan.OrderKey.{OrderKey}
+use Rattle.physical.specs.Orders.{plan_order}
 use Rattle.physical.specs.declared.plan.Operator.{Operator}
+use Rattle.physical.specs.declared.plan.Operator.TheVariants.{Scan, Filter, FilterSubqueries, Projection, JoinRows, GroupRows, DistinctRows}
 use Rattle.physical.specs.declared.plan.Node.{Node}
 use Rattle.physical.specs.declared.plan.Node.TheVariants.{Implements}
 use Rattle.physical.specs.declared.plan.Plan.{Plan, roll-Plan, out-roll-Plan, fold-roll-Plan}
-use Rattle.derivation.specs.Replay.{implements, node_fits, inputs_fit, plan_fits}
+use Rattle.derivation.specs.Replay.{implements, are_sorted, node_fits, inputs_fit, plan_fits}
 use Rattle.derivation.proofs.Fits.{plan_fits_out}
-use Rattle.planner.specs.Canonical.{is_sort, unsorted_layer, is_unsorted, NameEarlier, IsPlanOf}
+use Rattle.planner.specs.Canonical.{is_basic, is_basic_node, basic_layer, is_basic_plan, IsBasicOf, NameEarlier, IsPlanOf}
 
 -- a plan by its node and inputs
 abbrev pub over : Node → List Plan → Plan
@@ -39,11 +44,11 @@ module _ (lines : List Expr) where
   as-many (h ∷ classes) [] all = absurd all
   as-many (h ∷ classes) (x ∷ plans) all = ap suc (as-many classes plans all.1)
 
-  all-unsorted : (classes : List ℕ) (plans : List Plan) → ArePlansOf classes plans → list_all (λ b. b) (map is_unsorted plans) ≡ true
-  all-unsorted [] [] all = refl
-  all-unsorted [] (x ∷ plans) all = absurd all
-  all-unsorted (h ∷ classes) [] all = absurd all
-  all-unsorted (h ∷ classes) (x ∷ plans) all = and_from _ _ all.0.unsorted (all-unsorted classes plans all.1)
+  all-basic : (classes : List ℕ) (plans : List Plan) → ArePlansOf classes plans → list_all (λ b. b) (map is_basic_plan plans) ≡ true
+  all-basic [] [] all = refl
+  all-basic [] (x ∷ plans) all = absurd all
+  all-basic (h ∷ classes) [] all = absurd all
+  all-basic (h ∷ classes) (x ∷ plans) all = and_from _ _ all.0.basic (all-basic classes plans all.1)
 
   all-fit : (cols : ℕ → List ℕ) (classes : List ℕ) (plans : List Plan) → ArePlansOf classes plans → (n : ℕ) → (m : ℕ) × (inputs_fit (map (plan_fits lines cols) plans) classes n ≡ Ok m)
   all-fit cols [] [] all n = (n, refl)
@@ -54,24 +59,38 @@ module _ (lines : List Expr) where
       let rest = all-fit cols classes plans all.1 first.0 in
       (rest.0, ap (λ r. r >>= (λ m. inputs_fit (map (plan_fits lines cols) plans) classes m)) first.1 ∙ rest.1)
 
-  node-fits : (cols : ℕ → List ℕ) (g : ℕ) (x : Expr) (operator : Operator) (n : ℕ) → slice_get lines g ≡ Some x → implements operator x ≡ true
+  node-fits : (cols : ℕ → List ℕ) (g : ℕ) (x : Expr) (operator : Operator) (n : ℕ) → slice_get lines g ≡ Some x → implements cols operator x ≡ true
       → node_fits lines cols (Implements g operator) (length (input_classes x)) g n ≡ Ok (input_classes x)
   node-fits cols g x operator n at is = rw (at, eq-eqb g g refl, is, eq-eqb (length (input_classes x)) (length (input_classes x)) refl) refl
 
-  over-unsorted : (node : Node) (inputs : List Plan) → is_sort node ≡ false → list_all (λ b. b) (map is_unsorted inputs) ≡ true → is_unsorted (over node inputs) ≡ true
-  unfolding is_unsorted
-  over-unsorted node inputs none all = fold-roll-Plan Bool unsorted_layer (record { node = node; inputs = inputs }) ∙ and_from _ _ (ap not none) all
+  over-basic : (node : Node) (inputs : List Plan) → is_basic_node node ≡ true → list_all (λ b. b) (map is_basic_plan inputs) ≡ true → is_basic_plan (over node inputs) ≡ true
+  unfolding is_basic_plan
+  over-basic node inputs is all = fold-roll-Plan Bool basic_layer (record { node = node; inputs = inputs }) ∙ and_from _ _ is all
 
-  -- an operator that implements the class's line, over plans of the classes that the line names
-  pub plan_of_class : (g : ℕ) (x : Expr) (operator : Operator) (inputs : List Plan) → slice_get lines g ≡ Some x → implements operator x ≡ true → ArePlansOf (input_classes x) inputs
+  -- a basic operator needs no order of its inputs
+  basic-sorted : (operator : Operator) → is_basic operator ≡ true → (columns : List (List ℕ)) (orders : List (List OrderKey)) → are_sorted operator columns orders ≡ true
+  basic-sorted (Scan o) is columns orders = refl
+  basic-sorted (Filter C) is columns orders = refl
+  basic-sorted (FilterSubqueries C) is columns orders = refl
+  basic-sorted (Projection K) is columns orders = refl
+  basic-sorted (JoinRows NestedLoop j) is columns orders = refl
+  basic-sorted (JoinRows Hash j) is columns orders = cc
+  basic-sorted (JoinRows (Merge a b) j) is columns orders = cc
+  basic-sorted (GroupRows by.Hash K G) is columns orders = refl
+  basic-sorted (GroupRows by.Sorted K G) is columns orders = cc
+  basic-sorted (DistinctRows by.Hash) is columns orders = refl
+  basic-sorted (DistinctRows by.Sorted) is columns orders = cc
+
+  -- a basic operator that computes the class's line, over plans of the classes that the line names
+  pub plan_of_class : (g : ℕ) (x : Expr) (operator : Operator) (inputs : List Plan) → slice_get lines g ≡ Some x → IsBasicOf x operator → ArePlansOf (input_classes x) inputs
       → IsPlanOf lines g (over (Implements g operator) inputs)
   plan_of_class g x operator inputs at is all = record {
-    unsorted = over-unsorted (Implements g operator) inputs refl (all-unsorted (input_classes x) inputs all);
+    basic = over-basic (Implements g operator) inputs is.basic (all-basic (input_classes x) inputs all);
     fits = λ cols n.
         let rest = all-fit cols (input_classes x) inputs all (n + 1) in (
           rest.0,
           plan_fits_out lines cols (over (Implements g operator) inputs) true g n
-              ∙ rw (out-roll-Plan (record { node = Implements g operator; inputs = inputs }), as-many (input_classes x) inputs all, node-fits cols g x operator n at is) rest.1,
+              ∙ rw (out-roll-Plan (record { node = Implements g operator; inputs = inputs }), as-many (input_classes x) inputs all, node-fits cols g x operator n at (is.implemented cols), basic-sorted operator is.basic (map cols (input_classes x)) (map plan_order inputs)) rest.1,
         );
   }
 

@@ -6,6 +6,7 @@ use Rattle.values.specs.Faults.{◌>>=◌, wanted, wanted_if}
 use Rattle.values.proofs.Results.{both_ok, wanted_if_ok}
 use Rattle.query.specs.declared.query.Query.{Query}
 use Rattle.algebra.specs.declared.expr.Expr.{Expr}
+use Rattle.algebra.specs.declared.expr.Expr.TheVariants as expr
 use Rattle.algebra.specs.declared.expr.Expr.TheVariants.{Get, Select, Join, LeftJoin, Keep, Distinct, Group}
 use Rattle.algebra.specs.Columns.{has}
 use Rattle.algebra.specs.ConditionEquality.{same_conditions}
@@ -14,10 +15,14 @@ use Rattle.algebra.specs.Expressions.{input_classes, is_plain}
 use Rattle.algebra.specs.Classes.{class_columns}
 use Rattle.logical.specs.Frames.{query_frame}
 use Rattle.algebra.proofs.Same.{equal_conditions, equal_columns, equal_aggregations}
-use Rattle.physical.specs.declared.plan.JoinKind.TheVariants.{Inner, Left}
+use Rattle.physical.specs.declared.plan.Matching.{Matching}
+use Rattle.physical.specs.declared.plan.Matching.TheVariants.{Inner, Left, Semi, Anti}
+use Rattle.physical.specs.declared.plan.JoinMethod.TheVariants.{NestedLoop}
+use Rattle.physical.specs.declared.plan.GroupMethod.TheVariants.{Hash}
+use Rattle.physical.specs.Orders.{plan_order}
 use Rattle.physical.specs.declared.plan.OrderKey.{OrderKey}
 use Rattle.physical.specs.declared.plan.Operator.{Operator}
-use Rattle.physical.specs.declared.plan.Operator.TheVariants.{Scan, Filter, FilterSubqueries, Projection, NestedLoopJoin, HashGroup, HashDistinct}
+use Rattle.physical.specs.declared.plan.Operator.TheVariants.{Scan, Filter, FilterSubqueries, Projection, JoinRows, GroupRows, DistinctRows}
 use Rattle.physical.specs.declared.plan.Node.{Node}
 use Rattle.physical.specs.declared.plan.Node.TheVariants.{Implements, Sort}
 use Rattle.physical.specs.declared.plan.Plan.{Plan, roll-Plan, out-Plan, out-roll-Plan, roll-out-Plan, fold_out-Plan, ind-Plan, map-Plan}
@@ -28,46 +33,57 @@ use Rattle.derivation.specs.declared.certificate.Certificate.{Certificate}
 use Rattle.derivation.specs.declared.certificate.CheckRefusal.{CheckRefusal}
 use Rattle.derivation.specs.declared.certificate.CheckReason.TheVariants.{UnknownLine, IllFormed, OtherOperator, UnsortedAnswer}
 use Rattle.derivation.specs.Replay.{refusal, founding, implements, sort_fits, operator_fits, node_fits, inputs_fit, plan_fits, lines_replay, is_delivered, root, replayed}
-use Rattle.derivation.proofs.Fits.{plan_fits_out, operator-is}
-use Rattle.planner.specs.Canonical.{is_sort, unsorted_layer, is_unsorted, top, IsCanonical, IsOnlyCanonical}
+use Rattle.derivation.proofs.Fits.{after_node, after-is, plan_fits_out, operator-is}
+use Rattle.planner.specs.Canonical.{is_basic, is_basic_node, basic_layer, is_basic_plan, top, IsCanonical, IsOnlyCanonical}
 use Rattle.planner.proofs.Accepted.{founding_lines}
 
 -- ---- one operator implements an expression
 
--- the operator of an expression; frames have no semijoin and no antijoin
+-- the basic operator of an expression
 abbrev operator_for : Expr → Operator
 operator_for (Get o) = Scan o
 operator_for (Select C x) = if is_plain C then Filter C else FilterSubqueries C
-operator_for (Join C a b) = NestedLoopJoin Inner C
-operator_for (LeftJoin C a b) = NestedLoopJoin Left C
+operator_for (Join C a b) = JoinRows NestedLoop (Inner C)
+operator_for (LeftJoin C a b) = JoinRows NestedLoop (Left C)
+operator_for (expr.Semi C a b) = JoinRows NestedLoop (Semi C)
+operator_for (expr.Anti S M a b) = JoinRows NestedLoop (Anti S M)
 operator_for (Keep K x) = Projection K
-operator_for (Group K G x) = HashGroup K G
-operator_for x = HashDistinct
+operator_for (Group K G x) = GroupRows Hash K G
+operator_for (Distinct x) = DistinctRows Hash
 
-one-operator : (operator : Operator) (x : Expr) → implements operator x ≡ true → operator ≡ operator_for x
-one-operator (Scan o) (Get p) h = rw (eqb-true o p h) refl
-one-operator (Filter C) (Select D x) h = let parts = and_parts (is_plain D) (same_conditions C D) h in rw (equal_conditions C D parts.1, parts.0) refl
-one-operator (FilterSubqueries C) (Select D x) h =
+one-join : (cols : ℕ → List ℕ) (j : Matching) (x : Expr) → implements cols (JoinRows NestedLoop j) x ≡ true → JoinRows NestedLoop j ≡ operator_for x
+one-join cols (Inner C) (Join D a b) h = rw (equal_conditions C D (and_parts _ _ h).0) refl
+one-join cols (Left C) (LeftJoin D a b) h = rw (equal_conditions C D (and_parts _ _ h).0) refl
+one-join cols (Semi C) (expr.Semi D a b) h = rw (equal_conditions C D (and_parts _ _ h).0) refl
+one-join cols (Anti S M) (expr.Anti T N a b) h =
+    let parts = and_parts (same_conditions S T) (same_conditions M N) (and_parts _ _ h).0 in
+    rw (equal_conditions S T parts.0, equal_conditions M N parts.1) refl
+one-join cols j x h = cc
+
+one-operator : (cols : ℕ → List ℕ) (operator : Operator) (x : Expr) → is_basic operator ≡ true → implements cols operator x ≡ true → operator ≡ operator_for x
+one-operator cols (Scan o) (Get p) basic h = rw (eqb-true o p h) refl
+one-operator cols (Filter C) (Select D x) basic h = let parts = and_parts (is_plain D) (same_conditions C D) h in rw (equal_conditions C D parts.1, parts.0) refl
+one-operator cols (FilterSubqueries C) (Select D x) basic h =
     let parts = and_parts (not (is_plain D)) (same_conditions C D) h in
     rw (equal_conditions C D parts.1, not-true (is_plain D) parts.0) refl
-one-operator (Projection K) (Keep L x) h = rw (equal_columns K L h) refl
-one-operator (NestedLoopJoin Inner C) (Join D a b) h = rw (equal_conditions C D h) refl
-one-operator (NestedLoopJoin Left C) (LeftJoin D a b) h = rw (equal_conditions C D h) refl
-one-operator (HashGroup K G) (Group L H x) h =
+one-operator cols (Projection K) (Keep L x) basic h = rw (equal_columns K L h) refl
+one-operator cols (JoinRows NestedLoop j) x basic h = one-join cols j x h
+one-operator cols (GroupRows Hash K G) (Group L H x) basic h =
     let parts = and_parts (same_columns K L) (same_aggregations G H) h in
     rw (equal_columns K L parts.0, equal_aggregations G H parts.1) refl
-one-operator HashDistinct (Distinct x) h = refl
-one-operator operator x h = cc
+one-operator cols (DistinctRows Hash) (Distinct x) basic h = refl
+one-operator cols operator x basic h = cc
 
 -- each node but a sort has a line and an operator
 record IsOperator (node : Node) : Type 0 where
   line : ℕ
   operator : Operator
   is : node ≡ Implements line operator
+  basic : is_basic operator ≡ true
 
-operator-there : (node : Node) → is_sort node ≡ false → IsOperator node
-operator-there (Implements line operator) none = record { line = line; operator = operator; is = refl }
-operator-there (Sort keys) none = cc
+operator-there : (node : Node) → is_basic_node node ≡ true → IsOperator node
+operator-there (Implements line operator) basic = record { line = line; operator = operator; is = refl; basic = basic }
+operator-there (Sort keys) basic = cc
 
 -- ---- one plan without a sort is of a class
 
@@ -101,50 +117,46 @@ module _ (lines : List Expr) where
     is : node ≡ Implements g (operator_for expr)
     all : AllFit (input_classes expr) inputs
 
-  line-is : (l : ℕ) (operator : Operator) (k g n : ℕ) (needed : List ℕ) → operator_fits lines l operator k g n ≡ Ok needed → l ≡ g
-  line-is l operator k g n needed e =
-      let test : Expr → Bool = λ x. l == g && implements operator x && k == length (input_classes x) in
+  line-is : (cols : ℕ → List ℕ) (l : ℕ) (operator : Operator) (k g n : ℕ) (needed : List ℕ) → operator_fits lines cols l operator k g n ≡ Ok needed → l ≡ g
+  line-is cols l operator k g n needed e =
+      let test : Expr → Bool = λ x. l == g && implements cols operator x && k == length (input_classes x) in
       let steps = both_ok (wanted (refusal n UnknownLine) (slice_get lines l)) (λ x. wanted_if (refusal n OtherOperator) (test x) (input_classes x)) needed e in
       let tests = wanted_if_ok (refusal n OtherOperator) (test steps.0) (input_classes steps.0) needed steps.2 in
       eqb-true l g (and_parts _ _ (and_parts _ _ tests.0).0).0
 
   -- what is left of a plan that fits behind its node
   abbrev rest : (ℕ → List ℕ) → Plan → Bool → ℕ → List ℕ → Result ℕ CheckRefusal
-  rest cols p ordered n classes = wanted_if (refusal n UnsortedAnswer) ordered classes >>= λ classes. inputs_fit (map (plan_fits lines cols) (out-Plan p).inputs) classes (n + 1)
+  rest cols p = after_node cols (out-Plan p).node (map plan_order (out-Plan p).inputs) (map (plan_fits lines cols) (out-Plan p).inputs)
 
   inputs-are : (cols : ℕ → List ℕ) (p : Plan) (ordered : Bool) (n m : ℕ) (needed : List ℕ) → length (out-Plan p).inputs ≡ length needed → rest cols p ordered n needed ≡ Ok m → AllFit needed (out-Plan p).inputs
   inputs-are cols p ordered n m needed count e =
-      let steps = both_ok (wanted_if (refusal n UnsortedAnswer) ordered needed) (λ classes. inputs_fit (map (plan_fits lines cols) (out-Plan p).inputs) classes (n + 1)) m e in
-      let same = wanted_if_ok (refusal n UnsortedAnswer) ordered needed steps.0 steps.1 in
-      all-fit cols needed (out-Plan p).inputs (n + 1) m count (ap (λ classes. inputs_fit (map (plan_fits lines cols) (out-Plan p).inputs) classes (n + 1)) same.1 ∙ steps.2)
+      all-fit cols needed (out-Plan p).inputs (n + 1) m count (after-is cols (out-Plan p).node (map plan_order (out-Plan p).inputs) (map (plan_fits lines cols) (out-Plan p).inputs) ordered n m needed e).inputs
 
-  node-is : (p : Plan) (g : ℕ) → is_sort (out-Plan p).node ≡ false → Fits g p → FitsNode g (out-Plan p).node (out-Plan p).inputs
-  node-is p g none f =
+  node-is : (p : Plan) (g : ℕ) → is_basic_node (out-Plan p).node ≡ true → Fits g p → FitsNode g (out-Plan p).node (out-Plan p).inputs
+  node-is p g basic f =
       let node : Node = (out-Plan p).node in
       let k : ℕ = length (out-Plan p).inputs in
       let n : ℕ = f.number in
       let steps = both_ok (node_fits lines f.cols node k g n) (rest f.cols p f.ordered n) f.after (sym (plan_fits_out lines f.cols p f.ordered g n) ∙ f.fits) in
-      let there = operator-there node none in
-      let fits : operator_fits lines there.line there.operator k g n ≡ Ok steps.0 = sym (ap (λ node. node_fits lines f.cols node k g n) there.is) ∙ steps.1 in
-      let found = operator-is lines there.line there.operator k g n steps.0 fits in
+      let there = operator-there node basic in
+      let fits : operator_fits lines f.cols there.line there.operator k g n ≡ Ok steps.0 = sym (ap (λ node. node_fits lines f.cols node k g n) there.is) ∙ steps.1 in
+      let found = operator-is lines f.cols there.line there.operator k g n steps.0 fits in
       record {
         expr = found.expr;
         at = found.at;
-        is = there.is ∙ two (line-is there.line there.operator k g n steps.0 fits) (one-operator there.operator found.expr found.implemented);
+        is = there.is ∙ two (line-is f.cols there.line there.operator k g n steps.0 fits) (one-operator f.cols there.operator found.expr there.basic found.implemented);
         all = subst (λ L. AllFit L (out-Plan p).inputs) (sym found.needs) (inputs-are f.cols p f.ordered n f.after steps.0 found.count steps.2);
       }
     where
       two : {l m : ℕ} {a b : Operator} → l ≡ m → a ≡ b → Implements l a ≡ Implements m b
       two e f = rw (e, f) refl
 
-  unsorted-out : (p : Plan) → is_unsorted p ≡ true → (is_sort (out-Plan p).node ≡ false) × (list_all (λ b. b) (map is_unsorted (out-Plan p).inputs) ≡ true)
-  unfolding is_unsorted
-  unsorted-out p none =
-      let parts = and_parts _ _ (sym (fold_out-Plan Bool unsorted_layer p) ∙ none) in
-      (not-true (is_sort (out-Plan p).node) parts.0, parts.1)
+  basic-out : (p : Plan) → is_basic_plan p ≡ true → (is_basic_node (out-Plan p).node ≡ true) × (list_all (λ b. b) (map is_basic_plan (out-Plan p).inputs) ≡ true)
+  unfolding is_basic_plan
+  basic-out p basic = and_parts _ _ (sym (fold_out-Plan Bool basic_layer p) ∙ basic)
 
   abbrev P : Plan → Type 0
-  P p = (other : Plan) (g : ℕ) → is_unsorted p ≡ true → is_unsorted other ≡ true → Fits g p → Fits g other → p ≡ other
+  P p = (other : Plan) (g : ℕ) → is_basic_plan p ≡ true → is_basic_plan other ≡ true → Fits g p → Fits g other → p ≡ other
 
   abbrev Part : Type 0
   Part = (p : Plan) × P p
@@ -152,7 +164,7 @@ module _ (lines : List Expr) where
   abbrev plans_of : List Part → List Plan
   plans_of parts = map (λ p. p.0) parts
 
-  all-one : (parts : List Part) (others : List Plan) (classes : List ℕ) → list_all (λ b. b) (map is_unsorted (plans_of parts)) ≡ true → list_all (λ b. b) (map is_unsorted others) ≡ true
+  all-one : (parts : List Part) (others : List Plan) (classes : List ℕ) → list_all (λ b. b) (map is_basic_plan (plans_of parts)) ≡ true → list_all (λ b. b) (map is_basic_plan others) ≡ true
       → AllFit classes (plans_of parts) → AllFit classes others → plans_of parts ≡ others
   all-one [] [] classes none none' all all' = refl
   all-one [] (x ∷ others) [] none none' all all' = absurd all'
@@ -175,12 +187,12 @@ module _ (lines : List Expr) where
   step y other g none none' f f' =
       let z : Plan-F Plan = map-Plan Part Plan (λ p. p.0) y in
       let out : out-Plan (roll-Plan z) ≡ z = out-roll-Plan z in
-      let here = unsorted-out (roll-Plan z) none in
-      let there = unsorted-out other none' in
+      let here = basic-out (roll-Plan z) none in
+      let there = basic-out other none' in
       let one : FitsNode g z.node z.inputs = subst (λ w. FitsNode g w.node w.inputs) out (node-is (roll-Plan z) g here.0 f) in
       let second = node-is other g there.0 f' in
       let same : one.expr ≡ second.expr = let e : Some one.expr ≡ Some second.expr = sym one.at ∙ second.at in cc in
-      let inputs : z.inputs ≡ (out-Plan other).inputs = all-one y.inputs (out-Plan other).inputs (input_classes one.expr) (subst (λ w. list_all (λ b. b) (map is_unsorted w.inputs) ≡ true) out here.1) there.1 one.all
+      let inputs : z.inputs ≡ (out-Plan other).inputs = all-one y.inputs (out-Plan other).inputs (input_classes one.expr) (subst (λ w. list_all (λ b. b) (map is_basic_plan w.inputs) ≡ true) out here.1) there.1 one.all
       (subst (λ x. AllFit (input_classes x) (out-Plan other).inputs) (sym same) second.all) in
       both z (out-Plan other) (one.is ∙ ap (λ x. Implements g (operator_for x)) same ∙ sym second.is) inputs ∙ roll-out-Plan other
 
@@ -193,15 +205,14 @@ module _ (lines : List Expr) where
   below-fits (k ∷ keys) p g f =
       let n : ℕ = f.number in
       let z : Plan-F Plan = record { node = Sort (k ∷ keys); inputs = p ∷ [] } in
-      let next : Plan-F Plan → List ℕ → Result ℕ CheckRefusal = λ w classes. wanted_if (refusal n UnsortedAnswer) f.ordered classes >>= λ classes. inputs_fit (map (plan_fits lines f.cols) w.inputs) classes (n + 1) in
+      let next : Plan-F Plan → List ℕ → Result ℕ CheckRefusal = λ w. after_node f.cols w.node (map plan_order w.inputs) (map (plan_fits lines f.cols) w.inputs) f.ordered n in
       let e : (sort_fits f.cols (k ∷ keys) 1 g n >>= next z) ≡ Ok f.after
       = sym (ap (λ w. node_fits lines f.cols w.node (length w.inputs) g n >>= next w) (out-roll-Plan z)) ∙ sym (plan_fits_out lines f.cols (top (k ∷ keys) p) f.ordered g n) ∙ f.fits in
       let steps = both_ok (sort_fits f.cols (k ∷ keys) 1 g n) (next z) f.after e in
       let sorted = both_ok (wanted_if (refusal n IllFormed) (list_all (λ k. has (f.cols g) k.column) (k ∷ keys)) (g ∷ [])) (λ classes. wanted_if (refusal n OtherOperator) (1 == 1) classes) steps.0 steps.1 in
       let needs : g ∷ [] ≡ steps.0 = (wanted_if_ok (refusal n IllFormed) _ (g ∷ []) sorted.0 sorted.1).1 ∙ (wanted_if_ok (refusal n OtherOperator) (1 == 1) sorted.0 steps.0 sorted.2).1 in
-      let inputs = both_ok (wanted_if (refusal n UnsortedAnswer) f.ordered steps.0) (λ classes. inputs_fit (plan_fits lines f.cols p ∷ []) classes (n + 1)) f.after steps.2 in
-      let given : g ∷ [] ≡ inputs.0 = needs ∙ (wanted_if_ok (refusal n UnsortedAnswer) f.ordered steps.0 inputs.0 inputs.1).1 in
-      let last = both_ok (plan_fits lines f.cols p true g (n + 1)) (λ m. inputs_fit [] [] m) f.after (ap (λ classes. inputs_fit (plan_fits lines f.cols p ∷ []) classes (n + 1)) given ∙ inputs.2) in
+      let inputs = (after-is f.cols z.node (map plan_order z.inputs) (map (plan_fits lines f.cols) z.inputs) f.ordered n f.after steps.0 steps.2).inputs in
+      let last = both_ok (plan_fits lines f.cols p true g (n + 1)) (λ m. inputs_fit [] [] m) f.after (ap (λ classes. inputs_fit (plan_fits lines f.cols p ∷ []) classes (n + 1)) needs ∙ inputs) in
       record { cols = f.cols; ordered = true; number = n + 1; after = last.0; fits = last.1 }
 
 -- ---- one certificate
@@ -227,7 +238,7 @@ module _ (q : Query) where
 
   pub one_certificate : (V : Certificate) → IsCanonical q V → replayed q V ≡ Ok V → IsOnlyCanonical q V
   one_certificate V is replays W is' replays' =
-      let below : is'.below ≡ is.below = one-plan (query_frame q) is'.below is.below (root q) is'.unsorted is.unsorted (fits-of W is' replays') (fits-of V is replays) in
+      let below : is'.below ≡ is.below = one-plan (query_frame q) is'.below is.below (root q) is'.basic is.basic (fits-of W is' replays') (fits-of V is replays) in
       two (is'.lines ∙ sym is.lines) (is'.plan ∙ ap (top (query_order q)) below ∙ sym is.plan)
     where
       certificate : List Line → Plan → Certificate

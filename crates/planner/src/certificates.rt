@@ -4,13 +4,13 @@ ghost use Rattle.std.specs.Prelude.{◌≡◌, ◌<◌, IfOk, Ok, true, length, 
 ghost use Rattle.query.specs.Bound.{is_bound};
 ghost use Rattle.logical.specs.Frames.{is_framed};
 ghost use Rattle.derivation.specs.declared.certificate.Line.TheVariants.{Founds};
-ghost use Rattle.derivation.specs.Replay.{implements, replayed};
+ghost use Rattle.derivation.specs.Replay.{replayed};
 ghost use Rattle.planner.specs.Canonical as spec;
 
 use algebra::{ClassId, Expr};
 use derivation::{Certificate, Line, query_order};
 use logical::frame;
-use physical::{JoinKind, Node, Operator, OrderKey, Plan};
+use physical::{GroupMethod, JoinMethod, Matching, Node, Operator, OrderKey, Plan};
 use query::ids::id_of;
 use query::{BoundQuery, Query};
 use std::alloc::{AllocError, Global};
@@ -19,7 +19,7 @@ use values::Items;
 /// The operator that implements an expression.
 fn operator_of(alloc: Global, expr: &Expr) -> Result<Operator, AllocError>
     requires { is_framed expr.now ≡ true }
-    ensures { IfOk result (λ operator. implements operator expr.now ≡ true) }
+    ensures { IfOk result (spec.IsBasicOf expr.now) }
 {
     match expr {
         Expr::Get(occurrence) => {
@@ -34,20 +34,23 @@ fn operator_of(alloc: Global, expr: &Expr) -> Result<Operator, AllocError>
                 Ok(Operator::FilterSubqueries { conjuncts })
             }
         }
-        Expr::Join(own, _, _) => Ok(Operator::NestedLoopJoin {
-            kind: JoinKind::Inner,
-            conjuncts: own.copy(alloc)?,
+        Expr::Join(own, _, _) => Ok(Operator::JoinRows {
+            method: JoinMethod::NestedLoop,
+            matching: Matching::Inner(own.copy(alloc)?),
         }),
-        Expr::LeftJoin(own, _, _) => Ok(Operator::NestedLoopJoin {
-            kind: JoinKind::Left,
-            conjuncts: own.copy(alloc)?,
+        Expr::LeftJoin(own, _, _) => Ok(Operator::JoinRows {
+            method: JoinMethod::NestedLoop,
+            matching: Matching::Left(own.copy(alloc)?),
         }),
         Expr::Semi(_, _, _) | Expr::Anti(_, _, _, _) => unreachable!(),
         Expr::Keep(own, _) => Ok(Operator::Projection {
             columns: own.copy(alloc)?,
         }),
-        Expr::Distinct(_) => Ok(Operator::HashDistinct),
-        Expr::Group(own, added, _) => Ok(Operator::HashGroup {
+        Expr::Distinct(_) => Ok(Operator::DistinctRows {
+            method: GroupMethod::Hash,
+        }),
+        Expr::Group(own, added, _) => Ok(Operator::GroupRows {
+            method: GroupMethod::Hash,
             keys: own.copy(alloc)?,
             added: added.copy(alloc)?,
         }),

@@ -32,5 +32,5 @@ returns-clause-replays c =
 pub returns-clause-only : goal.returns-clause-only
 returns-clause-only c =
     one_certificate c.args.query.now (record { lines = c.in_ok-lines.lines; plan = c.in_ok-plan.plan })
-    (record { lines = c.in_ok-lines.ensures ∙ ap (map Founds) c.in_ok-frame.ensures.lines; below = c.in_ok-below.below; unsorted = c.in_ok-below.ensures.unsorted; plan = c.in_ok-plan.ensures ∙ ap (λ ks. top ks c.in_ok-below.below) (c.from_vec.ensures ∙ c.in_ok-order.ensures) })
+    (record { lines = c.in_ok-lines.ensures ∙ ap (map Founds) c.in_ok-frame.ensures.lines; below = c.in_ok-below.below; basic = c.in_ok-below.ensures.basic; plan = c.in_ok-plan.ensures ∙ ap (λ ks. top ks c.in_ok-below.below) (c.from_vec.ensures ∙ c.in_ok-order.ensures) })
     (returns-clause-replays c)
