@@ -1,6 +1,6 @@
 //! Texts one after another in one string.
 
-ghost use Rattle.std.specs.Prelude.{◌≡◌, ◌∷◌, ◌++◌, ◌<◌, ◌≤◌, [], length, slice_index_or, OnOk};
+ghost use Rattle.std.specs.Prelude.{◌≡◌, ◌∷◌, ◌++◌, ◌<◌, ◌≤◌, [], length, slice_index_or, OnErr, OnOk, ℕ, List};
 ghost use Rattle.store.specs.Texts as spec;
 
 use std::alloc::{AllocError, Global};
@@ -44,7 +44,8 @@ impl Texts {
     }
 
     pub fn push(&mut self, text: &str) -> Result<(), AllocError>
-        ensures { OnOk result (self.new ≡ self.old ++ text.now ∷ []) }
+        ensures ok { OnOk result (self.new ≡ self.old ++ text.now ∷ []) }
+        ensures err { OnErr result (self.new ≡ self.old) }
     {
         let Some(end) = self.joined.len().checked_add(text.len()) else {
             return Err(AllocError);
@@ -55,6 +56,16 @@ impl Texts {
             return Err(AllocError);
         }
         Ok(())
+    }
+
+    /// Takes the last text off.
+    pub fn pop(&mut self)
+        ensures { (texts : List (List ℕ)) (last : List ℕ) → self.old ≡ texts ++ last ∷ [] → self.new ≡ texts }
+    {
+        if let Some(_) = self.ends.pop() {
+            let start = start_of(self.ends.as_slice(), self.ends.len());
+            self.joined.truncate(start);
+        }
     }
 
     /// The text with this number.
