@@ -1,3 +1,4 @@
+pub mod Buckets
 pub mod ColumnRows
 pub mod Decimals
 pub mod Fields

@@ -1,3 +1,4 @@
+pub mod Chains
 pub mod Databases
 pub mod Devices
 pub mod Faults

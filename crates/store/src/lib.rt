@@ -2,6 +2,7 @@
 #![tactic(auto)]
 
 mod cells;
+mod chains;
 mod columns;
 pub mod database;
 pub mod fault;
