@@ -5,6 +5,7 @@ mod cells;
 mod chains;
 mod columns;
 pub mod database;
+mod ends;
 pub mod fault;
 mod field;
 pub mod input;
