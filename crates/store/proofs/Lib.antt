@@ -2,6 +2,7 @@ pub mod Buckets
 pub mod ColumnRows
 pub mod Decimals
 pub mod Fields
+pub mod IndexLists
 pub mod Keys
 pub mod Loads
 pub mod ReadRecords

@@ -8,6 +8,7 @@ pub mod database;
 mod ends;
 pub mod fault;
 mod field;
+mod indexes;
 pub mod input;
 pub mod key;
 mod records;
