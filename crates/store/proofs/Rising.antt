@@ -4,7 +4,11 @@ use Rattle.std.specs.List.{list_any}
 use Rattle.std.specs.Cmp.Lexicographic.{slice_cmp, lists_total}
 use Rattle.std.specs.declared.cmp.Ordering.TheVariants.{Less, Equal}
 use Rattle.std.proofs.lemmas.Cmp.{tied_itself}
+use Rattle.std.specs.Option.{option_map}
+use Rattle.values.specs.declared.value.Value.{Value}
 use Rattle.values.specs.declared.value.Value.TheVariants as value
+use Rattle.values.specs.declared.cell.Cell.{Cell}
+use Rattle.values.specs.Cells.{value_of}
 use Rattle.values.specs.Order.{order}
 use Rattle.values.specs.Truth.{is_null}
 use Rattle.values.proofs.Counts.{below_or_last}
@@ -84,3 +88,14 @@ rises_first rows places n k h is = rises_above rows places n None k h is (λ j l
 
 pub rises_next : (rows : List Row) (places : List ℕ) (n : ℕ) (last k : Row) → Rises rows places n (Some last) → k ≡ key_at rows places n → Below last k → Rises rows places (n + 1) (Some k)
 rises_next rows places n last k h is below = rises_above rows places n (Some last) k h is (λ j low whole. above_last (key_at rows places j) last k (h.within j low whole) below)
+
+-- ---- the same of one place
+
+pub value_first : (rows : List Row) (place n : ℕ) (v : Value) (last : Option Cell) → Rises rows (place ∷ []) n (option_map (λ x. value_of x ∷ []) last) → last ≡ None
+    → v ≡ slice_index_or (slice_index_or rows n []) place value.Null → Rises rows (place ∷ []) (n + 1) (Some (v ∷ []))
+value_first rows place n v last h none is = rises_first rows (place ∷ []) n (v ∷ []) (rw none at h) (ap (λ (x : Value). x ∷ []) is)
+
+pub value_next : (rows : List Row) (place n : ℕ) (v : Value) (before : Cell) (last : Option Cell) → Rises rows (place ∷ []) n (option_map (λ x. value_of x ∷ []) last) → last ≡ Some before
+    → v ≡ slice_index_or (slice_index_or rows n []) place value.Null → order (value_of before) v ≡ Less → Rises rows (place ∷ []) (n + 1) (Some (v ∷ []))
+value_next rows place n v before last h some is below =
+    rises_next rows (place ∷ []) n (value_of before ∷ []) (v ∷ []) (rw some at h) (ap (λ (x : Value). x ∷ []) is) (below_there (value_of before ∷ []) (v ∷ []) 0 (omega arith) (omega arith) refl below)

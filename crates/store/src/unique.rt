@@ -1,6 +1,6 @@
 //! Rows that repeat a unique list of an earlier row.
 
-ghost use Rattle.std.specs.Prelude.{◌≡◌, ◌≤◌, ◌<◌, ◌^◌, [], length, slice_index_or, IfOk, IsTrue, MatchOption};
+ghost use Rattle.std.specs.Prelude.{◌≡◌, ◌∷◌, ◌≤◌, ◌<◌, ◌^◌, [], length, slice_index_or, IfOk, IsTrue, MatchOption};
 ghost use Rattle.std.specs.List.{AllByRecursion};
 ghost use Rattle.schema.specs.Databases.{values_at, IsUnique, most_rows};
 ghost use Rattle.store.specs.Chains as chains;
@@ -14,8 +14,9 @@ use crate::row::RowCells;
 use crate::source::RowSource;
 use crate::table::Table;
 use std::alloc::{AllocError, Global};
+use std::cmp::Ordering;
 use std::hash::{FoldHasher, Hash, Hasher};
-use values::Items;
+use values::{Cell, Items, order};
 
 /// A row and the earlier one that it repeats, both from 0.
 #[derive(Clone, Copy)]
@@ -24,12 +25,36 @@ pub struct Repeat {
     pub earlier: usize,
 }
 
+/// The same of one place as `rises` of several: each value is read once.
+fn value_rises(rows: &Table, limit: usize, place: usize) -> bool
+    requires { limit ≤ length rows.now }
+    ensures { IsTrue result → UniqueTo limit rows.now (place ∷ []) }
+{
+    let mut last: Option<Cell<'_>> = None;
+    for row in 0..limit {
+        let cell = RowCells::Stored(&*rows, row).cell(place);
+        if cell.is_null() {
+            continue;
+        }
+        if let Some(before) = last {
+            if order(before, cell) != Ordering::Less {
+                return false;
+            }
+        }
+        last = Some(cell);
+    }
+    true
+}
+
 /// Whether the keys of the first rows, as many as `limit`, rise from each to the next, those with a Null apart. Then none
-/// repeats another, and no map of them is needed.
+/// repeats another, and they need no chains.
 fn rises(rows: &Table, limit: usize, places: &Items<usize>) -> bool
     requires { limit ≤ length rows.now }
     ensures { IsTrue result → UniqueTo limit rows.now places.now }
 {
+    if let [place] = places.as_slice() {
+        return value_rises(rows, limit, *place);
+    }
     let mut last: Option<RowKey<'_, '_>> = None;
     for row in 0..limit {
         let Some(key) = key_of(rows, row, places) else {
