@@ -1,5 +1,5 @@
 -- Row numbers in the order of an index, and the indexes of tables.
-use Rattle.std.proofs.Common.{◌≡◌, ℕ, zero, suc, ◌+◌, ◌<◌, ◌≤◌, List, [], ◌∷◌, ◌++◌, length, get_or, Bool, true, false, Option, Some, None, IfSome, slice_get, slice_index_or, Bor, refl, sym, ap, ◌∙◌, subst, arith, inl, inr}
+use Rattle.std.proofs.Common.{◌≡◌, ℕ, zero, suc, ◌+◌, ◌<◌, ◌≤◌, List, [], ◌∷◌, ◌++◌, length, get_or, Bool, false, Some, IfSome, slice_get, slice_index_or, Bor, refl, ap, ◌∙◌, arith}
 use denote.Param.Members.{Mut}
 use Rattle.std.proofs.Math.ListN.{set}
 use Rattle.std.specs.declared.cmp.Ordering.{Ordering}
@@ -7,12 +7,11 @@ use Rattle.std.specs.Ordering.{is_lt}
 use Rattle.std.specs.Cmp.{IsTotalOrder, IsStrictWeakOrder}
 use Rattle.std.specs.Fn.{Called, ComparesAs}
 use Rattle.std.specs.List.{range_with_len}
-use Rattle.std.specs.List.Sorted.{IsPermutation, IsSorted, IsSortedBy}
+use Rattle.std.specs.List.Sorted.{IsSorted, IsSortedBy}
 use Rattle.std.proofs.lemmas.Cmp.{nat_cmp_total, on_total, then_total}
 use Rattle.std.proofs.lemmas.Fn.{always_returns_same}
 use Rattle.std.proofs.lemmas.List.FromFn.{get_or-range_with_len, length-range_with_len}
 use Rattle.std.proofs.lemmas.List.Sorted.{ranks_by}
-use Rattle.values.proofs.Counts.{below_or_last}
 use Rattle.values.proofs.Orders.{order_total, by_keys_total}
 use Rattle.schema.specs.declared.schema.Table.{Table}
 use Rattle.schema.specs.Databases.{Row, Database}
@@ -52,13 +51,6 @@ numbers_more n =
 -- so far no row is below the one before it
 abbrev pub AreInOrder : List Row → List ℕ → ℕ → Type 0
 AreInOrder rows places n = (k : ℕ) → k + 1 < n → is_lt (index_order rows places (k + 1) k) ≡ false
-
-pub order_more : (rows : List Row) (places : List ℕ) (n before : ℕ) → 0 < n → before + 1 ≡ n → AreInOrder rows places n → is_lt (index_order rows places n before) ≡ false → AreInOrder rows places (n + 1)
-order_more rows places n before some is h last k low =
-    elim (below_or_last (k + 1) n low) [
-      | inl below ↦ h k below
-      | inr at ↦ let same : k ≡ before = omega arith in rw (at, same) last
-    ]
 
 plus : (n : ℕ) → 0 + n ≡ n
 plus n = omega arith

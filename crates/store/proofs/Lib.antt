@@ -1,4 +1,3 @@
-pub mod Buckets
 pub mod ColumnRows
 pub mod Decimals
 pub mod Fields

@@ -1,5 +1,5 @@
 -- Keys that strictly rise, those with a Null apart: none repeats another.
-use Rattle.std.proofs.Common.{◌≡◌, ℕ, zero, suc, ◌+◌, ◌<◌, List, [], ◌∷◌, length, take, get_or, true, false, Option, Some, None, slice_index_or, refl, sym, ap, ◌∙◌, subst, arith, inl, inr, ◌⊎◌}
+use Rattle.std.proofs.Common.{◌≡◌, ℕ, zero, suc, ◌+◌, ◌<◌, List, [], ◌∷◌, length, take, get_or, false, Option, Some, None, slice_index_or, refl, sym, ap, ◌∙◌, subst, arith, inl, inr, ◌⊎◌}
 use Rattle.std.specs.List.{list_any}
 use Rattle.std.specs.Cmp.Lexicographic.{slice_cmp, lists_total}
 use Rattle.std.specs.declared.cmp.Ordering.TheVariants.{Less, Equal}
@@ -47,21 +47,6 @@ IsWithin (Some last) k = (k ≡ last) ⊎ Below k last
 pub record Rises (rows : List Row) (places : List ℕ) (n : ℕ) (last : Option Row) : Type 0 where
   pub unique : UniqueTo n rows places
   pub within : (j : ℕ) → j < n → list_any is_null (key_at rows places j) ≡ false → IsWithin last (key_at rows places j)
-
--- a row with a Null in its key
-pub rises_null : (rows : List Row) (places : List ℕ) (n : ℕ) (last : Option Row) → Rises rows places n last → list_any is_null (key_at rows places n) ≡ true → Rises rows places (n + 1) last
-rises_null rows places n last h null = record {
-  unique = λ i j lt low whole same.
-      elim (below_or_last j n low) [
-        | inl below ↦ h.unique i j lt below whole same
-        | inr is ↦ let bad : list_any is_null (key_at rows places i) ≡ true = ap (list_any is_null) (same ∙ ap (key_at rows places) is) ∙ null in cc (bad, whole)
-      ];
-  within = λ j low whole.
-      elim (below_or_last j n low) [
-        | inl below ↦ h.within j below whole
-        | inr is ↦ let bad : list_any is_null (key_at rows places j) ≡ true = ap (λ (i : ℕ). list_any is_null (key_at rows places i)) is ∙ null in cc (bad, whole)
-      ];
-}
 
 -- a row above all that came before
 rises_above : (rows : List Row) (places : List ℕ) (n : ℕ) (last : Option Row) (k : Row) → Rises rows places n last → k ≡ key_at rows places n

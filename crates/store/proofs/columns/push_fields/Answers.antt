@@ -1,4 +1,4 @@
-use Rattle.std.proofs.Common.{◌≡◌, ◌∙◌, ◌<◌, [], ◌∷◌, ◌++◌, length, take, sym, ap, refl, arith}
+use Rattle.std.proofs.Common.{◌∙◌, [], ◌∷◌, ◌++◌, length, take, sym, ap, arith}
 use Rattle.csv.specs.Records.{fields_of}
 use Rattle.std.proofs.lemmas.List.{length-take-le, set-get_or}
 use Rattle.store.specs.StoredColumns.{kind_of}

@@ -1,4 +1,4 @@
-use Rattle.std.proofs.Common.{◌∙◌, rules}
+use Rattle.std.proofs.Common.{rules}
 use Rattle.std.proofs.lemmas.List.Sorted.{IsPermutation-refl}
 use Rattle.store.specs.Indexes.{index_order}
 use Rattle.store.proofs.IndexLists.{index_total, sorted_by_closure}

@@ -1,9 +1,8 @@
-use Rattle.std.proofs.Common.{◌≡◌, ◌<◌, ◌∷◌, [], length, map, arith, rules, length-append}
-use Rattle.values.specs.Cells.{value_of}
+use Rattle.std.proofs.Common.{◌≡◌, ◌<◌, ◌∷◌, [], length, arith, rules, length-append}
 use Rattle.schema.specs.Databases.{most_rows}
 use Rattle.store.specs.declared.fault.TableCause.TheVariants.{TooMany}
 use Rattle.store.specs.Reading.{Remains}
-use Rattle.store.proofs.ReadRecords.{ends_there, stops_there, goes_on, row_fails, take_row}
+use Rattle.store.proofs.ReadRecords.{ends_there, stops_there, goes_on, row_fails}
 use Rattle.store.proofs.records.rows_of.Goals as goal
 
 pub returns-then-not-branch : goal.returns-then-not-branch

@@ -1,4 +1,4 @@
-use Rattle.std.proofs.Common.{◌≡◌, ◌∙◌, ◌<◌, ◌-◌, ◌≤◌, [], ℕ, List, length, slice_index_or, sym, ap, arith}
+use Rattle.std.proofs.Common.{◌≡◌, ◌∙◌, ◌<◌, ◌-◌, [], ℕ, List, length, slice_index_or, sym, ap, arith}
 use Rattle.schema.specs.Databases.{values_at}
 use Rattle.store.specs.Chains.{IsNewest, bucket_at}
 use Rattle.store.specs.Keys.{key_decides}

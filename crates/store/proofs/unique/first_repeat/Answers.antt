@@ -1,5 +1,5 @@
-use Rattle.std.proofs.Common.{◌≡◌, ◌∙◌, ◌≤◌, ◌+◌, ℕ, length, sym, ap, arith}
-use Rattle.store.specs.Chains.{AreChained, bucket_at}
+use Rattle.std.proofs.Common.{◌∙◌, ◌+◌, arith}
+use Rattle.store.specs.Chains.{bucket_at}
 use Rattle.store.proofs.Repeats.{unique_null, unique_new, bucket_null, bucket_key}
 use Rattle.store.proofs.unique.first_repeat.Goals as goal
 

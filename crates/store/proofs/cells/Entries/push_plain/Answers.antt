@@ -1,4 +1,4 @@
-use Rattle.std.proofs.Common.{refl, rules}
+use Rattle.std.proofs.Common.{rules}
 use Rattle.values.specs.declared.value.Value.TheVariants as value
 use Rattle.store.proofs.cells.Entries.push_plain.Goals as goal
 

@@ -2,8 +2,6 @@ use Rattle.std.proofs.Common.{◌≡◌, ◌∙◌, ◌+◌, ◌<◌, ◌^◌, �
 use Rattle.std.specs.List.{AllByRecursion}
 use Rattle.csv.specs.Records.{fields_of}
 use Rattle.schema.specs.declared.schema.Column.{Column}
-use Rattle.schema.specs.declared.schema.Kind.{Kind}
-use Rattle.schema.specs.Databases.{Row}
 use Rattle.store.specs.StoredColumns.{Kept, HasCells, TakeRow, rows_of}
 use Rattle.store.specs.declared.cells.ColumnCells.{ColumnCells}
 use Rattle.store.proofs.ColumnRows.{kinds_of, items_more, all_more, kept_more, length_rows}

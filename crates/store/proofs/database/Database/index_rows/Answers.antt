@@ -1,4 +1,4 @@
-use Rattle.std.proofs.Common.{◌≡◌, ◌∙◌, ◌<◌, length, ap, sym, arith, rules}
+use Rattle.std.proofs.Common.{◌≡◌, ◌<◌, length, ap, arith, rules}
 use Rattle.schema.specs.Databases.{Stored}
 use Rattle.store.proofs.Satisfies.{satisfy_length}
 use Rattle.store.proofs.IndexLists.{indexed_long, indexes_there, index_there}

@@ -1,5 +1,4 @@
-use Rattle.std.proofs.Common.{◌≡◌, ◌∙◌, ◌∷◌, ◌++◌, [], length, take, string_bytes, sym}
-use Rattle.store.specs.Texts.{start_of, texts_of}
+use Rattle.std.proofs.Common.{◌≡◌, ◌∙◌, ◌∷◌, ◌++◌, [], string_bytes}
 use Rattle.store.proofs.TextPlaces.{ends_fewer, texts_fewer}
 use Rattle.store.proofs.texts.Texts.pop.Goals as goal
 
