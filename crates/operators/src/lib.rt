@@ -20,4 +20,4 @@ mod terms;
 mod truth;
 
 pub use running::{Sources, plan_found, plan_rows};
-pub use shown::{FoundRows, Row};
+pub use shown::{FoundRows, Row, owned_rows};
