@@ -4,5 +4,6 @@ pub mod Joins
 pub mod Parts
 pub mod Places
 pub mod Relations
+pub mod Resolved
 pub mod Shown
 pub mod Sorting

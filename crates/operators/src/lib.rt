@@ -17,6 +17,7 @@ mod scans;
 mod shown;
 mod sorting;
 mod terms;
+mod tests;
 mod truth;
 
 pub use running::{Sources, plan_found, plan_rows};

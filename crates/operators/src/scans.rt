@@ -16,7 +16,7 @@ use crate::headings::Heading;
 use crate::parts::Part;
 use crate::relation::Relation;
 use crate::rows::Rows;
-use crate::truth::{Subqueries, holds};
+use crate::tests::{passes_all, resolve};
 use algebra::{Columns, Condition};
 use query::{ColumnId, OccurrenceId, TableInstance};
 use std::alloc::{AllocError, Global};
@@ -70,13 +70,14 @@ fn passing<'t>(
 ) -> Result<Vec<usize>, AllocError>
     ensures { IfOk result (λ kept. kept.items ≡ filter (λ n. spec.holds no_classes conditions.now (numbered_env input.now (env_of env.now) n)) (numbers_of input.now)) }
 {
+    let mut tests = Vec::new(alloc);
+    resolve(conditions, input, env, &mut tests)?;
     let mut kept = Vec::new(alloc);
     for number in 0..input.rows.count {
-        let row = Env::Inner(&*input, number, &*env);
         push_if(
             &mut kept,
             number,
-            holds(conditions, Subqueries::none(), &row),
+            passes_all(tests.as_slice(), input, number, env),
         )?;
     }
     Ok(kept)
