@@ -67,22 +67,33 @@ impl Ends {
         }
     }
 
-    pub fn push(&mut self, alloc: Global, end: usize) -> Result<(), AllocError>
+    /// A place that doesn't fit, after short ones.
+    #[cold]
+    #[inline(never)]
+    fn push_wide(&mut self, alloc: Global, end: usize) -> Result<(), AllocError>
         ensures ok { OnOk result (self.new ≡ self.old ++ end ∷ []) }
         ensures err { OnErr result (self.new ≡ self.old) }
     {
         let mut long = match &mut self.places {
+            Places::Short(ends) => widened(alloc, ends.as_slice())?,
             Places::Long(ends) => return ends.push(end),
-            Places::Short(ends) => {
-                if end <= 4_294_967_295 {
-                    return ends.push(end as u32);
-                }
-                widened(alloc, ends.as_slice())?
-            }
         };
         long.push(end)?;
         self.places = Places::Long(long);
         Ok(())
+    }
+
+    #[inline(always)]
+    pub fn push(&mut self, alloc: Global, end: usize) -> Result<(), AllocError>
+        ensures ok { OnOk result (self.new ≡ self.old ++ end ∷ []) }
+        ensures err { OnErr result (self.new ≡ self.old) }
+    {
+        if end <= 4_294_967_295 {
+            if let Places::Short(ends) = &mut self.places {
+                return ends.push(end as u32);
+            }
+        }
+        self.push_wide(alloc, end)
     }
 
     pub fn pop(&mut self) -> Option<usize>
