@@ -1,2 +1,3 @@
 pub mod Plans
+pub mod Records
 pub mod Sent

@@ -1,6 +1,6 @@
 -- Bytes that a device took, piece after piece.
-use Rattle.std.proofs.Common.{◌≡◌, ℕ, ◌+◌, ◌<◌, List, [], ◌++◌, length, take, drop, get_or, map, Option, Some, None, Result, Ok, Err, OnOk, OnErr, refl, sym, ap, ◌∙◌, append_assoc}
-use Rattle.std.proofs.lemmas.List.{append-nil, take-append-drop}
+use Rattle.std.proofs.Common.{◌≡◌, ℕ, zero, suc, ◌+◌, ◌<◌, ◌≤◌, List, [], ◌∷◌, ◌++◌, length, take, drop, get_or, map, Option, Some, None, Result, Ok, Err, OnOk, OnErr, refl, sym, ap, ◌∙◌, append_assoc, append-nil, arith}
+use Rattle.std.proofs.lemmas.List.{take-append-drop}
 use Rattle.std.specs.Io.KnownBytes.{Appends, Keeps}
 use Rattle.csv.specs.Writing.{default_writer, row_text}
 use Rattle.schema.specs.Databases.{Row}
@@ -39,6 +39,9 @@ front_of_nothing a total = ([], total, refl, appends_none a)
 pub front_of_all : (a c : Option (List ℕ)) (total : List ℕ) → Appends a c total → HasFront a c total
 front_of_all a c total added = (total, [], sym (append-nil total), added)
 
+pub front_begun : (a c : Option (List ℕ)) (done rest total : List ℕ) → done ++ rest ≡ total → Appends a c done → HasFront a c total
+front_begun a c done rest total e added = (done, rest, sym e, added)
+
 -- a beginning of a beginning
 pub front_of_kept : (a c : Option (List ℕ)) (x : List ℕ) → HasFront a c x → (y total : List ℕ) → x ++ y ≡ total → HasFront a c total
 front_of_kept a c x (front, rest, is, added) y total e = (front, rest ++ y, sym e ∙ ap (λ (t : List ℕ). t ++ y) is ∙ append_assoc front rest y, added)
@@ -55,3 +58,19 @@ front_more a b c done x total before (front, rest, is, added) e =
 pub rest_text : (rows : List Row) (i : ℕ) (r : Row) → i < length rows → r ≡ get_or rows i r
     → rows_text (drop i rows) ≡ row_text default_writer (map field_of r) ++ rows_text (drop (i + 1) rows)
 rest_text rows i r lt at = ap rows_text (drop_next rows i r lt at)
+
+-- ---- text that is gathered before it is sent
+
+pub gathered-more : (done sent left gathered more rest total : List ℕ) → gathered ++ more ≡ sent ++ left → done ++ (gathered ++ (more ++ rest)) ≡ total → (done ++ sent) ++ (left ++ rest) ≡ total
+gathered-more done sent left gathered more rest total is all =
+    append_assoc done sent (left ++ rest) ∙ ap (λ (t : List ℕ). done ++ t) (sym (append_assoc sent left rest) ∙ ap (λ (t : List ℕ). t ++ rest) (sym is) ∙ append_assoc gathered more rest) ∙ all
+
+drop-past : (n : ℕ) (rows : List Row) → length rows ≤ n → drop n rows ≡ []
+drop-past zero [] past = refl
+drop-past (suc n) [] past = refl
+drop-past zero (r ∷ rows) past = absurd (omega (arith, past))
+drop-past (suc n) (r ∷ rows) past = drop-past n rows (omega (arith, past))
+
+-- behind the last row
+pub nothing-left : (gathered : List ℕ) (n : ℕ) (rows : List Row) → length rows ≤ n → gathered ++ rows_text (drop n rows) ≡ gathered
+nothing-left gathered n rows past = ap (λ (rs : List Row). gathered ++ rows_text rs) (drop-past n rows past) ∙ append-nil gathered

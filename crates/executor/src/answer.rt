@@ -8,9 +8,9 @@ ghost use Rattle.executor.specs.AnswerText.{HasFront};
 ghost use Rattle.query.specs.Rows.{tables_in};
 ghost use Rattle.executor.specs.Execution.{accepted_rows, accepted_text};
 
-use crate::execution::run;
+use crate::execution::find;
 use crate::output::AnswerOutput;
-use crate::text::{AnswerFault, write_rows};
+use crate::text::{AnswerFault, write_found};
 use checker::Checked;
 use std::alloc::Global;
 use store::Database;
@@ -36,6 +36,6 @@ pub fn write_answer<W: AnswerOutput>(
     ensures quiet { OnOk result (W.failures out.new ≡ W.failures out.old) }
     ensures memory { IsErrAnd result (λ e. e ≡ Fault.Memory) → W.failures out.new ≡ W.failures out.old }
 {
-    let rows = run(alloc, checked, database)?;
-    write_rows(alloc, checked.query(), rows.as_slice(), out)
+    let found = find(alloc, checked, database)?;
+    write_found(alloc, checked.query(), &found, out)
 }

@@ -7,19 +7,19 @@ ghost use Rattle.query.specs.Rows.{tables_in};
 
 use checker::Checked;
 use logical::query_numbers;
-use operators::{Row, Sources, plan_rows};
+use operators::{FoundRows, Row, Sources, owned_rows, plan_found};
 use std::alloc::{AllocError, Global};
 use store::Database;
 
-/// The rows that a checked plan gives, item by item. They answer its query, where the database is one of the schema that
-/// the plan was checked with.
-pub fn run(
+/// The rows that a checked plan gives, item by item, which lend their cells from the database. They answer its query, where the
+/// database is one of the schema that the plan was checked with.
+pub fn find<'t>(
     alloc: Global,
     checked: &Checked<'_>,
-    database: &Database<'_>,
-) -> Result<Vec<Row>, AllocError>
-    ensures rows { IfOk result (λ rows. rows.items ≡ answer checked.now.query (tables_in database.now) checked.now.certificate.plan) }
-    ensures answers { checked.now.schema ≡ database.now.schema → IfOk result (λ rows. IsAnswer checked.now.query (tables_in database.now) rows.items) }
+    database: &'t Database<'_>,
+) -> Result<FoundRows<'t>, AllocError>
+    ensures rows { IfOk result (λ found. found ≡ answer checked.now.query (tables_in database.entry.now) checked.now.certificate.plan) }
+    ensures answers { checked.now.schema ≡ database.entry.now.schema → IfOk result (λ found. IsAnswer checked.now.query (tables_in database.entry.now) found) }
 {
     let query = checked.query();
     let plan = &checked.certificate().plan;
@@ -28,5 +28,18 @@ pub fn run(
         uses: query.tables.as_slice(),
         tables: database.tables(),
     };
-    plan_rows(alloc, plan, sources, columns.as_slice())
+    plan_found(alloc, plan, sources, columns.as_slice())
+}
+
+/// The same with values of their own.
+pub fn run(
+    alloc: Global,
+    checked: &Checked<'_>,
+    database: &Database<'_>,
+) -> Result<Vec<Row>, AllocError>
+    ensures rows { IfOk result (λ rows. rows.items ≡ answer checked.now.query (tables_in database.now) checked.now.certificate.plan) }
+    ensures answers { checked.now.schema ≡ database.now.schema → IfOk result (λ rows. IsAnswer checked.now.query (tables_in database.now) rows.items) }
+{
+    let found = find(alloc, checked, database)?;
+    owned_rows(alloc, &found)
 }

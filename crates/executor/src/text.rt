@@ -1,6 +1,6 @@
 //! The text of an answer: a header record with the output names, and a record a row, as `csv` writes them.
 
-ghost use Rattle.std.specs.Prelude.{◌≡◌, ◌≢◌, ◌∷◌, [], ◌++◌, map, IfOk, IsErrAnd, OnOk, OnErr};
+ghost use Rattle.std.specs.Prelude.{◌≡◌, ◌≢◌, ℕ, List, ◌∷◌, [], ◌++◌, map, IfOk, IsErrAnd, OnOk, OnErr};
 ghost use Rattle.std.specs.Io.KnownBytes.{Appends};
 ghost use Rattle.csv.specs.Writing.{default_writer, row_text};
 ghost use Rattle.csv.specs.Records.{fields_of};
@@ -8,11 +8,14 @@ ghost use Rattle.store.specs.Devices.{Rose};
 ghost use Rattle.executor.specs.AnswerText.{rows_text, answer_text, HasFront};
 ghost use Rattle.store.specs.Fields.{escaped, field_of};
 
+use crate::fields::push_row;
 use crate::output::{AnswerOutput, OutputFailed, send};
 use csv::{StringRecord, Writer};
 use itoa::Buffer;
+use operators::FoundRows;
 use query::Query;
 use std::alloc::{AllocError, Global};
+use store::RowSource;
 use values::{Fault, Items, Text, Value};
 
 pub type AnswerFault = Fault<OutputFailed>;
@@ -75,6 +78,88 @@ fn record_text(alloc: Global, fields: &StringRecord) -> Result<Vec<u8>, AllocErr
     Err(AllocError)
 }
 
+/// Writes all of a text.
+fn send_text<W: AnswerOutput>(text: &[u8], out: &mut W) -> Result<(), AnswerFault>
+    ensures ok { OnOk result (Appends (W.contents out.old) (W.contents out.new) text.now) }
+    ensures front { OnErr result (HasFront (W.contents out.old) (W.contents out.new) text.now) }
+    ensures device { IsErrAnd result (λ e. e ≢ Fault.Memory) → Rose (W.failures out.old) (W.failures out.new) }
+    ensures quiet { OnOk result (W.failures out.new ≡ W.failures out.old) }
+    ensures memory { IsErrAnd result (λ e. e ≡ Fault.Memory) → W.failures out.new ≡ W.failures out.old }
+{
+    match send(out, text) {
+        Ok(()) => Ok(()),
+        Err(failed) => Err(Fault::Refused(failed)),
+    }
+}
+
+/// How much text is gathered before it is written.
+const CHUNK: usize = 65_536;
+
+/// Writes the text that is gathered, if there is much of it.
+fn send_full<W: AnswerOutput>(text: &mut Vec<u8>, out: &mut W) -> Result<(), AnswerFault>
+    ensures ok { OnOk result ((sent : List ℕ) × (text.old.items ≡ sent ++ text.new.items) × Appends (W.contents out.old) (W.contents out.new) sent) }
+    ensures front { OnErr result (HasFront (W.contents out.old) (W.contents out.new) text.old.items) }
+    ensures device { IsErrAnd result (λ e. e ≢ Fault.Memory) → Rose (W.failures out.old) (W.failures out.new) }
+    ensures quiet { OnOk result (W.failures out.new ≡ W.failures out.old) }
+    ensures memory { IsErrAnd result (λ e. e ≡ Fault.Memory) → W.failures out.new ≡ W.failures out.old }
+{
+    if text.len() < CHUNK {
+        return Ok(());
+    }
+    send_text(text.as_slice(), out)?;
+    text.clear();
+    Ok(())
+}
+
+/// Writes a text and the rows behind it.
+fn send_found<W: AnswerOutput>(
+    alloc: Global,
+    text: Vec<u8>,
+    found: &FoundRows<'_>,
+    out: &mut W,
+) -> Result<(), AnswerFault>
+    ensures ok { OnOk result (Appends (W.contents out.old) (W.contents out.new) (text.items ++ rows_text found.now)) }
+    ensures front { OnErr result (HasFront (W.contents out.old) (W.contents out.new) (text.items ++ rows_text found.now)) }
+    ensures device { IsErrAnd result (λ e. e ≢ Fault.Memory) → Rose (W.failures out.old) (W.failures out.new) }
+    ensures quiet { OnOk result (W.failures out.new ≡ W.failures out.old) }
+    ensures memory { IsErrAnd result (λ e. e ≡ Fault.Memory) → W.failures out.new ≡ W.failures out.old }
+{
+    let mut gathered = text;
+    for row in 0..found.len() {
+        push_row(alloc, &mut gathered, found, row)?;
+        send_full(&mut gathered, out)?;
+    }
+    send_text(gathered.as_slice(), out)?;
+    Ok(())
+}
+
+/// Writes the rows that a plan produced, which are as wide as the query's items.
+pub fn write_found<W: AnswerOutput>(
+    alloc: Global,
+    query: &Query,
+    found: &FoundRows<'_>,
+    out: &mut W,
+) -> Result<(), AnswerFault>
+    ensures ok { OnOk result (Appends (W.contents out.old) (W.contents out.new) (answer_text query.now.names found.now)) }
+    // Nothing of it is held back.
+    ensures handed { OnOk result (W.held out.new ≡ []) }
+    // After a fault a beginning of the text has been written.
+    ensures front { OnErr result (HasFront (W.contents out.old) (W.contents out.new) (answer_text query.now.names found.now)) }
+    ensures device { IsErrAnd result (λ e. e ≢ Fault.Memory) → Rose (W.failures out.old) (W.failures out.new) }
+    // No other call failed.
+    ensures quiet { OnOk result (W.failures out.new ≡ W.failures out.old) }
+    ensures memory { IsErrAnd result (λ e. e ≡ Fault.Memory) → W.failures out.new ≡ W.failures out.old }
+{
+    let mut header = StringRecord::new(alloc);
+    push_names(&mut header, query.names.as_slice())?;
+    let text = record_text(alloc, &header)?;
+    send_found(alloc, text, found, out)?;
+    match out.flush_all() {
+        Ok(()) => Ok(()),
+        Err(failed) => Err(Fault::Refused(failed)),
+    }
+}
+
 fn send_record<W: AnswerOutput>(
     alloc: Global,
     fields: &StringRecord,
@@ -87,10 +172,7 @@ fn send_record<W: AnswerOutput>(
     ensures memory { IsErrAnd result (λ e. e ≡ Fault.Memory) → W.failures out.new ≡ W.failures out.old }
 {
     let text = record_text(alloc, fields)?;
-    match send(out, text.as_slice()) {
-        Ok(()) => Ok(()),
-        Err(failed) => Err(Fault::Refused(failed)),
-    }
+    send_text(text.as_slice(), out)
 }
 
 fn send_rows<W: AnswerOutput>(

@@ -32,7 +32,7 @@ fn push_refusal(reported: &mut String, refusal: TableRefusal) -> Result<(), Allo
 }
 
 /// How a load went.
-fn push_outcome(reported: &mut String, outcome: Result<(), TableFault>) -> Result<(), AllocError> {
+pub fn push_outcome(reported: &mut String, outcome: Result<(), TableFault>) -> Result<(), AllocError> {
     match outcome {
         Ok(()) => reported.push_str("loaded"),
         Err(TableFault::Memory) => reported.push_str("memory"),
@@ -91,7 +91,7 @@ impl Read for Trickle<'_> {
 }
 
 /// How a load of a file goes, by a device that fails at one of its calls if one is given.
-fn outcome(
+pub fn outcome(
     alloc: Global,
     database: &mut Database<'_>,
     table: usize,

@@ -10,6 +10,8 @@ mod copies;
 #[cfg(test)]
 mod files;
 #[cfg(test)]
+mod indexes;
+#[cfg(test)]
 mod names;
 #[cfg(test)]
 mod schemas;

@@ -2,11 +2,14 @@
 use Rattle.std.proofs.Common.{◌≡◌, refl, ap, sym, ◌∙◌, subst, ℕ, ◌<◌, Bool, true, false, ◌&&◌, ◌||◌, not, ◌==◌, if◌then◌else◌, List, [], ◌∷◌, ◌++◌, length, map, filter, Option, Some, None, arith}
 use Rattle.std.specs.Cmp.{both_ways}
 use mathlib.Core.List.{map-map}
+use Rattle.std.proofs.lemmas.List.{length-map}
+use Rattle.operators.specs.declared.grouped.Groups.{Groups}
+use Rattle.operators.specs.Grouped.{groups_in}
 use Rattle.values.specs.declared.value.Value.{Value}
 use Rattle.values.specs.Order.{same}
 use Rattle.values.specs.contracts.value.ValuePartialEq.TheImpl as value_eq
 use Rattle.values.proofs.Orders.{same_equal, same_itself}
-use Rattle.schema.specs.Databases.{Row, values_at}
+use Rattle.schema.specs.Databases.{Row}
 use Rattle.query.specs.Aggregates.{aggregate_of}
 use Rattle.store.specs.Keys.{key_eq, value_decides}
 use Rattle.algebra.specs.declared.expr.Aggregation.{Aggregation}
@@ -20,22 +23,12 @@ use Rattle.algebra.proofs.UniqueRows.{distinct_on-by}
 use Rattle.operators.specs.declared.groups.Grouping.{Grouping}
 use Rattle.operators.specs.declared.headings.Heading.{Heading}
 use Rattle.operators.specs.declared.relation.Relation.{Relation}
-use Rattle.operators.specs.declared.rows.RowData.{RowData}
-use Rattle.operators.specs.Places.{listed, value_in}
-use Rattle.operators.specs.Relations.{values_of, column_place, column_places, row_env, rows_of}
-use Rattle.operators.specs.declared.keys.RowRef.{RowRef}
-use Rattle.operators.specs.Groups.{GroupOf, first_seen, same_at, group_env, relation_groups}
+use Rattle.operators.specs.declared.headings.Place.{Place}
+use Rattle.operators.specs.Parts.{row_at, value_in}
+use Rattle.operators.specs.Places.{listed}
+use Rattle.operators.specs.Relations.{column_place, column_places, row_env, numbered_env, numbers_of, rows_of}
+use Rattle.operators.specs.Groups.{GroupOf, first_seen, key_at, same_at, group_env, group_envs, member_envs, placed_groups}
 use Rattle.operators.proofs.ColumnPlaces.{found-column, other-column}
-
--- ---- the rows of a group
-
--- rows that are lent, in an environment
-abbrev pub lent_envs : Heading → List RowRef → Env → List Env
-lent_envs h rows e = map (λ r. row_env h r.row.now e) rows
-
-pub lent-members : (h : Heading) (rows : List RowRef) (e : Env) → lent_envs h rows e ≡ map (λ r. row_env h r e) (map (λ r. r.row.now) rows)
-lent-members h [] e = refl
-lent-members h (r ∷ rows) e = ap (λ envs. row_env h r.row.now e ∷ envs) (lent-members h rows e)
 
 -- ---- rows that are the same
 
@@ -43,64 +36,56 @@ values-same : (v w : Value) → same v w ≡ value_eq.ghosts.eq v w
 values-same v w = both_ways (same v w) (value_eq.ghosts.eq v w) (λ t. (value_decides v w).1 (same_equal v w t)) (λ t. subst (λ x. same v x ≡ true) ((value_decides v w).0 t) (same_itself v))
 
 -- rows are the same in columns where their values at the columns' places are
-pub same-key : (h : Heading) (r s : RowData) (e : Env) (K : List ℕ) → same_on K (row_env h r e) (row_env h s e) ≡ same_at (column_places h K) r s
+pub same-key : (h : Heading) (r s : List Row) (e : Env) (K : List ℕ) → same_on K (row_env h r e) (row_env h s e) ≡ key_eq (key_at (column_places h K) r) (key_at (column_places h K) s)
 same-key h r s e [] = refl
 same-key h r s e (k ∷ K) = by (column_place h k) refl (same-key h r s e K)
   where
     rest : Bool
     rest = same_on K (row_env h r e) (row_env h s e)
 
-    at : List ℕ → RowData → Row
-    at places x = values_at places (values_of x)
-
-    by : (o : Option ℕ) → column_place h k ≡ o → rest ≡ same_at (column_places h K) r s
-        → (same (row_env h r e k) (row_env h s e k) && rest) ≡ key_eq (at (listed o ++ column_places h K) r) (at (listed o ++ column_places h K) s)
+    by : (o : Option Place) → column_place h k ≡ o → rest ≡ key_eq (key_at (column_places h K) r) (key_at (column_places h K) s)
+        → (same (row_env h r e k) (row_env h s e k) && rest) ≡ key_eq (key_at (listed o ++ column_places h K) r) (key_at (listed o ++ column_places h K) s)
     by None is later =
         ap (λ v. same v (row_env h s e k) && rest) (other-column h r e k (sym is)) ∙ ap (λ v. same (e k) v && rest) (other-column h s e k (sym is))
         ∙ ap (λ b. b && rest) (same_itself (e k)) ∙ later
     by (Some p) is later =
-        ap (λ v. same v (row_env h s e k) && rest) (found-column h r e k p (sym is)) ∙ ap (λ v. same (value_in (Some p) (values_of r)) v && rest) (found-column h s e k p (sym is))
-        ∙ ap (λ b. b && rest) (values-same (value_in (Some p) (values_of r)) (value_in (Some p) (values_of s)))
-        ∙ ap (λ b. value_eq.ghosts.eq (value_in (Some p) (values_of r)) (value_in (Some p) (values_of s)) && b) later
+        ap (λ v. same v (row_env h s e k) && rest) (found-column h r e k p (sym is)) ∙ ap (λ v. same (value_in (Some p) r) v && rest) (found-column h s e k p (sym is))
+        ∙ ap (λ b. b && rest) (values-same (value_in (Some p) r) (value_in (Some p) s))
+        ∙ ap (λ b. value_eq.ghosts.eq (value_in (Some p) r) (value_in (Some p) s) && b) later
 
 first-distinct : {X : Type 0} (alike : X → X → Bool) (xs : List X) → first_seen alike xs ≡ distinct_by alike xs
 first-distinct alike [] = refl
 first-distinct alike (x ∷ xs) = ap (λ ys. x ∷ filter (λ y. not (alike x y)) ys) (first-distinct alike xs)
 
 -- the first rows of the algebra are those that are first seen
-distinct-envs : (h : Heading) (rows : List RowData) (e : Env) (K : List ℕ) → distinct_on K (map (λ r. row_env h r e) rows) ≡ map (λ r. row_env h r e) (first_seen (same_at (column_places h K)) rows)
-distinct-envs h rows e K =
-    let row : RowData → Env = λ r. row_env h r e in
-    distinct_on-by K (map row rows) ∙ distinct-map row (same_on K) rows
-    ∙ ap (map row) (distinct-same (λ r. Unit {0}) (λ x y. same_on K (row x) (row y)) (same_at (column_places h K)) rows (λ x y p q. same-key h x y e K) (all-each (λ r. Unit {0}) (λ r. tt) rows)
-    ∙ sym (first-distinct (same_at (column_places h K)) rows))
+pub distinct-envs : (input : Relation) (e : Env) (K : List ℕ) → distinct_on K (rows_of input e) ≡ map (numbered_env input e) (first_seen (same_at (column_places input.heading K) input.rows) (numbers_of input))
+distinct-envs input e K =
+    let row : ℕ → Env = numbered_env input e in
+    let alike : ℕ → ℕ → Bool = same_at (column_places input.heading K) input.rows in
+    distinct_on-by K (map row (numbers_of input)) ∙ distinct-map row (same_on K) (numbers_of input)
+    ∙ ap (map row) (distinct-same (λ n. Unit {0}) (λ m n. same_on K (row m) (row n)) alike (numbers_of input)
+    (λ m n p q. same-key input.heading (row_at input.rows.parts.items m) (row_at input.rows.parts.items n) e K) (all-each (λ n. Unit {0}) (λ n. tt) (numbers_of input))
+    ∙ sym (first-distinct alike (numbers_of input)))
 
 -- ---- distinct rows
 
--- rows read as their values do
-rows-by-values : (h : Heading) (e : Env) (xs ys : List RowData) → map values_of xs ≡ map values_of ys → map (λ r. row_env h r e) xs ≡ map (λ r. row_env h r e) ys
-rows-by-values h e xs ys same =
-    let read : Row → Env = λ values. lay (has h.columns) (λ c. value_in (column_place h c) values) e in
-    sym (map-map read values_of xs) ∙ ap (map read) same ∙ map-map read values_of ys
-
 -- a row has its columns, and else is the environment
-laid-row : (h : Heading) (r : RowData) (e : Env) → lay (has h.columns) (row_env h r e) e ≡ row_env h r e
+laid-row : (h : Heading) (r : List Row) (e : Env) → lay (has h.columns) (row_env h r e) e ≡ row_env h r e
 laid-row h r e = λ i c. pointwise c i
   where
     pointwise : (c : ℕ) → lay (has h.columns) (row_env h r e) e c ≡ row_env h r e c
     pointwise c = by (has h.columns c)
       where
-        by : (b : Bool) → (if b then (if b then value_in (column_place h c) (values_of r) else e c) else e c) ≡ (if b then value_in (column_place h c) (values_of r) else e c)
+        by : (b : Bool) → (if b then (if b then value_in (column_place h c) r else e c) else e c) ≡ (if b then value_in (column_place h c) r else e c)
         by true = refl
         by false = refl
 
-pub distinct-rows : (h : Heading) (rows kept : List RowData) (e : Env) → map values_of kept ≡ map values_of (first_seen (same_at (column_places h h.columns)) rows)
-    → map (λ r. row_env h r e) kept ≡ map (λ r. lay (has h.columns) r e) (distinct_on h.columns (map (λ r. row_env h r e) rows))
-distinct-rows h rows kept e same =
-    let row : RowData → Env = λ r. row_env h r e in
-    let firsts : List RowData = first_seen (same_at (column_places h h.columns)) rows in
-    rows-by-values h e kept firsts same
-    ∙ sym (ap (map (λ r. lay (has h.columns) r e)) (distinct-envs h rows e h.columns) ∙ map-map (λ r. lay (has h.columns) r e) row firsts ∙ (λ i. map (λ r. laid-row h r e i) firsts))
+pub distinct-rows : (input : Relation) (numbers : List ℕ) (e : Env) → map (numbered_env input e) numbers ≡ distinct_on input.heading.columns (rows_of input e)
+    → map (numbered_env input e) numbers ≡ map (λ r. lay (has input.heading.columns) r e) (distinct_on input.heading.columns (rows_of input e))
+distinct-rows input numbers e same =
+    let row : ℕ → Env = numbered_env input e in
+    sym (ap (map (λ r. lay (has input.heading.columns) r e)) (sym same) ∙ map-map (λ r. lay (has input.heading.columns) r e) row numbers
+    ∙ (λ i. map (λ n. laid-row input.heading (row_at input.rows.parts.items n) e i) numbers))
 
 -- ---- groups
 
@@ -109,20 +94,22 @@ group-some [] add x e h = absurd (omega (arith, h))
 group-some (k ∷ K) add x e h = refl
 
 -- the rows of the groups by some columns
-pub group-envs : (g : Grouping) (input : Relation) (e : Env) → 0 < length g.keys.now
-    → map (group_env g input.heading e) (relation_groups g.keys.now input) ≡ group g.keys.now (with_aggregates g.added.now) (rows_of input) e
-group-envs g input e some =
+pub group-rows : (g : Grouping) (input : Relation) (e : Env) → 0 < length g.keys.now
+    → group_envs g input e (placed_groups (column_places input.heading g.keys.now) input) ≡ group g.keys.now (with_aggregates g.added.now) (rows_of input) e
+group-rows g input e some =
     let K = g.keys.now in
-    let rows = input.rows.items in
-    let alike : RowData → RowData → Bool = same_at (column_places input.heading K) in
-    let row : RowData → Env = λ r. row_env input.heading r e in
-    let firsts : List RowData = first_seen alike rows in
-    let found : RowData → GroupOf RowData = λ r. record { first = Some r; rows = filter (alike r) rows } in
-    let one : Env → Env = λ r. with_aggregates g.added.now (filter (same_on K r) (map row rows)) (lay (has K) r e) in
-    let same : (r : RowData) → group_env g input.heading e (found r) ≡ one (row r) =
-    λ r. ap (λ members. with_aggregates g.added.now members (lay (has K) (row r) e)) (sym (through (λ x. Unit {0}) row (same_on K (row r)) (alike r) rows (λ x p. same-key input.heading r x e K) (all-each (λ x. Unit {0}) (λ x. tt) rows))) in
-    map-map (group_env g input.heading e) found firsts ∙ (λ i. map (λ r. same r i) firsts) ∙ sym (map-map one row firsts)
-    ∙ sym (ap (map one) (distinct-envs input.heading rows e K)) ∙ sym (group-some K (with_aggregates g.added.now) (rows_of input) e some)
+    let numbers = numbers_of input in
+    let alike : ℕ → ℕ → Bool = same_at (column_places input.heading K) input.rows in
+    let row : ℕ → Env = numbered_env input e in
+    let firsts : List ℕ = first_seen alike numbers in
+    let found : ℕ → GroupOf ℕ = λ n. record { first = n; rows = filter (alike n) numbers } in
+    let show : GroupOf ℕ → Env = λ group. group_env g (member_envs input e group) (row group.first) e in
+    let one : Env → Env = λ r. with_aggregates g.added.now (filter (same_on K r) (map row numbers)) (lay (has K) r e) in
+    let same : (n : ℕ) → show (found n) ≡ one (row n) =
+    λ n. ap (λ members. with_aggregates g.added.now members (lay (has K) (row n) e)) (sym (through (λ m. Unit {0}) row (same_on K (row n)) (alike n) numbers
+    (λ m p. same-key input.heading (row_at input.rows.parts.items n) (row_at input.rows.parts.items m) e K) (all-each (λ m. Unit {0}) (λ m. tt) numbers))) in
+    map-map show found firsts ∙ (λ i. map (λ n. same n i) firsts) ∙ sym (map-map one row firsts)
+    ∙ sym (ap (map one) (distinct-envs input e K)) ∙ sym (group-some K (with_aggregates g.added.now) (rows_of input) e some)
 
 -- ---- the columns of groups
 
@@ -158,3 +145,10 @@ group-laid (k ∷ K) A x e =
     let L = k ∷ K in
     let one : Env → Env = λ r. with_aggregates A (filter (same_on L r) (x e)) (lay (has L) r e) in
     map-map (λ f. lay (has (rising (L ++ aggregate_columns A))) f e) one (distinct_on L (x e)) ∙ (λ i. map (λ r. laid-group L A (filter (same_on L r) (x e)) r e i) (distinct_on L (x e)))
+
+-- there are as many groups as first rows
+pub groups-many : (g : Grouping) (G : Groups) (e : Env) → length (group_envs g G.input.now e (groups_in G)) ≡ length G.firsts.items
+groups-many g G e =
+    let same : ℕ → ℕ → Bool = same_at G.places.items G.input.now.rows in
+    length-map (groups_in G) (λ group. group_env g (member_envs G.input.now e group) (numbered_env G.input.now e group.first) e)
+    ∙ length-map (first_seen same (numbers_of G.input.now)) (λ n. record { first = n; rows = filter (same n) (numbers_of G.input.now) }) ∙ ap length (sym G.seen)

@@ -1,20 +1,25 @@
 -- Groups of rows, as they are first seen.
-use Rattle.std.specs.Prelude.{ℕ, zero, suc, Bool, not, List, [], ◌∷◌, ◌++◌, map, filter, flat_map, Option, Some, None, option_map}
-use Rattle.schema.specs.Databases.{values_at}
+use Rattle.std.specs.Prelude.{◌≡◌, ℕ, zero, suc, ◌+◌, ◌<◌, Bool, not, List, [], ◌∷◌, ◌++◌, length, map, filter, slice_index_or, Some}
+use Rattle.std.specs.List.{range_with_len}
+use Rattle.values.specs.declared.value.Value.{Value}
+use Rattle.schema.specs.Databases.{Row}
 use Rattle.store.specs.Keys.{key_eq}
+use Rattle.query.specs.declared.query.Aggregate.{Aggregate}
+use Rattle.query.specs.declared.aggregates.Running.{Running}
+use Rattle.query.specs.Running.{IsAfter}
 use Rattle.algebra.specs.Columns.{has}
 use Rattle.algebra.specs.Bags.{Env, lay}
 use Rattle.algebra.specs.Expressions.{with_aggregates}
-use Rattle.operators.specs.declared.rows.RowData.{RowData}
+use Rattle.operators.specs.declared.headings.Place.{Place}
+use Rattle.operators.specs.declared.rows.Rows.{Rows}
 use Rattle.operators.specs.declared.relation.Relation.{Relation}
-use Rattle.operators.specs.declared.keys.Group as lent
-use Rattle.operators.specs.declared.headings.Heading.{Heading}
 use Rattle.operators.specs.declared.groups.Grouping.{Grouping}
-use Rattle.operators.specs.Relations.{values_of, row_env, column_places}
+use Rattle.operators.specs.Parts.{row_at, value_in}
+use Rattle.operators.specs.Relations.{numbered_env, numbers_of}
 
--- rows, and the first of those that are the same; none where they need not be
+-- rows, and the first of those that are the same
 pub record GroupOf (X : Type 0) : Type 0 where
-  pub first : Option X
+  pub first : X
   pub rows : List X
 
 module _ {X : Type 0} (same : X → X → Bool) where
@@ -24,48 +29,57 @@ module _ {X : Type 0} (same : X → X → Bool) where
   first_seen (r ∷ rows) = r ∷ filter (λ s. not (same r s)) (first_seen rows)
 
   abbrev pub groups_by : List X → List (GroupOf X)
-  groups_by rows = map (λ r. record { first = Some r; rows = filter (same r) rows }) (first_seen rows)
+  groups_by rows = map (λ r. record { first = r; rows = filter (same r) rows }) (first_seen rows)
 
 -- a row comes last in the group with this number, or founds one
 abbrev pub added_at : {X : Type 0} → ℕ → X → List (GroupOf X) → List (GroupOf X)
-added_at n r [] = record { first = Some r; rows = r ∷ [] } ∷ []
+added_at n r [] = record { first = r; rows = r ∷ [] } ∷ []
 added_at zero r (g ∷ groups) = record { first = g.first; rows = g.rows ++ r ∷ [] } ∷ groups
 added_at (suc n) r (g ∷ groups) = g ∷ added_at n r groups
 
--- the first rows of groups that have one
-abbrev pub first_of : {X : Type 0} → Option X → List X
-first_of None = []
-first_of (Some r) = r ∷ []
+-- the first rows, one more among them where there is no group of this number
+abbrev pub with_founder : {X : Type 0} → List X → ℕ → X → List X
+with_founder [] group r = r ∷ []
+with_founder (f ∷ firsts) zero r = f ∷ firsts
+with_founder (f ∷ firsts) (suc group) r = f ∷ with_founder firsts group r
 
-abbrev pub firsts_of : {X : Type 0} → List (GroupOf X) → List X
-firsts_of groups = flat_map (λ g. first_of g.first) groups
+-- ---- rows by their numbers
 
--- ---- of rows that are lent
+-- the values at the places
+abbrev pub key_at : List Place → List Row → Row
+key_at places row = map (λ place. value_in (Some place) row) places
 
 -- the rows have the same values at the places
-abbrev pub same_at : List ℕ → RowData → RowData → Bool
-same_at places r s = key_eq (values_at places (values_of r)) (values_at places (values_of s))
+abbrev pub same_at : List Place → Rows → ℕ → ℕ → Bool
+same_at places rows m n = key_eq (key_at places (row_at rows.parts.items m)) (key_at places (row_at rows.parts.items n))
 
-abbrev pub group_of : lent.Group → GroupOf RowData
-group_of g = record { first = option_map (λ r. r.now) g.first; rows = map (λ r. r.row.now) g.rows.items }
+-- each row comes to the group of its number
+abbrev pub AreNumbered : (ℕ → ℕ → Bool) → List ℕ → Type 0
+AreNumbered same numbers = (n : ℕ) → n < length numbers → groups_by same (range_with_len 0 (n + 1)) ≡ added_at (slice_index_or numbers n 0) n (groups_by same (range_with_len 0 n))
+
+-- ---- groups of a relation
+
+-- the groups of a relation's rows by their values at some places
+abbrev pub placed_groups : List Place → Relation → List (GroupOf ℕ)
+placed_groups places input = groups_by (same_at places input.rows) (numbers_of input)
+
+-- the row of a group of these rows, the first given as an environment
+abbrev pub group_env : Grouping → List Env → Env → Env → Env
+group_env g members first e = with_aggregates g.added.now members (lay (has g.keys.now) first e)
 
 -- the rows of a group
-abbrev pub member_envs : Heading → GroupOf RowData → Env → List Env
-member_envs h group e = map (λ r. row_env h r e) group.rows
+abbrev pub member_envs : Relation → Env → GroupOf ℕ → List Env
+member_envs input e group = map (numbered_env input e) group.rows
 
--- the first row of a group; the environment where it has none
-abbrev pub first_env : Heading → Option RowData → Env → Env
-first_env h None e = e
-first_env h (Some r) e = row_env h r e
+-- the rows of the groups
+abbrev pub group_envs : Grouping → Relation → Env → List (GroupOf ℕ) → List Env
+group_envs g input e groups = map (λ group. group_env g (member_envs input e group) (numbered_env input e group.first) e) groups
 
--- the row of a group
-abbrev pub group_env : Grouping → Heading → Env → GroupOf RowData → Env
-group_env g h e group = with_aggregates g.added.now (member_envs h group e) (lay (has g.keys.now) (first_env h group.first e) e)
+-- ---- aggregates that run
 
--- all rows as one group
-abbrev pub all_of : Relation → GroupOf RowData
-all_of input = record { first = None; rows = input.rows.items }
-
--- the groups of a relation by the values of some columns
-abbrev pub relation_groups : List ℕ → Relation → List (GroupOf RowData)
-relation_groups K input = groups_by (same_at (column_places input.heading K)) input.rows.items
+-- each is the aggregate of a group's rows
+abbrev pub AreAfter : Aggregate → (ℕ → Value) → List (GroupOf ℕ) → List Running → Type 0
+AreAfter a value [] [] = Unit {0}
+AreAfter a value [] (r ∷ running) = ⊥
+AreAfter a value (g ∷ groups) [] = ⊥
+AreAfter a value (g ∷ groups) (r ∷ running) = IsAfter a (map value g.rows) r × AreAfter a value groups running

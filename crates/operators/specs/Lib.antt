@@ -1,4 +1,9 @@
+pub mod Grouped
 pub mod Groups
 pub mod Joins
+pub mod Parts
 pub mod Places
 pub mod Relations
+pub mod Resolved
+pub mod Shown
+pub mod Sorting

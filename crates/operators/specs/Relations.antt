@@ -1,15 +1,15 @@
 -- Rows, relations and environments of an executor, as those of the algebra.
-use Rattle.std.specs.Prelude.{◌≡◌, ℕ, zero, suc, ◌==◌, if◌then◌else◌, List, [], ◌∷◌, map, slice_index_or, Option, Some, None}
+use Rattle.std.specs.Prelude.{◌≡◌, ℕ, zero, suc, ◌==◌, if◌then◌else◌, List, [], ◌∷◌, map, Option, Some, None}
 use Rattle.std.specs.Borrow.{Bor}
-use Rattle.values.specs.Cells.{value_of}
+use Rattle.std.specs.List.{range_with_len}
 use Rattle.schema.specs.Databases.{Row}
 use Rattle.algebra.specs.Columns.{has}
 use Rattle.algebra.specs.Bags.{Env, Bag, lay, nulls}
 use Rattle.physical.specs.Outputs.{Output, no_classes}
-use Rattle.operators.specs.Places.{place_in, place_list, value_in}
-use Rattle.operators.specs.declared.rows.RowData.{RowData}
-use Rattle.operators.specs.declared.rows.RowData.TheVariants.{Stored, Made}
+use Rattle.operators.specs.Parts.{row_at, value_in}
+use Rattle.operators.specs.Places.{place_in, place_list}
 use Rattle.operators.specs.declared.headings.Heading.{Heading}
+use Rattle.operators.specs.declared.headings.Place.{Place}
 use Rattle.operators.specs.declared.relation.Relation.{Relation}
 use Rattle.operators.specs.declared.truth.Subqueries.{Subqueries}
 use Rattle.operators.specs.declared.environment.Env as lent
@@ -17,27 +17,30 @@ use Rattle.operators.specs.declared.environment.Env.{Empty, Inner'}
 
 -- ---- rows
 
--- the values of a row by their places
-abbrev pub values_of : RowData → Row
-values_of (Stored table row) = slice_index_or table.now row []
-values_of (Made cells) = map value_of cells.items
-
 -- a column's place in the rows under a heading, and the places of those of the columns that have one
-abbrev pub column_place : Heading → ℕ → Option ℕ
+abbrev pub column_place : Heading → ℕ → Option Place
 column_place h c = place_in h.columns h.places.items c
 
-abbrev pub column_places : Heading → List ℕ → List ℕ
+abbrev pub column_places : Heading → List ℕ → List Place
 column_places h K = place_list h.columns h.places.items K
 
 -- the environment overlaid with a row
-abbrev pub row_env : Heading → RowData → Env → Env
-row_env h row e = lay (has h.columns) (λ c. value_in (column_place h c) (values_of row)) e
+abbrev pub row_env : Heading → List Row → Env → Env
+row_env h row e = lay (has h.columns) (λ c. value_in (column_place h c) row) e
 
 -- ---- relations
 
+-- the environment overlaid with the row with a number
+abbrev pub numbered_env : Relation → Env → ℕ → Env
+numbered_env r e n = row_env r.heading (row_at r.rows.parts.items n) e
+
+-- the numbers of a relation's rows
+abbrev pub numbers_of : Relation → List ℕ
+numbers_of r = range_with_len 0 r.rows.count
+
 -- the rows of a relation in an environment
 abbrev pub rows_of : Relation → Bag
-rows_of r e = map (λ row. row_env r.heading row e) r.rows.items
+rows_of r e = map (numbered_env r e) (numbers_of r)
 
 -- a relation has these columns, and in the environment these rows
 pub record IsOutput (columns : List ℕ) (rows : List Env) (e : Env) (r : Relation) : Type 0 where
@@ -49,7 +52,7 @@ pub record IsOutput (columns : List ℕ) (rows : List Env) (e : Env) (r : Relati
 -- what each column reads as
 abbrev pub env_of : lent.Env → Env
 env_of Empty = nulls
-env_of (Inner' heading row _ outer) = row_env heading.now row.now (env_of outer)
+env_of (Inner' relation number _ outer) = numbered_env relation.now (env_of outer) number
 
 -- ---- subqueries
 

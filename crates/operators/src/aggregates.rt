@@ -1,32 +1,96 @@
-//! Aggregates of the rows of a group.
+//! Aggregates of rows that come one by one.
 
-ghost use Rattle.std.specs.Prelude.{◌≡◌, length, map};
+ghost use Rattle.std.specs.Prelude.{◌≡◌, ◌+◌, ◌^◌, ◌<◌, ℕ, List, [], ◌∷◌, length, map, IfOk, OnOk};
 ghost use Rattle.std.specs.List.{AllByRecursion};
+ghost use Rattle.values.specs.declared.value.Value.{Value};
 ghost use Rattle.values.specs.Cells.{value_of};
 ghost use Rattle.query.specs.Aggregates as spec;
-ghost use Rattle.operators.specs.Groups.{group_of, member_envs};
-ghost use Rattle.operators.specs.Relations.{env_of};
+ghost use Rattle.operators.specs.Groups.{AreAfter, GroupOf, added_at, member_envs};
+ghost use Rattle.operators.specs.Grouped.{groups_in};
+ghost use Rattle.query.specs.Running.{IsAfter};
+ghost use Rattle.operators.specs.Relations.{env_of, numbered_env, rows_of};
 
 use crate::environment::{Env, row_cell};
-use crate::headings::Heading;
-use crate::keys::Group;
+use crate::grouped::Groups;
+use crate::relation::Relation;
 use query::Aggregate;
 use query::aggregates::{Running, column_of};
+use std::alloc::{AllocError, Global};
 use values::Cell;
 
-/// An aggregate of the rows of a group.
-pub fn aggregate<'t>(
-    heading: &Heading,
-    group: &Group<'_, 't>,
-    env: &Env<'_, 't>,
-    of: Aggregate,
-) -> Cell<'t>
-    requires { AllByRecursion (spec.MayRead of) (member_envs heading.now (group_of group.now) (env_of env.now)) }
-    ensures { value_of result ≡ spec.aggregate_of of (length (member_envs heading.now (group_of group.now) (env_of env.now))) (λ k. map (λ r. r k) (member_envs heading.now (group_of group.now) (env_of env.now))) }
+/// An aggregate of all rows.
+pub fn aggregate_of_all<'t>(input: &Relation<'t>, env: &Env<'_, 't>, of: Aggregate) -> Cell<'t>
+    requires { AllByRecursion (spec.MayRead of) (rows_of input.now (env_of env.now)) }
+    ensures { value_of result ≡ spec.aggregate_of of (length (rows_of input.now (env_of env.now))) (λ k. map (λ r. r k) (rows_of input.now (env_of env.now))) }
 {
     let mut running = Running::new(of);
-    for row in group.rows.as_slice() {
-        running.add(row_cell(heading, row.row, env, column_of(of)));
+    for number in 0..input.rows.count {
+        running.add(row_cell(input, number, env, column_of(of)));
     }
     running.value()
+}
+
+/// An aggregate of one value.
+fn running_of<'t>(of: Aggregate, cell: Cell<'t>) -> Running<'t>
+    requires { spec.MayRead of (λ place. value_of cell) }
+    ensures { IsAfter of (value_of cell.entry ∷ []) result }
+{
+    let mut running = Running::new(of);
+    running.add(cell);
+    running
+}
+
+/// Takes the value of one row more into the aggregate of the group with this number, which it founds where there is none.
+fn add_to_group<'t>(
+    running: &mut Vec<Running<'t>>,
+    group: usize,
+    of: Aggregate,
+    cell: Cell<'t>,
+) -> Result<(), AllocError>
+    requires few { AllByRecursion (λ r. (r.of ≡ of) × (r.rows + 1 < 2 ^ 64)) running.old.items }
+    requires read { spec.MayRead of (λ place. value_of cell) }
+    ensures { (value : ℕ → Value) (groups : List (GroupOf ℕ)) (n : ℕ) → value_of cell.entry ≡ value n → AreAfter of value groups running.old.items → OnOk result (AreAfter of value (added_at group n groups) running.new.items) }
+{
+    if group < running.len() {
+        running[group].add(cell);
+        return Ok(());
+    }
+    running.push(running_of(of, cell))?;
+    Ok(())
+}
+
+/// An aggregate of each group, while the rows come in their order.
+fn running_groups<'t>(
+    alloc: Global,
+    groups: &Groups<'_, 't>,
+    env: &Env<'_, 't>,
+    of: Aggregate,
+) -> Result<Vec<Running<'t>>, AllocError>
+    requires { AllByRecursion (spec.MayRead of) (rows_of groups.now.input.now (env_of env.now)) }
+    ensures { IfOk result (λ running. AreAfter of (λ n. numbered_env groups.now.input.now (env_of env.now) n (spec.column_of of)) (groups_in groups.now) running.items) }
+{
+    let mut running = Vec::new(alloc);
+    for row in 0..groups.input.rows.count {
+        let cell = row_cell(groups.input, row, env, column_of(of));
+        add_to_group(&mut running, groups.numbers[row], of, cell)?;
+    }
+    Ok(running)
+}
+
+/// An aggregate of each group.
+pub fn aggregate_column<'t>(
+    alloc: Global,
+    groups: &Groups<'_, 't>,
+    env: &Env<'_, 't>,
+    of: Aggregate,
+) -> Result<Vec<Cell<'t>>, AllocError>
+    requires { AllByRecursion (spec.MayRead of) (rows_of groups.now.input.now (env_of env.now)) }
+    ensures { IfOk result (λ cells. map value_of cells.items ≡ map (λ group. spec.aggregate_of of (length (member_envs groups.now.input.now (env_of env.now) group)) (λ k. map (λ r. r k) (member_envs groups.now.input.now (env_of env.now) group))) (groups_in groups.now)) }
+{
+    let running = running_groups(alloc, groups, env, of)?;
+    let mut cells = Vec::with_capacity(alloc, running.len())?;
+    for group in running.as_slice() {
+        cells.push(group.value())?;
+    }
+    Ok(cells)
 }

@@ -1,88 +1,139 @@
 //! Rows by their values at some places.
 
-ghost use Rattle.std.specs.Prelude.{◌≡◌, map, [], ◌∷◌, Some, IfOk, OnOk};
-ghost use Rattle.std.specs.List.{position_or_len};
+ghost use Rattle.std.specs.Prelude.{◌≡◌, ◌<◌, ◌++◌, ◌∷◌, [], true, length, map, slice_index_or, IfOk, OnOk, flat_map};
+ghost use Rattle.std.specs.Cmp.{partial_equiv_from_equiv};
+ghost use Rattle.std.specs.List.{position_or_len, range_with_len};
 ghost use Rattle.indexmap.specs.IndexSet.{insert_key};
-ghost use Rattle.schema.specs.Databases.{values_at};
-ghost use Rattle.operators.specs.Relations.{values_of};
-ghost use Rattle.store.specs.Keys.{key_eq};
+ghost use Rattle.values.specs.Cells.{value_of};
+ghost use Rattle.values.specs.declared.value.Value.TheVariants as value;
+ghost use Rattle.store.specs.Keys.{key_eq, key_writes, key_equiv, key_alike};
 ghost use Rattle.operators.specs.Groups as spec;
+ghost use Rattle.operators.specs.Parts.{row_at};
 
-use crate::rows::RowData;
+use crate::headings::Place;
+use crate::rows::Rows;
 use indexmap::IndexSet;
 use std::alloc::{AllocError, Global};
-use store::RowKey;
+use std::hash::{Hash, Hasher};
+use std::marker::Model;
+use values::Cell;
 
-/// A row that is lent.
-#[derive(Clone, Copy)]
-pub struct RowRef<'a, 't> {
-    pub row: &'a RowData<'t>,
-}
-
-/// The rows that are the same at some places.
+/// The values of a row at some places, seen as their list.
 #[derive(Drop)]
-pub struct Group<'a, 't> {
-    /// The one that was seen first; none of the group of all rows.
-    pub first: Option<&'a RowData<'t>>,
-    pub rows: Vec<RowRef<'a, 't>>,
-}
-
-/// A group of one row.
-fn founded<'a, 't>(alloc: Global, row: &'a RowData<'t>) -> Result<Group<'a, 't>, AllocError>
-    ensures { IfOk result (λ group. spec.group_of group ≡ record { first = Some row.entry.now; rows = row.entry.now ∷ [] }) }
-{
-    let mut rows = Vec::new(alloc);
-    rows.push(RowRef { row })?;
-    Ok(Group {
-        first: Some(row),
-        rows,
-    })
-}
-
-/// Adds a row to the group with this number; it founds one where there is none.
-fn add_row<'a, 't>(
-    alloc: Global,
-    groups: &mut Vec<Group<'a, 't>>,
+pub struct PlacedKey<'a, 't> {
+    rows: &'a Rows<'t>,
+    places: &'a [Place],
     number: usize,
-    row: &'a RowData<'t>,
-) -> Result<(), AllocError>
-    ensures { OnOk result (map spec.group_of groups.new.items ≡ spec.added_at number row.entry.now (map spec.group_of groups.old.items)) }
-{
-    if number < groups.len() {
-        groups[number].rows.push(RowRef { row })?;
-        return Ok(());
+}
+
+impl<'a, 't> Model for PlacedKey<'a, 't> {
+    ghost use Rattle.schema.specs.Databases.{Row};
+    ghost use Rattle.operators.specs.Groups.{key_at};
+    ghost use Rattle.operators.specs.Parts.{row_at};
+
+    ghost Value = { Row };
+
+    ghost view = { λ k. key_at k.places.now (row_at k.rows.now.parts.items k.number) };
+}
+
+impl<'a, 't> PlacedKey<'a, 't> {
+    fn new(rows: &'a Rows<'t>, places: &'a [Place], number: usize) -> PlacedKey<'a, 't>
+        ensures { result ≡ spec.key_at places.entry.now (row_at rows.entry.now.parts.items number) }
+    {
+        PlacedKey {
+            rows,
+            places,
+            number,
+        }
     }
-    groups.push(founded(alloc, row)?)?;
-    Ok(())
+
+    fn len(&self) -> usize
+        ensures { result ≡ length self.now }
+    {
+        self.places.len()
+    }
+
+    fn cell(&self, at: usize) -> Cell<'t>
+        requires { at < length self.now }
+        ensures { value_of result ≡ slice_index_or self.now at value.Null }
+    {
+        self.rows.cell(self.number, self.places[at])
+    }
 }
 
-/// Adds a row to the group of its values at the places; each group has a key, by its number.
-fn place_row<'a, 't>(
-    alloc: Global,
-    keys: &mut IndexSet<RowKey<'a, 't>>,
-    groups: &mut Vec<Group<'a, 't>>,
-    row: &'a RowData<'t>,
-    places: &'a [usize],
-) -> Result<(), AllocError>
-    ensures keys { OnOk result (keys.new.keys ≡ insert_key key_eq keys.old.keys (values_at places.entry.now (values_of row.entry.now))) }
-    ensures groups { OnOk result (map spec.group_of groups.new.items ≡ spec.added_at (position_or_len (key_eq (values_at places.entry.now (values_of row.entry.now))) keys.old.keys) row.entry.now (map spec.group_of groups.old.items)) }
-{
-    let (number, _) = keys.insert_full(RowKey::new(row.cells(), places))?;
-    add_row(alloc, groups, number, row)
+impl PartialEq for PlacedKey<'_, '_> {
+    ghost eq = { key_eq };
+
+    ghost laws = { partial_equiv_from_equiv key_equiv };
+
+    fn eq(&self, other: &PlacedKey<'_, '_>) -> bool {
+        if self.len() != other.len() {
+            return false;
+        }
+        for at in 0..self.len() {
+            if self.cell(at) != other.cell(at) {
+                return false;
+            }
+        }
+        true
+    }
 }
 
-/// The rows that are the same at the places, in the order in which they were first seen.
-pub fn groups_of<'a, 't>(
+impl Eq for PlacedKey<'_, '_> {
+    ghost laws = { key_equiv };
+}
+
+impl Hash for PlacedKey<'_, '_> {
+    ghost hash_input = { key_writes };
+
+    ghost respects_eq = { key_alike };
+
+    fn hash<H: Hasher>(&self, state: &mut H) {
+        for at in 0..self.len() {
+            self.cell(at).hash(state);
+        }
+    }
+}
+
+/// The number of the row that was seen first in each group, and the number of each row's group.
+#[derive(Drop)]
+pub struct GroupNumbers {
+    pub firsts: Vec<usize>,
+    pub numbers: Vec<usize>,
+}
+
+impl GroupNumbers {
+    /// Adds the row that comes next: to the group with this number, or as the first of a new one.
+    fn add(&mut self, row: usize, group: usize) -> Result<(), AllocError>
+        ensures firsts { OnOk result (self.new.firsts.items ≡ spec.with_founder self.old.firsts.items group row) }
+        ensures numbers { OnOk result (self.new.numbers.items ≡ self.old.numbers.items ++ group ∷ []) }
+    {
+        if self.firsts.len() <= group {
+            self.firsts.push(row)?;
+        }
+        self.numbers.push(group)?;
+        Ok(())
+    }
+}
+
+/// The groups of the rows that are the same at the places, in the order in which they were first seen.
+pub fn group_numbers<'a, 't>(
     alloc: Global,
-    rows: &'a [RowData<'t>],
-    places: &'a [usize],
-) -> Result<Vec<Group<'a, 't>>, AllocError>
-    ensures { IfOk result (λ groups. map spec.group_of groups.items ≡ spec.groups_by (spec.same_at places.entry.now) rows.entry.now) }
+    rows: &'a Rows<'t>,
+    places: &'a [Place],
+) -> Result<GroupNumbers, AllocError>
+    ensures firsts { IfOk result (λ groups. groups.firsts.items ≡ spec.first_seen (spec.same_at places.now rows.now) (range_with_len 0 rows.now.count)) }
+    ensures numbers { IfOk result (λ groups. spec.AreNumbered (spec.same_at places.now rows.now) groups.numbers.items) }
+    ensures each { IfOk result (λ groups. length groups.numbers.items ≡ rows.now.count) }
 {
     let mut keys = IndexSet::new(alloc);
-    let mut groups = Vec::new(alloc);
-    for row in rows {
-        place_row(alloc, &mut keys, &mut groups, row, places)?;
+    let mut groups = GroupNumbers {
+        firsts: Vec::new(alloc),
+        numbers: Vec::new(alloc),
+    };
+    for number in 0..rows.count {
+        let (group, _) = keys.insert_full(PlacedKey::new(rows, places, number))?;
+        groups.add(number, group)?;
     }
     Ok(groups)
 }

@@ -2,18 +2,23 @@
 #![tactic(auto)]
 
 mod aggregates;
+mod building;
 mod environment;
+mod grouped;
 mod groups;
 mod headings;
 mod joins;
 mod keys;
+mod parts;
 mod relation;
 mod rows;
 mod running;
 mod scans;
 mod shown;
 mod sorting;
+mod terms;
+mod tests;
 mod truth;
 
-pub use running::{Sources, plan_rows};
-pub use shown::Row;
+pub use running::{Sources, plan_found, plan_rows};
+pub use shown::{FoundRows, Row, owned_rows};

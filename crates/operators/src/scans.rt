@@ -1,35 +1,35 @@
 //! Scans, filters and projections.
 
-ghost use Rattle.std.specs.Prelude.{◌≡◌, [], map, slice_get, slice_index_or, IfOk};
+ghost use Rattle.std.specs.Prelude.{◌≡◌, if◌then◌else◌, [], ◌∷◌, ◌++◌, map, filter, slice_get, slice_index_or, IfOk, OnOk};
 ghost use Rattle.schema.specs.declared.schema.Schema.{Schema};
+ghost use Rattle.values.specs.Cells.{value_of};
 ghost use Rattle.query.specs.Rows.{tables_of};
 ghost use Rattle.algebra.specs.Bags as bags;
 ghost use Rattle.algebra.specs.Columns.{has};
 ghost use Rattle.algebra.specs.Conditions as spec;
 ghost use Rattle.algebra.specs.Expressions.{get_columns, get_rows};
-ghost use Rattle.operators.specs.Relations.{IsOutput, env_of, row_env, rows_of, subqueries_given, values_of};
+ghost use Rattle.physical.specs.Outputs.{no_classes};
+ghost use Rattle.operators.specs.Relations.{IsOutput, env_of, numbered_env, numbers_of, rows_of};
 
-use crate::environment::Env;
+use crate::environment::{Env, row_cell};
 use crate::headings::Heading;
+use crate::parts::Part;
 use crate::relation::Relation;
-use crate::rows::{RowData, stored_rows};
-use crate::truth::{Subqueries, holds};
+use crate::rows::Rows;
+use crate::tests::{passes_all, resolve};
 use algebra::{Columns, Condition};
 use query::{ColumnId, OccurrenceId, TableInstance};
 use std::alloc::{AllocError, Global};
 use store::Table;
+use values::Cell;
 
 /// The rows of the table with this number; none where there is no such table.
-fn table_rows<'t>(
-    alloc: Global,
-    tables: &'t [Table],
-    number: usize,
-) -> Result<Vec<RowData<'t>>, AllocError>
-    ensures { IfOk result (λ rows. map values_of rows.items ≡ slice_index_or tables.entry.now number []) }
+fn table_part<'t>(alloc: Global, tables: &'t [Table], number: usize) -> Part<'t>
+    ensures { result ≡ slice_index_or tables.entry.now number [] }
 {
     match tables.get(number) {
-        Some(table) => stored_rows(alloc, table),
-        None => Ok(Vec::new(alloc)),
+        Some(table) => Part::of_table(table),
+        None => Part::made(Vec::new(alloc)),
     }
 }
 
@@ -46,36 +46,54 @@ pub fn scanned<'t>(
         return Relation::none(alloc);
     };
     let columns = Columns::of_occurrence(alloc, uses, occurrence)?;
-    Ok(Relation {
-        heading: Heading::new(alloc, columns)?,
-        rows: table_rows(alloc, tables, table_use.table)?,
-    })
+    let heading = Heading::of_table(alloc, columns)?;
+    let rows = Rows::of_part(alloc, table_part(alloc, tables, table_use.table))?;
+    Ok(Relation { heading, rows })
+}
+
+/// Adds a number that passes.
+pub fn push_if(kept: &mut Vec<usize>, number: usize, passes: bool) -> Result<(), AllocError>
+    ensures { OnOk result (kept.new.items ≡ kept.old.items ++ (if passes then number ∷ [] else [])) }
+{
+    if passes {
+        kept.push(number)?;
+    }
+    Ok(())
+}
+
+/// The numbers of the rows at which all conditions are true.
+fn passing<'t>(
+    alloc: Global,
+    conditions: &[Condition],
+    input: &Relation<'t>,
+    env: &Env<'_, 't>,
+) -> Result<Vec<usize>, AllocError>
+    ensures { IfOk result (λ kept. kept.items ≡ filter (λ n. spec.holds no_classes conditions.now (numbered_env input.now (env_of env.now) n)) (numbers_of input.now)) }
+{
+    let mut tests = Vec::new(alloc);
+    resolve(conditions, input, env, &mut tests)?;
+    let mut kept = Vec::new(alloc);
+    for number in 0..input.rows.count {
+        push_if(
+            &mut kept,
+            number,
+            passes_all(tests.as_slice(), input, number, env),
+        )?;
+    }
+    Ok(kept)
 }
 
 /// The rows at which all conditions are true.
 pub fn filtered<'t>(
+    alloc: Global,
     conditions: &[Condition],
-    subqueries: Subqueries<'_, '_>,
     input: Relation<'t>,
-    env: &Env<'_, '_>,
-) -> Relation<'t>
-    ensures { IsOutput input.entry.heading.columns (bags.select (spec.holds (subqueries_given subqueries.entry) conditions.now) (rows_of input.entry) (env_of env.now)) (env_of env.now) result }
+    env: &Env<'_, 't>,
+) -> Result<Relation<'t>, AllocError>
+    ensures { IfOk result (IsOutput input.entry.heading.columns (bags.select (spec.holds no_classes conditions.now) (rows_of input.entry) (env_of env.now)) (env_of env.now)) }
 {
-    let Relation { heading, mut rows } = input;
-    rows.retain(|row| row_holds(conditions, subqueries, &heading, row, env));
-    Relation { heading, rows }
-}
-
-fn row_holds(
-    conditions: &[Condition],
-    subqueries: Subqueries<'_, '_>,
-    heading: &Heading,
-    row: &RowData<'_>,
-    env: &Env<'_, '_>,
-) -> bool
-    ensures { result ≡ spec.holds (subqueries_given subqueries.entry) conditions.now (row_env heading.now row.now (env_of env.now)) }
-{
-    holds(conditions, subqueries, &Env::Inner(&*heading, &*row, &*env))
+    let kept = passing(alloc, conditions, &input, env)?;
+    input.chosen(alloc, kept.as_slice())
 }
 
 /// The rows with these columns alone.
@@ -92,13 +110,10 @@ pub fn projected<'t>(
     if places.as_slice().len() != wanted.len() {
         return copied(alloc, columns, &input, env);
     }
-    Ok(Relation {
-        heading: Heading {
-            columns: columns.copy(alloc)?,
-            places,
-        },
-        rows: input.rows,
-    })
+    let columns = columns.copy(alloc)?;
+    let Relation { heading: _, rows } = input;
+    let heading = Heading { columns, places };
+    Ok(Relation { heading, rows })
 }
 
 /// The same where the rows lack one of the columns: it is that of the environment.
@@ -110,23 +125,39 @@ fn copied<'t>(
 ) -> Result<Relation<'t>, AllocError>
     ensures { IfOk result (IsOutput columns.now (bags.keep (has columns.now) (rows_of input.now) (env_of env.now)) (env_of env.now)) }
 {
-    let rows = copies(alloc, columns.as_slice(), input, env)?;
-    let columns = columns.copy(alloc)?;
-    Relation::new(alloc, columns, rows)
+    let parts = copies(alloc, columns.as_slice(), input, env)?;
+    Relation::made(alloc, columns.copy(alloc)?, input.rows.count, parts)
 }
 
-/// The rows with the columns as they are in the environment of each.
+/// The columns as they are in the environment of each row.
 fn copies<'t>(
     alloc: Global,
     columns: &[ColumnId],
     input: &Relation<'t>,
     env: &Env<'_, 't>,
-) -> Result<Vec<RowData<'t>>, AllocError>
-    ensures { IfOk result (λ rows. map values_of rows.items ≡ map (λ f. map f columns.now) (rows_of input.now (env_of env.now))) }
+) -> Result<Vec<Part<'t>>, AllocError>
+    ensures { IfOk result (λ parts. parts.items ≡ map (λ c. map (λ f. f c ∷ []) (rows_of input.now (env_of env.now))) columns.now) }
 {
-    let mut rows = Vec::with_capacity(alloc, input.rows.len())?;
-    for row in input.rows.as_slice() {
-        rows.push(Env::Inner(&input.heading, &*row, &*env).row(alloc, columns)?)?;
+    let mut parts = Vec::with_capacity(alloc, columns.len())?;
+    for column in columns {
+        let cells = column_cells(alloc, *column, input, env)?;
+        parts.push(Part::made(cells))?;
     }
-    Ok(rows)
+    Ok(parts)
+}
+
+/// A column as it is in the environment of each row.
+fn column_cells<'t>(
+    alloc: Global,
+    column: ColumnId,
+    input: &Relation<'t>,
+    env: &Env<'_, 't>,
+) -> Result<Vec<Cell<'t>>, AllocError>
+    ensures { IfOk result (λ cells. map value_of cells.items ≡ map (λ f. f column) (rows_of input.now (env_of env.now))) }
+{
+    let mut cells = Vec::with_capacity(alloc, input.rows.count)?;
+    for number in 0..input.rows.count {
+        cells.push(row_cell(input, number, env, column))?;
+    }
+    Ok(cells)
 }

@@ -1,41 +1,105 @@
-//! Rows of values of their own.
+//! The rows of an answer.
 
-ghost use Rattle.std.specs.Prelude.{◌≡◌, map, IfOk};
+ghost use Rattle.std.specs.Prelude.{◌≡◌, ◌<◌, length, map, slice_index_or, [], None, IfOk};
 ghost use Rattle.algebra.specs.Bags.{nulls};
-ghost use Rattle.operators.specs.Relations.{env_of, rows_of};
+ghost use Rattle.operators.specs.Relations.{rows_of};
 
-use crate::environment::Env;
+use crate::headings::Place;
 use crate::relation::Relation;
+use crate::rows::Rows;
 use query::ColumnId;
 use std::alloc::{AllocError, Global};
-use values::{Items, Value};
+use std::marker::Model;
+use store::RowSource;
+use values::{Cell, Items, Value};
 
 /// A row with values of its own.
 pub type Row = Items<Value>;
 
-/// The columns as they are here.
-fn shown_row(alloc: Global, columns: &[ColumnId], row: &Env<'_, '_>) -> Result<Row, AllocError>
-    ensures { IfOk result (λ shown. shown ≡ map (env_of row.now) columns.now) }
+/// The rows that a plan produced, in the columns that were asked. They lend their cells.
+#[derive(Drop)]
+pub struct FoundRows<'t> {
+    rows: Rows<'t>,
+    /// The place of each column; none where the rows lack it, and it is Null.
+    places: Items<Option<Place>>,
+}
+
+impl<'t> Model for FoundRows<'t> {
+    ghost use Rattle.std.specs.Prelude.{List};
+    ghost use Rattle.schema.specs.Databases.{Row};
+    ghost use Rattle.operators.specs.Shown.{shown_rows};
+
+    ghost Value = { List Row };
+
+    ghost view = { λ f. shown_rows f.rows f.places };
+}
+
+impl<'t> FoundRows<'t> {
+    /// The columns of each row.
+    pub(crate) fn new(
+        alloc: Global,
+        columns: &[ColumnId],
+        found: Relation<'t>,
+    ) -> Result<FoundRows<'t>, AllocError>
+        ensures { IfOk result (λ shown. shown ≡ map (λ r. map r columns.now) (rows_of found.entry nulls)) }
+    {
+        let Relation { heading, rows } = found;
+        let mut places = Vec::with_capacity(alloc, columns.len())?;
+        for column in columns {
+            places.push(heading.place_of(*column))?;
+        }
+        Ok(FoundRows {
+            rows,
+            places: Items::from_vec(places),
+        })
+    }
+}
+
+fn place_at(places: &[Option<Place>], column: usize) -> Option<Place>
+    requires { column < length places.now }
+    ensures { result ≡ slice_index_or places.now column None }
 {
-    let mut values = Vec::with_capacity(alloc, columns.len())?;
-    for column in columns {
-        values.push(row.column(*column).to_value(alloc)?)?;
+    places[column]
+}
+
+impl RowSource for FoundRows<'_> {
+    ghost rows = { λ f. f };
+
+    fn len(&self) -> usize {
+        self.rows.count
+    }
+
+    fn width(&self) -> usize {
+        self.places.len()
+    }
+
+    fn cell(&self, row: usize, column: usize) -> Cell<'_> {
+        match place_at(self.places.as_slice(), column) {
+            Some(place) => self.rows.cell(row, place),
+            None => Cell::Null,
+        }
+    }
+}
+
+/// A row with values of its own.
+fn owned_row(alloc: Global, found: &FoundRows<'_>, number: usize) -> Result<Row, AllocError>
+    requires { number < length found.now }
+    ensures { IfOk result (λ row. row ≡ slice_index_or found.now number []) }
+{
+    let mut values = Vec::with_capacity(alloc, found.width())?;
+    for item in 0..found.width() {
+        values.push(found.cell(number, item).to_value(alloc)?)?;
     }
     Ok(Items::from_vec(values))
 }
 
-/// The columns of each row.
-pub fn answer_rows(
-    alloc: Global,
-    columns: &[ColumnId],
-    found: &Relation<'_>,
-) -> Result<Vec<Row>, AllocError>
-    ensures { IfOk result (λ shown. shown.items ≡ map (λ r. map r columns.now) (rows_of found.now nulls)) }
+/// The rows with values of their own.
+pub fn owned_rows(alloc: Global, found: &FoundRows<'_>) -> Result<Vec<Row>, AllocError>
+    ensures { IfOk result (λ rows. rows.items ≡ found.now) }
 {
-    let mut all = Vec::with_capacity(alloc, found.rows.len())?;
-    for row in found.rows.as_slice() {
-        let inner = Env::Inner(&found.heading, &*row, &Env::Empty);
-        all.push(shown_row(alloc, columns, &inner)?)?;
+    let mut rows = Vec::with_capacity(alloc, found.len())?;
+    for number in 0..found.len() {
+        rows.push(owned_row(alloc, found, number)?)?;
     }
-    Ok(all)
+    Ok(rows)
 }

@@ -8,11 +8,12 @@ ghost use Rattle.query.specs.Meaning.{any_of};
 ghost use Rattle.algebra.specs.Bags as bags;
 ghost use Rattle.algebra.specs.Conditions as spec;
 ghost use Rattle.physical.specs.Outputs.{no_classes};
-ghost use Rattle.operators.specs.Relations.{env_of, given, rows_given, rows_of, subqueries_given};
+ghost use Rattle.operators.specs.Relations.{env_of, given, numbered_env, rows_given, rows_of, subqueries_given};
 
-use crate::environment::{Env, term_cell};
+use crate::environment::Env;
 use crate::relation::Relation;
-use algebra::{ClassId, Condition};
+use crate::terms::{compare_terms, is_null};
+use algebra::{ClassId, Condition, Term};
 use query::ColumnId;
 use values::{Cell, Comparison, Truth, compare};
 
@@ -60,8 +61,18 @@ impl<'a, 't> Subqueries<'a, 't> {
         ensures { (e : bags.Env) → result ≡ not (spec.is_empty (subqueries_given self.entry class e)) }
     {
         match relation_of(self.classes, self.relations, class) {
-            Some(relation) => relation.rows.len() > 0,
+            Some(relation) => relation.rows.count > 0,
             None => false,
+        }
+    }
+
+    /// Whether a term is among the values of a column of the class.
+    fn has_term(self, term: &Term, class: ClassId, column: ColumnId, env: &Env<'_, '_>) -> Truth
+        ensures { result ≡ any_of (map (λ s. logic.compare by.Equal (spec.term_value term.now (env_of env.now)) (s column)) (subqueries_given self.entry class (env_of env.now))) }
+    {
+        match term {
+            Term::Column(of) => self.is_among(env.column(*of), class, column, env),
+            Term::Literal(value) => self.is_among(value.as_cell(), class, column, env),
         }
     }
 
@@ -76,6 +87,22 @@ impl<'a, 't> Subqueries<'a, 't> {
     }
 }
 
+/// Whether a value equals that of the column in the row with a number.
+fn equals_at(
+    cell: Cell<'_>,
+    relation: &Relation<'_>,
+    number: usize,
+    column: ColumnId,
+    env: &Env<'_, '_>,
+) -> Truth
+    ensures { result ≡ logic.compare by.Equal (value_of cell.entry) (numbered_env relation.now (env_of env.now) number column) }
+{
+    match relation.heading.place_of(column) {
+        Some(place) => compare(Comparison::Equal, cell, relation.rows.cell(number, place)),
+        None => compare(Comparison::Equal, cell, env.column(column)),
+    }
+}
+
 /// Whether a value equals that of the column in some of the rows.
 fn equals_some(
     cell: Cell<'_>,
@@ -86,9 +113,8 @@ fn equals_some(
     ensures { result ≡ any_of (map (λ s. logic.compare by.Equal (value_of cell.entry) (s column)) (rows_of relation.now (env_of env.now))) }
 {
     let mut any = Truth::False;
-    for row in relation.rows.as_slice() {
-        let inner = Env::Inner(&relation.heading, &*row, &*env);
-        any = any.or(compare(Comparison::Equal, cell, inner.column(column)));
+    for number in 0..relation.rows.count {
+        any = any.or(equals_at(cell, relation, number, column, env));
     }
     any
 }
@@ -99,10 +125,8 @@ pub fn truth(condition: &Condition, subqueries: Subqueries<'_, '_>, env: &Env<'_
     ensures { result ≡ spec.truth condition.now (subqueries_given subqueries.entry) (env_of env.now) }
 {
     match condition {
-        Condition::Compare(comparison, a, b) => {
-            compare(*comparison, term_cell(a, env), term_cell(b, env))
-        }
-        Condition::IsNull(term) => Truth::from(matches!(term_cell(term, env), Cell::Null)),
+        Condition::Compare(comparison, a, b) => { compare_terms(*comparison, a, b, env) }
+        Condition::IsNull(term) => Truth::from(is_null(term, env)),
         Condition::Not(part) => truth(part.get(), subqueries, env).not(),
         Condition::And(a, b, more) => {
             let first = truth(a.get(), subqueries, env);
@@ -115,9 +139,7 @@ pub fn truth(condition: &Condition, subqueries: Subqueries<'_, '_>, env: &Env<'_
             any(first.or(second), more.as_slice(), subqueries, env)
         }
         Condition::Exists(class) => Truth::from(subqueries.has_row(*class)),
-        Condition::In(term, class, column) => {
-            subqueries.is_among(term_cell(term, env), *class, *column, env)
-        }
+        Condition::In(term, class, column) => { subqueries.has_term(term, *class, *column, env) }
     }
 }
 

@@ -1,21 +1,22 @@
 -- Rows that are kept by columns.
-use Rattle.std.proofs.Common.{◌≡◌, ℕ, zero, suc, ◌+◌, ◌<◌, List, [], ◌∷◌, ◌++◌, length, map, get_or, Bool, true, false, cond, not, refl, sym, ap, ◌∙◌, subst, arith, length-append, pos}
+use Rattle.std.proofs.Common.{◌≡◌, ℕ, zero, suc, ◌+◌, ◌-◌, ◌<◌, ◌≤◌, List, [], ◌∷◌, ◌++◌, length, map, take, get_or, Bool, true, false, cond, not, refl, sym, ap, ◌∙◌, subst, arith, length-append, pos}
 use Rattle.std.proofs.Math.ListN.{set}
 use Rattle.std.specs.List.{range_with_len, AllByRecursion}
-use Rattle.std.proofs.lemmas.List.{get_or_append_left}
+use Rattle.std.specs.Vec.{with_items}
+use Rattle.std.specs.declared.vec.Vec.{Vec}
+use Rattle.std.proofs.lemmas.List.{get_or_append_left, with_items_is}
 use Rattle.std.proofs.lemmas.List.FromFn.{length-map-range_with_len, get_or-map-range_with_len, map-range_with_len_more}
 use Rattle.std.proofs.Math.Seq.{get_or-append_seam}
 use Rattle.values.specs.declared.value.Value.{Value}
 use Rattle.values.specs.declared.value.Value.TheVariants as value
-use Rattle.values.specs.declared.cell.Cell.{Cell}
-use Rattle.values.specs.Cells.{value_of}
 use Rattle.values.specs.Truth.{is_null}
+use Rattle.schema.specs.declared.schema.Column.{Column}
 use Rattle.schema.specs.declared.schema.Kind.{Kind}
 use Rattle.schema.specs.Databases.{Row}
 use Rattle.store.specs.declared.cells.Entries.{Entries}
 use Rattle.store.specs.declared.cells.Entries.TheVariants as entries
 use Rattle.store.specs.declared.cells.ColumnCells.{ColumnCells}
-use Rattle.store.specs.StoredColumns.{Takes, TakeRow, kind_of, size_of, entry_at, HasCells, cell_at, row_at, rows_of, with_entry, with_value}
+use Rattle.store.specs.StoredColumns.{Kept, Takes, TakeRow, kind_of, size_of, entry_at, HasCells, cell_at, row_at, rows_of, with_entry, with_value, with_row}
 use Rattle.store.proofs.TextPlaces.{range_same}
 
 abbrev pub kinds_of : List ColumnCells → List Kind
@@ -50,52 +51,86 @@ has_there (k ∷ cs) n (suc j) c h lt at = has_there cs n j c h.1 (omega arith) 
 
 -- ---- one row more, column after column
 
-pub cell_in_row : (xs : List Cell) (i : ℕ) (d : Cell) → i < length xs → value_of (get_or xs i d) ≡ get_or (map value_of xs) i (value_of (get_or xs i d))
-cell_in_row [] i d lt = absurd (omega arith)
-cell_in_row (x ∷ xs) zero d lt = refl
-cell_in_row (x ∷ xs) (suc i) d lt = cell_in_row xs i d (omega arith)
+pub with_nothing : (cs : List ColumnCells) → with_row cs [] ≡ cs
+with_nothing [] = refl
+with_nothing (c ∷ cs) = refl
 
-abbrev pub extend : ℕ → List ColumnCells → Row → List ColumnCells
-extend zero cs vs = cs
-extend (suc p) [] vs = []
-extend (suc p) (c ∷ cs) [] = c ∷ cs
-extend (suc p) (c ∷ cs) (v ∷ vs) = with_value c v ∷ extend p cs vs
+pub length_with_row : (cs : List ColumnCells) (vs : Row) → length (with_row cs vs) ≡ length cs
+length_with_row [] vs = refl
+length_with_row (c ∷ cs) [] = refl
+length_with_row (c ∷ cs) (v ∷ vs) = ap suc (length_with_row cs vs)
 
-pub length_extend : (p : ℕ) (cs : List ColumnCells) (vs : Row) → length (extend p cs vs) ≡ length cs
-length_extend zero cs vs = refl
-length_extend (suc p) [] vs = refl
-length_extend (suc p) (c ∷ cs) [] = refl
-length_extend (suc p) (c ∷ cs) (v ∷ vs) = ap suc (length_extend p cs vs)
+-- one value more
+pub with_value_more : (cs : List ColumnCells) (vs : Row) (c d : ColumnCells) (v : Value) → length vs < length cs → c ≡ get_or (with_row cs vs) (length vs) c → d ≡ with_value c v
+    → set (with_row cs vs) (length vs) d ≡ with_row cs (vs ++ v ∷ [])
+with_value_more [] vs c d v lt at is = absurd (omega arith)
+with_value_more (k ∷ cs) [] c d v lt at is = ap (λ (x : ColumnCells). x ∷ cs) (is ∙ ap (λ (x : ColumnCells). with_value x v) at) ∙ ap (λ (xs : List ColumnCells). with_value k v ∷ xs) (sym (with_nothing cs))
+with_value_more (k ∷ cs) (u ∷ vs) c d v lt at is = ap (λ (xs : List ColumnCells). with_value k u ∷ xs) (with_value_more cs vs c d v (omega arith) at is)
 
-pub row_long : (cs : List ColumnCells) (vs : Row) → TakeRow (kinds_of cs) vs → length vs ≡ length cs
-row_long [] [] h = refl
-row_long [] (v ∷ vs) h = absurd h
-row_long (c ∷ cs) [] h = absurd h
-row_long (c ∷ cs) (v ∷ vs) h = ap suc (row_long cs vs h.1)
+pub value_pushed : (cs : List ColumnCells) (vs : Row) (columns : List ColumnCells) (place : ℕ) (c d : ColumnCells) (v : Value) → length vs ≡ place → place < length columns → columns ≡ with_row cs vs
+    → c ≡ get_or columns place c → d ≡ with_value (get_or columns place c) v → set columns place d ≡ with_row cs (vs ++ v ∷ [])
+value_pushed cs vs columns place c d v long lt is at more =
+    let size : length columns ≡ length cs = ap length is ∙ length_with_row cs vs in
+    let here : c ≡ get_or (with_row cs vs) (length vs) c = at ∙ ap (λ (xs : List ColumnCells). get_or xs place c) is ∙ ap (λ (i : ℕ). get_or (with_row cs vs) i c) (sym long) in
+    ap (λ (xs : List ColumnCells). set xs place d) is ∙ ap (λ (i : ℕ). set (with_row cs vs) i d) (sym long) ∙ with_value_more cs vs c d v (omega arith) here (more ∙ ap (λ (x : ColumnCells). with_value x v) (sym at))
 
-pub takes_there : (p : ℕ) (cs : List ColumnCells) (vs : Row) (c : ColumnCells) (v : Value) → TakeRow (kinds_of cs) vs → p < length cs → c ≡ get_or (extend p cs vs) p c → v ≡ get_or vs p v
-    → Takes (kind_of c.entries) v
-takes_there p [] vs c v h lt at here = absurd (omega arith)
-takes_there p (k ∷ cs) [] c v h lt at here = absurd h
-takes_there zero (k ∷ cs) (u ∷ vs) c v h lt at here = subst (λ (x : Value). Takes (kind_of c.entries) x) (sym here) (subst (λ (x : ColumnCells). Takes (kind_of x.entries) u) (sym at) h.0)
-takes_there (suc p) (k ∷ cs) (u ∷ vs) c v h lt at here = takes_there p cs vs c v h.1 (omega arith) at here
+-- a vector of columns that were given a row
+pub items_more : {Z : Type 0} (v : Vec ColumnCells Z) (new old : List ColumnCells) (row : Row) → old ≡ v.items → new ≡ with_row old row → (with_items v new).items ≡ with_row v.items row
+items_more v new old row was is =
+    let more : new ≡ with_row v.items row = is ∙ ap (λ (cs : List ColumnCells). with_row cs row) was in
+    let size = ap length more ∙ length_with_row v.items row in
+    with_items_is v new (omega (arith, size, v.ok)) ∙ more
 
-pub extend_more : (p : ℕ) (cs : List ColumnCells) (vs : Row) (c : ColumnCells) (v : Value) → TakeRow (kinds_of cs) vs → p < length cs → c ≡ get_or (extend p cs vs) p c → v ≡ get_or vs p v
-    → set (extend p cs vs) p (with_value c v) ≡ extend (suc p) cs vs
-extend_more p [] vs c v h lt at here = absurd (omega arith)
-extend_more p (k ∷ cs) [] c v h lt at here = absurd h
-extend_more zero (k ∷ cs) (u ∷ vs) c v h lt at here = ap (λ (x : Value). with_value c x ∷ cs) here ∙ ap (λ (x : ColumnCells). with_value x u ∷ cs) at
-extend_more (suc p) (k ∷ cs) (u ∷ vs) c v h lt at here = ap (λ (xs : List ColumnCells). with_value k u ∷ xs) (extend_more p cs vs c v h.1 (omega arith) at here)
+-- one value fewer: what takes the last value off a column, whichever it was, gives the column before it
+pub with_value_fewer : (i : ℕ) (cs : List ColumnCells) (vs : Row) (c d : ColumnCells) → i < length cs → i < length vs → c ≡ get_or (with_row cs (take (suc i) vs)) i c
+    → ((b : ColumnCells) (v : Value) → c ≡ with_value b v → d ≡ b) → set (with_row cs (take (suc i) vs)) i d ≡ with_row cs (take i vs)
+with_value_fewer i [] vs c d lt low at back = absurd (omega arith)
+with_value_fewer i (k ∷ cs) [] c d lt low at back = absurd (omega arith)
+with_value_fewer zero (k ∷ cs) (v ∷ vs) c d lt low at back = ap (λ (x : ColumnCells). x ∷ with_row cs []) (back k v at) ∙ ap (λ (xs : List ColumnCells). k ∷ xs) (with_nothing cs)
+with_value_fewer (suc i) (k ∷ cs) (v ∷ vs) c d lt low at back = ap (λ (xs : List ColumnCells). with_value k v ∷ xs) (with_value_fewer i cs vs c d (omega arith) (omega arith) at back)
+
+-- one more value taken back, of those that the places had more
+pub taken_back : (places taken : ℕ) (before : List ColumnCells) (row : Row) (columns : List ColumnCells) (c d : ColumnCells) → taken < places → places ≤ length columns → length row ≡ places
+    → c ≡ get_or columns (places - 1 - taken) c → ((b : ColumnCells) (v : Value) → c ≡ with_value b v → d ≡ b)
+    → columns ≡ with_row before (take (places - taken) row) → set columns (places - 1 - taken) d ≡ with_row before (take (places - (taken + 1)) row)
+taken_back places taken before row columns c d lt high long at back is =
+    let left : places - taken ≡ suc (places - 1 - taken) = omega arith in
+    let next : places - (taken + 1) ≡ places - 1 - taken = omega arith in
+    let now : columns ≡ with_row before (take (suc (places - 1 - taken)) row) = is ∙ ap (λ (n : ℕ). with_row before (take n row)) left in
+    let size : length columns ≡ length before = ap length now ∙ length_with_row before (take (suc (places - 1 - taken)) row) in
+    rw next (ap (λ (cs : List ColumnCells). set cs (places - 1 - taken) d) now ∙ with_value_fewer (places - 1 - taken) before row c d (omega arith) (omega arith) (rw now at at) back)
+
+pub nothing_left : (places taken : ℕ) (before : List ColumnCells) (row : Row) (columns : List ColumnCells) → places ≤ taken → columns ≡ with_row before (take (places - taken) row) → columns ≡ before
+nothing_left places taken before row columns le is =
+    let none : places - taken ≡ 0 = omega arith in
+    is ∙ ap (λ (n : ℕ). with_row before (take n row)) none ∙ with_nothing before
 
 kind_stays : (e : Entries) (v : Value) → kind_of (with_entry e v) ≡ kind_of e
 kind_stays (entries.Numbers ns) v = refl
 kind_stays (entries.Texts ts) v = refl
 
-pub kinds_stay : (p : ℕ) (cs : List ColumnCells) (vs : Row) → kinds_of (extend p cs vs) ≡ kinds_of cs
-kinds_stay zero cs vs = refl
-kinds_stay (suc p) [] vs = refl
-kinds_stay (suc p) (c ∷ cs) [] = refl
-kinds_stay (suc p) (c ∷ cs) (v ∷ vs) = ap (λ (k : Kind). k ∷ kinds_of (extend p cs vs)) (kind_stays c.entries v) ∙ ap (λ (ks : List Kind). kind_of c.entries ∷ ks) (kinds_stay p cs vs)
+pub kinds_stay : (cs : List ColumnCells) (vs : Row) → kinds_of (with_row cs vs) ≡ kinds_of cs
+kinds_stay [] vs = refl
+kinds_stay (c ∷ cs) [] = refl
+kinds_stay (c ∷ cs) (v ∷ vs) = ap (λ (k : Kind). k ∷ kinds_of (with_row cs vs)) (kind_stays c.entries v) ∙ ap (λ (ks : List Kind). kind_of c.entries ∷ ks) (kinds_stay cs vs)
+
+-- the kind of the column at a place is that of the table's entry
+pub kind_there : (cs : List ColumnCells) (ks : List Column) (i : ℕ) (c : ColumnCells) (k : Column) → kinds_of cs ≡ map (λ x. x.kind) ks → i < length ks → c ≡ get_or cs i c → k ≡ get_or ks i k
+    → kind_of c.entries ≡ k.kind
+kind_there cs [] i c k h lt at here = absurd (omega arith)
+kind_there [] (l ∷ ks) i c k h lt at here = cc h
+kind_there (d ∷ cs) (l ∷ ks) zero c k h lt at here =
+    let first : kind_of d.entries ≡ l.kind = cc h in
+    ap (λ (x : ColumnCells). kind_of x.entries) at ∙ first ∙ ap (λ (x : Column). x.kind) (sym here)
+kind_there (d ∷ cs) (l ∷ ks) (suc i) c k h lt at here =
+    let rest : kinds_of cs ≡ map (λ (x : Column). x.kind) ks = cc h in
+    kind_there cs ks i c k rest (omega arith) at here
+
+pub as_many : (cs : List ColumnCells) (ks : List Column) → kinds_of cs ≡ map (λ x. x.kind) ks → length cs ≡ length ks
+as_many [] [] h = refl
+as_many [] (k ∷ ks) h = cc h
+as_many (c ∷ cs) [] h = cc h
+as_many (c ∷ cs) (k ∷ ks) h = let rest : kinds_of cs ≡ map (λ (x : Column). x.kind) ks = cc h in ap suc (as_many cs ks rest)
 
 size_more : (e : Entries) (v : Value) → size_of (with_entry e v) ≡ size_of e + 1
 size_more (entries.Numbers ns) v = length-append ns _
@@ -104,7 +139,7 @@ size_more (entries.Texts ts) v = length-append ts _
 has_more : (n : ℕ) (c : ColumnCells) (v : Value) → HasCells n c → HasCells (n + 1) (with_value c v)
 has_more n c v h = record { known = length-append c.known _ ∙ ap (λ (k : ℕ). k + 1) h.known; entries = size_more c.entries v ∙ ap (λ (k : ℕ). k + 1) h.entries }
 
-pub all_more : (n : ℕ) (cs : List ColumnCells) (vs : Row) → TakeRow (kinds_of cs) vs → AllByRecursion (HasCells n) cs → AllByRecursion (HasCells (n + 1)) (extend (length cs) cs vs)
+pub all_more : (n : ℕ) (cs : List ColumnCells) (vs : Row) → TakeRow (kinds_of cs) vs → AllByRecursion (HasCells n) cs → AllByRecursion (HasCells (n + 1)) (with_row cs vs)
 all_more n [] vs t h = tt
 all_more n (c ∷ cs) [] t h = absurd t
 all_more n (c ∷ cs) (v ∷ vs) t h = (has_more n c v h.0, all_more n cs vs t.1 h.1)
@@ -119,10 +154,10 @@ cell_stays n c v i h lt =
     let size = h.entries in
     rw (get_or_append_left c.known (not (is_null v) ∷ []) false i (omega arith), entry_stays c.entries v i (omega arith)) refl
 
-row_stays : (n : ℕ) (cs : List ColumnCells) (vs : Row) (i : ℕ) → AllByRecursion (HasCells n) cs → i < n → row_at (extend (length cs) cs vs) i ≡ row_at cs i
+row_stays : (n : ℕ) (cs : List ColumnCells) (vs : Row) (i : ℕ) → AllByRecursion (HasCells n) cs → i < n → row_at (with_row cs vs) i ≡ row_at cs i
 row_stays n [] vs i h lt = refl
 row_stays n (c ∷ cs) [] i h lt = refl
-row_stays n (c ∷ cs) (v ∷ vs) i h lt = ap (λ (x : Value). x ∷ row_at (extend (length cs) cs vs) i) (cell_stays n c v i h.0 lt) ∙ ap (λ (xs : Row). cell_at c i ∷ xs) (row_stays n cs vs i h.1 lt)
+row_stays n (c ∷ cs) (v ∷ vs) i h lt = ap (λ (x : Value). x ∷ row_at (with_row cs vs) i) (cell_stays n c v i h.0 lt) ∙ ap (λ (xs : Row). cell_at c i ∷ xs) (row_stays n cs vs i h.1 lt)
 
 entry_last : (e : Entries) (v : Value) (n : ℕ) → Takes (kind_of e) v → is_null v ≡ false → size_of e ≡ n → entry_at (with_entry e v) n ≡ v
 entry_last (entries.Numbers ns) value.Null n t k is = cc k
@@ -146,17 +181,24 @@ cell_last n c v h t =
     let known : get_or (c.known ++ not (is_null v) ∷ []) n false ≡ not (is_null v) = subst (λ (k : ℕ). get_or (c.known ++ not (is_null v) ∷ []) k false ≡ not (is_null v)) h.known (get_or-append_seam c.known (not (is_null v)) [] false) in
     rw known (last_by v (entry_at (with_entry c.entries v) n) (is_null v) refl (λ e. entry_last c.entries v n t e h.entries))
 
-row_last : (n : ℕ) (cs : List ColumnCells) (vs : Row) → AllByRecursion (HasCells n) cs → TakeRow (kinds_of cs) vs → row_at (extend (length cs) cs vs) n ≡ vs
+row_last : (n : ℕ) (cs : List ColumnCells) (vs : Row) → AllByRecursion (HasCells n) cs → TakeRow (kinds_of cs) vs → row_at (with_row cs vs) n ≡ vs
 row_last n [] [] h t = refl
 row_last n [] (v ∷ vs) h t = absurd t
 row_last n (c ∷ cs) [] h t = absurd t
-row_last n (c ∷ cs) (v ∷ vs) h t = ap (λ (x : Value). x ∷ row_at (extend (length cs) cs vs) n) (cell_last n c v h.0 t.0) ∙ ap (λ (xs : Row). v ∷ xs) (row_last n cs vs h.1 t.1)
+row_last n (c ∷ cs) (v ∷ vs) h t = ap (λ (x : Value). x ∷ row_at (with_row cs vs) n) (cell_last n c v h.0 t.0) ∙ ap (λ (xs : Row). v ∷ xs) (row_last n cs vs h.1 t.1)
 
-pub rows_more : (n : ℕ) (cs : List ColumnCells) (vs : Row) → AllByRecursion (HasCells n) cs → TakeRow (kinds_of cs) vs → rows_of (extend (length cs) cs vs) (n + 1) ≡ rows_of cs n ++ vs ∷ []
+pub rows_more : (n : ℕ) (cs : List ColumnCells) (vs : Row) → AllByRecursion (HasCells n) cs → TakeRow (kinds_of cs) vs → rows_of (with_row cs vs) (n + 1) ≡ rows_of cs n ++ vs ∷ []
 rows_more n cs vs h t =
-    map-range_with_len_more (row_at (extend (length cs) cs vs)) 0 n n (omega arith)
-    ∙ ap (λ (rs : List Row). rs ++ row_at (extend (length cs) cs vs) n ∷ []) (range_same (row_at (extend (length cs) cs vs)) (row_at cs) n (λ i lt. row_stays n cs vs i h lt))
+    map-range_with_len_more (row_at (with_row cs vs)) 0 n n (omega arith)
+    ∙ ap (λ (rs : List Row). rs ++ row_at (with_row cs vs) n ∷ []) (range_same (row_at (with_row cs vs)) (row_at cs) n (λ i lt. row_stays n cs vs i h lt))
     ∙ ap (λ (r : Row). rows_of cs n ++ r ∷ []) (row_last n cs vs h t)
+
+-- the rows and this one
+pub kept_more : (n : ℕ) (cs : List ColumnCells) (vs : Row) → AllByRecursion (HasCells n) cs → TakeRow (kinds_of cs) vs
+    → ◌≡◌ {A = Kept} (record { kinds = kinds_of (with_row cs vs); rows = rows_of (with_row cs vs) (n + 1) }) (record { kinds = kinds_of cs; rows = rows_of cs n ++ vs ∷ [] })
+kept_more n cs vs h t =
+    ap (λ (ks : List Kind). let k : Kept = record { kinds = ks; rows = rows_of (with_row cs vs) (n + 1) } in k) (kinds_stay cs vs)
+    ∙ ap (λ (rs : List Row). let k : Kept = record { kinds = kinds_of cs; rows = rs } in k) (rows_more n cs vs h t)
 
 pub has_push : (n : ℕ) (cs : List ColumnCells) (c : ColumnCells) → AllByRecursion (HasCells n) cs → HasCells n c → AllByRecursion (HasCells n) (cs ++ c ∷ [])
 has_push n [] c h k = (k, tt)

@@ -1,6 +1,7 @@
 pub mod ColumnRows
 pub mod Decimals
 pub mod Fields
+pub mod IndexLists
 pub mod Keys
 pub mod Loads
 pub mod ReadRecords

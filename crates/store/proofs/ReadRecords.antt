@@ -4,6 +4,8 @@ use Rattle.std.specs.List.{AllByRecursion}
 use Rattle.std.proofs.lemmas.List.{map-append}
 use Rattle.csv.specs.Records.{field_at}
 use Rattle.values.specs.declared.value.Value.{Value}
+use Rattle.values.specs.declared.fault.Fault.{Fault}
+use Rattle.values.specs.declared.fault.Fault.TheVariants.{Memory, Refused}
 use Rattle.schema.specs.declared.schema.Column.{Column}
 use Rattle.values.specs.declared.value.Value.TheVariants as value
 use Rattle.schema.specs.Databases.{Row, FitsColumn, FitsColumns, most_rows}
@@ -13,13 +15,12 @@ use Rattle.store.specs.declared.fault.TableCause.{TableCause}
 use Rattle.store.specs.declared.fault.TableCause.TheVariants.{OtherHeader, OtherLength, Field, Repeated, TooMany}
 use Rattle.store.specs.Reading.{NextOf}
 use Rattle.std.proofs.lemmas.Slice.Eq.{bytes_eq-Decides}
-use Rattle.values.specs.declared.cell.Cell.{Cell}
-use Rattle.values.specs.Cells.{value_of}
 use Rattle.values.proofs.Lists.{all_append}
 use Rattle.store.specs.declared.records.Parsed.{Parsed}
 use Rattle.store.specs.Tables.{Record, IsText, Stands, StandFor, FieldFails, FieldsFail, names_of}
 use Rattle.store.specs.Fields.{field_of}
-use Rattle.store.specs.Parsing.{Parses, ParsesFile, RowFails, Written, RecordFails}
+use Rattle.store.specs.Parsing.{Parses, ParsesFile, RowFails, fault_at, Written, RecordFails}
+use Rattle.store.specs.Reports.{Reports}
 
 -- ---- the fields of a record, one after the other
 
@@ -145,13 +146,27 @@ same_name cs fs i c f lt at here eq so_far =
     let next : suc i ≡ i + 1 = omega arith in
     subst (λ (j : ℕ). take j fs ≡ take j (names_of cs)) next (same_more fs (names_of cs) i f (sym here) (name_there cs i c lt at ∙ ap Some (sym same)) so_far)
 
+-- a field at fault is why its record stands for no row
+pub field_fails : (cs : List Column) (fs : Record) (i : ℕ) (vs : Row) (c : Column) (f : List ℕ) (fault : Fault FieldFault) → length fs ≡ length cs
+    → i < length cs → c ≡ get_or cs i c → Some f ≡ field_at fs i → StandFor (take i cs) (take i fs) vs → Reports (λ (x : Unit {0}). Unit {0}) (FieldFails c f) (Err fault) → Reports (λ (x : Unit {0}). Unit {0}) (RowFails cs fs) (Err (fault_at i fault))
+field_fails cs fs i vs c f Memory long lt at here so_far bad = tt
+field_fails cs fs i vs c f (Refused wrong) long lt at here so_far bad = (long, fails_there cs fs i vs c f wrong lt at here so_far bad)
+
 -- ---- the values of a row
 
-pub stands_next : (cs : List Column) (fs : Record) (i : ℕ) (xs : List Cell) (c : Column) (x : Cell) (f : List ℕ) → i < length cs → c ≡ get_or cs i c → Some f ≡ field_at fs i
-    → StandFor (take i cs) (take i fs) (map value_of xs) → Stands c f (value_of x) → StandFor (take (i + 1) cs) (take (i + 1) fs) (map value_of (xs ++ x ∷ []))
-stands_next cs fs i xs c x f lt at here so_far more =
+pub stand_long : (cs : List Column) (fs : Record) (vs : Row) → StandFor cs fs vs → length vs ≡ length cs
+stand_long [] [] [] h = refl
+stand_long [] [] (v ∷ vs) h = absurd h
+stand_long [] (f ∷ fs) vs h = absurd h
+stand_long (c ∷ cs) [] vs h = absurd h
+stand_long (c ∷ cs) (f ∷ fs) [] h = absurd h
+stand_long (c ∷ cs) (f ∷ fs) (v ∷ vs) h = ap suc (stand_long cs fs vs h.1)
+
+pub stands_next : (cs : List Column) (fs : Record) (i : ℕ) (vs : Row) (c : Column) (v : Value) (f : List ℕ) → i < length cs → c ≡ get_or cs i c → Some f ≡ field_at fs i
+    → StandFor (take i cs) (take i fs) vs → Stands c f v → StandFor (take (i + 1) cs) (take (i + 1) fs) (vs ++ v ∷ [])
+stands_next cs fs i vs c v f lt at here so_far more =
     let next : suc i ≡ i + 1 = omega arith in
-    rw (map-append value_of xs (x ∷ [])) (subst (λ (j : ℕ). StandFor (take j cs) (take j fs) (map value_of xs ++ value_of x ∷ [])) next (stands_more cs fs i (map value_of xs) c (value_of x) f lt at here so_far more))
+    subst (λ (j : ℕ). StandFor (take j cs) (take j fs) (vs ++ v ∷ [])) next (stands_more cs fs i vs c v f lt at here so_far more)
 
 pub after_header : {E : Type 0} (cs : List Column) (all rest : List Record) (r : Result Parsed E) → all ≡ names_of cs ∷ rest → IfOk r (Parses cs rest) → IfOk r (ParsesFile cs all)
 after_header cs all rest (Ok p) e h = inl (rest, e, h)

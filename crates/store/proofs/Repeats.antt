@@ -1,11 +1,81 @@
 -- The first row that repeats an earlier one on some list.
-use Rattle.std.proofs.Common.{◌≡◌, ℕ, ◌+◌, ◌<◌, ◌≤◌, List, [], ◌∷◌, ◌++◌, length, Option, Some, None, MatchOption, refl, sym, subst, arith, inl, inr}
-use Rattle.std.specs.List.{AllByRecursion}
+use Rattle.std.proofs.Common.{◌≡◌, ℕ, ◌+◌, ◌-◌, ◌<◌, ◌≤◌, List, [], ◌∷◌, ◌++◌, length, true, false, slice_index_or, Option, Some, None, MatchOption, refl, sym, ap, ◌∙◌, subst, arith, inl, inr}
+use Rattle.std.specs.List.{list_any, AllByRecursion}
+use Rattle.std.proofs.lemmas.Bool.{cases_order}
+use Rattle.values.specs.Truth.{is_null}
+use Rattle.values.proofs.Counts.{below_or_last}
 use Rattle.values.proofs.Lists.{all_append}
-use Rattle.schema.specs.Databases.{Row, IsUnique}
+use Rattle.schema.specs.Databases.{Row, values_at, IsUnique}
+use Rattle.store.specs.Keys.{key_eq, key_decides}
+use Rattle.store.specs.Chains.{IsNewest, IsNowhere, bucket_of, bucket_at}
 use Rattle.store.specs.declared.unique.Repeat.{Repeat}
 use Rattle.store.specs.Tables.{UniqueTo, RepeatsAt, RepeatsFirst}
 use Rattle.store.specs.Parsing.{EarliestRepeat}
+
+-- ---- one list, row after row
+
+-- a row with a Null at the places
+pub unique_null : (rows : List Row) (places : List ℕ) (i : ℕ) → UniqueTo i rows places → list_any is_null (values_at places (slice_index_or rows i [])) ≡ true → UniqueTo (i + 1) rows places
+unique_null rows places i h null a b lt low whole same =
+    elim (below_or_last b i low) [
+      | inl below ↦ h a b lt below whole same
+      | inr is ↦ let bad : list_any is_null (values_at places (slice_index_or rows a [])) ≡ true = ap (list_any is_null) (same ∙ ap (λ (j : ℕ). values_at places (slice_index_or rows j [])) is) ∙ null in cc (bad, whole)
+    ]
+
+bucket_whole : (rows : List Row) (places : List ℕ) (buckets i : ℕ) → list_any is_null (values_at places (slice_index_or rows i [])) ≡ false → bucket_at rows places buckets i ≡ bucket_of buckets (values_at places (slice_index_or rows i []))
+bucket_whole rows places buckets i whole = rw whole refl
+
+pub bucket_null : (rows : List Row) (places : List ℕ) (buckets i : ℕ) → list_any is_null (values_at places (slice_index_or rows i [])) ≡ true → bucket_at rows places buckets i ≡ buckets
+bucket_null rows places buckets i null = rw null refl
+
+-- the bucket of a row by its key
+pub bucket_key : (rows : List Row) (places : List ℕ) (buckets i bucket : ℕ) (key : Row) → bucket ≡ bucket_of buckets key → key ≡ values_at places (slice_index_or rows i []) → list_any is_null (values_at places (slice_index_or rows i [])) ≡ false
+    → bucket_at rows places buckets i ≡ bucket
+bucket_key rows places buckets i bucket key at is whole = bucket_whole rows places buckets i whole ∙ ap (bucket_of buckets) (sym is) ∙ sym at
+
+-- a row whose key none of its bucket has
+pub unique_new : (rows : List Row) (places : List ℕ) (buckets i bucket : ℕ) (key : Row) → UniqueTo i rows places → IsNowhere rows places buckets i bucket key → bucket ≡ bucket_of buckets key
+    → key ≡ values_at places (slice_index_or rows i []) → UniqueTo (i + 1) rows places
+unique_new rows places buckets i bucket key h nowhere at is a b lt low whole same =
+    elim (below_or_last b i low) [
+      | inl below ↦ h a b lt below whole same
+      | inr last ↦
+          let again : values_at places (slice_index_or rows a []) ≡ key = same ∙ ap (λ (j : ℕ). values_at places (slice_index_or rows j [])) last ∙ sym is in
+          nowhere a (omega arith) (bucket_key rows places buckets a bucket key at (sym again) whole) again
+    ]
+
+-- keys that are found to differ
+pub keys_apart : (k l : Row) → key_eq k l ≡ false → k ≡ l → ⊥
+keys_apart k l other same = let is = (key_decides k l).1 same in cc (is, other)
+
+-- none of the bucket's rows from this one on has the key; those before it are still to be looked at
+pub record IsSought (rows : List Row) (places : List ℕ) (buckets n bucket : ℕ) (key : Row) (at : ℕ) : Type 0 where
+  pub within : at ≤ n
+  pub there : 0 < at → bucket_at rows places buckets (at - 1) ≡ bucket
+  pub apart : (j : ℕ) → at ≤ j → j < n → bucket_at rows places buckets j ≡ bucket → values_at places (slice_index_or rows j []) ≡ key → ⊥
+
+pub sought_first : (rows : List Row) (places : List ℕ) (buckets n bucket : ℕ) (key : Row) (at : ℕ) → IsNewest (bucket_at rows places buckets) bucket n at → IsSought rows places buckets n bucket key at
+sought_first rows places buckets n bucket key at h = record { within = h.within; there = h.there; apart = λ j low high is same. h.apart j low high is }
+
+pub sought_next : (rows : List Row) (places : List ℕ) (buckets n bucket : ℕ) (key : Row) (at next : ℕ) → 0 < at → IsSought rows places buckets n bucket key at
+    → (values_at places (slice_index_or rows (at - 1) []) ≡ key → ⊥) → IsNewest (bucket_at rows places buckets) (bucket_at rows places buckets (at - 1)) (at - 1) next → IsSought rows places buckets n bucket key next
+sought_next rows places buckets n bucket key at next some h other newest =
+    let here = h.there some in
+    record {
+      within = let le = h.within in let lower = newest.within in omega (arith, le, lower);
+      there = λ more. newest.there more ∙ here;
+      apart = λ j low high is same.
+          elim (cases_order j (at - 1)) [
+            | inl last ↦ other (ap (λ (k : ℕ). values_at places (slice_index_or rows k [])) (sym last) ∙ same)
+            | inr apart ↦
+                elim apart [
+                  | inl before ↦ newest.apart j low before (is ∙ sym here)
+                  | inr past ↦ h.apart j (omega arith) high is same
+                ]
+          ];
+    }
+
+-- ---- several lists
 
 unique_below : (n m : ℕ) (rows : List Row) (places : List ℕ) → m ≤ n → UniqueTo n rows places → UniqueTo m rows places
 unique_below n m rows places le h = λ i j lt low whole same. h i j lt (omega arith) whole same

@@ -1,10 +1,14 @@
 -- Keys that strictly rise, those with a Null apart: none repeats another.
-use Rattle.std.proofs.Common.{◌≡◌, ℕ, zero, suc, ◌+◌, ◌<◌, List, [], ◌∷◌, length, take, get_or, true, false, Option, Some, None, slice_index_or, refl, sym, ap, ◌∙◌, subst, arith, inl, inr, ◌⊎◌}
+use Rattle.std.proofs.Common.{◌≡◌, ℕ, zero, suc, ◌+◌, ◌<◌, List, [], ◌∷◌, length, take, get_or, false, Option, Some, None, slice_index_or, refl, sym, ap, ◌∙◌, subst, arith, inl, inr, ◌⊎◌}
 use Rattle.std.specs.List.{list_any}
 use Rattle.std.specs.Cmp.Lexicographic.{slice_cmp, lists_total}
 use Rattle.std.specs.declared.cmp.Ordering.TheVariants.{Less, Equal}
 use Rattle.std.proofs.lemmas.Cmp.{tied_itself}
+use Rattle.std.specs.Option.{option_map}
+use Rattle.values.specs.declared.value.Value.{Value}
 use Rattle.values.specs.declared.value.Value.TheVariants as value
+use Rattle.values.specs.declared.cell.Cell.{Cell}
+use Rattle.values.specs.Cells.{value_of}
 use Rattle.values.specs.Order.{order}
 use Rattle.values.specs.Truth.{is_null}
 use Rattle.values.proofs.Counts.{below_or_last}
@@ -44,21 +48,6 @@ pub record Rises (rows : List Row) (places : List ℕ) (n : ℕ) (last : Option 
   pub unique : UniqueTo n rows places
   pub within : (j : ℕ) → j < n → list_any is_null (key_at rows places j) ≡ false → IsWithin last (key_at rows places j)
 
--- a row with a Null in its key
-pub rises_null : (rows : List Row) (places : List ℕ) (n : ℕ) (last : Option Row) → Rises rows places n last → list_any is_null (key_at rows places n) ≡ true → Rises rows places (n + 1) last
-rises_null rows places n last h null = record {
-  unique = λ i j lt low whole same.
-      elim (below_or_last j n low) [
-        | inl below ↦ h.unique i j lt below whole same
-        | inr is ↦ let bad : list_any is_null (key_at rows places i) ≡ true = ap (list_any is_null) (same ∙ ap (key_at rows places) is) ∙ null in cc (bad, whole)
-      ];
-  within = λ j low whole.
-      elim (below_or_last j n low) [
-        | inl below ↦ h.within j below whole
-        | inr is ↦ let bad : list_any is_null (key_at rows places j) ≡ true = ap (λ (i : ℕ). list_any is_null (key_at rows places i)) is ∙ null in cc (bad, whole)
-      ];
-}
-
 -- a row above all that came before
 rises_above : (rows : List Row) (places : List ℕ) (n : ℕ) (last : Option Row) (k : Row) → Rises rows places n last → k ≡ key_at rows places n
     → ((j : ℕ) → j < n → list_any is_null (key_at rows places j) ≡ false → Below (key_at rows places j) k) → Rises rows places (n + 1) (Some k)
@@ -84,3 +73,14 @@ rises_first rows places n k h is = rises_above rows places n None k h is (λ j l
 
 pub rises_next : (rows : List Row) (places : List ℕ) (n : ℕ) (last k : Row) → Rises rows places n (Some last) → k ≡ key_at rows places n → Below last k → Rises rows places (n + 1) (Some k)
 rises_next rows places n last k h is below = rises_above rows places n (Some last) k h is (λ j low whole. above_last (key_at rows places j) last k (h.within j low whole) below)
+
+-- ---- the same of one place
+
+pub value_first : (rows : List Row) (place n : ℕ) (v : Value) (last : Option Cell) → Rises rows (place ∷ []) n (option_map (λ x. value_of x ∷ []) last) → last ≡ None
+    → v ≡ slice_index_or (slice_index_or rows n []) place value.Null → Rises rows (place ∷ []) (n + 1) (Some (v ∷ []))
+value_first rows place n v last h none is = rises_first rows (place ∷ []) n (v ∷ []) (rw none at h) (ap (λ (x : Value). x ∷ []) is)
+
+pub value_next : (rows : List Row) (place n : ℕ) (v : Value) (before : Cell) (last : Option Cell) → Rises rows (place ∷ []) n (option_map (λ x. value_of x ∷ []) last) → last ≡ Some before
+    → v ≡ slice_index_or (slice_index_or rows n []) place value.Null → order (value_of before) v ≡ Less → Rises rows (place ∷ []) (n + 1) (Some (v ∷ []))
+value_next rows place n v before last h some is below =
+    rises_next rows (place ∷ []) n (value_of before ∷ []) (v ∷ []) (rw some at h) (ap (λ (x : Value). x ∷ []) is) (below_there (value_of before ∷ []) (v ∷ []) 0 (omega arith) (omega arith) refl below)

@@ -2,7 +2,7 @@
 use Rattle.std.proofs.Common.{◌≡◌, ℕ, zero, suc, ◌+◌, ◌-◌, ◌<◌, ◌≤◌, List, [], ◌∷◌, ◌++◌, length, map, get_or, drop, take, slice_index, slice_range, refl, sym, ap, ◌∙◌, subst, arith, inl, inr, length-append}
 use Rattle.std.specs.List.{range_with_len}
 use Rattle.std.specs.Str.{IsUtf8, IsCharBoundary}
-use Rattle.std.proofs.lemmas.List.{take-append-le, drop-append-le, get_or_append_left, length-drop}
+use Rattle.std.proofs.lemmas.List.{take-append-le, drop-append-le, get_or_append_left, get_or-take, length-drop, length-take-le, take-append-drop}
 use Rattle.std.proofs.lemmas.List.FromFn.{length-map-range_with_len, get_or-map-range_with_len, map-range_with_len_more}
 use Rattle.std.proofs.lemmas.Str.{IsCharBoundary-end, IsCharBoundary-at_seam}
 use Rattle.std.proofs.Math.Seq.{get_or-append_seam, drop-append_seam, take-length}
@@ -105,3 +105,73 @@ texts_more bytes ends text e h is =
     ∙ map-range_with_len_more (text_at (bytes ++ text) (ends ++ e ∷ [])) 0 n n (omega arith)
     ∙ ap (λ (ts : List (List ℕ)). ts ++ text_at (bytes ++ text) (ends ++ e ∷ []) n ∷ []) (range_same (text_at (bytes ++ text) (ends ++ e ∷ [])) (text_at bytes ends) n (λ i lt. text_stays bytes ends text e i h lt))
     ∙ ap (λ (t : List ℕ). texts_of bytes ends ++ t ∷ []) (text_last bytes ends text e h is)
+
+-- ---- the last text taken off
+
+-- lists that are the same with one item more
+pub front_same : {X : Type 0} (xs ys : List X) (x y : X) → xs ++ x ∷ [] ≡ ys ++ y ∷ [] → xs ≡ ys
+front_same [] [] x y e = refl
+front_same [] (z ∷ []) x y e = cc e
+front_same [] (z ∷ w ∷ ys) x y e = cc e
+front_same (z ∷ []) [] x y e = cc e
+front_same (z ∷ w ∷ xs) [] x y e = cc e
+front_same (z ∷ xs) (w ∷ ys) x y e =
+    let first : z ≡ w = cc e in
+    let rest : xs ++ x ∷ [] ≡ ys ++ y ∷ [] = cc e in
+    ap (λ t. t ∷ xs) first ∙ ap (λ ts. w ∷ ts) (front_same xs ys x y rest)
+
+ends_rise : (bytes ends : List ℕ) (i j : ℕ) → AreEnds bytes ends → i ≤ j → j < length ends → slice_index ends i ≤ slice_index ends j
+ends_rise bytes ends i zero h le lt = let same : i ≡ 0 = omega arith in rw same (omega arith)
+ends_rise bytes ends i (suc j) h le lt = elim (below_or_last i (suc j) (omega arith)) [
+  | inl below ↦
+      let before = ends_rise bytes ends i j h (omega arith) (omega arith) in
+      let next = h.rising (suc j) lt in
+      omega (arith, before, next)
+  | inr is ↦ rw is (omega arith)
+]
+
+end_below : (bytes ends : List ℕ) (e i : ℕ) → AreEnds bytes (ends ++ e ∷ []) → i < length ends → slice_index ends i ≤ start_of ends (length ends)
+end_below bytes [] e i h lt = absurd (omega arith)
+end_below bytes (x ∷ ends) e i h lt =
+    let size = length_more (x ∷ ends) e in
+    let rise = ends_rise bytes ((x ∷ ends) ++ e ∷ []) i (length ends) h (omega arith) (omega (arith, size)) in
+    rw (← end_stays (x ∷ ends) e i lt, ← end_stays (x ∷ ends) e (length ends) (omega arith)) rise
+
+cut_before : (bytes : List ℕ) (n i : ℕ) → i ≤ n → n ≤ length bytes → IsCharBoundary bytes i → IsCharBoundary (take n bytes) i
+cut_before bytes n i le high h =
+    let size = length-take-le n bytes high in (
+      omega (arith, size),
+      λ low lead.
+          let same : slice_index (take n bytes) i ≡ slice_index bytes i = get_or-take n bytes i 0 (omega (arith, size)) in
+          rw same (h.1 (omega (arith, size)) (rw (← same) lead)),
+    )
+
+start_within : (bytes ends : List ℕ) (e : ℕ) → AreEnds bytes (ends ++ e ∷ []) → start_of ends (length ends) ≤ length bytes
+start_within bytes ends e h =
+    let size = length_more ends e in
+    let rise = h.rising (length ends) (omega (arith, size)) in
+    let start = start_stays ends e (length ends) (omega arith) in
+    let high = end_within bytes (ends ++ e ∷ []) (length ends) h (omega (arith, size)) in
+    omega (arith, start, rise, high)
+
+pub ends_fewer : (bytes ends : List ℕ) (e : ℕ) → AreEnds bytes (ends ++ e ∷ []) → AreEnds (take (start_of ends (length ends)) bytes) ends
+ends_fewer bytes ends e h =
+    let size = length_more ends e in
+    let high = start_within bytes ends e h in
+    record {
+      last = sym (length-take-le (start_of ends (length ends)) bytes high);
+      rising = λ i lt. rw (← start_stays ends e i (omega arith), ← end_stays ends e i lt) (h.rising i (omega (arith, size)));
+      cut = λ i lt. cut_before bytes (start_of ends (length ends)) (slice_index ends i) (end_below bytes ends e i h lt) high (rw (← end_stays ends e i lt) (h.cut i (omega (arith, size))));
+    }
+
+pub texts_fewer : (bytes ends : List ℕ) (e : ℕ) (texts : List (List ℕ)) (last : List ℕ) → AreEnds bytes (ends ++ e ∷ []) → texts_of bytes (ends ++ e ∷ []) ≡ texts ++ last ∷ []
+    → texts_of (take (start_of ends (length ends)) bytes) ends ≡ texts
+texts_fewer bytes ends e texts last h is =
+    let n = start_of ends (length ends) in
+    let high = start_within bytes ends e h in
+    let cut : take n bytes ++ drop n bytes ≡ bytes = take-append-drop n bytes in
+    let size = length_more ends e in
+    let all : e ≡ length bytes = sym (end_last ends e (length ends) refl) ∙ ap (start_of (ends ++ e ∷ [])) (sym size) ∙ h.last in
+    let whole : e ≡ length (take n bytes) + length (drop n bytes) = all ∙ ap length (sym cut) ∙ length-append (take n bytes) (drop n bytes) in
+    let more = texts_more (take n bytes) ends (drop n bytes) e (ends_fewer bytes ends e h) whole in
+    front_same _ _ _ _ (sym more ∙ ap (λ (b : List ℕ). texts_of b (ends ++ e ∷ [])) cut ∙ is)

@@ -1,7 +1,9 @@
+pub mod Chains
 pub mod Databases
 pub mod Devices
 pub mod Faults
 pub mod Fields
+pub mod Indexes
 pub mod Keys
 pub mod Numbers
 pub mod Parsing

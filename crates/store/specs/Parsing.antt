@@ -6,6 +6,8 @@ use Rattle.std.specs.List.{AllByRecursion}
 use Rattle.std.specs.Str.{IsUtf8}
 use Rattle.values.specs.declared.value.Value.{Value}
 use Rattle.values.specs.declared.value.Value.TheVariants as value
+use Rattle.values.specs.declared.fault.Fault.{Fault}
+use Rattle.values.specs.declared.fault.Fault.TheVariants.{Memory, Refused}
 use Rattle.schema.specs.declared.schema.Kind.{Kind}
 use Rattle.schema.specs.declared.schema.Kind.TheVariants as kind
 use Rattle.schema.specs.declared.schema.Column.{Column}
@@ -20,7 +22,7 @@ use Rattle.store.specs.declared.fault.TableFault.{TableFault}
 use Rattle.store.specs.declared.fault.TableFault.TheVariants as faults
 use Rattle.store.specs.declared.records.Parsed.{Parsed}
 use Rattle.store.specs.declared.unique.Repeat.{Repeat}
-use Rattle.store.specs.Tables.{Record, names_of, IsText, IsNumber, FieldsFail, UniqueTo, RepeatsFirst, IsReported}
+use Rattle.store.specs.Tables.{Record, names_of, IsText, IsNumber, Stands, FieldFails, FieldsFail, UniqueTo, RepeatsFirst, IsReported}
 use Rattle.store.specs.Fields.{field_of}
 
 -- the bytes are a value of the kind that isn't Null
@@ -36,6 +38,11 @@ PlainFails k f NullValue = ⊥
 PlainFails k f NotNumber = (k ≡ kind.Int) × ¬ (IsNumber f)
 PlainFails k f NotText = (k ≡ kind.Text) × ¬ (IsUtf8 f)
 
+-- the field stands for what these bytes are, and fails as they do: they are the field without its escape
+pub record IsUnescaped (c : Column) (f bytes : List ℕ) : Type 0 where
+  pub stands : (v : Value) → IsPlain c.kind bytes v → Stands c f v
+  pub fails : (wrong : FieldFault) → PlainFails c.kind bytes wrong → FieldFails c f wrong
+
 -- what is wrong with a record that stands for no row
 abbrev pub RowFails : List Column → Record → TableCause → Type 0
 RowFails cs fs OtherLength = length fs ≢ length cs
@@ -43,6 +50,11 @@ RowFails cs fs (Field place wrong) = (length fs ≡ length cs) × FieldsFail cs 
 RowFails cs fs OtherHeader = ⊥
 RowFails cs fs (Repeated earlier) = ⊥
 RowFails cs fs TooMany = ⊥
+
+-- the fault of a record, of the fault of its field at this place
+abbrev pub fault_at : ℕ → Fault FieldFault → Fault TableCause
+fault_at place Memory = Memory
+fault_at place (Refused wrong) = Refused (Field place wrong)
 
 -- the records are those of the rows, and then the rest
 pub record Written (cs : List Column) (records : List Record) (rows : List Row) (rest : List Record) : Type 0 where

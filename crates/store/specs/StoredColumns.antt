@@ -75,3 +75,9 @@ with_entry (entries.Texts ts) v = entries.Texts (ts ++ text_in v ∷ [])
 
 abbrev pub with_value : ColumnCells → Value → ColumnCells
 with_value c v = record { known = c.known ++ not (is_null v) ∷ []; entries = with_entry c.entries v }
+
+-- each column has one value of the row more, while there are any
+abbrev pub with_row : List ColumnCells → Row → List ColumnCells
+with_row [] vs = []
+with_row (c ∷ cs) [] = c ∷ cs
+with_row (c ∷ cs) (v ∷ vs) = with_value c v ∷ with_row cs vs

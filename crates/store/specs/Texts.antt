@@ -2,6 +2,13 @@
 use Rattle.std.specs.Prelude.{◌≡◌, ◌<◌, ◌≤◌, ℕ, zero, suc, List, length, map, slice_index, slice_range}
 use Rattle.std.specs.List.{range_with_len}
 use Rattle.std.specs.Str.{IsCharBoundary}
+use Rattle.store.specs.declared.ends.Places.{Places}
+use Rattle.store.specs.declared.ends.Places.TheVariants as places
+
+-- the places, however wide they are kept
+abbrev pub places_of : Places → List ℕ
+places_of (places.Short short) = short
+places_of (places.Long long) = long
 
 -- where the text with this number begins: where the one before it ends
 abbrev pub start_of : List ℕ → ℕ → ℕ

@@ -1,38 +1,24 @@
 //! The values of one column.
 
-ghost use Rattle.std.specs.Prelude.{◌≡◌, ◌<◌, length, OnOk};
+ghost use Rattle.std.specs.Prelude.{◌≡◌, ◌<◌, length, not, OnErr, OnOk};
 ghost use Rattle.values.specs.Cells.{value_of};
-ghost use Rattle.schema.specs.declared.schema.Kind.TheVariants as kind;
-ghost use Rattle.store.specs.StoredColumns.{Takes, HasCells, kind_of, size_of, cell_at, number_in, text_in, with_entry, with_value};
+ghost use Rattle.values.specs.Truth as logic;
+ghost use Rattle.values.specs.declared.value.Value.{Value};
+ghost use Rattle.values.specs.declared.value.Value.TheVariants as value;
+ghost use Rattle.store.specs.Tables.{Stands, FieldFails};
+ghost use Rattle.store.specs.Parsing.{IsPlain, PlainFails};
+ghost use Rattle.store.specs.Reports.{Reports};
+ghost use Rattle.store.specs.StoredColumns.{HasCells, kind_of, size_of, cell_at, with_entry, with_value};
+ghost use Rattle.store.specs.declared.cells.Entries.{Entries};
+ghost use Rattle.store.specs.declared.cells.ColumnCells.{ColumnCells};
 
+use crate::fault::FieldFault;
+use crate::field::{number_of, unescaped};
 use crate::texts::Texts;
-use schema::Kind;
+use schema::{Column, Kind};
 use std::alloc::{AllocError, Global};
-use values::{Cell, Items};
-
-/// The number of a value in an INT column; any where it is Null.
-fn number_in(cell: Cell<'_>) -> i64
-    requires { Takes kind.Int (value_of cell) }
-    ensures { result ≡ number_in (value_of cell.entry) }
-{
-    match cell {
-        Cell::Null => 0,
-        Cell::Int(number) => number as i64,
-        Cell::Text(_) => unreachable!(),
-    }
-}
-
-/// The text of a value in a TEXT column; none where it is Null.
-fn text_in<'t>(cell: Cell<'t>) -> &'t str
-    requires { Takes kind.Text (value_of cell) }
-    ensures { result.now ≡ text_in (value_of cell.entry) }
-{
-    match cell {
-        Cell::Null => "",
-        Cell::Text(text) => text,
-        Cell::Int(_) => unreachable!(),
-    }
-}
+use std::str;
+use values::{Cell, Fault, Items};
 
 /// Numbers or texts, one for each row.
 #[derive(Drop)]
@@ -42,13 +28,67 @@ pub enum Entries {
 }
 
 impl Entries {
-    fn push(&mut self, cell: Cell<'_>) -> Result<(), AllocError>
-        requires { Takes (kind_of self.old) (value_of cell) }
-        ensures { OnOk result (self.new ≡ with_entry self.old (value_of cell.entry)) }
+    /// The number or text that the bytes are.
+    fn push_plain(&mut self, bytes: &[u8]) -> Result<(), Fault<FieldFault>>
+        ensures read { Reports (λ _. (v : Value) × IsPlain (kind_of self.old) bytes.now v × (self.new ≡ with_entry self.old v)) (PlainFails (kind_of self.old) bytes.now) result }
+        ensures err { OnErr result (self.new ≡ self.old) }
     {
         match self {
-            Entries::Numbers(numbers) => numbers.push(number_in(cell)),
-            Entries::Texts(texts) => texts.push(text_in(cell)),
+            Entries::Numbers(numbers) => {
+                let Some(number) = number_of(bytes) else {
+                    return Err(Fault::Refused(FieldFault::NotNumber));
+                };
+                numbers.push(number)?;
+            }
+            Entries::Texts(texts) => {
+                let Ok(text) = str::from_utf8(bytes) else {
+                    return Err(Fault::Refused(FieldFault::NotText));
+                };
+                texts.push(text)?;
+            }
+        }
+        Ok(())
+    }
+
+    /// Something in the place of a Null.
+    fn push_null(&mut self) -> Result<(), AllocError>
+        ensures ok { OnOk result (self.new ≡ with_entry self.old value.Null) }
+        ensures err { OnErr result (self.new ≡ self.old) }
+    {
+        match self {
+            Entries::Numbers(numbers) => numbers.push(0),
+            Entries::Texts(texts) => texts.push(""),
+        }
+    }
+
+    /// What the field stands for, if it is no Null; whether it is none.
+    fn push(&mut self, column: &Column, field: &[u8]) -> Result<bool, Fault<FieldFault>>
+        requires { kind_of self.old ≡ column.now.kind }
+        ensures read { Reports (λ known. (v : Value) × Stands column.now field.now v × (known ≡ not (logic.is_null v)) × (self.new ≡ with_entry self.old v)) (FieldFails column.now field.now) result }
+        ensures err { OnErr result (self.new ≡ self.old) }
+    {
+        match unescaped(column, field) {
+            Ok(Some(bytes)) => {
+                self.push_plain(bytes)?;
+                Ok(true)
+            }
+            Ok(None) => {
+                self.push_null()?;
+                Ok(false)
+            }
+            Err(fault) => Err(Fault::Refused(fault)),
+        }
+    }
+
+    /// Takes the last one off.
+    fn pop(&mut self)
+        ensures { (e : Entries) (v : Value) → self.old ≡ with_entry e v → self.new ≡ e }
+    {
+        match self {
+            Entries::Numbers(numbers) => {
+                numbers.pop();
+            }
+            Entries::Texts(texts) => texts.pop(),
         }
     }
 }
@@ -74,12 +114,26 @@ impl ColumnCells {
         }
     }
 
-    pub fn push(&mut self, cell: Cell<'_>) -> Result<(), AllocError>
-        requires { Takes (kind_of self.old.entries) (value_of cell) }
-        ensures { OnOk result (self.new ≡ with_value self.old (value_of cell.entry)) }
+    /// The value that a field of the column stands for.
+    pub fn push(&mut self, column: &Column, field: &[u8]) -> Result<(), Fault<FieldFault>>
+        requires { kind_of self.old.entries ≡ column.now.kind }
+        ensures read { Reports (λ _. (v : Value) × Stands column.now field.now v × (self.new ≡ with_value self.old v)) (FieldFails column.now field.now) result }
+        ensures err { OnErr result (self.new ≡ self.old) }
     {
-        self.known.push(!cell.is_null())?;
-        self.entries.push(cell)
+        let known = self.entries.push(column, field)?;
+        if self.known.push(known).is_err() {
+            self.entries.pop();
+            return Err(Fault::Memory);
+        }
+        Ok(())
+    }
+
+    /// Takes the last value off.
+    pub fn pop(&mut self)
+        ensures { (c : ColumnCells) (v : Value) → self.old ≡ with_value c v → self.new ≡ c }
+    {
+        self.known.pop();
+        self.entries.pop();
     }
 
     pub fn cell(&self, row: usize) -> Cell<'_>

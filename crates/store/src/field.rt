@@ -1,18 +1,17 @@
-//! The value that a field of a table's file stands for.
+//! What a field of a table's file stands for: Null, or the bytes of a number or a text.
 
 ghost use Rattle.std.specs.Prelude.{◌≡◌, ◌∷◌, IfSome, MatchOption, MatchResult, FitsSigned};
 ghost use Rattle.std.specs.Int.{w64};
 ghost use Rattle.std.specs.Fmt.{signed_decimal};
-ghost use Rattle.values.specs.Cells.{value_of};
+ghost use Rattle.values.specs.declared.value.Value.TheVariants as value;
 ghost use Rattle.store.specs.Numbers as numbers;
 ghost use Rattle.store.specs.Numbers.{IsCount};
 ghost use Rattle.store.specs.Tables.{IsNumber, Stands, FieldFails};
-ghost use Rattle.store.specs.Parsing.{IsPlain, PlainFails};
+ghost use Rattle.store.specs.Parsing.{IsUnescaped};
 
 use crate::fault::FieldFault;
-use schema::{Column, Kind};
+use schema::Column;
 use std::str;
-use values::Cell;
 
 /// Whether the bytes begin with a digit that isn't `0`.
 fn begins_count(bytes: &[u8]) -> bool
@@ -61,7 +60,7 @@ fn short_count_of(bytes: &[u8]) -> Option<u64>
 }
 
 /// The whole number of 64 bits that the bytes are in decimal.
-fn number_of(bytes: &[u8]) -> Option<i64>
+pub fn number_of(bytes: &[u8]) -> Option<i64>
     ensures { MatchOption result (¬ (IsNumber bytes.now)) (λ n. (bytes.now ≡ signed_decimal n) × FitsSigned w64 n) }
 {
     if !begins_number(bytes) {
@@ -79,31 +78,15 @@ fn number_of(bytes: &[u8]) -> Option<i64>
     }
 }
 
-/// The value of a field that isn't Null, after its escape is taken off.
-fn plain_cell_of(kind: Kind, bytes: &[u8]) -> Result<Cell<'_>, FieldFault>
-    ensures { MatchResult result (λ x. IsPlain kind bytes.now (value_of x)) (PlainFails kind bytes.now) }
-{
-    match kind {
-        Kind::Int => match number_of(bytes) {
-            Some(number) => Ok(Cell::Int(i128::from(number))),
-            None => Err(FieldFault::NotNumber),
-        },
-        Kind::Text => match str::from_utf8(bytes) {
-            Ok(text) => Ok(Cell::Text(text)),
-            Err(_) => Err(FieldFault::NotText),
-        },
-    }
-}
-
-/// The value of a field that begins with a backslash, after which `rest` stands.
-fn escaped_cell_of<'f>(column: &Column, rest: &'f [u8]) -> Result<Cell<'f>, FieldFault>
-    ensures { MatchResult result (λ x. Stands column.now (92 ∷ rest.now) (value_of x)) (FieldFails column.now (92 ∷ rest.now)) }
+/// What stands in a field that begins with a backslash, after which `rest` stands.
+fn escaped_of<'f>(column: &Column, rest: &'f [u8]) -> Result<Option<&'f [u8]>, FieldFault>
+    ensures { MatchResult result (λ o. MatchOption o (Stands column.now (92 ∷ rest.now) value.Null) (λ bytes. IsUnescaped column.now (92 ∷ rest.now) bytes.now)) (FieldFails column.now (92 ∷ rest.now)) }
 {
     match rest {
         [] => Err(FieldFault::BadEscape),
         [first, more @ ..] => {
             if *first == b'\\' {
-                return plain_cell_of(column.kind, rest);
+                return Ok(Some(rest));
             }
             if *first != b'N' || more.len() > 0 {
                 return Err(FieldFault::BadEscape);
@@ -111,22 +94,22 @@ fn escaped_cell_of<'f>(column: &Column, rest: &'f [u8]) -> Result<Cell<'f>, Fiel
             if column.not_null {
                 return Err(FieldFault::NullValue);
             }
-            Ok(Cell::Null)
+            Ok(None)
         }
     }
 }
 
-/// The value that a field of the column stands for. Its text stays where it is.
-pub fn cell_of<'f>(column: &Column, field: &'f [u8]) -> Result<Cell<'f>, FieldFault>
-    ensures { MatchResult result (λ x. Stands column.now field.now (value_of x)) (FieldFails column.now field.now) }
+/// What stands in a field of the column: the bytes of its number or text, with no escape before them; none in that of a Null.
+pub fn unescaped<'f>(column: &Column, field: &'f [u8]) -> Result<Option<&'f [u8]>, FieldFault>
+    ensures { MatchResult result (λ o. MatchOption o (Stands column.now field.now value.Null) (λ bytes. IsUnescaped column.now field.now bytes.now)) (FieldFails column.now field.now) }
 {
     match field {
-        [] => plain_cell_of(column.kind, field),
+        [] => Ok(Some(field)),
         [first, rest @ ..] => {
             if *first == b'\\' {
-                escaped_cell_of(column, rest)
+                escaped_of(column, rest)
             } else {
-                plain_cell_of(column.kind, field)
+                Ok(Some(field))
             }
         }
     }

@@ -2,10 +2,13 @@
 #![tactic(auto)]
 
 mod cells;
+mod chains;
 mod columns;
 pub mod database;
+mod ends;
 pub mod fault;
 mod field;
+mod indexes;
 pub mod input;
 pub mod key;
 mod records;

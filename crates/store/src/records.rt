@@ -1,25 +1,22 @@
 //! Rows read from the records of a table's file.
 
 ghost use Rattle.std.specs.Prelude.{◌≡◌, ◌≤◌, ◌+◌, ◌↔◌, List, [], None, length, map, IfOk, IsTrue};
-ghost use Rattle.values.specs.Cells.{value_of};
 ghost use Rattle.schema.specs.Databases.{most_rows};
 ghost use Rattle.store.specs.Tables.{records_of};
 ghost use Rattle.csv.specs.Records.{fields_of};
 ghost use Rattle.store.specs.Reading.{Remains, NextOf};
-ghost use Rattle.store.specs.Tables.{Record, StandFor, names_of};
-ghost use Rattle.store.specs.Parsing.{RowFails, Parses, ParsesFile};
-ghost use Rattle.store.specs.Reports.{Reports};
+ghost use Rattle.store.specs.Tables.{Record, names_of};
+ghost use Rattle.store.specs.Parsing.{Parses, ParsesFile};
 
 use crate::columns::ColumnStore;
 use crate::fault::{TableCause, TableRefusal};
-use crate::field::cell_of;
 use crate::source::RowSource;
 use crate::table::Table;
 use csv::{ByteRecord, Reader, ReaderBuilder};
 use schema::Column;
 use std::alloc::{AllocError, Global};
 use std::io::Read;
-use values::{Cell, Fault};
+use values::Fault;
 
 /// The most rows that a table may have.
 pub const MOST_ROWS: usize = 1_000_000;
@@ -61,30 +58,6 @@ fn is_header(columns: &[Column], fields: &ByteRecord) -> bool
     true
 }
 
-/// The row that a record stands for. Its texts stay in the record.
-fn row_of<'f>(
-    alloc: Global,
-    columns: &[Column],
-    fields: &'f ByteRecord,
-) -> Result<Vec<Cell<'f>>, Fault<TableCause>>
-    ensures { Reports (λ cells. StandFor columns.now (fields_of fields.now) (map value_of cells.items)) (RowFails columns.now (fields_of fields.now)) result }
-{
-    if fields.len() != columns.len() {
-        return Err(Fault::Refused(TableCause::OtherLength));
-    }
-    let mut cells = Vec::with_capacity(alloc, columns.len())?;
-    for place in 0..columns.len() {
-        let Some(field) = fields.get(place) else {
-            return Err(Fault::Refused(TableCause::OtherLength));
-        };
-        match cell_of(&columns[place], field) {
-            Ok(cell) => cells.push(cell)?,
-            Err(fault) => return Err(Fault::Refused(TableCause::Field(place, fault))),
-        }
-    }
-    Ok(cells)
-}
-
 /// What is parsed where the record after these rows is at fault.
 fn stopped(rows: ColumnStore, cause: TableCause) -> Parsed
     requires { length rows.rows ≤ most_rows }
@@ -121,8 +94,8 @@ fn rows_of<R: Read>(
         if !next_of(reader, fields)? {
             return Ok(whole(rows));
         }
-        match row_of(alloc, columns, fields) {
-            Ok(row) => rows = rows.with_row(row.as_slice())?,
+        match rows.push(columns, fields) {
+            Ok(()) => {}
             Err(Fault::Memory) => return Err(AllocError),
             Err(Fault::Refused(cause)) => return Ok(stopped(rows, cause)),
         }

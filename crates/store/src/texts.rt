@@ -1,17 +1,18 @@
 //! Texts one after another in one string.
 
-ghost use Rattle.std.specs.Prelude.{◌≡◌, ◌∷◌, ◌++◌, ◌<◌, ◌≤◌, [], length, slice_index_or, OnOk};
+ghost use Rattle.std.specs.Prelude.{◌≡◌, ◌∷◌, ◌++◌, ◌<◌, ◌≤◌, [], length, slice_index_or, OnErr, OnOk, ℕ, List};
 ghost use Rattle.store.specs.Texts as spec;
 
+use crate::ends::Ends;
 use std::alloc::{AllocError, Global};
 use std::marker::Model;
-use values::Items;
 
 /// A list of texts, kept as their bytes in a row and the place where each of them ends.
 #[derive(Drop)]
 pub struct Texts {
+    alloc: Global,
     joined: String,
-    ends: Items<usize>,
+    ends: Ends,
 }
 
 impl Model for Texts {
@@ -26,11 +27,11 @@ impl Model for Texts {
 }
 
 /// Where the text with this number begins.
-fn start_of(ends: &[usize], number: usize) -> usize
+fn start_of(ends: &Ends, number: usize) -> usize
     requires { number ≤ length ends.now }
     ensures { result ≡ spec.start_of ends.now number }
 {
-    if number == 0 { 0 } else { ends[number - 1] }
+    if number == 0 { 0 } else { ends.at(number - 1) }
 }
 
 impl Texts {
@@ -38,18 +39,20 @@ impl Texts {
         ensures { result ≡ [] }
     {
         Texts {
+            alloc,
             joined: String::new(alloc),
-            ends: Items::new(alloc),
+            ends: Ends::new(alloc),
         }
     }
 
     pub fn push(&mut self, text: &str) -> Result<(), AllocError>
-        ensures { OnOk result (self.new ≡ self.old ++ text.now ∷ []) }
+        ensures ok { OnOk result (self.new ≡ self.old ++ text.now ∷ []) }
+        ensures err { OnErr result (self.new ≡ self.old) }
     {
         let Some(end) = self.joined.len().checked_add(text.len()) else {
             return Err(AllocError);
         };
-        self.ends.push(end)?;
+        self.ends.push(self.alloc, end)?;
         if self.joined.push_str(text).is_err() {
             self.ends.pop();
             return Err(AllocError);
@@ -57,12 +60,22 @@ impl Texts {
         Ok(())
     }
 
+    /// Takes the last text off.
+    pub fn pop(&mut self)
+        ensures { (texts : List (List ℕ)) (last : List ℕ) → self.old ≡ texts ++ last ∷ [] → self.new ≡ texts }
+    {
+        if let Some(_) = self.ends.pop() {
+            let start = start_of(&self.ends, self.ends.len());
+            self.joined.truncate(start);
+        }
+    }
+
     /// The text with this number.
     pub fn text(&self, number: usize) -> &str
         requires { number < length self.now }
         ensures { result.now ≡ slice_index_or self.now number [] }
     {
-        let ends = self.ends.as_slice();
-        &self.joined[start_of(ends, number)..ends[number]]
+        let start = start_of(&self.ends, number);
+        &self.joined[start..self.ends.at(number)]
     }
 }

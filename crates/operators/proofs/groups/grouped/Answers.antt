@@ -1,18 +1,36 @@
-use Rattle.std.proofs.Common.{ap, ◌∙◌, List, ℕ, map}
-use Rattle.algebra.specs.Columns.{has}
-use Rattle.algebra.specs.Bags.{Env, lay, group}
+use Rattle.std.proofs.Common.{◌≡◌, refl, ap, ◌∙◌, ℕ, List, [], ◌∷◌, ◌++◌, length, map, arith}
+use Rattle.algebra.specs.Columns.{has, rising}
+use Rattle.algebra.specs.Bags.{Bag, Env, lay, group}
 use Rattle.algebra.specs.Expressions.{with_aggregates}
 use Rattle.operators.specs.Relations.{env_of, rows_of}
 use Rattle.operators.proofs.GroupEnvs.{group-laid}
 use Rattle.operators.proofs.PlanOutputs.{restated}
 use Rattle.operators.proofs.groups.grouped.Goals as goal
 
-pub returns : goal.returns
-returns c =
+no-keys : (K : List ℕ) (add : List Env → Env → Env) (x : Bag) (e : Env) → length K ≡ 0 → add (x e) e ∷ [] ≡ group K add x e
+no-keys [] add x e none = refl
+no-keys (k ∷ K) add x e none = absurd (omega (arith, none))
+
+pub returns-then-as_slice-eq0 : goal.returns-then-as_slice-eq0
+returns-then-as_slice-eq0 c =
     let K = c.args.keys.now in
     let A = c.args.added.now in
     let e = env_of c.args.env.now in
-    let made : List Env = group K (with_aggregates A) (rows_of c.args.input.now) e in
-    restated c.new.result _ _ _ _ e c.in_ok-columns.ensures
-    (ap (λ (L : List ℕ). map (λ f. lay (has L) f e) made) c.in_ok-columns.ensures ∙ group-laid K A (rows_of c.args.input.now) e)
-    (c.new.ensures made e c.in_ok-rows.ensures)
+    let x = rows_of c.args.input.now in
+    restated c.row_of_all.result _ _ _ _ e c.in_ok-columns.ensures
+    (ap (λ (L : List ℕ). map (λ f. lay (has L) f e) (with_aggregates A (x e) e ∷ [])) c.in_ok-columns.ensures
+    ∙ ap (map (λ f. lay (has (rising (K ++ _))) f e)) (no-keys K (with_aggregates A) x e (omega (arith, c.if-as_slice-eq0.true, ap length c.as_slice.ensures.columns))) ∙ group-laid K A x e)
+    c.row_of_all.ensures
+
+pub returns-else-as_slice-eq0 : goal.returns-else-as_slice-eq0
+returns-else-as_slice-eq0 c =
+    let K = c.args.keys.now in
+    let A = c.args.added.now in
+    let e = env_of c.args.env.now in
+    let x = rows_of c.args.input.now in
+    restated c.rows_of_groups.result _ _ _ _ e c.in_ok-columns.ensures
+    (ap (λ (L : List ℕ). map (λ f. lay (has L) f e) (group K (with_aggregates A) x e)) c.in_ok-columns.ensures ∙ group-laid K A x e)
+    c.rows_of_groups.ensures
+
+pub rows_of_groups-requires : goal.rows_of_groups-requires
+rows_of_groups-requires c = record { read = c.requires; keyed = omega (arith, c.if-as_slice-eq0.false, ap length c.as_slice.ensures.columns) }

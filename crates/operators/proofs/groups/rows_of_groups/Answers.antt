@@ -1,26 +1,46 @@
-use Rattle.std.proofs.Common.{◌≡◌, ap, sym, subst, ◌∙◌, map, List, IfOk}
+use Rattle.std.proofs.Common.{◌≡◌, refl, ap, sym, subst, ◌∙◌, List, [], ◌∷◌, length, map, arith}
 use Rattle.std.specs.List.{AllByRecursion}
+use Rattle.std.proofs.lemmas.List.{length-map}
 use Rattle.schema.specs.Databases.{Row}
-use Rattle.operators.specs.declared.rows.RowData.{RowData}
-use Rattle.operators.specs.Relations.{env_of, values_of, column_places}
-use Rattle.operators.specs.Groups.{GroupOf, group_env, group_of, groups_by, same_at}
-use Rattle.operators.proofs.Readable.{groups-readable}
+use Rattle.algebra.specs.Columns.{has}
+use Rattle.algebra.specs.Bags.{Env, lay, group}
+use Rattle.algebra.specs.Expressions.{with_aggregates}
+use Rattle.physical.specs.Origins.{AreReadable}
+use Rattle.operators.specs.declared.headings.Place.{Place}
+use Rattle.operators.specs.declared.relation.Relation.{Relation}
+use Rattle.operators.specs.Grouped.{groups_in}
+use Rattle.operators.specs.Groups.{group_envs, placed_groups}
+use Rattle.operators.specs.Relations.{column_places, env_of, rows_of}
+use Rattle.operators.proofs.GroupEnvs.{group-rows, groups-many}
+use Rattle.operators.proofs.PlanOutputs.{restated}
+use Rattle.operators.proofs.RelationRows.{made-even}
 use Rattle.operators.proofs.groups.rows_of_groups.Goals as goal
+
+pub group_parts-requires : goal.group_parts-requires
+group_parts-requires c = subst (λ (r : Relation). AreReadable c.args.grouping.added.now (rows_of r (env_of c.args.env.now))) (sym c.in_ok-groups.ensures.input) c.requires.read
+
+pub made-requires : goal.made-requires
+made-requires c =
+    let G = c.in_ok-groups.groups in
+    let e = env_of c.args.env.now in
+    let made : List Env = group_envs c.args.grouping G.input.now e (groups_in G) in
+    let many : length made ≡ c.len.result = groups-many c.args.grouping G e ∙ omega (arith, c.len.ensures) in
+    record {
+      even = subst (AllByRecursion (λ (part : List Row). length part ≡ c.len.result)) (sym c.in_ok-parts.ensures) (made-even _ made c.len.result many);
+      each = ap length c.in_ok-parts.ensures ∙ length-map _ (λ k. map (λ (f : Env). f k ∷ []) made) ∙ ap length c.as_slice-2.ensures.columns;
+    }
 
 pub returns : goal.returns
 returns c =
-    let h = c.args.input.now.heading in
-    let K = c.args.grouping.keys.now in
-    let show : GroupOf RowData → Row = λ g. map (group_env c.args.grouping h (env_of c.args.env.now) g) c.args.columns.now in
-    let places : c.as_slice-3.result.now ≡ column_places h K = c.as_slice-3.ensures.value ∙ c.in_ok-places.ensures ∙ ap (column_places h) c.as_slice.ensures.columns in
-    let is = ap (λ gs. map show (map group_of gs)) c.as_slice-4.ensures.value
-    ∙ ap (map show) (c.in_ok-groups.ensures ∙ ap (λ P. groups_by (same_at P) c.as_slice-2.result.now) places ∙ ap (groups_by (same_at (column_places h K))) c.as_slice-2.ensures.value) in
-    subst (λ (z : List Row). IfOk c.shown_groups.result (λ rows. map values_of rows.items ≡ z)) is c.shown_groups.ensures
-
-pub shown_groups-requires : goal.shown_groups-requires
-shown_groups-requires c =
-    let h = c.args.input.now.heading in
-    let K = c.args.grouping.keys.now in
-    let places = c.as_slice-3.ensures.value ∙ c.in_ok-places.ensures ∙ ap (column_places h) c.as_slice.ensures.columns in
-    let is = ap (map group_of) c.as_slice-4.ensures.value ∙ c.in_ok-groups.ensures ∙ ap (λ P. groups_by (same_at P) c.as_slice-2.result.now) places ∙ ap (groups_by (same_at (column_places h K))) c.as_slice-2.ensures.value in
-    subst (AllByRecursion _) (sym is) (groups-readable c.args.grouping.added.now h (env_of c.args.env.now) (same_at (column_places h K)) c.args.input.now.rows.items c.requires)
+    let G = c.in_ok-groups.groups in
+    let g = c.args.grouping in
+    let input = c.args.input.now in
+    let e = env_of c.args.env.now in
+    let K = g.keys.now in
+    let made : List Env = group_envs g G.input.now e (groups_in G) in
+    let many : length made ≡ c.len.result = groups-many g G e ∙ omega (arith, c.len.ensures) in
+    let places : G.places.items ≡ column_places input.heading K = c.in_ok-groups.ensures.places ∙ c.in_ok-places.ensures ∙ ap (column_places input.heading) c.as_slice.ensures.columns in
+    let is : made ≡ group K (with_aggregates g.added.now) (rows_of input) e =
+    ap (λ (r : Relation). group_envs g r e (placed_groups G.places.items r)) c.in_ok-groups.ensures.input ∙ ap (λ (ps : List Place). group_envs g input e (placed_groups ps input)) places ∙ group-rows g input e c.requires.keyed in
+    restated c.made.result _ _ _ _ e refl (ap (map (λ f. lay (has c.args.columns) f e)) is)
+    (c.made.ensures made e many (c.in_ok-parts.ensures ∙ ap (map (λ k. map (λ (f : Env). f k ∷ []) made)) c.as_slice-2.ensures.columns))

@@ -1,11 +1,18 @@
-use Rattle.std.proofs.Common.{ap, ◌∙◌, arith, map, List}
-use Rattle.std.proofs.lemmas.List.{take_all}
+use Rattle.std.proofs.Common.{ap, sym, ◌∙◌, ℕ, List, [], ◌∷◌, ◌++◌, get_or, map, take, arith}
+use Rattle.std.proofs.lemmas.List.{get_or_default}
+use Rattle.values.proofs.Lists.{map_next}
 use Rattle.schema.specs.Databases.{Row}
-use Rattle.operators.specs.declared.rows.RowData.{RowData}
-use Rattle.operators.specs.Relations.{env_of, row_env}
+use Rattle.algebra.specs.Bags.{Env}
+use Rattle.operators.specs.Relations.{env_of, rows_of}
+use Rattle.operators.proofs.RelationRows.{cell-column}
 use Rattle.operators.proofs.scans.copies.Goals as goal
 
-pub returns : goal.returns
-returns c =
-    let shown : List RowData → List Row = λ rows. map (λ f. map f c.args.columns.now) (map (λ row. row_env c.args.input.now.heading row (env_of c.args.env.now)) rows) in
-    c.loop-row.invariant ∙ ap shown (take_all c.loop-row.row-index c.as_slice-row-items.result.now (omega arith) ∙ c.as_slice-row-items.ensures.value)
+pub loop-column-preserved : goal.loop-column-preserved
+loop-column-preserved c =
+    let i = c.loop-column.column-index in
+    let columns = c.args.columns.now in
+    let fs : List Env = rows_of c.args.input.now (env_of c.args.env.now) in
+    let part : ℕ → List Row = λ k. map (λ f. f k ∷ []) fs in
+    c.in_ok-push.ensures.items ∙ ap (λ (l : List (List Row)). l ++ c.made.result ∷ []) c.loop-column.invariant
+    ∙ ap (λ (p : List Row). map part (take i columns) ++ p ∷ []) (c.made.ensures ∙ cell-column c.in_ok-cells.cells.items fs (get_or columns i 0) c.in_ok-cells.ensures)
+    ∙ sym (map_next part columns i (get_or columns i 0) (omega arith) (get_or_default columns i 0 _ (omega arith)))

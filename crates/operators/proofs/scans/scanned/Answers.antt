@@ -1,22 +1,38 @@
-use Rattle.std.proofs.Common.{◌≡◌, refl, ap, sym, ◌∙◌, length, slice_get, Some}
-use Rattle.std.specs.List.{range_with_len}
+use Rattle.std.proofs.Common.{◌≡◌, refl, ap, sym, subst, ◌∙◌, ◌<◌, List, length, map, slice_get, Some}
+use Rattle.std.specs.List.{AllByRecursion, range_with_len}
 use Rattle.std.proofs.lemmas.List.FromFn.{length-range_with_len}
 use Rattle.std.proofs.lemmas.Option.{slice_get_read}
+use Rattle.schema.specs.Databases.{Row}
 use Rattle.query.specs.Rows.{tables_of}
-use Rattle.algebra.specs.Expressions.{get_columns, get_rows, use_columns}
-use Rattle.operators.proofs.RelationRows.{table-rows}
+use Rattle.algebra.specs.Expressions.{get_columns, get_rows, use_columns, use_row}
+use Rattle.operators.specs.declared.headings.Place.{Place}
+use Rattle.operators.specs.Parts.{row_at}
+use Rattle.operators.specs.Places.{first_at}
+use Rattle.operators.specs.Relations.{row_env}
+use Rattle.operators.proofs.RelationRows.{first-within, table-rows}
 use Rattle.operators.proofs.scans.scanned.Goals as goal
+
+pub invariant_of-result : goal.invariant_of-result
+invariant_of-result c =
+    let within = subst (AllByRecursion (λ (p : Place). p.part < 1)) (sym c.in_ok-heading.ensures.1) (first-within (length c.in_ok-columns.columns) 0) in
+    record { placed = subst (λ n. AllByRecursion (λ (p : Place). p.part < n) c.in_ok-heading.heading.places.items) (sym (ap length c.in_ok-rows.ensures.parts)) within }
 
 pub returns : goal.returns
 returns c = λ S e.
     let t = c.in-Some.table_use.now in
     let uses = c.args.uses.now in
+    let h = c.in_ok-heading.heading in
+    let rows = c.in_ok-rows.rows in
+    let table = c.table_part.result in
     let found : slice_get uses c.args.occurrence ≡ Some t = slice_get_read uses (length uses) c.args.occurrence t refl c.in-Some.ensures.lookup.3.0 (c.in-Some.ensures.lookup.3.1 t) in
     let given : get_columns (slice_get uses c.args.occurrence) ≡ use_columns t = ap get_columns found in
-    let columns : c.in_ok-new.field-0.columns ≡ use_columns t = c.in_ok-new.ensures.0 ∙ c.in_ok-columns.ensures ∙ given in
-    let places : c.in_ok-new.field-0.places.items ≡ range_with_len 0 (length t.entry.columns) =
-    c.in_ok-new.ensures.1 ∙ ap (range_with_len 0) (ap length (c.in_ok-columns.ensures ∙ given) ∙ length-range_with_len t.first_column (length t.entry.columns)) in
+    let columns : h.columns ≡ use_columns t = c.in_ok-heading.ensures.0 ∙ c.in_ok-columns.ensures ∙ given in
+    let places : h.places.items ≡ map first_at (range_with_len 0 (length t.entry.columns)) =
+    c.in_ok-heading.ensures.1 ∙ ap (λ n. map first_at (range_with_len 0 n)) (ap length (c.in_ok-columns.ensures ∙ given) ∙ length-range_with_len t.first_column (length t.entry.columns)) in
     record {
       columns_are = columns ∙ sym given;
-      rows_are = table-rows t c.in_ok-new.field-0 _ _ e columns places c.in_ok-table_rows.ensures ∙ sym (ap (λ o. get_rows o (tables_of S c.args.tables.now) e) found);
+      rows_are = ap (λ n. map (λ k. row_env h (row_at rows.parts.items k) e) (range_with_len 0 n)) c.in_ok-rows.ensures.count
+          ∙ ap (λ (parts : List (List Row)). map (λ k. row_env h (row_at parts k) e) (range_with_len 0 (length table))) c.in_ok-rows.ensures.parts
+          ∙ table-rows t h table e columns places ∙ ap (map (λ row. use_row t row e)) c.table_part.ensures
+          ∙ sym (ap (λ o. get_rows o (tables_of S c.args.tables.now) e) found);
     }

@@ -1,22 +1,28 @@
-use Rattle.std.proofs.Common.{refl, ap, ◌∙◌, rules, map}
-use Rattle.std.specs.declared.cmp.Ordering.{Ordering}
-use Rattle.std.proofs.lemmas.Cmp.{on_total}
+use Rattle.std.proofs.Common.{◌≡◌, refl, ap, sym, ◌∙◌, List, [], ◌∷◌, map, ℕ, length, arith}
 use Rattle.algebra.specs.Bags.{Env}
-use Rattle.physical.specs.Sorts.{keys_order}
-use Rattle.physical.proofs.SortedRows.{keys_total}
-use Rattle.physical.proofs.ClosureSorts.{sorted-by_closure}
-use Rattle.physical.proofs.Sorting.{map-sorted}
-use Rattle.operators.specs.declared.rows.RowData.{RowData}
-use Rattle.operators.specs.Relations.{env_of, row_env}
+use Rattle.physical.specs.declared.plan.OrderKey.{OrderKey}
+use Rattle.physical.specs.Sorts.{keys_order, put_sorted, sorted}
+use Rattle.operators.specs.Relations.{env_of, numbered_env, rows_of}
+use Rattle.operators.proofs.PlanOutputs.{chosen-output}
 use Rattle.operators.proofs.sorting.sorted.Goals as goal
 
-pub returns : goal.returns
-returns c =
-    let keys = c.args.keys.now in
-    let row : RowData → Env = λ r. row_env c.args.input.heading r (env_of c.args.env.now) in
-    let R : RowData → RowData → Ordering = λ a b. keys_order keys (row a) (row b) in
-    let stands = sorted-by_closure R (on_total row (keys_total keys)) c.args.input.rows.items c.sort_by.new.self.items c.in_ok-sort_by.ensures.sorted c.in_ok-sort_by.ensures.stable (λ a r f' k. search rules) in
-    record {
-      columns_are = refl;
-      rows_are = ap (map row) stands ∙ map-sorted row (keys_order keys) c.args.input.rows.items;
-    }
+put-first : (r : Env) (rows : List Env) → put_sorted (keys_order []) r rows ≡ r ∷ rows
+put-first r [] = refl
+put-first r (s ∷ rows) = refl
+
+no-key : (rows : List Env) → rows ≡ sorted (keys_order []) rows
+no-key [] = refl
+no-key (r ∷ rows) = ap (λ l. r ∷ l) (no-key rows) ∙ sym (put-first r (sorted (keys_order []) rows))
+
+no-keys : (keys : List OrderKey) (rows : List Env) → 0 ≡ length keys → rows ≡ sorted (keys_order keys) rows
+no-keys [] rows none = no-key rows
+no-keys (k ∷ keys) rows none = absurd (omega (arith, none))
+
+pub returns-in-None : goal.returns-in-None
+returns-in-None c = record { columns_are = refl; rows_are = no-keys c.args.keys.now (rows_of c.args.input (env_of c.args.env.now)) (sym c.in-None.ensures.cases) }
+
+pub returns-in_ok-numbers-in-Some : goal.returns-in_ok-numbers-in-Some
+returns-in_ok-numbers-in-Some c =
+    let e = env_of c.args.env.now in
+    chosen-output c.chosen.result _ _ _ e c.chosen.ensures.columns (c.chosen.ensures.rows e)
+    (ap (λ (ns : List ℕ). map (numbered_env c.args.input e) ns) c.as_slice.ensures.value ∙ c.in_ok-numbers-in-Some.ensures ∙ ap (λ (ks : List OrderKey). sorted (keys_order ks) (rows_of c.args.input e)) (sym c.in-Some.ensures.cases.0))

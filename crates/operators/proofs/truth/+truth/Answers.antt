@@ -1,36 +1,21 @@
-use Rattle.std.proofs.Common.{◌≡◌, ◌≢◌, ◌∙◌, refl, ap, sym, fold, map, take, arith, false}
-use Rattle.values.specs.Cells.{value_of}
-use Rattle.values.specs.declared.cell.Cell.{Cell}
-use Rattle.values.specs.declared.cell.Cell.TheVariants.{Null, Int, Text}
-use Rattle.values.specs.declared.truth.Comparison.TheVariants as by
+use Rattle.std.proofs.Common.{◌∙◌, refl, ap, sym, fold, map, take, arith}
 use Rattle.values.specs.declared.truth.Truth.{Truth}
-use Rattle.values.specs.Truth.{truth_of, is_null, compare, conjunction, disjunction}
-use Rattle.query.specs.Meaning.{any_of}
+use Rattle.values.specs.Truth.{truth_of, conjunction, disjunction}
 use Rattle.algebra.specs.declared.condition.Condition.{Condition}
 use Rattle.algebra.specs.Conditions.{truth}
 use Rattle.algebra.proofs.Truths.{truth-Compare, truth-IsNull, truth-Not, truth-And, truth-Or, truth-Exists, truth-In}
 use Rattle.operators.specs.Relations.{env_of, subqueries_given}
-use Rattle.operators.proofs.truth.+truth.Goals.{truth-in-Null, truth-in_default}
 use Rattle.operators.proofs.truth.+truth.Goals as goal
 use Rattle.operators.proofs.Steps.{fold_next}
 
-not-null : (x : Cell) → x ≢ Null → is_null (value_of x) ≡ false
-not-null Null h = absurd (h refl)
-not-null (Int n) h = refl
-not-null (Text t) h = refl
+pub truth-returns-in-IsNull : goal.truth-returns-in-IsNull
+truth-returns-in-IsNull t c =
+    let W = subqueries_given c.args.subqueries in
+    let r = env_of c.args.env.now in
+    c.from.ensures ∙ ap truth_of c.is_null.ensures ∙ sym (truth-IsNull c.in-IsNull.term W r) ∙ ap (λ d. truth d W r) (sym c.in-IsNull.is)
 
 pub truth-returns-in-Compare : goal.truth-returns-in-Compare
 truth-returns-in-Compare t c = cc (truth-Compare c.in-Compare.comparison c.in-Compare.a c.in-Compare.b (subqueries_given c.args.subqueries) (env_of c.args.env.now))
-
-pub truth-returns-after-matches : goal.truth-returns-after-matches
-truth-returns-after-matches t c =
-    let W = subqueries_given c.args.subqueries in
-    let r = env_of c.args.env.now in
-    let null : c.match-matches.matches ≡ is_null (value_of c.term_cell-in-IsNull.result) = elim c.match-matches.branch [
-      | truth-in-Null w ↦ w.matches-is ∙ sym (ap (λ x. is_null (value_of x)) w.in-Null.is)
-      | truth-in_default w ↦ w.matches-is ∙ sym (not-null c.term_cell-in-IsNull.result w.in_default.not-Null)
-    ] in
-    c.from.ensures ∙ ap truth_of (null ∙ ap is_null c.term_cell-in-IsNull.ensures) ∙ sym (truth-IsNull c.in-IsNull.term W r) ∙ ap (λ d. truth d W r) (sym c.in-IsNull.is)
 
 pub truth-returns-in-Not : goal.truth-returns-in-Not
 truth-returns-in-Not t c = cc (truth-Not c.in-Not.part (subqueries_given c.args.subqueries) (env_of c.args.env.now))
@@ -57,9 +42,7 @@ pub truth-returns-in-In : goal.truth-returns-in-In
 truth-returns-in-In t c =
     let W = subqueries_given c.args.subqueries in
     let r = env_of c.args.env.now in
-    c.is_among.ensures
-    ∙ ap (λ v. any_of (map (λ s. compare by.Equal v (s c.in-In.column)) (W c.in-In.class r))) c.term_cell-in-In.ensures
-    ∙ sym (truth-In c.in-In.term c.in-In.class c.in-In.column W r) ∙ ap (λ d. truth d W r) (sym c.in-In.is)
+    c.has_term.ensures ∙ sym (truth-In c.in-In.term c.in-In.class c.in-In.column W r) ∙ ap (λ d. truth d W r) (sym c.in-In.is)
 
 pub all-loop-condition-preserved : goal.all-loop-condition-preserved
 all-loop-condition-preserved t c =

@@ -1,0 +1,17 @@
+use Rattle.std.proofs.Common.{◌≡◌, ap, sym, ◌∙◌, List, map}
+use Rattle.operators.specs.declared.headings.Place.{Place}
+use Rattle.operators.specs.declared.relation.Relation.{Relation}
+use Rattle.operators.specs.Groups.{first_seen, same_at}
+use Rattle.operators.specs.Relations.{column_places, numbered_env, numbers_of}
+use Rattle.operators.proofs.GroupEnvs.{distinct-envs}
+use Rattle.operators.proofs.groups.distinct_numbers.Goals as goal
+
+pub returns : goal.returns
+returns c = λ e.
+    let input = c.args.input.now in
+    let h = input.heading in
+    let groups = c.in_ok-groups.groups in
+    let places : groups.places.items ≡ column_places h h.columns = c.in_ok-groups.ensures.places ∙ c.in_ok-places.ensures ∙ ap (column_places h) c.as_slice.ensures.columns in
+    ap (map (numbered_env input e)) (c.into_firsts.ensures ∙ groups.seen ∙ ap (λ (r : Relation). first_seen (same_at groups.places.items r.rows) (numbers_of r)) c.in_ok-groups.ensures.input
+    ∙ ap (λ (ps : List Place). first_seen (same_at ps input.rows) (numbers_of input)) places)
+    ∙ sym (distinct-envs input e h.columns)

@@ -1,0 +1,49 @@
+use Rattle.std.proofs.Common.{◌≡◌, ap, sym, subst, ◌∙◌, ℕ, ◌+◌, ◌<◌, Bool, inl, inr, List, [], ◌∷◌, ◌++◌, length, get_or, map, length-append, arith}
+use Rattle.std.specs.List.{position_or_len, range_with_len}
+use Rattle.std.proofs.lemmas.Bool.{cases_eq}
+use Rattle.std.proofs.Math.ListN.{get_or-append}
+use Rattle.std.proofs.Math.Seq.{get_or-append_seam}
+use Rattle.indexmap.specs.IndexSet.{insert_key}
+use Rattle.schema.specs.Databases.{Row}
+use Rattle.store.specs.Keys.{key_eq, key_equiv}
+use Rattle.operators.specs.Parts.{row_at}
+use Rattle.operators.specs.Groups.{AreNumbered, added_at, first_seen, groups_by, key_at, same_at, with_founder}
+use Rattle.operators.proofs.FirstSeen.{groups-numbered, founders-more, keys-more, place}
+use Rattle.operators.proofs.Numbers.{range_number}
+use Rattle.operators.proofs.keys.group_numbers.Goals as goal
+
+-- one row more has its number
+numbered-more : (same : ℕ → ℕ → Bool) (numbers : List ℕ) (group : ℕ) → AreNumbered same numbers → groups_by same (range_with_len 0 (length numbers + 1)) ≡ added_at group (length numbers) (groups_by same (range_with_len 0 (length numbers)))
+    → AreNumbered same (numbers ++ group ∷ [])
+numbered-more same numbers group all here n below = elim (cases_eq n (length numbers)) [
+  | inl e ↦ subst (λ m. groups_by same (range_with_len 0 (m + 1)) ≡ added_at (get_or (numbers ++ group ∷ []) m 0) m (groups_by same (range_with_len 0 m))) (sym e)
+      (here ∙ ap (λ g. added_at g (length numbers) (groups_by same (range_with_len 0 (length numbers)))) (sym (get_or-append_seam numbers group [] 0)))
+  | inr ne ↦
+      let low : n < length numbers = omega (arith, ne, below, length-append numbers (group ∷ [])) in
+      all n low ∙ ap (λ g. added_at g n (groups_by same (range_with_len 0 n))) (sym (get_or-append numbers (group ∷ []) 0 n low))
+]
+
+pub loop-number-preserved : goal.loop-number-preserved
+loop-number-preserved c =
+    let n = c.loop-number.number in
+    let places = c.args.places.now in
+    let rows = c.args.rows.now in
+    let key : ℕ → Row = λ m. key_at places (row_at rows.parts.items m) in
+    let same : ℕ → ℕ → Bool = same_at places rows in
+    let before : List ℕ = range_with_len 0 n in
+    let numbers = c.loop-number.groups.numbers.items in
+    let group : c.in_ok-group.group ≡ place key key_eq key_equiv before n =
+    c.in_ok-group.ensures.index ∙ ap (λ k. position_or_len (key_eq k) c.loop-number.keys.keys) c.new-in-loop-number.ensures ∙ ap (position_or_len (key_eq (key n))) c.loop-number.invariant.keys in
+    let many : length numbers ≡ n = c.loop-number.invariant.each in
+    let added : groups_by same (range_with_len 0 (n + 1)) ≡ added_at c.in_ok-group.group n (groups_by same before) =
+    ap (groups_by same) (range_number n) ∙ groups-numbered key key_eq key_equiv before n ∙ ap (λ g. added_at g n (groups_by same before)) (sym group) in
+    record {
+      keys = c.in_ok-group.ensures.keys ∙ ap (insert_key key_eq c.loop-number.keys.keys) c.new-in-loop-number.ensures ∙ ap (λ ks. insert_key key_eq ks (key n)) c.loop-number.invariant.keys
+          ∙ keys-more key key_eq key_equiv before n ∙ ap (λ l. map key (first_seen same l)) (sym (range_number n));
+      firsts = c.in_ok-add.ensures.firsts ∙ ap (λ fs. with_founder fs c.in_ok-group.group n) c.loop-number.invariant.firsts ∙ ap (λ g. with_founder (first_seen same before) g n) group
+          ∙ sym (founders-more key key_eq key_equiv before n) ∙ ap (first_seen same) (sym (range_number n));
+      numbered = subst (AreNumbered same) (sym c.in_ok-add.ensures.numbers)
+          (numbered-more same numbers c.in_ok-group.group c.loop-number.invariant.numbered
+          (subst (λ m. groups_by same (range_with_len 0 (m + 1)) ≡ added_at c.in_ok-group.group m (groups_by same (range_with_len 0 m))) (sym many) added));
+      each = ap length c.in_ok-add.ensures.numbers ∙ length-append numbers (c.in_ok-group.group ∷ []) ∙ ap (λ m. m + 1) many;
+    }

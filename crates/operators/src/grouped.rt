@@ -1,0 +1,61 @@
+//! The rows of a relation in groups.
+
+ghost use Rattle.std.specs.Prelude.{◌≡◌, length, IfOk};
+ghost use Rattle.operators.specs.Groups as spec;
+ghost use Rattle.operators.specs.Relations.{numbers_of};
+
+use crate::headings::Place;
+use crate::keys::{GroupNumbers, group_numbers};
+use crate::relation::Relation;
+use std::alloc::{AllocError, Global};
+
+/// The rows of a relation in groups of those that are the same at some places, as they were first seen.
+#[derive(Drop)]
+pub struct Groups<'a, 't> {
+    pub input: &'a Relation<'t>,
+    places: Vec<Place>,
+    /// The row that was seen first in each group.
+    pub firsts: Vec<usize>,
+    /// The number of each row's group.
+    pub numbers: Vec<usize>,
+    ghost seen: { firsts.items ≡ spec.first_seen (spec.same_at places.items input.now.rows) (numbers_of input.now) },
+    ghost numbered: { spec.AreNumbered (spec.same_at places.items input.now.rows) numbers.items },
+    ghost each: { length numbers.items ≡ input.now.rows.count },
+}
+
+impl<'a, 't> Groups<'a, 't> {
+    /// The rows that are the same at the places.
+    pub fn new(
+        alloc: Global,
+        input: &'a Relation<'t>,
+        places: Vec<Place>,
+    ) -> Result<Groups<'a, 't>, AllocError>
+        ensures input { IfOk result (λ groups. groups.input.now ≡ input.entry.now) }
+        ensures places { IfOk result (λ groups. groups.places.items ≡ places.items) }
+    {
+        let GroupNumbers { firsts, numbers } = group_numbers(
+            alloc,
+            &input.rows,
+            places.as_slice(),
+        )?;
+        Ok(Groups {
+            input,
+            places,
+            firsts,
+            numbers,
+        })
+    }
+
+    /// The row that was seen first in each group.
+    pub fn into_firsts(self) -> Vec<usize>
+        ensures { result.items ≡ self.entry.firsts.items }
+    {
+        let Groups {
+            input: _,
+            places: _,
+            firsts,
+            numbers: _,
+        } = self;
+        firsts
+    }
+}
