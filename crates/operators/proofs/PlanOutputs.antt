@@ -10,14 +10,15 @@ use Rattle.algebra.specs.Columns.{has}
 use Rattle.algebra.specs.Conditions.{truth, term_value, is_empty, holds, classes_in}
 use Rattle.algebra.proofs.Lists.{two}
 use Rattle.algebra.proofs.Truths.{truth-Compare, truth-IsNull, truth-Not, truth-And, truth-Or, truth-Exists, truth-In}
-use Rattle.physical.specs.declared.plan.JoinKind.{JoinKind}
-use Rattle.physical.specs.declared.plan.JoinKind.TheVariants.{Inner, Left}
+use Rattle.operators.specs.declared.joins.Unmatched.{Unmatched}
+use Rattle.operators.specs.declared.joins.Unmatched.TheVariants.{Dropped, Padded}
 use Rattle.query.specs.declared.query.TableInstance.{TableInstance}
 use Rattle.query.specs.Rows.{Tables}
 use Rattle.algebra.specs.Bags.{Env, Bag, Test, lay, nulls, matches, same_on, distinct_on, group}
 use Rattle.physical.specs.declared.plan.Node.{Node}
 use Rattle.physical.specs.declared.plan.Plan.{Plan, out-Plan, fold_out-Plan}
-use Rattle.physical.specs.Outputs.{Output, first_columns, second_columns, first, rest, node_columns, node_rows, nested_loop_rows, subquery_rows, output_layer, plan_output, output_rows}
+use Rattle.physical.specs.Outputs.{Output, first_columns, second_columns, first, rest, node_columns, node_rows, subquery_rows, output_layer, plan_output, output_rows}
+use Rattle.operators.specs.Joins.{pair_rows}
 use Rattle.operators.specs.declared.relation.Relation.{Relation}
 use Rattle.operators.specs.Relations.{IsOutput, IsInputOutput, AreOutputs, given, rows_of}
 
@@ -81,9 +82,9 @@ pub group-same : (K : List ℕ) (add : List Env → Env → Env) (a b : Bag) (e 
 group-same [] add a b e same = ap (λ rows. add rows e ∷ []) same
 group-same (k ∷ K) add a b e same = ap (λ rows. map (λ r. add (filter (same_on (k ∷ K) r) rows) (lay (has (k ∷ K)) r e)) (distinct_on (k ∷ K) rows)) same
 
-pub loop-same : (kind : JoinKind) (p : Test) (K : List ℕ) (a b c d : Bag) (e : Env) → a e ≡ b e → c e ≡ d e → nested_loop_rows kind p K a c e ≡ nested_loop_rows kind p K b d e
-loop-same Inner p K a b c d e left right = ap (λ rows. flat_map (matches p (has K) (c e)) rows) left ∙ ap (λ rows. flat_map (matches p (has K) rows) (b e)) right
-loop-same Left p K a b c d e left right =
+pub loop-same : (kind : Unmatched) (p : Test) (K : List ℕ) (a b c d : Bag) (e : Env) → a e ≡ b e → c e ≡ d e → pair_rows kind p K a c e ≡ pair_rows kind p K b d e
+loop-same Dropped p K a b c d e left right = ap (λ rows. flat_map (matches p (has K) (c e)) rows) left ∙ ap (λ rows. flat_map (matches p (has K) rows) (b e)) right
+loop-same Padded p K a b c d e left right =
     ap (λ rows. flat_map (λ r. or_else_row (lay (has K) nulls r) (matches p (has K) (c e) r)) rows) left
     ∙ ap (λ rows. flat_map (λ r. or_else_row (lay (has K) nulls r) (matches p (has K) rows r)) (b e)) right
 
