@@ -1,7 +1,9 @@
 -- Rows by their numbers.
-use Rattle.std.proofs.Common.{◌≡◌, refl, ap, sym, ◌∙◌, ℕ, zero, suc, ◌+◌, ◌<◌, ◌≤◌, Bool, if◌then◌else◌, List, [], ◌∷◌, ◌++◌, length, get_or, map, flat_map, filter, append-nil, arith, add-one, zero-add}
-use Rattle.std.specs.List.{range_with_len}
+use Rattle.std.proofs.Common.{◌≡◌, refl, ap, sym, ◌∙◌, ℕ, zero, suc, ◌+◌, ◌<◌, ◌≤◌, Bool, true, false, if◌then◌else◌, List, [], ◌∷◌, ◌++◌, length, get_or, map, flat_map, filter, append-nil, arith, add-one, zero-add}
+use Rattle.std.specs.List.{list_any, range_with_len}
 use Rattle.std.proofs.lemmas.List.{get_or-map, map-append}
+use Rattle.std.proofs.lemmas.List.FromFn.{get_or-range_with_len, length-range_with_len}
+use Rattle.std.proofs.lemmas.List.Folds.{list_any-append, list_any_at}
 use Rattle.std.proofs.lemmas.List.Concat.{flat_map-append}
 use Rattle.std.proofs.lemmas.List.Elements.{filter-append}
 use mathlib.Core.List.{map-map}
@@ -34,6 +36,14 @@ map_number f n = ap (map f) (range_number n) ∙ map-append f (range_with_len 0 
 
 pub filter_number : (p : ℕ → Bool) (n : ℕ) → filter p (range_with_len 0 (n + 1)) ≡ filter p (range_with_len 0 n) ++ (if p n then n ∷ [] else [])
 filter_number p n = ap (filter p) (range_number n) ∙ filter-append p (range_with_len 0 n) (n ∷ [])
+
+pub any_number : (p : ℕ → Bool) (n : ℕ) → list_any p (range_with_len 0 n) ≡ false → p n ≡ false → list_any p (range_with_len 0 (n + 1)) ≡ false
+any_number p n before here = ap (list_any p) (range_number n) ∙ list_any-append p (range_with_len 0 n) (n ∷ []) ∙ rw (before, here) refl
+
+-- one of them settles the answer
+pub any_found : (p : ℕ → Bool) (n end : ℕ) → n < end → p n ≡ true → list_any p (range_with_len 0 end) ≡ true
+any_found p n end below here =
+    list_any_at p (range_with_len 0 end) n 0 (let many = length-range_with_len 0 end in omega (arith, below, many)) (ap p (get_or-range_with_len 0 end n 0 below ∙ zero-add n) ∙ here)
 
 pub flat_map_number : {Y : Type 0} (f : ℕ → List Y) (n : ℕ) → flat_map f (range_with_len 0 (n + 1)) ≡ flat_map f (range_with_len 0 n) ++ f n
 flat_map_number f n = ap (flat_map f) (range_number n) ∙ flat_map-append f (range_with_len 0 n) (n ∷ []) ∙ ap (λ l. flat_map f (range_with_len 0 n) ++ l) (append-nil (f n))

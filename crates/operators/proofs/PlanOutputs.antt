@@ -10,15 +10,14 @@ use Rattle.algebra.specs.Columns.{has}
 use Rattle.algebra.specs.Conditions.{truth, term_value, is_empty, holds, classes_in}
 use Rattle.algebra.proofs.Lists.{two}
 use Rattle.algebra.proofs.Truths.{truth-Compare, truth-IsNull, truth-Not, truth-And, truth-Or, truth-Exists, truth-In}
-use Rattle.operators.specs.declared.joins.Unmatched.{Unmatched}
-use Rattle.operators.specs.declared.joins.Unmatched.TheVariants.{Dropped, Padded}
 use Rattle.query.specs.declared.query.TableInstance.{TableInstance}
 use Rattle.query.specs.Rows.{Tables}
-use Rattle.algebra.specs.Bags.{Env, Bag, Test, lay, nulls, matches, same_on, distinct_on, group}
+use Rattle.algebra.specs.Bags.{Env, Bag, lay, nulls, matches, has_match, same_on, distinct_on, group}
+use Rattle.physical.specs.declared.plan.Matching.{Matching}
+use Rattle.physical.specs.declared.plan.Matching.TheVariants.{Inner, Left, Semi, Anti}
 use Rattle.physical.specs.declared.plan.Node.{Node}
 use Rattle.physical.specs.declared.plan.Plan.{Plan, out-Plan, fold_out-Plan}
-use Rattle.physical.specs.Outputs.{Output, first_columns, second_columns, first, rest, node_columns, node_rows, subquery_rows, output_layer, plan_output, output_rows}
-use Rattle.operators.specs.Joins.{pair_rows}
+use Rattle.physical.specs.Outputs.{Output, first_columns, second_columns, first, rest, is_match, join_rows, node_columns, node_rows, subquery_rows, output_layer, plan_output, output_rows}
 use Rattle.operators.specs.declared.relation.Relation.{Relation}
 use Rattle.operators.specs.Relations.{IsOutput, IsInputOutput, AreOutputs, given, rows_of}
 
@@ -82,11 +81,12 @@ pub group-same : (K : List ℕ) (add : List Env → Env → Env) (a b : Bag) (e 
 group-same [] add a b e same = ap (λ rows. add rows e ∷ []) same
 group-same (k ∷ K) add a b e same = ap (λ rows. map (λ r. add (filter (same_on (k ∷ K) r) rows) (lay (has (k ∷ K)) r e)) (distinct_on (k ∷ K) rows)) same
 
-pub loop-same : (kind : Unmatched) (p : Test) (K : List ℕ) (a b c d : Bag) (e : Env) → a e ≡ b e → c e ≡ d e → pair_rows kind p K a c e ≡ pair_rows kind p K b d e
-loop-same Dropped p K a b c d e left right = ap (λ rows. flat_map (matches p (has K) (c e)) rows) left ∙ ap (λ rows. flat_map (matches p (has K) rows) (b e)) right
-loop-same Padded p K a b c d e left right =
-    ap (λ rows. flat_map (λ r. or_else_row (lay (has K) nulls r) (matches p (has K) (c e) r)) rows) left
-    ∙ ap (λ rows. flat_map (λ r. or_else_row (lay (has K) nulls r) (matches p (has K) rows r)) (b e)) right
+-- a join goes by its sides' rows in the environment
+pub join-same : (j : Matching) (K : List ℕ) (a b c d : Bag) (e : Env) → a e ≡ b e → c e ≡ d e → join_rows j K a c e ≡ join_rows j K b d e
+join-same (Inner C) K a b c d e left right = two (λ xs ys. flat_map (matches (is_match (Inner C)) (has K) ys) xs) left right
+join-same (Left C) K a b c d e left right = two (λ xs ys. flat_map (λ r. or_else_row (lay (has K) nulls r) (matches (is_match (Left C)) (has K) ys r)) xs) left right
+join-same (Semi C) K a b c d e left right = two (λ xs ys. filter (has_match (is_match (Semi C)) (has K) ys) xs) left right
+join-same (Anti S M) K a b c d e left right = two (λ xs ys. filter (λ r. not (has_match (is_match (Anti S M)) (has K) ys r)) xs) left right
 
 -- ---- conditions with subqueries
 

@@ -7,8 +7,9 @@ use Rattle.query.specs.Rows.{Tables}
 use Rattle.query.specs.Aggregates.{AreShortTables}
 use Rattle.algebra.specs.declared.expr.Aggregation.{Aggregation}
 use Rattle.algebra.specs.Bags.{Env}
+use Rattle.physical.specs.declared.plan.GroupMethod.{GroupMethod}
 use Rattle.physical.specs.declared.plan.Operator.{Operator}
-use Rattle.physical.specs.declared.plan.Operator.TheVariants.{HashGroup}
+use Rattle.physical.specs.declared.plan.Operator.TheVariants.{GroupRows}
 use Rattle.physical.specs.declared.plan.Node.{Node}
 use Rattle.physical.specs.declared.plan.Plan.{Plan, out-Plan, fold_out-Plan}
 use Rattle.physical.specs.Origins.{Origin, AreReadable, all_read, node_reads, operator_reads, origin_layer, plan_origin}
@@ -44,9 +45,9 @@ module _ (uses : List TableInstance) where
   rest-reads (p ∷ inputs) reads = (and_parts _ _ reads).1
 
   -- a group may read the relation of its input
-  pub input-readable : (D : Tables) → AreShortTables D → (operator : Operator) (K : List ℕ) (G added : List Aggregation) (inputs : List Plan) (e : Env) (r : Relation) → operator ≡ HashGroup K G → added ≡ G → operator_reads operator (origins inputs) ≡ true
+  pub input-readable : (D : Tables) → AreShortTables D → (operator : Operator) (method : GroupMethod) (K : List ℕ) (G added : List Aggregation) (inputs : List Plan) (e : Env) (r : Relation) → operator ≡ GroupRows method K G → added ≡ G → operator_reads operator (origins inputs) ≡ true
       → IsInputOutput (map (plan_output uses D) inputs) 0 e r → AreReadable added (rows_of r e)
-  input-readable D short operator K G added inputs e r is same reads given =
+  input-readable D short operator method K G added inputs e r is same reads given =
       let rows = (output-first (map (plan_output uses D) inputs) e r given).rows_are in
       subst (λ A. AreReadable A (rows_of r e)) (sym same)
-      (subst (AreReadable G) (sym rows) (group-readable uses D short K G inputs (subst (λ (o : Operator). operator_reads o (origins inputs) ≡ true) is reads) e))
+      (subst (AreReadable G) (sym rows) (group-readable uses D short method K G inputs (subst (λ (o : Operator). operator_reads o (origins inputs) ≡ true) is reads) e))

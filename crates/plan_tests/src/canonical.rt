@@ -4,7 +4,7 @@ use crate::lines::{push_aggregates, push_columns, push_keys, push_line};
 use algebra::{Conjuncts, Expr, LineId};
 use derivation::{Certificate, Line};
 use fixtures::{COMPANY, DEPT, EMP, QueryReporting, Tables, push_number, query_differences};
-use physical::{JoinKind, Node, Operator, Plan};
+use physical::{GroupMethod, JoinMethod, Matching, Node, Operator, Plan};
 use planner::canonical;
 use query::BoundQuery;
 use std::alloc::{AllocError, Global};
@@ -15,6 +15,8 @@ fn conjuncts_of(expr: &Expr) -> Option<&Conjuncts> {
         Expr::Select(own, _) => Some(own),
         Expr::Join(own, _, _) => Some(own),
         Expr::LeftJoin(own, _, _) => Some(own),
+        Expr::Semi(own, _, _) => Some(own),
+        Expr::Anti(own, _, _, _) => Some(own),
         _ => None,
     }
 }
@@ -45,6 +47,42 @@ fn push_filter(
     }
 }
 
+/// Nothing for nested loops.
+fn push_join_method(reported: &mut String, method: JoinMethod) -> Result<(), AllocError> {
+    match method {
+        JoinMethod::NestedLoop => Ok(()),
+        JoinMethod::Hash => reported.push_str("hash "),
+        JoinMethod::Merge(left, right) => {
+            push_number(reported, "merge of ", left as usize)?;
+            push_number(reported, " and ", right as usize)?;
+            reported.push_str(" ")
+        }
+    }
+}
+
+/// Nothing for hashes.
+fn push_group_method(reported: &mut String, method: GroupMethod) -> Result<(), AllocError> {
+    match method {
+        GroupMethod::Hash => Ok(()),
+        GroupMethod::Sorted => reported.push_str("sorted "),
+    }
+}
+
+/// A join and its line, if its conjuncts are those of the line.
+fn push_join(
+    reported: &mut String,
+    lines: &[Line],
+    line: LineId,
+    matching: &Matching,
+) -> Result<(), AllocError> {
+    match matching {
+        Matching::Inner(conjuncts) => push_filter(reported, lines, "inner join ", line, conjuncts),
+        Matching::Left(conjuncts) => push_filter(reported, lines, "left join ", line, conjuncts),
+        Matching::Semi(conjuncts) => push_filter(reported, lines, "semijoin ", line, conjuncts),
+        Matching::Anti(sure, _) => push_filter(reported, lines, "antijoin ", line, sure),
+    }
+}
+
 fn push_operator(
     reported: &mut String,
     lines: &[Line],
@@ -64,19 +102,24 @@ fn push_operator(
             push_number(reported, "cut ", line as usize)?;
             push_columns(reported, columns.as_slice())
         }
-        Operator::NestedLoopJoin { kind, conjuncts } => {
-            let name = match kind {
-                JoinKind::Inner => "inner join ",
-                JoinKind::Left => "left join ",
-            };
-            push_filter(reported, lines, name, line, conjuncts)
+        Operator::JoinRows { method, matching } => {
+            push_join_method(reported, *method)?;
+            push_join(reported, lines, line, matching)
         }
-        Operator::HashGroup { keys, added } => {
+        Operator::GroupRows {
+            method,
+            keys,
+            added,
+        } => {
+            push_group_method(reported, *method)?;
             push_number(reported, "group ", line as usize)?;
             push_columns(reported, keys.as_slice())?;
             push_aggregates(reported, added.as_slice())
         }
-        Operator::HashDistinct => push_number(reported, "distinct ", line as usize),
+        Operator::DistinctRows { method } => {
+            push_group_method(reported, *method)?;
+            push_number(reported, "distinct ", line as usize)
+        }
     }
 }
 

@@ -152,6 +152,23 @@ SELECT d.boss FROM dept d LEFT JOIN emp e ON e.dept = d.id => scan 0 0 | scan 1 
 SELECT d.id FROM dept d WHERE EXISTS (SELECT e.id FROM emp e) => scan 0 0 | scan 1 1 | cut 2: 2 | subqueries 3 1 | cut 4: 0 => accepted
 SELECT d.id FROM dept d WHERE EXISTS (SELECT e.id FROM emp e) => scan 0 0 | subqueries 3 0 | cut 4: 0 => K06 line 6";
 
+/// A join by hash needs an equality between its sides, a merge and what goes over sorted rows the order.
+const METHODS: &str =
+    "SELECT a, c, d FROM t JOIN u ON a = c => scan 0 0 | scan 1 1 | hash 2 | cut 3: 0 2 3 => accepted ;1,1,-,;3,3,x,;3,3,y,
+SELECT a, c, d FROM t LEFT JOIN u ON a = c AND c > 1 => scan 0 0 | scan 1 1 | hash 2 | cut 3: 0 2 3 => accepted ;1,-,-,;2,-,-,;3,3,x,;3,3,y,;4,-,-,;5,-,-,
+SELECT a, c FROM t JOIN u ON a < c => scan 0 0 | scan 1 1 | hash 2 | cut 3: 0 2 => K06 line 5
+SELECT a, c, d FROM t JOIN u ON a = c => scan 0 0 | sort: 0 | scan 1 1 | sort: 2 | merge 2: 0 2 | cut 3: 0 2 3 => accepted ;1,1,-,;3,3,x,;3,3,y,
+SELECT a, c, d FROM t JOIN u ON a = c => scan 0 0 | scan 1 1 | sort: 2 | merge 2: 0 2 | cut 3: 0 2 3 => K07 line 5
+SELECT a, c, d FROM t JOIN u ON a = c => scan 0 0 | sort: 0 | scan 1 1 | sort: 2d | merge 2: 0 2 | cut 3: 0 2 3 => K07 line 5
+SELECT a, c, d FROM t JOIN u ON a = c => scan 0 0 | sort: 1 | scan 1 1 | sort: 2 | merge 2: 1 2 | cut 3: 0 2 3 => K06 line 5
+SELECT a, c, d FROM t LEFT JOIN u ON a = c => scan 0 0 | sort: 0 | scan 1 1 | sort: 2 | merge 2: 0 2 | cut 3: 0 2 3 => K06 line 5
+SELECT a, c, d FROM t JOIN u ON a = c => scan 0 0 | scan 1 1 | semi 2 | cut 3: 0 2 3 => K06 line 5
+SELECT a, c, d FROM t JOIN u ON a = c => scan 0 0 | scan 1 1 | anti 2 | cut 3: 0 2 3 => K06 line 5
+SELECT b, COUNT(*) FROM t GROUP BY b => scan 0 0 | sort: 1d | sgroup 1 | cut 2: 1 2 => accepted ;20,2,;10,1,;-,2,
+SELECT b, COUNT(*) FROM t GROUP BY b => scan 0 0 | sort: 0 | sgroup 1 | cut 2: 1 2 => K07 line 4
+SELECT DISTINCT b FROM t => scan 0 0 | sort: 1 | cut 1: 1 | sdistinct 2 => accepted ;-,;10,;20,
+SELECT DISTINCT b FROM t => scan 0 0 | cut 1: 1 | sdistinct 2 => K07 line 3";
+
 /// Joins keep the order of the loops, groups and distinct rows come as first seen, and sorts are stable. Among a Null alone
 /// nothing is found: that is unknown. Without keys there is one group, over no rows too.
 const ROWS: &str =
@@ -180,7 +197,13 @@ SELECT id FROM emp WHERE pay <> 500 => scan 0 0 | filter 1 | cut 2: 0 /  /  / SE
 #[test]
 fn certificates_are_judged(rt: HostRuntime) {
     assert_eq!(rt;
-        query_differences(rt.alloc(), TABLES, &[PLANS, ROWS, LINES], &Verdicts).as_deref(),
+        query_differences(
+            rt.alloc(),
+            TABLES,
+            &[PLANS, METHODS, ROWS, LINES],
+            &Verdicts
+        )
+        .as_deref(),
         Ok("")
     );
 }

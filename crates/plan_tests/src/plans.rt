@@ -1,9 +1,11 @@
 //! Plans read from words, each node after its inputs, with `|` between nodes: `scan LINE OCCURRENCE`, `filter LINE`,
-//! `subqueries LINE COUNT`, `cut LINE: COLUMNS`, `loop LINE`, `left LINE`, `sort: KEYS`, `group LINE`, `distinct LINE`.
-//! What else a node holds is that of a line with its number.
+//! `subqueries LINE COUNT`, `cut LINE: COLUMNS`, `sort: KEYS`; nested-loop joins `loop LINE`, `left LINE`, `semi LINE`,
+//! `anti LINE`; by other methods joins of whatever matching the line has, `hash LINE`, `merge LINE: LEFT RIGHT`; `group LINE`,
+//! `distinct LINE`, and over sorted rows `sgroup LINE`, `sdistinct LINE`. What else a node holds is that of a line with its
+//! number.
 
 use algebra::{Aggregations, Columns, Conjuncts, Expr, LineId};
-use physical::{JoinKind, Node, Operator, OrderKey, Plan};
+use physical::{GroupMethod, JoinMethod, Matching, Node, Operator, OrderKey, Plan};
 use std::alloc::{AllocError, Global};
 use values::Items;
 
@@ -82,31 +84,75 @@ fn conjuncts_of(alloc: Global, lines: &[Expr], line: LineId) -> Result<Conjuncts
         Some(Expr::Select(own, _)) => own.copy(alloc),
         Some(Expr::Join(own, _, _)) => own.copy(alloc),
         Some(Expr::LeftJoin(own, _, _)) => own.copy(alloc),
+        Some(Expr::Semi(own, _, _)) => own.copy(alloc),
+        Some(Expr::Anti(own, _, _, _)) => own.copy(alloc),
         _ => Ok(Conjuncts::none(alloc)),
     }
 }
 
+/// The second conjuncts of an antijoin's line; none if it is no antijoin.
+fn maybe_of(alloc: Global, lines: &[Expr], line: LineId) -> Result<Conjuncts, AllocError> {
+    match lines.get(line as usize) {
+        Some(Expr::Anti(_, own, _, _)) => own.copy(alloc),
+        _ => Ok(Conjuncts::none(alloc)),
+    }
+}
+
+/// What a join of the line is called; `loop` if the line is no join.
+fn join_name(lines: &[Expr], line: LineId) -> &'static str {
+    match lines.get(line as usize) {
+        Some(Expr::LeftJoin(_, _, _)) => "left",
+        Some(Expr::Semi(_, _, _)) => "semi",
+        Some(Expr::Anti(_, _, _, _)) => "anti",
+        _ => "loop",
+    }
+}
+
+/// A join of this name.
 fn join_of(
     alloc: Global,
     lines: &[Expr],
     line: LineId,
-    kind: JoinKind,
+    method: JoinMethod,
+    name: &str,
 ) -> Result<Operator, AllocError> {
     let conjuncts = conjuncts_of(alloc, lines, line)?;
-    Ok(Operator::NestedLoopJoin { kind, conjuncts })
+    let matching = match name {
+        "left" => Matching::Left(conjuncts),
+        "semi" => Matching::Semi(conjuncts),
+        "anti" => Matching::Anti(conjuncts, maybe_of(alloc, lines, line)?),
+        _ => Matching::Inner(conjuncts),
+    };
+    Ok(Operator::JoinRows { method, matching })
+}
+
+/// The merge by two columns.
+fn merge_of(words: Words<'_>) -> JoinMethod {
+    let (left, right) = cut(words.columns.trim(), " ");
+    JoinMethod::Merge(id(left), id(right))
 }
 
 /// The group of a line; by no key and without aggregates if the line is no group.
-fn group_of(alloc: Global, lines: &[Expr], line: LineId) -> Result<Operator, AllocError> {
+fn group_of(
+    alloc: Global,
+    lines: &[Expr],
+    line: LineId,
+    method: GroupMethod,
+) -> Result<Operator, AllocError> {
     let Some(Expr::Group(own, added, _)) = lines.get(line as usize) else {
-        return Ok(Operator::HashGroup {
+        return Ok(Operator::GroupRows {
+            method,
             keys: Columns::from_vec(Vec::new(alloc)),
             added: Aggregations::of(alloc, &[])?,
         });
     };
     let keys = own.copy(alloc)?;
     let added = added.copy(alloc)?;
-    Ok(Operator::HashGroup { keys, added })
+    Ok(Operator::GroupRows {
+        method,
+        keys,
+        added,
+    })
 }
 
 fn operator_of(alloc: Global, lines: &[Expr], words: Words<'_>) -> Result<Operator, AllocError> {
@@ -121,10 +167,19 @@ fn operator_of(alloc: Global, lines: &[Expr], words: Words<'_>) -> Result<Operat
         "cut" => Ok(Operator::Projection {
             columns: columns_of(alloc, words.columns)?,
         }),
-        "loop" => join_of(alloc, lines, line, JoinKind::Inner),
-        "left" => join_of(alloc, lines, line, JoinKind::Left),
-        "group" => group_of(alloc, lines, line),
-        "distinct" => Ok(Operator::HashDistinct),
+        "loop" | "left" | "semi" | "anti" => {
+            join_of(alloc, lines, line, JoinMethod::NestedLoop, words.name)
+        }
+        "hash" => { join_of(alloc, lines, line, JoinMethod::Hash, join_name(lines, line)) }
+        "merge" => { join_of(alloc, lines, line, merge_of(words), join_name(lines, line)) }
+        "group" => group_of(alloc, lines, line, GroupMethod::Hash),
+        "sgroup" => group_of(alloc, lines, line, GroupMethod::Sorted),
+        "distinct" => Ok(Operator::DistinctRows {
+            method: GroupMethod::Hash,
+        }),
+        "sdistinct" => Ok(Operator::DistinctRows {
+            method: GroupMethod::Sorted,
+        }),
         _ => Ok(Operator::Scan {
             occurrence: words.more,
         }),
@@ -147,7 +202,7 @@ fn node_of(alloc: Global, lines: &[Expr], words: Words<'_>) -> Result<Node, Allo
 fn inputs(words: Words<'_>) -> usize {
     match words.name {
         "scan" => 0,
-        "loop" | "left" => 2,
+        "loop" | "left" | "semi" | "anti" | "hash" | "merge" => 2,
         "subqueries" => (words.more as usize).saturating_add(1),
         _ => 1,
     }
