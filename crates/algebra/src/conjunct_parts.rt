@@ -1,12 +1,10 @@
 //! Lists of conjuncts put together and taken apart.
 
 ghost use Rattle.std.specs.Prelude.{◌≡◌, ◌++◌, IfOk, OnOk};
-ghost use Rattle.algebra.specs.ConjunctOrder.{AreConjuncts};
 ghost use Rattle.algebra.specs.ConjunctParts as spec;
 ghost use Rattle.algebra.specs.GivenColumns.{given_columns, given_free};
 
-use crate::columns::Columns;
-use crate::condition::{Condition, Conjuncts};
+use crate::condition::{ClassId, Condition, Conjuncts};
 use crate::mentions::ClassColumns;
 use std::alloc::{AllocError, Global};
 use values::Items;
@@ -25,19 +23,19 @@ fn add_copies(
     Ok(())
 }
 
-/// The conditions that mention none of the columns, and the others.
+/// The conditions that mention no column of a class, and the others.
 fn split_without(
     alloc: Global,
     conditions: &[Condition],
     classes: ClassColumns<'_>,
-    columns: &Columns,
+    class: ClassId,
 ) -> Result<(Items<Condition>, Items<Condition>), AllocError>
-    ensures { IfOk result (λ c. (c.0 ≡ spec.part (spec.is_without (given_columns classes.entry) (given_free classes.entry) columns.now) conditions.now) × (c.1 ≡ spec.rest (spec.is_without (given_columns classes.entry) (given_free classes.entry) columns.now) conditions.now)) }
+    ensures { IfOk result (λ c. (c.0 ≡ spec.part (spec.is_without (given_columns classes.entry) (given_free classes.entry) (given_columns classes.entry class)) conditions.now) × (c.1 ≡ spec.rest (spec.is_without (given_columns classes.entry) (given_free classes.entry) (given_columns classes.entry class)) conditions.now)) }
 {
     let mut part = Items::new(alloc);
     let mut rest = Items::new(alloc);
     for condition in conditions {
-        if condition.is_without(alloc, classes, columns)? {
+        if condition.is_without(alloc, classes, class)? {
             part.push(condition.copy(alloc)?)?;
         } else {
             rest.push(condition.copy(alloc)?)?;
@@ -76,16 +74,16 @@ impl Conjuncts {
         Conjuncts::of(alloc, both.as_slice())
     }
 
-    /// The conjuncts that mention none of the columns, and the others.
+    /// The conjuncts that mention no column of a class, and the others.
     pub fn split_without(
         &self,
         alloc: Global,
         classes: ClassColumns<'_>,
-        columns: &Columns,
+        class: ClassId,
     ) -> Result<(Conjuncts, Conjuncts), AllocError>
-        ensures { IfOk result (λ c. (c.0 ≡ spec.part (spec.is_without (given_columns classes.entry) (given_free classes.entry) columns.now) self.now) × (c.1 ≡ spec.rest (spec.is_without (given_columns classes.entry) (given_free classes.entry) columns.now) self.now)) }
+        ensures { IfOk result (λ c. (c.0 ≡ spec.part (spec.is_without (given_columns classes.entry) (given_free classes.entry) (given_columns classes.entry class)) self.now) × (c.1 ≡ spec.rest (spec.is_without (given_columns classes.entry) (given_free classes.entry) (given_columns classes.entry class)) self.now)) }
     {
-        let (part, rest) = split_without(alloc, self.as_slice(), classes, columns)?;
+        let (part, rest) = split_without(alloc, self.as_slice(), classes, class)?;
         Ok((Conjuncts::from_items(part), Conjuncts::from_items(rest)))
     }
 

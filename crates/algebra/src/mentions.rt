@@ -1,13 +1,13 @@
 //! The columns that conditions mention.
 
 ghost use Rattle.std.specs.Prelude.{◌≡◌, ◌==◌, ◌&&◌, not, ℕ, IfOk, OnOk};
-ghost use Rattle.algebra.specs.Columns.{has, columns_at};
+ghost use Rattle.algebra.specs.Columns.{are_disjoint, has, columns_at};
 ghost use Rattle.algebra.specs.Conditions as reads;
 ghost use Rattle.algebra.specs.ConjunctParts.{is_without};
 ghost use Rattle.algebra.specs.GivenColumns.{HasAlso, given_columns, given_free};
 ghost use Rattle.algebra.specs.Expressions as spec;
 
-use crate::columns::{Columns, are_disjoint_from};
+use crate::columns::Columns;
 use crate::condition::{ClassId, Condition, Conjuncts, Term};
 use query::ColumnId;
 use std::alloc::{AllocError, Global};
@@ -38,6 +38,13 @@ impl<'a> ClassColumns<'a> {
             Some(columns) => columns.contains(column),
             None => false,
         }
+    }
+
+    /// Whether none of the columns is one of the class.
+    fn has_none(self, class: ClassId, columns: &[ColumnId]) -> bool
+        ensures { result ≡ are_disjoint columns.now (given_columns self.entry class) }
+    {
+        columns.iter().all(|column| !self.has(class, *column))
     }
 }
 
@@ -127,18 +134,18 @@ fn add_all_mentioned(
 }
 
 impl Condition {
-    /// Whether the condition mentions none of the columns.
+    /// Whether the condition mentions no column of a class.
     pub fn is_without(
         &self,
         alloc: Global,
         classes: ClassColumns<'_>,
-        columns: &Columns,
+        class: ClassId,
     ) -> Result<bool, AllocError>
-        ensures { IfOk result (λ b. b ≡ is_without (given_columns classes.entry) (given_free classes.entry) columns.now self.now) }
+        ensures { IfOk result (λ b. b ≡ is_without (given_columns classes.entry) (given_free classes.entry) (given_columns classes.entry class) self.now) }
     {
         let mut mentioned = Vec::new(alloc);
         add_mentioned(self, classes, &mut mentioned)?;
-        Ok(are_disjoint_from(mentioned.as_slice(), columns))
+        Ok(classes.has_none(class, mentioned.as_slice()))
     }
 }
 

@@ -4,7 +4,7 @@ use Rattle.std.proofs.lemmas.Bool.{and_parts, and_from}
 use mathlib.Core.List.{map-map}
 use Rattle.values.specs.Order.{same}
 use Rattle.algebra.specs.Columns.{has, is_subset}
-use Rattle.algebra.specs.Bags.{Env, Test, Bag, total, lay, same_on, distinct_on, distinct, keep}
+use Rattle.algebra.specs.Bags.{Env, Test, total, lay, same_on, distinct_on}
 use Rattle.algebra.proofs.BagSums.{total-map}
 use Rattle.algebra.proofs.UniqueRows.{same_on-refl, same_on-reads}
 use Rattle.laws.specs.Keys.{count}

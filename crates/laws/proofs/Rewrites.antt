@@ -1,14 +1,13 @@
 -- Joins, selections and projections change places.
-use Rattle.std.proofs.Common.{◌≡◌, refl, ap, sym, ◌∙◌, inl, inr, ℕ, Bool, true, false, not, ◌||◌, ◌&&◌, if◌then◌else◌, List, map}
+use Rattle.std.proofs.Common.{◌≡◌, refl, ap, sym, ◌∙◌, inl, inr, ℕ, Bool, true, false, not, ◌||◌, ◌&&◌, if◌then◌else◌}
 use Rattle.std.proofs.lemmas.Bool.{cases_Bool, or_left, or_right}
 use Rattle.values.specs.declared.value.Value.{Value}
 use Rattle.algebra.specs.Columns.{ColumnSet}
-use Rattle.algebra.specs.Bags.{Env, Test, Bag, total, SameBag, lay, has_match, select, join, semi, anti, keep}
+use Rattle.algebra.specs.Bags.{Env, Test, Bag, total, SameBag, lay, has_match, select, join, keep}
 use Rattle.algebra.proofs.BagSums.{if_passes, total-map, total-filter, total-same}
-use Rattle.laws.specs.Fitting.{Fits}
-use Rattle.laws.specs.Rewriting.{Ignores, ReadsOnly, IsBoth, AreApart, JoinsCommute, JoinsAssociate, SelectsMerge, SelectsGoBelow, SelectsGoIn, ConditionsGoBelow, SelectsGoBelowSemi, SelectsGoBelowAnti, KeepsMerge, KeepOfAll, KeepsGoBelow}
+use Rattle.laws.specs.Rewriting.{IsBoth, AreApart, JoinsCommute, JoinsAssociate, SelectsMerge, SelectsGoBelow, SelectsGoIn, ConditionsGoBelow, SelectsGoBelowSemi, SelectsGoBelowAnti, KeepsMerge, KeepOfAll, KeepsGoBelow}
 use Rattle.laws.proofs.JoinSums.{when_both, when_swap, total_when, total_swap, total_join, total_laid}
-use Rattle.laws.proofs.Overlays.{pointwise, by_columns, lay-over, lay-within}
+use Rattle.laws.proofs.Overlays.{pointwise, lay-within}
 
 -- ---- joins
 

@@ -1,0 +1,8 @@
+//! Facts of classes: what holds of their rows in every database that satisfies the schema and in every environment.
+#![tactic(auto)]
+
+pub mod fact;
+pub mod known;
+
+pub use fact::{Fact, Facts};
+pub use known::KnownClasses;
