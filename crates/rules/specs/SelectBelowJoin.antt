@@ -14,9 +14,12 @@ use Rattle.rules.specs.Conjuncts.{is_apart_from, wanted_some}
 use Rattle.rules.specs.Matches.{Matched, two_lines}
 use Rattle.rules.specs.Shapes.{selected}
 
-abbrev pub pushed : Knowledge → Expr → Expr → Result Shape Unfit
-pushed K (expr.Select C x) (expr.Join D a b) = wanted_some (part (is_apart_from K b) C) >>= λ P. Ok (selected (rest (is_apart_from K b) C) (Join D (Select P (Class a)) (Class b)))
-pushed K x y = Err Pattern
+abbrev pub pushed : Knowledge → List Condition → List Condition → ℕ → ℕ → Result Shape Unfit
+pushed K C D a b = wanted_some (part (is_apart_from K b) C) >>= λ P. Ok (selected (rest (is_apart_from K b) C) (Join D (Select P (Class a)) (Class b)))
+
+abbrev pub pushed_below : Knowledge → Expr → Expr → Result Shape Unfit
+pushed_below K (expr.Select C x) (expr.Join D a b) = pushed K C D a b
+pushed_below K x y = Err Pattern
 
 abbrev pub select_below_join : Matched → Result Shape Unfit
-select_below_join m = wanted Pattern (two_lines m) >>= λ l. pushed m.classes l.0 l.1
+select_below_join m = wanted Pattern (two_lines m) >>= λ l. pushed_below m.classes l.0 l.1

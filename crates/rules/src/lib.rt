@@ -9,9 +9,7 @@ pub mod shape;
 mod shaping;
 pub mod unfit;
 
-pub use join_commutes::JoinCommutes;
 pub use matching::{Match, MatchedLine};
 pub use rule::Rule;
-pub use select_below_join::SelectBelowJoin;
 pub use shape::Shape;
 pub use unfit::{RuleFault, Unfit};

@@ -31,10 +31,15 @@ pub struct Match<'a> {
 fn takes(expr: &Expr, class: ClassId, classes: KnownClasses<'_>) -> bool
     ensures { result ≡ spec.takes (spec.known_in classes.entry) expr.now class }
 {
-    let (first, _) = expr.children();
-    match first {
-        Some(child) => classes.are_same(child, class),
-        None => false,
+    match expr {
+        Expr::Get(_) => false,
+        Expr::Select(_, x) | Expr::Keep(_, x) | Expr::Distinct(x) | Expr::Group(_, _, x) => {
+            classes.are_same(*x, class)
+        }
+        Expr::Join(_, a, _)
+        | Expr::LeftJoin(_, a, _)
+        | Expr::Semi(_, a, _)
+        | Expr::Anti(_, _, a, _) => classes.are_same(*a, class),
     }
 }
 

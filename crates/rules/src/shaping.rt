@@ -2,12 +2,26 @@
 
 ghost use Rattle.std.specs.Prelude.{◌≡◌, IfOk};
 ghost use Rattle.rules.specs.declared.shape.Shape.TheVariants as shape;
+ghost use Rattle.values.specs.Faults.{Gives};
+ghost use Rattle.rules.specs.Conjuncts.{wanted_some};
 ghost use Rattle.rules.specs.Shapes as spec;
 
 use crate::shape::Shape;
+use crate::unfit::{RuleFault, Unfit};
 use algebra::{Columns, Conjuncts};
 use std::alloc::{AllocError, Global};
-use values::Boxed;
+use values::{Boxed, Fault};
+
+/// The conjuncts, which have to be some.
+pub(crate) fn some(conjuncts: Conjuncts) -> Result<Conjuncts, RuleFault>
+    ensures { Gives (λ c. c) result (wanted_some conjuncts) }
+{
+    if conjuncts.as_slice().is_empty() {
+        Err(Fault::Refused(Unfit::Pattern))
+    } else {
+        Ok(conjuncts)
+    }
+}
 
 pub(crate) fn select(
     alloc: Global,
