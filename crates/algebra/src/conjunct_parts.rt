@@ -1,6 +1,7 @@
 //! Lists of conjuncts put together and taken apart.
 
 ghost use Rattle.std.specs.Prelude.{◌≡◌, ◌++◌, IfOk, OnOk};
+ghost use Rattle.std.specs.List.{list_all};
 ghost use Rattle.algebra.specs.ConjunctParts as spec;
 ghost use Rattle.algebra.specs.GivenColumns.{given_columns, given_free};
 
@@ -44,6 +45,23 @@ fn split_without(
     Ok((part, rest))
 }
 
+/// Whether none of the conditions mentions a column of a class.
+fn are_without(
+    alloc: Global,
+    conditions: &[Condition],
+    classes: ClassColumns<'_>,
+    class: ClassId,
+) -> Result<bool, AllocError>
+    ensures { IfOk result (λ b. b ≡ list_all (spec.is_without (given_columns classes.entry) (given_free classes.entry) (given_columns classes.entry class)) conditions.now) }
+{
+    for condition in conditions {
+        if !condition.is_without(alloc, classes, class)? {
+            return Ok(false);
+        }
+    }
+    Ok(true)
+}
+
 /// The conditions that have no subquery, and the others.
 fn split_plain(
     alloc: Global,
@@ -72,6 +90,18 @@ impl Conjuncts {
         add_copies(alloc, self.as_slice(), &mut both)?;
         add_copies(alloc, other.as_slice(), &mut both)?;
         Conjuncts::of(alloc, both.as_slice())
+    }
+
+    /// Whether none of the conjuncts mentions a column of a class.
+    pub fn are_without(
+        &self,
+        alloc: Global,
+        classes: ClassColumns<'_>,
+        class: ClassId,
+    ) -> Result<bool, AllocError>
+        ensures { IfOk result (λ b. b ≡ list_all (spec.is_without (given_columns classes.entry) (given_free classes.entry) (given_columns classes.entry class)) self.now) }
+    {
+        are_without(alloc, self.as_slice(), classes, class)
     }
 
     /// The conjuncts that mention no column of a class, and the others.

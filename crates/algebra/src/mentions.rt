@@ -1,13 +1,13 @@
 //! The columns that conditions mention.
 
 ghost use Rattle.std.specs.Prelude.{◌≡◌, ◌==◌, ◌&&◌, not, ℕ, IfOk, OnOk};
-ghost use Rattle.algebra.specs.Columns.{are_disjoint, has, columns_at};
+ghost use Rattle.algebra.specs.Columns.{are_disjoint, has, columns_at, is_same_set, is_subset};
 ghost use Rattle.algebra.specs.Conditions as reads;
 ghost use Rattle.algebra.specs.ConjunctParts.{is_without};
 ghost use Rattle.algebra.specs.GivenColumns.{HasAlso, given_columns, given_free};
 ghost use Rattle.algebra.specs.Expressions as spec;
 
-use crate::columns::Columns;
+use crate::columns::{Columns, is_subset_of};
 use crate::condition::{ClassId, Condition, Conjuncts, Term};
 use query::ColumnId;
 use std::alloc::{AllocError, Global};
@@ -20,6 +20,30 @@ pub struct ClassColumns<'a> {
 }
 
 impl<'a> ClassColumns<'a> {
+    /// The columns of a class; none where the list has no class of this number.
+    pub fn columns_of(self, class: ClassId) -> &'a [ColumnId]
+        ensures { result.now ≡ given_columns self.entry class }
+    {
+        match self.columns.get(class) {
+            Some(columns) => columns.as_slice(),
+            None => &[],
+        }
+    }
+
+    /// Whether these are the columns of a class.
+    pub fn are(self, class: ClassId, columns: &Columns) -> bool
+        ensures { result ≡ is_same_set columns.now (given_columns self.entry class) }
+    {
+        self.has_all(class, columns.as_slice()) && is_subset_of(self.columns_of(class), columns)
+    }
+
+    /// Whether all of the columns are columns of a class.
+    fn has_all(self, class: ClassId, columns: &[ColumnId]) -> bool
+        ensures { result ≡ is_subset columns.now (given_columns self.entry class) }
+    {
+        columns.iter().all(|column| self.has(class, *column))
+    }
+
     /// The free columns of a class; none where the list has no class of this number.
     fn free_of(self, class: ClassId) -> &'a [ColumnId]
         ensures { result.now ≡ columns_at self.entry.free.now class }

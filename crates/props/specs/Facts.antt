@@ -30,8 +30,11 @@ knows F (StrongKey K) = list_any (λ L. same_columns L K) F.strong_keys
 abbrev pub no_facts : Facts
 no_facts = record { not_null = []; weak_keys = []; strong_keys = [] }
 
+abbrev pub any_key : List (List ℕ) → Bool
+any_key keys = not (length keys == 0)
+
 abbrev pub has_strong_key : Facts → Bool
-has_strong_key F = not (length F.strong_keys == 0)
+has_strong_key F = any_key F.strong_keys
 
 -- each fact that is known holds of the rows, and speaks of their columns
 abbrev pub FactsHold : List ℕ → Bag → Facts → Type 0

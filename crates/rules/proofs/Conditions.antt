@@ -2,7 +2,7 @@
 use Rattle.std.proofs.Common.{◌≡◌, refl, ap, sym, ◌∙◌, inl, inr, ℕ, Bool, true, false, not, ◌||◌, ◌&&◌, if◌then◌else◌, List, [], ◌∷◌, filter, Result, Ok, Err}
 use Rattle.std.specs.List.{list_all}
 use Rattle.std.proofs.lemmas.Bool.{and_parts, or_cases, not-true}
-use Rattle.values.specs.Faults.{◌>>=◌}
+use Rattle.values.specs.Faults.{◌>>=◌, wanted_if}
 use Rattle.values.specs.Truth.{is_true}
 use Rattle.algebra.specs.declared.condition.Condition.{Condition}
 use Rattle.algebra.specs.Columns.{ColumnSet, has, are_disjoint}
@@ -16,7 +16,9 @@ use Rattle.laws.specs.Fitting.{AreFitting}
 use Rattle.laws.specs.Rewriting.{Ignores, IsBoth, AreApart}
 use Rattle.laws.proofs.Mentions.{holds-reads}
 use Rattle.props.specs.Knowledge.{Knowledge, with_rows}
+use Rattle.rules.specs.declared.shape.Shape.{Shape}
 use Rattle.rules.specs.declared.unfit.Unfit.{Unfit}
+use Rattle.rules.specs.declared.unfit.Unfit.TheVariants.{Condition as FailedCondition}
 use Rattle.rules.specs.Conjuncts.{is_apart_from, wanted_some}
 
 -- outside its columns nothing is laid over a row
@@ -64,3 +66,8 @@ disjoint-apart A B apart c in_ = not-true _ (each_has (λ k. not (has B k)) A ap
 pub some-given : {X : Type 0} (P : List Condition) (f : List Condition → Result X Unfit) (s : X) → (wanted_some P >>= f) ≡ Ok s → f P ≡ Ok s
 some-given [] f s is = cc
 some-given (c ∷ P) f s is = is
+
+-- what is given if a test passes
+pub if-given : (b : Bool) (t s : Shape) → wanted_if FailedCondition b t ≡ Ok s → (b ≡ true) × (◌≡◌ {A = Result Shape Unfit} (Ok t) (Ok s))
+if-given true t s is = (refl, is)
+if-given false t s is = cc

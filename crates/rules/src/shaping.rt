@@ -65,3 +65,29 @@ pub(crate) fn keep(alloc: Global, columns: Columns, input: Shape) -> Result<Shap
 {
     Ok(Shape::Keep(columns, Boxed::new(alloc, input)?))
 }
+
+pub(crate) fn semi(
+    alloc: Global,
+    conjuncts: Conjuncts,
+    left: Shape,
+    right: Shape,
+) -> Result<Shape, AllocError>
+    ensures { IfOk result (λ s. s ≡ shape.Semi conjuncts left right) }
+{
+    let left = Boxed::new(alloc, left)?;
+    Ok(Shape::Semi(conjuncts, left, Boxed::new(alloc, right)?))
+}
+
+/// An antijoin, whose first list is sure and whose second one is maybe.
+pub(crate) fn anti(
+    alloc: Global,
+    lists: (Conjuncts, Conjuncts),
+    left: Shape,
+    right: Shape,
+) -> Result<Shape, AllocError>
+    ensures { IfOk result (λ s. s ≡ shape.Anti lists.0 lists.1 left right) }
+{
+    let (sure, maybe) = lists;
+    let left = Boxed::new(alloc, left)?;
+    Ok(Shape::Anti(sure, maybe, left, Boxed::new(alloc, right)?))
+}
