@@ -16,8 +16,8 @@ use query::ColumnId;
 use std::alloc::{AllocError, Global};
 use values::Fault;
 
-/// The columns of a class that are in one of two sets.
-fn needed(
+/// The columns that are in one of two sets.
+fn in_either(
     alloc: Global,
     columns: &[ColumnId],
     kept: &Columns,
@@ -34,6 +34,21 @@ fn needed(
     Ok(Columns::from_vec(needed))
 }
 
+/// The columns of a class that are kept or that the condition reads.
+fn needed(
+    alloc: Global,
+    at: Match<'_>,
+    kept: &Columns,
+    condition: &Conjuncts,
+    class: ClassId,
+) -> Result<Columns, AllocError>
+    ensures { IfOk result (λ n. n ≡ spec.needed (known at.entry.classes) kept.now condition.now class) }
+{
+    let classes = at.classes.columns;
+    let read = condition.mentioned(alloc, classes)?;
+    in_either(alloc, classes.columns_of(class), kept, &read)
+}
+
 /// The projection of a join of the classes, with a projection of the left side.
 fn narrowed(
     alloc: Global,
@@ -45,10 +60,8 @@ fn narrowed(
 ) -> Result<Shape, RuleFault>
     ensures { Gives (λ s. s) result (spec.narrowed (known at.entry.classes) kept.now condition.now left right) }
 {
-    let classes = at.classes.columns;
-    let read = condition.mentioned(alloc, classes)?;
-    let columns = needed(alloc, classes.columns_of(left), kept, &read)?;
-    if classes.are(left, &columns) {
+    let columns = needed(alloc, at, kept, condition, left)?;
+    if at.classes.columns.are(left, &columns) {
         return Err(Fault::Refused(Unfit::Condition));
     }
     let narrow = keep(alloc, columns, Shape::Class(left))?;
