@@ -1,0 +1,3 @@
+pub mod OutcomeForms
+pub mod SoundOutcomes
+pub mod Steps

@@ -3,6 +3,8 @@
 
 pub mod fact;
 pub mod known;
+pub mod outcomes;
 
 pub use fact::{Fact, Facts};
 pub use known::KnownClasses;
+pub use outcomes::{NullColumns, never_true, Truths};
