@@ -1,5 +1,5 @@
 -- Lists of conjuncts put together and taken apart.
-use Rattle.std.specs.Prelude.{◌≡◌, ℕ, Bool, false, not, List, ◌++◌, filter}
+use Rattle.std.specs.Prelude.{ℕ, Bool, false, not, List, ◌++◌, filter}
 use Rattle.std.specs.List.{list_all}
 use Rattle.algebra.specs.declared.condition.Condition.{Condition}
 use Rattle.algebra.specs.Columns.{ColumnSet}

@@ -175,11 +175,7 @@ impl Condition {
 
 impl Conjuncts {
     /// The columns that the conditions mention.
-    pub fn mentioned(
-        &self,
-        alloc: Global,
-        classes: ClassColumns<'_>,
-    ) -> Result<Columns, AllocError>
+    pub fn mentioned(&self, alloc: Global, classes: ClassColumns<'_>) -> Result<Columns, AllocError>
         ensures { IfOk result (λ found. (k : ℕ) → has found k ≡ spec.mentioned (given_columns classes.entry) (given_free classes.entry) self.now k) }
     {
         let mut mentioned = Vec::new(alloc);

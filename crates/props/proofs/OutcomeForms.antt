@@ -1,12 +1,11 @@
 -- The outcomes of each form of condition: one equation each.
-use Rattle.std.proofs.Common.{◌≡◌, refl, ap, sym, ◌∙◌, ℕ, ◌||◌, true, false, if◌then◌else◌, List, [], ◌∷◌, map, fold}
+use Rattle.std.proofs.Common.{◌≡◌, refl, ap, sym, ◌∙◌, ℕ, ◌||◌, true, false, List, [], ◌∷◌, map, fold}
 use Rattle.values.specs.declared.truth.Comparison.{Comparison}
 use Rattle.algebra.specs.declared.condition.Term.{Term}
 use Rattle.algebra.specs.declared.condition.Condition.{Condition, roll-Condition, fold-roll-Condition, map-Condition}
 use Rattle.algebra.specs.declared.condition.Condition.TheVariants.{Compare, IsNull, Not, And, Or, Exists, In, rolls-Compare, rolls-IsNull, rolls-Not, rolls-And, rolls-Or, rolls-Exists, rolls-In}
 use Rattle.algebra.specs.declared.condition.Condition.TheOpen.{Condition-F}
 use Rattle.algebra.specs.Columns.{ColumnSet}
-use Rattle.algebra.proofs.Lists.{two}
 use Rattle.props.specs.declared.outcomes.Truths.{Truths}
 use Rattle.props.specs.Outcomes.{outcomes, outcomes_layer, is_nulled, null_outcomes, known, compared, of_not, of_and, of_or}
 

@@ -7,4 +7,4 @@ pub mod outcomes;
 
 pub use fact::{Fact, Facts};
 pub use known::KnownClasses;
-pub use outcomes::{NullColumns, never_true, Truths};
+pub use outcomes::{NullColumns, Truths, never_true};

@@ -1,15 +1,7 @@
 -- Redundant DISTINCT: sound.
-use Rattle.std.proofs.Common.{◌≡◌, refl, ap, sym, ◌∙◌, subst, ℕ, Bool, true, false, not, ◌&&◌, ◌||◌, List, [], ◌∷◌, ◌++◌, filter, Result, Ok, Err}
+use Rattle.std.proofs.Common.{◌≡◌, refl, ap, ◌∙◌, ℕ, true, List, [], ◌∷◌}
 use Rattle.algebra.specs.declared.expr.Expr.TheVariants.{Get, Select, Join, LeftJoin, Semi, Anti, Keep, Distinct, Group}
-use Rattle.algebra.specs.declared.condition.Condition.{Condition}
-use Rattle.algebra.specs.Columns.{has, rising, is_subset, is_same_set}
-use Rattle.algebra.specs.Conditions.{holds, allows}
-use Rattle.algebra.specs.Expressions.{Classes, names_own, mentioned}
-use Rattle.algebra.specs.ConjunctParts.{union, part, rest, has_no_class}
-use Rattle.algebra.proofs.ConjunctSplits.{union_holds}
-use Rattle.algebra.proofs.SameBags.{same_bag-trans, select-same, join-same, keep-same}
-use Rattle.laws.proofs.Rewrites as law
-use Rattle.rules.specs.Conjuncts.{is_apart_from}
+use Rattle.algebra.specs.Columns.{is_subset}
 use Rattle.std.specs.List.{list_any}
 use Rattle.std.proofs.lemmas.Bool.{or_left}
 use Rattle.algebra.specs.Equality.{same_columns}
@@ -20,11 +12,11 @@ use Rattle.algebra.specs.Bags.{Bag}
 use Rattle.props.specs.declared.fact.Facts.{Facts}
 use Rattle.props.specs.declared.fact.Fact.TheVariants.{StrongKey}
 use Rattle.props.specs.Facts as facts
-use Rattle.props.specs.Knowledge.{Knowledge, with_rows, has_strong_key}
+use Rattle.props.specs.Knowledge.{with_rows, has_strong_key}
 use Rattle.rules.specs.DistinctOfKeyed as spec
-use Rattle.rules.specs.Soundness.{World, IsSound}
-use Rattle.rules.proofs.Conditions.{apart-ignores, part-ignores, split-holds, disjoint-apart, some-given, if-given}
-use Rattle.rules.proofs.MatchedLines.{OneIsSound, given, one-sound, rows_of, shape_rows}
+use Rattle.rules.specs.Soundness.{IsSound}
+use Rattle.rules.proofs.Conditions.{if-given}
+use Rattle.rules.proofs.MatchedLines.{OneIsSound, given, one-sound}
 use Rattle.rules.proofs.ShapeMeanings.{class-is, has-bag}
 
 -- a strong key, where one is known

@@ -1,27 +1,27 @@
 -- Join associativity is sound.
-use Rattle.std.proofs.Common.{◌≡◌, refl, ap, sym, ◌∙◌, subst, ℕ, Bool, true, false, not, ◌&&◌, ◌||◌, List, [], ◌∷◌, ◌++◌, filter, Result, Ok, Err}
+use Rattle.std.proofs.Common.{◌≡◌, refl, sym, ◌∙◌, true, List, [], ◌∷◌, Result, Ok}
 use Rattle.algebra.specs.declared.expr.Expr.TheVariants.{Get, Select, Join, LeftJoin, Semi, Anti, Keep, Distinct, Group}
 use Rattle.algebra.specs.declared.condition.Condition.{Condition}
-use Rattle.algebra.specs.Columns.{has, rising, is_subset, is_same_set}
-use Rattle.algebra.specs.Conditions.{holds, allows}
-use Rattle.algebra.specs.Expressions.{Classes, names_own, mentioned}
-use Rattle.algebra.specs.ConjunctParts.{union, part, rest, has_no_class}
+use Rattle.algebra.specs.Columns.{has}
+use Rattle.algebra.specs.Conditions.{holds}
+use Rattle.algebra.specs.Expressions.{Classes}
+use Rattle.algebra.specs.ConjunctParts.{union, part, rest}
 use Rattle.algebra.proofs.ConjunctSplits.{union_holds}
-use Rattle.algebra.proofs.SameBags.{same_bag-trans, select-same, join-same, keep-same}
+use Rattle.algebra.proofs.SameBags.{same_bag-trans, join-same}
 use Rattle.laws.proofs.Rewrites as law
 use Rattle.rules.specs.Conjuncts.{is_apart_from}
 use Rattle.std.specs.List.{list_all}
-use Rattle.algebra.specs.Bags.{Bag, SameBag, join}
+use Rattle.algebra.specs.Bags.{join}
 use Rattle.algebra.proofs.SameBags.{same_bag-equal}
 use Rattle.rules.proofs.Sets.{has-both}
 use Rattle.rules.specs.declared.shape.Shape.{Shape}
 use Rattle.rules.specs.declared.shape.Shape.TheVariants as shape
 use Rattle.rules.specs.declared.unfit.Unfit.{Unfit}
-use Rattle.props.specs.Knowledge.{Knowledge, with_rows, has_strong_key}
+use Rattle.props.specs.Knowledge.{with_rows}
 use Rattle.rules.specs.JoinAssociates as spec
-use Rattle.rules.specs.Soundness.{World, IsSound}
-use Rattle.rules.proofs.Conditions.{apart-ignores, part-ignores, split-holds, disjoint-apart, some-given, if-given}
-use Rattle.rules.proofs.MatchedLines.{TwoAreSound, given, two-sound, rows_of, shape_rows}
+use Rattle.rules.specs.Soundness.{IsSound}
+use Rattle.rules.proofs.Conditions.{apart-ignores, part-ignores, split-holds, if-given}
+use Rattle.rules.proofs.MatchedLines.{TwoAreSound, given, two-sound}
 use Rattle.rules.proofs.ShapeMeanings.{class-is, join-is, has-bag}
 
 associated-sound : TwoAreSound spec.associated

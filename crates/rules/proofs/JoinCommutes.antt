@@ -1,5 +1,4 @@
 -- Join commutativity is sound.
-use Rattle.std.proofs.Common.{◌≡◌, ℕ, true, ◌&&◌, List}
 use Rattle.std.proofs.lemmas.Bool.{and_parts}
 use Rattle.algebra.specs.declared.expr.Expr.TheVariants.{Get, Select, Join, LeftJoin, Semi, Anti, Keep, Distinct, Group}
 use Rattle.algebra.specs.Columns.{has, are_disjoint}

@@ -1,18 +1,18 @@
 -- A rule is sound if what it makes of its lines' expressions is.
-use Rattle.std.proofs.Common.{◌≡◌, refl, ap, sym, ◌∙◌, subst, ℕ, Bool, true, false, ◌==◌, if◌then◌else◌, List, [], ◌∷◌, Result, Ok, Err, Some, None}
+use Rattle.std.proofs.Common.{◌≡◌, refl, ap, sym, ◌∙◌, subst, ℕ, Bool, true, false, if◌then◌else◌, List, [], ◌∷◌, Result, Ok, Some, None}
 use Rattle.std.specs.List.{AllByRecursion}
 use Rattle.values.specs.Faults.{◌>>=◌, wanted}
 use Rattle.algebra.specs.declared.expr.Expr.{Expr}
 use Rattle.algebra.specs.Bags.{Bag, SameBag}
-use Rattle.algebra.specs.Expressions.{Classes, children, means, columns_of, is_formed}
+use Rattle.algebra.specs.Expressions.{children, means, columns_of, is_formed}
 use Rattle.algebra.proofs.SameBags.{same_bag-trans}
 use Rattle.props.specs.Knowledge.{Knowledge, IsTrueOf, with_rows, are_same}
 use Rattle.rules.specs.declared.shape.Shape.{Shape}
 use Rattle.rules.specs.declared.unfit.Unfit.{Unfit}
 use Rattle.rules.specs.declared.unfit.Unfit.TheVariants.{Pattern}
-use Rattle.rules.specs.Matches.{Line, Matched, takes, is_first_same, the_one, the_two, one_line, two_lines}
+use Rattle.rules.specs.Matches.{Line, takes, is_first_same, the_one, the_two, one_line, two_lines}
 use Rattle.rules.specs.Shapes.{meant}
-use Rattle.rules.specs.Soundness.{World, IsLine, IsMatched, IsSound}
+use Rattle.rules.specs.Soundness.{World, IsLine, IsSound}
 
 -- the rows of an expression and of a shape
 abbrev pub rows_of : Knowledge → World → Expr → Bag

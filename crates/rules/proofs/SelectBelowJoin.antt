@@ -1,8 +1,7 @@
 -- Predicate pushdown is sound.
-use Rattle.std.proofs.Common.{◌≡◌, refl, List, []}
+use Rattle.std.proofs.Common.{refl, List, []}
 use Rattle.algebra.specs.declared.expr.Expr.TheVariants.{Get, Select, Join, LeftJoin, Semi, Anti, Keep, Distinct, Group}
 use Rattle.algebra.specs.declared.condition.Condition.{Condition}
-use Rattle.algebra.specs.Bags.{Bag, select, join}
 use Rattle.algebra.specs.Columns.{has}
 use Rattle.algebra.specs.Conditions.{holds}
 use Rattle.algebra.specs.Expressions.{Classes}

@@ -1,5 +1,5 @@
 -- Redundant DISTINCT: rows of which no two agree on a key stand once already.
-use Rattle.std.specs.Prelude.{Result, Ok, Err}
+use Rattle.std.specs.Prelude.{Result, Err}
 use Rattle.values.specs.Faults.{◌>>=◌, wanted, wanted_if}
 use Rattle.algebra.specs.declared.expr.Expr.{Expr}
 use Rattle.algebra.specs.declared.expr.Expr.TheVariants as expr

@@ -1,5 +1,5 @@
 -- Join associativity: of three sides the last two are joined first. Each conjunct that doesn't mention the first side is asked there.
-use Rattle.std.specs.Prelude.{ℕ, List, [], Result, Ok, Err}
+use Rattle.std.specs.Prelude.{ℕ, List, Result, Err}
 use Rattle.std.specs.List.{list_all}
 use Rattle.values.specs.Faults.{◌>>=◌, wanted, wanted_if}
 use Rattle.algebra.specs.declared.condition.Condition.{Condition}

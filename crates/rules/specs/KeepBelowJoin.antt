@@ -1,5 +1,5 @@
 -- Projection pushdown: of a join's left side only those columns are kept that the projection keeps or the condition reads.
-use Rattle.std.specs.Prelude.{ℕ, not, ◌||◌, List, filter, Result, Ok, Err}
+use Rattle.std.specs.Prelude.{ℕ, not, ◌||◌, List, filter, Result, Err}
 use Rattle.values.specs.Faults.{◌>>=◌, wanted, wanted_if}
 use Rattle.algebra.specs.declared.condition.Condition.{Condition}
 use Rattle.algebra.specs.declared.expr.Expr.{Expr}

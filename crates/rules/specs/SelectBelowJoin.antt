@@ -1,5 +1,5 @@
 -- Predicate pushdown: of a selection from a join, the conjuncts that don't mention the right side are asked of the left side alone.
-use Rattle.std.specs.Prelude.{ℕ, List, [], ◌∷◌, Result, Ok, Err}
+use Rattle.std.specs.Prelude.{ℕ, List, Result, Ok, Err}
 use Rattle.values.specs.Faults.{◌>>=◌, wanted}
 use Rattle.algebra.specs.declared.condition.Condition.{Condition}
 use Rattle.algebra.specs.declared.expr.Expr.{Expr}

@@ -59,7 +59,9 @@ impl<'a> Match<'a> {
         ensures { Gives (λ p. (p.0.now, p.1.now)) result (wanted Pattern (spec.two_lines (spec.matched self.entry))) }
     {
         match self.lines {
-            [top, below] if takes(top.expr, below.class, self.classes) => Ok((top.expr, below.expr)),
+            [top, below] if takes(top.expr, below.class, self.classes) => Ok((
+                top.expr, below.expr,
+            )),
             _ => Err(Fault::Refused(Unfit::Pattern)),
         }
     }

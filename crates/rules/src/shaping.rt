@@ -23,11 +23,7 @@ pub(crate) fn some(conjuncts: Conjuncts) -> Result<Conjuncts, RuleFault>
     }
 }
 
-pub(crate) fn select(
-    alloc: Global,
-    conjuncts: Conjuncts,
-    input: Shape,
-) -> Result<Shape, AllocError>
+pub(crate) fn select(alloc: Global, conjuncts: Conjuncts, input: Shape) -> Result<Shape, AllocError>
     ensures { IfOk result (λ s. s ≡ shape.Select conjuncts input) }
 {
     Ok(Shape::Select(conjuncts, Boxed::new(alloc, input)?))

@@ -1,10 +1,6 @@
-use Rattle.std.proofs.Common.{◌≡◌, refl, ap, sym, ◌∙◌, ℕ, ◌||◌, List, ◌∷◌}
-use Rattle.std.proofs.Math.Bool.{or_assoc}
-use Rattle.algebra.specs.declared.condition.Condition.{Condition}
-use Rattle.algebra.specs.Columns.{ColumnSet}
+use Rattle.std.proofs.Common.{refl, ap, sym, ◌∙◌}
 use Rattle.algebra.specs.Conditions.{mentions}
-use Rattle.algebra.specs.Expressions.{mentioned}
-use Rattle.algebra.specs.GivenColumns.{HasAlso, given_columns, given_free}
+use Rattle.algebra.specs.GivenColumns.{given_columns, given_free}
 use Rattle.algebra.proofs.MentionedColumns.{mentions-Compare, mentions-IsNull, mentions-Not, mentions-And, mentions-Or, mentions-Exists, mentions-In, on_ok, also_same, also_both, also_parts}
 use Rattle.algebra.proofs.mentions.+mentions.Goals as goal
 

@@ -1,7 +1,7 @@
-use Rattle.std.proofs.Common.{◌≡◌, refl, ap, sym, ◌∙◌, fold, map, take, arith}
+use Rattle.std.proofs.Common.{ap, sym, ◌∙◌, fold, map, take, arith}
 use Rattle.algebra.specs.declared.condition.Condition.{Condition}
 use Rattle.props.specs.declared.outcomes.Truths.{Truths}
-use Rattle.props.specs.Outcomes.{outcomes, null_set, compared, of_not, of_and, of_or}
+use Rattle.props.specs.Outcomes.{outcomes, null_set, of_and, of_or}
 use Rattle.props.proofs.OutcomeForms.{outcomes-Compare, outcomes-IsNull, outcomes-Not, outcomes-And, outcomes-Or, outcomes-Exists, outcomes-In}
 use Rattle.props.proofs.Steps.{fold-next}
 use Rattle.props.proofs.outcomes.+outcomes.Goals as goal

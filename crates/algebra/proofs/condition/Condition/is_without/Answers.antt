@@ -1,4 +1,4 @@
-use Rattle.std.proofs.Common.{◌≡◌, refl, ap, ◌∙◌}
+use Rattle.std.proofs.Common.{refl, ap, ◌∙◌}
 use Rattle.algebra.specs.Columns.{are_disjoint}
 use Rattle.algebra.specs.GivenColumns.{given_columns}
 use Rattle.algebra.proofs.MentionedColumns.{apart_turned}

@@ -1,4 +1,4 @@
-use Rattle.std.proofs.Common.{◌≡◌, refl, ap, ◌∙◌}
+use Rattle.std.proofs.Common.{ap, ◌∙◌}
 use Rattle.algebra.specs.Columns.{has}
 use Rattle.algebra.specs.Expressions.{mentioned}
 use Rattle.algebra.specs.GivenColumns.{given_columns, given_free}
