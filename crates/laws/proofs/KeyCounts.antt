@@ -96,7 +96,7 @@ all_rising p xs = both_ways _ _
     (λ all. all_has p xs (λ k in_. each_has p (rising xs) all k (has-rising k xs ∙ in_)))
     (λ all. all_has p (rising xs) (λ k in_. each_has p xs all k (sym (has-rising k xs) ∙ in_)))
 
-any_not : (p : ℕ → Bool) (xs : List ℕ) → list_any p xs ≡ not (list_all (λ k. not (p k)) xs)
+pub any_not : (p : ℕ → Bool) (xs : List ℕ) → list_any p xs ≡ not (list_all (λ k. not (p k)) xs)
 any_not p [] = refl
 any_not p (x ∷ xs) = ap (λ b. p x || b) (any_not p xs) ∙ at (p x) (list_all (λ k. not (p k)) xs)
   where

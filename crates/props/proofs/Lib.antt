@@ -1,3 +1,4 @@
 pub mod OutcomeForms
+pub mod SoundFacts
 pub mod SoundOutcomes
 pub mod Steps
