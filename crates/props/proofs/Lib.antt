@@ -1,4 +1,5 @@
 pub mod OutcomeForms
+pub mod SingleMatches
 pub mod SoundFacts
 pub mod SoundOutcomes
 pub mod Steps
