@@ -1,6 +1,6 @@
 -- Conditions that pin a key find one match at most.
-use Rattle.std.proofs.Common.{◌≡◌, refl, ap, sym, ◌∙◌, inl, inr, subst, ℕ, ◌==◌, Bool, true, false, not, ◌&&◌, ◌||◌, List, [], ◌∷◌}
-use Rattle.std.specs.List.{list_any, list_all}
+use Rattle.std.proofs.Common.{◌≡◌, refl, ap, sym, ◌∙◌, inl, inr, subst, ℕ, ◌==◌, Bool, true, false, ◌&&◌, List, [], ◌∷◌}
+use Rattle.std.specs.List.{list_any}
 use Rattle.std.specs.Ordering.{is_eq}
 use Rattle.std.specs.declared.cmp.Ordering.{Ordering}
 use Rattle.std.specs.declared.cmp.Ordering.TheVariants as cmp
@@ -17,12 +17,12 @@ use Rattle.algebra.specs.declared.condition.Condition.{Condition, roll-Condition
 use Rattle.algebra.specs.declared.condition.Condition.TheOpen.{Condition-F}
 use Rattle.algebra.specs.declared.condition.Condition.TheVariants.{Compare, rolls-Compare}
 use Rattle.algebra.specs.Columns.{has, is_subset}
-use Rattle.algebra.specs.Bags.{Env, Test, Bag, lay, same_on}
+use Rattle.algebra.specs.Bags.{Env, Bag, lay, same_on}
 use Rattle.algebra.specs.Conditions.{truth, holds, term_value}
 use Rattle.algebra.proofs.MentionedColumns.{each_has}
 use Rattle.algebra.proofs.Truths.{truth-Compare}
 use Rattle.algebra.proofs.UniqueRows.{same_on-refl}
-use Rattle.values.proofs.Orders.{same_equal, same_itself}
+use Rattle.values.proofs.Orders.{same_equal}
 use Rattle.laws.specs.Keys.{has_null, IsWeakKey, IsSingle}
 use Rattle.laws.proofs.KeyCounts.{single_from}
 use Rattle.laws.proofs.Overlays.{in_subset}

@@ -1,12 +1,12 @@
 -- The facts that lines give hold of their classes.
-use Rattle.std.proofs.Common.{◌≡◌, refl, ap, sym, ◌∙◌, inl, inr, subst, ℕ, ◌+◌, ◌≤◌, ◌==◌, Bool, true, false, not, ◌&&◌, ◌||◌, if◌then◌else◌, List, [], ◌∷◌, ◌++◌, map, filter, arith}
+use Rattle.std.proofs.Common.{◌≡◌, refl, ap, sym, ◌∙◌, subst, ℕ, ◌+◌, ◌≤◌, ◌==◌, Bool, true, false, not, ◌&&◌, ◌||◌, if◌then◌else◌, List, [], ◌∷◌, ◌++◌, arith}
 use Rattle.std.specs.Cmp.{both_ways}
-use Rattle.std.specs.List.{list_any, list_all}
-use Rattle.std.proofs.lemmas.Bool.{and_parts, and_from, or_cases, or_left, or_right, eq-eqb, eqb-true, not-true}
+use Rattle.std.specs.List.{list_all}
+use Rattle.std.proofs.lemmas.Bool.{and_parts, or_left, or_right, eq-eqb}
 use Rattle.values.specs.Truth.{is_null}
 use Rattle.values.specs.Order.{same}
-use Rattle.algebra.specs.Columns.{ColumnSet, has, rising, is_subset, is_same_set, are_disjoint}
-use Rattle.algebra.specs.Bags.{Env, Test, Bag, SameBag, total, lay, same_on, join, left_join, keep, distinct_on, distinct}
+use Rattle.algebra.specs.Columns.{ColumnSet, has, is_subset, is_same_set}
+use Rattle.algebra.specs.Bags.{Env, Test, Bag, SameBag, total, lay, same_on, join, left_join, keep}
 use Rattle.std.proofs.lemmas.List.Folds.{list_all-append, list_any-append}
 use Rattle.algebra.proofs.BagSums.{total-zero, total-plus}
 use Rattle.algebra.proofs.UniqueRows.{same_on-reads}
@@ -23,7 +23,7 @@ use Rattle.props.specs.declared.fact.Fact.{Fact}
 use Rattle.props.specs.declared.fact.Fact.TheVariants.{NotNull, WeakKey, StrongKey}
 use Rattle.props.specs.Facts.{FactHolds, fact_columns}
 
-le_zero : {m n : ℕ} → m ≤ n → n ≡ 0 → m ≡ 0
+pub le_zero : {m n : ℕ} → m ≤ n → n ≡ 0 → m ≡ 0
 le_zero h l = omega arith
 
 le_next : {m n k : ℕ} → m ≤ n → n ≤ k → m ≤ k
@@ -112,18 +112,18 @@ strong-holds L x weak full e r = by (has_null L r) refl
 -- ---- joins
 
 module _ (p : Test) (A B F G : ColumnSet) (a b : Bag) (fits_a : Fits A F a) (fits_b : Fits B G b) (apart : AreApart A B) where
-  turned : SameBag (join p A b a) (join p B a b)
+  pub turned : SameBag (join p A b a) (join p B a b)
   turned e f = sym (joins_commute p A B F G a b fits_a fits_b apart e f)
 
 -- a column that isn't of the right side is read beside it
-beside-null : (B : ColumnSet) (c : ℕ) → B c ≡ false → Ignores B (λ r. is_null (r c))
+pub beside-null : (B : ColumnSet) (c : ℕ) → B c ≡ false → Ignores B (λ r. is_null (r c))
 beside-null B c out r s = rw out refl
 
 beside-key : (B : ColumnSet) (L : List ℕ) → ((c : ℕ) → has L c ≡ true → B c ≡ false) → (r : Env) → Ignores B (same_on L r)
 beside-key B L out r t s = count.agree_beside L B out r s t
 
 -- where it would be Null the conditions don't hold
-rejected-holds : (p : Test) (B : ColumnSet) (a b : Bag) (c : ℕ) → ((w : Env) → is_null (w c) ≡ true → p w ≡ false) → HasNoNull c (join p B a b)
+pub rejected-holds : (p : Test) (B : ColumnSet) (a b : Bag) (c : ℕ) → ((w : Env) → is_null (w c) ≡ true → p w ≡ false) → HasNoNull c (join p B a b)
 rejected-holds p B a b c rejects e =
     total_join (λ w. if is_null (w c) then 1 else 0) p B a b e
     ∙ total-zero _ (λ t. total-zero _ (λ s. at (p (lay B s t)) (is_null (lay B s t c)) (rejects (lay B s t))) (b e)) (a e)
