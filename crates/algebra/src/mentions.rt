@@ -38,7 +38,7 @@ impl<'a> ClassColumns<'a> {
     }
 
     /// Whether all of the columns are columns of a class.
-    fn has_all(self, class: ClassId, columns: &[ColumnId]) -> bool
+    pub fn has_all(self, class: ClassId, columns: &[ColumnId]) -> bool
         ensures { result ≡ is_subset columns.now (given_columns self.entry class) }
     {
         columns.iter().all(|column| self.has(class, *column))
@@ -55,7 +55,7 @@ impl<'a> ClassColumns<'a> {
     }
 
     /// Whether the column is one of the class.
-    fn has(self, class: ClassId, column: ColumnId) -> bool
+    pub fn has(self, class: ClassId, column: ColumnId) -> bool
         ensures { result ≡ has (given_columns self.entry class) column }
     {
         match self.columns.get(class) {

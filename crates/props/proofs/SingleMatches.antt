@@ -26,7 +26,7 @@ use Rattle.values.proofs.Orders.{same_equal}
 use Rattle.laws.specs.Keys.{has_null, IsWeakKey, IsSingle}
 use Rattle.laws.proofs.KeyCounts.{single_from}
 use Rattle.laws.proofs.Overlays.{in_subset}
-use Rattle.props.specs.Given.{is_other, is_column, is_equality, pins_layer, pins, are_pinned}
+use Rattle.props.specs.Given.{is_other, is_column, is_equality, equates, pins_layer, pins, are_pinned}
 
 -- ---- what is equal
 
@@ -62,6 +62,22 @@ values-equal v w is = let both = equal-values v w is in (sym both.0, ap is_null 
 pins-at : (x : Condition-F Condition) (c : Condition) → roll-Condition x ≡ c → (B : List ℕ) (k : ℕ) → pins c B k ≡ pins_layer (map-Condition Condition (List ℕ → ℕ → Bool) pins x) B k
 unfolding pins
 pins-at x c is B k = ap (λ d. pins d B k) (sym is) ∙ ap (λ f. f B k) (fold-roll-Condition (List ℕ → ℕ → Bool) pins_layer x)
+
+pub pins-Compare : (op : Comparison) (a b : Term) (B : List ℕ) (k : ℕ) → pins (Compare op a b) B k ≡ equates B k op a b
+pins-Compare op a b = pins-at (Condition-F.Compare op a b) _ (rolls-Compare op a b)
+
+-- nothing else pins
+pub pins-else : (c : Condition) → ((op : Comparison) (a b : Term) → c ≡ Compare op a b → ⊥) → (B : List ℕ) (k : ℕ) → pins c B k ≡ false
+pins-else c other B k = by (out-Condition c) (roll-out-Condition c)
+  where
+    by : (x : Condition-F Condition) → roll-Condition x ≡ c → pins c B k ≡ false
+    by (Condition-F.Compare op a b) is = absurd (other op a b (sym is ∙ rolls-Compare op a b))
+    by (Condition-F.IsNull a) is = pins-at (Condition-F.IsNull a) c is B k
+    by (Condition-F.Not d) is = pins-at (Condition-F.Not d) c is B k
+    by (Condition-F.And a b cs) is = pins-at (Condition-F.And a b cs) c is B k
+    by (Condition-F.Or a b cs) is = pins-at (Condition-F.Or a b cs) c is B k
+    by (Condition-F.Exists g) is = pins-at (Condition-F.Exists g) c is B k
+    by (Condition-F.In a g j) is = pins-at (Condition-F.In a g j) c is B k
 
 module _ (rows : ℕ → Bag) (B : List ℕ) (k : ℕ) (in_ : has B k ≡ true) where
   -- what a condition says of the column, where it passes with two rows

@@ -51,8 +51,12 @@ is_equality by.LessOrEqual = false
 is_equality by.Greater = false
 is_equality by.GreaterOrEqual = false
 
+-- whether a comparison is `k = t` or `t = k`, with such a t
+abbrev pub equates : List ℕ → ℕ → Comparison → Term → Term → Bool
+equates B k op a b = is_equality op && ((is_column k a && is_other B b) || (is_column k b && is_other B a))
+
 abbrev pub pins_layer : Condition-F (List ℕ → ℕ → Bool) → List ℕ → ℕ → Bool
-pins_layer (Condition-F.Compare op a b) B k = is_equality op && ((is_column k a && is_other B b) || (is_column k b && is_other B a))
+pins_layer (Condition-F.Compare op a b) B k = equates B k op a b
 pins_layer (Condition-F.IsNull a) B k = false
 pins_layer (Condition-F.Not c) B k = false
 pins_layer (Condition-F.And a b cs) B k = false
@@ -60,7 +64,7 @@ pins_layer (Condition-F.Or a b cs) B k = false
 pins_layer (Condition-F.Exists g) B k = false
 pins_layer (Condition-F.In a g j) B k = false
 
--- whether a condition is `k = t` or `t = k`, with t a literal other than NULL or a column that isn't among these
+-- whether a condition is such a comparison
 unfoldable pub pins : Condition → List ℕ → ℕ → Bool
 pins = fold-Condition (List ℕ → ℕ → Bool) pins_layer
 

@@ -1,6 +1,8 @@
 //! What is known of the rows of a class.
 
-ghost use Rattle.std.specs.Prelude.{◌≡◌, []};
+ghost use Rattle.std.specs.Prelude.{◌≡◌, [], nat_le, length};
+ghost use Rattle.std.specs.List.{list_any};
+ghost use Rattle.algebra.specs.Equality.{same_columns};
 ghost use Rattle.props.specs.Facts as spec;
 
 use algebra::Columns;
@@ -45,5 +47,42 @@ impl Facts {
         ensures { result ≡ spec.has_strong_key self.now }
     {
         !self.strong_keys.is_empty()
+    }
+
+    /// Whether a fact is known.
+    pub fn knows(&self, fact: &Fact) -> bool
+        ensures { result ≡ spec.knows self.now fact.now }
+    {
+        match fact {
+            Fact::NotNull(column) => self.not_null.contains(*column),
+            Fact::WeakKey(key) => is_among(key, self.weak_keys.as_slice()),
+            Fact::StrongKey(key) => is_among(key, self.strong_keys.as_slice()),
+        }
+    }
+}
+
+/// Whether a key is among keys.
+fn is_among(key: &Columns, keys: &[Columns]) -> bool
+    ensures { result ≡ list_any (λ other. same_columns other key.now) keys.now }
+{
+    keys.iter().any(|other| other.same(key))
+}
+
+impl Fact {
+    /// The number of columns of which it speaks.
+    fn size(&self) -> usize
+        ensures { result ≡ length (spec.fact_columns self.now) }
+    {
+        match self {
+            Fact::NotNull(_) => 1,
+            Fact::WeakKey(key) | Fact::StrongKey(key) => key.as_slice().len(),
+        }
+    }
+
+    /// Whether it speaks of four columns at most.
+    pub fn is_short(&self) -> bool
+        ensures { result ≡ nat_le (length (spec.fact_columns self.now)) 4 }
+    {
+        self.size() <= 4
     }
 }

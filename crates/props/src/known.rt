@@ -1,10 +1,13 @@
 //! What is known of classes.
 
 ghost use Rattle.std.specs.Prelude.{◌≡◌, ◌==◌, slice_get, option_map};
+ghost use Rattle.algebra.specs.Columns.{has};
+ghost use Rattle.props.specs.Facts as facts;
 ghost use Rattle.props.specs.Knowledge as spec;
 
-use crate::fact::Facts;
-use algebra::{ClassColumns, ClassId};
+use crate::fact::{Fact, Facts};
+use algebra::{ClassColumns, ClassId, Columns};
+use query::ColumnId;
 
 /// What is known of classes, in lists by their numbers.
 #[derive(Clone, Copy)]
@@ -48,6 +51,46 @@ impl<'a> KnownClasses<'a> {
     {
         match self.facts(class) {
             Some(facts) => facts.has_strong_key(),
+            None => false,
+        }
+    }
+
+    /// Whether a fact is known of a class.
+    pub fn knows(self, class: ClassId, fact: &Fact) -> bool
+        ensures { result ≡ facts.knows ((spec.known self.entry).facts class) fact.now }
+    {
+        match self.facts(class) {
+            Some(facts) => facts.knows(fact),
+            None => false,
+        }
+    }
+
+    /// The weak keys that are known of a class.
+    pub fn weak_keys(self, class: ClassId) -> &'a [Columns]
+        ensures { result.now ≡ ((spec.known self.entry).facts class).weak_keys }
+    {
+        match self.facts(class) {
+            Some(facts) => facts.weak_keys.as_slice(),
+            None => &[],
+        }
+    }
+
+    /// The strong keys that are known of a class.
+    pub fn strong_keys(self, class: ClassId) -> &'a [Columns]
+        ensures { result.now ≡ ((spec.known self.entry).facts class).strong_keys }
+    {
+        match self.facts(class) {
+            Some(facts) => facts.strong_keys.as_slice(),
+            None => &[],
+        }
+    }
+
+    /// Whether it is known that a column of a class is nowhere Null.
+    pub fn is_not_null(self, class: ClassId, column: ColumnId) -> bool
+        ensures { result ≡ has ((spec.known self.entry).facts class).not_null column }
+    {
+        match self.facts(class) {
+            Some(facts) => facts.not_null.contains(column),
             None => false,
         }
     }

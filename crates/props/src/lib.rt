@@ -2,8 +2,10 @@
 #![tactic(auto)]
 
 pub mod fact;
+pub mod given;
 pub mod known;
 pub mod outcomes;
+pub mod single;
 
 pub use fact::{Fact, Facts};
 pub use known::KnownClasses;
