@@ -66,11 +66,11 @@ module _ (K : Knowledge) (rows : ℕ → Bag) (true_ : IsTrueOf K rows) where
   single : (g : ℕ) (C : List Condition) → spec.is_single K g C ≡ true → IsSingle (holds rows C) (has (K.columns g)) (rows g)
   single g C is = elim (or_cases (list_any (spec.are_pinned (K.columns g) C) (K.facts g).weak_keys) (list_any (spec.are_pinned (K.columns g) C) (K.facts g).strong_keys) is) [
     | inl weak ↦
-      let key = weak-among g (K.facts g).weak_keys (λ L in_. in_) (spec.are_pinned (K.columns g) C) weak in
-      pinned-single rows (K.columns g) key.0 C (rows g) (true_.facts g (WeakKey key.0) key.1.1).0 key.1.0 (true_.facts g (WeakKey key.0) key.1.1).1
+        let key = weak-among g (K.facts g).weak_keys (λ L in_. in_) (spec.are_pinned (K.columns g) C) weak in
+        pinned-single rows (K.columns g) key.0 C (rows g) (true_.facts g (WeakKey key.0) key.1.1).0 key.1.0 (true_.facts g (WeakKey key.0) key.1.1).1
     | inr strong ↦
-      let key = strong-among g (K.facts g).strong_keys (λ L in_. in_) (spec.are_pinned (K.columns g) C) strong in
-      pinned-single rows (K.columns g) key.0 C (rows g) (true_.facts g (StrongKey key.0) key.1.1).0 key.1.0 (weak-holds key.0 (rows g) (true_.facts g (StrongKey key.0) key.1.1).1)
+        let key = strong-among g (K.facts g).strong_keys (λ L in_. in_) (spec.are_pinned (K.columns g) C) strong in
+        pinned-single rows (K.columns g) key.0 C (rows g) (true_.facts g (StrongKey key.0) key.1.1).0 key.1.0 (weak-holds key.0 (rows g) (true_.facts g (StrongKey key.0) key.1.1).1)
   ]
 
   -- a condition that is never true of Null rejects it
@@ -141,9 +141,10 @@ module _ (K : Knowledge) (rows : ℕ → Bag) (true_ : IsTrueOf K rows) where
         let one = weak-among a (K.facts a).weak_keys (λ L in_. in_) (λ L. list_any (λ M. is_same_set N (L ++ M)) (K.facts b).weak_keys) is in
         let two = weak-among b (K.facts b).weak_keys (λ L in_. in_) (λ M. is_same_set N (one.0 ++ M)) one.1.0 in
         let out = left-out (WeakKey one.0) one.1.1 in
-        let in_ = known-columns b (WeakKey two.0) two.1.1 in
-        (weak-union p (has (K.columns b)) (rows a) (rows b) one.0 two.0 N two.1.0 out in_ (known a (WeakKey one.0) one.1.1) (known b (WeakKey two.0) two.1.1),
-        weak-left-union p (has (K.columns b)) (rows a) (rows b) one.0 two.0 N two.1.0 out in_ (known a (WeakKey one.0) one.1.1) (known b (WeakKey two.0) two.1.1))
+        let in_ = known-columns b (WeakKey two.0) two.1.1 in (
+          weak-union p (has (K.columns b)) (rows a) (rows b) one.0 two.0 N two.1.0 out in_ (known a (WeakKey one.0) one.1.1) (known b (WeakKey two.0) two.1.1),
+          weak-left-union p (has (K.columns b)) (rows a) (rows b) one.0 two.0 N two.1.0 out in_ (known a (WeakKey one.0) one.1.1) (known b (WeakKey two.0) two.1.1),
+        )
 
     strong-unions : (N : List ℕ) → spec.is_union (K.facts a).strong_keys (K.facts b).strong_keys N ≡ true
         → IsStrongKey N (join p (has (K.columns b)) (rows a) (rows b)) × IsStrongKey N (left_join p (has (K.columns b)) (rows a) (rows b))
@@ -151,15 +152,17 @@ module _ (K : Knowledge) (rows : ℕ → Bag) (true_ : IsTrueOf K rows) where
         let one = strong-among a (K.facts a).strong_keys (λ L in_. in_) (λ L. list_any (λ M. is_same_set N (L ++ M)) (K.facts b).strong_keys) is in
         let two = strong-among b (K.facts b).strong_keys (λ L in_. in_) (λ M. is_same_set N (one.0 ++ M)) one.1.0 in
         let out = left-out (StrongKey one.0) one.1.1 in
-        let in_ = known-columns b (StrongKey two.0) two.1.1 in
-        (strong-union p (has (K.columns b)) (rows a) (rows b) one.0 two.0 N two.1.0 out in_ (known a (StrongKey one.0) one.1.1) (known b (StrongKey two.0) two.1.1),
-        strong-left-union p (has (K.columns b)) (rows a) (rows b) one.0 two.0 N two.1.0 out in_ (known a (StrongKey one.0) one.1.1) (known b (StrongKey two.0) two.1.1))
+        let in_ = known-columns b (StrongKey two.0) two.1.1 in (
+          strong-union p (has (K.columns b)) (rows a) (rows b) one.0 two.0 N two.1.0 out in_ (known a (StrongKey one.0) one.1.1) (known b (StrongKey two.0) two.1.1),
+          strong-left-union p (has (K.columns b)) (rows a) (rows b) one.0 two.0 N two.1.0 out in_ (known a (StrongKey one.0) one.1.1) (known b (StrongKey two.0) two.1.1),
+        )
 
     no-null-left : (c : ℕ) → spec.is_known K a (NotNull c) ≡ true → HasNoNull c (join p (has (K.columns b)) (rows a) (rows b)) × HasNoNull c (left_join p (has (K.columns b)) (rows a) (rows b))
     no-null-left c is =
-        let out = left-out (NotNull c) is c (or_left (c == c) false (eq-eqb c c refl)) in
-        (λ e. count_bad (λ r. is_null (r c)) p (has (K.columns b)) (rows a) (rows b) (beside-null (has (K.columns b)) c out) e (known a (NotNull c) is e),
-        λ e. count_bad_left (λ r. is_null (r c)) p (has (K.columns b)) (rows a) (rows b) (beside-null (has (K.columns b)) c out) e (known a (NotNull c) is e))
+        let out = left-out (NotNull c) is c (or_left (c == c) false (eq-eqb c c refl)) in (
+          λ e. count_bad (λ r. is_null (r c)) p (has (K.columns b)) (rows a) (rows b) (beside-null (has (K.columns b)) c out) e (known a (NotNull c) is e),
+          λ e. count_bad_left (λ r. is_null (r c)) p (has (K.columns b)) (rows a) (rows b) (beside-null (has (K.columns b)) c out) e (known a (NotNull c) is e),
+        )
 
     no-null-right : (c : ℕ) → spec.is_known K b (NotNull c) ≡ true → HasNoNull c (join p (has (K.columns b)) (rows a) (rows b))
     no-null-right c is =
@@ -182,11 +185,11 @@ module _ (K : Knowledge) (rows : ℕ → Bag) (true_ : IsTrueOf K rows) where
     ]
     by-join (WeakKey L) is = elim (or_cases (spec.by_side K C a b (WeakKey L) || spec.by_side K C b a (WeakKey L)) (spec.is_union (K.facts a).weak_keys (K.facts b).weak_keys L) is) [
       | inr union ↦ (weak-unions L union).0
-      | inl sides ↦ elim (or_cases (spec.by_side K C a b (WeakKey L)) (spec.by_side K C b a (WeakKey L)) sides) [ | inl left ↦ left-side (WeakKey L) left | inr right ↦ right-side (WeakKey L) right ]
+      | inl sides ↦ elim (or_cases (spec.by_side K C a b (WeakKey L)) (spec.by_side K C b a (WeakKey L)) sides) [ inl left ↦ left-side (WeakKey L) left | inr right ↦ right-side (WeakKey L) right ]
     ]
     by-join (StrongKey L) is = elim (or_cases (spec.by_side K C a b (StrongKey L) || spec.by_side K C b a (StrongKey L)) (spec.is_union (K.facts a).strong_keys (K.facts b).strong_keys L) is) [
       | inr union ↦ (strong-unions L union).0
-      | inl sides ↦ elim (or_cases (spec.by_side K C a b (StrongKey L)) (spec.by_side K C b a (StrongKey L)) sides) [ | inl left ↦ left-side (StrongKey L) left | inr right ↦ right-side (StrongKey L) right ]
+      | inl sides ↦ elim (or_cases (spec.by_side K C a b (StrongKey L)) (spec.by_side K C b a (StrongKey L)) sides) [ inl left ↦ left-side (StrongKey L) left | inr right ↦ right-side (StrongKey L) right ]
     ]
 
     padded-side : (f : Fact) → spec.by_side K C a b f ≡ true → FactHolds (left_join p (has (K.columns b)) (rows a) (rows b)) f
@@ -216,7 +219,7 @@ module _ (K : Knowledge) (rows : ℕ → Bag) (true_ : IsTrueOf K rows) where
   by-distinct x (StrongKey L) is = elim (or_cases (spec.is_known K x (StrongKey L)) (is_same_set L (K.columns x)) is) [
     | inl here ↦ of-known x (StrongKey L) here
     | inr all ↦ keep-holds (K.columns x) (λ e. distinct_on (K.columns x) (rows x e)) (StrongKey L) (and_parts (is_subset L (K.columns x)) _ all).0
-      (λ e r. subst (λ n. n ≤ 1) (sym (count_same _ _ (λ s. same_on-set L (K.columns x) all r s) (distinct_on (K.columns x) (rows x e)))) (count_once (K.columns x) r (rows x e)))
+        (λ e r. subst (λ n. n ≤ 1) (sym (count_same _ _ (λ s. same_on-set L (K.columns x) all r s) (distinct_on (K.columns x) (rows x e)))) (count_once (K.columns x) r (rows x e)))
   ]
 
   -- ---- groups
@@ -290,6 +293,6 @@ given_facts_hold S D satisfies uses over own K rows true_ g x formed columns sam
     elim (or_cases (spec.by_others K g f) (spec.by_line uses K x f) parts.1) [
       | inl others ↦ by-others K rows true_ g f others
       | inr line ↦
-        same-holds (means uses (tables_of S D) (with_rows K rows) x) (rows g) (λ e h. sym (same e h)) f
-        (by-line S D satisfies uses over own K rows true_ x f formed (ap (is_subset (fact_columns f)) columns ∙ within) line)
+          same-holds (means uses (tables_of S D) (with_rows K rows) x) (rows g) (λ e h. sym (same e h)) f
+          (by-line S D satisfies uses over own K rows true_ x f formed (ap (is_subset (fact_columns f)) columns ∙ within) line)
     ]

@@ -1,8 +1,10 @@
 pub mod GivenFacts
 pub mod GroupFacts
 pub mod OutcomeForms
+pub mod Places
 pub mod SingleMatches
 pub mod SoundFacts
 pub mod SoundOutcomes
 pub mod Steps
 pub mod TableFacts
+pub mod Unions

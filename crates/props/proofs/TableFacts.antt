@@ -112,8 +112,8 @@ module _ (t : TableInstance) (r e : Env) where
   unique-once rows places unique within full =
       let values : (row : Row) → same_on (at_places t places) r (use_row t row e) ≡ true → values_at places row ≡ map (λ p. r (t.first_column + p)) places = key-values places within in
       let one : passing (λ row. same_on (at_places t places) r (use_row t row e)) rows ≤ 1 = one-passes (λ row. same_on (at_places t places) r (use_row t row e)) rows (λ i j before below first second.
-          unique i j before below (ap (list_any is_null) (values (slice_index_or rows i []) first) ∙ null-values places ∙ full)
-          (values (slice_index_or rows i []) first ∙ sym (values (slice_index_or rows j []) second))) in
+      unique i j before below (ap (list_any is_null) (values (slice_index_or rows i []) first) ∙ null-values places ∙ full)
+      (values (slice_index_or rows i []) first ∙ sym (values (slice_index_or rows j []) second))) in
       rw (counted (at_places t places) rows) one
 
 -- a key of the columns of a unique list
@@ -122,9 +122,9 @@ pub unique-key : (t : TableInstance) (rows : List Row) (L : List ℕ) (lists : L
 unique-key t rows L [] unique none within = cc
 unique-key t rows L (places ∷ lists) unique some within = elim (or_cases (is_same_set L (at_places t places)) (list_any (λ places. is_same_set L (at_places t places)) lists) some) [
   | inl here ↦ λ e r full.
-    let sides = and_parts (is_subset L (at_places t places)) (is_subset (at_places t places) L) here in
-    let there : is_subset (at_places t places) (use_columns t) ≡ true = all_has (λ k. has (use_columns t) k) (at_places t places) (λ k in_. in_subset L (use_columns t) within k (in_subset (at_places t places) L sides.1 k in_)) in
-    subst (λ n. n ≤ 1) (sym (count_same _ _ (λ s. same_on-set L (at_places t places) here r s) (map (λ row. use_row t row e) rows)))
-    (unique-once t r e rows places unique.0 there (sym (null-set L (at_places t places) here r) ∙ full))
+      let sides = and_parts (is_subset L (at_places t places)) (is_subset (at_places t places) L) here in
+      let there : is_subset (at_places t places) (use_columns t) ≡ true = all_has (λ k. has (use_columns t) k) (at_places t places) (λ k in_. in_subset L (use_columns t) within k (in_subset (at_places t places) L sides.1 k in_)) in
+      subst (λ n. n ≤ 1) (sym (count_same _ _ (λ s. same_on-set L (at_places t places) here r s) (map (λ row. use_row t row e) rows)))
+      (unique-once t r e rows places unique.0 there (sym (null-set L (at_places t places) here r) ∙ full))
   | inr later ↦ unique-key t rows L lists unique.1 later within
 ]

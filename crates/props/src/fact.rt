@@ -62,7 +62,7 @@ impl Facts {
 }
 
 /// Whether a key is among keys.
-fn is_among(key: &Columns, keys: &[Columns]) -> bool
+pub(crate) fn is_among(key: &Columns, keys: &[Columns]) -> bool
     ensures { result ≡ list_any (λ other. same_columns other key.now) keys.now }
 {
     keys.iter().any(|other| other.same(key))

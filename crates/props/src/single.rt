@@ -53,12 +53,7 @@ fn equates(
 }
 
 /// Whether a condition sets a column of a class equal to a literal other than NULL or to a column that isn't one of the class.
-fn pins(
-    condition: &Condition,
-    classes: ClassColumns<'_>,
-    class: ClassId,
-    column: ColumnId,
-) -> bool
+fn pins(condition: &Condition, classes: ClassColumns<'_>, class: ClassId, column: ColumnId) -> bool
     ensures { result ≡ spec.pins condition.now (given_columns classes.entry class) column }
 {
     match condition {
@@ -104,8 +99,7 @@ fn is_one_pinned(
 ) -> bool
     ensures { result ≡ list_any (spec.are_pinned (given_columns classes.entry class) conditions.now) keys.now }
 {
-    keys.iter()
-        .any(|key| are_pinned(conditions, classes, class, key.as_slice()))
+    keys.iter().any(|key| are_pinned(conditions, classes, class, key.as_slice()))
 }
 
 /// Whether no row finds two rows of a class with which the conditions hold, by a key that is known.
@@ -113,5 +107,10 @@ pub fn is_single(classes: KnownClasses<'_>, class: ClassId, conditions: &[Condit
     ensures { result ≡ spec.is_single (known classes.entry) class conditions.now }
 {
     is_one_pinned(conditions, classes.columns, class, classes.weak_keys(class))
-        || is_one_pinned(conditions, classes.columns, class, classes.strong_keys(class))
+        || is_one_pinned(
+            conditions,
+            classes.columns,
+            class,
+            classes.strong_keys(class),
+        )
 }

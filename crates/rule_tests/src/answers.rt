@@ -34,7 +34,10 @@ impl QueryReporting for Rows {
         _more: &str,
         reported: &mut String,
     ) -> Result<(), AllocError> {
-        push_rows(reported, meaning(alloc, query.query(), database)?.as_slice())
+        push_rows(
+            reported,
+            meaning(alloc, query.query(), database)?.as_slice(),
+        )
     }
 }
 
@@ -45,7 +48,8 @@ fn conditions_are_needed(rt: HostRuntime) {
 SELECT badge FROM emp ORDER BY badge => ;-,;-,;7,";
     const GROUP: &str = "SELECT COUNT(*) FROM emp WHERE id = 0 => ;0,
 SELECT DISTINCT id FROM emp WHERE id = 0 =>";
-    const PUSHDOWN: &str = "SELECT e.id, d.id FROM emp e, dept d WHERE d.boss = 10 ORDER BY e.id => ;10,1,;11,1,;12,1,
+    const PUSHDOWN: &str =
+        "SELECT e.id, d.id FROM emp e, dept d WHERE d.boss = 10 ORDER BY e.id => ;10,1,;11,1,;12,1,
 SELECT e.id, d.id FROM emp e, dept d WHERE e.badge = 10 ORDER BY e.id =>";
     assert_eq!(rt;
         query_differences(rt.alloc(), TABLES, &[DISTINCT, GROUP, PUSHDOWN], &Rows).as_deref(),

@@ -1,6 +1,6 @@
 //! Each rule, applied, refused for its form, and refused for its condition.
 
-use crate::classes::{Known, known};
+use crate::classes::{Known, known_classes};
 use crate::shapes::push_shape;
 use crate::words::line_of;
 use algebra::{ClassColumns, Expr};
@@ -99,7 +99,13 @@ impl Reporting for Applied {
     fn report(&self, alloc: Global, text: &str, reported: &mut String) -> Result<(), AllocError> {
         let (code, lines) = text.split_once(": ").unwrap_or((text, ""));
         let lines = lines_of(alloc, lines)?;
-        report_applied(alloc, code, lines.as_slice(), &known(alloc)?, reported)
+        report_applied(
+            alloc,
+            code,
+            lines.as_slice(),
+            &known_classes(alloc)?,
+            reported,
+        )
     }
 }
 
@@ -114,7 +120,8 @@ J2: 7 join 3 2 t, 4 join 0 1  => join [=(c0,c4)] (0) (join [] (1) (2))
 J2: 7 join 3 2 u, 3 join 0 1 t => the condition fails
 J2: 7 join 3 2 u, 5 join 1 2 u => another form
 J2: 7 join 3 2 u, 3 left 0 1 m => another form";
-    const SELECTS: &str = "S1: 7 select 3 lr, 4 select 3 rm => select [=(c0,c2);=(c0,i7);=(c2,i7)] (3)
+    const SELECTS: &str =
+        "S1: 7 select 3 lr, 4 select 3 rm => select [=(c0,c2);=(c0,i7);=(c2,i7)] (3)
 S1: 7 select 3 l, 0 select 3 r => another form
 S2: 7 select 3 lrm, 3 join 0 1  => select [=(c0,c2);=(c2,i7)] (join [] (select [=(c0,i7)] (0)) (1))
 S2: 7 select 3 l, 3 join 0 1 m => join [=(c0,c2)] (select [=(c0,i7)] (0)) (1)
@@ -141,7 +148,10 @@ D1: 7 keep 0 0 1 => another form
 G1: 7 group 3 0 2 => distinct (keep 0 2 (3))
 G1: 7 group 3 => the condition fails
 G1: 7 count 3 0 => another form";
-    assert_eq!(rt; differences(rt.alloc(), &[JOINS, SELECTS, KEEPS], &Applied).as_deref(), Ok(""));
+    assert_eq!(rt;
+        differences(rt.alloc(), &[JOINS, SELECTS, KEEPS], &Applied).as_deref(),
+        Ok("")
+    );
 }
 
 /// Codes are those of the cases.

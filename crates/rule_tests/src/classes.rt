@@ -18,6 +18,7 @@ const COLUMNS: &str = "0 1
 /// Their free columns.
 const FREE: &str = "\n\n\n\n\n\n2";
 
+#[derive(Drop)]
 pub struct Known {
     pub columns: Vec<Columns>,
     pub free: Vec<Columns>,
@@ -66,7 +67,7 @@ fn roots(alloc: Global) -> Result<Vec<usize>, AllocError> {
     Ok(roots)
 }
 
-pub fn known(alloc: Global) -> Result<Known, AllocError> {
+pub fn known_classes(alloc: Global) -> Result<Known, AllocError> {
     let columns = sets_of(alloc, COLUMNS)?;
     let free = sets_of(alloc, FREE)?;
     let facts = facts(alloc)?;

@@ -32,11 +32,7 @@ pub fn columns_of(alloc: Global, text: &str) -> Result<Columns, AllocError> {
 }
 
 fn equal(first: usize, second: usize) -> Condition {
-    Condition::Compare(
-        Comparison::Equal,
-        Term::Column(first),
-        Term::Column(second),
-    )
+    Condition::Compare(Comparison::Equal, Term::Column(first), Term::Column(second))
 }
 
 fn is_seven(column: usize) -> Condition {
@@ -100,7 +96,11 @@ fn over_one(alloc: Global, name: &str, words: &str) -> Result<Expr, AllocError> 
     Ok(match name {
         "select" => Expr::Select(conjuncts_of(alloc, more)?, input),
         "keep" => Expr::Keep(columns_of(alloc, more)?, input),
-        "group" => Expr::Group(columns_of(alloc, more)?, Aggregations::of(alloc, &[])?, input),
+        "group" => Expr::Group(
+            columns_of(alloc, more)?,
+            Aggregations::of(alloc, &[])?,
+            input,
+        ),
         "count" => Expr::Group(columns_of(alloc, more)?, count(alloc)?, input),
         _ => Expr::Distinct(input),
     })

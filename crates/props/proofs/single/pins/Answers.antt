@@ -1,4 +1,4 @@
-use Rattle.std.proofs.Common.{◌≡◌, ap, sym, ◌∙◌}
+use Rattle.std.proofs.Common.{ap, sym, ◌∙◌}
 use Rattle.algebra.specs.GivenColumns.{given_columns}
 use Rattle.props.specs.Given.{pins}
 use Rattle.props.proofs.SingleMatches.{pins-Compare, pins-else}
