@@ -1,5 +1,6 @@
 pub mod GivenFacts
 pub mod GroupFacts
+pub mod LearntFacts
 pub mod OutcomeForms
 pub mod Places
 pub mod SingleMatches

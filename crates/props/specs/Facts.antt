@@ -1,7 +1,7 @@
 -- Facts of the rows of a class, and sets of them.
-use Rattle.std.specs.Prelude.{◌≡◌, ℕ, true, Bool, not, ◌==◌, List, [], ◌∷◌, length}
+use Rattle.std.specs.Prelude.{◌≡◌, ℕ, true, Bool, not, ◌==◌, List, [], ◌∷◌, ◌++◌, length}
 use Rattle.std.specs.List.{list_any}
-use Rattle.algebra.specs.Columns.{has, is_subset}
+use Rattle.algebra.specs.Columns.{has, is_subset, rising}
 use Rattle.algebra.specs.Bags.{Bag}
 use Rattle.algebra.specs.Equality.{same_columns}
 use Rattle.laws.specs.Keys.{HasNoNull, IsWeakKey, IsStrongKey}
@@ -29,6 +29,12 @@ knows F (StrongKey K) = list_any (λ L. same_columns L K) F.strong_keys
 
 abbrev pub no_facts : Facts
 no_facts = record { not_null = []; weak_keys = []; strong_keys = [] }
+
+-- the facts with one more
+abbrev pub with_fact : Facts → Fact → Facts
+with_fact F (NotNull c) = record { not_null = rising (F.not_null ++ c ∷ []); weak_keys = F.weak_keys; strong_keys = F.strong_keys }
+with_fact F (WeakKey L) = record { not_null = F.not_null; weak_keys = F.weak_keys ++ L ∷ []; strong_keys = F.strong_keys }
+with_fact F (StrongKey L) = record { not_null = F.not_null; weak_keys = F.weak_keys; strong_keys = F.strong_keys ++ L ∷ [] }
 
 abbrev pub any_key : List (List ℕ) → Bool
 any_key keys = not (length keys == 0)

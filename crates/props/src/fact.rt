@@ -1,13 +1,13 @@
 //! What is known of the rows of a class.
 
-ghost use Rattle.std.specs.Prelude.{◌≡◌, [], nat_le, length};
+ghost use Rattle.std.specs.Prelude.{◌≡◌, [], ◌∷◌, ◌++◌, nat_le, length, OnErr, OnOk};
 ghost use Rattle.std.specs.List.{list_any};
 ghost use Rattle.algebra.specs.Equality.{same_columns};
 ghost use Rattle.props.specs.Facts as spec;
 
 use algebra::Columns;
 use query::ColumnId;
-use std::alloc::Global;
+use std::alloc::{AllocError, Global};
 use values::Items;
 
 /// A fact of a class's rows, in every database that satisfies the schema and in every environment.
@@ -57,6 +57,34 @@ impl Facts {
             Fact::NotNull(column) => self.not_null.contains(*column),
             Fact::WeakKey(key) => is_among(key, self.weak_keys.as_slice()),
             Fact::StrongKey(key) => is_among(key, self.strong_keys.as_slice()),
+        }
+    }
+}
+
+/// Adds a key to those that are known.
+fn add_key(keys: &mut Items<Columns>, key: Columns) -> Result<(), AllocError>
+    ensures added { OnOk result (keys.new ≡ keys.old ++ key ∷ []) }
+    ensures refused { OnErr result (keys.new ≡ keys.old) }
+{
+    keys.push(key)?;
+    Ok(())
+}
+
+impl Facts {
+    /// Adds a fact.
+    pub fn learn(&mut self, alloc: Global, fact: Fact) -> Result<(), AllocError>
+        ensures learnt { OnOk result (self.new ≡ spec.with_fact self.old fact) }
+        ensures refused { OnErr result (self.new ≡ self.old) }
+    {
+        match fact {
+            Fact::NotNull(column) => {
+                self.not_null = self
+                    .not_null
+                    .union(alloc, &Columns::run(alloc, column, 1)?)?;
+                Ok(())
+            }
+            Fact::WeakKey(key) => add_key(&mut self.weak_keys, key),
+            Fact::StrongKey(key) => add_key(&mut self.strong_keys, key),
         }
     }
 }
