@@ -16,7 +16,7 @@ const EMP: &str = "id,dept,badge\n10,1,7\n11,1,\\N\n12,2,\\N\n";
 
 const DEPT: &str = "id,boss\n1,10\n2,12\n3,\\N\n";
 
-const TABLES: Tables<'static> = Tables {
+pub const TABLES: Tables<'static> = Tables {
     schema: SCHEMA,
     first: EMP,
     second: DEPT,

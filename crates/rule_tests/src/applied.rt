@@ -3,9 +3,8 @@
 use crate::classes::{Known, known_classes};
 use crate::shapes::push_shape;
 use crate::words::line_of;
-use algebra::{ClassColumns, Expr};
+use algebra::Expr;
 use fixtures::{Reporting, differences};
-use props::KnownClasses;
 use rules::condition_below_join::ConditionBelowJoin;
 use rules::distinct_of_keyed::DistinctOfKeyed;
 use rules::group_is_distinct::GroupIsDistinct;
@@ -76,18 +75,10 @@ fn report_applied(
             expr: &line.1,
         })?;
     }
-    let classes = KnownClasses {
-        columns: ClassColumns {
-            columns: known.columns.as_slice(),
-            free: known.free.as_slice(),
-        },
-        roots: known.roots.as_slice(),
-        facts: known.facts.as_slice(),
-    };
     let at = Match {
         lines: matched.as_slice(),
         pick: 0,
-        classes,
+        classes: known.lent(),
     };
     push_applied(alloc, reported, &apply(alloc, code, at))
 }

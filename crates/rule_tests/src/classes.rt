@@ -1,10 +1,9 @@
 //! What is known of the classes of the cases.
 
-use crate::words::columns_of;
-use algebra::Columns;
-use props::Facts;
+use crate::words::{columns_of, number};
+use algebra::{ClassColumns, Columns};
+use props::{Fact, Facts, KnownClasses};
 use std::alloc::{AllocError, Global};
-use values::Items;
 
 /// The columns of the classes 0 to 6. The classes 3 and 4 are the same, and 5 is a join of 1 and 2.
 const COLUMNS: &str = "0 1
@@ -34,28 +33,30 @@ fn sets_of(alloc: Global, text: &str) -> Result<Vec<Columns>, AllocError> {
     Ok(sets)
 }
 
-/// Keys of a class: one, or none where the text is empty.
-fn keys_of(alloc: Global, text: &str) -> Result<Items<Columns>, AllocError> {
-    let mut keys = Items::new(alloc);
-    if !text.is_empty() {
-        keys.push(columns_of(alloc, text)?)?;
-    }
-    Ok(keys)
-}
-
-fn facts_of(alloc: Global, weak: &str, strong: &str) -> Result<Facts, AllocError> {
-    Ok(Facts {
-        not_null: columns_of(alloc, "")?,
-        weak_keys: keys_of(alloc, weak)?,
-        strong_keys: keys_of(alloc, strong)?,
+/// A fact of words: `notnull COLUMN`, `weak COLUMNS` or `strong COLUMNS`.
+pub fn fact_of(alloc: Global, words: &str) -> Result<Fact, AllocError> {
+    let (name, columns) = words.split_once(" ").unwrap_or((words, ""));
+    Ok(match name {
+        "notnull" => Fact::NotNull(number(columns)),
+        "weak" => Fact::WeakKey(columns_of(alloc, columns)?),
+        _ => Fact::StrongKey(columns_of(alloc, columns)?),
     })
 }
 
-/// Class 0 has the strong key 0, class 1 the weak key 2; of the others nothing is known.
+/// The facts of words with `,` between them.
+fn facts_of(alloc: Global, words: &str) -> Result<Facts, AllocError> {
+    let mut facts = Facts::none(alloc);
+    for word in words.split(", ") {
+        facts.learn(alloc, fact_of(alloc, word)?)?;
+    }
+    Ok(facts)
+}
+
+/// Of the classes 0 and 1 something is known, of the others nothing.
 fn facts(alloc: Global) -> Result<Vec<Facts>, AllocError> {
     let mut facts = Vec::new(alloc);
-    facts.push(facts_of(alloc, "", "0")?)?;
-    facts.push(facts_of(alloc, "2", "")?)?;
+    facts.push(facts_of(alloc, "notnull 0, weak 0, strong 0")?)?;
+    facts.push(facts_of(alloc, "weak 2")?)?;
     Ok(facts)
 }
 
@@ -77,4 +78,17 @@ pub fn known_classes(alloc: Global) -> Result<Known, AllocError> {
         roots: roots(alloc)?,
         facts,
     })
+}
+
+impl Known {
+    pub fn lent(&self) -> KnownClasses<'_> {
+        KnownClasses {
+            columns: ClassColumns {
+                columns: self.columns.as_slice(),
+                free: self.free.as_slice(),
+            },
+            roots: self.roots.as_slice(),
+            facts: self.facts.as_slice(),
+        }
+    }
 }

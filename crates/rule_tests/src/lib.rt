@@ -8,6 +8,8 @@ mod applied;
 #[cfg(test)]
 mod classes;
 #[cfg(test)]
+mod facts;
+#[cfg(test)]
 mod shapes;
 #[cfg(test)]
 mod words;

@@ -1,4 +1,4 @@
-//! Lines read from words: `CLASS select INPUT CONDITIONS`, `join`, `semi` and `anti` of two inputs, `keep INPUT COLUMNS`,
+//! Lines read from words: `CLASS get INSTANCE`, `CLASS select INPUT CONDITIONS`, `join`, `semi` and `anti` of two inputs, `keep INPUT COLUMNS`,
 //! `distinct INPUT`, `group INPUT COLUMNS`, and `count INPUT COLUMNS` with a count of the rows. Conditions are named by letters.
 
 use algebra::{Aggregation, Aggregations, Columns, Condition, Conjuncts, Expr, Term};
@@ -94,6 +94,7 @@ fn over_one(alloc: Global, name: &str, words: &str) -> Result<Expr, AllocError> 
     let (input, more) = cut(words);
     let input = number(input);
     Ok(match name {
+        "get" => Expr::Get(input),
         "select" => Expr::Select(conjuncts_of(alloc, more)?, input),
         "keep" => Expr::Keep(columns_of(alloc, more)?, input),
         "group" => Expr::Group(
