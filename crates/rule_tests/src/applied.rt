@@ -2,7 +2,7 @@
 
 use crate::classes::{Known, known_classes};
 use crate::shapes::push_shape;
-use crate::words::line_of;
+use crate::words::{line_of, number};
 use algebra::Expr;
 use fixtures::{Reporting, differences};
 use rules::condition_below_join::ConditionBelowJoin;
@@ -64,6 +64,7 @@ fn lines_of(alloc: Global, text: &str) -> Result<Vec<(usize, Expr)>, AllocError>
 fn report_applied(
     alloc: Global,
     code: &str,
+    pick: usize,
     lines: &[(usize, Expr)],
     known: &Known,
     reported: &mut String,
@@ -77,7 +78,7 @@ fn report_applied(
     }
     let at = Match {
         lines: matched.as_slice(),
-        pick: 0,
+        pick,
         classes: known.lent(),
     };
     push_applied(alloc, reported, &apply(alloc, code, at))
@@ -89,10 +90,12 @@ struct Applied;
 impl Reporting for Applied {
     fn report(&self, alloc: Global, text: &str, reported: &mut String) -> Result<(), AllocError> {
         let (code, lines) = text.split_once(": ").unwrap_or((text, ""));
+        let (code, pick) = code.split_once(" pick ").unwrap_or((code, "0"));
         let lines = lines_of(alloc, lines)?;
         report_applied(
             alloc,
             code,
+            number(pick),
             lines.as_slice(),
             &known_classes(alloc)?,
             reported,
@@ -105,6 +108,7 @@ impl Reporting for Applied {
 fn rules_apply(rt: HostRuntime) {
     const JOINS: &str = "J1: 3 join 0 1 m => join [=(c0,c2)] (1) (0)
 J1: 3 left 0 1 m => another form
+J1 pick 1: 3 join 0 1 m => another form
 J1: 3 join 0 1 m, 3 join 0 1 m => another form
 J2: 7 join 3 2 u, 3 join 0 1 m => join [=(c0,c2)] (0) (join [=(c2,c4)] (1) (2))
 J2: 7 join 3 2 t, 4 join 0 1  => join [=(c0,c4)] (0) (join [] (1) (2))

@@ -26,6 +26,17 @@ fn push_columns(reported: &mut String, columns: &Columns) -> Result<(), AllocErr
     Ok(())
 }
 
+/// Adds the name of an operator and its conjuncts.
+fn push_named(
+    alloc: Global,
+    reported: &mut String,
+    name: &str,
+    conjuncts: &Conjuncts,
+) -> Result<(), AllocError> {
+    reported.push_str(name)?;
+    push_conjuncts(alloc, reported, conjuncts)
+}
+
 /// Adds an input.
 #[cycle(shapes)]
 fn push_input(alloc: Global, reported: &mut String, shape: &Shape) -> Result<(), AllocError> {
@@ -34,35 +45,34 @@ fn push_input(alloc: Global, reported: &mut String, shape: &Shape) -> Result<(),
     reported.push_str(")")
 }
 
-/// Adds an operator with conjuncts over two inputs.
-#[cycle(shapes)]
-fn push_joined(
-    alloc: Global,
-    reported: &mut String,
-    name: &str,
-    conjuncts: &Conjuncts,
-    left: &Shape,
-    right: &Shape,
-) -> Result<(), AllocError> {
-    reported.push_str(name)?;
-    push_conjuncts(alloc, reported, conjuncts)?;
-    push_input(alloc, reported, left)?;
-    push_input(alloc, reported, right)
-}
-
 #[cycle(shapes)]
 pub fn push_shape(alloc: Global, reported: &mut String, shape: &Shape) -> Result<(), AllocError> {
     match shape {
         Shape::Class(class) => push_number(reported, "", *class),
         Shape::Select(c, x) => {
-            reported.push_str("select")?;
-            push_conjuncts(alloc, reported, c)?;
+            push_named(alloc, reported, "select", c)?;
             push_input(alloc, reported, x.get())
         }
-        Shape::Join(c, a, b) => push_joined(alloc, reported, "join", c, a.get(), b.get()),
-        Shape::LeftJoin(c, a, b) => push_joined(alloc, reported, "left", c, a.get(), b.get()),
-        Shape::Semi(c, a, b) => push_joined(alloc, reported, "semi", c, a.get(), b.get()),
-        Shape::Anti(c, _, a, b) => push_joined(alloc, reported, "anti", c, a.get(), b.get()),
+        Shape::Join(c, a, b) => {
+            push_named(alloc, reported, "join", c)?;
+            push_input(alloc, reported, a.get())?;
+            push_input(alloc, reported, b.get())
+        }
+        Shape::LeftJoin(c, a, b) => {
+            push_named(alloc, reported, "left", c)?;
+            push_input(alloc, reported, a.get())?;
+            push_input(alloc, reported, b.get())
+        }
+        Shape::Semi(c, a, b) => {
+            push_named(alloc, reported, "semi", c)?;
+            push_input(alloc, reported, a.get())?;
+            push_input(alloc, reported, b.get())
+        }
+        Shape::Anti(c, _, a, b) => {
+            push_named(alloc, reported, "anti", c)?;
+            push_input(alloc, reported, a.get())?;
+            push_input(alloc, reported, b.get())
+        }
         Shape::Keep(k, x) => {
             reported.push_str("keep")?;
             push_columns(reported, k)?;

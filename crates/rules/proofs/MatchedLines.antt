@@ -1,5 +1,5 @@
 -- A rule is sound if what it makes of its lines' expressions is.
-use Rattle.std.proofs.Common.{◌≡◌, refl, ap, sym, ◌∙◌, subst, ℕ, Bool, true, false, if◌then◌else◌, List, [], ◌∷◌, Result, Ok, Some, None}
+use Rattle.std.proofs.Common.{◌≡◌, refl, ap, sym, ◌∙◌, subst, ℕ, Bool, true, false, ◌==◌, if◌then◌else◌, List, [], ◌∷◌, Result, Ok, Some, None}
 use Rattle.std.specs.List.{AllByRecursion}
 use Rattle.values.specs.Faults.{◌>>=◌, wanted}
 use Rattle.algebra.specs.declared.expr.Expr.{Expr}
@@ -36,8 +36,13 @@ abbrev pub OneIsSound : (Knowledge → Expr → Result Shape Unfit) → Type 0
 OneIsSound rewrite = (K : Knowledge) (W : World) (x : Expr) (s : Shape) → Stands K W x → rewrite K x ≡ Ok s → SameBag (rows_of K W x) (shape_rows K W s)
 
 pub one-sound : (rewrite : Knowledge → Expr → Result Shape Unfit) → OneIsSound rewrite → IsSound (λ m. wanted Pattern (one_line m) >>= rewrite m.classes)
-one-sound rewrite sound m s is W true_ top others lines = by m.lines is true_.lines lines
+one-sound rewrite sound m s is W true_ top others lines = unpick (m.pick == 0) is (λ is. by m.lines is true_.lines lines)
   where
+    unpick : (b : Bool) → (wanted Pattern (if b then the_one m.lines else None) >>= rewrite m.classes) ≡ Ok s
+        → ((wanted Pattern (the_one m.lines) >>= rewrite m.classes) ≡ Ok s → SameBag (rows_of m.classes W top.expr) (shape_rows m.classes W s)) → SameBag (rows_of m.classes W top.expr) (shape_rows m.classes W s)
+    unpick true is given_ = given_ is
+    unpick false is given_ = cc
+
     by : (L : List Line) → (wanted Pattern (the_one L) >>= rewrite m.classes) ≡ Ok s → AllByRecursion (IsLine m.classes W) L → L ≡ top ∷ others → SameBag (rows_of m.classes W top.expr) (shape_rows m.classes W s)
     by [] is all lines = cc
     by (l ∷ []) is all lines =
@@ -70,8 +75,14 @@ below K W l k classes is line = record {
     taken g others first = sym (ap (λ L. is_first_same K L k.class) first) ∙ is
 
 pub two-sound : (rewrite : Knowledge → Expr → Expr → Result Shape Unfit) → TwoAreSound rewrite → IsSound (λ m. wanted Pattern (two_lines m) >>= λ l. rewrite m.classes l.0 l.1)
-two-sound rewrite sound m s is W true_ top others lines = by m.lines is true_.lines lines
+two-sound rewrite sound m s is W true_ top others lines = unpick (m.pick == 0) is (λ is. by m.lines is true_.lines lines)
   where
+    unpick : (b : Bool) → (wanted Pattern (if b then the_two m.classes m.lines else None) >>= λ l. rewrite m.classes l.0 l.1) ≡ Ok s
+        → ((wanted Pattern (the_two m.classes m.lines) >>= λ l. rewrite m.classes l.0 l.1) ≡ Ok s → SameBag (rows_of m.classes W top.expr) (shape_rows m.classes W s))
+        → SameBag (rows_of m.classes W top.expr) (shape_rows m.classes W s)
+    unpick true is given_ = given_ is
+    unpick false is given_ = cc
+
     by : (L : List Line) → (wanted Pattern (the_two m.classes L) >>= λ l. rewrite m.classes l.0 l.1) ≡ Ok s → AllByRecursion (IsLine m.classes W) L → L ≡ top ∷ others
         → SameBag (rows_of m.classes W top.expr) (shape_rows m.classes W s)
     by [] is all lines = cc

@@ -1,5 +1,5 @@
 -- What rules are applied to.
-use Rattle.std.specs.Prelude.{ℕ, Bool, false, if◌then◌else◌, List, [], ◌∷◌, map, Option, Some, None}
+use Rattle.std.specs.Prelude.{ℕ, Bool, ◌==◌, false, if◌then◌else◌, List, [], ◌∷◌, map, Option, Some, None}
 use Rattle.algebra.specs.declared.expr.Expr.{Expr}
 use Rattle.algebra.specs.Expressions.{children}
 use Rattle.props.specs.declared.known.KnownClasses.{KnownClasses}
@@ -37,6 +37,10 @@ is_first_same K (x ∷ others) g = are_same K x g
 abbrev pub takes : Knowledge → Expr → ℕ → Bool
 takes K x g = is_first_same K (children x) g
 
+-- what is there where nothing is picked
+abbrev pub unpicked : {X : Type 0} → ℕ → Option X → Option X
+unpicked pick x = if pick == 0 then x else None
+
 -- the expression, where there is one line
 abbrev pub the_one : List Line → Option Expr
 the_one [] = None
@@ -44,7 +48,7 @@ the_one (l ∷ []) = Some l.expr
 the_one (l ∷ k ∷ others) = None
 
 abbrev pub one_line : Matched → Option Expr
-one_line m = the_one m.lines
+one_line m = unpicked m.pick (the_one m.lines)
 
 -- the expressions, where there are two lines and the second is of the class that the first takes
 abbrev pub the_two : Knowledge → List Line → Option (Expr × Expr)
@@ -54,4 +58,4 @@ the_two K (l ∷ k ∷ []) = if takes K l.expr k.class then Some (l.expr, k.expr
 the_two K (l ∷ k ∷ j ∷ others) = None
 
 abbrev pub two_lines : Matched → Option (Expr × Expr)
-two_lines m = the_two m.classes m.lines
+two_lines m = unpicked m.pick (the_two m.classes m.lines)

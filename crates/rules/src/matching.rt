@@ -22,7 +22,7 @@ pub struct MatchedLine<'a> {
 pub struct Match<'a> {
     /// The lines, the top first.
     pub lines: &'a [MatchedLine<'a>],
-    /// The conjunct or the class that is meant, where a rule has a choice.
+    /// The conjunct or the class that is meant, where a rule has a choice; else 0.
     pub pick: usize,
     pub classes: KnownClasses<'a>,
 }
@@ -44,22 +44,22 @@ fn takes(expr: &Expr, class: ClassId, classes: KnownClasses<'_>) -> bool
 }
 
 impl<'a> Match<'a> {
-    /// The expression of the one line.
+    /// The expression of the one line, where nothing is picked.
     pub fn one_line(self) -> Result<&'a Expr, RuleFault>
         ensures { Gives (λ x. x.now) result (wanted Pattern (spec.one_line (spec.matched self.entry))) }
     {
         match self.lines {
-            [line] => Ok(line.expr),
+            [line] if self.pick == 0 => Ok(line.expr),
             _ => Err(Fault::Refused(Unfit::Pattern)),
         }
     }
 
-    /// The expressions of two lines, of which the second is of the class whose rows the first takes first.
+    /// The expressions of two lines, of which the second is of the class whose rows the first takes first, where nothing is picked.
     pub fn two_lines(self) -> Result<(&'a Expr, &'a Expr), RuleFault>
         ensures { Gives (λ p. (p.0.now, p.1.now)) result (wanted Pattern (spec.two_lines (spec.matched self.entry))) }
     {
         match self.lines {
-            [top, below] if takes(top.expr, below.class, self.classes) => Ok((
+            [top, below] if self.pick == 0 && takes(top.expr, below.class, self.classes) => Ok((
                 top.expr, below.expr,
             )),
             _ => Err(Fault::Refused(Unfit::Pattern)),
