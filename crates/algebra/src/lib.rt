@@ -10,9 +10,11 @@ pub mod columns;
 pub mod condition;
 pub mod condition_text;
 mod conjunct_order;
+mod conjunct_parts;
 mod connectives;
 pub mod expr;
 pub mod formed;
+mod mentions;
 mod named_classes;
 mod operator_columns;
 
@@ -20,3 +22,4 @@ pub use aggregations::Aggregations;
 pub use columns::Columns;
 pub use condition::{ClassId, Condition, Conjuncts, LineId, Term};
 pub use expr::{Aggregation, Expr};
+pub use mentions::ClassColumns;
