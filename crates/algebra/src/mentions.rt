@@ -24,7 +24,7 @@ impl<'a> ClassColumns<'a> {
     pub fn columns_of(self, class: ClassId) -> &'a [ColumnId]
         ensures { result.now ≡ given_columns self.entry class }
     {
-        match self.columns.get(class) {
+        match self.columns.get(class as usize) {
             Some(columns) => columns.as_slice(),
             None => &[],
         }
@@ -48,7 +48,7 @@ impl<'a> ClassColumns<'a> {
     fn free_of(self, class: ClassId) -> &'a [ColumnId]
         ensures { result.now ≡ columns_at self.entry.free.now class }
     {
-        match self.free.get(class) {
+        match self.free.get(class as usize) {
             Some(free) => free.as_slice(),
             None => &[],
         }
@@ -58,7 +58,7 @@ impl<'a> ClassColumns<'a> {
     pub fn has(self, class: ClassId, column: ColumnId) -> bool
         ensures { result ≡ has (given_columns self.entry class) column }
     {
-        match self.columns.get(class) {
+        match self.columns.get(class as usize) {
             Some(columns) => columns.contains(column),
             None => false,
         }

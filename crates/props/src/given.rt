@@ -76,7 +76,7 @@ fn is_at_place(table: &TableInstance, place: usize, column: ColumnId) -> bool
     ensures column { result ≡ (column == table.now.first_column + place) }
     ensures place { result ≡ (table.now.first_column + place == column) }
 {
-    table.first_column <= column && column - table.first_column == place
+    table.first_column <= column && (column - table.first_column) as usize == place
 }
 
 fn is_at_one(table: &TableInstance, places: &[usize], column: ColumnId) -> bool
@@ -148,7 +148,10 @@ fn of_table(table: &TableInstance, fact: &Fact) -> bool
     match fact {
         Fact::NotNull(column) => {
             table.first_column <= *column
-                && is_not_null_at(table.entry.columns.as_slice(), *column - table.first_column)
+                && is_not_null_at(
+                    table.entry.columns.as_slice(),
+                    (*column - table.first_column) as usize,
+                )
         }
         Fact::WeakKey(key) => is_unique(table, key),
         Fact::StrongKey(_) => false,
@@ -158,7 +161,7 @@ fn of_table(table: &TableInstance, fact: &Fact) -> bool
 fn by_table(uses: &[TableInstance], occurrence: OccurrenceId, fact: &Fact) -> bool
     ensures { result ≡ spec.by_table (slice_get uses.now occurrence) fact.now }
 {
-    match uses.get(occurrence) {
+    match uses.get(occurrence as usize) {
         Some(table) => of_table(table, fact),
         None => false,
     }

@@ -25,7 +25,7 @@ impl<'a> KnownClasses<'a> {
     pub fn root(self, class: ClassId) -> ClassId
         ensures { result ≡ spec.root_in self.entry.roots.now class }
     {
-        match self.roots.get(class) {
+        match self.roots.get(class as usize) {
             Some(root) => *root,
             None => class,
         }
@@ -42,7 +42,7 @@ impl<'a> KnownClasses<'a> {
     pub fn facts(self, class: ClassId) -> Option<&'a Facts>
         ensures { option_map (λ f. f.now) result ≡ slice_get self.entry.facts.now (spec.root_in self.entry.roots.now class) }
     {
-        self.facts.get(self.root(class))
+        self.facts.get(self.root(class) as usize)
     }
 
     /// Whether a class has a strong key.

@@ -23,7 +23,7 @@ pub struct Match<'a> {
     /// The lines, the top first.
     pub lines: &'a [MatchedLine<'a>],
     /// The conjunct or the class that is meant, where a rule has a choice; else 0.
-    pub pick: usize,
+    pub pick: u32,
     pub classes: KnownClasses<'a>,
 }
 
