@@ -3,7 +3,7 @@
 use crate::classes::{Known, known_classes};
 use crate::shapes::push_shape;
 use crate::words::{line_of, number};
-use algebra::Expr;
+use algebra::{ClassId, Expr};
 use fixtures::{Reporting, differences};
 use rules::condition_below_join::ConditionBelowJoin;
 use rules::distinct_of_keyed::DistinctOfKeyed;
@@ -53,7 +53,7 @@ fn push_applied(
 }
 
 /// The lines of a text, with `,` between them.
-fn lines_of(alloc: Global, text: &str) -> Result<Vec<(usize, Expr)>, AllocError> {
+fn lines_of(alloc: Global, text: &str) -> Result<Vec<(ClassId, Expr)>, AllocError> {
     let mut lines = Vec::new(alloc);
     for words in text.split(", ") {
         lines.push(line_of(alloc, words)?)?;
@@ -64,8 +64,8 @@ fn lines_of(alloc: Global, text: &str) -> Result<Vec<(usize, Expr)>, AllocError>
 fn report_applied(
     alloc: Global,
     code: &str,
-    pick: usize,
-    lines: &[(usize, Expr)],
+    pick: u32,
+    lines: &[(ClassId, Expr)],
     known: &Known,
     reported: &mut String,
 ) -> Result<(), AllocError> {

@@ -1,7 +1,7 @@
 //! What is known of the classes of the cases.
 
 use crate::words::{columns_of, number};
-use algebra::{ClassColumns, Columns};
+use algebra::{ClassColumns, ClassId, Columns};
 use props::{Fact, Facts, KnownClasses};
 use std::alloc::{AllocError, Global};
 
@@ -21,7 +21,7 @@ const FREE: &str = "\n\n\n\n\n\n2";
 pub struct Known {
     pub columns: Vec<Columns>,
     pub free: Vec<Columns>,
-    pub roots: Vec<usize>,
+    pub roots: Vec<ClassId>,
     pub facts: Vec<Facts>,
 }
 
@@ -60,7 +60,7 @@ fn facts(alloc: Global) -> Result<Vec<Facts>, AllocError> {
     Ok(facts)
 }
 
-fn roots(alloc: Global) -> Result<Vec<usize>, AllocError> {
+fn roots(alloc: Global) -> Result<Vec<ClassId>, AllocError> {
     let mut roots = Vec::new(alloc);
     for root in [0, 1, 2, 3, 3, 5, 6] {
         roots.push(root)?;

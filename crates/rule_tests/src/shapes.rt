@@ -21,7 +21,7 @@ fn push_conjuncts(
 
 fn push_columns(reported: &mut String, columns: &Columns) -> Result<(), AllocError> {
     for column in columns.as_slice() {
-        push_number(reported, " ", *column)?;
+        push_number(reported, " ", *column as usize)?;
     }
     Ok(())
 }
@@ -48,7 +48,7 @@ fn push_input(alloc: Global, reported: &mut String, shape: &Shape) -> Result<(),
 #[cycle(shapes)]
 pub fn push_shape(alloc: Global, reported: &mut String, shape: &Shape) -> Result<(), AllocError> {
     match shape {
-        Shape::Class(class) => push_number(reported, "", *class),
+        Shape::Class(class) => push_number(reported, "", *class as usize),
         Shape::Select(c, x) => {
             push_named(alloc, reported, "select", c)?;
             push_input(alloc, reported, x.get())

@@ -1,16 +1,16 @@
 //! Lines read from words: `CLASS get INSTANCE`, `CLASS select INPUT CONDITIONS`, `join`, `semi` and `anti` of two inputs, `keep INPUT COLUMNS`,
 //! `distinct INPUT`, `group INPUT COLUMNS`, and `count INPUT COLUMNS` with a count of the rows. Conditions are named by letters.
 
-use algebra::{Aggregation, Aggregations, Columns, Condition, Conjuncts, Expr, Term};
-use query::Aggregate;
+use algebra::{Aggregation, Aggregations, ClassId, Columns, Condition, Conjuncts, Expr, Term};
+use query::{Aggregate, ColumnId};
 use std::alloc::{AllocError, Global};
 use values::{Comparison, Literal};
 
 /// The number of a word; the greatest if it is none.
-pub fn number(word: &str) -> usize {
+pub fn number(word: &str) -> u32 {
     match word.parse() {
         Ok(number) => number,
-        Err(_) => usize::MAX,
+        Err(_) => u32::MAX,
     }
 }
 
@@ -31,11 +31,11 @@ pub fn columns_of(alloc: Global, text: &str) -> Result<Columns, AllocError> {
     Ok(Columns::from_vec(columns))
 }
 
-fn equal(first: usize, second: usize) -> Condition {
+fn equal(first: ColumnId, second: ColumnId) -> Condition {
     Condition::Compare(Comparison::Equal, Term::Column(first), Term::Column(second))
 }
 
-fn is_seven(column: usize) -> Condition {
+fn is_seven(column: ColumnId) -> Condition {
     Condition::Compare(
         Comparison::Equal,
         Term::Column(column),
@@ -108,7 +108,7 @@ fn over_one(alloc: Global, name: &str, words: &str) -> Result<Expr, AllocError> 
 }
 
 /// The class and the expression of a line.
-pub fn line_of(alloc: Global, text: &str) -> Result<(usize, Expr), AllocError> {
+pub fn line_of(alloc: Global, text: &str) -> Result<(ClassId, Expr), AllocError> {
     let (class, words) = cut(text);
     let (name, words) = cut(words);
     let expr = match name {
