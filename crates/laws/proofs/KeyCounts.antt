@@ -235,6 +235,6 @@ pub single_from : (K : List ℕ) (p : Test) (B : ColumnSet) (b : Bag) → IsWeak
 single_from K p B b weak agree full e r = elim (cases_Bool (count (λ s. p (lay B s r)) (b e) == 0)) [
   | inl none ↦ let zero : count (λ s. p (lay B s r)) (b e) ≡ 0 = eqb-true _ _ none in omega (arith, zero)
   | inr some ↦
-    let one = found (λ s. p (lay B s r)) (b e) (λ none. absurd (cc (sym some ∙ eq-eqb _ 0 none))) in
-    le_trans (count_fewer (λ s. p (lay B s r)) (same_on K one.0) (λ s passes. agree r one.0 s one.1 passes) (b e)) (weak e one.0 (full r one.0 one.1))
+      let one = found (λ s. p (lay B s r)) (b e) (λ none. absurd (cc (sym some ∙ eq-eqb _ 0 none))) in
+      le_trans (count_fewer (λ s. p (lay B s r)) (same_on K one.0) (λ s passes. agree r one.0 s one.1 passes) (b e)) (weak e one.0 (full r one.0 one.1))
 ]
