@@ -3,7 +3,8 @@
 
 Each time is processor time (user and system) of the whole process, the least of RUNS; sqlite3 imports the same rows into memory, with
 the same unique columns, and answers the same query. The C program reads the same file, keeps its numbers in columns, and writes the
-rows of the first query; it checks nothing. Wants sqlite3, gcc and valgrind (Debian: sqlite3, gcc, valgrind) and the program built.
+rows of the first query; it checks nothing. Wants sqlite3, gcc, GNU time and valgrind (Debian: sqlite3, gcc, time,
+valgrind) and the program built.
 
 usage: speed.py [--rows N] [--runs N] [NAME..]    names of the table's first column; without any, all
 """
@@ -93,17 +94,19 @@ def write_texts(folder, rows):
 
 
 def once(words, job=None):
-    """Processor seconds, peak memory in bytes and standard output of a process."""
-    with tempfile.TemporaryFile() as given, tempfile.TemporaryFile() as taken:
+    """Processor seconds, peak memory in bytes and standard output of a process. GNU time stands between: what a process has before its
+    program is loaded would count as its memory too, and Python has much."""
+    with tempfile.TemporaryFile() as given, tempfile.TemporaryFile() as taken, tempfile.NamedTemporaryFile() as told:
         given.write((job or "").encode())
         given.seek(0)
-        process = subprocess.Popen([str(word) for word in words], stdin=given, stdout=taken)
+        timed = ["/usr/bin/time", "-f", "%M", "-o", told.name, *map(str, words)]
+        process = subprocess.Popen(timed, stdin=given, stdout=taken)
         _, status, usage = os.wait4(process.pid, 0)
         process.returncode = os.waitstatus_to_exitcode(status)
         if process.returncode != 0:
             raise SystemExit(f"{words} ended with {process.returncode}")
         taken.seek(0)
-        return usage.ru_utime + usage.ru_stime, usage.ru_maxrss * 1024, taken.read().decode()
+        return usage.ru_utime + usage.ru_stime, int(told.read().split()[-1]) * 1024, taken.read().decode()
 
 
 def least(runs, words, job=None):
@@ -161,7 +164,7 @@ def conjuncts(bench):
     tests = [f"pay <> {number * 7919 % 1024}" for number in range(1024)]
     many = instructions(bench.ours(NUMBERS, (), "SELECT id FROM emp WHERE " + " AND ".join(tests)), bench.folder)
     one = instructions(bench.ours(NUMBERS, (), "SELECT id FROM emp WHERE pay <> 0"), bench.folder)
-    bench.line("1,024 conjuncts, million instructions in all", "", "", (many - one) / 1e6, 10)
+    bench.line("1,024 conjuncts, million instructions, text to rows", "", "", (many - one) / 1e6, 10)
 
 
 def main():

@@ -1,5 +1,5 @@
 -- What folds over conditions give at lists of conditions.
-use Rattle.std.proofs.Common.{◌≡◌, refl, ap, sym, ◌∙◌, ℕ, Bool, true, not, ◌&&◌, ◌||◌, ◌==◌, ◌<◌, ◌+◌, ◌-◌, length, take, drop, get_or, add-one, nat_lt, arith, List, [], ◌∷◌}
+use Rattle.std.proofs.Common.{◌≡◌, refl, ap, sym, ◌∙◌, ℕ, Bool, true, false, not, ◌&&◌, ◌||◌, ◌==◌, ◌<◌, ◌+◌, ◌-◌, length, take, drop, get_or, add-one, nat_lt, arith, List, [], ◌∷◌}
 use Rattle.std.specs.List.{list_all, list_any}
 use Rattle.std.proofs.lemmas.Bool.{le-ltb}
 use Rattle.std.proofs.lemmas.List.{take_all, length-drop}
@@ -36,6 +36,10 @@ and_more d a b cs p is first second = sym (ap (λ d. all_classes d p) is ∙ all
 
 pub or_more : (d a b : Condition) (cs : List Condition) (p : ℕ → Bool) → d ≡ Or a b cs → all_classes a p ≡ true → all_classes b p ≡ true → subqueries_pass p cs ≡ all_classes d p
 or_more d a b cs p is first second = sym (ap (λ d. all_classes d p) is ∙ all_classes_or a b cs p ∙ rw (first, second) refl)
+
+-- a condition that names no class below 0 names none
+pub plain_condition : (c : Condition) → all_classes c (λ g. nat_lt g 0) ≡ all_classes c (λ g. false)
+plain_condition c = λ i. all_classes c (λ g. le-ltb g 0 (omega arith) i)
 
 -- what names no class below 0 names none
 pub plain_below : (C : List Condition) → subqueries_pass (λ g. nat_lt g 0) C ≡ is_plain C

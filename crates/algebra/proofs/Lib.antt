@@ -2,9 +2,11 @@ pub mod AggregateLists
 pub mod BagSums
 pub mod ConditionNames
 pub mod ConjunctLists
+pub mod ConjunctSplits
 pub mod ConnectiveParts
 pub mod Equations
 pub mod Lists
+pub mod MentionedColumns
 pub mod NamedClasses
 pub mod Ordered
 pub mod Places

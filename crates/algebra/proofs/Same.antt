@@ -95,3 +95,7 @@ equal_aggregation = same_by-equal aggregation.the_row.coded
 pub same_aggregation-refl : (x : Aggregation) → same_aggregation x x ≡ true
 unfolding same_aggregation
 same_aggregation-refl x = same_by-refl aggregation.the_row.coded x x refl
+
+pub same_columns-refl : (x : List ℕ) → same_columns x x ≡ true
+unfolding same_columns
+same_columns-refl x = same_by-refl (coded_list coded_ℕ) x x refl

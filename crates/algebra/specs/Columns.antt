@@ -1,5 +1,5 @@
 -- Sets of columns.
-use Rattle.std.specs.Prelude.{ℕ, Bool, not, ◌==◌, nat_lt, if◌then◌else◌, List, [], ◌∷◌, slice_index_or}
+use Rattle.std.specs.Prelude.{ℕ, Bool, not, ◌&&◌, ◌==◌, nat_lt, if◌then◌else◌, List, [], ◌∷◌, slice_index_or}
 use Rattle.std.specs.List.{list_any, list_all}
 
 -- a set of columns, as a test
@@ -13,6 +13,10 @@ has columns c = list_any (λ k. k == c) columns
 -- each column of the first list is in the second
 abbrev pub is_subset : List ℕ → List ℕ → Bool
 is_subset columns others = list_all (λ k. has others k) columns
+
+-- both lists have the same columns
+abbrev pub is_same_set : List ℕ → List ℕ → Bool
+is_same_set columns others = is_subset columns others && is_subset others columns
 
 -- no column of the first list is in the second
 abbrev pub are_disjoint : List ℕ → List ℕ → Bool

@@ -5,7 +5,9 @@ pub mod Columns
 pub mod ConditionEquality
 pub mod Conditions
 pub mod ConjunctOrder
+pub mod ConjunctParts
 pub mod Connectives
 pub mod Equality
 pub mod Equated
 pub mod Expressions
+pub mod GivenColumns

@@ -5,6 +5,7 @@ ghost use Rattle.std.specs.List.{list_all, list_any};
 ghost use Rattle.algebra.specs.Conditions as reads;
 ghost use Rattle.algebra.specs.Columns.{has, is_subset, columns_at};
 ghost use Rattle.algebra.specs.Equality.{same_aggregation};
+ghost use Rattle.algebra.specs.ConjunctParts.{has_no_class};
 ghost use Rattle.algebra.specs.Expressions as spec;
 
 use crate::columns::{Columns, are_disjoint_from, is_subset_of};
@@ -222,6 +223,16 @@ impl Expr {
             Expr::Keep(k, _) => k.copy(alloc),
             Expr::Group(k, added, _) => Columns::of_groups(alloc, k, added.as_slice()),
         }
+    }
+}
+
+impl Condition {
+    /// Whether the condition has no subquery.
+    #[tactic(auto, using(crate::proofs::Equations::plain_condition))]
+    pub fn has_no_class(&self) -> bool
+        ensures { result ≡ has_no_class self.now }
+    {
+        names_below(self, 0)
     }
 }
 

@@ -10,10 +10,12 @@ pub mod columns;
 pub mod condition;
 pub mod condition_text;
 mod conjunct_order;
+mod conjunct_parts;
 mod connectives;
 pub mod equated;
 pub mod expr;
 pub mod formed;
+mod mentions;
 mod named_classes;
 mod operator_columns;
 
@@ -21,3 +23,4 @@ pub use aggregations::Aggregations;
 pub use columns::Columns;
 pub use condition::{ClassId, Condition, Conjuncts, LineId, Term};
 pub use expr::{Aggregation, Expr};
+pub use mentions::ClassColumns;

@@ -11,7 +11,7 @@ use itoa::Buffer;
 use operators::FoundRows;
 use std::alloc::{AllocError, Global};
 use store::RowSource;
-use values::Cell;
+use values::{Cell, Text, Value};
 
 /// Whether a byte of a field calls for quotes.
 fn calls_for_quotes(byte: u8) -> bool
@@ -117,7 +117,7 @@ fn push_end(text: &mut Vec<u8>, start: usize, width: usize) -> Result<(), AllocE
     Ok(())
 }
 
-/// Adds the record of a row.
+/// Adds the record of a row that was found.
 pub fn push_row(
     alloc: Global,
     text: &mut Vec<u8>,
@@ -134,4 +134,28 @@ pub fn push_row(
         push_value(alloc, text, found.cell(row, item))?;
     }
     push_end(text, start, width)
+}
+
+/// Adds the record of names.
+pub fn push_names(text: &mut Vec<u8>, names: &[Text]) -> Result<(), AllocError>
+    ensures { OnOk result (text.new.items ≡ text.old.items ++ spec.row_text default_writer names.now) }
+{
+    let start = text.len();
+    for item in 0..names.len() {
+        push_separator(text, item)?;
+        push_field(text, names[item].as_str().as_bytes())?;
+    }
+    push_end(text, start, names.len())
+}
+
+/// Adds the record of a row of values.
+pub fn push_record(alloc: Global, text: &mut Vec<u8>, values: &[Value]) -> Result<(), AllocError>
+    ensures { OnOk result (text.new.items ≡ text.old.items ++ spec.row_text default_writer (map store_fields.field_of values.now)) }
+{
+    let start = text.len();
+    for item in 0..values.len() {
+        push_separator(text, item)?;
+        push_value(alloc, text, values[item].as_cell())?;
+    }
+    push_end(text, start, values.len())
 }

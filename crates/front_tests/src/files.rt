@@ -32,7 +32,10 @@ fn push_refusal(reported: &mut String, refusal: TableRefusal) -> Result<(), Allo
 }
 
 /// How a load went.
-pub fn push_outcome(reported: &mut String, outcome: Result<(), TableFault>) -> Result<(), AllocError> {
+pub fn push_outcome(
+    reported: &mut String,
+    outcome: Result<(), TableFault>,
+) -> Result<(), AllocError> {
     match outcome {
         Ok(()) => reported.push_str("loaded"),
         Err(TableFault::Memory) => reported.push_str("memory"),

@@ -5,7 +5,8 @@ use fixtures::{Reporting, StepReporting, differences, push_number, report_steps,
 use std::alloc::{AllocError, Global};
 use store::Database;
 
-const SCHEMA: &str = r#"{"tables":[{"name":"t","columns":[{"name":"a","kind":"INT","not_null":false},{"name":"b","kind":"TEXT","not_null":false}],"unique":[],"indexes":[["a"],["b","a"]]}]}"#;
+const SCHEMA: &str =
+    r#"{"tables":[{"name":"t","columns":[{"name":"a","kind":"INT","not_null":false},{"name":"b","kind":"TEXT","not_null":false}],"unique":[],"indexes":[["a"],["b","a"]]}]}"#;
 
 /// Behind each ` /` the first table's rows by one of its indexes, as their numbers.
 fn push_indexes(reported: &mut String, database: &Database<'_>) -> Result<(), AllocError> {
@@ -56,5 +57,8 @@ a,b~1,a~1,b~2,b~ => loaded / 0 1 2 / 0 1 2
 a,b~2,x~\\N,y~1,x~2,w~ => loaded / 1 2 0 3 / 3 2 0 1
 a,b~1,x~0,\\N~1,x~0,\\N~1,x~ => loaded / 1 3 0 2 4 / 1 3 0 2 4
 a,b~2,x~1,x~ ; a,b~0,x~x,x~ ; a,b~3,x~ => loaded / 1 0 / 1 0 ; T03 2 in 0 / 1 0 / 1 0 ; loaded / 0 / 0";
-    assert_eq!(rt; differences(rt.alloc(), &[CASES], &Indexes).as_deref(), Ok(""));
+    assert_eq!(rt;
+        differences(rt.alloc(), &[CASES], &Indexes).as_deref(),
+        Ok("")
+    );
 }

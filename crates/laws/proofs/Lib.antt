@@ -1,5 +1,9 @@
+pub mod DistinctRows
 pub mod Expressions
 pub mod Groups
+pub mod JoinSums
+pub mod KeyCounts
 pub mod Mentions
 pub mod Operators
 pub mod Overlays
+pub mod Rewrites

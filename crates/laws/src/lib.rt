@@ -2,5 +2,6 @@
 #![tactic(auto)]
 
 pub mod fitting;
+pub mod rewriting;
 
 pub use fitting::{classes_fit, conditions_read_mentions};

@@ -3,9 +3,9 @@ use Rattle.std.specs.Io.KnownBytes.{Appends}
 use Rattle.executor.specs.AnswerText.{rows_text}
 use Rattle.executor.proofs.text.send_rows.Given as goal
 
--- the text of the rows so far was taken
+-- what was taken, what is gathered and the text of the rows to come are the whole
 abbrev pub invariant-loop-row : goal.invariant-loop-row
 invariant-loop-row g l = record {
   quiet : g.W.AnswerOutput.failures l.out ≡ g.W.AnswerOutput.failures l.fn.out;
-  written : (done : List ℕ) × (done ++ rows_text (drop l.row-index l.rows) ≡ rows_text l.rows) × Appends (g.W.AnswerOutput.contents l.fn.out) (g.W.AnswerOutput.contents l.out) done;
+  written : (done : List ℕ) × (done ++ (l.gathered.items ++ rows_text (drop l.row-index l.rows)) ≡ l.fn.text.items ++ rows_text l.rows) × Appends (g.W.AnswerOutput.contents l.fn.out) (g.W.AnswerOutput.contents l.out) done;
 }

@@ -1,0 +1,6 @@
+use Rattle.std.proofs.Common.{}
+use Rattle.laws.proofs.Rewrites.{selects_go_below_semi}
+use Rattle.laws.proofs.rewriting.selects_go_below_semi.Goals as goal
+
+pub returns : goal.returns
+returns c = selects_go_below_semi

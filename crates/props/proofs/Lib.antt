@@ -1,0 +1,11 @@
+pub mod GivenFacts
+pub mod GroupFacts
+pub mod LearntFacts
+pub mod OutcomeForms
+pub mod Places
+pub mod SingleMatches
+pub mod SoundFacts
+pub mod SoundOutcomes
+pub mod Steps
+pub mod TableFacts
+pub mod Unions

@@ -1,0 +1,47 @@
+-- Facts of the rows of a class, and sets of them.
+use Rattle.std.specs.Prelude.{◌≡◌, ℕ, true, Bool, not, ◌==◌, List, [], ◌∷◌, ◌++◌, length}
+use Rattle.std.specs.List.{list_any}
+use Rattle.algebra.specs.Columns.{has, is_subset, rising}
+use Rattle.algebra.specs.Bags.{Bag}
+use Rattle.algebra.specs.Equality.{same_columns}
+use Rattle.laws.specs.Keys.{HasNoNull, IsWeakKey, IsStrongKey}
+use Rattle.props.specs.declared.fact.Fact.{Fact}
+use Rattle.props.specs.declared.fact.Fact.TheVariants.{NotNull, WeakKey, StrongKey}
+use Rattle.props.specs.declared.fact.Facts.{Facts}
+
+-- what a fact says of rows
+abbrev pub FactHolds : Bag → Fact → Type 0
+FactHolds x (NotNull c) = HasNoNull c x
+FactHolds x (WeakKey K) = IsWeakKey K x
+FactHolds x (StrongKey K) = IsStrongKey K x
+
+-- the columns of which it speaks
+abbrev pub fact_columns : Fact → List ℕ
+fact_columns (NotNull c) = c ∷ []
+fact_columns (WeakKey K) = K
+fact_columns (StrongKey K) = K
+
+-- whether a fact is among those that are known
+abbrev pub knows : Facts → Fact → Bool
+knows F (NotNull c) = has F.not_null c
+knows F (WeakKey K) = list_any (λ L. same_columns L K) F.weak_keys
+knows F (StrongKey K) = list_any (λ L. same_columns L K) F.strong_keys
+
+abbrev pub no_facts : Facts
+no_facts = record { not_null = []; weak_keys = []; strong_keys = [] }
+
+-- the facts with one more
+abbrev pub with_fact : Facts → Fact → Facts
+with_fact F (NotNull c) = record { not_null = rising (F.not_null ++ c ∷ []); weak_keys = F.weak_keys; strong_keys = F.strong_keys }
+with_fact F (WeakKey L) = record { not_null = F.not_null; weak_keys = F.weak_keys ++ L ∷ []; strong_keys = F.strong_keys }
+with_fact F (StrongKey L) = record { not_null = F.not_null; weak_keys = F.weak_keys; strong_keys = F.strong_keys ++ L ∷ [] }
+
+abbrev pub any_key : List (List ℕ) → Bool
+any_key keys = not (length keys == 0)
+
+abbrev pub has_strong_key : Facts → Bool
+has_strong_key F = any_key F.strong_keys
+
+-- each fact that is known holds of the rows, and speaks of their columns
+abbrev pub FactsHold : List ℕ → Bag → Facts → Type 0
+FactsHold columns x F = (f : Fact) → knows F f ≡ true → (is_subset (fact_columns f) columns ≡ true) × FactHolds x f

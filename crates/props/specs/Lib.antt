@@ -1,0 +1,4 @@
+pub mod Facts
+pub mod Given
+pub mod Knowledge
+pub mod Outcomes

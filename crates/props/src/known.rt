@@ -1,0 +1,97 @@
+//! What is known of classes.
+
+ghost use Rattle.std.specs.Prelude.{◌≡◌, ◌==◌, slice_get, option_map};
+ghost use Rattle.algebra.specs.Columns.{has};
+ghost use Rattle.props.specs.Facts as facts;
+ghost use Rattle.props.specs.Knowledge as spec;
+
+use crate::fact::{Fact, Facts};
+use algebra::{ClassColumns, ClassId, Columns};
+use query::ColumnId;
+
+/// What is known of classes, in lists by their numbers.
+#[derive(Clone, Copy)]
+pub struct KnownClasses<'a> {
+    /// Their columns and their free columns.
+    pub columns: ClassColumns<'a>,
+    /// For each class one that is the same, which is one for all of these.
+    pub roots: &'a [ClassId],
+    /// The facts of each class that is its own root, and of those that are the same.
+    pub facts: &'a [Facts],
+}
+
+impl<'a> KnownClasses<'a> {
+    /// The class that stands for all that are the same; the class itself where the list has none of its number.
+    pub fn root(self, class: ClassId) -> ClassId
+        ensures { result ≡ spec.root_in self.entry.roots.now class }
+    {
+        match self.roots.get(class as usize) {
+            Some(root) => *root,
+            None => class,
+        }
+    }
+
+    /// Whether two classes are known to be the same.
+    pub fn are_same(self, class: ClassId, other: ClassId) -> bool
+        ensures { result ≡ (spec.root_in self.entry.roots.now class == spec.root_in self.entry.roots.now other) }
+    {
+        self.root(class) == self.root(other)
+    }
+
+    /// The facts of a class and of those that are the same; none where the list has none of its number.
+    pub fn facts(self, class: ClassId) -> Option<&'a Facts>
+        ensures { option_map (λ f. f.now) result ≡ slice_get self.entry.facts.now (spec.root_in self.entry.roots.now class) }
+    {
+        self.facts.get(self.root(class) as usize)
+    }
+
+    /// Whether a class has a strong key.
+    pub fn has_strong_key(self, class: ClassId) -> bool
+        ensures { result ≡ spec.has_strong_key (spec.known self.entry) class }
+    {
+        match self.facts(class) {
+            Some(facts) => facts.has_strong_key(),
+            None => false,
+        }
+    }
+
+    /// Whether a fact is known of a class.
+    pub fn knows(self, class: ClassId, fact: &Fact) -> bool
+        ensures { result ≡ facts.knows ((spec.known self.entry).facts class) fact.now }
+    {
+        match self.facts(class) {
+            Some(facts) => facts.knows(fact),
+            None => false,
+        }
+    }
+
+    /// The weak keys that are known of a class.
+    pub fn weak_keys(self, class: ClassId) -> &'a [Columns]
+        ensures { result.now ≡ ((spec.known self.entry).facts class).weak_keys }
+    {
+        match self.facts(class) {
+            Some(facts) => facts.weak_keys.as_slice(),
+            None => &[],
+        }
+    }
+
+    /// The strong keys that are known of a class.
+    pub fn strong_keys(self, class: ClassId) -> &'a [Columns]
+        ensures { result.now ≡ ((spec.known self.entry).facts class).strong_keys }
+    {
+        match self.facts(class) {
+            Some(facts) => facts.strong_keys.as_slice(),
+            None => &[],
+        }
+    }
+
+    /// Whether it is known that a column of a class is nowhere Null.
+    pub fn is_not_null(self, class: ClassId, column: ColumnId) -> bool
+        ensures { result ≡ has ((spec.known self.entry).facts class).not_null column }
+    {
+        match self.facts(class) {
+            Some(facts) => facts.not_null.contains(column),
+            None => false,
+        }
+    }
+}

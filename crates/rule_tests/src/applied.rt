@@ -1,0 +1,175 @@
+//! Each rule, applied, refused for its form, and refused for its condition.
+
+use crate::classes::{Known, known_classes};
+use crate::shapes::push_shape;
+use crate::words::{line_of, number};
+use algebra::{ClassId, Expr};
+use fixtures::{Reporting, differences};
+use rules::condition_below_join::ConditionBelowJoin;
+use rules::distinct_of_keyed::DistinctOfKeyed;
+use rules::group_is_distinct::GroupIsDistinct;
+use rules::join_associates::JoinAssociates;
+use rules::join_commutes::JoinCommutes;
+use rules::keep_below_join::KeepBelowJoin;
+use rules::keep_of_all::KeepOfAll;
+use rules::keeps_merge::KeepsMerge;
+use rules::select_below_join::SelectBelowJoin;
+use rules::select_below_semi::SelectBelowSemi;
+use rules::select_into_join::SelectIntoJoin;
+use rules::selects_merge::SelectsMerge;
+use rules::{Match, MatchedLine, Rule, RuleFault, Shape, Unfit};
+use std::alloc::{AllocError, Global};
+use values::Fault;
+
+/// Applies the rule of a code.
+fn apply(alloc: Global, code: &str, at: Match<'_>) -> Result<Shape, RuleFault> {
+    match code {
+        "J1" => JoinCommutes::apply(alloc, at),
+        "J2" => JoinAssociates::apply(alloc, at),
+        "S1" => SelectsMerge::apply(alloc, at),
+        "S2" => SelectBelowJoin::apply(alloc, at),
+        "S3" => SelectIntoJoin::apply(alloc, at),
+        "S4" => ConditionBelowJoin::apply(alloc, at),
+        "S5" => SelectBelowSemi::apply(alloc, at),
+        "K1" => KeepsMerge::apply(alloc, at),
+        "K2" => KeepOfAll::apply(alloc, at),
+        "K3" => KeepBelowJoin::apply(alloc, at),
+        "D1" => DistinctOfKeyed::apply(alloc, at),
+        _ => GroupIsDistinct::apply(alloc, at),
+    }
+}
+
+fn push_applied(
+    alloc: Global,
+    reported: &mut String,
+    applied: &Result<Shape, RuleFault>,
+) -> Result<(), AllocError> {
+    match applied {
+        Ok(shape) => push_shape(alloc, reported, shape),
+        Err(Fault::Refused(Unfit::Pattern)) => reported.push_str("another form"),
+        Err(Fault::Refused(Unfit::Condition)) => reported.push_str("the condition fails"),
+        Err(Fault::Memory) => Err(AllocError),
+    }
+}
+
+/// The lines of a text, with `,` between them.
+fn lines_of(alloc: Global, text: &str) -> Result<Vec<(ClassId, Expr)>, AllocError> {
+    let mut lines = Vec::new(alloc);
+    for words in text.split(", ") {
+        lines.push(line_of(alloc, words)?)?;
+    }
+    Ok(lines)
+}
+
+fn report_applied(
+    alloc: Global,
+    code: &str,
+    pick: u32,
+    lines: &[(ClassId, Expr)],
+    known: &Known,
+    reported: &mut String,
+) -> Result<(), AllocError> {
+    let mut matched = Vec::new(alloc);
+    for line in lines {
+        matched.push(MatchedLine {
+            class: line.0,
+            expr: &line.1,
+        })?;
+    }
+    let at = Match {
+        lines: matched.as_slice(),
+        pick,
+        classes: known.lent(),
+    };
+    push_applied(alloc, reported, &apply(alloc, code, at))
+}
+
+/// Reports what the rule of a code gives at lines.
+struct Applied;
+
+impl Reporting for Applied {
+    fn report(&self, alloc: Global, text: &str, reported: &mut String) -> Result<(), AllocError> {
+        let (code, lines) = text.split_once(": ").unwrap_or((text, ""));
+        let (code, pick) = code.split_once(" pick ").unwrap_or((code, "0"));
+        let lines = lines_of(alloc, lines)?;
+        report_applied(
+            alloc,
+            code,
+            number(pick),
+            lines.as_slice(),
+            &known_classes(alloc)?,
+            reported,
+        )
+    }
+}
+
+/// The letters of conditions are those of src/words.rt, the classes those of src/classes.rt.
+#[test]
+fn rules_apply(rt: HostRuntime) {
+    const JOINS: &str = "J1: 3 join 0 1 m => join [=(c0,c2)] (1) (0)
+J1: 3 left 0 1 m => another form
+J1 pick 1: 3 join 0 1 m => another form
+J1: 3 join 0 1 m, 3 join 0 1 m => another form
+J2: 7 join 3 2 u, 3 join 0 1 m => join [=(c0,c2)] (0) (join [=(c2,c4)] (1) (2))
+J2: 7 join 3 2 t, 4 join 0 1  => join [=(c0,c4)] (0) (join [] (1) (2))
+J2: 7 join 3 2 u, 3 join 0 1 t => the condition fails
+J2: 7 join 3 2 u, 5 join 1 2 u => another form
+J2: 7 join 3 2 u, 3 left 0 1 m => another form";
+    const SELECTS: &str =
+        "S1: 7 select 3 lr, 4 select 3 rm => select [=(c0,c2);=(c0,i7);=(c2,i7)] (3)
+S1: 7 select 3 l, 0 select 3 r => another form
+S2: 7 select 3 lrm, 3 join 0 1  => select [=(c0,c2);=(c2,i7)] (join [] (select [=(c0,i7)] (0)) (1))
+S2: 7 select 3 l, 3 join 0 1 m => join [=(c0,c2)] (select [=(c0,i7)] (0)) (1)
+S2: 7 select 3 rx, 3 join 0 1 m => another form
+S3: 7 select 3 lx, 3 join 0 1 m => select [exists(6)] (join [=(c0,c2);=(c0,i7)] (0) (1))
+S3: 7 select 3 x, 3 join 0 1 m => another form
+S4: 3 join 0 1 lm => join [=(c0,c2)] (select [=(c0,i7)] (0)) (1)
+S4: 3 join 0 1 rm => another form
+S5: 7 select 0 l, 0 semi 0 1 m => semi [=(c0,c2)] (select [=(c0,i7)] (0)) (1)
+S5: 7 select 0 lx, 0 anti 0 1 m => anti [=(c0,c2)] (select [=(c0,i7);exists(6)] (0)) (1)
+S5: 7 select 3 l, 3 join 0 1 m => another form";
+    const KEEPS: &str = "K1: 7 keep 3 0, 4 keep 3 0 2 => keep 0 (3)
+K1: 7 keep 3 0, 3 select 3 l => another form
+K2: 7 keep 1 2 3 => 1
+K2: 7 keep 1 2 => the condition fails
+K2: 7 distinct 1 => another form
+K3: 7 keep 3 3, 3 join 0 1 m => keep 3 (join [=(c0,c2)] (keep 0 (0)) (1))
+K3: 7 keep 3 3, 3 join 0 1  => keep 3 (join [] (keep (0)) (1))
+K3: 7 keep 3 1 3, 3 join 0 1 m => the condition fails
+K3: 7 keep 3 1 3, 3 semi 0 1 m => another form
+D1: 7 distinct 0 => 0
+D1: 7 distinct 1 => the condition fails
+D1: 7 keep 0 0 1 => another form
+G1: 7 group 3 0 2 => distinct (keep 0 2 (3))
+G1: 7 group 3 => the condition fails
+G1: 7 count 3 0 => another form";
+    assert_eq!(rt;
+        differences(rt.alloc(), &[JOINS, SELECTS, KEEPS], &Applied).as_deref(),
+        Ok("")
+    );
+}
+
+/// Codes are those of the cases.
+#[test]
+fn codes_are_told_apart(rt: HostRuntime) {
+    let codes = [
+        JoinCommutes::CODE,
+        JoinAssociates::CODE,
+        SelectsMerge::CODE,
+        SelectBelowJoin::CODE,
+        SelectIntoJoin::CODE,
+        ConditionBelowJoin::CODE,
+        SelectBelowSemi::CODE,
+        KeepsMerge::CODE,
+        KeepOfAll::CODE,
+        KeepBelowJoin::CODE,
+        DistinctOfKeyed::CODE,
+        GroupIsDistinct::CODE,
+    ];
+    let wanted = [
+        "J1", "J2", "S1", "S2", "S3", "S4", "S5", "K1", "K2", "K3", "D1", "G1",
+    ];
+    for place in 0..12 {
+        assert_eq!(rt; codes[place], wanted[place]);
+    }
+}

@@ -1,0 +1,119 @@
+//! Lines read from words: `CLASS get INSTANCE`, `CLASS select INPUT CONDITIONS`, `join`, `semi` and `anti` of two inputs, `keep INPUT COLUMNS`,
+//! `distinct INPUT`, `group INPUT COLUMNS`, and `count INPUT COLUMNS` with a count of the rows. Conditions are named by letters.
+
+use algebra::{Aggregation, Aggregations, ClassId, Columns, Condition, Conjuncts, Expr, Term};
+use query::{Aggregate, ColumnId};
+use std::alloc::{AllocError, Global};
+use values::{Comparison, Literal};
+
+/// The number of a word; the greatest if it is none.
+pub fn number(word: &str) -> u32 {
+    match word.parse() {
+        Ok(number) => number,
+        Err(_) => u32::MAX,
+    }
+}
+
+/// What stands before a text's first space, and after it.
+fn cut(text: &str) -> (&str, &str) {
+    match text.split_once(" ") {
+        Some(parts) => parts,
+        None => (text, ""),
+    }
+}
+
+/// The set of the numbers of a text.
+pub fn columns_of(alloc: Global, text: &str) -> Result<Columns, AllocError> {
+    let mut columns = Vec::new(alloc);
+    for word in text.split_whitespace() {
+        columns.push(number(word))?;
+    }
+    Ok(Columns::from_vec(columns))
+}
+
+fn equal(first: ColumnId, second: ColumnId) -> Condition {
+    Condition::Compare(Comparison::Equal, Term::Column(first), Term::Column(second))
+}
+
+fn is_seven(column: ColumnId) -> Condition {
+    Condition::Compare(
+        Comparison::Equal,
+        Term::Column(column),
+        Term::Literal(Literal::number(7)),
+    )
+}
+
+/// The condition of a letter: `l` and `r` read a column of the class 0 and of the class 1, `m` one of each, `t` and `u` one of the
+/// class 0 and of the class 1 and one of the class 2; `x` is EXISTS of the class 6, which has the free column 2.
+fn condition_of(letter: char) -> Condition {
+    match letter {
+        'l' => is_seven(0),
+        'r' => is_seven(2),
+        'm' => equal(0, 2),
+        't' => equal(0, 4),
+        'u' => equal(2, 4),
+        _ => Condition::Exists(6),
+    }
+}
+
+fn conjuncts_of(alloc: Global, letters: &str) -> Result<Conjuncts, AllocError> {
+    let mut conditions = Vec::new(alloc);
+    for letter in letters.chars() {
+        conditions.push(condition_of(letter))?;
+    }
+    Conjuncts::of(alloc, conditions.as_slice())
+}
+
+/// The aggregates of a group with a count of the rows.
+fn count(alloc: Global) -> Result<Aggregations, AllocError> {
+    Aggregations::of(
+        alloc,
+        &[Aggregation {
+            column: 9,
+            aggregate: Aggregate::CountRows,
+        }],
+    )
+}
+
+/// An expression over two classes.
+fn joined(alloc: Global, name: &str, words: &str) -> Result<Expr, AllocError> {
+    let (left, words) = cut(words);
+    let (right, letters) = cut(words);
+    let conjuncts = conjuncts_of(alloc, letters)?;
+    let (left, right) = (number(left), number(right));
+    Ok(match name {
+        "join" => Expr::Join(conjuncts, left, right),
+        "left" => Expr::LeftJoin(conjuncts, left, right),
+        "semi" => Expr::Semi(conjuncts, left, right),
+        _ => Expr::Anti(conjuncts, Conjuncts::none(alloc), left, right),
+    })
+}
+
+/// An expression over one class.
+fn over_one(alloc: Global, name: &str, words: &str) -> Result<Expr, AllocError> {
+    let (input, more) = cut(words);
+    let input = number(input);
+    Ok(match name {
+        "get" => Expr::Get(input),
+        "select" => Expr::Select(conjuncts_of(alloc, more)?, input),
+        "keep" => Expr::Keep(columns_of(alloc, more)?, input),
+        "group" => Expr::Group(
+            columns_of(alloc, more)?,
+            Aggregations::of(alloc, &[])?,
+            input,
+        ),
+        "count" => Expr::Group(columns_of(alloc, more)?, count(alloc)?, input),
+        _ => Expr::Distinct(input),
+    })
+}
+
+/// The class and the expression of a line.
+pub fn line_of(alloc: Global, text: &str) -> Result<(ClassId, Expr), AllocError> {
+    let (class, words) = cut(text);
+    let (name, words) = cut(words);
+    let expr = match name {
+        "join" | "left" | "semi" | "anti" => joined(alloc, name, words)?,
+        _ => over_one(alloc, name, words)?,
+    };
+    Ok((number(class), expr))
+}

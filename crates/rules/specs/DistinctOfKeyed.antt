@@ -1,0 +1,18 @@
+-- Redundant DISTINCT: rows of which no two agree on a key stand once already.
+use Rattle.std.specs.Prelude.{Result, Err}
+use Rattle.values.specs.Faults.{◌>>=◌, wanted, wanted_if}
+use Rattle.algebra.specs.declared.expr.Expr.{Expr}
+use Rattle.algebra.specs.declared.expr.Expr.TheVariants as expr
+use Rattle.props.specs.Knowledge.{Knowledge, has_strong_key}
+use Rattle.rules.specs.declared.shape.Shape.{Shape}
+use Rattle.rules.specs.declared.shape.Shape.TheVariants.{Class}
+use Rattle.rules.specs.declared.unfit.Unfit.{Unfit}
+use Rattle.rules.specs.declared.unfit.Unfit.TheVariants.{Pattern, Condition}
+use Rattle.rules.specs.Matches.{Matched, one_line}
+
+abbrev pub dropped : Knowledge → Expr → Result Shape Unfit
+dropped K (expr.Distinct x) = wanted_if Condition (has_strong_key K x) (Class x)
+dropped K x = Err Pattern
+
+abbrev pub distinct_of_keyed : Matched → Result Shape Unfit
+distinct_of_keyed m = wanted Pattern (one_line m) >>= dropped m.classes

@@ -1,0 +1,17 @@
+-- Join commutativity: the sides of a join change places.
+use Rattle.std.specs.Prelude.{Result, Ok, Err}
+use Rattle.values.specs.Faults.{◌>>=◌, wanted}
+use Rattle.algebra.specs.declared.expr.Expr.{Expr}
+use Rattle.algebra.specs.declared.expr.Expr.TheVariants as expr
+use Rattle.rules.specs.declared.shape.Shape.{Shape}
+use Rattle.rules.specs.declared.shape.Shape.TheVariants.{Class, Join}
+use Rattle.rules.specs.declared.unfit.Unfit.{Unfit}
+use Rattle.rules.specs.declared.unfit.Unfit.TheVariants.{Pattern}
+use Rattle.rules.specs.Matches.{Matched, one_line}
+
+abbrev pub turned : Expr → Result Shape Unfit
+turned (expr.Join C a b) = Ok (Join C (Class b) (Class a))
+turned x = Err Pattern
+
+abbrev pub join_commutes : Matched → Result Shape Unfit
+join_commutes m = wanted Pattern (one_line m) >>= turned

@@ -1,0 +1,18 @@
+-- Of two projections the outer one counts.
+use Rattle.std.specs.Prelude.{Result, Ok, Err}
+use Rattle.values.specs.Faults.{◌>>=◌, wanted}
+use Rattle.algebra.specs.declared.expr.Expr.{Expr}
+use Rattle.algebra.specs.declared.expr.Expr.TheVariants as expr
+use Rattle.props.specs.Knowledge.{Knowledge}
+use Rattle.rules.specs.declared.shape.Shape.{Shape}
+use Rattle.rules.specs.declared.shape.Shape.TheVariants.{Class, Keep}
+use Rattle.rules.specs.declared.unfit.Unfit.{Unfit}
+use Rattle.rules.specs.declared.unfit.Unfit.TheVariants.{Pattern}
+use Rattle.rules.specs.Matches.{Matched, two_lines}
+
+abbrev pub merged : Knowledge → Expr → Expr → Result Shape Unfit
+merged K (expr.Keep L x) (expr.Keep J y) = Ok (Keep L (Class y))
+merged K x y = Err Pattern
+
+abbrev pub keeps_merge : Matched → Result Shape Unfit
+keeps_merge m = wanted Pattern (two_lines m) >>= λ l. merged m.classes l.0 l.1

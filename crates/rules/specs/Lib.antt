@@ -1,0 +1,16 @@
+pub mod ConditionBelowJoin
+pub mod Conjuncts
+pub mod DistinctOfKeyed
+pub mod GroupIsDistinct
+pub mod JoinAssociates
+pub mod JoinCommutes
+pub mod KeepBelowJoin
+pub mod KeepOfAll
+pub mod KeepsMerge
+pub mod Matches
+pub mod SelectBelowJoin
+pub mod SelectBelowSemi
+pub mod SelectIntoJoin
+pub mod SelectsMerge
+pub mod Shapes
+pub mod Soundness

@@ -1,0 +1,47 @@
+//! Predicate pushdown: a join's condition goes below the join.
+
+ghost use Rattle.values.specs.Faults.{Gives};
+ghost use Rattle.props.specs.Knowledge.{known};
+ghost use Rattle.rules.specs.ConditionBelowJoin as spec;
+
+use crate::matching::Match;
+use crate::rule::Rule;
+use crate::shape::Shape;
+use crate::shaping::{join, select, some};
+use crate::unfit::{RuleFault, Unfit};
+use algebra::{ClassId, Conjuncts, Expr};
+use std::alloc::Global;
+use values::Fault;
+
+/// The join of the classes, with a part of its condition below the join.
+fn lowered(
+    alloc: Global,
+    at: Match<'_>,
+    condition: &Conjuncts,
+    left: ClassId,
+    right: ClassId,
+) -> Result<Shape, RuleFault>
+    ensures { Gives (λ s. s) result (spec.lowered (known at.entry.classes) condition.now left right) }
+{
+    let (below, rest) = condition.split_without(alloc, at.classes.columns, right)?;
+    let left = select(alloc, some(below)?, Shape::Class(left))?;
+    Ok(join(alloc, rest, left, Shape::Class(right))?)
+}
+
+/// Of a join's condition, the conjuncts that don't mention the right side are asked of the left side alone.
+pub struct ConditionBelowJoin;
+
+impl Rule for ConditionBelowJoin {
+    const CODE: &'static str = "S4";
+
+    ghost gives = { spec.condition_below_join };
+
+    fn apply(alloc: Global, at: Match<'_>) -> Result<Shape, RuleFault> {
+        match at.one_line()? {
+            Expr::Join(d, a, b) => lowered(alloc, at, d, *a, *b),
+            _ => Err(Fault::Refused(Unfit::Pattern)),
+        }
+    }
+
+    fn is_sound() {}
+}

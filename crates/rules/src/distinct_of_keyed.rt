@@ -1,0 +1,35 @@
+//! Redundant DISTINCT.
+
+ghost use Rattle.rules.specs.DistinctOfKeyed as spec;
+
+use crate::matching::Match;
+use crate::rule::Rule;
+use crate::shape::Shape;
+use crate::unfit::{RuleFault, Unfit};
+use algebra::Expr;
+use std::alloc::Global;
+use values::Fault;
+
+/// Rows of which no two agree on a key stand once already.
+pub struct DistinctOfKeyed;
+
+impl Rule for DistinctOfKeyed {
+    const CODE: &'static str = "D1";
+
+    ghost gives = { spec.distinct_of_keyed };
+
+    fn apply(alloc: Global, at: Match<'_>) -> Result<Shape, RuleFault> {
+        match at.one_line()? {
+            Expr::Distinct(x) => {
+                if at.classes.has_strong_key(*x) {
+                    Ok(Shape::Class(*x))
+                } else {
+                    Err(Fault::Refused(Unfit::Condition))
+                }
+            }
+            _ => Err(Fault::Refused(Unfit::Pattern)),
+        }
+    }
+
+    fn is_sound() {}
+}

@@ -1,0 +1,42 @@
+//! GROUP BY without aggregates.
+
+ghost use Rattle.values.specs.Faults.{Gives};
+ghost use Rattle.rules.specs.GroupIsDistinct as spec;
+
+use crate::matching::Match;
+use crate::rule::Rule;
+use crate::shape::Shape;
+use crate::shaping::keep;
+use crate::unfit::{RuleFault, Unfit};
+use algebra::{ClassId, Columns, Expr};
+use std::alloc::Global;
+use values::{Boxed, Fault};
+
+/// The different keys of a class.
+fn different_keys(alloc: Global, keys: &Columns, class: ClassId) -> Result<Shape, RuleFault>
+    ensures { Gives (λ s. s) result (spec.different_keys keys.now class) }
+{
+    if keys.as_slice().is_empty() {
+        return Err(Fault::Refused(Unfit::Condition));
+    }
+    let projected = keep(alloc, keys.copy(alloc)?, Shape::Class(class))?;
+    Ok(Shape::Distinct(Boxed::new(alloc, projected)?))
+}
+
+/// Without aggregates the rows of groups are the different keys. Without keys there is one group, also of no rows.
+pub struct GroupIsDistinct;
+
+impl Rule for GroupIsDistinct {
+    const CODE: &'static str = "G1";
+
+    ghost gives = { spec.group_is_distinct };
+
+    fn apply(alloc: Global, at: Match<'_>) -> Result<Shape, RuleFault> {
+        match at.one_line()? {
+            Expr::Group(k, added, x) if added.as_slice().is_empty() => different_keys(alloc, k, *x),
+            _ => Err(Fault::Refused(Unfit::Pattern)),
+        }
+    }
+
+    fn is_sound() {}
+}

@@ -1,0 +1,54 @@
+//! Join associativity.
+
+ghost use Rattle.values.specs.Faults.{Gives};
+ghost use Rattle.props.specs.Knowledge.{known};
+ghost use Rattle.rules.specs.JoinAssociates as spec;
+
+use crate::matching::Match;
+use crate::rule::Rule;
+use crate::shape::Shape;
+use crate::shaping::join;
+use crate::unfit::{RuleFault, Unfit};
+use algebra::{ClassId, Conjuncts, Expr};
+use std::alloc::Global;
+use values::Fault;
+
+/// The join of a join of the classes, with the last two joined first.
+fn reordered(
+    alloc: Global,
+    at: Match<'_>,
+    inner: &Conjuncts,
+    outer: &Conjuncts,
+    first: ClassId,
+    second: ClassId,
+    third: ClassId,
+) -> Result<Shape, RuleFault>
+    ensures { Gives (λ s. s) result (spec.reordered (known at.entry.classes) inner.now outer.now first second third) }
+{
+    if !inner.are_without(alloc, at.classes.columns, third)? {
+        return Err(Fault::Refused(Unfit::Condition));
+    }
+    let all = inner.union(alloc, outer)?;
+    let (below, rest) = all.split_without(alloc, at.classes.columns, first)?;
+    let joined = join(alloc, below, Shape::Class(second), Shape::Class(third))?;
+    Ok(join(alloc, rest, Shape::Class(first), joined)?)
+}
+
+/// Of three sides the last two are joined first. Each conjunct that doesn't mention the first side is asked there; the inner
+/// condition of before must not mention the third side.
+pub struct JoinAssociates;
+
+impl Rule for JoinAssociates {
+    const CODE: &'static str = "J2";
+
+    ghost gives = { spec.join_associates };
+
+    fn apply(alloc: Global, at: Match<'_>) -> Result<Shape, RuleFault> {
+        match at.two_lines()? {
+            (Expr::Join(d, _, z), Expr::Join(c, a, b)) => reordered(alloc, at, c, d, *a, *b, *z),
+            _ => Err(Fault::Refused(Unfit::Pattern)),
+        }
+    }
+
+    fn is_sound() {}
+}

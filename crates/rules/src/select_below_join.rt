@@ -1,0 +1,49 @@
+//! Predicate pushdown: a selection goes below a join.
+
+ghost use Rattle.values.specs.Faults.{Gives};
+ghost use Rattle.props.specs.Knowledge.{known};
+ghost use Rattle.rules.specs.SelectBelowJoin as spec;
+
+use crate::matching::Match;
+use crate::rule::Rule;
+use crate::shape::Shape;
+use crate::shaping::{join, select, selected, some};
+use crate::unfit::{RuleFault, Unfit};
+use algebra::{ClassId, Conjuncts, Expr};
+use std::alloc::Global;
+use values::Fault;
+
+/// The selection from a join of the classes, with a part of its conjuncts below the join.
+fn pushed(
+    alloc: Global,
+    at: Match<'_>,
+    conjuncts: &Conjuncts,
+    joined: &Conjuncts,
+    left: ClassId,
+    right: ClassId,
+) -> Result<Shape, RuleFault>
+    ensures { Gives (λ s. s) result (spec.pushed (known at.entry.classes) conjuncts.now joined.now left right) }
+{
+    let (below, rest) = conjuncts.split_without(alloc, at.classes.columns, right)?;
+    let left = select(alloc, some(below)?, Shape::Class(left))?;
+    let joined = join(alloc, joined.copy(alloc)?, left, Shape::Class(right))?;
+    Ok(selected(alloc, rest, joined)?)
+}
+
+/// Of a selection from a join, the conjuncts that don't mention the right side are asked of the left side alone.
+pub struct SelectBelowJoin;
+
+impl Rule for SelectBelowJoin {
+    const CODE: &'static str = "S2";
+
+    ghost gives = { spec.select_below_join };
+
+    fn apply(alloc: Global, at: Match<'_>) -> Result<Shape, RuleFault> {
+        match at.two_lines()? {
+            (Expr::Select(c, _), Expr::Join(d, a, b)) => pushed(alloc, at, c, d, *a, *b),
+            _ => Err(Fault::Refused(Unfit::Pattern)),
+        }
+    }
+
+    fn is_sound() {}
+}

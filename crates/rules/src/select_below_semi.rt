@@ -1,0 +1,38 @@
+//! A selection goes below a semijoin or an antijoin.
+
+ghost use Rattle.rules.specs.SelectBelowSemi as spec;
+
+use crate::matching::Match;
+use crate::rule::Rule;
+use crate::shape::Shape;
+use crate::shaping::{anti, select, semi};
+use crate::unfit::{RuleFault, Unfit};
+use algebra::Expr;
+use std::alloc::Global;
+use values::Fault;
+
+/// A selection from a semijoin or an antijoin goes below it, to the left side.
+pub struct SelectBelowSemi;
+
+impl Rule for SelectBelowSemi {
+    const CODE: &'static str = "S5";
+
+    ghost gives = { spec.select_below_semi };
+
+    fn apply(alloc: Global, at: Match<'_>) -> Result<Shape, RuleFault> {
+        match at.two_lines()? {
+            (Expr::Select(c, _), Expr::Semi(d, a, b)) => {
+                let left = select(alloc, c.copy(alloc)?, Shape::Class(*a))?;
+                Ok(semi(alloc, d.copy(alloc)?, left, Shape::Class(*b))?)
+            }
+            (Expr::Select(c, _), Expr::Anti(sure, maybe, a, b)) => {
+                let left = select(alloc, c.copy(alloc)?, Shape::Class(*a))?;
+                let lists = (sure.copy(alloc)?, maybe.copy(alloc)?);
+                Ok(anti(alloc, lists, left, Shape::Class(*b))?)
+            }
+            _ => Err(Fault::Refused(Unfit::Pattern)),
+        }
+    }
+
+    fn is_sound() {}
+}

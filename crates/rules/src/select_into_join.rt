@@ -1,0 +1,47 @@
+//! A selection goes into a join's condition.
+
+ghost use Rattle.values.specs.Faults.{Gives};
+ghost use Rattle.rules.specs.SelectIntoJoin as spec;
+
+use crate::matching::Match;
+use crate::rule::Rule;
+use crate::shape::Shape;
+use crate::shaping::{join, selected, some};
+use crate::unfit::{RuleFault, Unfit};
+use algebra::{ClassId, Conjuncts, Expr};
+use std::alloc::Global;
+use values::Fault;
+
+/// The selection from a join of the classes, with the conjuncts without subqueries in the join's condition.
+fn absorbed(
+    alloc: Global,
+    conjuncts: &Conjuncts,
+    joined: &Conjuncts,
+    left: ClassId,
+    right: ClassId,
+) -> Result<Shape, RuleFault>
+    ensures { Gives (λ s. s) result (spec.absorbed conjuncts.now joined.now left right) }
+{
+    let (plain, rest) = conjuncts.split_plain(alloc)?;
+    let all = joined.union(alloc, &some(plain)?)?;
+    let joined = join(alloc, all, Shape::Class(left), Shape::Class(right))?;
+    Ok(selected(alloc, rest, joined)?)
+}
+
+/// A selection from a join goes into the join's condition, but for its subqueries.
+pub struct SelectIntoJoin;
+
+impl Rule for SelectIntoJoin {
+    const CODE: &'static str = "S3";
+
+    ghost gives = { spec.select_into_join };
+
+    fn apply(alloc: Global, at: Match<'_>) -> Result<Shape, RuleFault> {
+        match at.two_lines()? {
+            (Expr::Select(c, _), Expr::Join(d, a, b)) => absorbed(alloc, c, d, *a, *b),
+            _ => Err(Fault::Refused(Unfit::Pattern)),
+        }
+    }
+
+    fn is_sound() {}
+}

@@ -1,0 +1,89 @@
+//! Shapes as rules make them.
+
+ghost use Rattle.std.specs.Prelude.{◌≡◌, IfOk};
+ghost use Rattle.rules.specs.declared.shape.Shape.TheVariants as shape;
+ghost use Rattle.values.specs.Faults.{Gives};
+ghost use Rattle.rules.specs.Conjuncts.{wanted_some};
+ghost use Rattle.rules.specs.Shapes as spec;
+
+use crate::shape::Shape;
+use crate::unfit::{RuleFault, Unfit};
+use algebra::{Columns, Conjuncts};
+use std::alloc::{AllocError, Global};
+use values::{Boxed, Fault};
+
+/// The conjuncts, which have to be some.
+pub(crate) fn some(conjuncts: Conjuncts) -> Result<Conjuncts, RuleFault>
+    ensures { Gives (λ c. c) result (wanted_some conjuncts) }
+{
+    if conjuncts.as_slice().is_empty() {
+        Err(Fault::Refused(Unfit::Pattern))
+    } else {
+        Ok(conjuncts)
+    }
+}
+
+pub(crate) fn select(alloc: Global, conjuncts: Conjuncts, input: Shape) -> Result<Shape, AllocError>
+    ensures { IfOk result (λ s. s ≡ shape.Select conjuncts input) }
+{
+    Ok(Shape::Select(conjuncts, Boxed::new(alloc, input)?))
+}
+
+/// The selection, or its input where there are no conjuncts.
+pub(crate) fn selected(
+    alloc: Global,
+    conjuncts: Conjuncts,
+    input: Shape,
+) -> Result<Shape, AllocError>
+    ensures { IfOk result (λ s. s ≡ spec.selected conjuncts input) }
+{
+    if conjuncts.as_slice().is_empty() {
+        Ok(input)
+    } else {
+        select(alloc, conjuncts, input)
+    }
+}
+
+pub(crate) fn join(
+    alloc: Global,
+    conjuncts: Conjuncts,
+    left: Shape,
+    right: Shape,
+) -> Result<Shape, AllocError>
+    ensures { IfOk result (λ s. s ≡ shape.Join conjuncts left right) }
+{
+    let left = Boxed::new(alloc, left)?;
+    Ok(Shape::Join(conjuncts, left, Boxed::new(alloc, right)?))
+}
+
+pub(crate) fn keep(alloc: Global, columns: Columns, input: Shape) -> Result<Shape, AllocError>
+    ensures { IfOk result (λ s. s ≡ shape.Keep columns input) }
+{
+    Ok(Shape::Keep(columns, Boxed::new(alloc, input)?))
+}
+
+pub(crate) fn semi(
+    alloc: Global,
+    conjuncts: Conjuncts,
+    left: Shape,
+    right: Shape,
+) -> Result<Shape, AllocError>
+    ensures { IfOk result (λ s. s ≡ shape.Semi conjuncts left right) }
+{
+    let left = Boxed::new(alloc, left)?;
+    Ok(Shape::Semi(conjuncts, left, Boxed::new(alloc, right)?))
+}
+
+/// An antijoin, whose first list is sure and whose second one is maybe.
+pub(crate) fn anti(
+    alloc: Global,
+    lists: (Conjuncts, Conjuncts),
+    left: Shape,
+    right: Shape,
+) -> Result<Shape, AllocError>
+    ensures { IfOk result (λ s. s ≡ shape.Anti lists.0 lists.1 left right) }
+{
+    let (sure, maybe) = lists;
+    let left = Boxed::new(alloc, left)?;
+    Ok(Shape::Anti(sure, maybe, left, Boxed::new(alloc, right)?))
+}
