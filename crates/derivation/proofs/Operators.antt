@@ -142,7 +142,7 @@ module _ (uses : List TableInstance) (own : List Aggregation) (D : Tables) (W : 
       let plain = plain_parts T N (and_parts _ _ (and_parts _ _ formed).1).0 in
       let own : Test = λ r. holds W.rows T r && allows W.rows N r in
       let tests : (r : Env) → is_match (Anti S M) r ≡ own r = λ r.
-          two (λ p q. p && q) (test-same S T same.0 plain.0 r) (ap (λ C. allows no_classes C r) (equal_conditions M N same.1) ∙ plain_allows N plain.1 no_classes W.rows r) in
+      two (λ p q. p && q) (test-same S T same.0 plain.0 r) (ap (λ C. allows no_classes C r) (equal_conditions M N same.1) ∙ plain_allows N plain.1 no_classes W.rows r) in
       record {
         columns = all.0.columns;
         rows = subst (λ K. SameBag (anti (is_match (Anti S M)) (has K) a.rows b.rows) (anti own (has (W.columns k)) (W.rows g) (W.rows k))) (sym all.1.0.columns)

@@ -153,7 +153,7 @@ ascends-group [] G keys x e apart up = (tt, tt)
 ascends-group (k ∷ K) G keys x e apart up =
     let row : Env → Env = λ r. with_aggregates G (filter (same_on (k ∷ K) r) (x e)) (lay (has (k ∷ K)) r e) in
     let agree : (r : Env) (c : ℕ) → has (k ∷ K) c ≡ true → row r c ≡ r c = λ r c in_.
-        aggregates-off G (filter (same_on (k ∷ K) r) (x e)) (lay (has (k ∷ K)) r e) c (passes (λ d. not (has (aggregate_columns G) d)) (k ∷ K) c apart in_) ∙ lay-on (has (k ∷ K)) r e c in_ in
+    aggregates-off G (filter (same_on (k ∷ K) r) (x e)) (lay (has (k ∷ K)) r e) c (passes (λ d. not (has (aggregate_columns G) d)) (k ∷ K) c apart in_) ∙ lay-on (has (k ∷ K)) r e c in_ in
     ascends-map (keys_order keys) (keys_order (front (has (k ∷ K)) keys)) row (λ a b h.
     ap is_gt ((front-alike (has (k ∷ K)) (row a) a (agree a) keys).before (row b) ∙ (front-alike (has (k ∷ K)) (row b) b (agree b) keys).behind a) ∙ front-weaker (has (k ∷ K)) keys a b h)
     (distinct_on (k ∷ K) (x e)) (ascends-distinct_on (keys_order keys) (k ∷ K) (x e) up)
