@@ -84,7 +84,7 @@ module _ (p : ℕ → Bool) where
 
   -- ---- conditions and expressions
 
-  all-named : (C : List Condition) → subqueries_pass p C ≡ list_all p (flat_map named_classes C)
+  pub all-named : (C : List Condition) → subqueries_pass p C ≡ list_all p (flat_map named_classes C)
   all-named [] = refl
   all-named (c ∷ C) = rw (named-pass c, all-named C) (sym (list_all-append p (named_classes c) (flat_map named_classes C)))
 

@@ -1,0 +1,401 @@
+-- What the lines of a log say is true.
+use Rattle.std.proofs.Common.{◌≡◌, refl, ap, sym, ◌∙◌, subst, inl, inr, ◌⊎◌, ℕ, suc, ◌<◌, ◌≤◌, Bool, true, false, ◌&&◌, ◌==◌, nat_lt, List, [], ◌∷◌, length, Option, Some, None, Result, Ok, Err, if◌then◌else◌, arith}
+use Rattle.std.specs.List.{list_all, AllByRecursion}
+use Rattle.std.proofs.lemmas.Bool.{and_parts, eq-eqb, eqb-true, ltb-true, lt-ltb}
+use Rattle.std.proofs.lemmas.List.{length-map}
+use Rattle.values.specs.Faults.{◌>>=◌, wanted, wanted_if}
+use Rattle.values.proofs.Results.{both_ok, wanted_ok, wanted_if_ok}
+use Rattle.schema.specs.declared.schema.Schema.{Schema}
+use Rattle.schema.specs.Databases.{Database, Satisfies}
+use Rattle.query.specs.declared.query.TableInstance.{TableInstance}
+use Rattle.query.specs.Bound.{IsOver}
+use Rattle.query.specs.Rows.{Tables, tables_of}
+use Rattle.algebra.specs.declared.expr.Aggregation.{Aggregation}
+use Rattle.algebra.specs.declared.expr.Expr.{Expr}
+use Rattle.algebra.specs.declared.expr.Expr.TheVariants.{Distinct}
+use Rattle.algebra.specs.Bags.{Env, Bag, SameBag}
+use Rattle.algebra.specs.Columns.{is_subset}
+use Rattle.algebra.specs.Equality.{same_columns, same_expr}
+use Rattle.algebra.specs.Expressions.{Classes, means, columns_of, is_formed, classes_pass}
+use Rattle.algebra.specs.Classes.{class_columns, class_rows, classes, AreFormed}
+use Rattle.algebra.proofs.Same.{equal_columns, equal_expr}
+use Rattle.algebra.proofs.SameBags.{same_bag-trans, same_bag-equal}
+use Rattle.laws.proofs.Expressions.{classes_are_fitting}
+use Rattle.props.specs.declared.fact.Fact.{Fact}
+use Rattle.props.specs.Facts.{fact_columns, FactsHold}
+use Rattle.props.specs.Given.{gives}
+use Rattle.props.specs.Knowledge.{Knowledge, IsTrueOf, with_rows}
+use Rattle.props.proofs.GivenFacts.{given_facts_hold}
+use Rattle.rules.specs.declared.shape.Shape.{Shape}
+use Rattle.rules.specs.declared.unfit.Unfit.{Unfit}
+use Rattle.rules.specs.declared.unfit.Unfit.TheVariants.{Pattern, Condition}
+use Rattle.rules.specs.Matches as matches
+use Rattle.rules.specs.Matches.{Matched}
+use Rattle.rules.specs.Shapes.{meant}
+use Rattle.rules.specs.Soundness.{World, IsLine, IsMatched}
+use Rattle.lines.specs.declared.book.RuleName.{RuleName}
+use Rattle.lines.specs.declared.line.Line.{Line}
+use Rattle.lines.specs.declared.line.Line.TheVariants.{Founds, Adds, Unites, Gives}
+use Rattle.lines.specs.declared.line.LineReason.{LineReason}
+use Rattle.lines.specs.declared.line.LineReason.TheVariants.{UnknownLine, IllFormed, OtherForm, FailedFact, OtherLine}
+use Rattle.lines.specs.declared.line.Step.{Step}
+use Rattle.lines.specs.Book.{given_by}
+use Rattle.lines.specs.Laws.{world, IsTrue, LogsAreTrue}
+use Rattle.lines.specs.Logs.{Log, line_at, entry, entries, member, founds, united, least, are_same, facts, knowledge}
+use Rattle.lines.specs.Replay as spec
+use Rattle.lines.specs.Replay.{Replays, stands, is_known, is_earlier, cites, is_of, members, begins_at, applied_to, or_unfit, given, gives_fact}
+use Rattle.lines.specs.Spelling.{spelling, is_whole, is_expr, is_class}
+use Rattle.lines.proofs.RuleLaws.{book_sound}
+use Rattle.lines.proofs.Invariants.{AreAlike, alike-turned, alike-along, AgreeBelow, IsMember, IsFact, IsTrueLine, AreTrue, member-true, facts-true, member-stays, fact-stays, all-stay}
+use Rattle.lines.proofs.Agreement.{means-agree, columns-agree, formed-agree}
+use Rattle.lines.proofs.Lookups.{columns-stay, rows-stay, founded, below, classes-wider}
+use Rattle.lines.proofs.Sameness.{AreBelow, same-below, united-relate}
+use Rattle.lines.proofs.Spellings.{shape-spells}
+
+bag-turned : (a b : Bag) → SameBag a b → SameBag b a
+bag-turned a b h e f = sym (h e f)
+
+-- ---- verdicts
+
+-- a step behind tests that passed
+test : {A B : Type 0} (r : LineReason) (b : Bool) (x : A) (f : A → Result B LineReason) (y : B) → (wanted_if r b x >>= f) ≡ Ok y → (b ≡ true) × (f x ≡ Ok y)
+test r b x f y is =
+    let parts = both_ok (wanted_if r b x) f y is in
+    let passed = wanted_if_ok r b x parts.0 parts.1 in
+    (passed.0, ap f passed.1 ∙ parts.2)
+
+module _ (uses : List TableInstance) (own : List Aggregation) (E : Log) where
+  abbrev cols : ℕ → List ℕ
+  cols = class_columns uses (entries E)
+
+  record StandsFounds (x : Expr) : Type 0 where
+    known : classes_pass (founds E) x ≡ true
+    formed : is_formed uses own cols x ≡ true
+
+  founds-stands : (x : Expr) (l : Line) → stands uses own E (Founds x) ≡ Ok l → StandsFounds x
+  founds-stands x l is =
+      let one = test UnknownLine (is_known uses own E x) (Founds x) (λ l. wanted_if IllFormed (is_formed uses own cols x) l) l is in
+      record { known = one.0; formed = (wanted_if_ok IllFormed _ (Founds x) l one.1).0 }
+
+  -- what a step gives, and what it is applied to
+  record IsGiven (g : ℕ) (s : Step) (shape : Shape) : Type 0 where
+    matched : Matched
+    applied : applied_to uses own E g s ≡ Some matched
+    gives : given_by s.rule matched ≡ Ok shape
+
+  given-is : (g : ℕ) (s : Step) (shape : Shape) → given uses own E g s ≡ Ok shape → IsGiven g s shape
+  given-is g s shape is =
+      let parts = both_ok (wanted OtherForm (applied_to uses own E g s)) (λ m. or_unfit uses own E s.rule (given_by s.rule m)) shape is in
+      record { matched = parts.0; applied = wanted_ok OtherForm _ parts.0 parts.1; gives = fit (given_by s.rule parts.0) parts.2 }
+    where
+      fit : (r : Result Shape Unfit) → or_unfit uses own E s.rule r ≡ Ok shape → r ≡ Ok shape
+      fit (Ok t) is = let same : t ≡ shape = cc in ap Ok same
+      fit (Err u) is = cc
+
+  record StandsAdds (g : ℕ) (s : Step) (x : Expr) : Type 0 where
+    class : founds E g ≡ true
+    known : classes_pass (founds E) x ≡ true
+    formed : is_formed uses own cols x ≡ true
+    columns : columns_of uses cols x ≡ cols g
+    shape : Shape
+    given_ : IsGiven g s shape
+    spelt : is_expr (member E) shape s.makes x ≡ true
+
+  adds-stands : (g : ℕ) (s : Step) (x : Expr) (l : Line) → stands uses own E (Adds g s x) ≡ Ok l → StandsAdds g s x
+  adds-stands g s x l is =
+      let line : Line = Adds g s x in
+      let last : Line → Shape → Result Line LineReason = λ l shape. wanted_if OtherLine (is_expr (member E) shape s.makes x) l in
+      let rule : Line → Result Line LineReason = λ l. given uses own E g s >>= last l in
+      let formed : Line → Result Line LineReason = λ l. wanted_if IllFormed (is_formed uses own cols x && same_columns (columns_of uses cols x) (cols g)) l in
+      let first = both_ok (wanted_if UnknownLine (founds E g && cites E s && is_known uses own E x) line >>= formed) rule l is in
+      let one = test UnknownLine _ line formed first.0 first.1 in
+      let two = wanted_if_ok IllFormed _ line first.0 one.1 in
+      let three = both_ok (given uses own E g s) (last first.0) l first.2 in
+      let four = wanted_if_ok OtherLine _ first.0 l three.2 in
+      let names = and_parts _ _ one.0 in
+      let shapes = and_parts _ _ two.0 in
+      record {
+        class = (and_parts _ _ names.0).0;
+        known = names.1;
+        formed = shapes.0;
+        columns = equal_columns _ _ shapes.1;
+        shape = three.0;
+        given_ = given-is g s three.0 three.1;
+        spelt = four.0;
+      }
+
+  record StandsUnites (g h : ℕ) (s : Step) : Type 0 where
+    first : founds E g ≡ true
+    second : founds E h ≡ true
+    columns : cols g ≡ cols h
+    shape : Shape
+    given_ : IsGiven g s shape
+    spelt : is_class (member E) shape s.makes (are_same E h) ≡ true
+
+  unites-stands : (g h : ℕ) (s : Step) (l : Line) → stands uses own E (Unites g h s) ≡ Ok l → StandsUnites g h s
+  unites-stands g h s l is =
+      let line : Line = Unites g h s in
+      let last : Line → Shape → Result Line LineReason = λ l shape. wanted_if OtherLine (is_class (member E) shape s.makes (are_same E h)) l in
+      let rule : Line → Result Line LineReason = λ l. given uses own E g s >>= last l in
+      let formed : Line → Result Line LineReason = λ l. wanted_if IllFormed (same_columns (cols g) (cols h)) l in
+      let first = both_ok (wanted_if UnknownLine (founds E g && founds E h && cites E s) line >>= formed) rule l is in
+      let one = test UnknownLine _ line formed first.0 first.1 in
+      let two = wanted_if_ok IllFormed _ line first.0 one.1 in
+      let three = both_ok (given uses own E g s) (last first.0) l first.2 in
+      let four = wanted_if_ok OtherLine _ first.0 l three.2 in
+      let names = and_parts _ _ (and_parts _ _ one.0).0 in
+      record {
+        first = names.0;
+        second = names.1;
+        columns = equal_columns _ _ two.0;
+        shape = three.0;
+        given_ = given-is g s three.0 three.1;
+        spelt = four.0;
+      }
+
+  record StandsGives (g m : ℕ) (f : Fact) : Type 0 where
+    class : founds E g ≡ true
+    within_ : is_subset (fact_columns f) (cols g) ≡ true
+    line : matches.Line
+    there : member E m ≡ Some line
+    same : are_same E line.class g ≡ true
+    gives_ : gives uses (knowledge uses E) g line.expr f ≡ true
+
+  gives-stands : (g m : ℕ) (f : Fact) (l : Line) → stands uses own E (Gives g m f) ≡ Ok l → StandsGives g m f
+  gives-stands g m f l is =
+      let line : Line = Gives g m f in
+      let last : Line → Result Line LineReason = λ l. wanted_if FailedFact (gives_fact uses own E g f (member E m)) l in
+      let member_ : Line → Result Line LineReason = λ l. wanted_if OtherForm (is_of E g (member E m)) l in
+      let formed : Line → Result Line LineReason = λ l. wanted_if IllFormed (is_subset (fact_columns f) (cols g)) l in
+      let first = both_ok (wanted_if UnknownLine (founds E g && is_earlier E m) line >>= formed >>= member_) last l is in
+      let second = both_ok (wanted_if UnknownLine (founds E g && is_earlier E m) line >>= formed) member_ first.0 first.1 in
+      let one = test UnknownLine _ line formed second.0 second.1 in
+      let two = wanted_if_ok IllFormed _ line second.0 one.1 in
+      let three = wanted_if_ok OtherForm _ second.0 first.0 second.2 in
+      let four = wanted_if_ok FailedFact _ first.0 l first.2 in
+      by (member E m) refl (and_parts _ _ one.0).0 two.0 three.0 four.0
+    where
+      by : (o : Option matches.Line) → member E m ≡ o → founds E g ≡ true → is_subset (fact_columns f) (cols g) ≡ true → is_of E g o ≡ true → gives_fact uses own E g f o ≡ true → StandsGives g m f
+      by None at class within_ of_ gives_ = cc
+      by (Some k) at class within_ of_ gives_ = record { class = class; within_ = within_; line = k; there = at; same = of_; gives_ = gives_ }
+
+-- ---- what is true of a log
+
+abbrev world_of : List TableInstance → Tables → Log → Classes
+world_of uses D E = classes uses D (entries E)
+
+record Holds (uses : List TableInstance) (own : List Aggregation) (D : Tables) (E : Log) : Type 0 where
+  formed : AreFormed uses own (entries E)
+  low : AreBelow E
+  lines : AreTrue uses own D (length E) (world_of uses D E) E
+  same : (x y : ℕ) → least E x ≡ least E y → AreAlike (world_of uses D E) x y
+
+module _ (S : Schema) (B : Database) (satisfies : Satisfies S B) (uses : List TableInstance) (over : AllByRecursion (IsOver S) uses) (own : List Aggregation) where
+  abbrev D : Tables
+  D = tables_of S B
+
+  abbrev V : Log → Classes
+  V E = world_of uses D E
+
+  -- all that is known is true
+  known-true : (E : Log) → Holds uses own D E → IsTrueOf (knowledge uses E) (class_rows uses D (entries E))
+  known-true E holds = record {
+    fits = classes_are_fitting uses own D (entries E) holds.formed;
+    same = λ g h is. holds.same g h (eqb-true (least E g) (least E h) is);
+    facts = λ g. facts-true uses own D (length E) (V E) g (are_same E g) (λ h is. holds.same g h (eqb-true (least E g) (least E h) is)) E holds.lines;
+  }
+
+  agree : (l : Line) (E : Log) → AgreeBelow (length E) (V E) (V (l ∷ E))
+  agree l E g lt = (sym (columns-stay uses l E g lt), same_bag-equal _ _ (λ e. sym (rows-stay uses D l E g e lt)))
+
+  same-stay : (l : Line) (E : Log) → Holds uses own D E → (x y : ℕ) → least E x ≡ least E y → AreAlike (V (l ∷ E)) x y
+  same-stay l E holds x y is = elim (same-below E holds.low x y is) [
+    | inl one ↦ subst (AreAlike (V (l ∷ E)) x) one (refl, λ e f. refl)
+    | inr both ↦ lift x y both.0 both.1 (holds.same x y is)
+  ]
+    where
+      lift : (x y : ℕ) → x < length E → y < length E → AreAlike (V E) x y → AreAlike (V (l ∷ E)) x y
+      lift x y lt other alike =
+          let first = agree l E x lt in
+          let second = agree l E y other in (
+            sym first.0 ∙ alike.0 ∙ second.0,
+            same_bag-trans _ _ _ (bag-turned _ _ first.1) (same_bag-trans _ _ _ alike.1 second.1),
+          )
+
+  -- ---- steps
+
+  module _ (E : Log) (holds : Holds uses own D E) where
+    abbrev K : Knowledge
+    K = knowledge uses E
+
+    abbrev W : World
+    W = world uses own D E
+
+    is-line : (i : ℕ) (l : matches.Line) → member E i ≡ Some l → IsLine K W l
+    is-line i l at = let m = member-true uses own D (length E) (V E) E holds.lines i l at in record { formed = m.formed; columns = m.columns; rows = m.rows }
+
+    all-lines : (numbers : List ℕ) (lines : List matches.Line) → members E numbers ≡ Some lines → AllByRecursion (IsLine K W) lines
+    all-lines [] lines is = subst (AllByRecursion (IsLine K W)) (let e : [] ≡ lines = cc in e) tt
+    all-lines (i ∷ numbers) lines is = by (member E i) (members E numbers) refl refl is
+      where
+        by : (o : Option matches.Line) (rest : Option (List matches.Line)) → member E i ≡ o → members E numbers ≡ rest → spec.both_lines o rest ≡ Some lines → AllByRecursion (IsLine K W) lines
+        by None rest at later is = cc
+        by (Some l) None at later is = cc
+        by (Some l) (Some others) at later is = subst (AllByRecursion (IsLine K W)) (let e : (l ∷ others) ≡ lines = cc in e) (is-line i l at, all-lines numbers others later)
+
+    -- a step from a class gives what has the class's bag
+    step-true : (g : ℕ) (s : Step) (shape : Shape) → IsGiven uses own E g s shape → SameBag ((V E).rows g) (meant (V E) shape).rows
+    step-true g s shape is = by (members E s.uses) refl is.applied
+      where
+        by : (o : Option (List matches.Line)) → members E s.uses ≡ o → spec.matched_at uses own E g s o ≡ Some is.matched → SameBag ((V E).rows g) (meant (V E) shape).rows
+        by None there at = cc
+        by (Some []) there at = cc
+        by (Some (top ∷ others)) there at = begins (are_same E top.class g) refl at
+          where
+            begins : (b : Bool) → are_same E top.class g ≡ b → (if b then Some (record { lines = top ∷ others; pick = s.pick; classes = K }) else None) ≡ Some is.matched → SameBag ((V E).rows g) (meant (V E) shape).rows
+            begins false same at = cc
+            begins true same at =
+                let m : Matched = record { lines = top ∷ others; pick = s.pick; classes = K } in
+                let e : m ≡ is.matched = cc in
+                let lines = all-lines s.uses (top ∷ others) there in
+                let gives_ : given_by s.rule m ≡ Ok shape = ap (given_by s.rule) e ∙ is.gives in
+                let sound = book_sound s.rule m shape gives_ W (record { classes = known-true E holds; lines = lines }) top others refl in
+                let alike = holds.same top.class g (eqb-true (least E top.class) (least E g) same) in
+                same_bag-trans _ _ _ (bag-turned _ _ alike.1) (same_bag-trans _ _ _ lines.0.rows sound)
+
+    lines-mean : (i : ℕ) (l : matches.Line) → member E i ≡ Some l → (columns_of uses (V E).columns l.expr ≡ (V E).columns l.class) × SameBag ((V E).rows l.class) (means uses D (V E) l.expr)
+    lines-mean i l at = let is = is-line i l at in (is.columns, is.rows)
+
+    -- the lines behind what is spelt are all used up
+    whole : {X : Type 0} (p : X → Bool) (o : Option (X × List ℕ)) → is_whole (member E) p o ≡ true → (q : X × List ℕ) × (o ≡ Some q) × (p q.0 ≡ true)
+    whole p None is = cc
+    whole p (Some q) is = (q, refl, (and_parts _ _ is).1)
+
+    adds-true : (g : ℕ) (s : Step) (x : Expr) → StandsAdds uses own E g s x → SameBag ((V E).rows g) (means uses D (V E) x)
+    adds-true g s x is =
+        let spelt = whole _ _ is.spelt in
+        let y : Expr = spelt.0.0 in
+        let it : y ≡ x = equal_expr y x spelt.2 in
+        let says = (shape-spells uses own D (V E) (member E) lines-mean is.shape).expr s.makes spelt.0.1 y spelt.1 in
+        same_bag-trans _ _ _ (step-true g s is.shape is.given_) (subst (λ z. SameBag (meant (V E) is.shape).rows (means uses D (V E) z)) it says.1)
+
+    unites-true : (g h : ℕ) (s : Step) → StandsUnites uses own E g h s → AreAlike (V E) g h
+    unites-true g h s is =
+        let spelt = whole _ _ is.spelt in
+        let k : ℕ = spelt.0.0 in
+        let says = (shape-spells uses own D (V E) (member E) lines-mean is.shape).class s.makes spelt.0.1 k spelt.1 in
+        let alike = holds.same h k (eqb-true (least E h) (least E k) spelt.2) in
+        (is.columns, same_bag-trans _ _ _ (step-true g s is.shape is.given_) (same_bag-trans _ _ _ says.1 (bag-turned _ _ alike.1)))
+
+    gives-true : (g m : ℕ) (f : Fact) → StandsGives uses own E g m f → IsFact uses own D (length E) (V E) g f
+    gives-true g m f is =
+        let line = is-line m is.line is.there in
+        let alike = holds.same is.line.class g (eqb-true (least E is.line.class) (least E g) is.same) in
+        record {
+          below = founded E g is.class;
+          within = is.within_;
+          holds = given_facts_hold S B satisfies uses over own K (class_rows uses D (entries E)) (known-true E holds) g is.line.expr line.formed (line.columns ∙ alike.0)
+              (same_bag-trans _ _ _ (bag-turned _ _ alike.1) line.rows) f is.within_ is.gives_;
+        }
+
+  -- ---- one line more
+
+  count : (E : Log) → length (entries E) ≡ length E
+  count E = length-map E entry
+
+  -- a line that founds no class has an entry that is well formed
+  idle : (E : Log) (g : ℕ) → founds E g ≡ true → AreFormed uses own (entries E) → AreFormed uses own (Distinct g ∷ entries E)
+  idle E g is formed =
+      let lt : g < length E = founded E g is in
+      let pass : nat_lt g (length (entries E)) ≡ true = lt-ltb g (length (entries E)) (omega (arith, lt, count E)) in
+      (rw pass refl, refl, formed)
+
+  low-names : (E : Log) (x : Expr) → classes_pass (founds E) x ≡ true → classes_pass (λ g. nat_lt g (length E)) x ≡ true
+  low-names E x known = below E x known
+
+  -- what stays true
+  stay : (l : Line) (E : Log) → Holds uses own D E → AreTrue uses own D (length (l ∷ E)) (V (l ∷ E)) E
+  stay l E holds = all-stay uses own D (length E) (V E) (V (l ∷ E)) (agree l E) E holds.lines
+
+  founds-holds : (x : Expr) (E : Log) → Holds uses own D E → StandsFounds uses own E x → Holds uses own D (Founds x ∷ E)
+  founds-holds x E holds is =
+      let l : Line = Founds x in
+      let n : ℕ = length E in
+      let known : classes_pass (λ g. nat_lt g n) x ≡ true = low-names E x is.known in
+      let agrees = λ (g : ℕ) (lt : nat_lt g n ≡ true). agree l E g (ltb-true g n lt) in
+      let top : (n == length (entries E)) ≡ true = eq-eqb n (length (entries E)) (sym (count E)) in
+      record {
+        formed = (ap (λ n. classes_pass (λ g. nat_lt g n) x) (count E) ∙ known, is.formed, holds.formed);
+        low = holds.low;
+        lines = (
+          record {
+            below = omega arith;
+            known = wider n x known;
+            formed = sym (formed-agree uses own D (V E) (V (l ∷ E)) (λ g. nat_lt g n) agrees x known) ∙ is.formed;
+            columns = sym (columns-agree uses own D (V E) (V (l ∷ E)) (λ g. nat_lt g n) agrees x known) ∙ sym (rw top refl);
+            rows = same_bag-trans _ _ _ (same_bag-equal _ _ (λ e. rw top refl)) (means-agree uses own D (V E) (V (l ∷ E)) (λ g. nat_lt g n) agrees x known);
+          },
+          stay l E holds,
+        );
+        same = same-stay l E holds;
+      }
+    where
+      wider : (n : ℕ) (x : Expr) → classes_pass (λ g. nat_lt g n) x ≡ true → classes_pass (λ g. nat_lt g (suc n)) x ≡ true
+      wider n x pass = classes-wider (λ g. nat_lt g n) (λ g. nat_lt g (suc n)) (λ g lt. lt-ltb g (suc n) (let less : g < n = ltb-true g n lt in omega (arith, less))) x pass
+
+  adds-holds : (g : ℕ) (s : Step) (x : Expr) (E : Log) → Holds uses own D E → StandsAdds uses own E g s x → Holds uses own D (Adds g s x ∷ E)
+  adds-holds g s x E holds is =
+      let l : Line = Adds g s x in
+      let here : IsMember uses own D (length E) (V E) (record { class = g; expr = x }) = record {
+        below = founded E g is.class;
+        known = low-names E x is.known;
+        formed = is.formed;
+        columns = is.columns;
+        rows = adds-true E holds g s x is;
+      } in
+      record {
+        formed = idle E g is.class holds.formed;
+        low = holds.low;
+        lines = (member-stays uses own D (length E) (V E) (V (l ∷ E)) (agree l E) _ here, stay l E holds);
+        same = same-stay l E holds;
+      }
+
+  unites-holds : (g h : ℕ) (s : Step) (E : Log) → Holds uses own D E → StandsUnites uses own E g h s → Holds uses own D (Unites g h s ∷ E)
+  unites-holds g h s E holds is =
+      let l : Line = Unites g h s in
+      let first : g < length E = founded E g is.first in
+      let second : h < length E = founded E h is.second in
+      let alike = unites-true E holds g h s is in
+      let one = agree l E g first in
+      let two = agree l E h second in
+      record {
+        formed = idle E g is.first holds.formed;
+        low = (first, second, holds.low);
+        lines = (tt, stay l E holds);
+        same = united-relate (AreAlike (V (l ∷ E))) (alike-turned (V (l ∷ E))) (alike-along (V (l ∷ E))) E (same-stay l E holds) g h (
+          sym one.0 ∙ alike.0 ∙ two.0,
+          same_bag-trans _ _ _ (bag-turned _ _ one.1) (same_bag-trans _ _ _ alike.1 two.1),
+        );
+      }
+
+  gives-holds : (g m : ℕ) (f : Fact) (E : Log) → Holds uses own D E → StandsGives uses own E g m f → Holds uses own D (Gives g m f ∷ E)
+  gives-holds g m f E holds is =
+      let l : Line = Gives g m f in
+      record {
+        formed = idle E g is.class holds.formed;
+        low = holds.low;
+        lines = (fact-stays uses own D (length E) (V E) (V (l ∷ E)) (agree l E) g f (gives-true E holds g m f is), stay l E holds);
+        same = same-stay l E holds;
+      }
+
+  log-holds : (E : Log) → Replays uses own E → Holds uses own D E
+  log-holds [] replays = record { formed = tt; low = tt; lines = tt; same = λ x y is. subst (AreAlike (V []) x) is (refl, λ e f. refl) }
+  log-holds (Founds x ∷ E) replays = founds-holds x E (log-holds E replays.1) (founds-stands uses own E x (Founds x) replays.0)
+  log-holds (Adds g s x ∷ E) replays = adds-holds g s x E (log-holds E replays.1) (adds-stands uses own E g s x (Adds g s x) replays.0)
+  log-holds (Unites g h s ∷ E) replays = unites-holds g h s E (log-holds E replays.1) (unites-stands uses own E g h s (Unites g h s) replays.0)
+  log-holds (Gives g m f ∷ E) replays = gives-holds g m f E (log-holds E replays.1) (gives-stands uses own E g m f (Gives g m f) replays.0)
+
+pub logs_true : LogsAreTrue
+logs_true S B satisfies uses over own E replays =
+    let holds = log-holds S B satisfies uses over own E replays in
+    record { members = λ i l at. is-line S B satisfies uses over own E holds i l at; classes = known-true S B satisfies uses over own E holds }

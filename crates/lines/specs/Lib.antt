@@ -1,0 +1,5 @@
+pub mod Book
+pub mod Laws
+pub mod Logs
+pub mod Replay
+pub mod Spelling

@@ -1,0 +1,121 @@
+-- When a line may stand behind a log, and why it may not: the first fault here is the one that is reported.
+use Rattle.std.specs.Prelude.{◌≡◌, ℕ, Bool, true, false, ◌&&◌, nat_lt, if◌then◌else◌, List, [], ◌∷◌, length, Option, Some, None, Result, Ok, Err}
+use Rattle.std.specs.List.{list_all}
+use Rattle.values.specs.Faults.{◌>>=◌, wanted, wanted_if}
+use Rattle.query.specs.declared.query.TableInstance.{TableInstance}
+use Rattle.algebra.specs.declared.expr.Aggregation.{Aggregation}
+use Rattle.algebra.specs.declared.expr.Expr.{Expr}
+use Rattle.algebra.specs.Columns.{is_subset}
+use Rattle.algebra.specs.Equality.{same_columns}
+use Rattle.algebra.specs.Expressions.{columns_of, classes_pass, is_formed}
+use Rattle.algebra.specs.Classes.{class_columns}
+use Rattle.props.specs.declared.fact.Fact.{Fact}
+use Rattle.props.specs.Facts.{fact_columns}
+use Rattle.props.specs.Given.{gives}
+use Rattle.rules.specs.declared.shape.Shape.{Shape}
+use Rattle.rules.specs.declared.unfit.Unfit.{Unfit}
+use Rattle.rules.specs.declared.unfit.Unfit.TheVariants.{Pattern, Condition}
+use Rattle.rules.specs.Matches as matches
+use Rattle.rules.specs.Matches.{Matched}
+use Rattle.lines.specs.declared.book.RuleName.{RuleName}
+use Rattle.lines.specs.declared.line.Line.{Line}
+use Rattle.lines.specs.declared.line.Line.TheVariants.{Founds, Adds, Unites, Gives}
+use Rattle.lines.specs.declared.line.LineReason.{LineReason}
+use Rattle.lines.specs.declared.line.LineReason.TheVariants.{UnknownLine, IllFormed, OtherForm, FailedCondition, FailedFact, OtherLine}
+use Rattle.lines.specs.declared.line.Step.{Step}
+use Rattle.lines.specs.Book.{given_by}
+use Rattle.lines.specs.Logs.{Log, founds, entries, member, are_same, knowledge}
+use Rattle.lines.specs.Spelling.{is_expr, is_class}
+
+-- ---- what lines cite
+
+abbrev pub is_earlier : Log → ℕ → Bool
+is_earlier E i = nat_lt i (length E)
+
+-- whether a step cites earlier lines
+abbrev pub cites : Log → Step → Bool
+cites E s = list_all (is_earlier E) s.uses && list_all (is_earlier E) s.makes
+
+-- whether a line is of a class that is the same as this one
+abbrev pub is_of : Log → ℕ → Option matches.Line → Bool
+is_of E g None = false
+is_of E g (Some l) = are_same E l.class g
+
+-- ---- steps
+
+abbrev pub both_lines : Option matches.Line → Option (List matches.Line) → Option (List matches.Line)
+both_lines None rest = None
+both_lines (Some l) None = None
+both_lines (Some l) (Some lines) = Some (l ∷ lines)
+
+-- the lines with these numbers, if each has an expression
+abbrev pub members : Log → List ℕ → Option (List matches.Line)
+members E [] = Some []
+members E (i ∷ uses) = both_lines (member E i) (members E uses)
+
+-- whether the first of the lines is of the class
+abbrev pub begins_at : Log → ℕ → List matches.Line → Bool
+begins_at E g [] = false
+begins_at E g (l ∷ lines) = are_same E l.class g
+
+module _ (uses : List TableInstance) (own : List Aggregation) (E : Log) where
+  abbrev pub columns : ℕ → List ℕ
+  columns = class_columns uses (entries E)
+
+  -- lines of which the first is of the class, with what is known
+  abbrev pub matched_at : ℕ → Step → Option (List matches.Line) → Option Matched
+  matched_at g s None = None
+  matched_at g s (Some lines) = if begins_at E g lines then Some (record { lines = lines; pick = s.pick; classes = knowledge uses E }) else None
+
+  -- what a step from the class is applied to
+  abbrev pub applied_to : ℕ → Step → Option Matched
+  applied_to g s = matched_at g s (members E s.uses)
+
+  abbrev pub unfit : RuleName → Unfit → LineReason
+  unfit rule Pattern = OtherForm
+  unfit rule Condition = FailedCondition rule
+
+  abbrev pub or_unfit : RuleName → Result Shape Unfit → Result Shape LineReason
+  or_unfit rule (Ok s) = Ok s
+  or_unfit rule (Err u) = Err (unfit rule u)
+
+  -- what a step from the class gives
+  abbrev pub given : ℕ → Step → Result Shape LineReason
+  given g s = wanted OtherForm (applied_to g s) >>= λ m. or_unfit s.rule (given_by s.rule m)
+
+  -- ---- lines
+
+  -- whether an expression names classes that are founded
+  abbrev pub is_known : Expr → Bool
+  is_known = classes_pass (founds E)
+
+  -- whether a line gives a fact of the class
+  abbrev pub gives_fact : ℕ → Fact → Option matches.Line → Bool
+  gives_fact g f None = false
+  gives_fact g f (Some l) = gives uses (knowledge uses E) g l.expr f
+
+  -- a line that may stand behind the log
+  abbrev pub stands : Line → Result Line LineReason
+  stands (Founds x) =
+      wanted_if UnknownLine (is_known x) (Founds x)
+      >>= λ l. wanted_if IllFormed (is_formed uses own columns x) l
+  stands (Adds g s x) =
+      wanted_if UnknownLine (founds E g && cites E s && is_known x) (Adds g s x)
+      >>= λ l. wanted_if IllFormed (is_formed uses own columns x && same_columns (columns_of uses columns x) (columns g)) l
+      >>= λ l. given g s
+      >>= λ shape. wanted_if OtherLine (is_expr (member E) shape s.makes x) l
+  stands (Unites g h s) =
+      wanted_if UnknownLine (founds E g && founds E h && cites E s) (Unites g h s)
+      >>= λ l. wanted_if IllFormed (same_columns (columns g) (columns h)) l
+      >>= λ l. given g s
+      >>= λ shape. wanted_if OtherLine (is_class (member E) shape s.makes (are_same E h)) l
+  stands (Gives g m f) =
+      wanted_if UnknownLine (founds E g && is_earlier E m) (Gives g m f)
+      >>= λ l. wanted_if IllFormed (is_subset (fact_columns f) (columns g)) l
+      >>= λ l. wanted_if OtherForm (is_of E g (member E m)) l
+      >>= λ l. wanted_if FailedFact (gives_fact g f (member E m)) l
+
+-- each line of the log may stand where it does
+abbrev pub Replays : List TableInstance → List Aggregation → Log → Type 0
+Replays uses own [] = Unit {0}
+Replays uses own (l ∷ E) = (stands uses own E l ≡ Ok l) × Replays uses own E

@@ -1,0 +1,9 @@
+//! The lines of a derivation: what each of them says, when it may stand, and that what they say is true.
+#![tactic(auto)]
+
+pub mod book;
+pub mod line;
+pub mod soundness;
+
+pub use book::RuleName;
+pub use line::{Line, LineReason, Step};

@@ -1,0 +1,49 @@
+//! The lines of a derivation.
+
+use crate::book::RuleName;
+use algebra::{ClassId, Expr, LineId};
+use props::Fact;
+use thiserror::Error;
+use values::Items;
+
+/// A rule, applied to lines.
+#[derive(Drop)]
+pub struct Step {
+    pub rule: RuleName,
+    /// The conjunct or the class that is meant, where a rule has a choice; else 0.
+    pub pick: u32,
+    /// The lines that the rule is applied to, the top first.
+    pub uses: Items<LineId>,
+    /// The lines that spell the inner expressions of what it gives, outer before inner, left before right.
+    pub makes: Items<LineId>,
+}
+
+/// A line of a derivation. Lines are numbered from 0.
+#[derive(Drop)]
+pub enum Line {
+    /// Founds a class, which is named by this line's number.
+    Founds(Expr),
+    /// The expression is one more of the class, by a step.
+    Adds(ClassId, Step, Expr),
+    /// Two classes are the same, by a step from the first to the second.
+    Unites(ClassId, ClassId, Step),
+    /// A fact holds of the class, by a line of it.
+    Gives(ClassId, LineId, Fact),
+}
+
+/// Why a line may not stand.
+#[derive(Clone, Copy, Debug, PartialEq, Eq, Error)]
+pub enum LineReason {
+    #[error("a number names no earlier line, or as a class a line that founds none")]
+    UnknownLine,
+    #[error("an expression isn't well formed, or columns aren't those of the class")]
+    IllFormed,
+    #[error("what the line cites isn't of the form that it needs")]
+    OtherForm,
+    #[error("the condition of the rule fails")]
+    FailedCondition(RuleName),
+    #[error("the fact isn't given by the line")]
+    FailedFact,
+    #[error("the rule gives another result")]
+    OtherLine,
+}

@@ -1,0 +1,19 @@
+//! The laws of logs. The functions do nothing: their contracts are the laws.
+
+ghost use Rattle.lines.specs.Laws.{BookIsSound, LogsAreTrue, SamenessIsLeast};
+
+/// Each rule of the book is sound.
+pub fn book_is_sound()
+    ensures { BookIsSound }
+{}
+
+/// In each database that satisfies the schema, what the lines of a log that replays say is true.
+pub fn logs_are_true()
+    ensures { LogsAreTrue }
+{}
+
+/// The classes of a log that replays are the same where the least equivalence says so that makes the two classes of each line one
+/// that unites two.
+pub fn sameness_is_least()
+    ensures { SamenessIsLeast }
+{}
