@@ -1,4 +1,5 @@
 pub mod AggregateLists
+pub mod Alike
 pub mod BagSums
 pub mod ConditionNames
 pub mod ConjunctLists
@@ -16,6 +17,7 @@ pub mod Same
 pub mod SameBags
 pub mod SameConditions
 pub mod SameGroups
+pub mod SameInputs
 pub mod Searches
 pub mod Sets
 pub mod TextEquations

@@ -1,6 +1,6 @@
 -- Lists under maps.
-use Rattle.std.proofs.Common.{◌≡◌, refl, ap, sym, ◌∙◌, Bool, true, false, not, if◌then◌else◌, List, [], ◌∷◌, map, filter, flat_map}
-use Rattle.std.specs.List.{AllByRecursion}
+use Rattle.std.proofs.Common.{◌≡◌, refl, ap, sym, ◌∙◌, Bool, true, false, not, ◌&&◌, ◌||◌, if◌then◌else◌, List, [], ◌∷◌, map, filter, flat_map}
+use Rattle.std.specs.List.{AllByRecursion, list_all, list_any}
 use Rattle.std.proofs.lemmas.List.{map-append}
 use Rattle.values.proofs.Each.{all_filter}
 use Rattle.values.proofs.Lists.{filter-map}
@@ -37,6 +37,19 @@ all-map P Q g (x ∷ xs) h all = (h x all.0, all-map P Q g xs h all.1)
 pub all-each : {X : Type 0} (P : X → Type 0) → ((x : X) → P x) → (xs : List X) → AllByRecursion P xs
 all-each P h [] = tt
 all-each P h (x ∷ xs) = (h x, all-each P h xs)
+
+-- one passes where not all fail
+pub any_not : {X : Type 0} (p : X → Bool) (xs : List X) → list_any p xs ≡ not (list_all (λ x. not (p x)) xs)
+any_not p [] = refl
+any_not p (x ∷ xs) = ap (λ b. p x || b) (any_not p xs) ∙ at (p x) (list_all (λ x. not (p x)) xs)
+  where
+    at : (a b : Bool) → (a || not b) ≡ not (not a && b)
+    at true b = refl
+    at false b = refl
+
+pub all-map-same : {X Y : Type 0} (f : X → Y) (p : Y → Bool) (q : X → Bool) (xs : List X) → ((x : X) → p (f x) ≡ q x) → list_all p (map f xs) ≡ list_all q xs
+all-map-same f p q [] same = refl
+all-map-same f p q (x ∷ xs) same = rw (same x, all-map-same f p q xs same) refl
 
 -- ---- one of each
 

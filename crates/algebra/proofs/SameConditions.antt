@@ -11,7 +11,7 @@ use Rattle.algebra.specs.declared.condition.Condition.{Condition, roll-Condition
 use Rattle.algebra.specs.declared.condition.Condition.TheOpen.{Condition-F}
 use Rattle.algebra.specs.Columns.{has}
 use Rattle.algebra.specs.Bags.{Env, Bag, SameRows, SameBag}
-use Rattle.algebra.specs.Conditions.{Meaning, truth_layer, truth, term_value, is_empty, holds, named_layer, named_classes, classes_in}
+use Rattle.algebra.specs.Conditions.{Meaning, truth_layer, truth, term_value, is_empty, holds, allows, named_layer, named_classes, classes_in}
 use Rattle.algebra.proofs.Lists.{two}
 use Rattle.algebra.proofs.Puts.{among-append}
 use Rattle.algebra.proofs.Sets.{has-rising}
@@ -66,10 +66,10 @@ is_empty-same xs ys same = none xs ∙ ap not (any-same (λ s. true) xs ys same)
 abbrev pub SameClasses : List ℕ → (ℕ → Bag) → (ℕ → Bag) → Type 0
 SameClasses classes V W = (g : ℕ) → has classes g ≡ true → SameBag (V g) (W g)
 
-same-left : (gs hs : List ℕ) (V W : ℕ → Bag) → SameClasses (gs ++ hs) V W → SameClasses gs V W
+pub same-left : (gs hs : List ℕ) (V W : ℕ → Bag) → SameClasses (gs ++ hs) V W → SameClasses gs V W
 same-left gs hs V W same g in_ = same g (among-append g gs hs ∙ or_left _ _ in_)
 
-same-right : (gs hs : List ℕ) (V W : ℕ → Bag) → SameClasses (gs ++ hs) V W → SameClasses hs V W
+pub same-right : (gs hs : List ℕ) (V W : ℕ → Bag) → SameClasses (gs ++ hs) V W → SameClasses hs V W
 same-right gs hs V W same g in_ = same g (among-append g gs hs ∙ or_right (has gs g) _ in_)
 
 same-first : (g : ℕ) (V W : ℕ → Bag) → SameClasses (g ∷ []) V W → SameBag (V g) (W g)
@@ -110,11 +110,16 @@ step y V W same r =
 pub truth-same : (c : Condition) → P c
 truth-same = ind-Condition P (λ x y is. subst (λ z. P (roll-Condition z)) is (step y))
 
-holds-among : (C : List Condition) (V W : ℕ → Bag) → SameClasses (flat_map named_classes C) V W → SameTest (holds V C) (holds W C)
+-- conditions pass the same rows where the classes that they name have the same bags
+pub holds-among : (C : List Condition) (V W : ℕ → Bag) → SameClasses (flat_map named_classes C) V W → SameTest (holds V C) (holds W C)
 holds-among [] V W same r = refl
 holds-among (c ∷ C) V W same r =
     rw (truth-same c V W (same-left (named_classes c) (flat_map named_classes C) V W same) r, holds-among C V W (same-right (named_classes c) (flat_map named_classes C) V W same) r) refl
 
--- conditions pass the same rows where the classes that they name have the same bags
+pub allows-among : (C : List Condition) (V W : ℕ → Bag) → SameClasses (flat_map named_classes C) V W → SameTest (allows V C) (allows W C)
+allows-among [] V W same r = refl
+allows-among (c ∷ C) V W same r =
+    rw (truth-same c V W (same-left (named_classes c) (flat_map named_classes C) V W same) r, allows-among C V W (same-right (named_classes c) (flat_map named_classes C) V W same) r) refl
+
 pub holds-same : (C : List Condition) (V W : ℕ → Bag) → SameClasses (classes_in C) V W → SameTest (holds V C) (holds W C)
 holds-same C V W same = holds-among C V W (λ g in_. same g (has-rising g (flat_map named_classes C) ∙ in_))

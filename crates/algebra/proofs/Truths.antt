@@ -62,3 +62,21 @@ true-from a (t ∷ ts) = true-from (conjunction a t) ts ∙ ap (λ b. b && list_
 
 pub true-all : (ts : List Truth) → is_true (all_of ts) ≡ list_all is_true ts
 true-all ts = true-from be.True ts
+
+-- ---- and it isn't false where none is
+
+allowed-and : (a b : Truth) → not (is_true (negation (conjunction a b))) ≡ (not (is_true (negation a)) && not (is_true (negation b)))
+allowed-and be.False b = refl
+allowed-and be.Unknown be.False = refl
+allowed-and be.Unknown be.Unknown = refl
+allowed-and be.Unknown be.True = refl
+allowed-and be.True b = refl
+
+allowed-from : (a : Truth) (ts : List Truth) → not (is_true (negation (fold conjunction a ts))) ≡ (not (is_true (negation a)) && list_all (λ t. not (is_true (negation t))) ts)
+allowed-from a [] = sym (and-true (not (is_true (negation a))))
+allowed-from a (t ∷ ts) =
+    allowed-from (conjunction a t) ts ∙ ap (λ b. b && list_all (λ t. not (is_true (negation t))) ts) (allowed-and a t)
+    ∙ and_assoc (not (is_true (negation a))) (not (is_true (negation t))) (list_all (λ t. not (is_true (negation t))) ts)
+
+pub allowed-all : (ts : List Truth) → not (is_true (negation (all_of ts))) ≡ list_all (λ t. not (is_true (negation t))) ts
+allowed-all ts = allowed-from be.True ts

@@ -1,4 +1,5 @@
 pub mod AggregateOrder
+pub mod Alike
 pub mod Bags
 pub mod Classes
 pub mod Columns

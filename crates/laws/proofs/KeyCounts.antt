@@ -1,7 +1,7 @@
 -- How many rows of a bag pass, as it is made of others: from which keys and columns without Null follow.
 use Rattle.std.proofs.Common.{◌≡◌, refl, ap, sym, ◌∙◌, inl, inr, ℕ, ◌+◌, ◌≤◌, ◌==◌, Bool, true, false, not, ◌&&◌, ◌||◌, if◌then◌else◌, List, [], ◌∷◌, ◌++◌, map, filter, arith}
 use Rattle.std.specs.Cmp.{both_ways}
-use Rattle.std.specs.List.{list_any, list_all}
+use Rattle.std.specs.List.{list_all}
 use Rattle.std.proofs.lemmas.Bool.{or_left, or_right, eq-eqb, eqb-true, cases_Bool}
 use Rattle.std.proofs.lemmas.List.Folds.{list_all-append, list_any-append}
 use Rattle.values.specs.Truth.{is_null}
@@ -10,6 +10,7 @@ use Rattle.query.specs.Meaning.{or_else_row}
 use Rattle.algebra.specs.Columns.{ColumnSet, has, rising}
 use Rattle.algebra.specs.Bags.{Env, Test, Bag, total, lay, nulls, same_on, matches, join, left_join, distinct_on}
 use Rattle.algebra.proofs.BagSums.{if_passes, total-map, total-filter, total-flat_map, total-same, total-zero, total-or_else_row}
+use Rattle.algebra.proofs.Lists.{any_not}
 use Rattle.algebra.proofs.MentionedColumns.{each_has, all_has}
 use Rattle.algebra.proofs.Sets.{has-rising}
 use Rattle.algebra.proofs.UniqueRows.{same_on-along}
@@ -95,14 +96,6 @@ all_rising : (p : ℕ → Bool) (xs : List ℕ) → list_all p (rising xs) ≡ l
 all_rising p xs = both_ways _ _
     (λ all. all_has p xs (λ k in_. each_has p (rising xs) all k (has-rising k xs ∙ in_)))
     (λ all. all_has p (rising xs) (λ k in_. each_has p xs all k (sym (has-rising k xs) ∙ in_)))
-
-pub any_not : (p : ℕ → Bool) (xs : List ℕ) → list_any p xs ≡ not (list_all (λ k. not (p k)) xs)
-any_not p [] = refl
-any_not p (x ∷ xs) = ap (λ b. p x || b) (any_not p xs) ∙ at (p x) (list_all (λ k. not (p k)) xs)
-  where
-    at : (a b : Bool) → (a || not b) ≡ not (not a && b)
-    at true b = refl
-    at false b = refl
 
 -- rows agree on both keys where they agree on all their columns
 pub same_on_both : (K L : List ℕ) (r s : Env) → same_on (rising (K ++ L)) r s ≡ (same_on K r s && same_on L r s)

@@ -9,6 +9,7 @@ use Rattle.algebra.specs.Columns.{ColumnSet, has, is_subset, is_same_set}
 use Rattle.algebra.specs.Bags.{Env, Test, Bag, SameBag, total, lay, same_on, join, left_join, keep}
 use Rattle.std.proofs.lemmas.List.Folds.{list_all-append, list_any-append}
 use Rattle.algebra.proofs.BagSums.{total-zero, total-plus}
+use Rattle.algebra.proofs.Lists.{any_not}
 use Rattle.algebra.proofs.UniqueRows.{same_on-reads}
 use Rattle.algebra.proofs.MentionedColumns.{each_has, all_has}
 use Rattle.laws.specs.Fitting.{Fits}
@@ -70,7 +71,7 @@ module _ (L N : List ℕ) (same_ : is_same_set L N ≡ true) where
   same_on-set r s = all-same (λ c. same (r c) (s c))
 
   pub null-set : (r : Env) → has_null L r ≡ has_null N r
-  null-set r = count.any_not (λ k. is_null (r k)) L ∙ ap not (all-same (λ k. not (is_null (r k)))) ∙ sym (count.any_not (λ k. is_null (r k)) N)
+  null-set r = any_not (λ k. is_null (r k)) L ∙ ap not (all-same (λ k. not (is_null (r k)))) ∙ sym (any_not (λ k. is_null (r k)) N)
 
 -- ---- keys of the class itself
 
