@@ -90,25 +90,25 @@ module _ (uses : List TableInstance) (own : List Aggregation) (D : Tables) where
 
   pub facts-true : (n : ℕ) (V : Classes) (k : ℕ) (same : ℕ → Bool) → ((g : ℕ) → same g ≡ true → AreAlike V k g) → (E : Log) → AreTrue n V E
       → FactsHold (V.columns k) (V.rows k) (facts_among same E)
-  facts-true n V k same alike [] all (NotNull c) is = cc
-  facts-true n V k same alike [] all (WeakKey L) is = cc
-  facts-true n V k same alike [] all (StrongKey L) is = cc
+  facts-true n V k same alike [] all = none
+    where
+      none : FactsHold (V.columns k) (V.rows k) no_facts
+      none (NotNull c) is = cc
+      none (WeakKey L) is = cc
+      none (StrongKey L) is = cc
   facts-true n V k same alike (Founds x ∷ E) all = facts-true n V k same alike E all.1
   facts-true n V k same alike (Adds g s x ∷ E) all = facts-true n V k same alike E all.1
   facts-true n V k same alike (Unites g h s ∷ E) all = facts-true n V k same alike E all.1
-  facts-true n V k same alike (Gives g m f ∷ E) all = by (same g) refl
+  facts-true n V k same alike (Gives g m f ∷ E) all = by (facts-true n V k same alike E all.1) (same g) refl
     where
-      rest : FactsHold (V.columns k) (V.rows k) (facts_among same E)
-      rest = facts-true n V k same alike E all.1
-
-      by : (b : Bool) → same g ≡ b → FactsHold (V.columns k) (V.rows k) (if b then with_fact (facts_among same E) f else facts_among same E)
-      by true is =
+      by : FactsHold (V.columns k) (V.rows k) (facts_among same E) → (b : Bool) → same g ≡ b → FactsHold (V.columns k) (V.rows k) (if b then with_fact (facts_among same E) f else facts_among same E)
+      by rest true is =
           let both = alike g is in
           learnt-hold (V.columns k) (V.rows k) (facts_among same E) rest f (
             subst (λ K. is_subset (fact_columns f) K ≡ true) (sym both.0) all.0.within,
             same-holds (V.rows g) (V.rows k) (same_bag-turned (V.rows k) (V.rows g) both.1) f all.0.holds,
           )
-      by false is = rest
+      by rest false is = rest
 
   -- ---- over other classes that agree
 

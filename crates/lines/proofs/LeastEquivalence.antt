@@ -8,6 +8,7 @@ use Rattle.lines.specs.declared.line.Line.TheVariants.{Founds, Adds, Unites, Giv
 use Rattle.lines.specs.Laws.{SamenessIsLeast}
 use Rattle.lines.specs.Logs.{Log, line_at, united, least, are_same, unites, SameBy, itself, turned, along, by_line}
 use Rattle.lines.proofs.Lookups.{here, earlier, this-or, within}
+use Rattle.lines.proofs.Pairs.{first-is, second-is}
 use Rattle.lines.proofs.Sameness.{united-first, united-relate}
 
 -- ---- classes that are the same are equivalent
@@ -40,8 +41,8 @@ last-line : (l : Line) (E : Log) (g h : ℕ) → unites l ≡ Some (g, h) → le
 last-line (Founds x) E g h is = cc
 last-line (Adds c s x) E g h is = cc
 last-line (Unites a b s) E g h is =
-    let first : a ≡ g = cc in
-    let second : b ≡ h = cc in
+    let first : a ≡ g = first-is a g b h is in
+    let second : b ≡ h = second-is a g b h is in
     subst (λ k. least (Unites a b s ∷ E) k ≡ least (Unites a b s ∷ E) h) first
     (subst (λ k. least (Unites a b s ∷ E) a ≡ least (Unites a b s ∷ E) k) second (united-first (least E a) (least E b)))
 last-line (Gives c m f) E g h is = cc

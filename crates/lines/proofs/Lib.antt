@@ -2,6 +2,7 @@ pub mod Agreement
 pub mod Invariants
 pub mod LeastEquivalence
 pub mod Lookups
+pub mod Pairs
 pub mod RuleLaws
 pub mod Sameness
 pub mod Spellings

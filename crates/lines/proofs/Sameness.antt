@@ -1,6 +1,6 @@
 -- Classes that are the same.
 use Rattle.std.proofs.Common.{◌≡◌, refl, ap, sym, ◌∙◌, subst, inl, inr, ◌⊎◌, ℕ, ◌<◌, ◌≤◌, Bool, true, false, ◌||◌, ◌==◌, nat_lt, List, [], ◌∷◌, length, if◌then◌else◌, arith}
-use Rattle.std.proofs.lemmas.Bool.{eq-eqb, ne_eqb, eqb-true, or_cases, ltb-true}
+use Rattle.std.proofs.lemmas.Bool.{eq-eqb, ne_eqb, eqb-true, ltb-true, ltb-false}
 use Rattle.lines.specs.declared.line.Line.{Line}
 use Rattle.lines.specs.declared.line.Line.TheVariants.{Founds, Adds, Unites, Gives}
 use Rattle.lines.specs.Logs.{Log, lesser, united, least}
@@ -23,7 +23,7 @@ lesser-low a b = by (nat_lt b a) refl
   where
     by : (t : Bool) → nat_lt b a ≡ t → ((if t then b else a) ≤ a) × ((if t then b else a) ≤ b)
     by true is = let lt : b < a = ltb-true b a is in (omega (arith, lt), omega arith)
-    by false is = (omega arith, omega (arith, is))
+    by false is = let le : a ≤ b = ltb-false b a is in (omega arith, omega (arith, le))
 
 -- what a number becomes: the lesser of two if it is one of them, else it stays
 united-is : (a b r : ℕ) → (IsEither a b r × (united a b r ≡ lesser a b)) ⊎ ((IsEither a b r → ⊥) × (united a b r ≡ r))
@@ -121,18 +121,18 @@ same-below E below x y is = by (nat_lt x (length E)) (nat_lt y (length E)) refl 
     by true false lt other =
         let low : least E x ≤ x = least-low E x in
         let first : x < length E = ltb-true x (length E) lt in
-        let second : length E ≤ y = omega (arith, other) in
+        let second : length E ≤ y = ltb-false y (length E) other in
         let high : least E y ≡ y = least-high E below y second in
         absurd (omega (arith, low, first, second, high, is))
     by false true lt other =
         let low : least E y ≤ y = least-low E y in
         let first : y < length E = ltb-true y (length E) other in
-        let second : length E ≤ x = omega (arith, lt) in
+        let second : length E ≤ x = ltb-false x (length E) lt in
         let high : least E x ≡ x = least-high E below x second in
         absurd (omega (arith, low, first, second, high, is))
     by false false lt other =
-        let first : length E ≤ x = omega (arith, lt) in
-        let second : length E ≤ y = omega (arith, other) in
+        let first : length E ≤ x = ltb-false x (length E) lt in
+        let second : length E ≤ y = ltb-false y (length E) other in
         inl (sym (least-high E below x first) ∙ is ∙ least-high E below y second)
 
 -- ---- one more line that unites two classes

@@ -20,6 +20,7 @@ use Rattle.rules.specs.declared.shape.Shape.{Shape, roll-Shape, fold-roll-Shape,
 use Rattle.rules.specs.declared.shape.Shape.TheOpen.{Shape-F}
 use Rattle.rules.specs.Matches.{Line}
 use Rattle.rules.specs.Shapes.{Meant, shape_layer, meant}
+use Rattle.lines.proofs.Pairs.{first-is}
 use Rattle.lines.specs.Spelling.{Spelt, Spelling, class_with, class_by, over_one, over_two, spelling_layer, spelling}
 
 module _ (uses : List TableInstance) (own : List Aggregation) (D : Tables) (V : Classes) (member : ℕ → Option Line)
@@ -69,16 +70,14 @@ module _ (uses : List TableInstance) (own : List Aggregation) (D : Tables) (V : 
   by-class m f exprs (i ∷ makes) left g is =
       found _ (f makes) (g, left) is (λ p at next.
       found _ (class_with p.0 (member i)) (g, left) next (λ k there last.
-      let same : k ≡ g = cc in
-      subst (IsClass m) same (with-class m p.0 i k (exprs makes p.1 p.0 at) there)))
+      subst (IsClass m) (first-is k g p.1 left last) (with-class m p.0 i k (exprs makes p.1 p.0 at) there)))
 
   one-spells : (f : ℕ → Expr) (m n : Meant) (s : Spelling) → ((g : ℕ) → IsClass n g → IsExpr m (f g)) → Spells n s → Spells m (over_one member f s)
   one-spells f m n s each spells = record { expr = exprs; class = by-class m _ exprs }
     where
       exprs : (makes left : List ℕ) (x : Expr) → (over_one member f s).expr makes ≡ Some (x, left) → IsExpr m x
       exprs makes left x is = found _ (s.class makes) (x, left) is (λ p at last.
-          let same : f p.0 ≡ x = cc in
-          subst (IsExpr m) same (each p.0 (spells.class makes p.1 p.0 at)))
+          subst (IsExpr m) (first-is (f p.0) x p.1 left last) (each p.0 (spells.class makes p.1 p.0 at)))
 
   two-spell : (f : ℕ → ℕ → Expr) (m n k : Meant) (s t : Spelling) → ((g h : ℕ) → IsClass n g → IsClass k h → IsExpr m (f g h)) → Spells n s → Spells k t → Spells m (over_two member f s t)
   two-spell f m n k s t each first second = record { expr = exprs; class = by-class m _ exprs }
@@ -86,8 +85,7 @@ module _ (uses : List TableInstance) (own : List Aggregation) (D : Tables) (V : 
       exprs : (makes left : List ℕ) (x : Expr) → (over_two member f s t).expr makes ≡ Some (x, left) → IsExpr m x
       exprs makes left x is = found _ (s.class makes) (x, left) is (λ p at next.
           found _ (t.class p.1) (x, left) next (λ q there last.
-          let same : f p.0 q.0 ≡ x = cc in
-          subst (IsExpr m) same (each p.0 q.0 (first.class makes p.1 p.0 at) (second.class p.1 q.1 q.0 there))))
+          subst (IsExpr m) (first-is (f p.0 q.0) x q.1 left last) (each p.0 q.0 (first.class makes p.1 p.0 at) (second.class p.1 q.1 q.0 there))))
 
   -- ---- operators over inputs that are classes
 
@@ -122,7 +120,7 @@ module _ (uses : List TableInstance) (own : List Aggregation) (D : Tables) (V : 
       → Spells (shape_layer V (map-Shape Shape Meant (meant V) (map-Shape Part Shape (λ p. p.0) y))) (spelling_layer member (map-Shape Shape Spelling (spelling member) (map-Shape Part Shape (λ p. p.0) y)))
   layer (Shape-F.Class g) = record {
     expr = λ makes left x is. cc;
-    class = λ makes left h is. let same : g ≡ h = cc in subst (IsClass (record { columns = V.columns g; rows = V.rows g })) same (refl, λ e f. refl);
+    class = λ makes left h is. subst (IsClass (record { columns = V.columns g; rows = V.rows g })) (first-is g h makes left is) (refl, λ e f. refl);
   }
   layer (Shape-F.Select C a) = one-spells (expr.Select C) _ (meant V a.0) (spelling member a.0) (λ g is. (is.0, select-same (holds V.rows C) (holds V.rows C) _ _ (equal (holds V.rows C)) is.1)) a.1
   layer (Shape-F.Join C a b) = two-spell (expr.Join C) _ (meant V a.0) (meant V b.0) (spelling member a.0) (spelling member b.0)

@@ -106,12 +106,11 @@ module _ (uses : List TableInstance) (own : List Aggregation) (E : Log) where
       let line : Line = Adds g s x in
       let last : Line → Shape → Result Line LineReason = λ l shape. wanted_if OtherLine (is_expr (member E) shape s.makes x) l in
       let rule : Line → Result Line LineReason = λ l. given uses own E g s >>= last l in
-      let formed : Line → Result Line LineReason = λ l. wanted_if IllFormed (is_formed uses own cols x && same_columns (columns_of uses cols x) (cols g)) l in
-      let first = both_ok (wanted_if UnknownLine (founds E g && cites E s && is_known uses own E x) line >>= formed) rule l is in
-      let one = test UnknownLine _ line formed first.0 first.1 in
-      let two = wanted_if_ok IllFormed _ line first.0 one.1 in
-      let three = both_ok (given uses own E g s) (last first.0) l first.2 in
-      let four = wanted_if_ok OtherLine _ first.0 l three.2 in
+      let formed : Line → Result Line LineReason = λ l. wanted_if IllFormed (is_formed uses own cols x && same_columns (columns_of uses cols x) (cols g)) l >>= rule in
+      let one = test UnknownLine (founds E g && cites E s && is_known uses own E x) line formed l is in
+      let two = test IllFormed _ line rule l one.1 in
+      let three = both_ok (given uses own E g s) (last line) l two.1 in
+      let four = wanted_if_ok OtherLine _ line l three.2 in
       let names = and_parts _ _ one.0 in
       let shapes = and_parts _ _ two.0 in
       record {
@@ -137,12 +136,11 @@ module _ (uses : List TableInstance) (own : List Aggregation) (E : Log) where
       let line : Line = Unites g h s in
       let last : Line → Shape → Result Line LineReason = λ l shape. wanted_if OtherLine (is_class (member E) shape s.makes (are_same E h)) l in
       let rule : Line → Result Line LineReason = λ l. given uses own E g s >>= last l in
-      let formed : Line → Result Line LineReason = λ l. wanted_if IllFormed (same_columns (cols g) (cols h)) l in
-      let first = both_ok (wanted_if UnknownLine (founds E g && founds E h && cites E s) line >>= formed) rule l is in
-      let one = test UnknownLine _ line formed first.0 first.1 in
-      let two = wanted_if_ok IllFormed _ line first.0 one.1 in
-      let three = both_ok (given uses own E g s) (last first.0) l first.2 in
-      let four = wanted_if_ok OtherLine _ first.0 l three.2 in
+      let formed : Line → Result Line LineReason = λ l. wanted_if IllFormed (same_columns (cols g) (cols h)) l >>= rule in
+      let one = test UnknownLine (founds E g && founds E h && cites E s) line formed l is in
+      let two = test IllFormed _ line rule l one.1 in
+      let three = both_ok (given uses own E g s) (last line) l two.1 in
+      let four = wanted_if_ok OtherLine _ line l three.2 in
       let names = and_parts _ _ (and_parts _ _ one.0).0 in
       record {
         first = names.0;
@@ -165,14 +163,12 @@ module _ (uses : List TableInstance) (own : List Aggregation) (E : Log) where
   gives-stands g m f l is =
       let line : Line = Gives g m f in
       let last : Line → Result Line LineReason = λ l. wanted_if FailedFact (gives_fact uses own E g f (member E m)) l in
-      let member_ : Line → Result Line LineReason = λ l. wanted_if OtherForm (is_of E g (member E m)) l in
-      let formed : Line → Result Line LineReason = λ l. wanted_if IllFormed (is_subset (fact_columns f) (cols g)) l in
-      let first = both_ok (wanted_if UnknownLine (founds E g && is_earlier E m) line >>= formed >>= member_) last l is in
-      let second = both_ok (wanted_if UnknownLine (founds E g && is_earlier E m) line >>= formed) member_ first.0 first.1 in
-      let one = test UnknownLine _ line formed second.0 second.1 in
-      let two = wanted_if_ok IllFormed _ line second.0 one.1 in
-      let three = wanted_if_ok OtherForm _ second.0 first.0 second.2 in
-      let four = wanted_if_ok FailedFact _ first.0 l first.2 in
+      let member_ : Line → Result Line LineReason = λ l. wanted_if OtherForm (is_of E g (member E m)) l >>= last in
+      let formed : Line → Result Line LineReason = λ l. wanted_if IllFormed (is_subset (fact_columns f) (cols g)) l >>= member_ in
+      let one = test UnknownLine (founds E g && is_earlier E m) line formed l is in
+      let two = test IllFormed _ line member_ l one.1 in
+      let three = test OtherForm _ line last l two.1 in
+      let four = wanted_if_ok FailedFact _ line l three.1 in
       by (member E m) refl (and_parts _ _ one.0).0 two.0 three.0 four.0
     where
       by : (o : Option matches.Line) → member E m ≡ o → founds E g ≡ true → is_subset (fact_columns f) (cols g) ≡ true → is_of E g o ≡ true → gives_fact uses own E g f o ≡ true → StandsGives g m f
@@ -236,12 +232,13 @@ module _ (S : Schema) (B : Database) (satisfies : Satisfies S B) (uses : List Ta
 
     all-lines : (numbers : List ℕ) (lines : List matches.Line) → members E numbers ≡ Some lines → AllByRecursion (IsLine K W) lines
     all-lines [] lines is = subst (AllByRecursion (IsLine K W)) (let e : [] ≡ lines = cc in e) tt
-    all-lines (i ∷ numbers) lines is = by (member E i) (members E numbers) refl refl is
+    all-lines (i ∷ numbers) lines is = by (member E i) (members E numbers) refl (all-lines numbers) is
       where
-        by : (o : Option matches.Line) (rest : Option (List matches.Line)) → member E i ≡ o → members E numbers ≡ rest → spec.both_lines o rest ≡ Some lines → AllByRecursion (IsLine K W) lines
+        by : (o : Option matches.Line) (rest : Option (List matches.Line)) → member E i ≡ o → ((others : List matches.Line) → rest ≡ Some others → AllByRecursion (IsLine K W) others)
+            → spec.both_lines o rest ≡ Some lines → AllByRecursion (IsLine K W) lines
         by None rest at later is = cc
         by (Some l) None at later is = cc
-        by (Some l) (Some others) at later is = subst (AllByRecursion (IsLine K W)) (let e : (l ∷ others) ≡ lines = cc in e) (is-line i l at, all-lines numbers others later)
+        by (Some l) (Some others) at later is = subst (AllByRecursion (IsLine K W)) (let e : (l ∷ others) ≡ lines = cc in e) (is-line i l at, later others refl)
 
     -- a step from a class gives what has the class's bag
     step-true : (g : ℕ) (s : Step) (shape : Shape) → IsGiven uses own E g s shape → SameBag ((V E).rows g) (meant (V E) shape).rows

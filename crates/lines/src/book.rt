@@ -1,5 +1,6 @@
 //! The rule book: the rules by their names in certificates.
 
+ghost use Rattle.std.specs.Prelude.{◌≡◌};
 ghost use Rattle.values.specs.Faults.{Gives};
 ghost use Rattle.rules.specs.Matches.{matched};
 ghost use Rattle.lines.specs.Book as spec;
