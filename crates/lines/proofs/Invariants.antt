@@ -17,7 +17,7 @@ use Rattle.props.proofs.LearntFacts.{learnt-hold}
 use Rattle.props.proofs.SoundFacts.{same-holds}
 use Rattle.rules.specs.Matches as matches
 use Rattle.lines.specs.declared.line.Line.{Line}
-use Rattle.lines.specs.declared.line.Line.TheVariants.{Founds, Adds, Unites, Gives}
+use Rattle.lines.specs.declared.line.Line.TheVariants.{Founds, Adds, Unites, Alike, Gives}
 use Rattle.lines.specs.Logs.{Log, line_at, as_member, member, facts_among}
 use Rattle.lines.proofs.Agreement.{means-agree, columns-agree, formed-agree}
 use Rattle.lines.proofs.Lookups.{this-or, classes-wider}
@@ -58,6 +58,7 @@ module _ (uses : List TableInstance) (own : List Aggregation) (D : Tables) where
   IsTrueLine n V i (Founds x) = IsMember n V (record { class = i; expr = x })
   IsTrueLine n V i (Adds g s x) = IsMember n V (record { class = g; expr = x })
   IsTrueLine n V i (Unites g h s) = Unit {0}
+  IsTrueLine n V i (Alike j k) = Unit {0}
   IsTrueLine n V i (Gives g m f) = IsFact n V g f
 
   abbrev pub AreTrue : ℕ → Classes → Log → Type 0
@@ -70,6 +71,7 @@ module _ (uses : List TableInstance) (own : List Aggregation) (D : Tables) where
   as-member-true n V i (Founds x) l is at = subst (IsMember n V) (let e : record { class = i; expr = x } ≡ l = cc in e) is
   as-member-true n V i (Adds g s x) l is at = subst (IsMember n V) (let e : record { class = g; expr = x } ≡ l = cc in e) is
   as-member-true n V i (Unites g h s) l is at = cc
+  as-member-true n V i (Alike j k) l is at = cc
   as-member-true n V i (Gives g m f) l is at = cc
 
   line-true : (n : ℕ) (V : Classes) (E : Log) → AreTrue n V E → (i : ℕ) (k : Line) → line_at E i ≡ Some k → IsTrueLine n V i k
@@ -99,6 +101,7 @@ module _ (uses : List TableInstance) (own : List Aggregation) (D : Tables) where
   facts-true n V k same alike (Founds x ∷ E) all = facts-true n V k same alike E all.1
   facts-true n V k same alike (Adds g s x ∷ E) all = facts-true n V k same alike E all.1
   facts-true n V k same alike (Unites g h s ∷ E) all = facts-true n V k same alike E all.1
+  facts-true n V k same alike (Alike i j ∷ E) all = facts-true n V k same alike E all.1
   facts-true n V k same alike (Gives g m f ∷ E) all = by (facts-true n V k same alike E all.1) (same g) refl
     where
       by : FactsHold (V.columns k) (V.rows k) (facts_among same E) → (b : Bool) → same g ≡ b → FactsHold (V.columns k) (V.rows k) (if b then with_fact (facts_among same E) f else facts_among same E)
@@ -139,6 +142,7 @@ module _ (uses : List TableInstance) (own : List Aggregation) (D : Tables) where
     line-stays i (Founds x) is = member-stays _ is
     line-stays i (Adds g s x) is = member-stays _ is
     line-stays i (Unites g h s) is = tt
+    line-stays i (Alike j k) is = tt
     line-stays i (Gives g m f) is = fact-stays g f is
 
     pub all-stay : (E : Log) → AreTrue n V E → AreTrue (suc n) W E

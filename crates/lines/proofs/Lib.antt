@@ -6,4 +6,5 @@ pub mod Pairs
 pub mod RuleLaws
 pub mod Sameness
 pub mod Spellings
+pub mod Standing
 pub mod Truth

@@ -45,6 +45,16 @@ founded E g is = by (line_at E g) refl is
     by None at is = cc
     by (Some l) at is = within E g l at
 
+pub member-within : (E : Log) (i : ℕ) (l : matches.Line) → member E i ≡ Some l → i < length E
+member-within E i l is = by (line_at E i) refl is
+  where
+    by : (o : Option Line) → line_at E i ≡ o → as_member i o ≡ Some l → i < length E
+    by None at is = cc
+    by (Some k) at is = within E i k at
+
+pub member-stays : (k : Line) (E : Log) (i : ℕ) (l : matches.Line) → member E i ≡ Some l → member (k ∷ E) i ≡ Some l
+member-stays k E i l is = ap (as_member i) (earlier k E i (member-within E i l is)) ∙ is
+
 -- ---- classes, once there is one line more
 
 pub columns-stay : (uses : List TableInstance) (l : Line) (E : Log) (g : ℕ) → g < length E → class_columns uses (entries (l ∷ E)) g ≡ class_columns uses (entries E) g

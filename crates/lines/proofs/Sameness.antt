@@ -2,8 +2,8 @@
 use Rattle.std.proofs.Common.{◌≡◌, refl, ap, sym, ◌∙◌, subst, inl, inr, ◌⊎◌, ℕ, ◌<◌, ◌≤◌, Bool, true, false, ◌||◌, ◌==◌, nat_lt, List, [], ◌∷◌, length, if◌then◌else◌, arith}
 use Rattle.std.proofs.lemmas.Bool.{eq-eqb, ne_eqb, eqb-true, ltb-true, ltb-false}
 use Rattle.lines.specs.declared.line.Line.{Line}
-use Rattle.lines.specs.declared.line.Line.TheVariants.{Founds, Adds, Unites, Gives}
-use Rattle.lines.specs.Logs.{Log, lesser, united, least}
+use Rattle.lines.specs.declared.line.Line.TheVariants.{Founds, Adds, Unites, Alike, Gives}
+use Rattle.lines.specs.Logs.{Log, lesser, united, class_at, least}
 
 -- ---- two classes united
 
@@ -32,10 +32,13 @@ united-is a b r = by (r == a) (r == b) refl refl
     by : (t u : Bool) → (r == a) ≡ t → (r == b) ≡ u → (IsEither a b r × ((if t || u then lesser a b else r) ≡ lesser a b)) ⊎ ((IsEither a b r → ⊥) × ((if t || u then lesser a b else r) ≡ r))
     by true u is other = inl (inl (eqb-true r a is), refl)
     by false true is other = inl (inr (eqb-true r b other), refl)
-    by false false is other = inr ((λ e. elim e [
-      | inl e ↦ let no : false ≡ true = sym is ∙ eq-eqb r a e in cc
-      | inr e ↦ let no : false ≡ true = sym other ∙ eq-eqb r b e in cc
-    ]), refl)
+    by false false is other = inr (
+      (λ e. elim e [
+        | inl e ↦ let no : false ≡ true = sym is ∙ eq-eqb r a e in cc
+        | inr e ↦ let no : false ≡ true = sym other ∙ eq-eqb r b e in cc
+      ]),
+      refl,
+    )
 
 -- numbers that become one were one, or are both of the two
 pub united-one : (a b r t : ℕ) → united a b r ≡ united a b t → (r ≡ t) ⊎ (IsEither a b r × IsEither a b t)
@@ -80,14 +83,15 @@ united-stays a b r lt other = elim (united-is a b r) [
 
 -- ---- the least same class
 
+lower : {a b c : ℕ} → a ≤ b → b ≤ c → a ≤ c
+lower first second = omega (arith, first, second)
+
 pub least-low : (E : Log) (k : ℕ) → least E k ≤ k
 least-low [] k = omega arith
 least-low (Founds x ∷ E) k = least-low E k
 least-low (Adds g s x ∷ E) k = least-low E k
-least-low (Unites g h s ∷ E) k =
-    let first : united (least E g) (least E h) (least E k) ≤ least E k = united-low (least E g) (least E h) (least E k) in
-    let then_ : least E k ≤ k = least-low E k in
-    omega (arith, first, then_)
+least-low (Unites g h s ∷ E) k = lower (united-low (least E g) (least E h) (least E k)) (least-low E k)
+least-low (Alike i j ∷ E) k = lower (united-low (least E (class_at E i)) (least E (class_at E j)) (least E k)) (least-low E k)
 least-low (Gives g m f ∷ E) k = least-low E k
 
 -- lines unite classes of earlier lines
@@ -96,20 +100,22 @@ AreBelow [] = Unit {0}
 AreBelow (Founds x ∷ E) = AreBelow E
 AreBelow (Adds g s x ∷ E) = AreBelow E
 AreBelow (Unites g h s ∷ E) = (g < length E) × (h < length E) × AreBelow E
+AreBelow (Alike i j ∷ E) = (class_at E i < length E) × (class_at E j < length E) × AreBelow E
 AreBelow (Gives g m f ∷ E) = AreBelow E
 
 -- a number past all lines is the same as no other
+high : (E : Log) (g h k : ℕ) → g < length E → h < length E → length E ≤ k → least E k ≡ k → united (least E g) (least E h) (least E k) ≡ k
+high E g h k lt other le is =
+    let first : least E g ≤ g = least-low E g in
+    let second : least E h ≤ h = least-low E h in
+    ap (united (least E g) (least E h)) is ∙ united-stays (least E g) (least E h) k (omega (arith, le, first, lt)) (omega (arith, le, second, other))
+
 pub least-high : (E : Log) → AreBelow E → (k : ℕ) → length E ≤ k → least E k ≡ k
 least-high [] below k le = refl
 least-high (Founds x ∷ E) below k le = least-high E below k (omega (arith, le))
 least-high (Adds g s x ∷ E) below k le = least-high E below k (omega (arith, le))
-least-high (Unites g h s ∷ E) below k le =
-    let is : least E k ≡ k = least-high E below.2 k (omega (arith, le)) in
-    let first : least E g ≤ g = least-low E g in
-    let second : least E h ≤ h = least-low E h in
-    let lt : g < length E = below.0 in
-    let other : h < length E = below.1 in
-    ap (united (least E g) (least E h)) is ∙ united-stays (least E g) (least E h) k (omega (arith, le, first, lt)) (omega (arith, le, second, other))
+least-high (Unites g h s ∷ E) below k le = let less : length E ≤ k = omega (arith, le) in high E g h k below.0 below.1 less (least-high E below.2 k less)
+least-high (Alike i j ∷ E) below k le = let less : length E ≤ k = omega (arith, le) in high E (class_at E i) (class_at E j) k below.0 below.1 less (least-high E below.2 k less)
 least-high (Gives g m f ∷ E) below k le = least-high E below k (omega (arith, le))
 
 -- classes that are the same are both of earlier lines, or one

@@ -135,9 +135,9 @@ module _ (uses : List TableInstance) (own : List Aggregation) (D : Tables) (V : 
       (λ g h is other. (is.0, sides-rows (λ x y B. anti p (has B) x y) (λ B x y z w. anti-same p p (has B) x y z w (equal p)) _ _ g h is other)) a.1 b.1
   layer (Shape-F.Keep K a) = one-spells (expr.Keep K) _ (meant V a.0) (spelling member a.0) (λ g is. (refl, keep-same (has K) _ _ is.1)) a.1
   layer (Shape-F.Distinct a) = one-spells expr.Distinct _ (meant V a.0) (spelling member a.0) (λ g is. (
-      is.0,
-      subst (λ K. SameBag (distinct (meant V a.0).columns (meant V a.0).rows) (distinct K (V.rows g))) is.0 (distinct-same (meant V a.0).columns _ _ is.1),
-    )) a.1
+    is.0,
+    subst (λ K. SameBag (distinct (meant V a.0).columns (meant V a.0).rows) (distinct K (V.rows g))) is.0 (distinct-same (meant V a.0).columns _ _ is.1),
+  )) a.1
 
   step : (y : Shape-F Part) → P (roll-Shape (map-Shape Part Shape (λ p. p.0) y))
   unfolding meant spelling

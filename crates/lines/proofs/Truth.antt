@@ -13,11 +13,13 @@ use Rattle.query.specs.Rows.{Tables, tables_of}
 use Rattle.algebra.specs.declared.expr.Aggregation.{Aggregation}
 use Rattle.algebra.specs.declared.expr.Expr.{Expr}
 use Rattle.algebra.specs.declared.expr.Expr.TheVariants.{Distinct}
+use Rattle.algebra.specs.Alike.{rooted}
 use Rattle.algebra.specs.Bags.{Env, Bag, SameBag}
 use Rattle.algebra.specs.Columns.{is_subset}
 use Rattle.algebra.specs.Equality.{same_columns, same_expr}
 use Rattle.algebra.specs.Expressions.{Classes, means, columns_of, is_formed, classes_pass}
 use Rattle.algebra.specs.Classes.{class_columns, class_rows, classes, AreFormed}
+use Rattle.algebra.proofs.Alike.{alike_is_same}
 use Rattle.algebra.proofs.Same.{equal_columns, equal_expr}
 use Rattle.algebra.proofs.SameBags.{same_bag-trans, same_bag-equal}
 use Rattle.laws.proofs.Expressions.{classes_are_fitting}
@@ -35,145 +37,26 @@ use Rattle.rules.specs.Shapes.{meant}
 use Rattle.rules.specs.Soundness.{World, IsLine, IsMatched}
 use Rattle.lines.specs.declared.book.RuleName.{RuleName}
 use Rattle.lines.specs.declared.line.Line.{Line}
-use Rattle.lines.specs.declared.line.Line.TheVariants.{Founds, Adds, Unites, Gives}
+use Rattle.lines.specs.declared.line.Line.TheVariants.{Founds, Adds, Unites, Alike, Gives}
 use Rattle.lines.specs.declared.line.LineReason.{LineReason}
 use Rattle.lines.specs.declared.line.LineReason.TheVariants.{UnknownLine, IllFormed, OtherForm, FailedFact, OtherLine}
 use Rattle.lines.specs.declared.line.Step.{Step}
 use Rattle.lines.specs.Book.{given_by}
 use Rattle.lines.specs.Laws.{world, IsTrue, LogsAreTrue}
-use Rattle.lines.specs.Logs.{Log, line_at, entry, entries, member, founds, united, least, are_same, facts, knowledge}
+use Rattle.lines.specs.Logs.{Log, line_at, entry, entries, member, or_class, class_at, founds, united, least, are_same, facts, knowledge}
 use Rattle.lines.specs.Replay as spec
-use Rattle.lines.specs.Replay.{Replays, stands, is_known, is_earlier, cites, is_of, members, begins_at, applied_to, or_unfit, given, gives_fact}
+use Rattle.lines.specs.Replay.{Replays, stands, is_known, is_earlier, cites, is_of, members, begins_at, applied_to, or_unfit, given, gives_fact, are_alike}
 use Rattle.lines.specs.Spelling.{spelling, is_whole, is_expr, is_class}
 use Rattle.lines.proofs.RuleLaws.{book_sound}
 use Rattle.lines.proofs.Invariants.{AreAlike, alike-turned, alike-along, AgreeBelow, IsMember, IsFact, IsTrueLine, AreTrue, member-true, facts-true, member-stays, fact-stays, all-stay}
 use Rattle.lines.proofs.Agreement.{means-agree, columns-agree, formed-agree}
-use Rattle.lines.proofs.Lookups.{columns-stay, rows-stay, founded, below, classes-wider}
+use Rattle.lines.proofs.Lookups.{columns-stay, rows-stay, founded, below, classes-wider, member-within}
 use Rattle.lines.proofs.Sameness.{AreBelow, same-below, united-relate}
+use Rattle.lines.proofs.Standing.{IsGiven, StandsFounds, StandsAdds, StandsUnites, StandsGives, StandsAlike, founds-stands, adds-stands, unites-stands, gives-stands, alike-stands}
 use Rattle.lines.proofs.Spellings.{shape-spells}
 
 bag-turned : (a b : Bag) → SameBag a b → SameBag b a
 bag-turned a b h e f = sym (h e f)
-
--- ---- verdicts
-
--- a step behind tests that passed
-test : {A B : Type 0} (r : LineReason) (b : Bool) (x : A) (f : A → Result B LineReason) (y : B) → (wanted_if r b x >>= f) ≡ Ok y → (b ≡ true) × (f x ≡ Ok y)
-test r b x f y is =
-    let parts = both_ok (wanted_if r b x) f y is in
-    let passed = wanted_if_ok r b x parts.0 parts.1 in
-    (passed.0, ap f passed.1 ∙ parts.2)
-
-module _ (uses : List TableInstance) (own : List Aggregation) (E : Log) where
-  abbrev cols : ℕ → List ℕ
-  cols = class_columns uses (entries E)
-
-  record StandsFounds (x : Expr) : Type 0 where
-    known : classes_pass (founds E) x ≡ true
-    formed : is_formed uses own cols x ≡ true
-
-  founds-stands : (x : Expr) (l : Line) → stands uses own E (Founds x) ≡ Ok l → StandsFounds x
-  founds-stands x l is =
-      let one = test UnknownLine (is_known uses own E x) (Founds x) (λ l. wanted_if IllFormed (is_formed uses own cols x) l) l is in
-      record { known = one.0; formed = (wanted_if_ok IllFormed _ (Founds x) l one.1).0 }
-
-  -- what a step gives, and what it is applied to
-  record IsGiven (g : ℕ) (s : Step) (shape : Shape) : Type 0 where
-    matched : Matched
-    applied : applied_to uses own E g s ≡ Some matched
-    gives : given_by s.rule matched ≡ Ok shape
-
-  given-is : (g : ℕ) (s : Step) (shape : Shape) → given uses own E g s ≡ Ok shape → IsGiven g s shape
-  given-is g s shape is =
-      let parts = both_ok (wanted OtherForm (applied_to uses own E g s)) (λ m. or_unfit uses own E s.rule (given_by s.rule m)) shape is in
-      record { matched = parts.0; applied = wanted_ok OtherForm _ parts.0 parts.1; gives = fit (given_by s.rule parts.0) parts.2 }
-    where
-      fit : (r : Result Shape Unfit) → or_unfit uses own E s.rule r ≡ Ok shape → r ≡ Ok shape
-      fit (Ok t) is = let same : t ≡ shape = cc in ap Ok same
-      fit (Err u) is = cc
-
-  record StandsAdds (g : ℕ) (s : Step) (x : Expr) : Type 0 where
-    class : founds E g ≡ true
-    known : classes_pass (founds E) x ≡ true
-    formed : is_formed uses own cols x ≡ true
-    columns : columns_of uses cols x ≡ cols g
-    shape : Shape
-    given_ : IsGiven g s shape
-    spelt : is_expr (member E) shape s.makes x ≡ true
-
-  adds-stands : (g : ℕ) (s : Step) (x : Expr) (l : Line) → stands uses own E (Adds g s x) ≡ Ok l → StandsAdds g s x
-  adds-stands g s x l is =
-      let line : Line = Adds g s x in
-      let last : Line → Shape → Result Line LineReason = λ l shape. wanted_if OtherLine (is_expr (member E) shape s.makes x) l in
-      let rule : Line → Result Line LineReason = λ l. given uses own E g s >>= last l in
-      let formed : Line → Result Line LineReason = λ l. wanted_if IllFormed (is_formed uses own cols x && same_columns (columns_of uses cols x) (cols g)) l >>= rule in
-      let one = test UnknownLine (founds E g && cites E s && is_known uses own E x) line formed l is in
-      let two = test IllFormed _ line rule l one.1 in
-      let three = both_ok (given uses own E g s) (last line) l two.1 in
-      let four = wanted_if_ok OtherLine _ line l three.2 in
-      let names = and_parts _ _ one.0 in
-      let shapes = and_parts _ _ two.0 in
-      record {
-        class = (and_parts _ _ names.0).0;
-        known = names.1;
-        formed = shapes.0;
-        columns = equal_columns _ _ shapes.1;
-        shape = three.0;
-        given_ = given-is g s three.0 three.1;
-        spelt = four.0;
-      }
-
-  record StandsUnites (g h : ℕ) (s : Step) : Type 0 where
-    first : founds E g ≡ true
-    second : founds E h ≡ true
-    columns : cols g ≡ cols h
-    shape : Shape
-    given_ : IsGiven g s shape
-    spelt : is_class (member E) shape s.makes (are_same E h) ≡ true
-
-  unites-stands : (g h : ℕ) (s : Step) (l : Line) → stands uses own E (Unites g h s) ≡ Ok l → StandsUnites g h s
-  unites-stands g h s l is =
-      let line : Line = Unites g h s in
-      let last : Line → Shape → Result Line LineReason = λ l shape. wanted_if OtherLine (is_class (member E) shape s.makes (are_same E h)) l in
-      let rule : Line → Result Line LineReason = λ l. given uses own E g s >>= last l in
-      let formed : Line → Result Line LineReason = λ l. wanted_if IllFormed (same_columns (cols g) (cols h)) l >>= rule in
-      let one = test UnknownLine (founds E g && founds E h && cites E s) line formed l is in
-      let two = test IllFormed _ line rule l one.1 in
-      let three = both_ok (given uses own E g s) (last line) l two.1 in
-      let four = wanted_if_ok OtherLine _ line l three.2 in
-      let names = and_parts _ _ (and_parts _ _ one.0).0 in
-      record {
-        first = names.0;
-        second = names.1;
-        columns = equal_columns _ _ two.0;
-        shape = three.0;
-        given_ = given-is g s three.0 three.1;
-        spelt = four.0;
-      }
-
-  record StandsGives (g m : ℕ) (f : Fact) : Type 0 where
-    class : founds E g ≡ true
-    within_ : is_subset (fact_columns f) (cols g) ≡ true
-    line : matches.Line
-    there : member E m ≡ Some line
-    same : are_same E line.class g ≡ true
-    gives_ : gives uses (knowledge uses E) g line.expr f ≡ true
-
-  gives-stands : (g m : ℕ) (f : Fact) (l : Line) → stands uses own E (Gives g m f) ≡ Ok l → StandsGives g m f
-  gives-stands g m f l is =
-      let line : Line = Gives g m f in
-      let last : Line → Result Line LineReason = λ l. wanted_if FailedFact (gives_fact uses own E g f (member E m)) l in
-      let member_ : Line → Result Line LineReason = λ l. wanted_if OtherForm (is_of E g (member E m)) l >>= last in
-      let formed : Line → Result Line LineReason = λ l. wanted_if IllFormed (is_subset (fact_columns f) (cols g)) l >>= member_ in
-      let one = test UnknownLine (founds E g && is_earlier E m) line formed l is in
-      let two = test IllFormed _ line member_ l one.1 in
-      let three = test OtherForm _ line last l two.1 in
-      let four = wanted_if_ok FailedFact _ line l three.1 in
-      by (member E m) refl (and_parts _ _ one.0).0 two.0 three.0 four.0
-    where
-      by : (o : Option matches.Line) → member E m ≡ o → founds E g ≡ true → is_subset (fact_columns f) (cols g) ≡ true → is_of E g o ≡ true → gives_fact uses own E g f o ≡ true → StandsGives g m f
-      by None at class within_ of_ gives_ = cc
-      by (Some k) at class within_ of_ gives_ = record { class = class; within_ = within_; line = k; there = at; same = of_; gives_ = gives_ }
 
 -- ---- what is true of a log
 
@@ -301,11 +184,13 @@ module _ (S : Schema) (B : Database) (satisfies : Satisfies S B) (uses : List Ta
   count E = length-map E entry
 
   -- a line that founds no class has an entry that is well formed
-  idle : (E : Log) (g : ℕ) → founds E g ≡ true → AreFormed uses own (entries E) → AreFormed uses own (Distinct g ∷ entries E)
-  idle E g is formed =
-      let lt : g < length E = founded E g is in
+  idle-line : (E : Log) (g : ℕ) → g < length E → AreFormed uses own (entries E) → AreFormed uses own (Distinct g ∷ entries E)
+  idle-line E g lt formed =
       let pass : nat_lt g (length (entries E)) ≡ true = lt-ltb g (length (entries E)) (omega (arith, lt, count E)) in
       (rw pass refl, refl, formed)
+
+  idle : (E : Log) (g : ℕ) → founds E g ≡ true → AreFormed uses own (entries E) → AreFormed uses own (Distinct g ∷ entries E)
+  idle E g is = idle-line E g (founded E g is)
 
   low-names : (E : Log) (x : Expr) → classes_pass (founds E) x ≡ true → classes_pass (λ g. nat_lt g (length E)) x ≡ true
   low-names E x known = below E x known
@@ -385,11 +270,37 @@ module _ (S : Schema) (B : Database) (satisfies : Satisfies S B) (uses : List Ta
         same = same-stay l E holds;
       }
 
+  alike-holds : (i j : ℕ) (E : Log) → Holds uses own D E → StandsAlike uses own E i j → Holds uses own D (Alike i j ∷ E)
+  alike-holds i j E holds is =
+      let l : Line = Alike i j in
+      let first = member-true uses own D (length E) (V E) E holds.lines i is.first is.first_at in
+      let second = member-true uses own D (length E) (V E) E holds.lines j is.second is.second_at in
+      let same = alike_is_same uses D (V E) (least E) holds.same is.first.expr is.second.expr is.alike in
+      let alike : AreAlike (V E) is.first.class is.second.class = (
+        sym first.columns ∙ same.0 ∙ second.columns,
+        same_bag-trans _ _ _ first.rows (same_bag-trans _ _ _ same.1 (bag-turned _ _ second.rows)),
+      ) in
+      let one = agree l E is.first.class first.below in
+      let two = agree l E is.second.class second.below in
+      let here : class_at E i ≡ is.first.class = ap (or_class i) is.first_at in
+      let there : class_at E j ≡ is.second.class = ap (or_class j) is.second_at in
+      record {
+        formed = idle-line E i (member-within E i is.first is.first_at) holds.formed;
+        low = (subst (λ g. g < length E) (sym here) first.below, subst (λ g. g < length E) (sym there) second.below, holds.low);
+        lines = (tt, stay l E holds);
+        same = united-relate (AreAlike (V (l ∷ E))) (alike-turned (V (l ∷ E))) (alike-along (V (l ∷ E))) E (same-stay l E holds) (class_at E i) (class_at E j)
+            (subst (λ g. AreAlike (V (l ∷ E)) g (class_at E j)) (sym here) (subst (AreAlike (V (l ∷ E)) is.first.class) (sym there) (
+              sym one.0 ∙ alike.0 ∙ two.0,
+              same_bag-trans _ _ _ (bag-turned _ _ one.1) (same_bag-trans _ _ _ alike.1 two.1),
+            )));
+      }
+
   log-holds : (E : Log) → Replays uses own E → Holds uses own D E
   log-holds [] replays = record { formed = tt; low = tt; lines = tt; same = λ x y is. subst (AreAlike (V []) x) is (refl, λ e f. refl) }
   log-holds (Founds x ∷ E) replays = founds-holds x E (log-holds E replays.1) (founds-stands uses own E x (Founds x) replays.0)
   log-holds (Adds g s x ∷ E) replays = adds-holds g s x E (log-holds E replays.1) (adds-stands uses own E g s x (Adds g s x) replays.0)
   log-holds (Unites g h s ∷ E) replays = unites-holds g h s E (log-holds E replays.1) (unites-stands uses own E g h s (Unites g h s) replays.0)
+  log-holds (Alike i j ∷ E) replays = alike-holds i j E (log-holds E replays.1) (alike-stands uses own E i j (Alike i j) replays.0)
   log-holds (Gives g m f ∷ E) replays = gives-holds g m f E (log-holds E replays.1) (gives-stands uses own E g m f (Gives g m f) replays.0)
 
 pub logs_true : LogsAreTrue

@@ -12,7 +12,8 @@ use Rattle.props.specs.Facts.{no_facts, with_fact}
 use Rattle.props.specs.Knowledge.{Knowledge}
 use Rattle.rules.specs.Matches as matches
 use Rattle.lines.specs.declared.line.Line.{Line}
-use Rattle.lines.specs.declared.line.Line.TheVariants.{Founds, Adds, Unites, Gives}
+use Rattle.lines.specs.declared.line.Step.{Step}
+use Rattle.lines.specs.declared.line.Line.TheVariants.{Founds, Adds, Unites, Alike, Gives}
 
 abbrev pub Log : Type 0
 Log = List Line
@@ -28,6 +29,7 @@ is_founding None = false
 is_founding (Some (Founds x)) = true
 is_founding (Some (Adds g s x)) = false
 is_founding (Some (Unites g h s)) = false
+is_founding (Some (Alike i j)) = false
 is_founding (Some (Gives g m f)) = false
 
 -- whether a line founds a class
@@ -40,6 +42,7 @@ abbrev pub entry : Line → Expr
 entry (Founds x) = x
 entry (Adds g s x) = Distinct g
 entry (Unites g h s) = Distinct g
+entry (Alike i j) = Distinct i
 entry (Gives g m f) = Distinct g
 
 abbrev pub entries : Log → List Expr
@@ -53,10 +56,19 @@ as_member i None = None
 as_member i (Some (Founds x)) = Some (record { class = i; expr = x })
 as_member i (Some (Adds g s x)) = Some (record { class = g; expr = x })
 as_member i (Some (Unites g h s)) = None
+as_member i (Some (Alike j k)) = None
 as_member i (Some (Gives g m f)) = None
 
 abbrev pub member : Log → ℕ → Option matches.Line
 member E i = as_member i (line_at E i)
+
+abbrev pub or_class : ℕ → Option matches.Line → ℕ
+or_class i None = i
+or_class i (Some l) = l.class
+
+-- the class of a line's expression, if it has one
+abbrev pub class_at : Log → ℕ → ℕ
+class_at E i = or_class i (member E i)
 
 -- ---- sameness
 
@@ -73,24 +85,19 @@ least [] k = k
 least (Founds x ∷ E) k = least E k
 least (Adds g s x ∷ E) k = least E k
 least (Unites g h s ∷ E) k = united (least E g) (least E h) (least E k)
+least (Alike i j ∷ E) k = united (least E (class_at E i)) (least E (class_at E j)) (least E k)
 least (Gives g m f ∷ E) k = least E k
 
 abbrev pub are_same : Log → ℕ → ℕ → Bool
 are_same E g h = least E g == least E h
 
--- the classes that a line unites
-abbrev pub unites : Line → Option (ℕ × ℕ)
-unites (Founds x) = None
-unites (Adds g s x) = None
-unites (Unites g h s) = Some (g, h)
-unites (Gives g m f) = None
-
--- the least equivalence under which the classes of each line that unites two are one
+-- the least equivalence under which the classes are one that a line unites, and those of lines that are alike
 pub data SameBy (E : Log) : ℕ → ℕ → Type 0 where
   itself : (g : ℕ) → SameBy E g g
   turned : (g h : ℕ) → SameBy E g h → SameBy E h g
   along : (g h k : ℕ) → SameBy E g h → SameBy E h k → SameBy E g k
-  by_line : (i g h : ℕ) (l : Line) → line_at E i ≡ Some l → unites l ≡ Some (g, h) → SameBy E g h
+  by_rule : (n g h : ℕ) (s : Step) → line_at E n ≡ Some (Unites g h s) → SameBy E g h
+  by_alike : (n i j : ℕ) (k l : matches.Line) → line_at E n ≡ Some (Alike i j) → member E i ≡ Some k → member E j ≡ Some l → SameBy E k.class l.class
 
 -- ---- facts
 
@@ -100,6 +107,7 @@ facts_among same [] = no_facts
 facts_among same (Founds x ∷ E) = facts_among same E
 facts_among same (Adds g s x ∷ E) = facts_among same E
 facts_among same (Unites g h s ∷ E) = facts_among same E
+facts_among same (Alike i j ∷ E) = facts_among same E
 facts_among same (Gives g m f ∷ E) = if same g then with_fact (facts_among same E) f else facts_among same E
 
 abbrev pub facts : Log → ℕ → Facts

@@ -5,8 +5,9 @@ use Rattle.values.specs.Faults.{◌>>=◌, wanted, wanted_if}
 use Rattle.query.specs.declared.query.TableInstance.{TableInstance}
 use Rattle.algebra.specs.declared.expr.Aggregation.{Aggregation}
 use Rattle.algebra.specs.declared.expr.Expr.{Expr}
+use Rattle.algebra.specs.Alike.{rooted}
 use Rattle.algebra.specs.Columns.{is_subset}
-use Rattle.algebra.specs.Equality.{same_columns}
+use Rattle.algebra.specs.Equality.{same_columns, same_expr}
 use Rattle.algebra.specs.Expressions.{columns_of, classes_pass, is_formed}
 use Rattle.algebra.specs.Classes.{class_columns}
 use Rattle.props.specs.declared.fact.Fact.{Fact}
@@ -19,12 +20,12 @@ use Rattle.rules.specs.Matches as matches
 use Rattle.rules.specs.Matches.{Matched}
 use Rattle.lines.specs.declared.book.RuleName.{RuleName}
 use Rattle.lines.specs.declared.line.Line.{Line}
-use Rattle.lines.specs.declared.line.Line.TheVariants.{Founds, Adds, Unites, Gives}
+use Rattle.lines.specs.declared.line.Line.TheVariants.{Founds, Adds, Unites, Alike, Gives}
 use Rattle.lines.specs.declared.line.LineReason.{LineReason}
 use Rattle.lines.specs.declared.line.LineReason.TheVariants.{UnknownLine, IllFormed, OtherForm, FailedCondition, FailedFact, OtherLine}
 use Rattle.lines.specs.declared.line.Step.{Step}
 use Rattle.lines.specs.Book.{given_by}
-use Rattle.lines.specs.Logs.{Log, founds, entries, member, are_same, knowledge}
+use Rattle.lines.specs.Logs.{Log, founds, entries, member, least, are_same, knowledge}
 use Rattle.lines.specs.Spelling.{is_expr, is_class}
 
 -- ---- what lines cite
@@ -40,6 +41,12 @@ cites E s = list_all (is_earlier E) s.uses && list_all (is_earlier E) s.makes
 abbrev pub is_of : Log → ℕ → Option matches.Line → Bool
 is_of E g None = false
 is_of E g (Some l) = are_same E l.class g
+
+-- whether lines have expressions that are alike: equal with the least same class for each, conjuncts in order again, each once
+abbrev pub are_alike : Log → Option matches.Line → Option matches.Line → Bool
+are_alike E None l = false
+are_alike E (Some k) None = false
+are_alike E (Some k) (Some l) = same_expr (rooted (least E) k.expr) (rooted (least E) l.expr)
 
 -- ---- steps
 
@@ -109,6 +116,9 @@ module _ (uses : List TableInstance) (own : List Aggregation) (E : Log) where
       >>= λ l. wanted_if IllFormed (same_columns (columns g) (columns h)) l
       >>= λ l. given g s
       >>= λ shape. wanted_if OtherLine (is_class (member E) shape s.makes (are_same E h)) l
+  stands (Alike i j) =
+      wanted_if UnknownLine (is_earlier E i && is_earlier E j) (Alike i j)
+      >>= λ l. wanted_if OtherForm (are_alike E (member E i) (member E j)) l
   stands (Gives g m f) =
       wanted_if UnknownLine (founds E g && is_earlier E m) (Gives g m f)
       >>= λ l. wanted_if IllFormed (is_subset (fact_columns f) (columns g)) l

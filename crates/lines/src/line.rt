@@ -27,6 +27,8 @@ pub enum Line {
     Adds(ClassId, Step, Expr),
     /// Two classes are the same, by a step from the first to the second.
     Unites(ClassId, ClassId, Step),
+    /// Two lines have expressions that are alike, so their classes are the same.
+    Alike(LineId, LineId),
     /// A fact holds of the class, by a line of it.
     Gives(ClassId, LineId, Fact),
 }
