@@ -26,19 +26,30 @@ has_strong_key K g = facts.has_strong_key (K.facts g)
 
 -- ---- as code is given it
 
-abbrev pub root_in : List ℕ → ℕ → ℕ
-root_in roots g = slice_index_or roots g g
+abbrev pub root_of : List ℕ → ℕ → Option ℕ → ℕ
+root_of roots g None = g
+root_of roots g (Some set) = slice_index_or roots set g
+
+abbrev pub root_in : List ℕ → List ℕ → ℕ → ℕ
+root_in sets roots g = root_of roots g (slice_get sets g)
 
 abbrev pub facts_or_none : Option Facts → Facts
 facts_or_none (Some F) = F
 facts_or_none None = facts.no_facts
 
+abbrev pub facts_at : List Facts → Option ℕ → Option Facts
+facts_at facts None = None
+facts_at facts (Some set) = slice_get facts set
+
+abbrev pub set_facts : List ℕ → List Facts → ℕ → Option Facts
+set_facts sets facts g = facts_at facts (slice_get sets g)
+
 abbrev pub known : KnownClasses → Knowledge
 known given = record {
   columns = given_columns given.columns;
   free = given_free given.columns;
-  root = root_in given.roots.now;
-  facts = λ g. facts_or_none (slice_get given.facts.now (root_in given.roots.now g));
+  root = root_in given.sets.now given.roots.now;
+  facts = λ g. facts_or_none (set_facts given.sets.now given.facts.now g);
 }
 
 -- ---- what it says of the rows

@@ -1,6 +1,6 @@
 //! What is known of classes.
 
-ghost use Rattle.std.specs.Prelude.{◌≡◌, ◌==◌, slice_get, option_map};
+ghost use Rattle.std.specs.Prelude.{◌≡◌, option_map};
 ghost use Rattle.algebra.specs.Columns.{has};
 ghost use Rattle.props.specs.Facts as facts;
 ghost use Rattle.props.specs.Knowledge as spec;
@@ -14,35 +14,43 @@ use query::ColumnId;
 pub struct KnownClasses<'a> {
     /// Their columns and their free columns.
     pub columns: ClassColumns<'a>,
-    /// For each class one that is the same, which is one for all of these.
+    /// For each class the number of the set of those that are the same.
+    pub sets: &'a [u32],
+    /// For each set the class that stands for all of it.
     pub roots: &'a [ClassId],
-    /// The facts of each class that is its own root, and of those that are the same.
+    /// For each set the facts of its classes.
     pub facts: &'a [Facts],
 }
 
 impl<'a> KnownClasses<'a> {
-    /// The class that stands for all that are the same; the class itself where the list has none of its number.
+    /// The class that stands for all that are the same; the class itself where the lists have none of its number.
     pub fn root(self, class: ClassId) -> ClassId
-        ensures { result ≡ spec.root_in self.entry.roots.now class }
+        ensures { result ≡ spec.root_in self.entry.sets.now self.entry.roots.now class }
     {
-        match self.roots.get(class as usize) {
-            Some(root) => *root,
+        match self.sets.get(class as usize) {
+            Some(set) => match self.roots.get(*set as usize) {
+                Some(root) => *root,
+                None => class,
+            },
             None => class,
         }
     }
 
     /// Whether two classes are known to be the same.
     pub fn are_same(self, class: ClassId, other: ClassId) -> bool
-        ensures { result ≡ (spec.root_in self.entry.roots.now class == spec.root_in self.entry.roots.now other) }
+        ensures { result ≡ spec.are_same (spec.known self.entry) class other }
     {
         self.root(class) == self.root(other)
     }
 
-    /// The facts of a class and of those that are the same; none where the list has none of its number.
+    /// The facts of a class and of those that are the same; none where the lists have none of its number.
     pub fn facts(self, class: ClassId) -> Option<&'a Facts>
-        ensures { option_map (λ f. f.now) result ≡ slice_get self.entry.facts.now (spec.root_in self.entry.roots.now class) }
+        ensures { option_map (λ f. f.now) result ≡ spec.set_facts self.entry.sets.now self.entry.facts.now class }
     {
-        self.facts.get(self.root(class) as usize)
+        match self.sets.get(class as usize) {
+            Some(set) => self.facts.get(*set as usize),
+            None => None,
+        }
     }
 
     /// Whether a class has a strong key.

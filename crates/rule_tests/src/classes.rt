@@ -21,6 +21,7 @@ const FREE: &str = "\n\n\n\n\n\n2";
 pub struct Known {
     pub columns: Vec<Columns>,
     pub free: Vec<Columns>,
+    pub sets: Vec<u32>,
     pub roots: Vec<ClassId>,
     pub facts: Vec<Facts>,
 }
@@ -60,12 +61,16 @@ fn facts(alloc: Global) -> Result<Vec<Facts>, AllocError> {
     Ok(facts)
 }
 
-fn roots(alloc: Global) -> Result<Vec<ClassId>, AllocError> {
-    let mut roots = Vec::new(alloc);
-    for root in [0, 1, 2, 3, 3, 5, 6] {
-        roots.push(root)?;
-    }
-    Ok(roots)
+/// The sets of the classes that are the same, by their numbers.
+const SETS: [u32; 7] = [0, 1, 2, 3, 3, 4, 5];
+
+/// The first class of each set.
+const ROOTS: [ClassId; 6] = [0, 1, 2, 3, 5, 6];
+
+fn listed(alloc: Global, numbers: &[u32]) -> Result<Vec<u32>, AllocError> {
+    let mut list = Vec::new(alloc);
+    list.extend_from_slice(numbers)?;
+    Ok(list)
 }
 
 pub fn known_classes(alloc: Global) -> Result<Known, AllocError> {
@@ -75,7 +80,8 @@ pub fn known_classes(alloc: Global) -> Result<Known, AllocError> {
     Ok(Known {
         columns,
         free,
-        roots: roots(alloc)?,
+        sets: listed(alloc, &SETS)?,
+        roots: listed(alloc, &ROOTS)?,
         facts,
     })
 }
@@ -87,6 +93,7 @@ impl Known {
                 columns: self.columns.as_slice(),
                 free: self.free.as_slice(),
             },
+            sets: self.sets.as_slice(),
             roots: self.roots.as_slice(),
             facts: self.facts.as_slice(),
         }
