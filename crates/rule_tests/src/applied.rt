@@ -126,7 +126,7 @@ S3: 7 select 3 x, 3 join 0 1 m => another form
 S4: 3 join 0 1 lm => join [=(c0,c2)] (select [=(c0,i7)] (0)) (1)
 S4: 3 join 0 1 rm => another form
 S5: 7 select 0 l, 0 semi 0 1 m => semi [=(c0,c2)] (select [=(c0,i7)] (0)) (1)
-S5: 7 select 0 lx, 0 anti 0 1 m => anti [=(c0,c2)] (select [=(c0,i7);exists(6)] (0)) (1)
+S5: 7 select 0 lx, 0 anti 0 1 m => anti [=(c0,c2)] [] (select [=(c0,i7);exists(6)] (0)) (1)
 S5: 7 select 3 l, 3 join 0 1 m => another form";
     const KEEPS: &str = "K1: 7 keep 3 0, 4 keep 3 0 2 => keep 0 (3)
 K1: 7 keep 3 0, 3 select 3 l => another form

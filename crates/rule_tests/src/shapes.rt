@@ -68,8 +68,9 @@ pub fn push_shape(alloc: Global, reported: &mut String, shape: &Shape) -> Result
             push_input(alloc, reported, a.get())?;
             push_input(alloc, reported, b.get())
         }
-        Shape::Anti(c, _, a, b) => {
-            push_named(alloc, reported, "anti", c)?;
+        Shape::Anti(sure, maybe, a, b) => {
+            push_named(alloc, reported, "anti", sure)?;
+            push_conjuncts(alloc, reported, maybe)?;
             push_input(alloc, reported, a.get())?;
             push_input(alloc, reported, b.get())
         }
