@@ -163,9 +163,9 @@ fn implements(
 {
     match (operator, expr) {
         (Operator::Scan { occurrence }, Expr::Get(own)) => Ok(*occurrence == *own),
-        (Operator::IndexScan { conjuncts, .. }, Expr::Get(_)) => Ok(
-            conjuncts.same(&Conjuncts::none(alloc)),
-        ),
+        (Operator::IndexScan { conjuncts, .. }, Expr::Get(_)) => Ok(conjuncts.same(&Conjuncts::none(
+            alloc,
+        ))),
         (Operator::IndexScan { conjuncts, .. }, Expr::Select(own, _)) => Ok(
             own.is_plain() && conjuncts.same(own),
         ),
@@ -319,7 +319,14 @@ fn node_fits(
             operator_fits(alloc, derived, *line, operator, inputs, class, number)
         }
         Node::Sort { keys } => {
-            sort_fits(alloc, derived.columns, keys.as_slice(), inputs, class, number)
+            sort_fits(
+                alloc,
+                derived.columns,
+                keys.as_slice(),
+                inputs,
+                class,
+                number,
+            )
         }
     }
 }

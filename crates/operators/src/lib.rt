@@ -4,6 +4,7 @@
 mod aggregates;
 mod grouped;
 mod groups;
+mod index_scans;
 mod joins;
 mod keys;
 mod matchings;

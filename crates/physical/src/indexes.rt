@@ -114,12 +114,7 @@ fn is_outside(term: &Term, own: &Columns) -> bool
 }
 
 /// What an equality of two terms equates the column with, if that is none of the table instance's columns.
-fn probe_of_terms<'c>(
-    a: &'c Term,
-    b: &'c Term,
-    column: ColumnId,
-    own: &Columns,
-) -> Option<&'c Term>
+fn probe_of_terms<'c>(a: &'c Term, b: &'c Term, column: ColumnId, own: &Columns) -> Option<&'c Term>
     ensures { option_map (λ t. t.now) result ≡ spec.probe_of_terms (has own.now) column a.now b.now }
 {
     if is_column(a, column) && is_outside(b, own) {
