@@ -5,7 +5,7 @@ ghost use Rattle.values.specs.Faults.{Gives};
 ghost use Rattle.query.specs.Bound.{IsBoundOver, TablesAreOver};
 ghost use Rattle.derivation.specs.Replay.{replayed, IsChecked};
 
-use crate::fit::{is_delivered, plan_fits};
+use crate::fit::{Derived, is_delivered, plan_fits};
 use crate::replay::replay;
 use derivation::{Certificate, CheckFault};
 use logical::frame;
@@ -34,15 +34,12 @@ fn accepted<'a>(
     let ordered = is_delivered(alloc, query, plan)?;
     let last = frame.len() - 1;
     let root = id_of(last)?;
-    plan_fits(
-        alloc,
+    let derived = Derived {
+        uses: query.tables.as_slice(),
         lines,
-        columns.as_slice(),
-        plan,
-        ordered,
-        root,
-        lines.len(),
-    )?;
+        columns: columns.as_slice(),
+    };
+    plan_fits(alloc, derived, plan, ordered, root, lines.len())?;
     Ok(Checked {
         schema,
         query,

@@ -15,13 +15,23 @@ ghost use Rattle.derivation.specs.declared.certificate.CheckReason.TheVariants.{
 ghost use Rattle.derivation.specs.declared.certificate.CheckRefusal.{CheckRefusal};
 ghost use Rattle.derivation.specs.Replay as spec;
 
+use crate::index_fit::{index_fits, names_lines, needed_classes};
+use crate::members::is_member;
 use crate::replay::refused;
-use algebra::{ClassId, Columns, Condition, Expr, LineId};
+use algebra::{ClassId, Columns, Condition, Conjuncts, Expr, LineId};
 use derivation::{CheckFault, CheckReason, Line, query_order};
 use physical::{GroupMethod, JoinMethod, Matching, Node, Operator, OrderKey, Plan, delivers};
-use query::{ColumnId, Query};
+use query::{ColumnId, Query, TableInstance};
 use std::alloc::{AllocError, Global};
 use values::Fault;
+
+/// What the nodes of a plan are judged by: the query's table instances, and the lines with the columns of their classes.
+#[derive(Clone, Copy)]
+pub struct Derived<'a> {
+    pub uses: &'a [TableInstance],
+    pub lines: &'a [Line],
+    pub columns: &'a [Columns],
+}
 
 /// The conjuncts of which one has to equate columns, so that a match is found by hash.
 fn hashed(matching: &Matching) -> &[Condition]
@@ -153,6 +163,12 @@ fn implements(
 {
     match (operator, expr) {
         (Operator::Scan { occurrence }, Expr::Get(own)) => Ok(*occurrence == *own),
+        (Operator::IndexScan { conjuncts, .. }, Expr::Get(_)) => Ok(conjuncts.same(&Conjuncts::none(
+            alloc,
+        ))),
+        (Operator::IndexScan { conjuncts, .. }, Expr::Select(own, _)) => Ok(
+            own.is_plain() && conjuncts.same(own),
+        ),
         (Operator::Filter { conjuncts }, Expr::Select(own, _)) => Ok(
             own.is_plain() && conjuncts.same(own),
         ),
@@ -163,6 +179,7 @@ fn implements(
         (Operator::JoinRows { method, matching }, _) => {
             join_implements(alloc, columns, *method, matching, expr)
         }
+        (Operator::IndexJoin { matching, .. }, _) => Ok(joined_classes(matching, expr).is_some()),
         (Operator::GroupRows { keys, added, .. }, Expr::Group(own, others, _)) => Ok(
             keys.same(own) && added.same(others),
         ),
@@ -224,35 +241,60 @@ fn only_input(
     Ok(classes)
 }
 
-/// Whether the line is a member of the class. Each class has one: the line that founds it.
-fn is_member(line: LineId, class: ClassId) -> bool
-    ensures { result ≡ spec.is_member line class }
+/// Whether an operator of a line with the expression, over so many inputs, computes it.
+fn operator_is_of(
+    alloc: Global,
+    derived: Derived<'_>,
+    line: LineId,
+    operator: &Operator,
+    expr: &Expr,
+) -> Result<bool, AllocError>
+    ensures { IfOk result (λ r. r ≡ (spec.implements (columns_at derived.entry.columns.now) operator.now expr.now && spec.index_fits derived.entry.uses.now (map spec.founding derived.entry.lines.now) line operator.now expr.now)) }
 {
-    line == class
+    if !implements(alloc, derived.columns, operator, expr)? {
+        return Ok(false);
+    }
+    index_fits(alloc, derived.uses, derived.lines, line, operator, expr)
 }
 
 /// The classes of the inputs that an operator needs, where it implements this line of the class.
 fn operator_fits(
     alloc: Global,
-    lines: &[Line],
-    columns: &[Columns],
+    derived: Derived<'_>,
     line: LineId,
     operator: &Operator,
     inputs: usize,
     class: ClassId,
     number: usize,
 ) -> Result<Vec<ClassId>, CheckFault>
-    ensures classes { Gives (λ classes. classes.items) result (spec.operator_fits (map spec.founding lines.now) (columns_at columns.now) line operator.now inputs class number) }
+    ensures classes { Gives (λ classes. classes.items) result (spec.operator_fits derived.entry.uses.now (map spec.founding derived.entry.lines.now) (columns_at derived.entry.columns.now) line operator.now inputs class number) }
     ensures count { IfOk result (λ classes. length classes.items ≡ inputs) }
 {
-    let expr = match lines.get(line as usize) {
+    let expr = match derived.lines.get(line as usize) {
         Some(line) => line.founding(),
         None => return Err(refused(number, CheckReason::UnknownLine)),
     };
-    if !is_member(line, class) || !implements(alloc, columns, operator, expr)? {
+    if !names_lines(derived.lines.len(), operator) {
+        return Err(refused(number, CheckReason::UnknownLine));
+    }
+    if !is_member(line, class) || !operator_is_of(alloc, derived, line, operator, expr)? {
         return Err(refused(number, CheckReason::OtherOperator));
     }
-    let classes = expr.inputs(alloc)?;
+    as_many_inputs(alloc, operator, expr, inputs, number)
+}
+
+/// The classes of the inputs that an operator needs, where there are so many.
+fn as_many_inputs(
+    alloc: Global,
+    operator: &Operator,
+    expr: &Expr,
+    inputs: usize,
+    number: usize,
+) -> Result<Vec<ClassId>, CheckFault>
+    ensures classes { Gives (λ classes. classes.items) result (wanted_if (spec.refusal number OtherOperator) (inputs == length (spec.needed_classes operator.now expr.now)) (spec.needed_classes operator.now expr.now)) }
+    ensures count { IfOk result (λ classes. length classes.items ≡ inputs) }
+{
+    let classes = needed_classes(alloc, operator, expr)?;
     if inputs == classes.len() {
         Ok(classes)
     } else {
@@ -263,23 +305,29 @@ fn operator_fits(
 /// The classes of the inputs that a node needs, where it is of the class.
 fn node_fits(
     alloc: Global,
-    lines: &[Line],
-    columns: &[Columns],
+    derived: Derived<'_>,
     node: &Node,
     inputs: usize,
     class: ClassId,
     number: usize,
 ) -> Result<Vec<ClassId>, CheckFault>
-    ensures classes { Gives (λ classes. classes.items) result (spec.node_fits (map spec.founding lines.now) (columns_at columns.now) node.now inputs class number) }
+    ensures classes { Gives (λ classes. classes.items) result (spec.node_fits derived.entry.uses.now (map spec.founding derived.entry.lines.now) (columns_at derived.entry.columns.now) node.now inputs class number) }
     ensures count { IfOk result (λ classes. length classes.items ≡ inputs) }
 {
     match node {
         Node::Implements { line, operator } => {
-            operator_fits(
-                alloc, lines, columns, *line, operator, inputs, class, number,
+            operator_fits(alloc, derived, *line, operator, inputs, class, number)
+        }
+        Node::Sort { keys } => {
+            sort_fits(
+                alloc,
+                derived.columns,
+                keys.as_slice(),
+                inputs,
+                class,
+                number,
             )
         }
-        Node::Sort { keys } => sort_fits(alloc, columns, keys.as_slice(), inputs, class, number),
     }
 }
 
@@ -298,7 +346,7 @@ pub fn is_delivered(alloc: Global, query: &Query, plan: &Plan) -> Result<bool, A
     ensures { IfOk result (λ b. b ≡ spec.is_delivered query.now plan.now) }
 {
     let wanted = query_order(alloc, query)?;
-    let order = delivers(alloc, plan)?;
+    let order = delivers(alloc, query.tables.as_slice(), plan)?;
     Ok(begins_with(order.as_slice(), wanted.as_slice()))
 }
 
@@ -370,22 +418,30 @@ fn begins_with_all(alloc: Global, order: &[OrderKey], columns: &Columns) -> Resu
 }
 
 /// The order that the first of some plans delivers.
-fn first_order(alloc: Global, plans: &[Plan]) -> Result<Vec<OrderKey>, AllocError>
-    ensures { IfOk result (λ order. order.items ≡ orders.first_order (map orders.plan_order plans.now)) }
+fn first_order(
+    alloc: Global,
+    uses: &[TableInstance],
+    plans: &[Plan],
+) -> Result<Vec<OrderKey>, AllocError>
+    ensures { IfOk result (λ order. order.items ≡ orders.first_order (map (orders.plan_order uses.now) plans.now)) }
 {
     match plans {
         [] => Ok(Vec::new(alloc)),
-        [first, ..] => delivers(alloc, first),
+        [first, ..] => delivers(alloc, uses, first),
     }
 }
 
 /// The order that the second of some plans delivers.
-fn second_order(alloc: Global, plans: &[Plan]) -> Result<Vec<OrderKey>, AllocError>
-    ensures { IfOk result (λ order. order.items ≡ spec.second_order (map orders.plan_order plans.now)) }
+fn second_order(
+    alloc: Global,
+    uses: &[TableInstance],
+    plans: &[Plan],
+) -> Result<Vec<OrderKey>, AllocError>
+    ensures { IfOk result (λ order. order.items ≡ spec.second_order (map (orders.plan_order uses.now) plans.now)) }
 {
     match plans {
         [] => Ok(Vec::new(alloc)),
-        [_, rest @ ..] => first_order(alloc, rest),
+        [_, rest @ ..] => first_order(alloc, uses, rest),
     }
 }
 
@@ -407,34 +463,34 @@ fn first_class_columns<'c>(
 /// Whether the inputs, of these classes, deliver the orders that the operator needs.
 fn are_sorted(
     alloc: Global,
-    columns: &[Columns],
+    derived: Derived<'_>,
     operator: &Operator,
     classes: &[ClassId],
     inputs: &[Plan],
 ) -> Result<bool, AllocError>
-    ensures { IfOk result (λ r. r ≡ spec.are_sorted operator.now (map (columns_at columns.now) classes.now) (map orders.plan_order inputs.now)) }
+    ensures { IfOk result (λ r. r ≡ spec.are_sorted operator.now (map (columns_at derived.entry.columns.now) classes.now) (map (orders.plan_order derived.entry.uses.now) inputs.now)) }
 {
     match operator {
         Operator::JoinRows { method, .. } => match method {
             JoinMethod::Merge(a, b) => {
-                let first = first_order(alloc, inputs)?;
-                let second = second_order(alloc, inputs)?;
+                let first = first_order(alloc, derived.uses, inputs)?;
+                let second = second_order(alloc, derived.uses, inputs)?;
                 Ok(rises_by(first.as_slice(), *a) && rises_by(second.as_slice(), *b))
             }
             _ => Ok(true),
         },
         Operator::GroupRows { method, keys, .. } => match method {
             GroupMethod::Sorted => {
-                let first = first_order(alloc, inputs)?;
+                let first = first_order(alloc, derived.uses, inputs)?;
                 begins_with_all(alloc, first.as_slice(), keys)
             }
             GroupMethod::Hash => Ok(true),
         },
         Operator::DistinctRows { method } => match method {
             GroupMethod::Sorted => {
-                let first = first_order(alloc, inputs)?;
+                let first = first_order(alloc, derived.uses, inputs)?;
                 let none = Columns::from_vec(Vec::new(alloc));
-                let own = first_class_columns(columns, classes, &none);
+                let own = first_class_columns(derived.columns, classes, &none);
                 begins_with_all(alloc, first.as_slice(), own)
             }
             GroupMethod::Hash => Ok(true),
@@ -446,15 +502,15 @@ fn are_sorted(
 /// Whether the inputs, of these classes, deliver the orders that the node needs.
 fn inputs_sorted(
     alloc: Global,
-    columns: &[Columns],
+    derived: Derived<'_>,
     node: &Node,
     classes: &[ClassId],
     inputs: &[Plan],
 ) -> Result<bool, AllocError>
-    ensures { IfOk result (λ r. r ≡ spec.inputs_sorted node.now (map (columns_at columns.now) classes.now) (map orders.plan_order inputs.now)) }
+    ensures { IfOk result (λ r. r ≡ spec.inputs_sorted node.now (map (columns_at derived.entry.columns.now) classes.now) (map (orders.plan_order derived.entry.uses.now) inputs.now)) }
 {
     match node {
-        Node::Implements { operator, .. } => are_sorted(alloc, columns, operator, classes, inputs),
+        Node::Implements { operator, .. } => are_sorted(alloc, derived, operator, classes, inputs),
         Node::Sort { .. } => Ok(true),
     }
 }
@@ -465,56 +521,39 @@ fn inputs_sorted(
 #[tactic(auto, using(derivation::proofs::Fits::plan_fits_out))]
 pub fn plan_fits(
     alloc: Global,
-    lines: &[Line],
-    columns: &[Columns],
+    derived: Derived<'_>,
     plan: &Plan,
     ordered: bool,
     class: ClassId,
     number: usize,
 ) -> Result<usize, CheckFault>
-    ensures { Gives (λ n. n) result (spec.plan_fits (map spec.founding lines.now) (columns_at columns.now) plan.now ordered class number) }
+    ensures { Gives (λ n. n) result (spec.plan_fits derived.entry.uses.now (map spec.founding derived.entry.lines.now) (columns_at derived.entry.columns.now) plan.now ordered class number) }
 {
     let inputs = plan.inputs.as_slice();
-    let classes = node_fits(
-        alloc,
-        lines,
-        columns,
-        &plan.node,
-        inputs.len(),
-        class,
-        number,
-    )?;
-    if !inputs_sorted(alloc, columns, &plan.node, classes.as_slice(), inputs)? {
+    let classes = node_fits(alloc, derived, &plan.node, inputs.len(), class, number)?;
+    if !inputs_sorted(alloc, derived, &plan.node, classes.as_slice(), inputs)? {
         return Err(refused(number, CheckReason::UnsortedInput));
     }
     if !ordered {
         return Err(refused(number, CheckReason::UnsortedAnswer));
     }
-    inputs_fit(
-        alloc,
-        lines,
-        columns,
-        inputs,
-        classes.as_slice(),
-        next(number)?,
-    )
+    inputs_fit(alloc, derived, inputs, classes.as_slice(), next(number)?)
 }
 
 #[cycle(fits)]
 fn inputs_fit(
     alloc: Global,
-    lines: &[Line],
-    columns: &[Columns],
+    derived: Derived<'_>,
     inputs: &[Plan],
     classes: &[ClassId],
     number: usize,
 ) -> Result<usize, CheckFault>
     requires { length inputs.now ≡ length classes.now }
-    ensures { Gives (λ n. n) result (spec.inputs_fit (map (spec.plan_fits (map spec.founding lines.now) (columns_at columns.now)) inputs.now) classes.now number) }
+    ensures { Gives (λ n. n) result (spec.inputs_fit (map (spec.plan_fits derived.entry.uses.now (map spec.founding derived.entry.lines.now) (columns_at derived.entry.columns.now)) inputs.now) classes.now number) }
 {
     let mut after = number;
     for i in 0..inputs.len() {
-        after = plan_fits(alloc, lines, columns, &inputs[i], true, classes[i], after)?;
+        after = plan_fits(alloc, derived, &inputs[i], true, classes[i], after)?;
     }
     Ok(after)
 }

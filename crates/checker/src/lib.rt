@@ -3,6 +3,8 @@
 
 pub mod checked;
 mod fit;
+mod index_fit;
+mod members;
 mod replay;
 
 pub use checked::{Checked, check};

@@ -1,6 +1,6 @@
 -- A plan that fits produces the bag of its class, and stands in the order that it delivers.
-use Rattle.std.proofs.Common.{◌≡◌, refl, ap, sym, ◌∙◌, subst, ℕ, ◌+◌, ◌<◌, ◌≤◌, Bool, true, ◌==◌, List, [], ◌∷◌, map, length, take, reverse, Result, Ok, nat_lt, arith}
-use Rattle.std.specs.List.{list_all}
+use Rattle.std.proofs.Common.{◌≡◌, refl, ap, sym, ◌∙◌, subst, ℕ, ◌+◌, ◌<◌, ◌≤◌, Bool, true, ◌==◌, List, [], ◌∷◌, map, length, take, reverse, slice_get, Option, Some, None, Result, Ok, nat_lt, arith}
+use Rattle.std.specs.List.{list_all, AllByRecursion}
 use Rattle.std.proofs.lemmas.Bool.{and_parts, and_from, eqb-true, ltb-true}
 use Rattle.std.proofs.lemmas.List.{length-reverse, length-map, length-take-le}
 use Rattle.std.proofs.lemmas.Option.{slice_get_within}
@@ -9,13 +9,14 @@ use Rattle.values.proofs.Results.{both_ok, wanted_if_ok}
 use Rattle.query.specs.declared.query.Query.{Query}
 use Rattle.query.specs.Rows.{Tables}
 use Rattle.algebra.specs.declared.expr.Expr.{Expr}
-use Rattle.algebra.specs.Expressions.{Classes, classes_pass, input_classes}
+use Rattle.algebra.specs.declared.expr.Expr.TheVariants.{Get}
+use Rattle.algebra.specs.Expressions.{Classes, children, classes_pass, get_columns, get_rows}
 use Rattle.algebra.specs.Classes.{class_columns, class_rows, classes}
 use Rattle.logical.specs.FormedFrames.{own_aggregates}
 use Rattle.algebra.proofs.Lists.{two}
-use Rattle.algebra.proofs.NamedClasses.{inputs-pass}
 use Rattle.algebra.proofs.SameBags.{same_bag-equal, same_bag-trans}
 use Rattle.physical.specs.declared.plan.OrderKey.{OrderKey}
+use Rattle.physical.specs.declared.plan.IndexAccess.{IndexAccess}
 use Rattle.physical.specs.declared.plan.Operator.{Operator}
 use Rattle.physical.specs.declared.plan.Node.{Node}
 use Rattle.physical.specs.declared.plan.Node.TheVariants.{Implements, Sort}
@@ -28,10 +29,10 @@ use Rattle.physical.proofs.Deliveries.{delivers}
 use Rattle.physical.proofs.SortedRows.{same_bag-sorted}
 use Rattle.derivation.specs.declared.certificate.CheckRefusal.{CheckRefusal}
 use Rattle.derivation.specs.declared.certificate.CheckReason.TheVariants.{IllFormed, OtherOperator, UnsortedAnswer}
-use Rattle.derivation.specs.Replay.{Fits, refusal, sort_fits, operator_fits, node_fits, inputs_fit, plan_fits, lines_replay}
-use Rattle.derivation.proofs.Fits.{after_node, after-is, plan_fits_out, operator-is}
+use Rattle.derivation.specs.Replay.{Fits, refusal, is_get_of, accesses, needed_classes, sort_fits, operator_fits, node_fits, inputs_fit, plan_fits, lines_replay}
+use Rattle.derivation.proofs.Fits.{after_node, after-is, plan_fits_out, operator-is, needed-pass}
 use Rattle.derivation.proofs.Founded.{Stands, line_at, founded, before, founded_columns, before_columns}
-use Rattle.derivation.proofs.Operators.{Is, AllAre, operator-gives, operator-stands}
+use Rattle.derivation.proofs.Operators.{Is, AllAre, accessed, operator-gives, operator-stands}
 
 module _ (q : Query) (D : Tables) (lines F : List Expr) (replays : lines_replay q [] lines ≡ Ok F) where
   abbrev W : Classes
@@ -47,13 +48,13 @@ module _ (q : Query) (D : Tables) (lines F : List Expr) (replays : lines_replay 
 
   -- so does one that fits the class
   abbrev P : Plan → Type 0
-  P p = (ordered : Bool) (g n m : ℕ) → plan_fits lines cols p ordered g n ≡ Ok m → IsOfClass p g
+  P p = (ordered : Bool) (g n m : ℕ) → plan_fits q.tables lines cols p ordered g n ≡ Ok m → IsOfClass p g
 
   abbrev Part : Type 0
   Part = (p : Plan) × P p
 
   abbrev fits_of : List Part → List Fits
-  fits_of parts = map (plan_fits lines cols) (map (λ p. p.0) parts)
+  fits_of parts = map (plan_fits q.tables lines cols) (map (λ p. p.0) parts)
 
   abbrev outputs_of : List Part → List Output
   outputs_of parts = map (plan_output q.tables D) (map (λ p. p.0) parts)
@@ -71,7 +72,7 @@ module _ (q : Query) (D : Tables) (lines F : List Expr) (replays : lines_replay 
   all-output [] (g ∷ needed) n m count fits = absurd (omega (arith, count))
   all-output (p ∷ parts) [] n m count fits = absurd (omega (arith, count))
   all-output (p ∷ parts) (g ∷ needed) n m count fits =
-      let steps = both_ok (plan_fits lines cols p.0 true g n) (λ m. inputs_fit (fits_of parts) needed m) m fits in
+      let steps = both_ok (plan_fits q.tables lines cols p.0 true g n) (λ m. inputs_fit (fits_of parts) needed m) m fits in
       let first = p.1 true g n steps.0 steps.1 in
       let later = all-output parts needed steps.0 m (omega (arith, count)) steps.2 in
       record { outputs = (first.output, later.outputs); stand = and_from _ _ first.stands later.stand }
@@ -100,7 +101,7 @@ module _ (q : Query) (D : Tables) (lines F : List Expr) (replays : lines_replay 
   at_node node parts = record { columns = node_columns q.tables node (map (λ x. x.columns) (outputs_of parts)); rows = node_rows q.tables D node (outputs_of parts) }
 
   abbrev orders_of : List Part → List (List OrderKey)
-  orders_of parts = map plan_order (map (λ p. p.0) parts)
+  orders_of parts = map (plan_order q.tables) (map (λ p. p.0) parts)
 
   abbrev inputs_after : Node → List Part → Bool → ℕ → List ℕ → Result ℕ CheckRefusal
   inputs_after node parts = after_node cols node (orders_of parts) (fits_of parts)
@@ -112,29 +113,50 @@ module _ (q : Query) (D : Tables) (lines F : List Expr) (replays : lines_replay 
   -- what a node produces, and that the order which it delivers stands
   record IsNodeOf (node : Node) (parts : List Part) (g : ℕ) : Type 0 where
     output : Is W (at_node node parts) g
-    stands : node_stands node (map (λ (x : Output). x.columns) (outputs_of parts)) ≡ true
+    stands : node_stands q.tables node (map (λ (x : Output). x.columns) (outputs_of parts)) ≡ true
     inputs : list_all (λ (x : Shape). x.stands) (shapes_of parts) ≡ true
 
-  operator-output : (line : ℕ) (operator : Operator) (parts : List Part) (ordered : Bool) (g n m : ℕ) → (operator_fits lines cols line operator (length (fits_of parts)) g n >>= inputs_after (Implements line operator) parts ordered n) ≡ Ok m → IsNodeOf (Implements line operator) parts g
+  -- a class that an access is of has what it reads, before and after further lines
+  accessed-is : (g : ℕ) → g ≤ length lines → (a : IndexAccess) (K : List ℕ) → list_all (λ h. nat_lt h g) K ≡ true
+      → AllByRecursion (λ h. accesses lines a h ≡ true → Is (classes q.tables D (reverse (take g lines))) (accessed q.tables D a) h) K
+  accessed-is g le a [] below = tt
+  accessed-is g le a (h ∷ K) below =
+      let parts = and_parts (nat_lt h g) _ below in
+      (λ is. let both = and_parts (a.line == h) _ is in (all-before g le (accessed q.tables D a ∷ []) (h ∷ []) (and_from _ _ parts.0 refl) (by (slice_get lines a.line) refl (eqb-true _ _ both.0) both.1, tt)).0, accessed-is g le a K parts.1)
+    where
+      by : (o : Option Expr) → slice_get lines a.line ≡ o → a.line ≡ h → is_get_of o a.occurrence ≡ true → Is W (accessed q.tables D a) h
+      by None at same is = cc
+      by (Some (Get p)) at same is =
+          let own : a.occurrence ≡ p = eqb-true _ _ is in
+          let here : slice_get lines h ≡ Some (Get p) = ap (slice_get lines) (sym same) ∙ at in
+          record {
+            columns = ap (λ o. get_columns (slice_get q.tables o)) own ∙ sym (founded_columns q.tables lines h (Get p) here);
+            rows = same_bag-equal _ _ (λ e. ap (λ o. get_rows (slice_get q.tables o) D e) own ∙ sym (founded q.tables D lines h (Get p) e here));
+          }
+      by (Some x) at same is = cc
+
+  operator-output : (line : ℕ) (operator : Operator) (parts : List Part) (ordered : Bool) (g n m : ℕ) → (operator_fits q.tables lines cols line operator (length (fits_of parts)) g n >>= inputs_after (Implements line operator) parts ordered n) ≡ Ok m → IsNodeOf (Implements line operator) parts g
   operator-output line operator parts ordered g n m fits =
-      let steps = both_ok (operator_fits lines cols line operator (length (fits_of parts)) g n) (inputs_after (Implements line operator) parts ordered n) m fits in
-      let found = operator-is lines cols line operator (length (fits_of parts)) g n steps.0 steps.1 in
+      let steps = both_ok (operator_fits q.tables lines cols line operator (length (fits_of parts)) g n) (inputs_after (Implements line operator) parts ordered n) m fits in
+      let found = operator-is q.tables lines cols line operator (length (fits_of parts)) g n steps.0 steps.1 in
       let x : Expr = found.expr in
       let within_ : g < length lines = slice_get_within lines g x found.at in
       let le : g ≤ length lines = omega (arith, within_) in
       let count : length (reverse (take g lines)) ≡ g = length-reverse (take g lines) ∙ length-take-le g lines le in
       let stands : Stands q (reverse (take g lines)) x = line_at q lines [] F g x replays found.at in
-      let below : list_all (λ h. nat_lt h g) (input_classes x) ≡ true = inputs-pass (λ h. nat_lt h g) x (subst (λ n. classes_pass (λ h. nat_lt h n) x ≡ true) count stands.backward) in
+      let backward : classes_pass (λ h. nat_lt h g) x ≡ true = subst (λ n. classes_pass (λ h. nat_lt h n) x ≡ true) count stands.backward in
+      let below : list_all (λ h. nat_lt h g) (needed_classes operator x) ≡ true = needed-pass (λ h. nat_lt h g) operator x backward in
       let of_classes = inputs-output (Implements line operator) parts ordered n m steps.0 found.count steps.2 in
-      let all : AllAre W (outputs_of parts) (input_classes x) = subst (AllAre W (outputs_of parts)) (sym found.needs) of_classes.outputs in
-      let earlier = all-before g le (outputs_of parts) (input_classes x) below all in
-      let gives = operator-gives q.tables (own_aggregates q) D (classes q.tables D (reverse (take g lines))) operator x cols (outputs_of parts) found.implemented stands.formed earlier in
+      let all : AllAre W (outputs_of parts) (needed_classes operator x) = subst (AllAre W (outputs_of parts)) (sym found.needs) of_classes.outputs in
+      let earlier = all-before g le (outputs_of parts) (needed_classes operator x) below all in
+      let reads : (a : IndexAccess) → AllByRecursion (λ h. accesses lines a h ≡ true → Is (classes q.tables D (reverse (take g lines))) (accessed q.tables D a) h) (children x) = λ a. accessed-is g le a (children x) (and_parts (list_all (λ h. nat_lt h g) (children x)) _ backward).0 in
+      let gives = operator-gives q.tables (own_aggregates q) D (classes q.tables D (reverse (take g lines))) lines g operator x reads found.indexed cols (outputs_of parts) found.implemented stands.formed earlier in
       record {
         output = record {
           columns = gives.columns ∙ sym (founded_columns q.tables lines g x found.at);
           rows = same_bag-trans _ _ (class_rows q.tables D (reverse lines) g) gives.rows (same_bag-equal _ _ (λ e. sym (founded q.tables D lines g x e found.at)));
         };
-        stands = operator-stands q.tables (own_aggregates q) D (classes q.tables D (reverse (take g lines))) operator x cols (outputs_of parts) found.implemented stands.formed earlier;
+        stands = operator-stands q.tables (own_aggregates q) D (classes q.tables D (reverse (take g lines))) lines g operator x reads found.indexed cols (outputs_of parts) found.implemented stands.formed earlier;
         inputs = of_classes.stand;
       }
 
@@ -161,7 +183,7 @@ module _ (q : Query) (D : Tables) (lines F : List Expr) (replays : lines_replay 
             inputs = stand;
           }
 
-  layer : (node : Node) (parts : List Part) (ordered : Bool) (g n m : ℕ) → (node_fits lines cols node (length (fits_of parts)) g n >>= inputs_after node parts ordered n) ≡ Ok m → IsNodeOf node parts g
+  layer : (node : Node) (parts : List Part) (ordered : Bool) (g n m : ℕ) → (node_fits q.tables lines cols node (length (fits_of parts)) g n >>= inputs_after node parts ordered n) ≡ Ok m → IsNodeOf node parts g
   layer (Implements line operator) = operator-output line operator
   layer (Sort keys) = sort-output keys
 
@@ -169,14 +191,14 @@ module _ (q : Query) (D : Tables) (lines F : List Expr) (replays : lines_replay 
   unfolding plan_output plan_shape
   step y ordered g n m fits =
       let z : Plan-F Plan = map-Plan Part Plan (λ p. p.0) y in
-      let here : (node_fits lines cols z.node (length z.inputs) g n >>= inputs_after z.node y.inputs ordered n) ≡ Ok m =
-      subst (λ (w : Plan-F Plan). (node_fits lines cols w.node (length w.inputs) g n >>= after_node cols w.node (map plan_order w.inputs) (map (plan_fits lines cols) w.inputs) ordered n) ≡ Ok m)
-      (out-roll-Plan z) (sym (plan_fits_out lines cols (roll-Plan z) ordered g n) ∙ fits) in
-      let node = layer y.node y.inputs ordered g n m (subst (λ k. (node_fits lines cols z.node k g n >>= inputs_after z.node y.inputs ordered n) ≡ Ok m) (sym (length-map z.inputs (plan_fits lines cols))) here) in
+      let here : (node_fits q.tables lines cols z.node (length z.inputs) g n >>= inputs_after z.node y.inputs ordered n) ≡ Ok m =
+      subst (λ (w : Plan-F Plan). (node_fits q.tables lines cols w.node (length w.inputs) g n >>= after_node cols w.node (map (plan_order q.tables) w.inputs) (map (plan_fits q.tables lines cols) w.inputs) ordered n) ≡ Ok m)
+      (out-roll-Plan z) (sym (plan_fits_out q.tables lines cols (roll-Plan z) ordered g n) ∙ fits) in
+      let node = layer y.node y.inputs ordered g n m (subst (λ k. (node_fits q.tables lines cols z.node k g n >>= inputs_after z.node y.inputs ordered n) ≡ Ok m) (sym (length-map z.inputs (plan_fits q.tables lines cols))) here) in
       record {
         output = subst (λ x. Is W x g) (sym (fold-roll-Plan Output (output_layer q.tables D) z)) node.output;
         stands = ap (λ (x : Shape). x.stands) (fold-roll-Plan Shape (shape_layer q.tables) z)
-            ∙ and_from _ _ (subst (λ Ks. node_stands y.node Ks ≡ true) (sym (columns-same y.inputs)) node.stands) node.inputs;
+            ∙ and_from _ _ (subst (λ Ks. node_stands q.tables y.node Ks ≡ true) (sym (columns-same y.inputs)) node.stands) node.inputs;
       }
 
   pub of_class : (p : Plan) → P p

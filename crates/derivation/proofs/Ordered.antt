@@ -83,8 +83,8 @@ allowed numbers keys (a ∷ []) h = tt
 allowed numbers keys (a ∷ b ∷ rows) h = (ap is_gt (sym (keys-same numbers keys a b)) ∙ h.0, allowed numbers keys (b ∷ rows) h.1)
 
 -- the rows of a plan that delivers the ORDER BY
-pub delivered-allowed : (q : Query) (p : Plan) (rows : List Env) → is_delivered q p ≡ true → IsOrdered (plan_order p) rows → IsAllowed q.order (query_shown q rows)
+pub delivered-allowed : (q : Query) (p : Plan) (rows : List Env) → is_delivered q p ≡ true → IsOrdered (plan_order q.tables p) rows → IsAllowed q.order (query_shown q rows)
 unfolding same_order
 delivered-allowed q p rows is h =
-    let front : take (length (query_order q)) (plan_order p) ≡ query_order q = same_by-equal (coded_list order_key.the_row.coded) (take (length (query_order q)) (plan_order p)) (query_order q) is in
-    allowed (query_numbers q) q.order rows (subst (λ keys. IsOrdered keys rows) front (front-ordered (length (query_order q)) (plan_order p) rows h))
+    let front : take (length (query_order q)) (plan_order q.tables p) ≡ query_order q = same_by-equal (coded_list order_key.the_row.coded) (take (length (query_order q)) (plan_order q.tables p)) (query_order q) is in
+    allowed (query_numbers q) q.order rows (subst (λ keys. IsOrdered keys rows) front (front-ordered (length (query_order q)) (plan_order q.tables p) rows h))

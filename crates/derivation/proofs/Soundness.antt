@@ -5,6 +5,7 @@ use Rattle.values.specs.Faults.{◌>>=◌, wanted_if}
 use Rattle.values.proofs.Results.{both_ok, wanted_if_ok}
 use Rattle.schema.specs.Databases.{Row}
 use Rattle.query.specs.declared.query.Query.{Query}
+use Rattle.query.specs.declared.query.TableInstance.{TableInstance}
 use Rattle.query.specs.Rows.{Tables, tables_of, same_rows, count}
 use Rattle.query.proofs.TableUses.{uses-wide}
 use Rattle.query.proofs.Widths.{satisfying_fits}
@@ -37,12 +38,12 @@ root-is q some D lines rest e is =
     ∙ later q.tables D (reverse rest) (reverse (query_frame q)) (root q) e (omega (arith, some, count))
 
 -- a plan that fits delivers the order that is wanted
-ordered-is : (lines : List Expr) (cols : ℕ → List ℕ) (p : Plan) (ordered : Bool) (g n m : ℕ) → plan_fits lines cols p ordered g n ≡ Ok m → ordered ≡ true
-ordered-is lines cols p ordered g n m fits =
+ordered-is : (uses : List TableInstance) (lines : List Expr) (cols : ℕ → List ℕ) (p : Plan) (ordered : Bool) (g n m : ℕ) → plan_fits uses lines cols p ordered g n ≡ Ok m → ordered ≡ true
+ordered-is uses lines cols p ordered g n m fits =
     let node = (out-Plan p).node in
-    let after : List ℕ → Result ℕ CheckRefusal = after_node cols node (map plan_order (out-Plan p).inputs) (map (plan_fits lines cols) (out-Plan p).inputs) ordered n in
-    let first = both_ok (node_fits lines cols node (length (out-Plan p).inputs) g n) after m (sym (plan_fits_out lines cols p ordered g n) ∙ fits) in
-    (after-is cols node (map plan_order (out-Plan p).inputs) (map (plan_fits lines cols) (out-Plan p).inputs) ordered n m first.0 first.2).delivered
+    let after : List ℕ → Result ℕ CheckRefusal = after_node cols node (map (plan_order uses) (out-Plan p).inputs) (map (plan_fits uses lines cols) (out-Plan p).inputs) ordered n in
+    let first = both_ok (node_fits uses lines cols node (length (out-Plan p).inputs) g n) after m (sym (plan_fits_out uses lines cols p ordered g n) ∙ fits) in
+    (after-is cols node (map (plan_order uses) (out-Plan p).inputs) (map (plan_fits uses lines cols) (out-Plan p).inputs) ordered n m first.0 first.2).delivered
 
 pub record IsRootOutput (q : Query) (c : Certificate) (D : Tables) : Type 0 where
   pub rows : (e : Env) → SameRows (output_rows q.tables D c.plan e) (root_rows q.tables D (query_frame q) e)
@@ -53,15 +54,15 @@ root-output : (q : Query) → 0 < length (query_frame q) → (c d : Certificate)
 unfolding replayed
 root-output q some c d D ok =
     let lines : List Expr = map founding c.lines in
-    let first = both_ok (lines_replay q [] lines) (λ E. plan_fits lines (class_columns q.tables E) c.plan (is_delivered q c.plan) (root q) (length E) >>= λ n. Ok c) d ok in
-    let second = both_ok (plan_fits lines (class_columns q.tables first.0) c.plan (is_delivered q c.plan) (root q) (length first.0)) (λ n. Ok c) d first.2 in
+    let first = both_ok (lines_replay q [] lines) (λ E. plan_fits q.tables lines (class_columns q.tables E) c.plan (is_delivered q c.plan) (root q) (length E) >>= λ n. Ok c) d ok in
+    let second = both_ok (plan_fits q.tables lines (class_columns q.tables first.0) c.plan (is_delivered q c.plan) (root q) (length first.0)) (λ n. Ok c) d first.2 in
     let begin = begins q lines [] first.0 first.1 in
-    let fits = subst (λ E. plan_fits lines (class_columns q.tables E) c.plan (is_delivered q c.plan) (root q) (length first.0) ≡ Ok second.0) (turned q lines [] first.0 first.1) second.1 in
+    let fits = subst (λ E. plan_fits q.tables lines (class_columns q.tables E) c.plan (is_delivered q c.plan) (root q) (length first.0) ≡ Ok second.0) (turned q lines [] first.0 first.1) second.1 in
     let is = of_class q D lines first.0 first.1 c.plan (is_delivered q c.plan) (root q) (length first.0) second.0 fits in
     record {
       rows = λ e f. is.output.rows e f ∙ ap (total f) (root-is q some D lines begin.0 e begin.1);
       stands = is.stands;
-      ordered = ordered-is lines (class_columns q.tables first.0) c.plan (is_delivered q c.plan) (root q) (length first.0) second.0 second.1;
+      ordered = ordered-is q.tables lines (class_columns q.tables first.0) c.plan (is_delivered q c.plan) (root q) (length first.0) second.0 second.1;
     }
 
 -- ---- the answer

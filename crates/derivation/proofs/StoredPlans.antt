@@ -15,9 +15,8 @@ use Rattle.algebra.specs.declared.expr.Expr.{Expr}
 use Rattle.algebra.specs.declared.expr.Expr.TheVariants as expr
 use Rattle.algebra.specs.declared.expr.Expr.TheVariants.{Select, Join, LeftJoin, Keep, Distinct, Group}
 use Rattle.algebra.specs.Columns.{is_subset}
-use Rattle.algebra.specs.Expressions.{classes_pass, input_classes, is_formed, aggregation_formed}
+use Rattle.algebra.specs.Expressions.{classes_pass, is_formed, aggregation_formed}
 use Rattle.algebra.specs.Classes.{class_columns}
-use Rattle.algebra.proofs.NamedClasses.{inputs-pass}
 use Rattle.algebra.proofs.Same.{equal_columns, equal_aggregations}
 use Rattle.logical.specs.Frames.{block_frame, query_frame}
 use Rattle.logical.specs.FormedFrames.{own_aggregates}
@@ -27,8 +26,9 @@ use Rattle.physical.specs.declared.plan.GroupMethod.{GroupMethod}
 use Rattle.physical.specs.declared.plan.Matching.{Matching}
 use Rattle.physical.specs.declared.plan.Matching.TheVariants.{Inner, Left, Semi, Anti}
 use Rattle.physical.specs.declared.plan.OrderKey.{OrderKey}
+use Rattle.physical.specs.declared.plan.IndexAccess.{IndexAccess}
 use Rattle.physical.specs.declared.plan.Operator.{Operator}
-use Rattle.physical.specs.declared.plan.Operator.TheVariants.{Scan, Filter, FilterSubqueries, Projection, JoinRows, GroupRows, DistinctRows}
+use Rattle.physical.specs.declared.plan.Operator.TheVariants.{Scan, IndexScan, Filter, FilterSubqueries, Projection, JoinRows, IndexJoin, GroupRows, DistinctRows}
 use Rattle.physical.specs.declared.plan.Node.{Node}
 use Rattle.physical.specs.declared.plan.Node.TheVariants.{Implements, Sort}
 use Rattle.physical.specs.declared.plan.Plan.{Plan, roll-Plan, out-roll-Plan, fold-roll-Plan, ind-Plan, map-Plan}
@@ -39,9 +39,9 @@ use Rattle.physical.proofs.StoredValues.{origin-is}
 use Rattle.derivation.specs.declared.certificate.Certificate.{Certificate}
 use Rattle.derivation.specs.declared.certificate.CheckRefusal.{CheckRefusal}
 use Rattle.derivation.specs.declared.certificate.CheckReason.TheVariants.{IllFormed, OtherOperator, UnsortedAnswer}
-use Rattle.derivation.specs.Replay.{Fits, founding, refusal, implements, sort_fits, operator_fits, node_fits, inputs_fit, plan_fits, lines_replay, is_delivered, root, replayed}
+use Rattle.derivation.specs.Replay.{Fits, founding, refusal, implements, needed_classes, sort_fits, operator_fits, node_fits, inputs_fit, plan_fits, lines_replay, is_delivered, root, replayed}
 use Rattle.derivation.proofs.ClassOutputs.{of_class}
-use Rattle.derivation.proofs.Fits.{after_node, after-is, plan_fits_out, operator-is}
+use Rattle.derivation.proofs.Fits.{after_node, after-is, plan_fits_out, operator-is, needed-pass}
 use Rattle.derivation.proofs.Founded.{Stands, line_at, begins, turned, before_columns}
 use Rattle.derivation.proofs.StoredClasses.{expr_stored, expr_reads, class_stored, line-reads, line-stored, stored-before, frame-reads}
 
@@ -73,7 +73,7 @@ module _ (uses : List TableInstance) (own : List Aggregation) (cols : ℕ → Li
     reads : expr_reads W x ≡ true → operator_reads operator inputs ≡ true
 
   abbrev Implementing : Operator → Expr → Type 0
-  Implementing operator x = (sides : ℕ → List ℕ) (inputs : List Origin) → implements sides operator x ≡ true → is_formed uses own cols x ≡ true → AllAre cols W inputs (input_classes x) → Follows operator x inputs
+  Implementing operator x = (sides : ℕ → List ℕ) (inputs : List Origin) → implements sides operator x ≡ true → is_formed uses own cols x ≡ true → AllAre cols W inputs (needed_classes operator x) → Follows operator x inputs
 
   first-is : (inputs : List Origin) (g : ℕ) (classes : List ℕ) → AllAre cols W inputs (g ∷ classes) → W g ≡ true → first_stored inputs ≡ true
   first-is [] g classes all is = absurd all
@@ -118,6 +118,17 @@ module _ (uses : List TableInstance) (own : List Aggregation) (cols : ℕ → Li
   anti-follows method S M (expr.Anti T N g k) sides inputs h formed all = record { stored = first-is inputs g _ all; reads = λ is. refl }
   anti-follows method S M x sides inputs h formed all = cc
 
+  index_scan-follows : (a : IndexAccess) (C : List Condition) (x : Expr) → Implementing (IndexScan a C) x
+  index_scan-follows a C x sides inputs h formed all = record { stored = λ is. refl; reads = λ is. refl }
+
+  -- what an index reads is stored
+  index_join-follows : (a : IndexAccess) (j : Matching) (x : Expr) → Implementing (IndexJoin a j) x
+  index_join-follows a (Inner C) (Join E g k) sides inputs h formed all = record { stored = λ is. and_from _ _ (first-is inputs g [] all (and_parts _ _ is).0) refl; reads = λ is. refl }
+  index_join-follows a (Left C) (LeftJoin E g k) sides inputs h formed all = record { stored = λ is. and_from _ _ (first-is inputs g [] all (and_parts _ _ is).0) refl; reads = λ is. refl }
+  index_join-follows a (Semi C) (expr.Semi E g k) sides inputs h formed all = record { stored = first-is inputs g [] all; reads = λ is. refl }
+  index_join-follows a (Anti S M) (expr.Anti T N g k) sides inputs h formed all = record { stored = first-is inputs g [] all; reads = λ is. refl }
+  index_join-follows a j x sides inputs h formed all = cc
+
   -- well-formed aggregates read columns of the class
   formed-among : (K : List ℕ) (G : List Aggregation) → list_all (aggregation_formed own K) G ≡ true → read_among K G ≡ true
   formed-among K [] formed = refl
@@ -141,6 +152,7 @@ module _ (uses : List TableInstance) (own : List Aggregation) (cols : ℕ → Li
 
   follows : (operator : Operator) (x : Expr) → Implementing operator x
   follows (Scan o) x = scan-follows o x
+  follows (IndexScan a C) x = index_scan-follows a C x
   follows (Filter C) x = filter-follows C x
   follows (FilterSubqueries C) x = subqueries-follow C x
   follows (Projection K) x = projection-follows K x
@@ -148,6 +160,7 @@ module _ (uses : List TableInstance) (own : List Aggregation) (cols : ℕ → Li
   follows (JoinRows method (Left C)) x = left_join-follows method C x
   follows (JoinRows method (Semi C)) x = semi-follows method C x
   follows (JoinRows method (Anti S M)) x = anti-follows method S M x
+  follows (IndexJoin a j) x = index_join-follows a j x
   follows (GroupRows method K G) x = group-follows method K G x
   follows (DistinctRows method) x = distinct-follows method x
 
@@ -166,13 +179,13 @@ module _ (q : Query) (lines F rest : List Expr) (replays : lines_replay q [] lin
 
   -- a plan that fits a class of the frame is of its origin
   abbrev P : Plan → Type 0
-  P p = (ordered : Bool) (g n m : ℕ) → g < length (query_frame q) → plan_fits lines cols p ordered g n ≡ Ok m → IsOriginOf cols W (plan_origin q.tables p) g
+  P p = (ordered : Bool) (g n m : ℕ) → g < length (query_frame q) → plan_fits q.tables lines cols p ordered g n ≡ Ok m → IsOriginOf cols W (plan_origin q.tables p) g
 
   abbrev Part : Type 0
   Part = (p : Plan) × P p
 
   abbrev fits_of : List Part → List Fits
-  fits_of parts = map (plan_fits lines cols) (map (λ p. p.0) parts)
+  fits_of parts = map (plan_fits q.tables lines cols) (map (λ p. p.0) parts)
 
   abbrev origins_of : List Part → List Origin
   origins_of parts = map (plan_origin q.tables) (map (λ p. p.0) parts)
@@ -182,7 +195,7 @@ module _ (q : Query) (lines F rest : List Expr) (replays : lines_replay q [] lin
   all-are [] (g ∷ needed) n m count low fits = absurd (omega (arith, count))
   all-are (p ∷ parts) [] n m count low fits = absurd (omega (arith, count))
   all-are (p ∷ parts) (g ∷ needed) n m count low fits =
-      let steps = both_ok (plan_fits lines cols p.0 true g n) (λ m. inputs_fit (fits_of parts) needed m) m fits in
+      let steps = both_ok (plan_fits q.tables lines cols p.0 true g n) (λ m. inputs_fit (fits_of parts) needed m) m fits in
       let lows = and_parts _ _ low in
       (p.1 true g n steps.0 (ltb-true _ _ lows.0) steps.1, all-are parts needed steps.0 m (omega (arith, count)) lows.1 steps.2)
 
@@ -200,7 +213,7 @@ module _ (q : Query) (lines F rest : List Expr) (replays : lines_replay q [] lin
       )
 
   abbrev orders_of : List Part → List (List OrderKey)
-  orders_of parts = map plan_order (map (λ p. p.0) parts)
+  orders_of parts = map (plan_order q.tables) (map (λ p. p.0) parts)
 
   abbrev inputs_after : Node → List Part → Bool → ℕ → List ℕ → Result ℕ CheckRefusal
   inputs_after node parts = after_node cols node (orders_of parts) (fits_of parts)
@@ -226,18 +239,18 @@ module _ (q : Query) (lines F rest : List Expr) (replays : lines_replay q [] lin
       slice_get-front (y ∷ xs) ys zero x lt at = at
       slice_get-front (y ∷ xs) ys (suc i) x lt at = slice_get-front xs ys i x (omega (arith, lt)) at
 
-  operator-is-of : (line : ℕ) (operator : Operator) (parts : List Part) (ordered : Bool) (g n m : ℕ) → g < length (query_frame q) → (operator_fits lines cols line operator (length (fits_of parts)) g n >>= inputs_after (Implements line operator) parts ordered n) ≡ Ok m → IsNodeOf (Implements line operator) parts g
+  operator-is-of : (line : ℕ) (operator : Operator) (parts : List Part) (ordered : Bool) (g n m : ℕ) → g < length (query_frame q) → (operator_fits q.tables lines cols line operator (length (fits_of parts)) g n >>= inputs_after (Implements line operator) parts ordered n) ≡ Ok m → IsNodeOf (Implements line operator) parts g
   operator-is-of line operator parts ordered g n m low fits =
-      let steps = both_ok (operator_fits lines cols line operator (length (fits_of parts)) g n) (inputs_after (Implements line operator) parts ordered n) m fits in
-      let found = operator-is lines cols line operator (length (fits_of parts)) g n steps.0 steps.1 in
+      let steps = both_ok (operator_fits q.tables lines cols line operator (length (fits_of parts)) g n) (inputs_after (Implements line operator) parts ordered n) m fits in
+      let found = operator-is q.tables lines cols line operator (length (fits_of parts)) g n steps.0 steps.1 in
       let x : Expr = found.expr in
       let within_ : g < length lines = slice_get_within lines g x found.at in
       let le : g ≤ length lines = omega (arith, within_) in
       let count : length (reverse (take g lines)) ≡ g = length-reverse (take g lines) ∙ length-take-le g lines le in
       let stands : Stands q (reverse (take g lines)) x = line_at q lines [] F g x replays found.at in
-      let below : list_all (λ h. nat_lt h g) (input_classes x) ≡ true = inputs-pass (λ h. nat_lt h g) x (subst (λ n. classes_pass (λ h. nat_lt h n) x ≡ true) count stands.backward) in
-      let all = inputs-are (Implements line operator) parts ordered n m steps.0 found.count (ap (list_all (λ h. nat_lt h (length (query_frame q)))) (sym found.needs) ∙ lower g (length (query_frame q)) (input_classes x) (omega (arith, low)) below) steps.2 in
-      let earlier = all-before g le (origins_of parts) (input_classes x) below (subst (AllAre cols W (origins_of parts)) (sym found.needs) all) in
+      let below : list_all (λ h. nat_lt h g) (needed_classes operator x) ≡ true = needed-pass (λ h. nat_lt h g) operator x (subst (λ n. classes_pass (λ h. nat_lt h n) x ≡ true) count stands.backward) in
+      let all = inputs-are (Implements line operator) parts ordered n m steps.0 found.count (ap (list_all (λ h. nat_lt h (length (query_frame q)))) (sym found.needs) ∙ lower g (length (query_frame q)) (needed_classes operator x) (omega (arith, low)) below) steps.2 in
+      let earlier = all-before g le (origins_of parts) (needed_classes operator x) below (subst (AllAre cols W (origins_of parts)) (sym found.needs) all) in
       let is = follows q.tables (own_aggregates q) (class_columns q.tables (reverse (take g lines))) (class_stored (reverse (take g lines))) operator x cols (origins_of parts) found.implemented stands.formed earlier in
       record { stored = λ s. is.stored (sym (line-stored lines g x found.at) ∙ s); reads = is.reads (frame-line g x low found.at); inputs = inputs-read cols W (origins_of parts) steps.0 all }
     where
@@ -261,7 +274,7 @@ module _ (q : Query) (lines F rest : List Expr) (replays : lines_replay q [] lin
       input [] all is = absurd all
       input (p ∷ parts) all is = all.0.stored is
 
-  layer : (node : Node) (parts : List Part) (ordered : Bool) (g n m : ℕ) → g < length (query_frame q) → (node_fits lines cols node (length (fits_of parts)) g n >>= inputs_after node parts ordered n) ≡ Ok m → IsNodeOf node parts g
+  layer : (node : Node) (parts : List Part) (ordered : Bool) (g n m : ℕ) → g < length (query_frame q) → (node_fits q.tables lines cols node (length (fits_of parts)) g n >>= inputs_after node parts ordered n) ≡ Ok m → IsNodeOf node parts g
   layer (Implements line operator) = operator-is-of line operator
   layer (Sort keys) = sort-is-of keys
 
@@ -269,10 +282,10 @@ module _ (q : Query) (lines F rest : List Expr) (replays : lines_replay q [] lin
   unfolding plan_origin
   step y ordered g n m low fits =
       let z : Plan-F Plan = map-Plan Part Plan (λ p. p.0) y in
-      let here : (node_fits lines cols z.node (length z.inputs) g n >>= inputs_after z.node y.inputs ordered n) ≡ Ok m =
-      subst (λ (w : Plan-F Plan). (node_fits lines cols w.node (length w.inputs) g n >>= after_node cols w.node (map plan_order w.inputs) (map (plan_fits lines cols) w.inputs) ordered n) ≡ Ok m)
-      (out-roll-Plan z) (sym (plan_fits_out lines cols (roll-Plan z) ordered g n) ∙ fits) in
-      let node = layer y.node y.inputs ordered g n m low (subst (λ k. (node_fits lines cols z.node k g n >>= inputs_after z.node y.inputs ordered n) ≡ Ok m) (sym (length-map z.inputs (plan_fits lines cols))) here) in
+      let here : (node_fits q.tables lines cols z.node (length z.inputs) g n >>= inputs_after z.node y.inputs ordered n) ≡ Ok m =
+      subst (λ (w : Plan-F Plan). (node_fits q.tables lines cols w.node (length w.inputs) g n >>= after_node cols w.node (map (plan_order q.tables) w.inputs) (map (plan_fits q.tables lines cols) w.inputs) ordered n) ≡ Ok m)
+      (out-roll-Plan z) (sym (plan_fits_out q.tables lines cols (roll-Plan z) ordered g n) ∙ fits) in
+      let node = layer y.node y.inputs ordered g n m low (subst (λ k. (node_fits q.tables lines cols z.node k g n >>= inputs_after z.node y.inputs ordered n) ≡ Ok m) (sym (length-map z.inputs (plan_fits q.tables lines cols))) here) in
       let rolled = fold-roll-Plan Origin (origin_layer q.tables) z in
       record {
         columns = (origin-is q.tables none (λ t. tt) (roll-Plan z)).columns ∙ (of_class q none lines F replays (roll-Plan z) ordered g n m fits).output.columns;
@@ -297,8 +310,8 @@ pub plan-reads : (q : Query) (c d : Certificate) → replayed q c ≡ Ok d → (
 unfolding replayed
 plan-reads q c d ok =
     let lines : List Expr = map founding c.lines in
-    let first = both_ok (lines_replay q [] lines) (λ E. plan_fits lines (class_columns q.tables E) c.plan (is_delivered q c.plan) (root q) (length E) >>= λ n. Ok c) d ok in
-    let second = both_ok (plan_fits lines (class_columns q.tables first.0) c.plan (is_delivered q c.plan) (root q) (length first.0)) (λ n. Ok c) d first.2 in
+    let first = both_ok (lines_replay q [] lines) (λ E. plan_fits q.tables lines (class_columns q.tables E) c.plan (is_delivered q c.plan) (root q) (length E) >>= λ n. Ok c) d ok in
+    let second = both_ok (plan_fits q.tables lines (class_columns q.tables first.0) c.plan (is_delivered q c.plan) (root q) (length first.0)) (λ n. Ok c) d first.2 in
     let begin = begins q lines [] first.0 first.1 in
-    let fits = subst (λ E. plan_fits lines (class_columns q.tables E) c.plan (is_delivered q c.plan) (root q) (length first.0) ≡ Ok second.0) (turned q lines [] first.0 first.1) second.1 in
+    let fits = subst (λ E. plan_fits q.tables lines (class_columns q.tables E) c.plan (is_delivered q c.plan) (root q) (length first.0) ≡ Ok second.0) (turned q lines [] first.0 first.1) second.1 in
     (of_origin q lines first.0 begin.0 first.1 begin.1 c.plan (is_delivered q c.plan) (root q) (length first.0) second.0 (frame-some q) fits).reads

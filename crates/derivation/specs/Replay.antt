@@ -8,6 +8,7 @@ use Rattle.values.specs.Faults.{◌>>=◌, wanted, wanted_if}
 use Rattle.schema.specs.declared.schema.Schema.{Schema}
 use Rattle.schema.specs.Databases.{Database, Satisfies}
 use Rattle.query.specs.declared.query.Query.{Query}
+use Rattle.query.specs.declared.query.TableInstance.{TableInstance}
 use Rattle.query.specs.Rows.{tables_of}
 use Rattle.query.specs.Bound.{IsBoundOver}
 use Rattle.query.specs.Answer.{IsAnswer}
@@ -28,14 +29,16 @@ use Rattle.physical.specs.declared.plan.Matching.TheVariants.{Inner, Left, Semi,
 use Rattle.physical.specs.declared.plan.JoinMethod.{JoinMethod}
 use Rattle.physical.specs.declared.plan.JoinMethod.TheVariants.{NestedLoop, Hash, Merge}
 use Rattle.physical.specs.declared.plan.GroupMethod.TheVariants.{Sorted}
+use Rattle.physical.specs.declared.plan.IndexAccess.{IndexAccess}
 use Rattle.physical.specs.declared.plan.Operator.{Operator}
-use Rattle.physical.specs.declared.plan.Operator.TheVariants.{Scan, Filter, FilterSubqueries, Projection, JoinRows, GroupRows, DistinctRows}
+use Rattle.physical.specs.declared.plan.Operator.TheVariants.{Scan, IndexScan, Filter, FilterSubqueries, Projection, JoinRows, IndexJoin, GroupRows, DistinctRows}
 use Rattle.physical.specs.declared.plan.Node.{Node}
 use Rattle.physical.specs.declared.plan.Node.TheVariants.{Implements, Sort}
 use Rattle.physical.specs.declared.plan.Plan.{Plan, fold-Plan}
 use Rattle.physical.specs.declared.plan.Plan.TheOpen.{Plan-F}
 use Rattle.physical.specs.declared.plan.OrderKey.{OrderKey}
 use Rattle.physical.specs.contracts.plan.OrderKey as order_key
+use Rattle.physical.specs.Indexes.{has_index, finds_by_index}
 use Rattle.physical.specs.Outputs.{first_columns, second_columns}
 use Rattle.physical.specs.Orders.{are_columns, first_order, node_order, plan_order}
 use Rattle.derivation.specs.QueryOrders.{query_order}
@@ -107,10 +110,13 @@ is_join j x = false
 -- whether an operator computes an expression over classes with these columns from what its inputs produce
 abbrev pub implements : (ℕ → List ℕ) → Operator → Expr → Bool
 implements cols (Scan o) (Get p) = o == p
+implements cols (IndexScan a C) (Get p) = same_conditions C []
+implements cols (IndexScan a C) (Select D x) = is_plain D && same_conditions C D
 implements cols (Filter C) (Select D x) = is_plain D && same_conditions C D
 implements cols (FilterSubqueries C) (Select D x) = not (is_plain D) && same_conditions C D
 implements cols (Projection K) (Keep L x) = same_columns K L
 implements cols (JoinRows method j) x = is_join j x && finds method j (first_columns (map cols (children x))) (second_columns (map cols (children x)))
+implements cols (IndexJoin a j) x = is_join j x
 implements cols (GroupRows method K G) (Group L H x) = same_columns K L && same_aggregations G H
 implements cols (DistinctRows method) (Distinct x) = true
 implements cols operator x = false
@@ -125,20 +131,53 @@ sort_fits cols keys inputs g n =
 abbrev pub is_member : ℕ → ℕ → Bool
 is_member line g = line == g
 
+-- whether an access is of the class: its line is a member, and is the Get of its table instance
+abbrev pub is_get_of : Option Expr → ℕ → Bool
+is_get_of (Some (Get p)) o = o == p
+is_get_of x o = false
+
+abbrev pub accesses : List Expr → IndexAccess → ℕ → Bool
+accesses lines a g = is_member a.line g && is_get_of (slice_get lines a.line) a.occurrence
+
+-- so it is of the second of some classes
+abbrev pub accesses_second : List Expr → IndexAccess → List ℕ → Bool
+accesses_second lines a (g ∷ h ∷ classes) = accesses lines a h
+accesses_second lines a classes = false
+
+-- whether an operator of a line with the expression reads by an index what would be its input, and a Get itself
+abbrev pub index_fits : List TableInstance → List Expr → ℕ → Operator → Expr → Bool
+index_fits uses lines line (IndexScan a C) (Get p) = a.line == line && a.occurrence == p && has_index uses a
+index_fits uses lines line (IndexScan a C) (Select D x) = accesses lines a x && has_index uses a
+index_fits uses lines line (IndexJoin a j) x = accesses_second lines a (children x) && finds_by_index uses a j
+index_fits uses lines line operator x = true
+
+-- the further line that an operator names is one of so many
+abbrev pub names_lines : ℕ → Operator → Bool
+names_lines count (IndexScan a C) = nat_lt a.line count
+names_lines count (IndexJoin a j) = nat_lt a.line count
+names_lines count operator = true
+
 -- the classes whose rows an operator needs as inputs, so that it computes an expression
 abbrev pub needed_classes : Operator → Expr → List ℕ
+needed_classes (IndexScan a C) x = []
+needed_classes (IndexJoin a j) x = take 1 (children x)
 needed_classes operator x = input_classes x
 
+-- an operator of a line with the expression, over so many inputs
+abbrev pub operator_is_of : List TableInstance → List Expr → (ℕ → List ℕ) → ℕ → Operator → Expr → ℕ → Bool
+operator_is_of uses lines cols line operator x inputs = implements cols operator x && index_fits uses lines line operator x && inputs == length (needed_classes operator x)
+
 -- an operator: its line is a member of the class, it implements the line's expression, and has an input for each class that it needs
-abbrev pub operator_fits : List Expr → (ℕ → List ℕ) → ℕ → Operator → ℕ → ℕ → ℕ → Result (List ℕ) CheckRefusal
-operator_fits lines cols line operator inputs g n =
+abbrev pub operator_fits : List TableInstance → List Expr → (ℕ → List ℕ) → ℕ → Operator → ℕ → ℕ → ℕ → Result (List ℕ) CheckRefusal
+operator_fits uses lines cols line operator inputs g n =
     wanted (refusal n UnknownLine) (slice_get lines line)
-    >>= λ x. wanted_if (refusal n OtherOperator) (is_member line g && implements cols operator x && inputs == length (needed_classes operator x)) (needed_classes operator x)
+    >>= λ x. wanted_if (refusal n UnknownLine) (names_lines (length lines) operator) x
+    >>= λ x. wanted_if (refusal n OtherOperator) (is_member line g && operator_is_of uses lines cols line operator x inputs) (needed_classes operator x)
 
 -- the classes that the node at number n needs as inputs, if it is of the class
-abbrev pub node_fits : List Expr → (ℕ → List ℕ) → Node → ℕ → ℕ → ℕ → Result (List ℕ) CheckRefusal
-node_fits lines cols (Implements line operator) inputs g n = operator_fits lines cols line operator inputs g n
-node_fits lines cols (Sort keys) inputs g n = sort_fits cols keys inputs g n
+abbrev pub node_fits : List TableInstance → List Expr → (ℕ → List ℕ) → Node → ℕ → ℕ → ℕ → Result (List ℕ) CheckRefusal
+node_fits uses lines cols (Implements line operator) inputs g n = operator_fits uses lines cols line operator inputs g n
+node_fits uses lines cols (Sort keys) inputs g n = sort_fits cols keys inputs g n
 
 unfoldable pub same_order : List OrderKey → List OrderKey → Bool
 same_order = same_by (coded_list order_key.the_row.coded)
@@ -187,29 +226,29 @@ pub record Fitted : Type 0 where
   pub fits : Fits
 
 -- a node goes before its inputs: what it is, then their orders, then its own
-abbrev pub fitted_layer : List Expr → (ℕ → List ℕ) → Plan-F Fitted → Fitted
-fitted_layer lines cols p =
+abbrev pub fitted_layer : List TableInstance → List Expr → (ℕ → List ℕ) → Plan-F Fitted → Fitted
+fitted_layer uses lines cols p =
     let orders = map (λ x. x.order) p.inputs in
     record {
-      order = node_order p.node orders;
+      order = node_order uses p.node orders;
       fits = λ ordered g n.
-          node_fits lines cols p.node (length p.inputs) g n
+          node_fits uses lines cols p.node (length p.inputs) g n
           >>= λ classes. wanted_if (refusal n UnsortedInput) (inputs_sorted p.node (map cols classes) orders) classes
           >>= λ classes. wanted_if (refusal n UnsortedAnswer) ordered classes
           >>= λ classes. inputs_fit (map (λ x. x.fits) p.inputs) classes (n + 1);
     }
 
-unfoldable pub fitted : List Expr → (ℕ → List ℕ) → Plan → Fitted
-fitted lines cols = fold-Plan Fitted (fitted_layer lines cols)
+unfoldable pub fitted : List TableInstance → List Expr → (ℕ → List ℕ) → Plan → Fitted
+fitted uses lines cols = fold-Plan Fitted (fitted_layer uses lines cols)
 
-abbrev pub plan_fits : List Expr → (ℕ → List ℕ) → Plan → Fits
-plan_fits lines cols plan = (fitted lines cols plan).fits
+abbrev pub plan_fits : List TableInstance → List Expr → (ℕ → List ℕ) → Plan → Fits
+plan_fits uses lines cols plan = (fitted uses lines cols plan).fits
 
 -- ---- certificates
 
 -- the order that the plan delivers begins with the ORDER BY
 abbrev pub is_delivered : Query → Plan → Bool
-is_delivered q plan = begins_with (plan_order plan) (query_order q)
+is_delivered q plan = begins_with (plan_order q.tables plan) (query_order q)
 
 -- the frame's last class
 abbrev pub root : Query → ℕ
@@ -219,7 +258,7 @@ root q = length (query_frame q) - 1
 unfoldable pub replayed : Query → Certificate → Result Certificate CheckRefusal
 replayed q c =
     lines_replay q [] (map founding c.lines)
-    >>= λ E. plan_fits (map founding c.lines) (class_columns q.tables E) c.plan (is_delivered q c.plan) (root q) (length E)
+    >>= λ E. plan_fits q.tables (map founding c.lines) (class_columns q.tables E) c.plan (is_delivered q c.plan) (root q) (length E)
     >>= λ n. Ok c
 
 -- the certificate replays, and in each database that satisfies the schema its plan gives an answer of the query

@@ -21,14 +21,14 @@ use Rattle.algebra.proofs.Puts.{among-append}
 use Rattle.algebra.proofs.Sets.{has-rising}
 use Rattle.algebra.proofs.UniqueRows.{distinct_on-by}
 use Rattle.operators.specs.declared.groups.Grouping.{Grouping}
-use Rattle.operators.specs.declared.headings.Heading.{Heading}
-use Rattle.operators.specs.declared.relation.Relation.{Relation}
-use Rattle.operators.specs.declared.headings.Place.{Place}
-use Rattle.operators.specs.Parts.{row_at, value_in}
-use Rattle.operators.specs.Places.{listed}
-use Rattle.operators.specs.Relations.{column_place, column_places, row_env, numbered_env, numbers_of, rows_of}
+use Rattle.relations.specs.declared.headings.Heading.{Heading}
+use Rattle.relations.specs.declared.relation.Relation.{Relation}
+use Rattle.relations.specs.declared.headings.Place.{Place}
+use Rattle.relations.specs.Parts.{row_at, value_in}
+use Rattle.relations.specs.Places.{listed}
+use Rattle.relations.specs.Relations.{column_place, column_places, row_env, numbered_env, numbers_of, rows_of}
 use Rattle.operators.specs.Groups.{GroupOf, first_seen, key_at, same_at, group_env, group_envs, member_envs, placed_groups}
-use Rattle.operators.proofs.ColumnPlaces.{found-column, other-column}
+use Rattle.relations.proofs.ColumnPlaces.{found-column, other-column}
 
 -- ---- rows that are the same
 

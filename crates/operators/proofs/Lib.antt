@@ -1,12 +1,8 @@
-pub mod ColumnPlaces
 pub mod FirstSeen
 pub mod GroupEnvs
 pub mod JoinRows
-pub mod Numbers
 pub mod PlanOutputs
 pub mod PlanReads
 pub mod Readable
-pub mod RelationRows
 pub mod RunningGroups
 pub mod ShownRows
-pub mod Steps

@@ -18,8 +18,8 @@ use Rattle.physical.specs.declared.plan.Matching.TheVariants.{Inner, Left, Semi,
 use Rattle.physical.specs.declared.plan.Node.{Node}
 use Rattle.physical.specs.declared.plan.Plan.{Plan, out-Plan, fold_out-Plan}
 use Rattle.physical.specs.Outputs.{Output, first_columns, second_columns, first, rest, is_match, join_rows, node_columns, node_rows, subquery_rows, output_layer, plan_output, output_rows}
-use Rattle.operators.specs.declared.relation.Relation.{Relation}
-use Rattle.operators.specs.Relations.{IsOutput, IsInputOutput, AreOutputs, given, rows_of}
+use Rattle.relations.specs.declared.relation.Relation.{Relation}
+use Rattle.relations.specs.Relations.{IsOutput, IsInputOutput, AreOutputs, given, rows_of}
 
 module _ (uses : List TableInstance) (D : Tables) where
   -- the columns and the rows of a plan, of its inputs' output

@@ -15,8 +15,8 @@ use Rattle.physical.specs.declared.plan.Plan.{Plan, out-Plan, fold_out-Plan}
 use Rattle.physical.specs.Origins.{Origin, AreReadable, all_read, node_reads, operator_reads, origin_layer, plan_origin}
 use Rattle.physical.specs.Outputs.{plan_output}
 use Rattle.physical.proofs.StoredValues.{group-readable}
-use Rattle.operators.specs.declared.relation.Relation.{Relation}
-use Rattle.operators.specs.Relations.{IsInputOutput, rows_of}
+use Rattle.relations.specs.declared.relation.Relation.{Relation}
+use Rattle.relations.specs.Relations.{IsInputOutput, rows_of}
 use Rattle.operators.proofs.PlanOutputs.{output-first}
 
 module _ (uses : List TableInstance) where

@@ -6,14 +6,14 @@ use Rattle.std.proofs.lemmas.List.FromFn.{length-map-range_with_len, get_or-map-
 use Rattle.values.specs.declared.value.Value.TheVariants as value
 use Rattle.schema.specs.Databases.{Row, HaveWidth}
 use Rattle.algebra.specs.Bags.{nulls}
-use Rattle.operators.specs.declared.headings.Heading.{Heading}
-use Rattle.operators.specs.declared.headings.Place.{Place}
-use Rattle.operators.specs.declared.relation.Relation.{Relation}
-use Rattle.operators.specs.declared.rows.Rows.{Rows}
-use Rattle.operators.specs.Parts.{row_at, value_in}
-use Rattle.operators.specs.Relations.{column_place, numbered_env, row_env, rows_of, numbers_of}
+use Rattle.relations.specs.declared.headings.Heading.{Heading}
+use Rattle.relations.specs.declared.headings.Place.{Place}
+use Rattle.relations.specs.declared.relation.Relation.{Relation}
+use Rattle.relations.specs.declared.rows.Rows.{Rows}
+use Rattle.relations.specs.Parts.{row_at, value_in}
+use Rattle.relations.specs.Relations.{column_place, numbered_env, row_env, rows_of, numbers_of}
 use Rattle.operators.specs.Shown.{shown_rows}
-use Rattle.operators.proofs.ColumnPlaces.{found-column, other-column}
+use Rattle.relations.proofs.ColumnPlaces.{found-column, other-column}
 use mathlib.Core.List.{map-map}
 
 abbrev pub shown_row : Rows → List (Option Place) → ℕ → Row

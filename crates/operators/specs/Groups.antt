@@ -10,12 +10,12 @@ use Rattle.query.specs.Running.{IsAfter}
 use Rattle.algebra.specs.Columns.{has}
 use Rattle.algebra.specs.Bags.{Env, lay}
 use Rattle.algebra.specs.Expressions.{with_aggregates}
-use Rattle.operators.specs.declared.headings.Place.{Place}
-use Rattle.operators.specs.declared.rows.Rows.{Rows}
-use Rattle.operators.specs.declared.relation.Relation.{Relation}
+use Rattle.relations.specs.declared.headings.Place.{Place}
+use Rattle.relations.specs.declared.rows.Rows.{Rows}
+use Rattle.relations.specs.declared.relation.Relation.{Relation}
 use Rattle.operators.specs.declared.groups.Grouping.{Grouping}
-use Rattle.operators.specs.Parts.{row_at, value_in}
-use Rattle.operators.specs.Relations.{numbered_env, numbers_of}
+use Rattle.relations.specs.Parts.{row_at, value_in}
+use Rattle.relations.specs.Relations.{numbered_env, numbers_of}
 
 -- rows, and the first of those that are the same
 pub record GroupOf (X : Type 0) : Type 0 where

@@ -1,9 +1,5 @@
 pub mod Grouped
 pub mod Groups
 pub mod Joins
-pub mod Parts
-pub mod Places
-pub mod Relations
-pub mod Resolved
 pub mod Shown
 pub mod Sorting

@@ -2,9 +2,9 @@
 use Rattle.std.specs.Prelude.{List, map, Option}
 use Rattle.std.specs.List.{range_with_len}
 use Rattle.schema.specs.Databases.{Row}
-use Rattle.operators.specs.declared.headings.Place.{Place}
-use Rattle.operators.specs.declared.rows.Rows.{Rows}
-use Rattle.operators.specs.Parts.{row_at, value_in}
+use Rattle.relations.specs.declared.headings.Place.{Place}
+use Rattle.relations.specs.declared.rows.Rows.{Rows}
+use Rattle.relations.specs.Parts.{row_at, value_in}
 
 -- the values at the places in each row
 abbrev pub shown_rows : Rows → List (Option Place) → List Row

@@ -8,13 +8,12 @@ ghost use Rattle.query.specs.Aggregates as spec;
 ghost use Rattle.operators.specs.Groups.{AreAfter, GroupOf, added_at, member_envs};
 ghost use Rattle.operators.specs.Grouped.{groups_in};
 ghost use Rattle.query.specs.Running.{IsAfter};
-ghost use Rattle.operators.specs.Relations.{env_of, numbered_env, rows_of};
+ghost use Rattle.relations.specs.Relations.{env_of, numbered_env, rows_of};
 
-use crate::environment::{Env, row_cell};
 use crate::grouped::Groups;
-use crate::relation::Relation;
 use query::Aggregate;
 use query::aggregates::{Running, column_of};
+use relations::{Env, Relation, row_cell};
 use std::alloc::{AllocError, Global};
 use values::Cell;
 

@@ -2,11 +2,10 @@
 
 ghost use Rattle.std.specs.Prelude.{◌≡◌, length, IfOk};
 ghost use Rattle.operators.specs.Groups as spec;
-ghost use Rattle.operators.specs.Relations.{numbers_of};
+ghost use Rattle.relations.specs.Relations.{numbers_of};
 
-use crate::headings::Place;
 use crate::keys::{GroupNumbers, group_numbers};
-use crate::relation::Relation;
+use relations::{Place, Relation};
 use std::alloc::{AllocError, Global};
 
 /// The rows of a relation in groups of those that are the same at some places, as they were first seen.

@@ -6,17 +6,15 @@ ghost use Rattle.algebra.specs.Bags as bags;
 ghost use Rattle.algebra.specs.Columns.{has, rising};
 ghost use Rattle.algebra.specs.Expressions as expressions;
 ghost use Rattle.physical.specs.Origins.{AreReadable};
-ghost use Rattle.operators.specs.Relations.{IsOutput, env_of, numbered_env, rows_of};
+ghost use Rattle.relations.specs.Relations.{IsOutput, env_of, numbered_env, rows_of};
 ghost use Rattle.operators.specs.Groups.{group_envs};
 ghost use Rattle.operators.specs.Grouped.{groups_in};
 
 use crate::aggregates::{aggregate_column, aggregate_of_all};
-use crate::environment::{Env, row_cell};
 use crate::grouped::Groups;
-use crate::parts::Part;
-use crate::relation::Relation;
 use algebra::{Aggregation, Columns};
 use query::ColumnId;
+use relations::{Env, Part, Relation, row_cell};
 use std::alloc::{AllocError, Global};
 use values::Cell;
 

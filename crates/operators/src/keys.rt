@@ -8,11 +8,10 @@ ghost use Rattle.values.specs.Cells.{value_of};
 ghost use Rattle.values.specs.declared.value.Value.TheVariants as value;
 ghost use Rattle.store.specs.Keys.{key_eq, key_writes, key_equiv, key_alike};
 ghost use Rattle.operators.specs.Groups as spec;
-ghost use Rattle.operators.specs.Parts.{row_at};
+ghost use Rattle.relations.specs.Parts.{row_at};
 
-use crate::headings::Place;
-use crate::rows::Rows;
 use indexmap::IndexSet;
+use relations::{Place, Rows};
 use std::alloc::{AllocError, Global};
 use std::hash::{Hash, Hasher};
 use std::marker::Model;
@@ -29,7 +28,7 @@ pub struct PlacedKey<'a, 't> {
 impl<'a, 't> Model for PlacedKey<'a, 't> {
     ghost use Rattle.schema.specs.Databases.{Row};
     ghost use Rattle.operators.specs.Groups.{key_at};
-    ghost use Rattle.operators.specs.Parts.{row_at};
+    ghost use Rattle.relations.specs.Parts.{row_at};
 
     ghost Value = { Row };
 

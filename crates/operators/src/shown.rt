@@ -2,12 +2,10 @@
 
 ghost use Rattle.std.specs.Prelude.{◌≡◌, ◌<◌, length, map, slice_index_or, [], None, IfOk};
 ghost use Rattle.algebra.specs.Bags.{nulls};
-ghost use Rattle.operators.specs.Relations.{rows_of};
+ghost use Rattle.relations.specs.Relations.{rows_of};
 
-use crate::headings::Place;
-use crate::relation::Relation;
-use crate::rows::Rows;
 use query::ColumnId;
+use relations::{Place, Relation, Rows};
 use std::alloc::{AllocError, Global};
 use std::marker::Model;
 use store::RowSource;

@@ -3,13 +3,12 @@
 ghost use Rattle.std.specs.Prelude.{◌≡◌, ◌∷◌, map, IfOk};
 ghost use Rattle.values.specs.Cells.{value_of};
 ghost use Rattle.physical.specs.Sorts as spec;
-ghost use Rattle.operators.specs.Relations.{IsOutput, env_of, numbered_env, numbers_of, rows_of};
+ghost use Rattle.relations.specs.Relations.{IsOutput, env_of, numbered_env, numbers_of, rows_of};
 ghost use Rattle.operators.specs.Sorting.{keyed_of, keyed_order};
 
-use crate::environment::{Env, row_cell};
-use crate::relation::Relation;
 use physical::OrderKey;
 use query::ColumnId;
+use relations::{Env, Relation, row_cell};
 use std::alloc::{AllocError, Global};
 use std::cmp::Ordering;
 use values::{Cell, directed_order, first_decided};

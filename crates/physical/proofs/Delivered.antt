@@ -1,11 +1,12 @@
 -- The order that a plan delivers, by its root's node.
 use Rattle.std.proofs.Common.{◌≡◌, ap, sym, ◌∙◌, List, map}
 use Rattle.algebra.proofs.Lists.{two}
+use Rattle.query.specs.declared.query.TableInstance.{TableInstance}
 use Rattle.physical.specs.declared.plan.OrderKey.{OrderKey}
 use Rattle.physical.specs.declared.plan.Node.{Node}
 use Rattle.physical.specs.declared.plan.Plan.{Plan, out-Plan, fold_out-Plan}
 use Rattle.physical.specs.Orders.{node_order, order_layer, plan_order}
 
-pub order_at : (p : Plan) (node : Node) (inputs : List Plan) → (out-Plan p).node ≡ node → inputs ≡ (out-Plan p).inputs → node_order node (map plan_order inputs) ≡ plan_order p
+pub order_at : (uses : List TableInstance) (p : Plan) (node : Node) (inputs : List Plan) → (out-Plan p).node ≡ node → inputs ≡ (out-Plan p).inputs → node_order uses node (map (plan_order uses) inputs) ≡ plan_order uses p
 unfolding plan_order
-order_at p node inputs is given = two node_order (sym is) (ap (map plan_order) given) ∙ sym (fold_out-Plan (List OrderKey) order_layer p)
+order_at uses p node inputs is given = two (node_order uses) (sym is) (ap (map (plan_order uses)) given) ∙ sym (fold_out-Plan (List OrderKey) (order_layer uses) p)

@@ -12,7 +12,7 @@ use Rattle.query.specs.Rows.{Tables}
 use Rattle.query.specs.Meaning.{or_else_row}
 use Rattle.algebra.specs.declared.condition.Condition.{Condition}
 use Rattle.algebra.specs.Columns.{ColumnSet, has, rising, are_disjoint}
-use Rattle.algebra.specs.Bags.{Env, Bag, Test, lay, nulls, matches, join, left_join, same_on, distinct_on, group}
+use Rattle.algebra.specs.Bags.{Env, Bag, Test, lay, nulls, select, matches, join, left_join, same_on, distinct_on, group}
 use Rattle.algebra.specs.Conditions.{holds}
 use Rattle.algebra.specs.Expressions.{with_aggregates, aggregate_columns}
 use Rattle.algebra.specs.declared.expr.Aggregation.{Aggregation}
@@ -24,17 +24,17 @@ use Rattle.physical.specs.declared.plan.Matching.{Matching}
 use Rattle.physical.specs.declared.plan.Matching.TheVariants.{Inner, Left, Semi, Anti}
 use Rattle.physical.specs.declared.plan.OrderKey.{OrderKey}
 use Rattle.physical.specs.declared.plan.Operator.{Operator}
-use Rattle.physical.specs.declared.plan.JoinMethod.{JoinMethod}
 use Rattle.physical.specs.declared.plan.GroupMethod.{GroupMethod}
 use Rattle.physical.specs.declared.plan.GroupMethod.TheVariants.{Hash, Sorted}
-use Rattle.physical.specs.declared.plan.Operator.TheVariants.{Scan, Filter, FilterSubqueries, Projection, JoinRows, GroupRows, DistinctRows}
+use Rattle.physical.specs.declared.plan.Operator.TheVariants.{Scan, IndexScan, Filter, FilterSubqueries, Projection, JoinRows, IndexJoin, GroupRows, DistinctRows}
 use Rattle.physical.specs.declared.plan.Node.{Node}
 use Rattle.physical.specs.declared.plan.Node.TheVariants.{Implements, Sort}
 use Rattle.physical.specs.declared.plan.Plan.{Plan, roll-Plan, fold-roll-Plan, ind-Plan, map-Plan}
 use Rattle.physical.specs.declared.plan.Plan.TheOpen.{Plan-F}
+use Rattle.physical.specs.Indexes.{accessed_columns, accessed_rows, index_order}
 use Rattle.physical.specs.Sorts.{key_order, keys_order}
 use Rattle.physical.specs.Outputs.{Output, operator_columns, operator_rows, node_rows, output_layer, plan_output, output_rows, first, rest, no_classes, is_match, join_columns, join_rows, first_columns, second_columns, node_columns}
-use Rattle.physical.specs.Orders.{IsOrdered, front, first_order, operator_order, node_order, order_layer, plan_order, are_columns, operator_stands, node_stands, Shape, shape_layer, plan_shape, PlansDeliver}
+use Rattle.physical.specs.Orders.{IsOrdered, front, first_order, operator_order, node_order, order_layer, plan_order, are_columns, join_stands, operator_stands, node_stands, Shape, shape_layer, plan_shape, PlansDeliver}
 use Rattle.physical.proofs.Sorting.{Ascends, ascends-sorted}
 use Rattle.physical.proofs.SortedRows.{keys_total}
 use Rattle.physical.proofs.OrderedLists.{Alike, ascends-any, ascends-map, ascends-weaker, ascends-filter, ascends-distinct_on, ascends-laid_out}
@@ -172,7 +172,7 @@ pub record Delivers (s : Shape) (order : List OrderKey) (p : Output) : Type 0 wh
 
 module _ (uses : List TableInstance) (D : Tables) where
   abbrev P : Plan → Type 0
-  P plan = Delivers (plan_shape uses plan) (plan_order plan) (plan_output uses D plan)
+  P plan = Delivers (plan_shape uses plan) (plan_order uses plan) (plan_output uses D plan)
 
   abbrev Part : Type 0
   Part = (plan : Plan) × P plan
@@ -181,7 +181,7 @@ module _ (uses : List TableInstance) (D : Tables) where
   shapes_of parts = map (plan_shape uses) (map (λ p. p.0) parts)
 
   abbrev orders_of : List Part → List (List OrderKey)
-  orders_of parts = map plan_order (map (λ p. p.0) parts)
+  orders_of parts = map (plan_order uses) (map (λ p. p.0) parts)
 
   abbrev columns_of : List Part → List (List ℕ)
   columns_of parts = map (λ (x : Shape). x.columns) (shapes_of parts)
@@ -200,34 +200,39 @@ module _ (uses : List TableInstance) (D : Tables) where
   first-in-order [] all = record { among = refl; ascends = λ e. tt }
   first-in-order (p ∷ parts) all = p.1.ordered (and_parts _ _ all).0
 
-  -- a join of sides that share no column, both of which it shows
-  wide-in-order : (rows : Bag) (parts : List Part) → are_disjoint (first_columns (columns_of parts)) (second_columns (columns_of parts)) ≡ true → all_stand parts ≡ true
-      → ((e : Env) → Ascends (keys_order (front (λ c. not (has (second_columns (map (λ (x : Output). x.columns) (outputs_of parts))) c)) (first_order (orders_of parts)))) (rows e))
-      → AreInOrder (rising (first_columns (columns_of parts) ++ second_columns (columns_of parts))) (first_order (orders_of parts)) rows
-  wide-in-order rows parts apart all up =
+  -- a join of the first input with rows that share no column with it, both of which it shows
+  wide-in-order : (right : List ℕ) (rows : Bag) (parts : List Part) → are_disjoint (first_columns (columns_of parts)) right ≡ true → all_stand parts ≡ true
+      → ((e : Env) → Ascends (keys_order (front (λ c. not (has right c)) (first_order (orders_of parts)))) (rows e)) → AreInOrder (rising (first_columns (columns_of parts) ++ right)) (first_order (orders_of parts)) rows
+  wide-in-order right rows parts apart all up =
       let left : List ℕ = first_columns (columns_of parts) in
-      let right : List ℕ = second_columns (columns_of parts) in
       let keys : List OrderKey = first_order (orders_of parts) in
       let input = first-in-order parts all in
       let shown : front (λ c. not (has right c)) keys ≡ keys = front-all (λ c. not (has right c)) keys (all-among (has left) (λ c. not (has right c)) (λ c in_. passes (λ c. not (has right c)) left c apart in_) keys input.among) in
       record {
         among = all-among (has left) (has (rising (left ++ right))) (λ c in_. has-rising c (left ++ right) ∙ among-append c left right ∙ rw in_ refl) keys input.among;
-        ascends = λ e. subst (λ keys. Ascends (keys_order keys) (rows e)) shown
-            (subst (λ Ks. Ascends (keys_order (front (λ c. not (has (second_columns Ks) c)) keys)) (rows e)) (sym (columns-same parts)) (up e));
+        ascends = λ e. subst (λ keys. Ascends (keys_order keys) (rows e)) shown (up e);
       }
 
-  join-in-order : (method : JoinMethod) (j : Matching) (parts : List Part) → operator_stands (JoinRows method j) (columns_of parts) ≡ true → all_stand parts ≡ true
-      → AreInOrder (join_columns j (first_columns (columns_of parts)) (second_columns (columns_of parts))) (first_order (orders_of parts)) (operator_rows uses D (JoinRows method j) (outputs_of parts))
-  join-in-order method (Inner C) parts apart all =
-      wide-in-order _ parts apart all (λ e. ascends-join (second_columns (map (λ (x : Output). x.columns) (outputs_of parts))) (first_order (orders_of parts)) (is_match (Inner C)) (first (outputs_of parts)) (first (rest (outputs_of parts))) e ((first-in-order parts all).ascends e))
-  join-in-order method (Left C) parts apart all =
-      wide-in-order _ parts apart all (λ e. ascends-left_join (second_columns (map (λ (x : Output). x.columns) (outputs_of parts))) (first_order (orders_of parts)) (is_match (Left C)) (first (outputs_of parts)) (first (rest (outputs_of parts))) e ((first-in-order parts all).ascends e))
-  join-in-order method (Semi C) parts apart all =
+  -- a join of the first input with rows of these columns
+  join-in-order : (j : Matching) (right : List ℕ) (b : Bag) (parts : List Part) → join_stands j (first_columns (columns_of parts)) right ≡ true → all_stand parts ≡ true
+      → AreInOrder (join_columns j (first_columns (columns_of parts)) right) (first_order (orders_of parts)) (join_rows j right (first (outputs_of parts)) b)
+  join-in-order (Inner C) right b parts apart all = wide-in-order right _ parts apart all (λ e. ascends-join right (first_order (orders_of parts)) (is_match (Inner C)) (first (outputs_of parts)) b e ((first-in-order parts all).ascends e))
+  join-in-order (Left C) right b parts apart all = wide-in-order right _ parts apart all (λ e. ascends-left_join right (first_order (orders_of parts)) (is_match (Left C)) (first (outputs_of parts)) b e ((first-in-order parts all).ascends e))
+  join-in-order (Semi C) right b parts apart all =
       let input = first-in-order parts all in
       record { among = input.among; ascends = λ e. ascends-filter _ _ _ (input.ascends e) }
-  join-in-order method (Anti S M) parts apart all =
+  join-in-order (Anti S M) right b parts apart all =
       let input = first-in-order parts all in
       record { among = input.among; ascends = λ e. ascends-filter _ _ _ (input.ascends e) }
+
+  -- so are two inputs
+  inputs-in-order : (j : Matching) (parts : List Part) → join_stands j (first_columns (columns_of parts)) (second_columns (columns_of parts)) ≡ true → all_stand parts ≡ true
+      → AreInOrder (join_columns j (first_columns (columns_of parts)) (second_columns (columns_of parts))) (first_order (orders_of parts)) (join_rows j (second_columns (map (λ (x : Output). x.columns) (outputs_of parts))) (first (outputs_of parts)) (first (rest (outputs_of parts))))
+  inputs-in-order j parts stands all =
+      let left : List ℕ = first_columns (columns_of parts) in
+      let right : List ℕ = second_columns (map (λ (x : Output). x.columns) (outputs_of parts)) in
+      subst (λ Ks. join_stands j left (second_columns Ks) ≡ true → AreInOrder (join_columns j left (second_columns Ks)) (first_order (orders_of parts)) (join_rows j right (first (outputs_of parts)) (first (rest (outputs_of parts)))))
+      (sym (columns-same parts)) (λ apart. join-in-order j right (first (rest (outputs_of parts))) parts apart all) stands
 
   group-in-order : (K : List ℕ) (G : List Aggregation) (parts : List Part) → are_disjoint K (aggregate_columns G) ≡ true → all_stand parts ≡ true
       → AreInOrder (rising (K ++ aggregate_columns G)) (front (has K) (first_order (orders_of parts))) (operator_rows uses D (GroupRows Sorted K G) (outputs_of parts))
@@ -250,9 +255,10 @@ module _ (uses : List TableInstance) (D : Tables) where
             (ascends-projection (has K) keys e (distinct_on K (first (outputs_of parts) e)) (ascends-distinct_on (keys_order keys) K (first (outputs_of parts) e) (input.ascends e)));
       }
 
-  in-order : (operator : Operator) (parts : List Part) → operator_stands operator (columns_of parts) ≡ true → all_stand parts ≡ true
-      → AreInOrder (operator_columns uses operator (columns_of parts)) (operator_order operator (orders_of parts)) (operator_rows uses D operator (outputs_of parts))
+  in-order : (operator : Operator) (parts : List Part) → operator_stands uses operator (columns_of parts) ≡ true → all_stand parts ≡ true
+      → AreInOrder (operator_columns uses operator (columns_of parts)) (operator_order uses operator (orders_of parts)) (operator_rows uses D operator (outputs_of parts))
   in-order (Scan o) parts stands all = record { among = refl; ascends = λ e. ascends-any (keys_order []) (λ a b. refl) _ }
+  in-order (IndexScan a C) parts stands all = record { among = stands; ascends = λ e. ascends-sorted (keys_order (index_order uses a)) (keys_total (index_order uses a)) (select (holds no_classes C) (accessed_rows uses D a) e) }
   in-order (Filter C) parts stands all =
       let input = first-in-order parts all in
       record { among = input.among; ascends = λ e. ascends-filter _ (holds no_classes C) _ (input.ascends e) }
@@ -263,13 +269,14 @@ module _ (uses : List TableInstance) (D : Tables) where
     among = front-among (has K) (first_order (orders_of parts));
     ascends = λ e. ascends-projection (has K) _ e _ ((first-in-order parts all).ascends e);
   }
-  in-order (JoinRows method j) parts stands all = join-in-order method j parts stands all
+  in-order (JoinRows method j) parts stands all = inputs-in-order j parts stands all
+  in-order (IndexJoin a j) parts stands all = join-in-order j (accessed_columns uses a) (accessed_rows uses D a) parts stands all
   in-order (GroupRows Sorted K G) parts stands all = group-in-order K G parts stands all
   in-order (GroupRows Hash K G) parts stands all = record { among = refl; ascends = λ e. ascends-any (keys_order []) (λ a b. refl) _ }
   in-order (DistinctRows method) parts stands all = distinct-in-order method parts all
 
-  layer : (node : Node) (parts : List Part) → node_stands node (columns_of parts) ≡ true → all_stand parts ≡ true
-      → AreInOrder (node_columns uses node (columns_of parts)) (node_order node (orders_of parts)) (node_rows uses D node (outputs_of parts))
+  layer : (node : Node) (parts : List Part) → node_stands uses node (columns_of parts) ≡ true → all_stand parts ≡ true
+      → AreInOrder (node_columns uses node (columns_of parts)) (node_order uses node (orders_of parts)) (node_rows uses D node (outputs_of parts))
   layer (Implements line operator) parts stands all = in-order operator parts stands all
   layer (Sort keys) parts stands all = record { among = stands; ascends = λ e. ascends-sorted (keys_order keys) (keys_total keys) (first (outputs_of parts) e) }
 
@@ -278,9 +285,9 @@ module _ (uses : List TableInstance) (D : Tables) where
   step y =
       let z : Plan-F Plan = map-Plan Part Plan (λ p. p.0) y in
       let plan : Plan = roll-Plan z in
-      subst (λ s. Delivers s (plan_order plan) (plan_output uses D plan)) (sym (fold-roll-Plan Shape (shape_layer uses) z))
-      (subst (λ o. Delivers (shape_layer uses (map-Plan Plan Shape (plan_shape uses) z)) o (plan_output uses D plan)) (sym (fold-roll-Plan (List OrderKey) order_layer z))
-      (subst (λ p. Delivers (shape_layer uses (map-Plan Plan Shape (plan_shape uses) z)) (order_layer (map-Plan Plan (List OrderKey) plan_order z)) p) (sym (fold-roll-Plan Output (output_layer uses D) z))
+      subst (λ s. Delivers s (plan_order uses plan) (plan_output uses D plan)) (sym (fold-roll-Plan Shape (shape_layer uses) z))
+      (subst (λ o. Delivers (shape_layer uses (map-Plan Plan Shape (plan_shape uses) z)) o (plan_output uses D plan)) (sym (fold-roll-Plan (List OrderKey) (order_layer uses) z))
+      (subst (λ p. Delivers (shape_layer uses (map-Plan Plan Shape (plan_shape uses) z)) (order_layer uses (map-Plan Plan (List OrderKey) (plan_order uses) z)) p) (sym (fold-roll-Plan Output (output_layer uses D) z))
       (record {
         columns = ap (node_columns uses y.node) (columns-same y.inputs);
         ordered = λ stands. let both = and_parts _ _ stands in layer y.node y.inputs both.0 both.1;
@@ -290,4 +297,4 @@ module _ (uses : List TableInstance) (D : Tables) where
   delivers = ind-Plan P (λ x y is. subst (λ z. P (roll-Plan z)) is (step y))
 
 pub plans_deliver : PlansDeliver
-plans_deliver uses D plan e stands = ordered (plan_order plan) (output_rows uses D plan e) (((delivers uses D plan).ordered stands).ascends e)
+plans_deliver uses D plan e stands = ordered (plan_order uses plan) (output_rows uses D plan e) (((delivers uses D plan).ordered stands).ascends e)

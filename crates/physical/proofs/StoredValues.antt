@@ -25,11 +25,12 @@ use Rattle.physical.specs.declared.plan.Matching.{Matching}
 use Rattle.physical.specs.declared.plan.Matching.TheVariants.{Inner, Left, Semi, Anti}
 use Rattle.physical.specs.declared.plan.GroupMethod.{GroupMethod}
 use Rattle.physical.specs.declared.plan.Operator.{Operator}
-use Rattle.physical.specs.declared.plan.Operator.TheVariants.{Scan, Filter, FilterSubqueries, Projection, JoinRows, GroupRows, DistinctRows}
+use Rattle.physical.specs.declared.plan.Operator.TheVariants.{Scan, IndexScan, Filter, FilterSubqueries, Projection, JoinRows, IndexJoin, GroupRows, DistinctRows}
 use Rattle.physical.specs.declared.plan.Node.{Node}
 use Rattle.physical.specs.declared.plan.Node.TheVariants.{Implements, Sort}
 use Rattle.physical.specs.declared.plan.Plan.{Plan, roll-Plan, fold-roll-Plan, ind-Plan, map-Plan}
 use Rattle.physical.specs.declared.plan.Plan.TheOpen.{Plan-F}
+use Rattle.physical.specs.Indexes.{accessed_columns, accessed_rows, index_order}
 use Rattle.physical.specs.Sorts.{put_sorted, sorted, keys_order}
 use Rattle.physical.specs.Outputs.{Output, operator_columns, operator_rows, node_rows, node_columns, output_layer, plan_output, first, rest, is_match, join_columns, join_rows, first_columns, second_columns}
 use Rattle.physical.specs.Origins.{Origin, columns_of_all, first_stored, second_stored, join_stored, operator_stored, node_stored, read_among, operator_reads, origin_layer, plan_origin, AreReadable}
@@ -171,6 +172,7 @@ module _ (uses : List TableInstance) (D : Tables) (tables : AreShortTables D) wh
   operator-short : (operator : Operator) (parts : List Part) → operator_stored operator (origins_of parts) ≡ true → (e : Env)
       → AreShortIn (operator_columns uses operator (columns_of parts)) (operator_rows uses D operator (outputs_of parts) e)
   operator-short (Scan o) parts stored e = scan-short (slice_get uses o) D e tables
+  operator-short (IndexScan a C) parts stored e = sorted-short _ (keys_order (index_order uses a)) _ (all_filter _ _ _ (scan-short (slice_get uses a.occurrence) D e tables))
   operator-short (Filter C) parts stored e = all_filter _ _ _ (first-short parts stored e)
   operator-short (FilterSubqueries C) parts stored e = all_filter _ _ _ (first-short parts stored e)
   operator-short (Projection K) parts stored e =
@@ -179,6 +181,9 @@ module _ (uses : List TableInstance) (D : Tables) (tables : AreShortTables D) wh
   operator-short (JoinRows method j) parts stored e =
       join-short (first_columns (columns_of parts)) (second_columns (columns_of parts)) j (first_stored (origins_of parts)) (second_stored (origins_of parts)) (first (outputs_of parts)) (first (rest (outputs_of parts))) e
       stored (λ is. first-short parts is e) (λ is. second-short parts is e)
+  operator-short (IndexJoin a j) parts stored e =
+      join-short (first_columns (columns_of parts)) (accessed_columns uses a) j (first_stored (origins_of parts)) true (first (outputs_of parts)) (accessed_rows uses D a) e
+      stored (λ is. first-short parts is e) (λ is. scan-short (slice_get uses a.occurrence) D e tables)
   operator-short (GroupRows method K G) parts stored e = absurd (false≢true stored)
   operator-short (DistinctRows method) parts stored e =
       let K : List ℕ = first_columns (columns_of parts) in

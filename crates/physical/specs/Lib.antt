@@ -1,3 +1,4 @@
+pub mod Indexes
 pub mod Orders
 pub mod Origins
 pub mod Outputs

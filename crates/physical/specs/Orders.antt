@@ -10,14 +10,16 @@ use Rattle.algebra.specs.Bags.{Env}
 use Rattle.algebra.specs.Expressions.{aggregate_columns}
 use Rattle.physical.specs.declared.plan.OrderKey.{OrderKey}
 use Rattle.physical.specs.declared.plan.Operator.{Operator}
+use Rattle.physical.specs.declared.plan.Matching.{Matching}
 use Rattle.physical.specs.declared.plan.Matching.TheVariants.{Inner, Left}
 use Rattle.physical.specs.declared.plan.GroupMethod.TheVariants.{Hash, Sorted}
-use Rattle.physical.specs.declared.plan.Operator.TheVariants.{Scan, Filter, FilterSubqueries, Projection, JoinRows, GroupRows, DistinctRows}
+use Rattle.physical.specs.declared.plan.Operator.TheVariants.{Scan, IndexScan, Filter, FilterSubqueries, Projection, JoinRows, IndexJoin, GroupRows, DistinctRows}
 use Rattle.physical.specs.declared.plan.Node.{Node}
 use Rattle.physical.specs.declared.plan.Node.TheVariants.{Implements, Sort}
 use Rattle.physical.specs.declared.plan.Plan.{Plan, fold-Plan}
 use Rattle.physical.specs.declared.plan.Plan.TheOpen.{Plan-F}
 use Rattle.physical.specs.Sorts.{keys_order}
+use Rattle.physical.specs.Indexes.{accessed_columns, index_order}
 use Rattle.physical.specs.Outputs.{node_columns, first_columns, second_columns, output_rows}
 
 -- ---- rows in order
@@ -40,25 +42,27 @@ first_order [] = []
 first_order (order ∷ inputs) = order
 
 -- the order that an operator delivers, given those that its inputs do
-abbrev pub operator_order : Operator → List (List OrderKey) → List OrderKey
-operator_order (Scan o) inputs = []
-operator_order (Filter C) inputs = first_order inputs
-operator_order (FilterSubqueries C) inputs = first_order inputs
-operator_order (Projection K) inputs = front (has K) (first_order inputs)
-operator_order (JoinRows method j) inputs = first_order inputs
-operator_order (GroupRows Hash K G) inputs = []
-operator_order (GroupRows Sorted K G) inputs = front (has K) (first_order inputs)
-operator_order (DistinctRows method) inputs = first_order inputs
+abbrev pub operator_order : List TableInstance → Operator → List (List OrderKey) → List OrderKey
+operator_order uses (Scan o) inputs = []
+operator_order uses (IndexScan a C) inputs = index_order uses a
+operator_order uses (Filter C) inputs = first_order inputs
+operator_order uses (FilterSubqueries C) inputs = first_order inputs
+operator_order uses (Projection K) inputs = front (has K) (first_order inputs)
+operator_order uses (JoinRows method j) inputs = first_order inputs
+operator_order uses (IndexJoin a j) inputs = first_order inputs
+operator_order uses (GroupRows Hash K G) inputs = []
+operator_order uses (GroupRows Sorted K G) inputs = front (has K) (first_order inputs)
+operator_order uses (DistinctRows method) inputs = first_order inputs
 
-abbrev pub node_order : Node → List (List OrderKey) → List OrderKey
-node_order (Implements line operator) inputs = operator_order operator inputs
-node_order (Sort keys) inputs = keys
+abbrev pub node_order : List TableInstance → Node → List (List OrderKey) → List OrderKey
+node_order uses (Implements line operator) inputs = operator_order uses operator inputs
+node_order uses (Sort keys) inputs = keys
 
-abbrev pub order_layer : Plan-F (List OrderKey) → List OrderKey
-order_layer p = node_order p.node p.inputs
+abbrev pub order_layer : List TableInstance → Plan-F (List OrderKey) → List OrderKey
+order_layer uses p = node_order uses p.node p.inputs
 
-unfoldable pub plan_order : Plan → List OrderKey
-plan_order = fold-Plan (List OrderKey) order_layer
+unfoldable pub plan_order : List TableInstance → Plan → List OrderKey
+plan_order uses = fold-Plan (List OrderKey) (order_layer uses)
 
 -- ---- whether rows stand in it
 
@@ -66,16 +70,23 @@ plan_order = fold-Plan (List OrderKey) order_layer
 abbrev pub are_columns : List ℕ → List OrderKey → Bool
 are_columns columns keys = list_all (λ k. has columns k.column) keys
 
--- no join hides a column of its left side, no aggregate a key, and a sort is by columns of its input
-abbrev pub operator_stands : Operator → List (List ℕ) → Bool
-operator_stands (JoinRows method (Inner C)) inputs = are_disjoint (first_columns inputs) (second_columns inputs)
-operator_stands (JoinRows method (Left C)) inputs = are_disjoint (first_columns inputs) (second_columns inputs)
-operator_stands (GroupRows method K G) inputs = are_disjoint K (aggregate_columns G)
-operator_stands operator inputs = true
+-- a join of sides with these columns hides none of the left side
+abbrev pub join_stands : Matching → List ℕ → List ℕ → Bool
+join_stands (Inner C) left right = are_disjoint left right
+join_stands (Left C) left right = are_disjoint left right
+join_stands j left right = true
 
-abbrev pub node_stands : Node → List (List ℕ) → Bool
-node_stands (Implements line operator) inputs = operator_stands operator inputs
-node_stands (Sort keys) inputs = are_columns (first_columns inputs) keys
+-- no join hides a column of its left side, no aggregate a key, and a sort or an index is by columns of what it sorts
+abbrev pub operator_stands : List TableInstance → Operator → List (List ℕ) → Bool
+operator_stands uses (IndexScan a C) inputs = are_columns (accessed_columns uses a) (index_order uses a)
+operator_stands uses (JoinRows method j) inputs = join_stands j (first_columns inputs) (second_columns inputs)
+operator_stands uses (IndexJoin a j) inputs = join_stands j (first_columns inputs) (accessed_columns uses a)
+operator_stands uses (GroupRows method K G) inputs = are_disjoint K (aggregate_columns G)
+operator_stands uses operator inputs = true
+
+abbrev pub node_stands : List TableInstance → Node → List (List ℕ) → Bool
+node_stands uses (Implements line operator) inputs = operator_stands uses operator inputs
+node_stands uses (Sort keys) inputs = are_columns (first_columns inputs) keys
 
 -- the columns of a plan's rows, and whether this is so of all its nodes
 pub record Shape : Type 0 where
@@ -85,11 +96,11 @@ pub record Shape : Type 0 where
 abbrev pub shape_layer : List TableInstance → Plan-F Shape → Shape
 shape_layer uses p =
     let columns = map (λ x. x.columns) p.inputs in
-    record { columns = node_columns uses p.node columns; stands = node_stands p.node columns && list_all (λ x. x.stands) p.inputs }
+    record { columns = node_columns uses p.node columns; stands = node_stands uses p.node columns && list_all (λ x. x.stands) p.inputs }
 
 unfoldable pub plan_shape : List TableInstance → Plan → Shape
 plan_shape uses = fold-Plan Shape (shape_layer uses)
 
 -- the rows of each plan of which this is so stand in the order that it delivers, in every database and environment
 abbrev pub PlansDeliver : Type 0
-PlansDeliver = (uses : List TableInstance) (D : Tables) (plan : Plan) (e : Env) → (plan_shape uses plan).stands ≡ true → IsOrdered (plan_order plan) (output_rows uses D plan e)
+PlansDeliver = (uses : List TableInstance) (D : Tables) (plan : Plan) (e : Env) → (plan_shape uses plan).stands ≡ true → IsOrdered (plan_order uses plan) (output_rows uses D plan e)

@@ -11,7 +11,7 @@ use Rattle.algebra.specs.Expressions.{aggregate_reads}
 use Rattle.physical.specs.declared.plan.Operator.{Operator}
 use Rattle.physical.specs.declared.plan.Matching.{Matching}
 use Rattle.physical.specs.declared.plan.Matching.TheVariants.{Inner, Left, Semi, Anti}
-use Rattle.physical.specs.declared.plan.Operator.TheVariants.{Scan, Filter, FilterSubqueries, Projection, JoinRows, GroupRows, DistinctRows}
+use Rattle.physical.specs.declared.plan.Operator.TheVariants.{Scan, IndexScan, Filter, FilterSubqueries, Projection, JoinRows, IndexJoin, GroupRows, DistinctRows}
 use Rattle.physical.specs.declared.plan.Node.{Node}
 use Rattle.physical.specs.declared.plan.Node.TheVariants.{Implements, Sort}
 use Rattle.physical.specs.declared.plan.Plan.{Plan, fold-Plan}
@@ -47,10 +47,12 @@ join_stored (Anti S M) left right = left
 -- an aggregate makes values of its own
 abbrev pub operator_stored : Operator → List Origin → Bool
 operator_stored (Scan o) inputs = true
+operator_stored (IndexScan a C) inputs = true
 operator_stored (Filter C) inputs = first_stored inputs
 operator_stored (FilterSubqueries C) inputs = first_stored inputs
 operator_stored (Projection K) inputs = first_stored inputs && is_subset K (first_columns (columns_of_all inputs))
 operator_stored (JoinRows method j) inputs = join_stored j (first_stored inputs) (second_stored inputs)
+operator_stored (IndexJoin a j) inputs = join_stored j (first_stored inputs) true
 operator_stored (GroupRows method K G) inputs = false
 operator_stored (DistinctRows method) inputs = first_stored inputs
 

@@ -11,12 +11,13 @@ use Rattle.algebra.specs.Expressions.{get_rows, get_columns, with_aggregates, ag
 use Rattle.physical.specs.declared.plan.Matching.{Matching}
 use Rattle.physical.specs.declared.plan.Matching.TheVariants.{Inner, Left, Semi, Anti}
 use Rattle.physical.specs.declared.plan.Operator.{Operator}
-use Rattle.physical.specs.declared.plan.Operator.TheVariants.{Scan, Filter, FilterSubqueries, Projection, JoinRows, GroupRows, DistinctRows}
+use Rattle.physical.specs.declared.plan.Operator.TheVariants.{Scan, IndexScan, Filter, FilterSubqueries, Projection, JoinRows, IndexJoin, GroupRows, DistinctRows}
 use Rattle.physical.specs.declared.plan.Node.{Node}
 use Rattle.physical.specs.declared.plan.Node.TheVariants.{Implements, Sort}
 use Rattle.physical.specs.declared.plan.Plan.{Plan, fold-Plan}
 use Rattle.physical.specs.declared.plan.Plan.TheOpen.{Plan-F}
 use Rattle.physical.specs.Sorts.{sorted, keys_order}
+use Rattle.physical.specs.Indexes.{accessed_columns, accessed_rows, index_order}
 
 -- ---- columns
 
@@ -39,10 +40,12 @@ join_columns (Anti S M) left right = left
 -- the columns of an operator's rows, given those of its inputs
 abbrev pub operator_columns : List TableInstance → Operator → List (List ℕ) → List ℕ
 operator_columns uses (Scan o) inputs = get_columns (slice_get uses o)
+operator_columns uses (IndexScan a C) inputs = accessed_columns uses a
 operator_columns uses (Filter C) inputs = first_columns inputs
 operator_columns uses (FilterSubqueries C) inputs = first_columns inputs
 operator_columns uses (Projection K) inputs = K
 operator_columns uses (JoinRows method j) inputs = join_columns j (first_columns inputs) (second_columns inputs)
+operator_columns uses (IndexJoin a j) inputs = join_columns j (first_columns inputs) (accessed_columns uses a)
 operator_columns uses (GroupRows method K G) inputs = rising (K ++ aggregate_columns G)
 operator_columns uses (DistinctRows method) inputs = first_columns inputs
 
@@ -96,10 +99,12 @@ join_rows (Anti S M) right a b = anti (is_match (Anti S M)) (has right) a b
 -- the rows that an operator produces, given its inputs' output
 abbrev pub operator_rows : List TableInstance → Tables → Operator → List Output → Bag
 operator_rows uses D (Scan o) inputs = get_rows (slice_get uses o) D
+operator_rows uses D (IndexScan a C) inputs = λ e. sorted (keys_order (index_order uses a)) (select (holds no_classes C) (accessed_rows uses D a) e)
 operator_rows uses D (Filter C) inputs = select (holds no_classes C) (first inputs)
 operator_rows uses D (FilterSubqueries C) inputs = select (holds (subquery_rows (classes_in C) (rest inputs)) C) (first inputs)
 operator_rows uses D (Projection K) inputs = keep (has K) (first inputs)
 operator_rows uses D (JoinRows method j) inputs = join_rows j (second_columns (map (λ x. x.columns) inputs)) (first inputs) (first (rest inputs))
+operator_rows uses D (IndexJoin a j) inputs = join_rows j (accessed_columns uses a) (first inputs) (accessed_rows uses D a)
 operator_rows uses D (GroupRows method K G) inputs = group K (with_aggregates G) (first inputs)
 operator_rows uses D (DistinctRows method) inputs = distinct (first_columns (map (λ x. x.columns) inputs)) (first inputs)
 

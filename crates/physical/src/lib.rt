@@ -4,9 +4,10 @@
 //! (specs/Orders).
 #![tactic(auto)]
 
+pub mod indexes;
 pub mod laws;
 pub mod order;
 pub mod plan;
 
 pub use order::delivers;
-pub use plan::{GroupMethod, JoinMethod, Matching, Node, Operator, OrderKey, Plan};
+pub use plan::{GroupMethod, IndexAccess, JoinMethod, Matching, Node, Operator, OrderKey, Plan};

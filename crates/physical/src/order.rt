@@ -4,8 +4,10 @@ ghost use Rattle.std.specs.Prelude.{◌≡◌, map, IfOk};
 ghost use Rattle.algebra.specs.Columns.{has};
 ghost use Rattle.physical.specs.Orders as spec;
 
+use crate::indexes::index_order;
 use crate::plan::{GroupMethod, Node, Operator, OrderKey, Plan};
 use algebra::Columns;
+use query::TableInstance;
 use std::alloc::{AllocError, Global};
 
 /// The keys before the first one whose column isn't in the set.
@@ -22,14 +24,18 @@ fn front(alloc: Global, order: &[OrderKey], columns: &Columns) -> Result<Vec<Ord
     Ok(keys)
 }
 
-/// The order that a plan delivers.
+/// The order that a plan over these table instances delivers.
 #[cycle(orders)]
-pub fn delivers(alloc: Global, plan: &Plan) -> Result<Vec<OrderKey>, AllocError>
-    ensures { IfOk result (λ order. order.items ≡ spec.plan_order plan.now) }
+pub fn delivers(
+    alloc: Global,
+    uses: &[TableInstance],
+    plan: &Plan,
+) -> Result<Vec<OrderKey>, AllocError>
+    ensures { IfOk result (λ order. order.items ≡ spec.plan_order uses.now plan.now) }
 {
     let inputs = plan.inputs.as_slice();
     match &plan.node {
-        Node::Implements { operator, .. } => operator_order(alloc, operator, inputs),
+        Node::Implements { operator, .. } => operator_order(alloc, uses, operator, inputs),
         Node::Sort { keys } => {
             let mut order = Vec::new(alloc);
             order.extend_from_slice(keys.as_slice())?;
@@ -42,38 +48,45 @@ pub fn delivers(alloc: Global, plan: &Plan) -> Result<Vec<OrderKey>, AllocError>
 #[cycle(orders)]
 fn operator_order(
     alloc: Global,
+    uses: &[TableInstance],
     operator: &Operator,
     inputs: &[Plan],
 ) -> Result<Vec<OrderKey>, AllocError>
-    ensures { IfOk result (λ order. order.items ≡ spec.operator_order operator.now (map spec.plan_order inputs.now)) }
+    ensures { IfOk result (λ order. order.items ≡ spec.operator_order uses.now operator.now (map (spec.plan_order uses.now) inputs.now)) }
 {
     match operator {
         Operator::Scan { .. } => Ok(Vec::new(alloc)),
-        Operator::Filter { .. } => first_order(alloc, inputs),
-        Operator::FilterSubqueries { .. } => first_order(alloc, inputs),
+        Operator::IndexScan { access, .. } => index_order(alloc, uses, *access),
+        Operator::Filter { .. } => first_order(alloc, uses, inputs),
+        Operator::FilterSubqueries { .. } => first_order(alloc, uses, inputs),
         Operator::Projection { columns } => {
-            let order = first_order(alloc, inputs)?;
+            let order = first_order(alloc, uses, inputs)?;
             front(alloc, order.as_slice(), columns)
         }
-        Operator::JoinRows { .. } => first_order(alloc, inputs),
+        Operator::JoinRows { .. } => first_order(alloc, uses, inputs),
+        Operator::IndexJoin { .. } => first_order(alloc, uses, inputs),
         Operator::GroupRows { method, keys, .. } => match method {
             GroupMethod::Hash => Ok(Vec::new(alloc)),
             GroupMethod::Sorted => {
-                let order = first_order(alloc, inputs)?;
+                let order = first_order(alloc, uses, inputs)?;
                 front(alloc, order.as_slice(), keys)
             }
         },
-        Operator::DistinctRows { .. } => first_order(alloc, inputs),
+        Operator::DistinctRows { .. } => first_order(alloc, uses, inputs),
     }
 }
 
 /// The order of the first input.
 #[cycle(orders)]
-fn first_order(alloc: Global, inputs: &[Plan]) -> Result<Vec<OrderKey>, AllocError>
-    ensures { IfOk result (λ order. order.items ≡ spec.first_order (map spec.plan_order inputs.now)) }
+fn first_order(
+    alloc: Global,
+    uses: &[TableInstance],
+    inputs: &[Plan],
+) -> Result<Vec<OrderKey>, AllocError>
+    ensures { IfOk result (λ order. order.items ≡ spec.first_order (map (spec.plan_order uses.now) inputs.now)) }
 {
     match inputs.first() {
-        Some(plan) => delivers(alloc, plan),
+        Some(plan) => delivers(alloc, uses, plan),
         None => Ok(Vec::new(alloc)),
     }
 }

@@ -43,12 +43,28 @@ pub struct OrderKey {
     pub descending: bool,
 }
 
+/// A table instance that is read by an index of its table, in place of an input.
+#[derive(Clone, Copy)]
+pub struct IndexAccess {
+    /// The line of the instance's Get.
+    pub line: LineId,
+    pub occurrence: OccurrenceId,
+    /// The index's number in the table's entry.
+    pub index: usize,
+}
+
 /// How an expression's rows are computed from those of the inputs.
 #[derive(Drop)]
 pub enum Operator {
     /// The rows of a table instance, in the order of the table.
     Scan {
         occurrence: OccurrenceId,
+    },
+    /// The rows of a table instance that make all conjuncts true, which have no subquery, in the order of the index, those
+    /// that tie in the order of the table.
+    IndexScan {
+        access: IndexAccess,
+        conjuncts: Conjuncts,
     },
     /// The input's rows that make all conjuncts true, which have no subquery.
     Filter {
@@ -66,6 +82,11 @@ pub enum Operator {
     /// The left rows in order, and for each the right rows in order.
     JoinRows {
         method: JoinMethod,
+        matching: Matching,
+    },
+    /// The same, the right rows being those of a table instance in the order of the table. The index is how they are found.
+    IndexJoin {
+        access: IndexAccess,
         matching: Matching,
     },
     /// One row for each different key, as first seen, with its aggregates.

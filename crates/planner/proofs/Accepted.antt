@@ -27,5 +27,5 @@ canonical_replays q bound V below lines plan is =
     let frame : List Expr = query_frame q in
     let E : List Expr = reverse frame in
     let cols : ℕ → List ℕ = class_columns q.tables E in
-    let fits = top_fits frame cols (query_order q) below (root q) (length E) is (order_subset q (cols (root q)) (frames_formed q bound).shown) in
+    let fits = top_fits q.tables frame cols (query_order q) below (root q) (length E) is (order_subset q (cols (root q)) (frames_formed q bound).shown) in
     rw (lines, founding_lines frame, frame_replays q bound, plan, top_delivered q below, fits.1) refl

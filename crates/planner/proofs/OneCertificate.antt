@@ -2,9 +2,10 @@
 use Rattle.std.proofs.Common.{◌≡◌, refl, ap, sym, ◌∙◌, subst, ℕ, ◌+◌, Bool, true, false, not, ◌&&◌, ◌==◌, if◌then◌else◌, List, [], ◌∷◌, map, length, Some, Result, Ok, arith}
 use Rattle.std.specs.List.{slice_get, list_all}
 use Rattle.std.proofs.lemmas.Bool.{and_parts, eqb-true, not-true}
-use Rattle.values.specs.Faults.{◌>>=◌, wanted, wanted_if}
+use Rattle.values.specs.Faults.{◌>>=◌, wanted_if}
 use Rattle.values.proofs.Results.{both_ok, wanted_if_ok}
 use Rattle.query.specs.declared.query.Query.{Query}
+use Rattle.query.specs.declared.query.TableInstance.{TableInstance}
 use Rattle.algebra.specs.declared.expr.Expr.{Expr}
 use Rattle.algebra.specs.declared.expr.Expr.TheVariants as expr
 use Rattle.algebra.specs.declared.expr.Expr.TheVariants.{Get, Select, Join, LeftJoin, Keep, Distinct, Group}
@@ -31,11 +32,12 @@ use Rattle.derivation.specs.QueryOrders.{query_order}
 use Rattle.derivation.specs.declared.certificate.Line.{Line}
 use Rattle.derivation.specs.declared.certificate.Certificate.{Certificate}
 use Rattle.derivation.specs.declared.certificate.CheckRefusal.{CheckRefusal}
-use Rattle.derivation.specs.declared.certificate.CheckReason.TheVariants.{UnknownLine, IllFormed, OtherOperator, UnsortedAnswer}
+use Rattle.derivation.specs.declared.certificate.CheckReason.TheVariants.{IllFormed, OtherOperator, UnsortedAnswer}
 use Rattle.derivation.specs.Replay.{refusal, founding, implements, sort_fits, operator_fits, node_fits, inputs_fit, plan_fits, lines_replay, is_delivered, root, replayed}
 use Rattle.derivation.proofs.Fits.{after_node, after-is, plan_fits_out, operator-is}
 use Rattle.planner.specs.Canonical.{is_basic, is_basic_node, basic_layer, is_basic_plan, top, IsCanonical, IsOnlyCanonical}
 use Rattle.planner.proofs.Accepted.{founding_lines}
+use Rattle.planner.proofs.ClassPlans.{basic-at}
 
 -- ---- one operator implements an expression
 
@@ -87,14 +89,14 @@ operator-there (Sort keys) basic = cc
 
 -- ---- one plan without a sort is of a class
 
-module _ (lines : List Expr) where
+module _ (uses : List TableInstance) (lines : List Expr) where
   -- the plan is of the class, in whatever columns, order and numbers
   record Fits (g : ℕ) (p : Plan) : Type 0 where
     cols : ℕ → List ℕ
     ordered : Bool
     number : ℕ
     after : ℕ
-    fits : plan_fits lines cols p ordered g number ≡ Ok after
+    fits : plan_fits uses lines cols p ordered g number ≡ Ok after
 
   abbrev AllFit : List ℕ → List Plan → Type 0
   AllFit [] [] = Unit {0}
@@ -102,12 +104,12 @@ module _ (lines : List Expr) where
   AllFit (g ∷ classes) [] = ⊥
   AllFit (g ∷ classes) (p ∷ plans) = Fits g p × AllFit classes plans
 
-  all-fit : (cols : ℕ → List ℕ) (classes : List ℕ) (plans : List Plan) (n m : ℕ) → length plans ≡ length classes → inputs_fit (map (plan_fits lines cols) plans) classes n ≡ Ok m → AllFit classes plans
+  all-fit : (cols : ℕ → List ℕ) (classes : List ℕ) (plans : List Plan) (n m : ℕ) → length plans ≡ length classes → inputs_fit (map (plan_fits uses lines cols) plans) classes n ≡ Ok m → AllFit classes plans
   all-fit cols [] [] n m count fits = tt
   all-fit cols [] (p ∷ plans) n m count fits = absurd (omega (arith, count))
   all-fit cols (g ∷ classes) [] n m count fits = absurd (omega (arith, count))
   all-fit cols (g ∷ classes) (p ∷ plans) n m count fits =
-      let steps = both_ok (plan_fits lines cols p true g n) (λ m. inputs_fit (map (plan_fits lines cols) plans) classes m) m fits in
+      let steps = both_ok (plan_fits uses lines cols p true g n) (λ m. inputs_fit (map (plan_fits uses lines cols) plans) classes m) m fits in
       (record { cols = cols; ordered = true; number = n; after = steps.0; fits = steps.1 }, all-fit cols classes plans steps.0 m (omega (arith, count)) steps.2)
 
   -- the operator that implements the expression of its class, over plans of the classes that it names
@@ -117,35 +119,28 @@ module _ (lines : List Expr) where
     is : node ≡ Implements g (operator_for expr)
     all : AllFit (input_classes expr) inputs
 
-  line-is : (cols : ℕ → List ℕ) (l : ℕ) (operator : Operator) (k g n : ℕ) (needed : List ℕ) → operator_fits lines cols l operator k g n ≡ Ok needed → l ≡ g
-  line-is cols l operator k g n needed e =
-      let test : Expr → Bool = λ x. l == g && implements cols operator x && k == length (input_classes x) in
-      let steps = both_ok (wanted (refusal n UnknownLine) (slice_get lines l)) (λ x. wanted_if (refusal n OtherOperator) (test x) (input_classes x)) needed e in
-      let tests = wanted_if_ok (refusal n OtherOperator) (test steps.0) (input_classes steps.0) needed steps.2 in
-      eqb-true l g (and_parts _ _ (and_parts _ _ tests.0).0).0
-
   -- what is left of a plan that fits behind its node
   abbrev rest : (ℕ → List ℕ) → Plan → Bool → ℕ → List ℕ → Result ℕ CheckRefusal
-  rest cols p = after_node cols (out-Plan p).node (map plan_order (out-Plan p).inputs) (map (plan_fits lines cols) (out-Plan p).inputs)
+  rest cols p = after_node cols (out-Plan p).node (map (plan_order uses) (out-Plan p).inputs) (map (plan_fits uses lines cols) (out-Plan p).inputs)
 
   inputs-are : (cols : ℕ → List ℕ) (p : Plan) (ordered : Bool) (n m : ℕ) (needed : List ℕ) → length (out-Plan p).inputs ≡ length needed → rest cols p ordered n needed ≡ Ok m → AllFit needed (out-Plan p).inputs
   inputs-are cols p ordered n m needed count e =
-      all-fit cols needed (out-Plan p).inputs (n + 1) m count (after-is cols (out-Plan p).node (map plan_order (out-Plan p).inputs) (map (plan_fits lines cols) (out-Plan p).inputs) ordered n m needed e).inputs
+      all-fit cols needed (out-Plan p).inputs (n + 1) m count (after-is cols (out-Plan p).node (map (plan_order uses) (out-Plan p).inputs) (map (plan_fits uses lines cols) (out-Plan p).inputs) ordered n m needed e).inputs
 
   node-is : (p : Plan) (g : ℕ) → is_basic_node (out-Plan p).node ≡ true → Fits g p → FitsNode g (out-Plan p).node (out-Plan p).inputs
   node-is p g basic f =
       let node : Node = (out-Plan p).node in
       let k : ℕ = length (out-Plan p).inputs in
       let n : ℕ = f.number in
-      let steps = both_ok (node_fits lines f.cols node k g n) (rest f.cols p f.ordered n) f.after (sym (plan_fits_out lines f.cols p f.ordered g n) ∙ f.fits) in
+      let steps = both_ok (node_fits uses lines f.cols node k g n) (rest f.cols p f.ordered n) f.after (sym (plan_fits_out uses lines f.cols p f.ordered g n) ∙ f.fits) in
       let there = operator-there node basic in
-      let fits : operator_fits lines f.cols there.line there.operator k g n ≡ Ok steps.0 = sym (ap (λ node. node_fits lines f.cols node k g n) there.is) ∙ steps.1 in
-      let found = operator-is lines f.cols there.line there.operator k g n steps.0 fits in
+      let fits : operator_fits uses lines f.cols there.line there.operator k g n ≡ Ok steps.0 = sym (ap (λ node. node_fits uses lines f.cols node k g n) there.is) ∙ steps.1 in
+      let found = operator-is uses lines f.cols there.line there.operator k g n steps.0 fits in
       record {
         expr = found.expr;
         at = found.at;
-        is = there.is ∙ two (line-is f.cols there.line there.operator k g n steps.0 fits) (one-operator f.cols there.operator found.expr there.basic found.implemented);
-        all = subst (λ L. AllFit L (out-Plan p).inputs) (sym found.needs) (inputs-are f.cols p f.ordered n f.after steps.0 found.count steps.2);
+        is = there.is ∙ two found.founds (one-operator f.cols there.operator found.expr there.basic found.implemented);
+        all = subst (λ L. AllFit L (out-Plan p).inputs) (sym found.needs ∙ (basic-at lines uses g there.operator found.expr there.basic).needs) (inputs-are f.cols p f.ordered n f.after steps.0 found.count steps.2);
       }
     where
       two : {l m : ℕ} {a b : Operator} → l ≡ m → a ≡ b → Implements l a ≡ Implements m b
@@ -205,40 +200,40 @@ module _ (lines : List Expr) where
   below-fits (k ∷ keys) p g f =
       let n : ℕ = f.number in
       let z : Plan-F Plan = record { node = Sort (k ∷ keys); inputs = p ∷ [] } in
-      let next : Plan-F Plan → List ℕ → Result ℕ CheckRefusal = λ w. after_node f.cols w.node (map plan_order w.inputs) (map (plan_fits lines f.cols) w.inputs) f.ordered n in
+      let next : Plan-F Plan → List ℕ → Result ℕ CheckRefusal = λ w. after_node f.cols w.node (map (plan_order uses) w.inputs) (map (plan_fits uses lines f.cols) w.inputs) f.ordered n in
       let e : (sort_fits f.cols (k ∷ keys) 1 g n >>= next z) ≡ Ok f.after
-      = sym (ap (λ w. node_fits lines f.cols w.node (length w.inputs) g n >>= next w) (out-roll-Plan z)) ∙ sym (plan_fits_out lines f.cols (top (k ∷ keys) p) f.ordered g n) ∙ f.fits in
+      = sym (ap (λ w. node_fits uses lines f.cols w.node (length w.inputs) g n >>= next w) (out-roll-Plan z)) ∙ sym (plan_fits_out uses lines f.cols (top (k ∷ keys) p) f.ordered g n) ∙ f.fits in
       let steps = both_ok (sort_fits f.cols (k ∷ keys) 1 g n) (next z) f.after e in
       let sorted = both_ok (wanted_if (refusal n IllFormed) (list_all (λ k. has (f.cols g) k.column) (k ∷ keys)) (g ∷ [])) (λ classes. wanted_if (refusal n OtherOperator) (1 == 1) classes) steps.0 steps.1 in
       let needs : g ∷ [] ≡ steps.0 = (wanted_if_ok (refusal n IllFormed) _ (g ∷ []) sorted.0 sorted.1).1 ∙ (wanted_if_ok (refusal n OtherOperator) (1 == 1) sorted.0 steps.0 sorted.2).1 in
-      let inputs = (after-is f.cols z.node (map plan_order z.inputs) (map (plan_fits lines f.cols) z.inputs) f.ordered n f.after steps.0 steps.2).inputs in
-      let last = both_ok (plan_fits lines f.cols p true g (n + 1)) (λ m. inputs_fit [] [] m) f.after (ap (λ classes. inputs_fit (plan_fits lines f.cols p ∷ []) classes (n + 1)) needs ∙ inputs) in
+      let inputs = (after-is f.cols z.node (map (plan_order uses) z.inputs) (map (plan_fits uses lines f.cols) z.inputs) f.ordered n f.after steps.0 steps.2).inputs in
+      let last = both_ok (plan_fits uses lines f.cols p true g (n + 1)) (λ m. inputs_fit [] [] m) f.after (ap (λ classes. inputs_fit (plan_fits uses lines f.cols p ∷ []) classes (n + 1)) needs ∙ inputs) in
       record { cols = f.cols; ordered = true; number = n + 1; after = last.0; fits = last.1 }
 
 -- ---- one certificate
 
 module _ (q : Query) where
-  fits-of : (V : Certificate) (is : IsCanonical q V) → replayed q V ≡ Ok V → Fits (query_frame q) (root q) is.below
+  fits-of : (V : Certificate) (is : IsCanonical q V) → replayed q V ≡ Ok V → Fits q.tables (query_frame q) (root q) is.below
   unfolding replayed
   fits-of V is replays =
       let frame : List Expr = query_frame q in
       let founded : map founding V.lines ≡ frame = ap (map founding) is.lines ∙ founding_lines frame in
-      let next : List Expr → Result Certificate CheckRefusal = λ E. plan_fits (map founding V.lines) (class_columns q.tables E) V.plan (is_delivered q V.plan) (root q) (length E) >>= λ n. Ok V in
+      let next : List Expr → Result Certificate CheckRefusal = λ E. plan_fits q.tables (map founding V.lines) (class_columns q.tables E) V.plan (is_delivered q V.plan) (root q) (length E) >>= λ n. Ok V in
       let steps = both_ok (lines_replay q [] (map founding V.lines)) next V replays in
       let E : List Expr = steps.0 in
-      let fits = both_ok (plan_fits (map founding V.lines) (class_columns q.tables E) V.plan (is_delivered q V.plan) (root q) (length E)) (λ n. Ok V) V steps.2 in
-      below-fits frame (query_order q) is.below (root q) (record {
+      let fits = both_ok (plan_fits q.tables (map founding V.lines) (class_columns q.tables E) V.plan (is_delivered q V.plan) (root q) (length E)) (λ n. Ok V) V steps.2 in
+      below-fits q.tables frame (query_order q) is.below (root q) (record {
         cols = class_columns q.tables E;
         ordered = is_delivered q V.plan;
         number = length E;
         after = fits.0;
-        fits = ap (λ p. plan_fits frame (class_columns q.tables E) p (is_delivered q V.plan) (root q) (length E)) (sym is.plan)
-            ∙ ap (λ L. plan_fits L (class_columns q.tables E) V.plan (is_delivered q V.plan) (root q) (length E)) (sym founded) ∙ fits.1;
+        fits = ap (λ p. plan_fits q.tables frame (class_columns q.tables E) p (is_delivered q V.plan) (root q) (length E)) (sym is.plan)
+            ∙ ap (λ L. plan_fits q.tables L (class_columns q.tables E) V.plan (is_delivered q V.plan) (root q) (length E)) (sym founded) ∙ fits.1;
       })
 
   pub one_certificate : (V : Certificate) → IsCanonical q V → replayed q V ≡ Ok V → IsOnlyCanonical q V
   one_certificate V is replays W is' replays' =
-      let below : is'.below ≡ is.below = one-plan (query_frame q) is'.below is.below (root q) is'.basic is.basic (fits-of W is' replays') (fits-of V is replays) in
+      let below : is'.below ≡ is.below = one-plan q.tables (query_frame q) is'.below is.below (root q) is'.basic is.basic (fits-of W is' replays') (fits-of V is replays) in
       two (is'.lines ∙ sym is.lines) (is'.plan ∙ ap (top (query_order q)) below ∙ sym is.plan)
     where
       certificate : List Line → Plan → Certificate

@@ -3,6 +3,7 @@
 use Rattle.std.specs.Prelude.{◌≡◌, ℕ, Bool, true, false, ◌&&◌, nat_lt, List, [], ◌∷◌, map, slice_get, Some, Ok}
 use Rattle.std.specs.List.{list_all}
 use Rattle.query.specs.declared.query.Query.{Query}
+use Rattle.query.specs.declared.query.TableInstance.{TableInstance}
 use Rattle.algebra.specs.declared.expr.Expr.{Expr}
 use Rattle.algebra.specs.Expressions.{classes_pass}
 use Rattle.logical.specs.Frames.{query_frame, is_framed}
@@ -10,7 +11,7 @@ use Rattle.physical.specs.declared.plan.OrderKey.{OrderKey}
 use Rattle.physical.specs.declared.plan.JoinMethod.TheVariants.{NestedLoop}
 use Rattle.physical.specs.declared.plan.GroupMethod.TheVariants.{Sorted}
 use Rattle.physical.specs.declared.plan.Operator.{Operator}
-use Rattle.physical.specs.declared.plan.Operator.TheVariants.{JoinRows, GroupRows, DistinctRows}
+use Rattle.physical.specs.declared.plan.Operator.TheVariants.{IndexScan, JoinRows, IndexJoin, GroupRows, DistinctRows}
 use Rattle.physical.specs.declared.plan.Node.{Node}
 use Rattle.physical.specs.declared.plan.Node.TheVariants.{Implements, Sort}
 use Rattle.physical.specs.declared.plan.Plan.{Plan, roll-Plan, fold-Plan}
@@ -22,10 +23,12 @@ use Rattle.derivation.specs.Replay.{implements, plan_fits, replayed}
 
 -- ---- the certificate
 
--- the operators of canonical plans: joins are nested loops, groups and distinct rows go by hash
+-- the operators of canonical plans: tables are scanned, joins are nested loops, groups and distinct rows go by hash
 abbrev pub is_basic : Operator → Bool
+is_basic (IndexScan a C) = false
 is_basic (JoinRows NestedLoop j) = true
 is_basic (JoinRows method j) = false
+is_basic (IndexJoin a j) = false
 is_basic (GroupRows Sorted K G) = false
 is_basic (DistinctRows Sorted) = false
 is_basic operator = true
@@ -68,7 +71,7 @@ pub record IsBasicOf (x : Expr) (operator : Operator) : Type 0 where
   pub basic : is_basic operator ≡ true
   pub implemented : (cols : ℕ → List ℕ) → implements cols operator x ≡ true
 
--- the plan has basic operators alone, and is of the class, at whatever number its nodes begin
+-- the plan has basic operators alone, and is of the class, whatever the table instances are and at whatever number its nodes begin
 pub record IsPlanOf (lines : List Expr) (g : ℕ) (plan : Plan) : Type 0 where
   pub basic : is_basic_plan plan ≡ true
-  pub fits : (cols : ℕ → List ℕ) (n : ℕ) → (m : ℕ) × (plan_fits lines cols plan true g n ≡ Ok m)
+  pub fits : (uses : List TableInstance) (cols : ℕ → List ℕ) (n : ℕ) → (m : ℕ) × (plan_fits uses lines cols plan true g n ≡ Ok m)

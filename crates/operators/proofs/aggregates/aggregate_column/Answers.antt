@@ -4,7 +4,7 @@ use Rattle.values.specs.Cells.{value_of}
 use Rattle.query.specs.declared.aggregates.Running.{Running}
 use Rattle.algebra.specs.Bags.{Env}
 use Rattle.operators.specs.Grouped.{groups_in}
-use Rattle.operators.specs.Relations.{env_of, numbered_env}
+use Rattle.relations.specs.Relations.{env_of, numbered_env}
 use Rattle.operators.proofs.RunningGroups.{after-values}
 use Rattle.operators.proofs.aggregates.aggregate_column.Goals as goal
 

@@ -8,8 +8,8 @@ use Rattle.query.specs.Aggregates.{MayRead, column_of}
 use Rattle.query.specs.Running.{IsAfter}
 use Rattle.query.proofs.RunningAggregates.{aggregated, aggregated-rows, read-column}
 use Rattle.algebra.specs.Bags.{Env}
-use Rattle.operators.specs.Relations.{env_of, numbered_env, numbers_of, rows_of}
-use Rattle.operators.proofs.Numbers.{map_number}
+use Rattle.relations.specs.Relations.{env_of, numbered_env, numbers_of, rows_of}
+use Rattle.relations.proofs.Numbers.{map_number}
 use Rattle.operators.proofs.Readable.{number-reads}
 use Rattle.operators.proofs.aggregates.aggregate_of_all.Goals as goal
 

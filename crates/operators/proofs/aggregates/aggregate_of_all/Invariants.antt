@@ -2,7 +2,7 @@ use Rattle.std.proofs.Common.{map}
 use Rattle.std.specs.List.{range_with_len}
 use Rattle.query.specs.Aggregates.{column_of}
 use Rattle.query.specs.Running.{IsAfter}
-use Rattle.operators.specs.Relations.{env_of, numbered_env}
+use Rattle.relations.specs.Relations.{env_of, numbered_env}
 use Rattle.operators.proofs.aggregates.aggregate_of_all.Given as goal
 
 abbrev pub invariant-loop-number : goal.invariant-loop-number

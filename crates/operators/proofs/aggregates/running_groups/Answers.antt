@@ -7,7 +7,7 @@ use Rattle.values.specs.Cells.{value_of}
 use Rattle.query.specs.Aggregates.{column_of}
 use Rattle.query.proofs.RunningAggregates.{read-column}
 use Rattle.algebra.specs.Bags.{Env}
-use Rattle.operators.specs.Relations.{env_of, numbered_env}
+use Rattle.relations.specs.Relations.{env_of, numbered_env}
 use Rattle.operators.specs.Groups.{AreAfter, GroupOf, added_at, groups_by, first_seen, same_at}
 use Rattle.operators.proofs.Readable.{number-reads}
 use Rattle.operators.proofs.RunningGroups.{after-few, groups-few}

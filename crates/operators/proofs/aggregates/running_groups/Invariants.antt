@@ -1,7 +1,7 @@
 use Rattle.std.specs.List.{range_with_len}
 use Rattle.query.specs.Aggregates.{column_of}
 use Rattle.operators.specs.Groups.{AreAfter, groups_by, same_at}
-use Rattle.operators.specs.Relations.{env_of, numbered_env}
+use Rattle.relations.specs.Relations.{env_of, numbered_env}
 use Rattle.operators.proofs.aggregates.running_groups.Given as goal
 
 abbrev pub invariant-loop-row : goal.invariant-loop-row

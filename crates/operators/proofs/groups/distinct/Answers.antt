@@ -1,5 +1,5 @@
 use Rattle.std.proofs.Common.{ap, ◌∙◌, ℕ, List, map}
-use Rattle.operators.specs.Relations.{numbered_env}
+use Rattle.relations.specs.Relations.{numbered_env}
 use Rattle.operators.proofs.GroupEnvs.{distinct-rows}
 use Rattle.operators.proofs.PlanOutputs.{chosen-output}
 use Rattle.operators.proofs.groups.distinct.Goals as goal

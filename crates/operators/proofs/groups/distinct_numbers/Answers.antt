@@ -1,8 +1,8 @@
 use Rattle.std.proofs.Common.{◌≡◌, ap, sym, ◌∙◌, List, map}
-use Rattle.operators.specs.declared.headings.Place.{Place}
-use Rattle.operators.specs.declared.relation.Relation.{Relation}
+use Rattle.relations.specs.declared.headings.Place.{Place}
+use Rattle.relations.specs.declared.relation.Relation.{Relation}
 use Rattle.operators.specs.Groups.{first_seen, same_at}
-use Rattle.operators.specs.Relations.{column_places, numbered_env, numbers_of}
+use Rattle.relations.specs.Relations.{column_places, numbered_env, numbers_of}
 use Rattle.operators.proofs.GroupEnvs.{distinct-envs}
 use Rattle.operators.proofs.groups.distinct_numbers.Goals as goal
 

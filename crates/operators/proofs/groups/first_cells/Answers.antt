@@ -5,7 +5,7 @@ use Rattle.values.specs.declared.value.Value.{Value}
 use Rattle.algebra.specs.Columns.{has}
 use Rattle.algebra.specs.Bags.{lay}
 use Rattle.operators.specs.Groups.{GroupOf, first_seen, same_at}
-use Rattle.operators.specs.Relations.{env_of, numbered_env, numbers_of}
+use Rattle.relations.specs.Relations.{env_of, numbered_env, numbers_of}
 use Rattle.operators.proofs.groups.first_cells.Goals as goal
 
 pub returns : goal.returns

@@ -2,7 +2,7 @@ use Rattle.std.proofs.Common.{◌≡◌, map, take}
 use Rattle.values.specs.Cells.{value_of}
 use Rattle.algebra.specs.Columns.{has}
 use Rattle.algebra.specs.Bags.{lay}
-use Rattle.operators.specs.Relations.{env_of, numbered_env}
+use Rattle.relations.specs.Relations.{env_of, numbered_env}
 use Rattle.operators.proofs.groups.first_cells.Given as goal
 
 abbrev pub invariant-loop-first : goal.invariant-loop-first

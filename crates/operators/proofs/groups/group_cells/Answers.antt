@@ -11,7 +11,7 @@ use Rattle.algebra.specs.Bags.{Env, lay}
 use Rattle.algebra.specs.Expressions.{with_aggregates}
 use Rattle.operators.specs.Grouped.{groups_in}
 use Rattle.operators.specs.Groups.{GroupOf, group_env, member_envs}
-use Rattle.operators.specs.Relations.{env_of, numbered_env}
+use Rattle.relations.specs.Relations.{env_of, numbered_env}
 use Rattle.operators.proofs.groups.group_cells.Goals as goal
 
 here : (A : List Aggregation) (i : ℕ) (d : Aggregation) (rows : List Env) (r : Env) (c : ℕ) → i < length A → (get_or A i d).column ≡ c

@@ -5,8 +5,8 @@ use Rattle.schema.specs.Databases.{Row}
 use Rattle.algebra.specs.Bags.{Env}
 use Rattle.operators.specs.Grouped.{groups_in}
 use Rattle.operators.specs.Groups.{group_envs}
-use Rattle.operators.specs.Relations.{env_of}
-use Rattle.operators.proofs.RelationRows.{cell-column}
+use Rattle.relations.specs.Relations.{env_of}
+use Rattle.relations.proofs.RelationRows.{cell-column}
 use Rattle.operators.proofs.groups.group_parts.Goals as goal
 
 pub loop-column-preserved : goal.loop-column-preserved

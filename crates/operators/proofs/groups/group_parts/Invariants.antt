@@ -1,7 +1,7 @@
 use Rattle.std.proofs.Common.{◌≡◌, [], ◌∷◌, map, take}
 use Rattle.operators.specs.Grouped.{groups_in}
 use Rattle.operators.specs.Groups.{group_envs}
-use Rattle.operators.specs.Relations.{env_of}
+use Rattle.relations.specs.Relations.{env_of}
 use Rattle.operators.proofs.groups.group_parts.Given as goal
 
 abbrev pub invariant-loop-column : goal.invariant-loop-column

@@ -2,7 +2,7 @@ use Rattle.std.proofs.Common.{◌≡◌, refl, ap, ◌∙◌, ℕ, List, [], ◌
 use Rattle.algebra.specs.Columns.{has, rising}
 use Rattle.algebra.specs.Bags.{Bag, Env, lay, group}
 use Rattle.algebra.specs.Expressions.{with_aggregates}
-use Rattle.operators.specs.Relations.{env_of, rows_of}
+use Rattle.relations.specs.Relations.{env_of, rows_of}
 use Rattle.operators.proofs.GroupEnvs.{group-laid}
 use Rattle.operators.proofs.PlanOutputs.{restated}
 use Rattle.operators.proofs.groups.grouped.Goals as goal

@@ -1,6 +1,6 @@
 use Rattle.std.proofs.Common.{◌≡◌, [], ◌∷◌, map, take}
 use Rattle.algebra.specs.Expressions.{with_aggregates}
-use Rattle.operators.specs.Relations.{env_of, rows_of}
+use Rattle.relations.specs.Relations.{env_of, rows_of}
 use Rattle.operators.proofs.groups.parts_of_all.Given as goal
 
 abbrev pub invariant-loop-column : goal.invariant-loop-column

@@ -4,8 +4,8 @@ use Rattle.std.proofs.lemmas.List.{length-map}
 use Rattle.schema.specs.Databases.{Row}
 use Rattle.algebra.specs.Bags.{Env}
 use Rattle.algebra.specs.Expressions.{with_aggregates}
-use Rattle.operators.specs.Relations.{env_of, rows_of}
-use Rattle.operators.proofs.RelationRows.{made-even}
+use Rattle.relations.specs.Relations.{env_of, rows_of}
+use Rattle.relations.proofs.RelationRows.{made-even}
 use Rattle.operators.proofs.groups.row_of_all.Goals as goal
 
 pub made-requires : goal.made-requires

@@ -6,14 +6,14 @@ use Rattle.algebra.specs.Columns.{has}
 use Rattle.algebra.specs.Bags.{Env, lay, group}
 use Rattle.algebra.specs.Expressions.{with_aggregates}
 use Rattle.physical.specs.Origins.{AreReadable}
-use Rattle.operators.specs.declared.headings.Place.{Place}
-use Rattle.operators.specs.declared.relation.Relation.{Relation}
+use Rattle.relations.specs.declared.headings.Place.{Place}
+use Rattle.relations.specs.declared.relation.Relation.{Relation}
 use Rattle.operators.specs.Grouped.{groups_in}
 use Rattle.operators.specs.Groups.{group_envs, placed_groups}
-use Rattle.operators.specs.Relations.{column_places, env_of, rows_of}
+use Rattle.relations.specs.Relations.{column_places, env_of, rows_of}
 use Rattle.operators.proofs.GroupEnvs.{group-rows, groups-many}
 use Rattle.operators.proofs.PlanOutputs.{restated}
-use Rattle.operators.proofs.RelationRows.{made-even}
+use Rattle.relations.proofs.RelationRows.{made-even}
 use Rattle.operators.proofs.groups.rows_of_groups.Goals as goal
 
 pub group_parts-requires : goal.group_parts-requires

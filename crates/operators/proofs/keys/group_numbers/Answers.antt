@@ -6,10 +6,10 @@ use Rattle.std.proofs.Math.Seq.{get_or-append_seam}
 use Rattle.indexmap.specs.IndexSet.{insert_key}
 use Rattle.schema.specs.Databases.{Row}
 use Rattle.store.specs.Keys.{key_eq, key_equiv}
-use Rattle.operators.specs.Parts.{row_at}
+use Rattle.relations.specs.Parts.{row_at}
 use Rattle.operators.specs.Groups.{AreNumbered, added_at, first_seen, groups_by, key_at, same_at, with_founder}
 use Rattle.operators.proofs.FirstSeen.{groups-numbered, founders-more, keys-more, place}
-use Rattle.operators.proofs.Numbers.{range_number}
+use Rattle.relations.proofs.Numbers.{range_number}
 use Rattle.operators.proofs.keys.group_numbers.Goals as goal
 
 -- one row more has its number

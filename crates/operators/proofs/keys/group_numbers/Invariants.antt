@@ -1,6 +1,6 @@
 use Rattle.std.proofs.Common.{◌≡◌, length, map}
 use Rattle.std.specs.List.{range_with_len}
-use Rattle.operators.specs.Parts.{row_at}
+use Rattle.relations.specs.Parts.{row_at}
 use Rattle.operators.specs.Groups.{AreNumbered, first_seen, key_at, same_at}
 use Rattle.operators.proofs.keys.group_numbers.Given as goal
 

@@ -5,8 +5,8 @@ use mathlib.Core.List.{map-map}
 use Rattle.values.specs.declared.value.Value.{Value}
 use Rattle.values.specs.Cells.{value_of}
 use Rattle.algebra.specs.Bags.{Env}
-use Rattle.operators.specs.Relations.{env_of, numbered_env, numbers_of}
-use Rattle.operators.proofs.Numbers.{map_number}
+use Rattle.relations.specs.Relations.{env_of, numbered_env, numbers_of}
+use Rattle.relations.proofs.Numbers.{map_number}
 use Rattle.operators.proofs.scans.column_cells.Goals as goal
 
 pub loop-number-preserved : goal.loop-number-preserved

@@ -5,9 +5,9 @@ use Rattle.std.proofs.lemmas.List.{length-map}
 use Rattle.schema.specs.Databases.{Row}
 use Rattle.algebra.specs.Columns.{has}
 use Rattle.algebra.specs.Bags.{Env, lay}
-use Rattle.operators.specs.Relations.{env_of, numbered_env, rows_of}
+use Rattle.relations.specs.Relations.{env_of, numbered_env, rows_of}
 use Rattle.operators.proofs.PlanOutputs.{restated}
-use Rattle.operators.proofs.RelationRows.{made-even}
+use Rattle.relations.proofs.RelationRows.{made-even}
 use Rattle.operators.proofs.scans.copied.Goals as goal
 
 pub made-requires : goal.made-requires

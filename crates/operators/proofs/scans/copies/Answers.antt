@@ -3,8 +3,8 @@ use Rattle.std.proofs.lemmas.List.{get_or_default}
 use Rattle.values.proofs.Lists.{map_next}
 use Rattle.schema.specs.Databases.{Row}
 use Rattle.algebra.specs.Bags.{Env}
-use Rattle.operators.specs.Relations.{env_of, rows_of}
-use Rattle.operators.proofs.RelationRows.{cell-column}
+use Rattle.relations.specs.Relations.{env_of, rows_of}
+use Rattle.relations.proofs.RelationRows.{cell-column}
 use Rattle.operators.proofs.scans.copies.Goals as goal
 
 pub loop-column-preserved : goal.loop-column-preserved

@@ -1,5 +1,5 @@
 use Rattle.std.proofs.Common.{◌≡◌, [], ◌∷◌, map, take}
-use Rattle.operators.specs.Relations.{env_of, rows_of}
+use Rattle.relations.specs.Relations.{env_of, rows_of}
 use Rattle.operators.proofs.scans.copies.Given as goal
 
 abbrev pub invariant-loop-column : goal.invariant-loop-column

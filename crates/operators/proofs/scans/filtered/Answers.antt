@@ -3,7 +3,7 @@ use Rattle.values.proofs.Lists.{filter-map}
 use Rattle.algebra.specs.Bags.{Env}
 use Rattle.algebra.specs.Conditions.{holds}
 use Rattle.physical.specs.Outputs.{no_classes}
-use Rattle.operators.specs.Relations.{env_of, numbered_env, numbers_of}
+use Rattle.relations.specs.Relations.{env_of, numbered_env, numbers_of}
 use Rattle.operators.proofs.PlanOutputs.{chosen-output}
 use Rattle.operators.proofs.scans.filtered.Goals as goal
 

@@ -2,10 +2,10 @@ use Rattle.std.proofs.Common.{◌≡◌, ap, sym, ◌∙◌, ℕ, Bool, if◌the
 use Rattle.std.specs.List.{range_with_len}
 use Rattle.algebra.specs.Conditions.{holds}
 use Rattle.physical.specs.Outputs.{no_classes}
-use Rattle.operators.specs.Relations.{env_of, numbered_env}
-use Rattle.operators.specs.declared.tests.Test.{Test}
-use Rattle.operators.specs.Resolved.{all_pass}
-use Rattle.operators.proofs.Numbers.{filter_number}
+use Rattle.relations.specs.Relations.{env_of, numbered_env}
+use Rattle.relations.specs.declared.tests.Test.{Test}
+use Rattle.relations.specs.Resolved.{all_pass}
+use Rattle.relations.proofs.Numbers.{filter_number}
 use Rattle.operators.proofs.scans.passing.Goals as goal
 
 pub loop-number-preserved : goal.loop-number-preserved

@@ -2,7 +2,7 @@ use Rattle.std.proofs.Common.{◌≡◌, filter}
 use Rattle.std.specs.List.{range_with_len}
 use Rattle.algebra.specs.Conditions.{holds}
 use Rattle.physical.specs.Outputs.{no_classes}
-use Rattle.operators.specs.Relations.{env_of, numbered_env}
+use Rattle.relations.specs.Relations.{env_of, numbered_env}
 use Rattle.operators.proofs.scans.passing.Given as goal
 
 abbrev pub invariant-loop-number : goal.invariant-loop-number

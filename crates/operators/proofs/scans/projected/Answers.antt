@@ -1,9 +1,9 @@
 use Rattle.std.proofs.Common.{◌≡◌, ap, sym, subst, ◌∙◌, ◌<◌, length, arith}
 use Rattle.std.specs.List.{AllByRecursion}
-use Rattle.operators.specs.declared.headings.Heading.{Heading}
-use Rattle.operators.specs.declared.headings.Place.{Place}
-use Rattle.operators.specs.Relations.{env_of, column_places, numbers_of}
-use Rattle.operators.proofs.RelationRows.{places-within, projected-rows}
+use Rattle.relations.specs.declared.headings.Heading.{Heading}
+use Rattle.relations.specs.declared.headings.Place.{Place}
+use Rattle.relations.specs.Relations.{env_of, column_places, numbers_of}
+use Rattle.relations.proofs.RelationRows.{places-within, projected-rows}
 use Rattle.operators.proofs.scans.projected.Goals as goal
 
 pub invariant_of-heading : goal.invariant_of-heading

@@ -5,11 +5,11 @@ use Rattle.std.proofs.lemmas.Option.{slice_get_read}
 use Rattle.schema.specs.Databases.{Row}
 use Rattle.query.specs.Rows.{tables_of}
 use Rattle.algebra.specs.Expressions.{get_columns, get_rows, use_columns, use_row}
-use Rattle.operators.specs.declared.headings.Place.{Place}
-use Rattle.operators.specs.Parts.{row_at}
-use Rattle.operators.specs.Places.{first_at}
-use Rattle.operators.specs.Relations.{row_env}
-use Rattle.operators.proofs.RelationRows.{first-within, table-rows}
+use Rattle.relations.specs.declared.headings.Place.{Place}
+use Rattle.relations.specs.Parts.{row_at}
+use Rattle.relations.specs.Places.{first_at}
+use Rattle.relations.specs.Relations.{row_env}
+use Rattle.relations.proofs.RelationRows.{first-within, table-rows}
 use Rattle.operators.proofs.scans.scanned.Goals as goal
 
 pub invariant_of-result : goal.invariant_of-result

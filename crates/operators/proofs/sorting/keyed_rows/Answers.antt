@@ -3,9 +3,9 @@ use Rattle.std.specs.List.{range_with_len}
 use Rattle.std.proofs.lemmas.List.{map-append}
 use Rattle.values.specs.declared.value.Value.{Value}
 use Rattle.operators.specs.declared.sorting.Keyed.{Keyed}
-use Rattle.operators.specs.Relations.{env_of, numbered_env}
+use Rattle.relations.specs.Relations.{env_of, numbered_env}
 use Rattle.operators.specs.Sorting.{keyed_of}
-use Rattle.operators.proofs.Numbers.{map_number}
+use Rattle.relations.proofs.Numbers.{map_number}
 use Rattle.operators.proofs.sorting.keyed_rows.Goals as goal
 
 pub loop-number-preserved : goal.loop-number-preserved

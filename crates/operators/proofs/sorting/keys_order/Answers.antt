@@ -1,7 +1,7 @@
 use Rattle.std.proofs.Common.{◌∙◌, rules}
 use Rattle.values.proofs.KeyOrders.{by_keys-decided}
 use Rattle.physical.specs.Sorts.{key_order}
-use Rattle.operators.specs.Relations.{env_of}
+use Rattle.relations.specs.Relations.{env_of}
 use Rattle.operators.proofs.sorting.keys_order.Goals as goal
 
 pub returns : goal.returns

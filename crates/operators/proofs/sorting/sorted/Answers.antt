@@ -2,7 +2,7 @@ use Rattle.std.proofs.Common.{◌≡◌, refl, ap, sym, ◌∙◌, List, [], ◌
 use Rattle.algebra.specs.Bags.{Env}
 use Rattle.physical.specs.declared.plan.OrderKey.{OrderKey}
 use Rattle.physical.specs.Sorts.{keys_order, put_sorted, sorted}
-use Rattle.operators.specs.Relations.{env_of, numbered_env, rows_of}
+use Rattle.relations.specs.Relations.{env_of, numbered_env, rows_of}
 use Rattle.operators.proofs.PlanOutputs.{chosen-output}
 use Rattle.operators.proofs.sorting.sorted.Goals as goal
 

@@ -12,7 +12,7 @@ use Rattle.physical.proofs.SortedRows.{keys_total}
 use Rattle.physical.proofs.ClosureSorts.{sorted-by_closure}
 use Rattle.physical.proofs.Sorting.{map-sorted}
 use Rattle.operators.specs.declared.sorting.Keyed.{Keyed}
-use Rattle.operators.specs.Relations.{env_of, numbered_env, numbers_of}
+use Rattle.relations.specs.Relations.{env_of, numbered_env, numbers_of}
 use Rattle.operators.specs.Sorting.{keyed_of, keyed_order}
 use Rattle.operators.proofs.sorting.sorted_numbers.Goals as goal
 

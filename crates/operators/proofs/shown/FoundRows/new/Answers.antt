@@ -1,6 +1,6 @@
 use Rattle.std.proofs.Common.{ap, ◌∙◌, map, arith}
 use Rattle.std.proofs.lemmas.List.{take_all}
-use Rattle.operators.specs.Relations.{column_place}
+use Rattle.relations.specs.Relations.{column_place}
 use Rattle.operators.specs.Shown.{shown_rows}
 use Rattle.operators.proofs.ShownRows.{shown-columns}
 use Rattle.operators.proofs.shown.FoundRows.new.Goals as goal

@@ -1,5 +1,5 @@
 use Rattle.std.proofs.Common.{◌≡◌, map, take}
-use Rattle.operators.specs.Relations.{column_place}
+use Rattle.relations.specs.Relations.{column_place}
 use Rattle.operators.proofs.shown.FoundRows.new.Given as goal
 
 abbrev pub invariant-loop-column : goal.invariant-loop-column

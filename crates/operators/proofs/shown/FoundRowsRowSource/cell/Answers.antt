@@ -2,8 +2,8 @@ use Rattle.std.proofs.Common.{ap, sym, subst, ◌∙◌, ◌<◌, [], length, ge
 use Rattle.std.proofs.lemmas.List.{length-map}
 use Rattle.values.specs.declared.value.Value.TheVariants as value
 use Rattle.schema.specs.Databases.{Row}
-use Rattle.operators.specs.declared.headings.Place.{Place}
-use Rattle.operators.specs.Parts.{row_at, value_in}
+use Rattle.relations.specs.declared.headings.Place.{Place}
+use Rattle.relations.specs.Parts.{row_at, value_in}
 use Rattle.operators.proofs.ShownRows.{shown-at, shown-cell, shown-length}
 use Rattle.operators.proofs.shown.FoundRowsRowSource.cell.Goals as goal
 

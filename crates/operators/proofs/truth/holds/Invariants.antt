@@ -1,7 +1,0 @@
-use Rattle.std.proofs.Common.{◌≡◌, true, take}
-use Rattle.algebra.specs.Conditions.{holds}
-use Rattle.operators.specs.Relations.{env_of, subqueries_given}
-use Rattle.operators.proofs.truth.holds.Given as goal
-
-abbrev pub invariant-loop-condition : goal.invariant-loop-condition
-invariant-loop-condition l = holds (subqueries_given l.subqueries) (take l.condition-index l.conditions) (env_of l.env) ≡ true

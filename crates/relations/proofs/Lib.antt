@@ -1,0 +1,5 @@
+pub mod ColumnPlaces
+pub mod Numbers
+pub mod PairedRows
+pub mod RelationRows
+pub mod Steps

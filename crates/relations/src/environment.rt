@@ -1,0 +1,43 @@
+//! The rows that a condition sees.
+
+ghost use Rattle.std.specs.Prelude.{◌≡◌};
+ghost use Rattle.values.specs.Cells.{value_of};
+ghost use Rattle.relations.specs.Relations.{env_of, numbered_env};
+
+use crate::relation::Relation;
+use query::ColumnId;
+use values::Cell;
+
+/// The innermost row, by its number in a relation, and the environment around it.
+#[derive(Clone, Copy)]
+pub enum Env<'e, 't> {
+    Empty,
+    Inner(&'e Relation<'t>, usize, &'e Env<'e, 't>),
+}
+
+impl<'t> Env<'_, 't> {
+    /// A column as the innermost row with it has it; Null where none has it.
+    pub fn column(&self, column: ColumnId) -> Cell<'t>
+        ensures { value_of result ≡ env_of self.now column }
+    {
+        match self {
+            Env::Empty => Cell::Null,
+            Env::Inner(relation, number, outer) => match relation.heading.place_of(column) {
+                Some(place) => relation.rows.cell(*number, place),
+                None => outer.column(column),
+            },
+        }
+    }
+}
+
+/// A column of the row with a number, or of the environment around it.
+pub fn row_cell<'t>(
+    relation: &Relation<'t>,
+    number: usize,
+    env: &Env<'_, 't>,
+    column: ColumnId,
+) -> Cell<'t>
+    ensures { value_of result ≡ numbered_env relation.now (env_of env.now) number column }
+{
+    Env::Inner(&*relation, number, &*env).column(column)
+}

@@ -1,0 +1,18 @@
+//! Rows at work: relations, whose rows are lent from tables by their numbers, and the truth of conditions at these.
+#![tactic(auto)]
+
+mod building;
+pub mod environment;
+pub mod headings;
+pub mod parts;
+pub mod relation;
+pub mod rows;
+mod terms;
+pub mod tests;
+pub mod truth;
+
+pub use environment::{Env, row_cell};
+pub use headings::{Heading, Place};
+pub use parts::Part;
+pub use relation::Relation;
+pub use rows::Rows;

@@ -1,0 +1,202 @@
+//! The truth of conditions.
+
+ghost use Rattle.std.specs.Prelude.{◌≡◌, fold, map, not};
+ghost use Rattle.values.specs.Cells.{value_of};
+ghost use Rattle.values.specs.declared.truth.Comparison.TheVariants as by;
+ghost use Rattle.values.specs.Truth as logic;
+ghost use Rattle.query.specs.Meaning.{any_of};
+ghost use Rattle.algebra.specs.Bags as bags;
+ghost use Rattle.algebra.specs.Conditions as spec;
+ghost use Rattle.physical.specs.Outputs.{no_classes};
+ghost use Rattle.relations.specs.Relations.{env_of, given, numbered_env, rows_given, rows_of, subqueries_given};
+
+use crate::environment::Env;
+use crate::relation::Relation;
+use crate::terms::{compare_terms, is_null};
+use algebra::{ClassId, Condition, Term};
+use query::ColumnId;
+use values::{Cell, Comparison, Truth, compare};
+
+/// The classes that conditions name, and their rows where the conditions stand.
+#[derive(Clone, Copy)]
+pub struct Subqueries<'a, 't> {
+    pub classes: &'a [ClassId],
+    pub relations: &'a [Relation<'t>],
+}
+
+/// The rows of a class; none where it is not among the classes.
+fn relation_of<'a, 't>(
+    classes: &[ClassId],
+    relations: &'a [Relation<'t>],
+    class: ClassId,
+) -> Option<&'a Relation<'t>>
+    ensures { (e : bags.Env) → rows_given result e ≡ given classes.now relations.entry.now class e }
+{
+    let [first, classes @ ..] = classes else {
+        return None;
+    };
+    let [relation, relations @ ..] = relations else {
+        return None;
+    };
+    if *first == class {
+        Some(relation)
+    } else {
+        relation_of(classes, relations, class)
+    }
+}
+
+impl<'a, 't> Subqueries<'a, 't> {
+    /// No class has a row.
+    pub fn none() -> Subqueries<'a, 't>
+        ensures { subqueries_given result ≡ no_classes }
+    {
+        Subqueries {
+            classes: &[],
+            relations: &[],
+        }
+    }
+
+    /// Whether the class has a row.
+    fn has_row(self, class: ClassId) -> bool
+        ensures { (e : bags.Env) → result ≡ not (spec.is_empty (subqueries_given self.entry class e)) }
+    {
+        match relation_of(self.classes, self.relations, class) {
+            Some(relation) => relation.rows.count > 0,
+            None => false,
+        }
+    }
+
+    /// Whether a term is among the values of a column of the class.
+    fn has_term(self, term: &Term, class: ClassId, column: ColumnId, env: &Env<'_, '_>) -> Truth
+        ensures { result ≡ any_of (map (λ s. logic.compare by.Equal (spec.term_value term.now (env_of env.now)) (s column)) (subqueries_given self.entry class (env_of env.now))) }
+    {
+        match term {
+            Term::Column(of) => self.is_among(env.column(*of), class, column, env),
+            Term::Literal(value) => self.is_among(value.as_cell(), class, column, env),
+        }
+    }
+
+    /// Whether a value is among those of a column of the class.
+    fn is_among(self, cell: Cell<'_>, class: ClassId, column: ColumnId, env: &Env<'_, '_>) -> Truth
+        ensures { result ≡ any_of (map (λ s. logic.compare by.Equal (value_of cell.entry) (s column)) (subqueries_given self.entry class (env_of env.now))) }
+    {
+        match relation_of(self.classes, self.relations, class) {
+            Some(relation) => equals_some(cell, relation, column, env),
+            None => Truth::False,
+        }
+    }
+}
+
+/// Whether a value equals that of the column in the row with a number.
+fn equals_at(
+    cell: Cell<'_>,
+    relation: &Relation<'_>,
+    number: usize,
+    column: ColumnId,
+    env: &Env<'_, '_>,
+) -> Truth
+    ensures { result ≡ logic.compare by.Equal (value_of cell.entry) (numbered_env relation.now (env_of env.now) number column) }
+{
+    match relation.heading.place_of(column) {
+        Some(place) => compare(Comparison::Equal, cell, relation.rows.cell(number, place)),
+        None => compare(Comparison::Equal, cell, env.column(column)),
+    }
+}
+
+/// Whether a value equals that of the column in some of the rows.
+fn equals_some(
+    cell: Cell<'_>,
+    relation: &Relation<'_>,
+    column: ColumnId,
+    env: &Env<'_, '_>,
+) -> Truth
+    ensures { result ≡ any_of (map (λ s. logic.compare by.Equal (value_of cell.entry) (s column)) (rows_of relation.now (env_of env.now))) }
+{
+    let mut any = Truth::False;
+    for number in 0..relation.rows.count {
+        any = any.or(equals_at(cell, relation, number, column, env));
+    }
+    any
+}
+
+/// The truth of a condition.
+#[cycle(truth)]
+pub fn truth(condition: &Condition, subqueries: Subqueries<'_, '_>, env: &Env<'_, '_>) -> Truth
+    ensures { result ≡ spec.truth condition.now (subqueries_given subqueries.entry) (env_of env.now) }
+{
+    match condition {
+        Condition::Compare(comparison, a, b) => { compare_terms(*comparison, a, b, env) }
+        Condition::IsNull(term) => Truth::from(is_null(term, env)),
+        Condition::Not(part) => truth(part.get(), subqueries, env).not(),
+        Condition::And(a, b, more) => {
+            let first = truth(a.get(), subqueries, env);
+            let second = truth(b.get(), subqueries, env);
+            all(first.and(second), more.as_slice(), subqueries, env)
+        }
+        Condition::Or(a, b, more) => {
+            let first = truth(a.get(), subqueries, env);
+            let second = truth(b.get(), subqueries, env);
+            any(first.or(second), more.as_slice(), subqueries, env)
+        }
+        Condition::Exists(class) => Truth::from(subqueries.has_row(*class)),
+        Condition::In(term, class, column) => { subqueries.has_term(term, *class, *column, env) }
+    }
+}
+
+/// The AND of a truth and those of conditions.
+#[cycle(truth)]
+fn all(
+    first: Truth,
+    conditions: &[Condition],
+    subqueries: Subqueries<'_, '_>,
+    env: &Env<'_, '_>,
+) -> Truth
+    ensures { result ≡ fold logic.conjunction first (map (λ c. spec.truth c (subqueries_given subqueries.entry) (env_of env.now)) conditions.now) }
+{
+    let mut all = first;
+    for condition in conditions {
+        all = all.and(truth(condition, subqueries, env));
+    }
+    all
+}
+
+/// The OR of a truth and those of conditions.
+#[cycle(truth)]
+fn any(
+    first: Truth,
+    conditions: &[Condition],
+    subqueries: Subqueries<'_, '_>,
+    env: &Env<'_, '_>,
+) -> Truth
+    ensures { result ≡ fold logic.disjunction first (map (λ c. spec.truth c (subqueries_given subqueries.entry) (env_of env.now)) conditions.now) }
+{
+    let mut any = first;
+    for condition in conditions {
+        any = any.or(truth(condition, subqueries, env));
+    }
+    any
+}
+
+/// Whether all conditions are true.
+pub fn holds(conditions: &[Condition], subqueries: Subqueries<'_, '_>, env: &Env<'_, '_>) -> bool
+    ensures { result ≡ spec.holds (subqueries_given subqueries.entry) conditions.now (env_of env.now) }
+{
+    for condition in conditions {
+        if !truth(condition, subqueries, env).is_true() {
+            return false;
+        }
+    }
+    true
+}
+
+/// Whether none of the conditions is false, where no class has a row.
+pub fn allows(conditions: &[Condition], env: &Env<'_, '_>) -> bool
+    ensures { result ≡ spec.allows no_classes conditions.now (env_of env.now) }
+{
+    for condition in conditions {
+        if truth(condition, Subqueries::none(), env).not().is_true() {
+            return false;
+        }
+    }
+    true
+}
