@@ -4,7 +4,7 @@ use crate::lines::{push_aggregates, push_columns, push_keys, push_line};
 use algebra::{Conjuncts, Expr, LineId};
 use derivation::{Certificate, Line};
 use fixtures::{COMPANY, DEPT, EMP, QueryReporting, Tables, push_number, query_differences};
-use physical::{GroupMethod, JoinMethod, Matching, Node, Operator, Plan};
+use physical::{GroupMethod, IndexAccess, JoinMethod, Matching, Node, Operator, Plan};
 use planner::canonical;
 use query::BoundQuery;
 use std::alloc::{AllocError, Global};
@@ -60,6 +60,13 @@ fn push_join_method(reported: &mut String, method: JoinMethod) -> Result<(), All
     }
 }
 
+/// An index of a table instance.
+fn push_access(reported: &mut String, access: IndexAccess) -> Result<(), AllocError> {
+    push_number(reported, "by index ", access.index)?;
+    push_number(reported, " of ", access.occurrence as usize)?;
+    reported.push_str(" ")
+}
+
 /// Nothing for hashes.
 fn push_group_method(reported: &mut String, method: GroupMethod) -> Result<(), AllocError> {
     match method {
@@ -94,6 +101,10 @@ fn push_operator(
             push_number(reported, "scan ", line as usize)?;
             push_number(reported, " of ", *occurrence as usize)
         }
+        Operator::IndexScan { access, conjuncts } => {
+            push_access(reported, *access)?;
+            push_filter(reported, lines, "scan ", line, conjuncts)
+        }
         Operator::Filter { conjuncts } => push_filter(reported, lines, "filter ", line, conjuncts),
         Operator::FilterSubqueries { conjuncts } => {
             push_filter(reported, lines, "filter by subqueries ", line, conjuncts)
@@ -104,6 +115,10 @@ fn push_operator(
         }
         Operator::JoinRows { method, matching } => {
             push_join_method(reported, *method)?;
+            push_join(reported, lines, line, matching)
+        }
+        Operator::IndexJoin { access, matching } => {
+            push_access(reported, *access)?;
             push_join(reported, lines, line, matching)
         }
         Operator::GroupRows {

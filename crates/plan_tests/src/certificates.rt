@@ -186,6 +186,31 @@ SELECT DISTINCT b FROM t => scan 0 0 | cut 1: 1 | distinct 2 => accepted ;20,;-,
 SELECT a, b FROM t ORDER BY b => scan 0 0 | sort: 1 | cut 1: 0 1 => accepted ;2,-,;4,-,;3,10,;1,20,;5,20,
 SELECT a, b FROM t ORDER BY b DESC => scan 0 0 | sort: 1d | cut 1: 0 1 => accepted ;1,20,;5,20,;3,10,;2,-,;4,-,";
 
+/// A scan by an index stands for a table's, or for a filter of one, and gives its rows by the index, Null first, those that tie as
+/// they stood; a join by an index stands for the loop over a scan. Each of its columns has to be equated with what is none of the
+/// instance's.
+const INDEXES: &str =
+    "SELECT b, a FROM t ORDER BY b => iscan 0: 0 0 0 | cut 1: 0 1 => accepted ;-,2,;-,4,;10,3,;20,1,;20,5,
+SELECT b, a FROM t ORDER BY b DESC => iscan 0: 0 0 0 | cut 1: 0 1 => K08 line 2
+SELECT b, a FROM t WHERE a > 2 ORDER BY b => iscan 1: 0 0 0 | cut 2: 0 1 => accepted ;-,4,;10,3,;20,5,
+SELECT b, a FROM t WHERE b >= 20 => iscan 1: 0 0 1 | cut 2: 0 1 => accepted ;20,1,;20,5,
+SELECT b, a FROM t WHERE b >= 20 => iscan 1: 0 0 2 | cut 2: 0 1 => K06 line 4
+SELECT b, a FROM t WHERE b >= 20 => iscan 1: 1 0 0 | cut 2: 0 1 => K06 line 4
+SELECT b, a FROM t WHERE b >= 20 => iscan 1: 0 1 0 | cut 2: 0 1 => K06 line 4
+SELECT b, a FROM t WHERE b >= 20 => iscan 1: 9 0 0 | cut 2: 0 1 => K01 line 4
+SELECT b, a FROM t WHERE b >= 20 => iscan 0: 0 0 0 | filter 1 | cut 2: 0 1 => accepted ;20,1,;20,5,
+SELECT a FROM t WHERE EXISTS (SELECT * FROM u) => iscan 3: 0 0 0 | cut 4: 0 => K06 line 6
+SELECT a, c, d FROM t JOIN u ON a = c => scan 0 0 | iloop 2: 1 1 0 | cut 3: 0 2 3 => accepted ;1,1,-,;3,3,x,;3,3,y,
+SELECT a, c, d FROM t LEFT JOIN u ON a = c AND c > 1 => scan 0 0 | iloop 2: 1 1 0 | cut 3: 0 2 3 => accepted ;1,-,-,;2,-,-,;3,3,x,;3,3,y,;4,-,-,;5,-,-,
+SELECT a, c, d FROM t JOIN u ON a = c => scan 0 0 | iloop 2: 1 1 1 | cut 3: 0 2 3 => K06 line 5
+SELECT a, c, d FROM t JOIN u ON a = c => scan 0 0 | iloop 2: 0 0 0 | cut 3: 0 2 3 => K06 line 5
+SELECT a, c, d FROM t JOIN u ON a = c => scan 0 0 | iloop 2: 7 1 0 | cut 3: 0 2 3 => K01 line 5
+SELECT a, c, d FROM t JOIN u ON a <= c => scan 0 0 | iloop 2: 1 1 0 | cut 3: 0 2 3 => K06 line 5
+SELECT c, a, b FROM u JOIN t ON b = c => scan 0 0 | iloop 2: 1 1 1 | cut 3: 0 2 3 => K06 line 5
+SELECT c, a, b FROM u JOIN t ON b = 20 AND a = c => scan 0 0 | iloop 2: 1 1 1 | cut 3: 0 2 3 => accepted ;1,1,20,
+SELECT x.a, y.a FROM t x JOIN t y ON x.b = y.b => iscan 0: 0 0 0 | iscan 1: 1 1 0 | merge 2: 1 3 | cut 3: 0 2 => accepted ;3,3,;1,1,;1,5,;5,1,;5,5,
+SELECT x.a, y.a FROM t x JOIN t y ON x.b = y.b => iscan 0: 0 0 0 | scan 1 1 | merge 2: 1 3 | cut 3: 0 2 => K07 line 5";
+
 /// Certificates with lines or conjuncts of other texts. The lines of the third but the group are those of the query, but for
 /// the class that the cut names.
 const LINES: &str =
@@ -200,7 +225,7 @@ fn certificates_are_judged(rt: HostRuntime) {
         query_differences(
             rt.alloc(),
             TABLES,
-            &[PLANS, METHODS, ROWS, LINES],
+            &[PLANS, METHODS, ROWS, INDEXES, LINES],
             &Verdicts
         )
         .as_deref(),

@@ -25,7 +25,10 @@ fn push_delivered(
     plan: &str,
 ) -> Result<(), AllocError> {
     match &plan_over(alloc, query, plan)? {
-        Some(plan) => push_keys(reported, delivers(alloc, plan)?.as_slice()),
+        Some(plan) => push_keys(
+            reported,
+            delivers(alloc, query.tables.as_slice(), plan)?.as_slice(),
+        ),
         None => reported.push_str(" no plan"),
     }
 }
@@ -63,6 +66,10 @@ SELECT x.boss, x.id FROM dept x, dept y => scan 0 0 | sort: 1d 0 | scan 0 1 | le
 SELECT x.boss, x.id FROM dept x, dept y => scan 0 0 | sort: 1d 2 | scan 0 1 | loop 2 => order 1d 2
 SELECT x.boss, x.id FROM dept x, dept y => scan 0 0 | sort: 1d 0 | cut 0: 1 | distinct 0 => order 1d
 SELECT x.boss, x.id FROM dept x, dept y => scan 0 0 | sort: 1d 0 | group 0 => order
+SELECT a FROM t => iscan 0: 0 0 0 => order 1
+SELECT a FROM t => iscan 0: 0 0 1 => order 1 0
+SELECT a FROM t => iscan 0: 0 0 2 => order
+SELECT a, d FROM u, t => scan 0 0 | sort: 1d 0 | iloop 2: 1 1 0 => order 1d 0
 SELECT boss, id FROM dept ORDER BY id DESC, boss => order 0d 1";
     assert_eq!(rt;
         query_differences(rt.alloc(), TABLES, &[CASES], &Orders).as_deref(),

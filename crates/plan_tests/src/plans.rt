@@ -1,11 +1,11 @@
 //! Plans read from words, each node after its inputs, with `|` between nodes: `scan LINE OCCURRENCE`, `filter LINE`,
 //! `subqueries LINE COUNT`, `cut LINE: COLUMNS`, `sort: KEYS`; nested-loop joins `loop LINE`, `left LINE`, `semi LINE`,
 //! `anti LINE`; by other methods joins of whatever matching the line has, `hash LINE`, `merge LINE: LEFT RIGHT`; `group LINE`,
-//! `distinct LINE`, and over sorted rows `sgroup LINE`, `sdistinct LINE`. What else a node holds is that of a line with its
-//! number.
+//! `distinct LINE`, and over sorted rows `sgroup LINE`, `sdistinct LINE`; `iscan LINE: GET OCCURRENCE INDEX`, and a join of
+//! whatever matching the line has, `iloop LINE: GET OCCURRENCE INDEX`. What else a node holds is that of a line with its number.
 
 use algebra::{Aggregations, Columns, Conjuncts, Expr, LineId};
-use physical::{GroupMethod, JoinMethod, Matching, Node, Operator, OrderKey, Plan};
+use physical::{GroupMethod, IndexAccess, JoinMethod, Matching, Node, Operator, OrderKey, Plan};
 use std::alloc::{AllocError, Global};
 use values::Items;
 
@@ -108,6 +108,22 @@ fn join_name(lines: &[Expr], line: LineId) -> &'static str {
     }
 }
 
+/// The matching of a join of this name.
+fn matching_of(
+    alloc: Global,
+    lines: &[Expr],
+    line: LineId,
+    name: &str,
+) -> Result<Matching, AllocError> {
+    let conjuncts = conjuncts_of(alloc, lines, line)?;
+    match name {
+        "left" => Ok(Matching::Left(conjuncts)),
+        "semi" => Ok(Matching::Semi(conjuncts)),
+        "anti" => Ok(Matching::Anti(conjuncts, maybe_of(alloc, lines, line)?)),
+        _ => Ok(Matching::Inner(conjuncts)),
+    }
+}
+
 /// A join of this name.
 fn join_of(
     alloc: Global,
@@ -116,14 +132,19 @@ fn join_of(
     method: JoinMethod,
     name: &str,
 ) -> Result<Operator, AllocError> {
-    let conjuncts = conjuncts_of(alloc, lines, line)?;
-    let matching = match name {
-        "left" => Matching::Left(conjuncts),
-        "semi" => Matching::Semi(conjuncts),
-        "anti" => Matching::Anti(conjuncts, maybe_of(alloc, lines, line)?),
-        _ => Matching::Inner(conjuncts),
-    };
+    let matching = matching_of(alloc, lines, line, name)?;
     Ok(Operator::JoinRows { method, matching })
+}
+
+/// The line of a Get, its table instance and an index.
+fn access_of(words: Words<'_>) -> IndexAccess {
+    let (line, rest) = cut(words.columns.trim(), " ");
+    let (occurrence, index) = cut(rest, " ");
+    IndexAccess {
+        line: id(line),
+        occurrence: id(occurrence),
+        index: number(index),
+    }
 }
 
 /// The merge by two columns.
@@ -172,6 +193,14 @@ fn operator_of(alloc: Global, lines: &[Expr], words: Words<'_>) -> Result<Operat
         }
         "hash" => { join_of(alloc, lines, line, JoinMethod::Hash, join_name(lines, line)) }
         "merge" => { join_of(alloc, lines, line, merge_of(words), join_name(lines, line)) }
+        "iscan" => Ok(Operator::IndexScan {
+            access: access_of(words),
+            conjuncts: conjuncts_of(alloc, lines, line)?,
+        }),
+        "iloop" => Ok(Operator::IndexJoin {
+            access: access_of(words),
+            matching: matching_of(alloc, lines, line, join_name(lines, line))?,
+        }),
         "group" => group_of(alloc, lines, line, GroupMethod::Hash),
         "sgroup" => group_of(alloc, lines, line, GroupMethod::Sorted),
         "distinct" => Ok(Operator::DistinctRows {
@@ -201,7 +230,7 @@ fn node_of(alloc: Global, lines: &[Expr], words: Words<'_>) -> Result<Node, Allo
 /// How many plans a node has as inputs.
 fn inputs(words: Words<'_>) -> usize {
     match words.name {
-        "scan" => 0,
+        "scan" | "iscan" => 0,
         "loop" | "left" | "semi" | "anti" | "hash" | "merge" => 2,
         "subqueries" => (words.more as usize).saturating_add(1),
         _ => 1,

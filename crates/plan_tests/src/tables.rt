@@ -2,10 +2,10 @@
 
 use fixtures::Tables;
 
-/// `t` and `u`, which have rows, and `emp` and `dept`, which have none.
+/// `t` and `u`, which have rows and indexes, and `emp` and `dept`, which have none.
 const SCHEMA: &str = r#"{"tables":[
-    {"name":"t","columns":[{"name":"a","kind":"INT","not_null":true},{"name":"b","kind":"INT","not_null":false}],"unique":[],"indexes":[]},
-    {"name":"u","columns":[{"name":"c","kind":"INT","not_null":true},{"name":"d","kind":"TEXT","not_null":false}],"unique":[],"indexes":[]},
+    {"name":"t","columns":[{"name":"a","kind":"INT","not_null":true},{"name":"b","kind":"INT","not_null":false}],"unique":[],"indexes":[["b"],["b","a"]]},
+    {"name":"u","columns":[{"name":"c","kind":"INT","not_null":true},{"name":"d","kind":"TEXT","not_null":false}],"unique":[],"indexes":[["c"],["d"]]},
     {"name":"emp","columns":[{"name":"id","kind":"INT","not_null":true},{"name":"dept","kind":"INT","not_null":false},{"name":"pay","kind":"INT","not_null":false},{"name":"badge","kind":"INT","not_null":false}],"unique":[],"indexes":[]},
     {"name":"dept","columns":[{"name":"id","kind":"INT","not_null":true},{"name":"boss","kind":"INT","not_null":false}],"unique":[],"indexes":[]}]}"#;
 
