@@ -1,17 +1,15 @@
 -- What is true of each line of a log, over classes with their rows, and that it stays true once there is a line more.
-use Rattle.std.proofs.Common.{◌≡◌, refl, ap, sym, ◌∙◌, subst, inl, inr, ◌⊎◌, ℕ, suc, ◌<◌, ◌≤◌, Bool, true, false, ◌==◌, nat_lt, List, [], ◌∷◌, length, Option, Some, None, if◌then◌else◌, arith}
+use Rattle.std.proofs.Common.{◌≡◌, refl, sym, ◌∙◌, subst, inl, inr, ℕ, suc, ◌<◌, Bool, true, false, nat_lt, List, [], ◌∷◌, length, Option, Some, None, if◌then◌else◌, arith}
 use Rattle.std.proofs.lemmas.Bool.{ltb-true, lt-ltb}
 use Rattle.query.specs.declared.query.TableInstance.{TableInstance}
 use Rattle.query.specs.Rows.{Tables}
 use Rattle.algebra.specs.declared.expr.Aggregation.{Aggregation}
-use Rattle.algebra.specs.declared.expr.Expr.{Expr}
 use Rattle.algebra.specs.Bags.{Bag, SameBag}
 use Rattle.algebra.specs.Columns.{is_subset}
 use Rattle.algebra.specs.Expressions.{Classes, means, columns_of, is_formed, classes_pass}
 use Rattle.algebra.proofs.SameBags.{same_bag-trans}
 use Rattle.props.specs.declared.fact.Fact.{Fact}
 use Rattle.props.specs.declared.fact.Fact.TheVariants.{NotNull, WeakKey, StrongKey}
-use Rattle.props.specs.declared.fact.Facts.{Facts}
 use Rattle.props.specs.Facts.{FactHolds, FactsHold, fact_columns, no_facts, with_fact}
 use Rattle.props.proofs.LearntFacts.{learnt-hold}
 use Rattle.props.proofs.SoundFacts.{same-holds}
@@ -22,7 +20,7 @@ use Rattle.lines.specs.Logs.{Log, line_at, as_member, member, facts_among}
 use Rattle.lines.proofs.Agreement.{means-agree, columns-agree, formed-agree}
 use Rattle.lines.proofs.Lookups.{this-or, classes-wider}
 
-same_bag-turned : (a b : Bag) → SameBag a b → SameBag b a
+pub same_bag-turned : (a b : Bag) → SameBag a b → SameBag b a
 same_bag-turned a b h e f = sym (h e f)
 
 -- two classes have the same columns and the same bag

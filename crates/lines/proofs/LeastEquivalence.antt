@@ -1,14 +1,13 @@
 -- The classes that are the same are those of the least equivalence.
-use Rattle.std.proofs.Common.{◌≡◌, ◌↔◌, refl, ap, sym, ◌∙◌, subst, inl, inr, ℕ, ◌<◌, Bool, true, ◌==◌, List, [], ◌∷◌, length, Option, Some, None, Result, Ok, arith}
+use Rattle.std.proofs.Common.{◌≡◌, refl, ap, sym, ◌∙◌, subst, inl, inr, ℕ, ◌<◌, List, [], ◌∷◌, length, Some, Ok, arith}
 use Rattle.std.proofs.lemmas.Bool.{eq-eqb, eqb-true}
 use Rattle.query.specs.declared.query.TableInstance.{TableInstance}
 use Rattle.algebra.specs.declared.expr.Aggregation.{Aggregation}
-use Rattle.rules.specs.Matches as matches
 use Rattle.lines.specs.declared.line.Line.{Line}
 use Rattle.lines.specs.declared.line.Line.TheVariants.{Founds, Adds, Unites, Alike, Gives}
 use Rattle.lines.specs.declared.line.Step.{Step}
 use Rattle.lines.specs.Laws.{SamenessIsLeast}
-use Rattle.lines.specs.Logs.{Log, line_at, as_member, member, or_class, class_at, united, least, are_same, SameBy, itself, turned, along, by_rule, by_alike}
+use Rattle.lines.specs.Logs.{Log, line_at, as_member, or_class, class_at, united, least, SameBy, itself, turned, along, by_rule, by_alike}
 use Rattle.lines.specs.Replay.{Replays, stands}
 use Rattle.lines.proofs.Lookups.{here, earlier, this-or, within, member-within, member-stays}
 use Rattle.lines.proofs.Sameness.{united-first, united-relate}

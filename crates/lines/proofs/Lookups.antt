@@ -1,5 +1,5 @@
 -- Where the lines of a log stand, and what its classes are once there is one line more.
-use Rattle.std.proofs.Common.{◌≡◌, refl, ap, sym, ◌∙◌, subst, inl, inr, ◌⊎◌, ℕ, ◌<◌, ◌≤◌, Bool, true, false, ◌&&◌, ◌==◌, nat_lt, List, [], ◌∷◌, length, map, Option, Some, None, if◌then◌else◌, arith}
+use Rattle.std.proofs.Common.{◌≡◌, refl, ap, sym, ◌∙◌, inl, inr, ◌⊎◌, ℕ, ◌<◌, Bool, true, false, ◌==◌, nat_lt, List, [], ◌∷◌, length, Option, Some, None, if◌then◌else◌, arith}
 use Rattle.std.specs.List.{list_all}
 use Rattle.std.proofs.lemmas.Bool.{and_parts, and_from, eq-eqb, ne_eqb, eqb-true, lt-ltb}
 use Rattle.std.proofs.lemmas.List.{length-map}
@@ -7,8 +7,7 @@ use Rattle.query.specs.declared.query.TableInstance.{TableInstance}
 use Rattle.query.specs.Rows.{Tables}
 use Rattle.algebra.specs.declared.expr.Expr.{Expr}
 use Rattle.algebra.specs.Bags.{Env}
-use Rattle.algebra.specs.Classes.{class_columns, class_free, class_rows}
-use Rattle.algebra.specs.Conditions.{named_classes}
+use Rattle.algebra.specs.Classes.{class_columns, class_rows}
 use Rattle.algebra.specs.Expressions.{children, conditions, classes_pass}
 use Rattle.algebra.proofs.NamedClasses.{all-named}
 use Rattle.rules.specs.Matches as matches

@@ -1,25 +1,24 @@
 -- A shape that lines spell means what they mean.
 use Rattle.std.proofs.Common.{◌≡◌, refl, ap, sym, ◌∙◌, subst, ℕ, Bool, true, false, ◌&&◌, List, [], ◌∷◌, ◌++◌, Option, Some, None, if◌then◌else◌}
 use Rattle.std.specs.Option.{option_and_then}
-use Rattle.std.proofs.lemmas.Bool.{and_parts}
 use Rattle.query.specs.declared.query.TableInstance.{TableInstance}
 use Rattle.query.specs.Rows.{Tables}
-use Rattle.algebra.specs.declared.condition.Condition.{Condition}
 use Rattle.algebra.specs.declared.expr.Aggregation.{Aggregation}
 use Rattle.algebra.specs.declared.expr.Expr.{Expr}
 use Rattle.algebra.specs.declared.expr.Expr.TheVariants as expr
 use Rattle.algebra.specs.Columns.{has, rising}
-use Rattle.algebra.specs.Bags.{Env, Bag, SameBag, select, join, left_join, semi, anti, keep, distinct}
+use Rattle.algebra.specs.Bags.{Env, Bag, SameBag, join, left_join, semi, anti, distinct}
 use Rattle.algebra.specs.Conditions.{holds, allows}
 use Rattle.algebra.specs.Equality.{same_expr}
 use Rattle.algebra.specs.Expressions.{Classes, means, columns_of}
 use Rattle.algebra.proofs.Lists.{two}
 use Rattle.algebra.proofs.Same.{equal_expr}
-use Rattle.algebra.proofs.SameBags.{SameTest, same_bag-trans, same_bag-equal, select-same, join-same, left_join-same, semi-same, anti-same, keep-same, distinct-same}
+use Rattle.algebra.proofs.SameBags.{SameTest, same_bag-trans, select-same, join-same, left_join-same, semi-same, anti-same, keep-same, distinct-same}
 use Rattle.rules.specs.declared.shape.Shape.{Shape, roll-Shape, fold-roll-Shape, map-Shape, ind-Shape}
 use Rattle.rules.specs.declared.shape.Shape.TheOpen.{Shape-F}
 use Rattle.rules.specs.Matches.{Line}
 use Rattle.rules.specs.Shapes.{Meant, shape_layer, meant}
+use Rattle.lines.proofs.Invariants.{same_bag-turned}
 use Rattle.lines.proofs.Pairs.{first-is}
 use Rattle.lines.specs.Spelling.{Spelt, Spelling, class_with, class_by, over_one, over_two, spelling_layer, spelling}
 
@@ -39,9 +38,6 @@ module _ (uses : List TableInstance) (own : List Aggregation) (D : Tables) (V : 
 
   -- ---- steps that find something
 
-  turned : (a b : Bag) → SameBag a b → SameBag b a
-  turned a b h e f = sym (h e f)
-
   found : {X Y P : Type 0} (f : X → Option Y) (o : Option X) (y : Y) → option_and_then f o ≡ Some y → ((x : X) → o ≡ Some x → f x ≡ Some y → P) → P
   found f None y is then_ = cc
   found f (Some x) y is then_ = then_ x refl is
@@ -60,7 +56,7 @@ module _ (uses : List TableInstance) (own : List Aggregation) (D : Tables) (V : 
               let line = is-line i l there in
               subst (IsClass m) here (
                 is.0 ∙ ap (columns_of uses V.columns) it ∙ line.0,
-                same_bag-trans m.rows (means uses D V x) (V.rows l.class) is.1 (subst (λ y. SameBag (means uses D V y) (V.rows l.class)) (sym it) (turned (V.rows l.class) (means uses D V l.expr) line.1)),
+                same_bag-trans m.rows (means uses D V x) (V.rows l.class) is.1 (subst (λ y. SameBag (means uses D V y) (V.rows l.class)) (sym it) (same_bag-turned (V.rows l.class) (means uses D V l.expr) line.1)),
               )
           same false equal at = cc
 

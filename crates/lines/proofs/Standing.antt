@@ -1,58 +1,33 @@
 -- What it says of a line that it may stand behind a log.
-use Rattle.std.proofs.Common.{◌≡◌, refl, ap, sym, ◌∙◌, subst, inl, inr, ◌⊎◌, ℕ, suc, ◌<◌, ◌≤◌, Bool, true, false, ◌&&◌, ◌==◌, nat_lt, List, [], ◌∷◌, length, Option, Some, None, Result, Ok, Err, if◌then◌else◌, arith}
-use Rattle.std.specs.List.{list_all, AllByRecursion}
-use Rattle.std.proofs.lemmas.Bool.{and_parts, eq-eqb, eqb-true, ltb-true, lt-ltb}
-use Rattle.std.proofs.lemmas.List.{length-map}
+use Rattle.std.proofs.Common.{◌≡◌, refl, ap, ◌∙◌, ℕ, Bool, true, ◌&&◌, List, Option, Some, None, Result, Ok, Err}
+use Rattle.std.proofs.lemmas.Bool.{and_parts}
 use Rattle.values.specs.Faults.{◌>>=◌, wanted, wanted_if}
 use Rattle.values.proofs.Results.{both_ok, wanted_ok, wanted_if_ok}
-use Rattle.schema.specs.declared.schema.Schema.{Schema}
-use Rattle.schema.specs.Databases.{Database, Satisfies}
 use Rattle.query.specs.declared.query.TableInstance.{TableInstance}
-use Rattle.query.specs.Bound.{IsOver}
-use Rattle.query.specs.Rows.{Tables, tables_of}
 use Rattle.algebra.specs.declared.expr.Aggregation.{Aggregation}
 use Rattle.algebra.specs.declared.expr.Expr.{Expr}
-use Rattle.algebra.specs.declared.expr.Expr.TheVariants.{Distinct}
 use Rattle.algebra.specs.Alike.{rooted}
-use Rattle.algebra.specs.Bags.{Env, Bag, SameBag}
 use Rattle.algebra.specs.Columns.{is_subset}
-use Rattle.algebra.specs.Equality.{same_columns, same_expr}
-use Rattle.algebra.specs.Expressions.{Classes, means, columns_of, is_formed, classes_pass}
-use Rattle.algebra.specs.Classes.{class_columns, class_rows, classes, AreFormed}
-use Rattle.algebra.proofs.Alike.{alike_is_same}
+use Rattle.algebra.specs.Equality.{same_columns}
+use Rattle.algebra.specs.Expressions.{columns_of, is_formed, classes_pass}
+use Rattle.algebra.specs.Classes.{class_columns}
 use Rattle.algebra.proofs.Same.{equal_columns, equal_expr}
-use Rattle.algebra.proofs.SameBags.{same_bag-trans, same_bag-equal}
-use Rattle.laws.proofs.Expressions.{classes_are_fitting}
 use Rattle.props.specs.declared.fact.Fact.{Fact}
-use Rattle.props.specs.Facts.{fact_columns, FactsHold}
+use Rattle.props.specs.Facts.{fact_columns}
 use Rattle.props.specs.Given.{gives}
-use Rattle.props.specs.Knowledge.{Knowledge, IsTrueOf, with_rows}
-use Rattle.props.proofs.GivenFacts.{given_facts_hold}
 use Rattle.rules.specs.declared.shape.Shape.{Shape}
 use Rattle.rules.specs.declared.unfit.Unfit.{Unfit}
-use Rattle.rules.specs.declared.unfit.Unfit.TheVariants.{Pattern, Condition}
 use Rattle.rules.specs.Matches as matches
 use Rattle.rules.specs.Matches.{Matched}
-use Rattle.rules.specs.Shapes.{meant}
-use Rattle.rules.specs.Soundness.{World, IsLine, IsMatched}
-use Rattle.lines.specs.declared.book.RuleName.{RuleName}
 use Rattle.lines.specs.declared.line.Line.{Line}
 use Rattle.lines.specs.declared.line.Line.TheVariants.{Founds, Adds, Unites, Alike, Gives}
 use Rattle.lines.specs.declared.line.LineReason.{LineReason}
 use Rattle.lines.specs.declared.line.LineReason.TheVariants.{UnknownLine, IllFormed, OtherForm, FailedFact, OtherLine}
 use Rattle.lines.specs.declared.line.Step.{Step}
 use Rattle.lines.specs.Book.{given_by}
-use Rattle.lines.specs.Laws.{world, IsTrue, LogsAreTrue}
-use Rattle.lines.specs.Logs.{Log, line_at, entry, entries, member, or_class, class_at, founds, united, least, are_same, facts, knowledge}
-use Rattle.lines.specs.Replay as spec
-use Rattle.lines.specs.Replay.{Replays, stands, is_known, is_earlier, cites, is_of, members, begins_at, applied_to, or_unfit, given, gives_fact, are_alike}
-use Rattle.lines.specs.Spelling.{spelling, is_whole, is_expr, is_class}
-use Rattle.lines.proofs.RuleLaws.{book_sound}
-use Rattle.lines.proofs.Invariants.{AreAlike, alike-turned, alike-along, AgreeBelow, IsMember, IsFact, IsTrueLine, AreTrue, member-true, facts-true, member-stays, fact-stays, all-stay}
-use Rattle.lines.proofs.Agreement.{means-agree, columns-agree, formed-agree}
-use Rattle.lines.proofs.Lookups.{columns-stay, rows-stay, founded, below, classes-wider, member-within}
-use Rattle.lines.proofs.Sameness.{AreBelow, same-below, united-relate}
-use Rattle.lines.proofs.Spellings.{shape-spells}
+use Rattle.lines.specs.Logs.{Log, entries, member, founds, least, are_same, knowledge}
+use Rattle.lines.specs.Replay.{stands, is_known, is_earlier, cites, is_of, applied_to, or_unfit, given, gives_fact, are_alike}
+use Rattle.lines.specs.Spelling.{is_expr, is_class}
 
 -- ---- verdicts
 

@@ -1,10 +1,8 @@
 -- What the lines of a log say is true.
-use Rattle.std.proofs.Common.{◌≡◌, refl, ap, sym, ◌∙◌, subst, inl, inr, ◌⊎◌, ℕ, suc, ◌<◌, ◌≤◌, Bool, true, false, ◌&&◌, ◌==◌, nat_lt, List, [], ◌∷◌, length, Option, Some, None, Result, Ok, Err, if◌then◌else◌, arith}
-use Rattle.std.specs.List.{list_all, AllByRecursion}
+use Rattle.std.proofs.Common.{◌≡◌, refl, ap, sym, ◌∙◌, subst, inl, inr, ℕ, suc, ◌<◌, Bool, true, false, ◌==◌, nat_lt, List, [], ◌∷◌, length, Option, Some, None, Ok, if◌then◌else◌, arith}
+use Rattle.std.specs.List.{AllByRecursion}
 use Rattle.std.proofs.lemmas.Bool.{and_parts, eq-eqb, eqb-true, ltb-true, lt-ltb}
 use Rattle.std.proofs.lemmas.List.{length-map}
-use Rattle.values.specs.Faults.{◌>>=◌, wanted, wanted_if}
-use Rattle.values.proofs.Results.{both_ok, wanted_ok, wanted_if_ok}
 use Rattle.schema.specs.declared.schema.Schema.{Schema}
 use Rattle.schema.specs.Databases.{Database, Satisfies}
 use Rattle.query.specs.declared.query.TableInstance.{TableInstance}
@@ -13,50 +11,38 @@ use Rattle.query.specs.Rows.{Tables, tables_of}
 use Rattle.algebra.specs.declared.expr.Aggregation.{Aggregation}
 use Rattle.algebra.specs.declared.expr.Expr.{Expr}
 use Rattle.algebra.specs.declared.expr.Expr.TheVariants.{Distinct}
-use Rattle.algebra.specs.Alike.{rooted}
-use Rattle.algebra.specs.Bags.{Env, Bag, SameBag}
-use Rattle.algebra.specs.Columns.{is_subset}
-use Rattle.algebra.specs.Equality.{same_columns, same_expr}
-use Rattle.algebra.specs.Expressions.{Classes, means, columns_of, is_formed, classes_pass}
-use Rattle.algebra.specs.Classes.{class_columns, class_rows, classes, AreFormed}
+use Rattle.algebra.specs.Bags.{SameBag}
+use Rattle.algebra.specs.Expressions.{Classes, means, columns_of, classes_pass}
+use Rattle.algebra.specs.Classes.{class_rows, classes, AreFormed}
 use Rattle.algebra.proofs.Alike.{alike_is_same}
-use Rattle.algebra.proofs.Same.{equal_columns, equal_expr}
+use Rattle.algebra.proofs.Same.{equal_expr}
 use Rattle.algebra.proofs.SameBags.{same_bag-trans, same_bag-equal}
 use Rattle.laws.proofs.Expressions.{classes_are_fitting}
 use Rattle.props.specs.declared.fact.Fact.{Fact}
-use Rattle.props.specs.Facts.{fact_columns, FactsHold}
 use Rattle.props.specs.Given.{gives}
-use Rattle.props.specs.Knowledge.{Knowledge, IsTrueOf, with_rows}
+use Rattle.props.specs.Knowledge.{Knowledge, IsTrueOf}
 use Rattle.props.proofs.GivenFacts.{given_facts_hold}
 use Rattle.rules.specs.declared.shape.Shape.{Shape}
-use Rattle.rules.specs.declared.unfit.Unfit.{Unfit}
-use Rattle.rules.specs.declared.unfit.Unfit.TheVariants.{Pattern, Condition}
 use Rattle.rules.specs.Matches as matches
 use Rattle.rules.specs.Matches.{Matched}
 use Rattle.rules.specs.Shapes.{meant}
-use Rattle.rules.specs.Soundness.{World, IsLine, IsMatched}
-use Rattle.lines.specs.declared.book.RuleName.{RuleName}
+use Rattle.rules.specs.Soundness.{World, IsLine}
 use Rattle.lines.specs.declared.line.Line.{Line}
 use Rattle.lines.specs.declared.line.Line.TheVariants.{Founds, Adds, Unites, Alike, Gives}
-use Rattle.lines.specs.declared.line.LineReason.{LineReason}
-use Rattle.lines.specs.declared.line.LineReason.TheVariants.{UnknownLine, IllFormed, OtherForm, FailedFact, OtherLine}
 use Rattle.lines.specs.declared.line.Step.{Step}
 use Rattle.lines.specs.Book.{given_by}
-use Rattle.lines.specs.Laws.{world, IsTrue, LogsAreTrue}
-use Rattle.lines.specs.Logs.{Log, line_at, entry, entries, member, or_class, class_at, founds, united, least, are_same, facts, knowledge}
+use Rattle.lines.specs.Laws.{world, LogsAreTrue}
+use Rattle.lines.specs.Logs.{Log, entry, entries, member, or_class, class_at, founds, least, are_same, facts, knowledge}
 use Rattle.lines.specs.Replay as spec
-use Rattle.lines.specs.Replay.{Replays, stands, is_known, is_earlier, cites, is_of, members, begins_at, applied_to, or_unfit, given, gives_fact, are_alike}
-use Rattle.lines.specs.Spelling.{spelling, is_whole, is_expr, is_class}
+use Rattle.lines.specs.Replay.{Replays, members}
+use Rattle.lines.specs.Spelling.{is_whole}
 use Rattle.lines.proofs.RuleLaws.{book_sound}
-use Rattle.lines.proofs.Invariants.{AreAlike, alike-turned, alike-along, AgreeBelow, IsMember, IsFact, IsTrueLine, AreTrue, member-true, facts-true, member-stays, fact-stays, all-stay}
+use Rattle.lines.proofs.Invariants.{same_bag-turned, AreAlike, alike-turned, alike-along, AgreeBelow, IsMember, IsFact, AreTrue, member-true, facts-true, member-stays, fact-stays, all-stay}
 use Rattle.lines.proofs.Agreement.{means-agree, columns-agree, formed-agree}
 use Rattle.lines.proofs.Lookups.{columns-stay, rows-stay, founded, below, classes-wider, member-within}
 use Rattle.lines.proofs.Sameness.{AreBelow, same-below, united-relate}
 use Rattle.lines.proofs.Standing.{IsGiven, StandsFounds, StandsAdds, StandsUnites, StandsGives, StandsAlike, founds-stands, adds-stands, unites-stands, gives-stands, alike-stands}
 use Rattle.lines.proofs.Spellings.{shape-spells}
-
-bag-turned : (a b : Bag) → SameBag a b → SameBag b a
-bag-turned a b h e f = sym (h e f)
 
 -- ---- what is true of a log
 
@@ -98,7 +84,7 @@ module _ (S : Schema) (B : Database) (satisfies : Satisfies S B) (uses : List Ta
           let first = agree l E x lt in
           let second = agree l E y other in (
             sym first.0 ∙ alike.0 ∙ second.0,
-            same_bag-trans _ _ _ (bag-turned _ _ first.1) (same_bag-trans _ _ _ alike.1 second.1),
+            same_bag-trans _ _ _ (same_bag-turned _ _ first.1) (same_bag-trans _ _ _ alike.1 second.1),
           )
 
   -- ---- steps
@@ -141,7 +127,7 @@ module _ (S : Schema) (B : Database) (satisfies : Satisfies S B) (uses : List Ta
                 let gives_ : given_by s.rule m ≡ Ok shape = ap (given_by s.rule) e ∙ is.gives in
                 let sound = book_sound s.rule m shape gives_ W (record { classes = known-true E holds; lines = lines }) top others refl in
                 let alike = holds.same top.class g (eqb-true (least E top.class) (least E g) same) in
-                same_bag-trans _ _ _ (bag-turned _ _ alike.1) (same_bag-trans _ _ _ lines.0.rows sound)
+                same_bag-trans _ _ _ (same_bag-turned _ _ alike.1) (same_bag-trans _ _ _ lines.0.rows sound)
 
     lines-mean : (i : ℕ) (l : matches.Line) → member E i ≡ Some l → (columns_of uses (V E).columns l.expr ≡ (V E).columns l.class) × SameBag ((V E).rows l.class) (means uses D (V E) l.expr)
     lines-mean i l at = let is = is-line i l at in (is.columns, is.rows)
@@ -165,7 +151,7 @@ module _ (S : Schema) (B : Database) (satisfies : Satisfies S B) (uses : List Ta
         let k : ℕ = spelt.0.0 in
         let says = (shape-spells uses own D (V E) (member E) lines-mean is.shape).class s.makes spelt.0.1 k spelt.1 in
         let alike = holds.same h k (eqb-true (least E h) (least E k) spelt.2) in
-        (is.columns, same_bag-trans _ _ _ (step-true g s is.shape is.given_) (same_bag-trans _ _ _ says.1 (bag-turned _ _ alike.1)))
+        (is.columns, same_bag-trans _ _ _ (step-true g s is.shape is.given_) (same_bag-trans _ _ _ says.1 (same_bag-turned _ _ alike.1)))
 
     gives-true : (g m : ℕ) (f : Fact) → StandsGives uses own E g m f → IsFact uses own D (length E) (V E) g f
     gives-true g m f is =
@@ -175,7 +161,7 @@ module _ (S : Schema) (B : Database) (satisfies : Satisfies S B) (uses : List Ta
           below = founded E g is.class;
           within = is.within_;
           holds = given_facts_hold S B satisfies uses over own K (class_rows uses D (entries E)) (known-true E holds) g is.line.expr line.formed (line.columns ∙ alike.0)
-              (same_bag-trans _ _ _ (bag-turned _ _ alike.1) line.rows) f is.within_ is.gives_;
+              (same_bag-trans _ _ _ (same_bag-turned _ _ alike.1) line.rows) f is.within_ is.gives_;
         }
 
   -- ---- one line more
@@ -256,7 +242,7 @@ module _ (S : Schema) (B : Database) (satisfies : Satisfies S B) (uses : List Ta
         lines = (tt, stay l E holds);
         same = united-relate (AreAlike (V (l ∷ E))) (alike-turned (V (l ∷ E))) (alike-along (V (l ∷ E))) E (same-stay l E holds) g h (
           sym one.0 ∙ alike.0 ∙ two.0,
-          same_bag-trans _ _ _ (bag-turned _ _ one.1) (same_bag-trans _ _ _ alike.1 two.1),
+          same_bag-trans _ _ _ (same_bag-turned _ _ one.1) (same_bag-trans _ _ _ alike.1 two.1),
         );
       }
 
@@ -278,7 +264,7 @@ module _ (S : Schema) (B : Database) (satisfies : Satisfies S B) (uses : List Ta
       let same = alike_is_same uses D (V E) (least E) holds.same is.first.expr is.second.expr is.alike in
       let alike : AreAlike (V E) is.first.class is.second.class = (
         sym first.columns ∙ same.0 ∙ second.columns,
-        same_bag-trans _ _ _ first.rows (same_bag-trans _ _ _ same.1 (bag-turned _ _ second.rows)),
+        same_bag-trans _ _ _ first.rows (same_bag-trans _ _ _ same.1 (same_bag-turned _ _ second.rows)),
       ) in
       let one = agree l E is.first.class first.below in
       let two = agree l E is.second.class second.below in
@@ -291,7 +277,7 @@ module _ (S : Schema) (B : Database) (satisfies : Satisfies S B) (uses : List Ta
         same = united-relate (AreAlike (V (l ∷ E))) (alike-turned (V (l ∷ E))) (alike-along (V (l ∷ E))) E (same-stay l E holds) (class_at E i) (class_at E j)
             (subst (λ g. AreAlike (V (l ∷ E)) g (class_at E j)) (sym here) (subst (AreAlike (V (l ∷ E)) is.first.class) (sym there) (
               sym one.0 ∙ alike.0 ∙ two.0,
-              same_bag-trans _ _ _ (bag-turned _ _ one.1) (same_bag-trans _ _ _ alike.1 two.1),
+              same_bag-trans _ _ _ (same_bag-turned _ _ one.1) (same_bag-trans _ _ _ alike.1 two.1),
             )));
       }
 
