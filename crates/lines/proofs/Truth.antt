@@ -10,7 +10,7 @@ use Rattle.query.specs.Bound.{IsOver}
 use Rattle.query.specs.Rows.{Tables, tables_of}
 use Rattle.algebra.specs.declared.expr.Aggregation.{Aggregation}
 use Rattle.algebra.specs.declared.expr.Expr.{Expr}
-use Rattle.algebra.specs.declared.expr.Expr.TheVariants.{Distinct}
+use Rattle.algebra.specs.declared.expr.Expr.TheVariants.{Keep}
 use Rattle.algebra.specs.Bags.{SameBag}
 use Rattle.algebra.specs.Expressions.{Classes, means, columns_of, classes_pass}
 use Rattle.algebra.specs.Classes.{class_rows, classes, AreFormed}
@@ -113,7 +113,7 @@ module _ (S : Schema) (B : Database) (satisfies : Satisfies S B) (uses : List Ta
     step-true : (g : ℕ) (s : Step) (shape : Shape) → IsGiven uses own E g s shape → SameBag ((V E).rows g) (meant (V E) shape).rows
     step-true g s shape is = by (members E s.uses) refl is.applied
       where
-        by : (o : Option (List matches.Line)) → members E s.uses ≡ o → spec.matched_at uses own E g s o ≡ Some is.matched → SameBag ((V E).rows g) (meant (V E) shape).rows
+        by : (o : Option (List matches.Line)) → members E s.uses ≡ o → spec.matched_at (knowledge uses E) E g s o ≡ Some is.matched → SameBag ((V E).rows g) (meant (V E) shape).rows
         by None there at = cc
         by (Some []) there at = cc
         by (Some (top ∷ others)) there at = begins (are_same E top.class g) refl at
@@ -170,12 +170,12 @@ module _ (S : Schema) (B : Database) (satisfies : Satisfies S B) (uses : List Ta
   count E = length-map E entry
 
   -- a line that founds no class has an entry that is well formed
-  idle-line : (E : Log) (g : ℕ) → g < length E → AreFormed uses own (entries E) → AreFormed uses own (Distinct g ∷ entries E)
+  idle-line : (E : Log) (g : ℕ) → g < length E → AreFormed uses own (entries E) → AreFormed uses own (Keep [] 0 ∷ entries E)
   idle-line E g lt formed =
-      let pass : nat_lt g (length (entries E)) ≡ true = lt-ltb g (length (entries E)) (omega (arith, lt, count E)) in
+      let pass : nat_lt 0 (length (entries E)) ≡ true = lt-ltb 0 (length (entries E)) (omega (arith, lt, count E)) in
       (rw pass refl, refl, formed)
 
-  idle : (E : Log) (g : ℕ) → founds E g ≡ true → AreFormed uses own (entries E) → AreFormed uses own (Distinct g ∷ entries E)
+  idle : (E : Log) (g : ℕ) → founds E g ≡ true → AreFormed uses own (entries E) → AreFormed uses own (Keep [] 0 ∷ entries E)
   idle E g is = idle-line E g (founded E g is)
 
   low-names : (E : Log) (x : Expr) → classes_pass (founds E) x ≡ true → classes_pass (λ g. nat_lt g (length E)) x ≡ true

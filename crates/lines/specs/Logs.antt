@@ -4,7 +4,7 @@
 use Rattle.std.specs.Prelude.{◌≡◌, ℕ, Bool, true, false, ◌&&◌, ◌||◌, ◌==◌, nat_lt, if◌then◌else◌, List, [], ◌∷◌, length, map, Option, Some, None}
 use Rattle.query.specs.declared.query.TableInstance.{TableInstance}
 use Rattle.algebra.specs.declared.expr.Expr.{Expr}
-use Rattle.algebra.specs.declared.expr.Expr.TheVariants.{Distinct}
+use Rattle.algebra.specs.declared.expr.Expr.TheVariants.{Keep}
 use Rattle.algebra.specs.Classes.{class_columns, class_free}
 use Rattle.props.specs.declared.fact.Fact.{Fact}
 use Rattle.props.specs.declared.fact.Facts.{Facts}
@@ -36,14 +36,14 @@ is_founding (Some (Gives g m f)) = false
 abbrev pub founds : Log → ℕ → Bool
 founds E g = is_founding (line_at E g)
 
--- Classes have the numbers of lines. A line that founds none stands for the distinct rows of a class, under a number that no line
--- may name.
+-- Classes have the numbers of lines. A line that founds none stands for the rows of the first class with no column of it, under a number
+-- that no line may name: it has neither columns nor free columns.
 abbrev pub entry : Line → Expr
 entry (Founds x) = x
-entry (Adds g s x) = Distinct g
-entry (Unites g h s) = Distinct g
-entry (Alike i j) = Distinct i
-entry (Gives g m f) = Distinct g
+entry (Adds g s x) = Keep [] 0
+entry (Unites g h s) = Keep [] 0
+entry (Alike i j) = Keep [] 0
+entry (Gives g m f) = Keep [] 0
 
 abbrev pub entries : Log → List Expr
 entries E = map entry E

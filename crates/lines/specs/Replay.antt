@@ -9,10 +9,10 @@ use Rattle.algebra.specs.Alike.{rooted}
 use Rattle.algebra.specs.Columns.{is_subset}
 use Rattle.algebra.specs.Equality.{same_columns, same_expr}
 use Rattle.algebra.specs.Expressions.{columns_of, classes_pass, is_formed}
-use Rattle.algebra.specs.Classes.{class_columns}
 use Rattle.props.specs.declared.fact.Fact.{Fact}
 use Rattle.props.specs.Facts.{fact_columns}
 use Rattle.props.specs.Given.{gives}
+use Rattle.props.specs.Knowledge.{Knowledge, are_same}
 use Rattle.rules.specs.declared.shape.Shape.{Shape}
 use Rattle.rules.specs.declared.unfit.Unfit.{Unfit}
 use Rattle.rules.specs.declared.unfit.Unfit.TheVariants.{Pattern, Condition}
@@ -25,7 +25,7 @@ use Rattle.lines.specs.declared.line.LineReason.{LineReason}
 use Rattle.lines.specs.declared.line.LineReason.TheVariants.{UnknownLine, IllFormed, OtherForm, FailedCondition, FailedFact, OtherLine}
 use Rattle.lines.specs.declared.line.Step.{Step}
 use Rattle.lines.specs.Book.{given_by}
-use Rattle.lines.specs.Logs.{Log, founds, entries, member, least, are_same, knowledge}
+use Rattle.lines.specs.Logs.{Log, founds, member, knowledge}
 use Rattle.lines.specs.Spelling.{is_expr, is_class}
 
 -- ---- what lines cite
@@ -37,93 +37,93 @@ is_earlier E i = nat_lt i (length E)
 abbrev pub cites : Log → Step → Bool
 cites E s = list_all (is_earlier E) s.uses && list_all (is_earlier E) s.makes
 
--- whether a line is of a class that is the same as this one
-abbrev pub is_of : Log → ℕ → Option matches.Line → Bool
-is_of E g None = false
-is_of E g (Some l) = are_same E l.class g
-
--- whether lines have expressions that are alike: equal with the least same class for each, conjuncts in order again, each once
-abbrev pub are_alike : Log → Option matches.Line → Option matches.Line → Bool
-are_alike E None l = false
-are_alike E (Some k) None = false
-are_alike E (Some k) (Some l) = same_expr (rooted (least E) k.expr) (rooted (least E) l.expr)
-
--- ---- steps
-
+-- the lines with these numbers, if each has an expression
 abbrev pub both_lines : Option matches.Line → Option (List matches.Line) → Option (List matches.Line)
 both_lines None rest = None
 both_lines (Some l) None = None
 both_lines (Some l) (Some lines) = Some (l ∷ lines)
 
--- the lines with these numbers, if each has an expression
 abbrev pub members : Log → List ℕ → Option (List matches.Line)
 members E [] = Some []
 members E (i ∷ uses) = both_lines (member E i) (members E uses)
 
--- whether the first of the lines is of the class
-abbrev pub begins_at : Log → ℕ → List matches.Line → Bool
-begins_at E g [] = false
-begins_at E g (l ∷ lines) = are_same E l.class g
+-- whether an expression names classes that are founded
+abbrev pub is_known : Log → Expr → Bool
+is_known E = classes_pass (founds E)
 
-module _ (uses : List TableInstance) (own : List Aggregation) (E : Log) where
-  abbrev pub columns : ℕ → List ℕ
-  columns = class_columns uses (entries E)
+-- ---- by what is known
 
+-- whether a line is of a class that is the same as this one
+abbrev pub is_of : Knowledge → ℕ → Option matches.Line → Bool
+is_of K g None = false
+is_of K g (Some l) = are_same K l.class g
+
+-- whether the first of the lines is
+abbrev pub begins_at : Knowledge → ℕ → List matches.Line → Bool
+begins_at K g [] = false
+begins_at K g (l ∷ lines) = are_same K l.class g
+
+-- whether lines have expressions that are alike: equal with the least same class for each, conjuncts in order again, each once
+abbrev pub are_alike : Knowledge → Option matches.Line → Option matches.Line → Bool
+are_alike K None l = false
+are_alike K (Some k) None = false
+are_alike K (Some k) (Some l) = same_expr (rooted K.root k.expr) (rooted K.root l.expr)
+
+-- whether a line gives a fact of the class
+abbrev pub gives_fact : List TableInstance → Knowledge → ℕ → Fact → Option matches.Line → Bool
+gives_fact uses K g f None = false
+gives_fact uses K g f (Some l) = gives uses K g l.expr f
+
+abbrev pub unfit : RuleName → Unfit → LineReason
+unfit rule Pattern = OtherForm
+unfit rule Condition = FailedCondition rule
+
+abbrev pub or_unfit : RuleName → Result Shape Unfit → Result Shape LineReason
+or_unfit rule (Ok s) = Ok s
+or_unfit rule (Err u) = Err (unfit rule u)
+
+module _ (K : Knowledge) (E : Log) where
   -- lines of which the first is of the class, with what is known
   abbrev pub matched_at : ℕ → Step → Option (List matches.Line) → Option Matched
   matched_at g s None = None
-  matched_at g s (Some lines) = if begins_at E g lines then Some (record { lines = lines; pick = s.pick; classes = knowledge uses E }) else None
+  matched_at g s (Some lines) = if begins_at K g lines then Some (record { lines = lines; pick = s.pick; classes = K }) else None
 
   -- what a step from the class is applied to
   abbrev pub applied_to : ℕ → Step → Option Matched
   applied_to g s = matched_at g s (members E s.uses)
 
-  abbrev pub unfit : RuleName → Unfit → LineReason
-  unfit rule Pattern = OtherForm
-  unfit rule Condition = FailedCondition rule
-
-  abbrev pub or_unfit : RuleName → Result Shape Unfit → Result Shape LineReason
-  or_unfit rule (Ok s) = Ok s
-  or_unfit rule (Err u) = Err (unfit rule u)
-
-  -- what a step from the class gives
+  -- what it gives
   abbrev pub given : ℕ → Step → Result Shape LineReason
   given g s = wanted OtherForm (applied_to g s) >>= λ m. or_unfit s.rule (given_by s.rule m)
 
-  -- ---- lines
-
-  -- whether an expression names classes that are founded
-  abbrev pub is_known : Expr → Bool
-  is_known = classes_pass (founds E)
-
-  -- whether a line gives a fact of the class
-  abbrev pub gives_fact : ℕ → Fact → Option matches.Line → Bool
-  gives_fact g f None = false
-  gives_fact g f (Some l) = gives uses (knowledge uses E) g l.expr f
-
-  -- a line that may stand behind the log
-  abbrev pub stands : Line → Result Line LineReason
-  stands (Founds x) =
-      wanted_if UnknownLine (is_known x) (Founds x)
-      >>= λ l. wanted_if IllFormed (is_formed uses own columns x) l
-  stands (Adds g s x) =
-      wanted_if UnknownLine (founds E g && cites E s && is_known x) (Adds g s x)
-      >>= λ l. wanted_if IllFormed (is_formed uses own columns x && same_columns (columns_of uses columns x) (columns g)) l
-      >>= λ l. given g s
+-- a line that may stand behind a log of which this is known
+module _ (uses : List TableInstance) (own : List Aggregation) (K : Knowledge) (E : Log) where
+  abbrev pub judged : Line → Result Line LineReason
+  judged (Founds x) =
+      wanted_if UnknownLine (is_known E x) (Founds x)
+      >>= λ l. wanted_if IllFormed (is_formed uses own K.columns x) l
+  judged (Adds g s x) =
+      wanted_if UnknownLine (founds E g && cites E s && is_known E x) (Adds g s x)
+      >>= λ l. wanted_if IllFormed (is_formed uses own K.columns x && same_columns (columns_of uses K.columns x) (K.columns g)) l
+      >>= λ l. given K E g s
       >>= λ shape. wanted_if OtherLine (is_expr (member E) shape s.makes x) l
-  stands (Unites g h s) =
+  judged (Unites g h s) =
       wanted_if UnknownLine (founds E g && founds E h && cites E s) (Unites g h s)
-      >>= λ l. wanted_if IllFormed (same_columns (columns g) (columns h)) l
-      >>= λ l. given g s
-      >>= λ shape. wanted_if OtherLine (is_class (member E) shape s.makes (are_same E h)) l
-  stands (Alike i j) =
+      >>= λ l. wanted_if IllFormed (same_columns (K.columns g) (K.columns h)) l
+      >>= λ l. given K E g s
+      >>= λ shape. wanted_if OtherLine (is_class (member E) shape s.makes (are_same K h)) l
+  judged (Alike i j) =
       wanted_if UnknownLine (is_earlier E i && is_earlier E j) (Alike i j)
-      >>= λ l. wanted_if OtherForm (are_alike E (member E i) (member E j)) l
-  stands (Gives g m f) =
+      >>= λ l. wanted_if OtherForm (are_alike K (member E i) (member E j)) l
+  judged (Gives g m f) =
       wanted_if UnknownLine (founds E g && is_earlier E m) (Gives g m f)
-      >>= λ l. wanted_if IllFormed (is_subset (fact_columns f) (columns g)) l
-      >>= λ l. wanted_if OtherForm (is_of E g (member E m)) l
-      >>= λ l. wanted_if FailedFact (gives_fact g f (member E m)) l
+      >>= λ l. wanted_if IllFormed (is_subset (fact_columns f) (K.columns g)) l
+      >>= λ l. wanted_if OtherForm (is_of K g (member E m)) l
+      >>= λ l. wanted_if FailedFact (gives_fact uses K g f (member E m)) l
+
+-- a line that may stand behind a log
+abbrev pub stands : List TableInstance → List Aggregation → Log → Line → Result Line LineReason
+stands uses own E = judged uses own (knowledge uses E) E
 
 -- each line of the log may stand where it does
 abbrev pub Replays : List TableInstance → List Aggregation → Log → Type 0

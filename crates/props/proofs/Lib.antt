@@ -1,5 +1,7 @@
+pub mod FactUnions
 pub mod GivenFacts
 pub mod GroupFacts
+pub mod KeySets
 pub mod LearntFacts
 pub mod OutcomeForms
 pub mod Places

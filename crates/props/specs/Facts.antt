@@ -1,13 +1,12 @@
 -- Facts of the rows of a class, and sets of them.
 use Rattle.std.specs.Prelude.{◌≡◌, ℕ, true, Bool, not, ◌==◌, List, [], ◌∷◌, ◌++◌, length}
-use Rattle.std.specs.List.{list_any}
 use Rattle.algebra.specs.Columns.{has, is_subset, rising}
 use Rattle.algebra.specs.Bags.{Bag}
-use Rattle.algebra.specs.Equality.{same_columns}
 use Rattle.laws.specs.Keys.{HasNoNull, IsWeakKey, IsStrongKey}
 use Rattle.props.specs.declared.fact.Fact.{Fact}
 use Rattle.props.specs.declared.fact.Fact.TheVariants.{NotNull, WeakKey, StrongKey}
 use Rattle.props.specs.declared.fact.Facts.{Facts}
+use Rattle.props.specs.Keys.{has_key, with_key, with_keys}
 
 -- what a fact says of rows
 abbrev pub FactHolds : Bag → Fact → Type 0
@@ -24,8 +23,8 @@ fact_columns (StrongKey K) = K
 -- whether a fact is among those that are known
 abbrev pub knows : Facts → Fact → Bool
 knows F (NotNull c) = has F.not_null c
-knows F (WeakKey K) = list_any (λ L. same_columns L K) F.weak_keys
-knows F (StrongKey K) = list_any (λ L. same_columns L K) F.strong_keys
+knows F (WeakKey K) = has_key F.weak_keys K
+knows F (StrongKey K) = has_key F.strong_keys K
 
 abbrev pub no_facts : Facts
 no_facts = record { not_null = []; weak_keys = []; strong_keys = [] }
@@ -33,8 +32,16 @@ no_facts = record { not_null = []; weak_keys = []; strong_keys = [] }
 -- the facts with one more
 abbrev pub with_fact : Facts → Fact → Facts
 with_fact F (NotNull c) = record { not_null = rising (F.not_null ++ c ∷ []); weak_keys = F.weak_keys; strong_keys = F.strong_keys }
-with_fact F (WeakKey L) = record { not_null = F.not_null; weak_keys = F.weak_keys ++ L ∷ []; strong_keys = F.strong_keys }
-with_fact F (StrongKey L) = record { not_null = F.not_null; weak_keys = F.weak_keys; strong_keys = F.strong_keys ++ L ∷ [] }
+with_fact F (WeakKey L) = record { not_null = F.not_null; weak_keys = with_key F.weak_keys L; strong_keys = F.strong_keys }
+with_fact F (StrongKey L) = record { not_null = F.not_null; weak_keys = F.weak_keys; strong_keys = with_key F.strong_keys L }
+
+-- the facts of both
+abbrev pub with_facts : Facts → Facts → Facts
+with_facts F G = record {
+  not_null = rising (F.not_null ++ G.not_null);
+  weak_keys = with_keys F.weak_keys G.weak_keys;
+  strong_keys = with_keys F.strong_keys G.strong_keys;
+}
 
 abbrev pub any_key : List (List ℕ) → Bool
 any_key keys = not (length keys == 0)

@@ -1,4 +1,5 @@
 pub mod Facts
 pub mod Given
+pub mod Keys
 pub mod Knowledge
 pub mod Outcomes

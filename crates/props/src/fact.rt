@@ -1,14 +1,12 @@
 //! What is known of the rows of a class.
 
-ghost use Rattle.std.specs.Prelude.{◌≡◌, [], ◌∷◌, ◌++◌, nat_le, length, OnErr, OnOk};
-ghost use Rattle.std.specs.List.{list_any};
-ghost use Rattle.algebra.specs.Equality.{same_columns};
+ghost use Rattle.std.specs.Prelude.{◌≡◌, nat_le, length, OnErr, OnOk};
 ghost use Rattle.props.specs.Facts as spec;
 
+use crate::keys::{Keys, append_both};
 use algebra::Columns;
 use query::ColumnId;
 use std::alloc::{AllocError, Global};
-use values::Items;
 
 /// A fact of a class's rows, in every database that satisfies the schema and in every environment.
 #[derive(Drop)]
@@ -26,8 +24,8 @@ pub enum Fact {
 pub struct Facts {
     /// The columns that are nowhere Null.
     pub not_null: Columns,
-    pub weak_keys: Items<Columns>,
-    pub strong_keys: Items<Columns>,
+    pub weak_keys: Keys,
+    pub strong_keys: Keys,
 }
 
 impl Facts {
@@ -37,8 +35,8 @@ impl Facts {
     {
         Facts {
             not_null: Columns::from_vec(Vec::new(alloc)),
-            weak_keys: Items::new(alloc),
-            strong_keys: Items::new(alloc),
+            weak_keys: Keys::new(alloc),
+            strong_keys: Keys::new(alloc),
         }
     }
 
@@ -55,45 +53,52 @@ impl Facts {
     {
         match fact {
             Fact::NotNull(column) => self.not_null.contains(*column),
-            Fact::WeakKey(key) => is_among(key, self.weak_keys.as_slice()),
-            Fact::StrongKey(key) => is_among(key, self.strong_keys.as_slice()),
+            Fact::WeakKey(key) => self.weak_keys.contains(key.as_slice()),
+            Fact::StrongKey(key) => self.strong_keys.contains(key.as_slice()),
         }
     }
 }
 
-/// Adds a key to those that are known.
-fn add_key(keys: &mut Items<Columns>, key: Columns) -> Result<(), AllocError>
-    ensures added { OnOk result (keys.new ≡ keys.old ++ key ∷ []) }
-    ensures refused { OnErr result (keys.new ≡ keys.old) }
-{
-    keys.push(key)?;
-    Ok(())
-}
-
 impl Facts {
-    /// Adds a fact.
-    pub fn learn(&mut self, alloc: Global, fact: Fact) -> Result<(), AllocError>
-        ensures learnt { OnOk result (self.new ≡ spec.with_fact self.old fact) }
+    /// Adds a fact, of which a copy is made if it is new.
+    pub fn learn(&mut self, alloc: Global, fact: &Fact) -> Result<(), AllocError>
+        ensures learnt { OnOk result (self.new ≡ spec.with_fact self.old fact.now) }
         ensures refused { OnErr result (self.new ≡ self.old) }
     {
         match fact {
             Fact::NotNull(column) => {
-                self.not_null = self
-                    .not_null
-                    .union(alloc, &Columns::run(alloc, column, 1)?)?;
+                if !self.not_null.as_slice().contains(column) {
+                    self.not_null = self
+                        .not_null
+                        .union(alloc, &Columns::run(alloc, *column, 1)?)?;
+                }
                 Ok(())
             }
-            Fact::WeakKey(key) => add_key(&mut self.weak_keys, key),
-            Fact::StrongKey(key) => add_key(&mut self.strong_keys, key),
+            Fact::WeakKey(key) => self.weak_keys.insert(alloc, key.as_slice()),
+            Fact::StrongKey(key) => self.strong_keys.insert(alloc, key.as_slice()),
         }
     }
-}
 
-/// Whether a key is among keys.
-pub(crate) fn is_among(key: &Columns, keys: &[Columns]) -> bool
-    ensures { result ≡ list_any (λ other. same_columns other key.now) keys.now }
-{
-    keys.iter().any(|other| other.same(key))
+    /// Moves the facts of another class here. Where there is no memory, both keep theirs.
+    pub fn learn_all(&mut self, alloc: Global, others: &mut Facts) -> Result<(), AllocError>
+        ensures learnt { OnOk result (self.new ≡ spec.with_facts self.old others.old) }
+        ensures refused { OnErr result ((self.new ≡ self.old) × (others.new ≡ others.old)) }
+    {
+        let not_null = self.not_null.union(alloc, &others.not_null)?;
+        append_both(
+            &mut self.weak_keys,
+            &mut others.weak_keys,
+            &mut self.strong_keys,
+            &mut others.strong_keys,
+        )?;
+        self.not_null = not_null;
+        Ok(())
+    }
+
+    /// How many keys are known.
+    pub fn key_count(&self) -> usize {
+        self.weak_keys.len().saturating_add(self.strong_keys.len())
+    }
 }
 
 impl Fact {

@@ -8,7 +8,7 @@ ghost use Rattle.props.specs.Facts.{fact_columns};
 ghost use Rattle.props.specs.Given as spec;
 ghost use Rattle.props.specs.Knowledge.{known};
 
-use crate::fact::{Fact, is_among};
+use crate::fact::Fact;
 use crate::known::KnownClasses;
 use crate::outcomes::{NullColumns, never_true};
 use crate::single::is_single;
@@ -25,37 +25,57 @@ fn is_within(columns: &[ColumnId], set: &Columns) -> bool
     columns.iter().all(|column| set.contains(*column))
 }
 
-/// Whether each column of a list is in one of two sets.
-fn is_within_both(columns: &[ColumnId], one: &Columns, other: &Columns) -> bool
+fn has_column(columns: &[ColumnId], column: ColumnId) -> bool
+    ensures { result ≡ has columns.now column }
+{
+    columns.iter().any(|own| *own == column)
+}
+
+/// Whether each column of a list is in one of two others.
+fn is_within_both(columns: &[ColumnId], one: &[ColumnId], other: &[ColumnId]) -> bool
     ensures { result ≡ list_all (λ c. has one.now c || has other.now c) columns.now }
 {
-    columns
-        .iter()
-        .all(|column| one.contains(*column) || other.contains(*column))
+    columns.iter().all(|column| has_column(one, *column) || has_column(other, *column))
 }
 
 /// Whether a set is the union of two others.
 #[tactic(auto, using(crate::proofs::Unions::is_union))]
-fn is_union_of(key: &Columns, one: &Columns, other: &Columns) -> bool
+fn is_union_of(key: &Columns, one: &[ColumnId], other: &[ColumnId]) -> bool
     ensures { result ≡ is_same_set key.now (one.now ++ other.now) }
 {
-    is_within_both(key.as_slice(), one, other)
-        && is_within(one.as_slice(), key)
-        && is_within(other.as_slice(), key)
+    is_within_both(key.as_slice(), one, other) && is_within(one, key) && is_within(other, key)
 }
 
-/// Whether a set is the union of another and one of a list.
-fn is_union_with(one: &Columns, others: &[Columns], key: &Columns) -> bool
-    ensures { result ≡ list_any (λ other. is_same_set key.now (one.now ++ other)) others.now }
+/// Whether a set is the union of another and one of a list. Of a set that has other columns no list is gone through.
+fn is_union_with(one: &[ColumnId], others: &[Vec<ColumnId>], key: &Columns) -> bool
+    ensures { result ≡ list_any (λ other. is_same_set key.now (one.now ++ other.items)) others.now }
 {
-    others.iter().any(|other| is_union_of(key, one, other))
+    is_within(one, key)
+        && others
+            .iter()
+            .any(|other| is_union_of(key, one, other.as_slice()))
 }
 
 /// Whether a set is the union of a key of the one list and one of the other.
-fn is_union(keys: &[Columns], others: &[Columns], key: &Columns) -> bool
-    ensures { result ≡ spec.is_union keys.now others.now key.now }
+fn is_union(keys: &[Vec<ColumnId>], others: &[Vec<ColumnId>], key: &Columns) -> bool
+    ensures { result ≡ list_any (λ one. list_any (λ other. is_same_set key.now (one.items ++ other.items)) others.now) keys.now }
 {
-    keys.iter().any(|one| is_union_with(one, others, key))
+    keys.iter()
+        .any(|one| is_union_with(one.as_slice(), others, key))
+}
+
+/// Whether a set is the union of weak keys of two classes.
+fn is_weak_union(classes: KnownClasses<'_>, left: ClassId, right: ClassId, key: &Columns) -> bool
+    ensures { result ≡ spec.is_union ((known classes.entry).facts left).weak_keys ((known classes.entry).facts right).weak_keys key.now }
+{
+    is_union(classes.weak_keys(left), classes.weak_keys(right), key)
+}
+
+/// Whether a set is the union of strong keys of two classes.
+fn is_strong_union(classes: KnownClasses<'_>, left: ClassId, right: ClassId, key: &Columns) -> bool
+    ensures { result ≡ spec.is_union ((known classes.entry).facts left).strong_keys ((known classes.entry).facts right).strong_keys key.now }
+{
+    is_union(classes.strong_keys(left), classes.strong_keys(right), key)
 }
 
 // ---- tables
@@ -240,12 +260,12 @@ fn by_join(
         Fact::WeakKey(key) => {
             by_side(classes, conditions, left, right, fact)
                 || by_side(classes, conditions, right, left, fact)
-                || is_union(classes.weak_keys(left), classes.weak_keys(right), key)
+                || is_weak_union(classes, left, right, key)
         }
         Fact::StrongKey(key) => {
             by_side(classes, conditions, left, right, fact)
                 || by_side(classes, conditions, right, left, fact)
-                || is_union(classes.strong_keys(left), classes.strong_keys(right), key)
+                || is_strong_union(classes, left, right, key)
         }
     }
 }
@@ -263,11 +283,11 @@ fn by_left_join(
         Fact::NotNull(_) => classes.knows(left, fact),
         Fact::WeakKey(key) => {
             by_side(classes, conditions, left, right, fact)
-                || is_union(classes.weak_keys(left), classes.weak_keys(right), key)
+                || is_weak_union(classes, left, right, key)
         }
         Fact::StrongKey(key) => {
             by_side(classes, conditions, left, right, fact)
-                || is_union(classes.strong_keys(left), classes.strong_keys(right), key)
+                || is_strong_union(classes, left, right, key)
         }
     }
 }
@@ -362,9 +382,9 @@ fn by_others(classes: KnownClasses<'_>, class: ClassId, fact: &Fact) -> bool
 {
     match fact {
         Fact::NotNull(_) => false,
-        Fact::WeakKey(key) => is_among(key, classes.strong_keys(class)),
+        Fact::WeakKey(key) => classes.is_strong_key(class, key),
         Fact::StrongKey(key) => {
-            is_among(key, classes.weak_keys(class)) && are_not_null(classes, class, key.as_slice())
+            classes.is_weak_key(class, key) && are_not_null(classes, class, key.as_slice())
         }
     }
 }

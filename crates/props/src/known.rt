@@ -1,8 +1,10 @@
 //! What is known of classes.
 
-ghost use Rattle.std.specs.Prelude.{◌≡◌, option_map};
+ghost use Rattle.std.specs.Prelude.{◌≡◌, Bool, option_map};
 ghost use Rattle.algebra.specs.Columns.{has};
 ghost use Rattle.props.specs.Facts as facts;
+ghost use Rattle.props.specs.Keys.{Key, has_key};
+ghost use Rattle.std.specs.List.{list_any};
 ghost use Rattle.props.specs.Knowledge as spec;
 
 use crate::fact::{Fact, Facts};
@@ -73,9 +75,29 @@ impl<'a> KnownClasses<'a> {
         }
     }
 
-    /// The weak keys that are known of a class.
-    pub fn weak_keys(self, class: ClassId) -> &'a [Columns]
-        ensures { result.now ≡ ((spec.known self.entry).facts class).weak_keys }
+    /// Whether the columns are known to be a weak key of a class.
+    pub fn is_weak_key(self, class: ClassId, key: &Columns) -> bool
+        ensures { result ≡ has_key ((spec.known self.entry).facts class).weak_keys key.now }
+    {
+        match self.facts(class) {
+            Some(facts) => facts.weak_keys.contains(key.as_slice()),
+            None => false,
+        }
+    }
+
+    /// Whether the columns are known to be a strong key of a class.
+    pub fn is_strong_key(self, class: ClassId, key: &Columns) -> bool
+        ensures { result ≡ has_key ((spec.known self.entry).facts class).strong_keys key.now }
+    {
+        match self.facts(class) {
+            Some(facts) => facts.strong_keys.contains(key.as_slice()),
+            None => false,
+        }
+    }
+
+    /// The weak keys that are known of a class, in any order.
+    pub fn weak_keys(self, class: ClassId) -> &'a [Vec<ColumnId>]
+        ensures { (p : Key → Bool) → list_any (λ key. p key.items) result.now ≡ list_any p ((spec.known self.entry).facts class).weak_keys }
     {
         match self.facts(class) {
             Some(facts) => facts.weak_keys.as_slice(),
@@ -83,9 +105,9 @@ impl<'a> KnownClasses<'a> {
         }
     }
 
-    /// The strong keys that are known of a class.
-    pub fn strong_keys(self, class: ClassId) -> &'a [Columns]
-        ensures { result.now ≡ ((spec.known self.entry).facts class).strong_keys }
+    /// The strong keys that are known of a class, in any order.
+    pub fn strong_keys(self, class: ClassId) -> &'a [Vec<ColumnId>]
+        ensures { (p : Key → Bool) → list_any (λ key. p key.items) result.now ≡ list_any p ((spec.known self.entry).facts class).strong_keys }
     {
         match self.facts(class) {
             Some(facts) => facts.strong_keys.as_slice(),

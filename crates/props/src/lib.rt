@@ -3,10 +3,12 @@
 
 pub mod fact;
 pub mod given;
+pub mod keys;
 pub mod known;
 pub mod outcomes;
 pub mod single;
 
 pub use fact::{Fact, Facts};
+pub use keys::Keys;
 pub use known::KnownClasses;
 pub use outcomes::{NullColumns, Truths, never_true};

@@ -7,7 +7,7 @@ ghost use Rattle.props.specs.Given as spec;
 ghost use Rattle.props.specs.Knowledge.{known};
 
 use crate::known::KnownClasses;
-use algebra::{ClassColumns, ClassId, Columns, Condition, Term};
+use algebra::{ClassColumns, ClassId, Condition, Term};
 use query::ColumnId;
 use values::Comparison;
 
@@ -95,9 +95,9 @@ fn is_one_pinned(
     conditions: &[Condition],
     classes: ClassColumns<'_>,
     class: ClassId,
-    keys: &[Columns],
+    keys: &[Vec<ColumnId>],
 ) -> bool
-    ensures { result ≡ list_any (spec.are_pinned (given_columns classes.entry class) conditions.now) keys.now }
+    ensures { result ≡ list_any (λ key. spec.are_pinned (given_columns classes.entry class) conditions.now key.items) keys.now }
 {
     keys.iter().any(|key| are_pinned(conditions, classes, class, key.as_slice()))
 }

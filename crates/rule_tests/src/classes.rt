@@ -48,7 +48,7 @@ pub fn fact_of(alloc: Global, words: &str) -> Result<Fact, AllocError> {
 fn facts_of(alloc: Global, words: &str) -> Result<Facts, AllocError> {
     let mut facts = Facts::none(alloc);
     for word in words.split(", ") {
-        facts.learn(alloc, fact_of(alloc, word)?)?;
+        facts.learn(alloc, &fact_of(alloc, word)?)?;
     }
     Ok(facts)
 }

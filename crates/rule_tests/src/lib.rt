@@ -1,4 +1,4 @@
-//! Tests of the rule book: `rules`, and what they read of `props` and `algebra`.
+//! Tests of the rule book: `rules`, what they read of `props` and `algebra`, and `logs` of lines that cite rules.
 #![tactic(auto)]
 
 #[cfg(test)]
@@ -9,6 +9,8 @@ mod applied;
 mod classes;
 #[cfg(test)]
 mod facts;
+#[cfg(test)]
+mod logged;
 #[cfg(test)]
 mod shapes;
 #[cfg(test)]

@@ -15,7 +15,7 @@ pub fn number(word: &str) -> u32 {
 }
 
 /// What stands before a text's first space, and after it.
-fn cut(text: &str) -> (&str, &str) {
+pub fn cut(text: &str) -> (&str, &str) {
     match text.split_once(" ") {
         Some(parts) => parts,
         None => (text, ""),

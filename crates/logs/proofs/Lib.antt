@@ -1,0 +1,12 @@
+pub mod Equations
+pub mod ClosedLogs
+pub mod FreeColumns
+pub mod LogLines
+pub mod Members
+pub mod MovedSets
+pub mod NamedLines
+pub mod NotedLines
+pub mod PushedSets
+pub mod Relabelled
+pub mod SetReads
+pub mod UnitedFacts

@@ -1,0 +1,4 @@
+pub mod Judging
+pub mod Knowledge
+pub mod Logged
+pub mod Sets

@@ -1,0 +1,15 @@
+-- A log of lines that stand, as contracts see it.
+use Rattle.std.specs.Prelude.{List, ◌∷◌}
+use Rattle.query.specs.declared.query.TableInstance.{TableInstance}
+use Rattle.algebra.specs.declared.expr.Aggregation.{Aggregation}
+use Rattle.lines.specs.declared.line.Line.{Line}
+use Rattle.lines.specs.Logs.{Log}
+
+-- the table instances and the aggregates of a query, and lines over them, the last of them first
+pub record Logged : Type 0 where
+  pub uses : List TableInstance
+  pub own : List Aggregation
+  pub log : Log
+
+abbrev pub with_line : Logged → Line → Logged
+with_line l line = record { uses = l.uses; own = l.own; log = line ∷ l.log }

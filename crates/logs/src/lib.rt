@@ -1,0 +1,15 @@
+//! Logs: whether the lines of a derivation may stand one behind the other, and what is known by them.
+#![tactic(auto)]
+
+mod alike;
+mod class_list;
+mod free;
+mod judge;
+mod known;
+pub mod log;
+mod lookups;
+mod sets;
+mod spelling;
+
+pub use judge::LineFault;
+pub use log::Log;

@@ -1,0 +1,140 @@
+//! Lines that stand, one behind the other.
+
+ghost use Rattle.std.specs.Prelude.{◌≡◌, [], length, map, option_map, reverse, OnErr, OnOk};
+ghost use Rattle.values.specs.Faults.{Gives};
+ghost use Rattle.algebra.specs.Classes.{class_columns};
+ghost use Rattle.algebra.specs.Columns.{columns_at};
+ghost use Rattle.props.specs.Knowledge.{known};
+ghost use Rattle.rules.specs.Matches.{line_in};
+ghost use Rattle.lines.specs.Logs as logs;
+ghost use Rattle.lines.specs.Replay.{Replays, stands};
+ghost use Rattle.logs.specs.Judging.{IsBehind, the_log};
+ghost use Rattle.logs.specs.Logged.{with_line};
+
+use crate::judge::{Behind, LineFault};
+use crate::known::Known;
+use crate::lookups::member;
+use algebra::{Aggregation, ClassId, LineId};
+use lines::Line;
+use props::KnownClasses;
+use query::TableInstance;
+use rules::MatchedLine;
+use std::alloc::Global;
+use std::marker::Model;
+
+/// Lines over a query's table instances and aggregates, each of which may stand where it does.
+#[derive(Drop)]
+pub struct Log<'q> {
+    uses: &'q [TableInstance],
+    own: &'q [Aggregation],
+    lines: Vec<Line>,
+    known: Known,
+}
+
+impl<'q> Model for Log<'q> {
+    ghost use Rattle.std.specs.Prelude.{List, refl, reverse};
+    ghost use Rattle.std.specs.Coded.{codes, code_by};
+    ghost use Rattle.query.specs.declared.query.TableInstance.{TableInstance};
+    ghost use Rattle.algebra.specs.declared.expr.Aggregation.{Aggregation};
+    ghost use Rattle.lines.specs.contracts.line.Line as l;
+    ghost use Rattle.lines.specs.Logs.{Log as Lines};
+    ghost use Rattle.lines.specs.Replay.{Replays};
+    ghost use Rattle.logs.specs.Knowledge.{IsKnown};
+    ghost use Rattle.logs.specs.Logged.{Logged};
+
+    ghost Value = { Logged };
+
+    ghost coded = { code_by (List TableInstance × List Aggregation × Lines) (Prim.hlevel (codes, l.the_row.coded)) (λ l. (l.uses, l.own, l.log)) (λ t. record { uses = t.0; own = t.1; log = t.2 }) (λ _. refl) };
+
+    ghost view = { λ l. record { uses = l.uses.now; own = l.own.now; log = reverse l.lines.items } };
+
+    ghost invariant = { λ l. Replays l.uses.now l.own.now (reverse l.lines.items) × IsKnown l.uses.now (reverse l.lines.items) l.known };
+}
+
+impl<'q> Log<'q> {
+    /// A log without lines.
+    pub fn new(alloc: Global, uses: &'q [TableInstance], own: &'q [Aggregation]) -> Log<'q>
+        ensures { result ≡ record { uses = uses.now; own = own.now; log = [] } }
+    {
+        Log {
+            uses,
+            own,
+            lines: Vec::new(alloc),
+            known: Known::new(alloc),
+        }
+    }
+
+    /// The lines, in their order. Each may stand behind those before it.
+    pub fn lines(&self) -> &[Line]
+        ensures lines { reverse result.now ≡ self.now.log }
+        ensures replays { Replays self.now.uses self.now.own self.now.log }
+    {
+        self.lines.as_slice()
+    }
+
+    /// What is known of the classes that the lines found.
+    pub fn classes(&self) -> KnownClasses<'_>
+        ensures known { known result ≡ logs.knowledge self.now.uses self.now.log }
+        ensures count { length result.columns.columns.now ≡ length self.now.log }
+    {
+        self.known.classes()
+    }
+
+    /// Adds a line if it may stand behind the others; else nothing is changed.
+    pub fn push(&mut self, alloc: Global, line: Line) -> Result<(), LineFault>
+        ensures verdict { Gives (λ _. line) result (stands self.old.uses self.old.own self.old.log line) }
+        ensures added { OnOk result (self.new ≡ with_line self.old line) }
+        ensures refused { OnErr result (self.new ≡ self.old) }
+    {
+        self.judge(alloc, &line)?;
+        self.lines.reserve(1)?;
+        self.known
+            .note(alloc, self.uses, self.lines.as_slice(), &line)?;
+        self.lines.push_reserved(line);
+        Ok(())
+    }
+
+    /// Whether a line may stand behind the others.
+    pub fn judge(&self, alloc: Global, line: &Line) -> Result<(), LineFault>
+        ensures { Gives (λ _. line.now) result (stands self.now.uses self.now.own self.now.log line.now) }
+    {
+        self.behind().judge(alloc, line)
+    }
+
+    /// What a line is judged by.
+    fn behind(&self) -> Behind<'_>
+        ensures given { (result.uses.now ≡ self.now.uses) × (result.own.now ≡ self.now.own) }
+        ensures log { the_log result ≡ self.now.log }
+        ensures count { IsBehind result }
+        ensures known { known result.classes ≡ logs.knowledge self.now.uses self.now.log }
+    {
+        Behind {
+            uses: self.uses,
+            own: self.own,
+            lines: self.lines(),
+            classes: self.classes(),
+        }
+    }
+
+    /// The expression of a line, and the class of which it is; none where the line has none or isn't there.
+    pub fn member(&self, line: LineId) -> Option<MatchedLine<'_>>
+        ensures { option_map line_in result ≡ logs.member self.now.log line }
+    {
+        member(self.lines(), line)
+    }
+
+    /// Whether two classes are the same.
+    pub fn are_same(&self, first: ClassId, second: ClassId) -> bool
+        ensures { result ≡ logs.are_same self.now.log first second }
+    {
+        self.classes().are_same(first, second)
+    }
+
+    /// The lines, which are the log's no more.
+    pub fn into_lines(self) -> Vec<Line>
+        ensures { reverse result.items ≡ self.entry.log }
+    {
+        let Log { lines, .. } = self;
+        lines
+    }
+}
