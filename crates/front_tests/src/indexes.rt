@@ -1,24 +1,29 @@
-//! The indexes of loaded tables.
+//! Loaded tables by their indexes.
 
 use crate::files::{outcome, push_outcome};
 use fixtures::{Reporting, StepReporting, differences, push_number, report_steps, spelt};
 use std::alloc::{AllocError, Global};
-use store::Database;
+use store::{Database, index_of};
 
 const SCHEMA: &str =
     r#"{"tables":[{"name":"t","columns":[{"name":"a","kind":"INT","not_null":false},{"name":"b","kind":"TEXT","not_null":false}],"unique":[],"indexes":[["a"],["b","a"]]}]}"#;
 
 /// Behind each ` /` the first table's rows by one of its indexes, as their numbers.
-fn push_indexes(reported: &mut String, database: &Database<'_>) -> Result<(), AllocError> {
+fn push_indexes(
+    alloc: Global,
+    reported: &mut String,
+    database: &Database<'_>,
+) -> Result<(), AllocError> {
     let Some(entry) = database.schema().tables.get(0) else {
         return reported.push_str("no table");
     };
     if database.tables().is_empty() {
         return reported.push_str("no rows");
     }
-    for index in 0..entry.indexes.len() {
+    let table = database.table(0);
+    for places in entry.indexes.as_slice() {
         reported.push_str(" /")?;
-        for row in database.index_rows(0, index) {
+        for row in index_of(alloc, table, places.as_slice())?.as_slice() {
             push_number(reported, " ", *row as usize)?;
         }
     }
@@ -39,7 +44,7 @@ impl StepReporting for Indexes {
         let bytes = spelt(alloc, file)?;
         let loaded = outcome(alloc, database, 0, bytes.as_slice(), None);
         push_outcome(reported, loaded)?;
-        push_indexes(reported, database)
+        push_indexes(alloc, reported, database)
     }
 }
 

@@ -1,5 +1,5 @@
 -- Databases that satisfy their schema.
-use Rattle.std.proofs.Common.{◌≡◌, ℕ, zero, suc, List, [], ◌∷◌, length, map, Option, Some, None, Result, Ok, Err, IfSome, slice_get, refl, ap, arith}
+use Rattle.std.proofs.Common.{◌≡◌, ℕ, zero, suc, ◌<◌, ◌≤◌, List, [], ◌∷◌, length, get_or, map, Option, Some, None, Result, Ok, Err, IfSome, slice_get, refl, ap, arith}
 use Rattle.std.proofs.Math.ListN.{set}
 use Rattle.std.specs.List.{AllByRecursion}
 use Rattle.schema.specs.declared.schema.Table.{Table}
@@ -8,7 +8,7 @@ use Rattle.store.specs.declared.fault.TableFault.TheVariants as faults
 use Rattle.store.specs.Tables.{Record, IsReported}
 use Rattle.store.specs.Parsing.{ReadsTable}
 use Rattle.store.specs.Databases.{LoadsTable, Loads}
-use Rattle.schema.specs.Databases.{Row, Database, IsUnique, SatisfiesTable, SatisfyTables, Stored}
+use Rattle.schema.specs.Databases.{Row, Database, IsUnique, SatisfiesTable, SatisfyTables, Stored, most_rows}
 
 none_unique : (lists : List (List ℕ)) → AllByRecursion (IsUnique []) lists
 none_unique [] = tt
@@ -23,6 +23,13 @@ satisfy_length [] [] h = refl
 satisfy_length [] (r ∷ D) h = absurd h
 satisfy_length (t ∷ ts) [] h = absurd h
 satisfy_length (t ∷ ts) (r ∷ D) h = ap suc (satisfy_length ts D h.1)
+
+pub satisfy_few : (ts : List Table) (D : Database) (i : ℕ) (rows : List Row) → SatisfyTables ts D → i < length D → rows ≡ get_or D i rows → length rows ≤ most_rows
+satisfy_few [] [] i rows h low at = omega arith
+satisfy_few [] (r ∷ D) i rows h low at = absurd h
+satisfy_few (t ∷ ts) [] i rows h low at = absurd h
+satisfy_few (t ∷ ts) (r ∷ D) zero rows h low at = rw at h.0.few
+satisfy_few (t ∷ ts) (r ∷ D) (suc i) rows h low at = satisfy_few ts D i rows h.1 (omega arith) at
 
 pub satisfy_set : (ts : List Table) (D : Database) (i : ℕ) (t : Table) (rows : List Row) → SatisfyTables ts D → slice_get ts i ≡ Some t → SatisfiesTable t rows → SatisfyTables ts (set D i rows)
 satisfy_set [] [] i t rows h at s = cc at

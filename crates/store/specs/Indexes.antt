@@ -1,5 +1,5 @@
 -- The indexes of tables: all rows of a table by their numbers, sorted by some columns; equal keys stand in the table's order.
-use Rattle.std.specs.Prelude.{ℕ, List, [], ◌∷◌, length, slice_index_or}
+use Rattle.std.specs.Prelude.{ℕ, List, [], length, slice_index_or}
 use Rattle.std.specs.List.{range_with_len}
 use Rattle.std.specs.List.Sorted.{IsPermutation, IsSorted}
 use Rattle.std.specs.Ordering.{nat_cmp, then_cmp}
@@ -7,8 +7,7 @@ use Rattle.std.specs.declared.cmp.Ordering.{Ordering}
 use Rattle.values.specs.declared.value.Value.{Value}
 use Rattle.values.specs.declared.value.Value.TheVariants as value
 use Rattle.values.specs.Order.{order, by_keys}
-use Rattle.schema.specs.declared.schema.Table.{Table}
-use Rattle.schema.specs.Databases.{Row, Database}
+use Rattle.schema.specs.Databases.{Row}
 
 -- the value of the row with this number at a place
 abbrev pub value_at : List Row → ℕ → ℕ → Value
@@ -26,19 +25,3 @@ index_order rows places = then_cmp (by_keys (place_order rows) places) nat_cmp
 pub record IsIndex (rows : List Row) (places numbers : List ℕ) : Type 0 where
   pub each : IsPermutation (range_with_len 0 (length rows)) numbers
   pub sorted : IsSorted (index_order rows places) numbers
-
--- so for each list of places
-abbrev pub AreIndexes : List Row → List (List ℕ) → List (List ℕ) → Type 0
-AreIndexes rows [] [] = Unit {0}
-AreIndexes rows [] (numbers ∷ more) = ⊥
-AreIndexes rows (places ∷ lists) [] = ⊥
-AreIndexes rows (places ∷ lists) (numbers ∷ more) = IsIndex rows places numbers × AreIndexes rows lists more
-
--- each table has its indexes
-abbrev pub AreIndexed : List Table → Database → List (List (List ℕ)) → Type 0
-AreIndexed [] [] [] = Unit {0}
-AreIndexed [] [] (i ∷ more) = ⊥
-AreIndexed [] (rows ∷ D) more = ⊥
-AreIndexed (t ∷ ts) [] more = ⊥
-AreIndexed (t ∷ ts) (rows ∷ D) [] = ⊥
-AreIndexed (t ∷ ts) (rows ∷ D) (i ∷ more) = AreIndexes rows t.indexes i × AreIndexed ts D more

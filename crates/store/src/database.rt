@@ -1,17 +1,15 @@
 //! The tables of a schema.
 
-ghost use Rattle.std.specs.Prelude.{◌≡◌, ◌≢◌, ◌<◌, [], length, map, slice_get, slice_index_or, Some, IfOk, IfErr, OnOk, OnErr, IfSome};
+ghost use Rattle.std.specs.Prelude.{◌≡◌, ◌≢◌, ◌<◌, ◌≤◌, [], length, map, slice_get, slice_index_or, Some, IfOk, IfErr, OnOk, OnErr, IfSome};
 ghost use Rattle.store.specs.Tables.{records_of};
-ghost use Rattle.schema.specs.Databases.{Satisfies};
+ghost use Rattle.schema.specs.Databases.{Satisfies, most_rows};
 ghost use Rattle.store.specs.declared.fault.TableFault.TheVariants as faults;
 ghost use Rattle.store.specs.Devices.{Rose};
 ghost use Rattle.store.specs.Parsing.{ReadsTable};
-ghost use Rattle.store.specs.Indexes.{IsIndex};
 ghost use Rattle.store.specs.Databases.{Loads, ReplacesTable};
 
 use crate::columns::ColumnStore;
 use crate::fault::{TableCause, TableFault, TableRefusal};
-use crate::indexes::indexes_of;
 use crate::input::{InputFault, TableInput, read_all};
 use crate::records::parse;
 use crate::table::Table;
@@ -19,26 +17,23 @@ use crate::unique::earliest_repeat;
 use schema::Schema;
 use std::alloc::{AllocError, Global};
 use std::marker::Model;
-use values::Items;
 
-/// A schema's tables, in its order. They satisfy it, and have its indexes.
+/// A schema's tables, in its order. They satisfy it.
 #[derive(Drop)]
 pub struct Database<'s> {
     schema: &'s Schema,
     tables: Vec<Table>,
-    indexes: Items<Items<Items<u32>>>,
 }
 
 impl<'s> Model for Database<'s> {
     ghost use Rattle.schema.specs.Databases.{Satisfies};
     ghost use Rattle.schema.specs.Databases.{Stored};
-    ghost use Rattle.store.specs.Indexes.{AreIndexed};
 
     ghost Value = { Stored };
 
     ghost view = { λ d. record { schema = d.schema.now; tables = d.tables.items } };
 
-    ghost invariant = { λ d. Satisfies d.schema.now d.tables.items × AreIndexed d.schema.now.tables d.tables.items d.indexes };
+    ghost invariant = { λ d. Satisfies d.schema.now d.tables.items };
 }
 
 /// The table whose file the bytes are.
@@ -80,18 +75,12 @@ impl<'s> Database<'s> {
         ensures { IfOk result (λ d. d ≡ record { schema = schema.now; tables = map (λ t. []) schema.now.tables }) }
     {
         let mut tables = Vec::new(alloc);
-        let mut indexes = Vec::new(alloc);
         for entry in schema.tables.as_slice() {
             let columns = ColumnStore::new(alloc, entry.columns.as_slice())?;
             let table = Table::new(columns);
-            indexes.push(indexes_of(alloc, &table, entry.indexes.as_slice())?)?;
             tables.push(table)?;
         }
-        Ok(Database {
-            schema,
-            tables,
-            indexes: Items::from_vec(indexes),
-        })
+        Ok(Database { schema, tables })
     }
 
     pub fn schema(&self) -> &'s Schema
@@ -112,18 +101,10 @@ impl<'s> Database<'s> {
     pub fn table(&self, number: usize) -> &Table
         requires { number < length self.now.tables }
         ensures table { result.now ≡ slice_index_or self.now.tables number [] }
+        ensures few { length result.now ≤ most_rows }
         ensures satisfies { Satisfies self.now.schema self.now.tables }
     {
         &self.tables[number]
-    }
-
-    /// The rows of a table by one of its indexes, as their numbers.
-    pub fn index_rows(&self, table: usize, index: usize) -> &[u32]
-        requires index { IfSome (slice_get self.now.schema.tables table) (λ entry. index < length entry.indexes) }
-        requires table { table < length self.now.tables }
-        ensures { IfSome (slice_get self.now.schema.tables table) (λ entry. IfSome (slice_get entry.indexes index) (λ places. IsIndex (slice_index_or self.now.tables table []) places result.now)) }
-    {
-        self.indexes.as_slice()[table].as_slice()[index].as_slice()
     }
 
     /// Replaces a table by the one whose file the input is.
@@ -151,11 +132,7 @@ impl<'s> Database<'s> {
         };
         let entry = entry_of(self.schema, table);
         let loaded = table_of(alloc, entry, bytes)?;
-        let Ok(indexes) = indexes_of(alloc, &loaded, entry.indexes.as_slice()) else {
-            return Err(TableFault::Memory);
-        };
         self.tables[table] = loaded;
-        self.indexes.set(table, indexes);
         Ok(())
     }
 }

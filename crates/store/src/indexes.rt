@@ -1,11 +1,11 @@
-//! The indexes of a table: its row numbers, sorted.
+//! An index of a table: its row numbers, sorted when they are asked for.
 
 ghost use Rattle.std.specs.Prelude.{◌≡◌, ◌≤◌, length, IfOk, IsTrue};
 ghost use Rattle.std.specs.List.{range_with_len};
 ghost use Rattle.std.specs.List.Sorted.{IsSorted};
 ghost use Rattle.schema.specs.Databases.{most_rows};
 ghost use Rattle.store.specs.Indexes as spec;
-ghost use Rattle.store.specs.Indexes.{IsIndex, AreIndexes};
+ghost use Rattle.store.specs.Indexes.{IsIndex};
 
 use crate::row::RowCells;
 use crate::source::RowSource;
@@ -52,8 +52,8 @@ fn numbers_to(alloc: Global, count: usize) -> Result<Vec<u32>, AllocError>
     Ok(numbers)
 }
 
-/// All rows by the places.
-fn index_of(alloc: Global, rows: &Table, places: &[usize]) -> Result<Items<u32>, AllocError>
+/// The numbers of all rows, sorted by the places.
+pub fn index_of(alloc: Global, rows: &Table, places: &[usize]) -> Result<Items<u32>, AllocError>
     requires { length rows.now ≤ most_rows }
     ensures { IfOk result (IsIndex rows.now places.now) }
 {
@@ -63,20 +63,4 @@ fn index_of(alloc: Global, rows: &Table, places: &[usize]) -> Result<Items<u32>,
     }
     numbers.sort_unstable_by(|a, b| index_order(rows, places, *a, *b));
     Ok(Items::from_vec(numbers))
-}
-
-/// The indexes of a table, one for each list of places.
-pub fn indexes_of(
-    alloc: Global,
-    rows: &Table,
-    lists: &[Items<usize>],
-) -> Result<Items<Items<u32>>, AllocError>
-    requires { length rows.now ≤ most_rows }
-    ensures { IfOk result (AreIndexes rows.now lists.now) }
-{
-    let mut indexes = Vec::with_capacity(alloc, lists.len())?;
-    for places in lists {
-        indexes.push(index_of(alloc, rows, places.as_slice())?)?;
-    }
-    Ok(Items::from_vec(indexes))
 }

@@ -20,6 +20,7 @@ mod unique;
 
 pub use database::Database;
 pub use fault::{FieldFault, TableCause, TableFault, TableRefusal};
+pub use indexes::index_of;
 pub use input::{CountedInput, DeviceFailed, TableInput};
 pub use key::RowKey;
 pub use row::RowCells;

@@ -20,4 +20,4 @@ returns-clause-prepared g c =
     prepared c.args.text.now c.args.schema.now c.in_ok-query.query (map g.R.TableInput.remaining c.args.tables.now) (length c.args.tables.now) c.load_all.new.database c.in_ok-query.ensures.ok
     (c.in_ok-load_all.ensures.schema ∙ same) c.requires
     (subst (λ (S : Schema). TablesReported S (map g.R.TableInput.remaining c.args.tables.now) (length c.args.tables.now) c.load_all.new.database.tables) same c.in_ok-load_all.ensures.reported)
-    (satisfied_by c.database.inside.schema.now c.database.inside.tables.items c.load_all.new.database c.database.view_is c.database.invariant.0)
+    (satisfied_by c.database.inside.schema.now c.database.inside.tables.items c.load_all.new.database c.database.view_is c.database.invariant)

@@ -4,13 +4,12 @@ use Rattle.std.proofs.lemmas.Result.{err_from_is_err_and}
 use Rattle.csv.specs.Reading.{default_config, records, strip_bom}
 use Rattle.schema.specs.Databases.{Stored}
 use Rattle.store.proofs.Satisfies.{satisfy_length, satisfy_set, loads_fault, loads_rows}
-use Rattle.store.proofs.IndexLists.{indexed_long, indexed_set}
 use Rattle.store.proofs.database.Database.load.Goals as goal
 
 pub entry_of-entry-requires : goal.entry_of-entry-requires
 entry_of-entry-requires g c =
     let at : length c.self.inside.tables.items ≡ length c.args.self.now.tables = ap (λ (s : Stored). length s.tables) c.self.view_is in
-    let same = satisfy_length c.self.inside.schema.now.tables c.self.inside.tables.items c.self.invariant.0 in
+    let same = satisfy_length c.self.inside.schema.now.tables c.self.inside.tables.items c.self.invariant in
     omega arith
 
 pub returns-in_err-loaded-clause-exact : goal.returns-in_err-loaded-clause-exact
@@ -20,19 +19,9 @@ returns-in_err-loaded-clause-exact g c =
     loads_fault (g.R.TableInput.remaining c.args.input.now) c.in-Ok.bytes.items (λ (bytes : List ℕ). records default_config (strip_bom bytes)) c.args.self.now c.args.self.now c.args.table c.entry_of-entry.result.now c.in_err-loaded.field-0.0 c.from_residual.result
     (p.1 ∙ ap Err p.2) c.in-Ok.ensures.bytes at c.in_err-loaded.ensures
 
-pub set-requires : goal.set-requires
-set-requires g c =
-    let at : length c.self.inside.tables.items ≡ length c.args.self.now.tables = ap (λ (s : Stored). length s.tables) c.self.view_is in
-    let same = satisfy_length c.self.inside.schema.now.tables c.self.inside.tables.items c.self.invariant.0 in
-    let long = indexed_long c.self.inside.schema.now.tables c.self.inside.tables.items c.self.inside.indexes c.self.invariant.1 in
-    omega arith
-
 pub invariant_of-self : goal.invariant_of-self
 invariant_of-self g c =
-    let indexes = rw c.as_slice.ensures at c.in-Ok-indexes_of.ensures in (
-      satisfy_set c.self.inside.schema.now.tables c.self.inside.tables.items c.args.table c.entry_of-entry.result.now c.in_ok-loaded.loaded c.self.invariant.0 c.entry_of-entry.ensures c.in_ok-loaded.ensures.reported.satisfies,
-      rw c.set.ensures (indexed_set c.self.inside.schema.now.tables c.self.inside.tables.items c.self.inside.indexes c.args.table c.entry_of-entry.result.now c.in_ok-loaded.loaded c.in-Ok-indexes_of.indexes c.self.invariant.1 c.entry_of-entry.ensures indexes),
-    )
+    satisfy_set c.self.inside.schema.now.tables c.self.inside.tables.items c.args.table c.entry_of-entry.result.now c.in_ok-loaded.loaded c.self.invariant c.entry_of-entry.ensures c.in_ok-loaded.ensures.reported.satisfies
 
 pub returns-clause-exact : goal.returns-clause-exact
 returns-clause-exact g c =

@@ -1,9 +1,5 @@
 use Rattle.std.proofs.Common.{◌≡◌, map, take, []}
-use Rattle.store.specs.Indexes.{AreIndexed}
 use Rattle.store.proofs.database.Database.new.Given as goal
 
 abbrev pub invariant-loop-entry : goal.invariant-loop-entry
-invariant-loop-entry l = record {
-  empty : l.tables.items ≡ map (λ t. []) (take l.entry-index l.entry-items);
-  indexed : AreIndexed (take l.entry-index l.entry-items) l.tables.items l.indexes.items;
-}
+invariant-loop-entry l = l.tables.items ≡ map (λ t. []) (take l.entry-index l.entry-items)
