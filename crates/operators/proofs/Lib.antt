@@ -1,6 +1,5 @@
 pub mod FirstSeen
 pub mod GroupEnvs
-pub mod JoinRows
 pub mod PlanOutputs
 pub mod PlanReads
 pub mod Readable

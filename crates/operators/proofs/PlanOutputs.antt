@@ -48,10 +48,6 @@ output-second [] e r h = h
 output-second (p ∷ []) e r h = h
 output-second (p ∷ q ∷ inputs) e r h = h
 
--- the same of equal columns and rows
-pub restated : {E : Type 0} (result : Result Relation E) (K L : List ℕ) (X Y : List Env) (e : Env) → K ≡ L → X ≡ Y → IfOk result (IsOutput K X e) → IfOk result (IsOutput L Y e)
-restated result K L X Y e columns rows reported = subst (λ M. IfOk result (IsOutput M Y e)) columns (subst (λ Z. IfOk result (IsOutput K Z e)) rows reported)
-
 -- the output of one more input
 pub outputs-more : (inputs : List Output) (p : Output) (e : Env) (relations : List Relation) (r : Relation) → AreOutputs inputs e relations → IsOutput p.columns (p.rows e) e r → AreOutputs (inputs ++ p ∷ []) e (relations ++ r ∷ [])
 outputs-more [] p e [] r all more = (more, tt)
@@ -141,10 +137,3 @@ same-holds classes C inputs relations r all = same-all (given classes relations)
 -- the classes may be given as those that the conditions name
 pub named-holds : (C : List Condition) (classes : List ℕ) (inputs : List Output) (r : Env) (b : Bool) → b ≡ holds (subquery_rows classes inputs) C r → classes ≡ classes_in C → b ≡ holds (subquery_rows (classes_in C) inputs) C r
 named-holds C classes inputs r b reported same = reported ∙ ap (λ gs. holds (subquery_rows gs inputs) C r) same
-
--- ---- rows that are chosen
-
--- the columns and the rows, reported one by one
-pub chosen-output : {E : Type 0} (result : Result Relation E) (K : List ℕ) (X Y : List Env) (e : Env) → IfOk result (λ r. r.heading.columns ≡ K) → IfOk result (λ r. rows_of r e ≡ X) → X ≡ Y → IfOk result (IsOutput K Y e)
-chosen-output (Ok r) K X Y e columns rows is = record { columns_are = columns; rows_are = rows ∙ is }
-chosen-output (Err x) K X Y e columns rows is = tt

@@ -5,12 +5,9 @@ mod aggregates;
 mod grouped;
 mod groups;
 mod index_scans;
-mod joins;
 mod keys;
-mod matchings;
 mod running;
 mod scans;
-mod semijoins;
 mod shown;
 mod sorting;
 

@@ -12,6 +12,7 @@ ghost use Rattle.physical.specs.Outputs.{no_classes};
 ghost use Rattle.relations.specs.Relations.{IsOutput, env_of, numbered_env, numbers_of, rows_of};
 
 use algebra::{Columns, Condition};
+use joins::push_if;
 use query::{ColumnId, OccurrenceId, TableInstance};
 use relations::tests::{passes_all, resolve};
 use relations::{Env, Heading, Part, Relation, Rows, row_cell};
@@ -45,16 +46,6 @@ pub fn scanned<'t>(
     let heading = Heading::of_table(alloc, columns)?;
     let rows = Rows::of_part(alloc, table_part(alloc, tables, table_use.table))?;
     Ok(Relation { heading, rows })
-}
-
-/// Adds a number that passes.
-pub fn push_if(kept: &mut Vec<usize>, number: usize, passes: bool) -> Result<(), AllocError>
-    ensures { OnOk result (kept.new.items ≡ kept.old.items ++ (if passes then number ∷ [] else [])) }
-{
-    if passes {
-        kept.push(number)?;
-    }
-    Ok(())
 }
 
 /// The numbers of the rows at which all conditions are true.

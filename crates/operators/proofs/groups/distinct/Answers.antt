@@ -1,7 +1,7 @@
 use Rattle.std.proofs.Common.{ap, ◌∙◌, ℕ, List, map}
 use Rattle.relations.specs.Relations.{numbered_env}
 use Rattle.operators.proofs.GroupEnvs.{distinct-rows}
-use Rattle.operators.proofs.PlanOutputs.{chosen-output}
+use Rattle.joins.proofs.Outputs.{chosen-output}
 use Rattle.operators.proofs.groups.distinct.Goals as goal
 
 pub returns : goal.returns

@@ -4,7 +4,7 @@ use Rattle.algebra.specs.Bags.{Bag, Env, lay, group}
 use Rattle.algebra.specs.Expressions.{with_aggregates}
 use Rattle.relations.specs.Relations.{env_of, rows_of}
 use Rattle.operators.proofs.GroupEnvs.{group-laid}
-use Rattle.operators.proofs.PlanOutputs.{restated}
+use Rattle.joins.proofs.Outputs.{restated}
 use Rattle.operators.proofs.groups.grouped.Goals as goal
 
 no-keys : (K : List ℕ) (add : List Env → Env → Env) (x : Bag) (e : Env) → length K ≡ 0 → add (x e) e ∷ [] ≡ group K add x e

@@ -12,7 +12,7 @@ use Rattle.operators.specs.Grouped.{groups_in}
 use Rattle.operators.specs.Groups.{group_envs, placed_groups}
 use Rattle.relations.specs.Relations.{column_places, env_of, rows_of}
 use Rattle.operators.proofs.GroupEnvs.{group-rows, groups-many}
-use Rattle.operators.proofs.PlanOutputs.{restated}
+use Rattle.joins.proofs.Outputs.{restated}
 use Rattle.relations.proofs.RelationRows.{made-even}
 use Rattle.operators.proofs.groups.rows_of_groups.Goals as goal
 

@@ -6,7 +6,7 @@ use Rattle.schema.specs.Databases.{Row}
 use Rattle.algebra.specs.Columns.{has}
 use Rattle.algebra.specs.Bags.{Env, lay}
 use Rattle.relations.specs.Relations.{env_of, numbered_env, rows_of}
-use Rattle.operators.proofs.PlanOutputs.{restated}
+use Rattle.joins.proofs.Outputs.{restated}
 use Rattle.relations.proofs.RelationRows.{made-even}
 use Rattle.operators.proofs.scans.copied.Goals as goal
 

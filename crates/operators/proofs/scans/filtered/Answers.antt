@@ -4,7 +4,7 @@ use Rattle.algebra.specs.Bags.{Env}
 use Rattle.algebra.specs.Conditions.{holds}
 use Rattle.physical.specs.Outputs.{no_classes}
 use Rattle.relations.specs.Relations.{env_of, numbered_env, numbers_of}
-use Rattle.operators.proofs.PlanOutputs.{chosen-output}
+use Rattle.joins.proofs.Outputs.{chosen-output}
 use Rattle.operators.proofs.scans.filtered.Goals as goal
 
 pub returns : goal.returns

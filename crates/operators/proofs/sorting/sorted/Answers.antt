@@ -3,7 +3,7 @@ use Rattle.algebra.specs.Bags.{Env}
 use Rattle.physical.specs.declared.plan.OrderKey.{OrderKey}
 use Rattle.physical.specs.Sorts.{keys_order, put_sorted, sorted}
 use Rattle.relations.specs.Relations.{env_of, numbered_env, rows_of}
-use Rattle.operators.proofs.PlanOutputs.{chosen-output}
+use Rattle.joins.proofs.Outputs.{chosen-output}
 use Rattle.operators.proofs.sorting.sorted.Goals as goal
 
 put-first : (r : Env) (rows : List Env) → put_sorted (keys_order []) r rows ≡ r ∷ rows

@@ -1,0 +1,5 @@
+pub mod Candidates
+pub mod Chains
+pub mod JoinRows
+pub mod SharedKeys
+pub mod Outputs

@@ -1,0 +1,4 @@
+pub mod Chains
+pub mod Hashes
+pub mod Joins
+pub mod Keys
