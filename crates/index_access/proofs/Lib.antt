@@ -1,0 +1,4 @@
+pub mod CutOrders
+pub mod FilteredRanges
+pub mod Probes
+pub mod Sorting

@@ -1,0 +1,9 @@
+//! Rows of a relation that are found by an index, in its order.
+#![tactic(auto)]
+
+mod bounds;
+mod cuts;
+mod lookup;
+mod ranges;
+
+pub use lookup::{found_by_index, index_numbers};
