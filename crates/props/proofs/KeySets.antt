@@ -1,5 +1,5 @@
 -- Sets of keys: what is in them, and that keys may come in any order.
-use Rattle.std.proofs.Common.{◌≡◌, refl, ap, sym, ◌∙◌, inl, inr, ℕ, suc, Bool, true, false, not, ◌||◌, ◌==◌, if◌then◌else◌, List, [], ◌∷◌, ◌++◌, length, map, fold, nat_eq, Ordering, Less, Equal, Greater, arith}
+use Rattle.std.proofs.Common.{◌≡◌, refl, ap, sym, ◌∙◌, inl, inr, suc, Bool, true, false, not, ◌||◌, ◌==◌, if◌then◌else◌, List, [], ◌∷◌, ◌++◌, length, map, fold, nat_eq, Ordering, Less, Equal, Greater, arith}
 use Rattle.std.specs.List.{list_any}
 use Rattle.std.specs.Ordering.{nat_cmp, match_ordering, ordering_reverse}
 use Rattle.std.specs.Cmp.{IsTotalOrder}
@@ -140,10 +140,17 @@ came-already keys (x ∷ others) k is = elim (or_cases (same_columns x k) (has_k
   | inr more ↦ came-already (with_key keys x) others k more
 ]
 
+pub known-already : (keys : List Key) (k : Key) → has_key (in_order keys) k ≡ true → with_key (in_order keys) k ≡ in_order keys
+known-already keys k is = came-already [] keys k (sym (any-in-order (λ l. same_columns l k) keys) ∙ is)
+
 -- keys that came as those of two sets
 both-sets : (keys others more : List Key) → with_keys keys (with_keys others more) ≡ with_keys (with_keys keys others) more
 both-sets keys others [] = refl
 both-sets keys others (x ∷ more) = both-sets keys (with_key others x) more ∙ ap (λ m. with_keys m more) (with-other keys others x)
+
+-- keys in order stay so
+pub in-order-again : (keys : List Key) → in_order keys ≡ in_order (in_order keys)
+in-order-again keys = sym (both-sets [] [] keys)
 
 -- a set that has a key isn't empty
 some-key : (keys : List Key) → (length keys == 0) ≡ not (list_any (λ k. true) keys)
@@ -190,9 +197,6 @@ module _ {X : Type 0} (f : X → Key) (eq : X → X → Bool) (is : (x y : X) �
       each : (xs : List X) → list_any (λ x. p (f x)) xs ≡ list_any p (map f xs)
       each [] = refl
       each (x ∷ xs) = ap (λ b. p (f x) || b) (each xs)
-
-  pub known-already : (xs : List X) (k : Key) → has_key (in_order (map f xs)) k ≡ true → with_key (in_order (map f xs)) k ≡ in_order (map f xs)
-  known-already xs k is = came-already [] (map f xs) k (sym (any-in-order (λ l. same_columns l k) (map f xs)) ∙ is)
 
   pub none-came : (xs : List X) → (length xs == 0) ≡ (length (in_order (map f xs)) == 0)
   none-came xs = ap (λ n. n == 0) (sym (length-map xs f)) ∙ sym (none-in-order (map f xs))

@@ -35,8 +35,8 @@ impl Facts {
     {
         Facts {
             not_null: Columns::from_vec(Vec::new(alloc)),
-            weak_keys: Keys::new(alloc),
-            strong_keys: Keys::new(alloc),
+            weak_keys: Keys::none(),
+            strong_keys: Keys::none(),
         }
     }
 

@@ -1,4 +1,4 @@
-use Rattle.std.proofs.Common.{ap, ◌∙◌, ◌++◌, List, ℕ}
+use Rattle.std.proofs.Common.{ap, ◌∙◌, ◌++◌}
 use Rattle.std.specs.List.{list_any}
 use Rattle.algebra.specs.Columns.{is_same_set}
 use Rattle.props.specs.Knowledge.{known}

@@ -1,4 +1,4 @@
-use Rattle.std.proofs.Common.{◌≡◌, ap, sym, subst, ◌∙◌}
+use Rattle.std.proofs.Common.{ap, sym, ◌∙◌}
 use Rattle.algebra.specs.Columns.{has}
 use Rattle.props.specs.declared.fact.Facts.{Facts}
 use Rattle.props.specs.Facts.{with_fact}
