@@ -1,5 +1,5 @@
 -- The answer of a query, and of a text.
-use Rattle.std.proofs.Common.{◌≡◌, ◌≢◌, refl, sym, ◌∙◌, ℕ, List, Result, Ok, Err, IfErr, OnErr}
+use Rattle.std.proofs.Common.{◌≡◌, ◌≢◌, refl, sym, ◌∙◌, subst, ℕ, List, Result, Ok, Err, IfErr, OnErr}
 use Rattle.values.specs.declared.fault.Fault.{Fault}
 use Rattle.values.specs.declared.fault.Fault.TheVariants as fault
 use Rattle.values.specs.Faults.{Fails}
@@ -12,10 +12,8 @@ use Rattle.query.specs.Rows.{tables_of}
 use Rattle.derivation.specs.QueryOrders.{answer}
 use Rattle.derivation.specs.declared.certificate.Certificate.{Certificate}
 use Rattle.derivation.specs.declared.certificate.CheckRefusal.{CheckRefusal}
-use Rattle.query.specs.Bound.{IsBoundOver}
-use Rattle.derivation.specs.Replay.{replayed}
+use Rattle.derivation.specs.Replay.{replayed, IsChecked}
 use Rattle.checker.specs.Accepted.{Accepted}
-use Rattle.derivation.proofs.Soundness.{checked}
 use Rattle.executor.specs.declared.output.OutputFailed.{OutputFailed}
 use Rattle.executor.specs.AnswerText.{answer_text}
 use Rattle.executor.specs.Execution.{accepted_text}
@@ -34,20 +32,20 @@ on_fault r e P is h = rw is h
 
 -- ---- the check
 
--- the certificate that was checked is the one that replays
-pub same_certificate : (q : Query) (V W : Certificate) → replayed q V ≡ Ok V → replayed q V ≡ Ok W → W ≡ V
-same_certificate q V W one other = let e : Ok V ≡ Ok W = sym one ∙ other in cc
-
 -- the check of a certificate that replays fails only by running out of memory
 pub only_memory : (f : Fault CheckRefusal) (q : Query) (V : Certificate) → Fails f (replayed q V) → replayed q V ≡ Ok V → of_check f ≡ refusal.Memory
 only_memory fault.Memory q V fails ok = refl
 only_memory (fault.Refused r) q V fails ok = let e : Ok V ≡ Err r = sym ok ∙ fails in cc
 
-pub by_plan : (S : Schema) (q : Query) (d : Stored) (V : Certificate) (a : Accepted) (P : List ℕ → Type 0) → d.schema ≡ S → IsBoundOver S q → replayed q V ≡ Ok V
-    → a.query ≡ q → replayed q V ≡ Ok a.certificate → P (accepted_text a d) → ByPlan S q d.tables P
-by_plan S q d V a P over bound replays query verdict p =
-    let same : accepted_text a d ≡ answer_text q.names (answer q (tables_of S d.tables) V.plan) = rw (over, query, same_certificate q V a.certificate replays verdict) refl in
-    (V, checked S q bound V replays, rw same at p)
+-- what is so of the text that a checked plan gives
+pub by_plan : (d : Stored) (a : Accepted) (P : List ℕ → Type 0) → d.schema ≡ a.schema → IsChecked a.schema a.query a.certificate → P (accepted_text a d) → ByPlan a.schema a.query d.tables P
+by_plan d a P over checked p =
+    let same : accepted_text a d ≡ answer_text a.query.names (answer a.query (tables_of a.schema d.tables) a.certificate.plan) = rw over refl in
+    (a.certificate, checked, rw same at p)
+
+-- what is so of what was checked is so of the schema and the query that it was checked with
+pub of_accepted : (a : Accepted) (S : Schema) (q : Query) (P : Schema → Query → Type 0) → (a.schema ≡ S) × (a.query ≡ q) → P a.schema a.query → P S q
+of_accepted a S q P of h = subst (λ T. P T q) of.0 (subst (P a.schema) of.1 h)
 
 -- ---- the answer
 

@@ -1,48 +1,44 @@
 //! The answer of a query that is bound, over its loaded tables.
 
-ghost use Rattle.std.specs.Prelude.{◌≡◌, ◌⊎◌, [], Ok, OnOk, OnErr, IfErr};
+ghost use Rattle.std.specs.Prelude.{◌≡◌, ◌⊎◌, [], OnOk, OnErr, IfErr};
 ghost use Rattle.std.specs.Io.KnownBytes.{Appends};
 ghost use Rattle.query.specs.Bound.{IsBoundOver};
-ghost use Rattle.derivation.specs.Replay.{replayed};
 ghost use Rattle.executor.specs.AnswerText.{HasFront};
 ghost use Rattle.pipeline.specs.EndToEnd.{ByPlan, ByMeaning, IsAnswerFault};
 
 use crate::refusal::Refusal;
-use checker::check;
-use derivation::Certificate;
+use checker::{Checked, check};
 use executor::{AnswerOutput, write_answer, write_rows};
 use oracle::meaning;
-use planner::canonical;
+use planner::{canonical, with_hash_joins};
 use query::BoundQuery;
 use schema::Schema;
 use std::alloc::Global;
 use store::Database;
+use values::Fault;
 
-/// Writes what the plan of a certificate of the query gives, which the check accepts.
+/// Writes what a checked plan gives.
 fn answer_by<W: AnswerOutput>(
     alloc: Global,
-    schema: &Schema,
-    query: &BoundQuery,
-    certificate: &Certificate,
+    checked: &Checked<'_>,
     database: &Database<'_>,
     out: &mut W,
 ) -> Result<(), Refusal>
-    requires bound { IsBoundOver schema.now query.now }
-    requires replays { replayed query.now certificate.now ≡ Ok certificate.now }
-    requires schema { database.now.schema ≡ schema.now }
-    ensures answered { OnOk result (ByPlan schema.now query.now database.now.tables (Appends (W.contents out.old) (W.contents out.new))) }
+    requires { database.now.schema ≡ checked.now.schema }
+    ensures answered { OnOk result (ByPlan checked.now.schema checked.now.query database.now.tables (Appends (W.contents out.old) (W.contents out.new))) }
     ensures handed { OnOk result (W.held out.new ≡ []) }
-    ensures front { OnErr result ((out.new ≡ out.old) ⊎ ByPlan schema.now query.now database.now.tables (HasFront (W.contents out.old) (W.contents out.new))) }
+    ensures front { OnErr result ((out.new ≡ out.old) ⊎ ByPlan checked.now.schema checked.now.query database.now.tables (HasFront (W.contents out.old) (W.contents out.new))) }
     ensures fails { IfErr result (IsAnswerFault (W.failures out.old) (W.failures out.new)) }
     ensures quiet { OnOk result (W.failures out.new ≡ W.failures out.old) }
 {
-    let checked = check(alloc, schema, query, certificate)?;
-    write_answer(alloc, &checked, database, out)?;
+    // That it was checked says that what its plan gives is an answer.
+    let _certificate = checked.certificate();
+    write_answer(alloc, checked, database, out)?;
     Ok(())
 }
 
-/// Writes what a checked plan of the query gives.
-pub(crate) fn answer_by_plan<W: AnswerOutput>(
+/// Writes what the canonical plan gives, which the check accepts.
+fn answer_by_canonical_plan<W: AnswerOutput>(
     alloc: Global,
     schema: &Schema,
     query: &BoundQuery,
@@ -58,7 +54,33 @@ pub(crate) fn answer_by_plan<W: AnswerOutput>(
     ensures quiet { OnOk result (W.failures out.new ≡ W.failures out.old) }
 {
     let certificate = canonical(alloc, query)?;
-    answer_by(alloc, schema, query, &certificate, database, out)
+    let checked = check(alloc, schema, query, &certificate)?;
+    answer_by(alloc, &checked, database, out)
+}
+
+/// Writes what a checked plan of the query gives: the canonical one with joins by hash, or where the check refuses that, the
+/// canonical one.
+pub(crate) fn answer_by_plan<W: AnswerOutput>(
+    alloc: Global,
+    schema: &Schema,
+    query: &BoundQuery,
+    database: &Database<'_>,
+    out: &mut W,
+) -> Result<(), Refusal>
+    requires bound { IsBoundOver schema.now query.now }
+    requires schema { database.now.schema ≡ schema.now }
+    ensures answered { OnOk result (ByPlan schema.now query.now database.now.tables (Appends (W.contents out.old) (W.contents out.new))) }
+    ensures handed { OnOk result (W.held out.new ≡ []) }
+    ensures front { OnErr result ((out.new ≡ out.old) ⊎ ByPlan schema.now query.now database.now.tables (HasFront (W.contents out.old) (W.contents out.new))) }
+    ensures fails { IfErr result (IsAnswerFault (W.failures out.old) (W.failures out.new)) }
+    ensures quiet { OnOk result (W.failures out.new ≡ W.failures out.old) }
+{
+    let certificate = with_hash_joins(alloc, query, canonical(alloc, query)?)?;
+    match check(alloc, schema, query, &certificate) {
+        Ok(checked) => answer_by(alloc, &checked, database, out),
+        Err(Fault::Memory) => Err(Refusal::Memory),
+        Err(Fault::Refused(_)) => answer_by_canonical_plan(alloc, schema, query, database, out),
+    }
 }
 
 /// Writes what the query means, by the slow evaluator.

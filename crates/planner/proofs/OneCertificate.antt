@@ -1,5 +1,5 @@
 -- One canonical certificate of a query replays.
-use Rattle.std.proofs.Common.{◌≡◌, refl, ap, sym, ◌∙◌, subst, ℕ, ◌+◌, Bool, true, false, not, ◌&&◌, ◌==◌, if◌then◌else◌, List, [], ◌∷◌, map, length, Some, Result, Ok, arith}
+use Rattle.std.proofs.Common.{◌≡◌, refl, ap, sym, ◌∙◌, subst, ℕ, ◌+◌, Bool, true, not, ◌==◌, if◌then◌else◌, List, [], ◌∷◌, map, length, Some, Result, Ok, arith}
 use Rattle.std.specs.List.{slice_get, list_all}
 use Rattle.std.proofs.lemmas.Bool.{and_parts, eqb-true, not-true}
 use Rattle.values.specs.Faults.{◌>>=◌, wanted_if}
@@ -32,7 +32,7 @@ use Rattle.derivation.specs.QueryOrders.{query_order}
 use Rattle.derivation.specs.declared.certificate.Line.{Line}
 use Rattle.derivation.specs.declared.certificate.Certificate.{Certificate}
 use Rattle.derivation.specs.declared.certificate.CheckRefusal.{CheckRefusal}
-use Rattle.derivation.specs.declared.certificate.CheckReason.TheVariants.{IllFormed, OtherOperator, UnsortedAnswer}
+use Rattle.derivation.specs.declared.certificate.CheckReason.TheVariants.{IllFormed, OtherOperator}
 use Rattle.derivation.specs.Replay.{refusal, founding, implements, sort_fits, operator_fits, node_fits, inputs_fit, plan_fits, lines_replay, is_delivered, root, replayed}
 use Rattle.derivation.proofs.Fits.{after_node, after-is, plan_fits_out, operator-is}
 use Rattle.planner.specs.Canonical.{is_basic, is_basic_node, basic_layer, is_basic_plan, top, IsCanonical, IsOnlyCanonical}

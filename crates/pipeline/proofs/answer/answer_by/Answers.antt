@@ -8,13 +8,11 @@ use Rattle.pipeline.proofs.answer.answer_by.Goals as goal
 
 pub returns-in_err-write_answer-clause-front : goal.returns-in_err-write_answer-clause-front
 returns-in_err-write_answer-clause-front g c =
-    let p = err_from_is_err_and c.from_residual-in_err-write_answer.result c.from_residual-in_err-write_answer.ensures.1 in
-    on_fault c.from_residual-in_err-write_answer.result (of_answer c.in_err-write_answer.field-0.0) _ (p.1 ∙ ap Err p.2)
-    (inr (by_plan c.args.schema.now c.args.query.now c.args.database.now c.args.certificate.now c.in_ok-checked.checked
-    (HasFront (g.W.AnswerOutput.contents c.args.out.now) (g.W.AnswerOutput.contents c.write_answer.new.out))
-    c.requires.schema c.requires.bound c.requires.replays c.in_ok-checked.ensures.of.1 c.in_ok-checked.ensures.verdict c.in_err-write_answer.ensures.front))
+    let p = err_from_is_err_and c.from_residual.result c.from_residual.ensures.1 in
+    on_fault c.from_residual.result (of_answer c.in_err-write_answer.field-0.0) _ (p.1 ∙ ap Err p.2)
+    (inr (by_plan c.args.database.now c.args.checked.now (HasFront (g.W.AnswerOutput.contents c.args.out.now) (g.W.AnswerOutput.contents c.write_answer.new.out))
+    c.requires c.certificate-certificate.ensures.checked c.in_err-write_answer.ensures.front))
 
 pub returns-clause-answered : goal.returns-clause-answered
-returns-clause-answered g c = by_plan c.args.schema.now c.args.query.now c.args.database.now c.args.certificate.now c.in_ok-checked.checked
-    (Appends (g.W.AnswerOutput.contents c.args.out.now) (g.W.AnswerOutput.contents c.write_answer.new.out))
-    c.requires.schema c.requires.bound c.requires.replays c.in_ok-checked.ensures.of.1 c.in_ok-checked.ensures.verdict c.in_ok-write_answer.ensures.ok
+returns-clause-answered g c = by_plan c.args.database.now c.args.checked.now (Appends (g.W.AnswerOutput.contents c.args.out.now) (g.W.AnswerOutput.contents c.write_answer.new.out))
+    c.requires c.certificate-certificate.ensures.checked c.in_ok-write_answer.ensures.ok

@@ -1,0 +1,16 @@
+use Rattle.std.proofs.Common.{◌≡◌, ◌⊎◌, OnOk, OnErr}
+use Rattle.std.specs.Io.KnownBytes.{Appends}
+use Rattle.executor.specs.AnswerText.{HasFront}
+use Rattle.pipeline.specs.EndToEnd.{ByPlan}
+use Rattle.pipeline.proofs.Answered.{of_accepted}
+use Rattle.pipeline.proofs.answer.answer_by_canonical_plan.Goals as goal
+
+pub returns-clause-answered : goal.returns-clause-answered
+returns-clause-answered g c = of_accepted c.in_ok-checked.checked c.args.schema.now c.args.query.now
+    (λ S q. OnOk c.answer_by.result (ByPlan S q c.args.database.now.tables (Appends (g.W.AnswerOutput.contents c.args.out.now) (g.W.AnswerOutput.contents c.answer_by.new.out))))
+    c.in_ok-checked.ensures.of c.answer_by.ensures.answered
+
+pub returns-clause-front : goal.returns-clause-front
+returns-clause-front g c = of_accepted c.in_ok-checked.checked c.args.schema.now c.args.query.now
+    (λ S q. OnErr c.answer_by.result ((c.answer_by.new.out ≡ c.args.out.now) ⊎ ByPlan S q c.args.database.now.tables (HasFront (g.W.AnswerOutput.contents c.args.out.now) (g.W.AnswerOutput.contents c.answer_by.new.out))))
+    c.in_ok-checked.ensures.of c.answer_by.ensures.front
