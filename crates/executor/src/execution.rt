@@ -7,7 +7,7 @@ ghost use Rattle.query.specs.Rows.{tables_in};
 
 use checker::Checked;
 use logical::query_numbers;
-use operators::{FoundRows, Row, Sources, owned_rows, plan_found};
+use operators::{FoundRows, IndexedTables, Row, Sources, owned_rows, plan_found};
 use std::alloc::{AllocError, Global};
 use store::Database;
 
@@ -24,9 +24,11 @@ pub fn find<'t>(
     let query = checked.query();
     let plan = &checked.certificate().plan;
     let columns = query_numbers(alloc, query)?;
+    let uses = query.tables.as_slice();
+    let tables = IndexedTables::for_plan(alloc, database.tables(), uses, plan)?;
     let sources = Sources {
-        uses: query.tables.as_slice(),
-        tables: database.tables(),
+        uses,
+        tables: &tables,
     };
     plan_found(alloc, plan, sources, columns.as_slice())
 }

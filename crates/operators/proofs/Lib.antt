@@ -5,3 +5,4 @@ pub mod PlanReads
 pub mod Readable
 pub mod RunningGroups
 pub mod ShownRows
+pub mod TableScans

@@ -2,3 +2,4 @@ pub mod Grouped
 pub mod Groups
 pub mod Shown
 pub mod Sorting
+pub mod Sources

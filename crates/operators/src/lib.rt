@@ -10,6 +10,8 @@ mod running;
 mod scans;
 mod shown;
 mod sorting;
+mod sources;
 
-pub use running::{Sources, plan_found, plan_rows};
+pub use running::{plan_found, plan_rows};
 pub use shown::{FoundRows, Row, owned_rows};
+pub use sources::{IndexedTables, Sources};

@@ -10,6 +10,7 @@ ghost use Rattle.algebra.specs.Conditions as spec;
 ghost use Rattle.algebra.specs.Expressions.{get_columns, get_rows};
 ghost use Rattle.physical.specs.Outputs.{no_classes};
 ghost use Rattle.relations.specs.Relations.{IsOutput, env_of, numbered_env, numbers_of, rows_of};
+ghost use Rattle.operators.specs.Sources.{AreTableRows};
 
 use algebra::{Columns, Condition};
 use joins::push_if;
@@ -37,7 +38,8 @@ pub fn scanned<'t>(
     tables: &'t [Table],
     occurrence: OccurrenceId,
 ) -> Result<Relation<'t>, AllocError>
-    ensures { (S : Schema) (e : bags.Env) → IfOk result (IsOutput (get_columns (slice_get uses.now occurrence)) (get_rows (slice_get uses.now occurrence) (tables_of S tables.entry.now) e) e) }
+    ensures rows { (S : Schema) (e : bags.Env) → IfOk result (IsOutput (get_columns (slice_get uses.now occurrence)) (get_rows (slice_get uses.now occurrence) (tables_of S tables.entry.now) e) e) }
+    ensures numbered { (e : bags.Env) → IfOk result (λ r. AreTableRows (slice_get uses.now occurrence) tables.entry.now e r.rows.count (numbered_env r e)) }
 {
     let Some(table_use) = uses.get(occurrence as usize) else {
         return Relation::none(alloc);

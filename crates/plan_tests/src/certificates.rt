@@ -211,6 +211,28 @@ SELECT c, a, b FROM u JOIN t ON b = 20 AND a = c => scan 0 0 | iloop 2: 1 1 1 | 
 SELECT x.a, y.a FROM t x JOIN t y ON x.b = y.b => iscan 0: 0 0 0 | iscan 1: 1 1 0 | merge 2: 1 3 | cut 3: 0 2 => accepted ;3,3,;1,1,;1,5,;5,1,;5,5,
 SELECT x.a, y.a FROM t x JOIN t y ON x.b = y.b => iscan 0: 0 0 0 | scan 1 1 | merge 2: 1 3 | cut 3: 0 2 => K07 line 5";
 
+/// What a scan by an index finds: by an equality, a range, both, and by values of an outer row. No comparison with a Null finds a
+/// row, and a Null in the index is found by its own test alone.
+const SEARCHES: &str =
+    "SELECT b, a FROM t WHERE b > 10 AND b <= 20 => iscan 1: 0 0 0 | cut 2: 0 1 => accepted ;20,1,;20,5,
+SELECT b, a FROM t WHERE 10 <= b AND b < 20 => iscan 1: 0 0 0 | cut 2: 0 1 => accepted ;10,3,
+SELECT b, a FROM t WHERE b < 20 => iscan 1: 0 0 0 | cut 2: 0 1 => accepted ;10,3,
+SELECT b, a FROM t WHERE b IS NULL => iscan 1: 0 0 0 | cut 2: 0 1 => accepted ;-,2,;-,4,
+SELECT b, a FROM t WHERE b IS NULL AND a > 2 => iscan 1: 0 0 1 | cut 2: 0 1 => accepted ;-,4,
+SELECT b, a FROM t WHERE b = 20 => iscan 1: 0 0 0 | cut 2: 0 1 => accepted ;20,1,;20,5,
+SELECT b, a FROM t WHERE b = 20 AND a > 1 => iscan 1: 0 0 1 | cut 2: 0 1 => accepted ;20,5,
+SELECT b, a FROM t WHERE b = 20 AND a > 0 AND a < 5 => iscan 1: 0 0 1 | cut 2: 0 1 => accepted ;20,1,
+SELECT b, a FROM t WHERE b = 15 => iscan 1: 0 0 0 | cut 2: 0 1 => accepted
+SELECT b, a FROM t WHERE b = NULL => iscan 1: 0 0 0 | cut 2: 0 1 => accepted
+SELECT b, a FROM t WHERE b > 20 AND b < 10 => iscan 1: 0 0 0 | cut 2: 0 1 => accepted
+SELECT d, c FROM u WHERE d >= 'x' => iscan 1: 0 0 1 | cut 2: 0 1 => accepted ;x,3,;y,3,
+SELECT id FROM emp WHERE pay > 5 => iscan 1: 0 0 0 | cut 2: 0 => accepted
+SELECT id FROM emp => iscan 0: 0 0 0 | cut 1: 0 => accepted
+SELECT c, d FROM u WHERE EXISTS (SELECT * FROM t WHERE b = 10 AND a = c) => scan 0 0 | iscan 2: 1 1 1 | cut 3: 2 3 | subqueries 4 1 | cut 5: 0 1 => accepted ;3,x,;3,y,
+SELECT c, d FROM u WHERE EXISTS (SELECT * FROM t WHERE b = 20 AND a < c) => scan 0 0 | iscan 2: 1 1 1 | cut 3: 2 3 | subqueries 4 1 | cut 5: 0 1 => accepted ;3,x,;3,y,
+SELECT x.a FROM t x WHERE EXISTS (SELECT * FROM t y WHERE y.b = x.b AND y.a <> x.a) => scan 0 0 | iscan 2: 1 1 0 | cut 3: 2 3 | subqueries 4 1 | cut 5: 0 => accepted ;1,;5,
+SELECT x.a FROM t x WHERE x.b > 10 AND EXISTS (SELECT * FROM t y WHERE y.b < x.b) => iscan 0: 0 0 0 | iscan 2: 1 1 0 | cut 3: 2 3 | subqueries 4 1 | cut 5: 0 => accepted ;1,;5,";
+
 /// Certificates with lines or conjuncts of other texts. The lines of the third but the group are those of the query, but for
 /// the class that the cut names.
 const LINES: &str =
@@ -225,7 +247,7 @@ fn certificates_are_judged(rt: HostRuntime) {
         query_differences(
             rt.alloc(),
             TABLES,
-            &[PLANS, METHODS, ROWS, INDEXES, LINES],
+            &[PLANS, METHODS, ROWS, INDEXES, SEARCHES, LINES],
             &Verdicts
         )
         .as_deref(),

@@ -1,0 +1,32 @@
+-- The rows of a table under a table instance's heading, one by one, and the indexes that sort them.
+use Rattle.std.proofs.Common.{◌≡◌, ap, sym, subst, ℕ, true, List, [], ◌∷◌, length, map, get_or, slice_get, Option, Some, None}
+use Rattle.std.specs.List.{range_with_len}
+use Rattle.schema.specs.Databases.{Row}
+use Rattle.query.specs.declared.query.TableInstance.{TableInstance}
+use Rattle.algebra.specs.Bags.{Env, nulls}
+use Rattle.algebra.specs.Columns.{is_subset}
+use Rattle.algebra.specs.Expressions.{get_columns, use_columns, use_row}
+use Rattle.physical.specs.declared.plan.IndexAccess.{IndexAccess}
+use Rattle.physical.specs.Indexes.{columns_of_index, index_columns}
+use Rattle.relations.specs.declared.headings.Heading.{Heading}
+use Rattle.relations.specs.Places.{first_at}
+use Rattle.relations.specs.Relations.{row_env}
+use Rattle.relations.proofs.RelationRows.{table-rows}
+use Rattle.index_access.specs.Cuts.{AreByIndex}
+use Rattle.index_access.proofs.TableIndexes.{index_sorts}
+use Rattle.operators.specs.Sources.{AreTableRows, IsAccessed, IsIndexOf, table_rows}
+
+pub table-row : (t : TableInstance) (h : Heading) (row : Row) (e : Env) → h.columns ≡ use_columns t → h.places.items ≡ map first_at (range_with_len 0 (length t.entry.columns)) → row_env h (row ∷ []) e ≡ use_row t row e
+table-row t h row e columns places = ap (λ (fs : List Env). get_or fs 0 nulls) (table-rows t h (row ∷ []) e columns places)
+
+sorts-of : (instance : Option TableInstance) (tables : List (List Row)) (index : ℕ) (numbers : List ℕ) (e : Env) (count : ℕ) (row : ℕ → Env) → AreTableRows instance tables e count row
+    → is_subset (columns_of_index instance index) (get_columns instance) ≡ true → IsIndexOf instance tables index numbers → AreByIndex row (columns_of_index instance index) (range_with_len 0 count) numbers
+sorts-of None tables index numbers e count row rows own sorted = absurd sorted
+sorts-of (Some t) tables index numbers e count row rows own sorted =
+    subst (λ (n : ℕ). AreByIndex row (columns_of_index (Some t) index) (range_with_len 0 n) numbers) (sym rows.0)
+    (index_sorts t (table_rows tables t.table) e row rows.1 (get_or t.entry.indexes index []) numbers own sorted)
+
+-- an index that is accessed sorts the rows of the table instance
+pub accessed_sorts : (uses : List TableInstance) (tables : List (List Row)) (a : IndexAccess) (numbers : List ℕ) (e : Env) (count : ℕ) (row : ℕ → Env) → AreTableRows (slice_get uses a.occurrence) tables e count row → IsAccessed uses tables a numbers
+    → AreByIndex row (index_columns uses a) (range_with_len 0 count) numbers
+accessed_sorts uses tables a numbers e count row rows accessed = sorts-of (slice_get uses a.occurrence) tables a.index numbers e count row rows accessed.own accessed.index
