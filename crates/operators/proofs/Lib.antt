@@ -1,3 +1,4 @@
+pub mod FilteredJoins
 pub mod FirstSeen
 pub mod GroupEnvs
 pub mod PlanOutputs

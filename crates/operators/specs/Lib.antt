@@ -1,3 +1,4 @@
+pub mod FilteredJoins
 pub mod Grouped
 pub mod Groups
 pub mod Shown
