@@ -14,9 +14,9 @@ use Rattle.props.specs.declared.fact.Facts.{Facts}
 use Rattle.props.specs.Facts.{with_fact}
 use Rattle.props.specs.Knowledge.{Knowledge}
 use Rattle.lines.specs.declared.line.Line.{Line}
-use Rattle.lines.specs.Logs.{Log, entry, entries, least, united, are_same, facts, facts_among, knowledge}
+use Rattle.lines.specs.Logs.{Log, entry, entries, least, united, are_same, facts, facts_among}
 use Rattle.logs.specs.declared.known.Known.{Known}
-use Rattle.logs.specs.Knowledge.{known_by, expr_columns, expr_free, AreInStep, HasClass, IsAlike, IsClosed, IsKnown}
+use Rattle.logs.specs.Knowledge.{expr_columns, expr_free, AreInStep, HasClass, IsAlike, IsClosed, IsKnown}
 use Rattle.logs.specs.Sets.{AreUnited, AreOfBoth, root_of, facts_of}
 use Rattle.logs.proofs.MovedSets.{alike-facts, alike-roots, alike-sets}
 use Rattle.logs.proofs.UnitedFacts.{is_either, united-test, among-alike, among-both, turned-facts, apart-tests, one-class}

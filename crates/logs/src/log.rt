@@ -1,6 +1,6 @@
 //! Lines that stand, one behind the other.
 
-ghost use Rattle.std.specs.Prelude.{◌≡◌, [], length, map, option_map, reverse, OnErr, OnOk};
+ghost use Rattle.std.specs.Prelude.{◌≡◌, ◌<◌, ◌∷◌, [], length, map, option_map, reverse, vec_capacity, vec_len, OnErr, OnOk, Result};
 ghost use Rattle.values.specs.Faults.{Gives};
 ghost use Rattle.algebra.specs.Classes.{class_columns};
 ghost use Rattle.algebra.specs.Columns.{columns_at};
@@ -8,6 +8,9 @@ ghost use Rattle.props.specs.Knowledge.{known};
 ghost use Rattle.rules.specs.Matches.{line_in};
 ghost use Rattle.lines.specs.Logs as logs;
 ghost use Rattle.lines.specs.Replay.{Replays, stands};
+ghost use Rattle.lines.specs.declared.line.Line.{Line};
+ghost use Rattle.lines.specs.declared.line.LineReason.{LineReason};
+ghost use Rattle.logs.specs.Knowledge.{IsClosed, IsKnown, NamesEarlier};
 ghost use Rattle.logs.specs.Judging.{IsBehind, the_log};
 ghost use Rattle.logs.specs.Logged.{with_line};
 
@@ -39,7 +42,9 @@ impl<'q> Model for Log<'q> {
     ghost use Rattle.lines.specs.contracts.line.Line as l;
     ghost use Rattle.lines.specs.Logs.{Log as Lines};
     ghost use Rattle.lines.specs.Replay.{Replays};
-    ghost use Rattle.logs.specs.Knowledge.{IsKnown};
+    ghost use Rattle.lines.specs.declared.line.Line.{Line};
+    ghost use Rattle.lines.specs.declared.line.LineReason.{LineReason};
+    ghost use Rattle.logs.specs.Knowledge.{IsClosed, IsKnown, NamesEarlier};
     ghost use Rattle.logs.specs.Logged.{Logged};
 
     ghost Value = { Logged };
@@ -49,6 +54,30 @@ impl<'q> Model for Log<'q> {
     ghost view = { λ l. record { uses = l.uses.now; own = l.own.now; log = reverse l.lines.items } };
 
     ghost invariant = { λ l. Replays l.uses.now l.own.now (reverse l.lines.items) × IsKnown l.uses.now (reverse l.lines.items) l.known };
+}
+
+/// Makes room for a line that may stand by its verdict, and notes what it says. Where there is no memory, nothing is changed.
+fn note(
+    alloc: Global,
+    verdict: Result<(), LineFault>,
+    uses: &[TableInstance],
+    lines: &mut Vec<Line>,
+    known: &mut Known,
+    line: &Line,
+) -> Result<(), LineFault>
+    requires closed { IsClosed uses.now (reverse lines.old.items) }
+    requires names { OnOk verdict (NamesEarlier (reverse lines.old.items) line.now) }
+    requires known { IsKnown uses.now (reverse lines.old.items) known.old }
+    ensures verdict { (v : Result Line LineReason) → Gives (λ _. line.now) verdict v → Gives (λ _. line.now) result v }
+    ensures lines { lines.new.items ≡ lines.old.items }
+    ensures room { OnOk result (vec_len lines.new < vec_capacity lines.new) }
+    ensures known { OnOk result (IsKnown uses.now (line.now ∷ reverse lines.old.items) known.new) }
+    ensures refused { OnErr result (IsKnown uses.now (reverse lines.old.items) known.new) }
+{
+    verdict?;
+    lines.reserve(1)?;
+    known.note(alloc, uses, lines.as_slice(), line)?;
+    Ok(())
 }
 
 impl<'q> Log<'q> {
@@ -86,10 +115,15 @@ impl<'q> Log<'q> {
         ensures added { OnOk result (self.new ≡ with_line self.old line) }
         ensures refused { OnErr result (self.new ≡ self.old) }
     {
-        self.judge(alloc, &line)?;
-        self.lines.reserve(1)?;
-        self.known
-            .note(alloc, self.uses, self.lines.as_slice(), &line)?;
+        let verdict = self.judge(alloc, &line);
+        note(
+            alloc,
+            verdict,
+            self.uses,
+            &mut self.lines,
+            &mut self.known,
+            &line,
+        )?;
         self.lines.push_reserved(line);
         Ok(())
     }

@@ -1,4 +1,4 @@
-use Rattle.std.proofs.Common.{◌≡◌, ap, sym, ◌∙◌, ◌++◌, length, set, take, get_or, []}
+use Rattle.std.proofs.Common.{◌≡◌, ap, ◌∙◌, ◌++◌, length, set, take, []}
 use Rattle.std.proofs.lemmas.List.{get_or_default, get_or-set_same, set-get_or, set-set}
 use Rattle.algebra.specs.Columns.{columns_at}
 use Rattle.logs.proofs.MovedSets.{cut-back}

@@ -1,4 +1,4 @@
-use Rattle.std.proofs.Common.{◌≡◌, ◌∙◌, get_or, subst, sym}
+use Rattle.std.proofs.Common.{◌≡◌, ◌∙◌, get_or, subst}
 use Rattle.std.proofs.lemmas.List.{get_or_default, get_or-set_other}
 use Rattle.std.proofs.lemmas.Result.{on_err_weaker, on_ok_weaker}
 use Rattle.props.specs.declared.fact.Facts.{Facts}

@@ -1,4 +1,4 @@
-use Rattle.std.proofs.Common.{◌≡◌, refl, ap, sym, ◌∙◌, subst, ℕ, Bool, false, [], ◌∷◌, reverse, length, OnOk, OnErr}
+use Rattle.std.proofs.Common.{refl, sym, subst, ℕ, Bool, false, [], ◌∷◌, reverse, OnOk}
 use Rattle.std.proofs.lemmas.Result.{on_err_weaker, on_ok_weaker}
 use Rattle.props.specs.declared.fact.Fact.{Fact}
 use Rattle.lines.specs.Logs.{Log, class_at}

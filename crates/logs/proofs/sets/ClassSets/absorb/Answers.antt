@@ -1,4 +1,4 @@
-use Rattle.std.proofs.Common.{◌≡◌, refl, sym, ap, ◌∙◌, subst, set, get_or, length, ◌<◌, ◌==◌, true, false, ℕ, [], ◌++◌, if◌then◌else◌}
+use Rattle.std.proofs.Common.{◌≡◌, refl, sym, ap, ◌∙◌, subst, set, get_or, length, ◌<◌, ◌==◌, false, ℕ, [], ◌++◌, if◌then◌else◌}
 use Rattle.std.specs.Vec.{with_item, with_items}
 use Rattle.std.proofs.lemmas.List.{get_or_default, with_items_is}
 use Rattle.algebra.specs.Columns.{has, columns_at}
