@@ -18,7 +18,7 @@ off : (B : ColumnSet) (s r : Env) (c : ℕ) → B c ≡ false → lay B s r c �
 off B s r c out = rw out refl
 
 -- the conditions that pass a test do
-part-passes : (t : Condition → Bool) (C : List Condition) → list_all t (part t C) ≡ true
+pub part-passes : (t : Condition → Bool) (C : List Condition) → list_all t (part t C) ≡ true
 part-passes t [] = refl
 part-passes t (c ∷ C) = by (t c) refl (part-passes t C)
   where

@@ -1,6 +1,7 @@
 pub mod FilteredJoins
 pub mod FirstSeen
 pub mod GroupEnvs
+pub mod PlainParts
 pub mod PlanOutputs
 pub mod PlanReads
 pub mod Readable
