@@ -1,5 +1,6 @@
 pub mod Candidates
 pub mod Chains
+pub mod FilteredJoins
 pub mod JoinRows
 pub mod SharedKeys
 pub mod Outputs

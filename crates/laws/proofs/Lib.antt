@@ -1,6 +1,7 @@
 pub mod DistinctRows
 pub mod Expressions
 pub mod Groups
+pub mod Ignored
 pub mod JoinSums
 pub mod KeyCounts
 pub mod Mentions

@@ -182,20 +182,28 @@ impl Reporting for Answers {
     }
 }
 
-/// Both commands answer alike, so the canonical plan gives the rows in the evaluator's order.
+/// The lists whose texts are queries.
+pub const QUERIES: [&str; 9] = [
+    ONE_TABLE, WORKED, UNKNOWN, MEMBERSHIP, SUBQUERIES, JOINS, GROUPS, DISTINCT, ORDERS,
+];
+
+/// What a command answers otherwise.
+fn answer_differences(alloc: Global, way: Way) -> Result<String, AllocError> {
+    let answers = Answers { way };
+    let mut all = differences(alloc, &QUERIES, &answers)?;
+    all.push_str(differences(alloc, &[SPELT, REFUSED], &answers)?.as_str())?;
+    Ok(all)
+}
+
+/// Both commands answer alike, so the plan gives the rows in the evaluator's order.
 #[test]
 fn both_commands_answer_as_sql_does(rt: HostRuntime) {
-    let tables = [
-        ONE_TABLE, WORKED, UNKNOWN, MEMBERSHIP, SUBQUERIES, JOINS, GROUPS, DISTINCT, ORDERS, SPELT,
-        REFUSED,
-    ];
-    let (plan, meaning) = (Way::Plan, Way::Meaning);
     assert_eq!(rt;
-        differences(rt.alloc(), &tables, &Answers { way: plan }).as_deref(),
+        answer_differences(rt.alloc(), Way::Plan).as_deref(),
         Ok("")
     );
     assert_eq!(rt;
-        differences(rt.alloc(), &tables, &Answers { way: meaning }).as_deref(),
+        answer_differences(rt.alloc(), Way::Meaning).as_deref(),
         Ok("")
     );
 }

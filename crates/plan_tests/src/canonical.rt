@@ -149,7 +149,7 @@ fn push_node(reported: &mut String, lines: &[Line], node: &Node) -> Result<(), A
 }
 
 /// A plan, its inputs in parentheses.
-fn push_plan(reported: &mut String, lines: &[Line], plan: &Plan) -> Result<(), AllocError> {
+pub fn push_plan(reported: &mut String, lines: &[Line], plan: &Plan) -> Result<(), AllocError> {
     push_node(reported, lines, &plan.node)?;
     for input in plan.inputs.as_slice() {
         reported.push_str(" (")?;

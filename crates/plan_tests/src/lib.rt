@@ -16,6 +16,8 @@ mod files;
 #[cfg(test)]
 mod frames;
 #[cfg(test)]
+mod hash_joins;
+#[cfg(test)]
 mod lines;
 #[cfg(test)]
 mod orders;
