@@ -1,3 +1,4 @@
+pub mod Everywhere
 pub mod Grouped
 pub mod Groups
 pub mod Shown
