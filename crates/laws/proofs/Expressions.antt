@@ -16,14 +16,14 @@ use Rattle.algebra.specs.Expressions.{Classes, children, conditions, means, colu
 use Rattle.algebra.proofs.Puts.{among-append}
 use Rattle.algebra.proofs.Sets.{has-rising}
 use Rattle.laws.specs.Fitting.{Fits, AreFitting, ClassesFit}
-use Rattle.laws.proofs.Groups.{group_columns, group-fits}
+use Rattle.laws.proofs.Groups.{group_columns, formed-reads, group-fits}
 use Rattle.laws.proofs.Mentions.{Reads, holds-reads, unsure-reads}
 use Rattle.laws.proofs.Operators.{Agrees, select-fits, join-rows, left_join-rows, matched-rows, keep-fits, distinct-fits}
 use Rattle.laws.proofs.Overlays.{lay-over, in_subset, mapped, more_free}
 
 -- ---- tables
 
-get-fits : (t : Option TableInstance) (D : Tables) (F : ColumnSet) → Fits (has (get_columns t)) F (get_rows t D)
+pub get-fits : (t : Option TableInstance) (D : Tables) (F : ColumnSet) → Fits (has (get_columns t)) F (get_rows t D)
 get-fits None D F e d on = refl
 get-fits (Some t) D F e d on =
     mapped (λ row. use_row t row d) (λ r. lay (has (use_columns t)) r d) (λ row. use_row t row e)
@@ -31,10 +31,10 @@ get-fits (Some t) D F e d on =
 
 -- ---- expressions
 
-with-columns : (K L F : ColumnSet) (x : Bag) → ((c : ℕ) → K c ≡ L c) → Fits L F x → Fits K F x
+pub with-columns : (K L F : ColumnSet) (x : Bag) → ((c : ℕ) → K c ≡ L c) → Fits L F x → Fits K F x
 with-columns K L F x same fits = subst (λ K. Fits K F x) (λ i c. sym (same c) i) fits
 
-has-both : (K L : List ℕ) (c : ℕ) → has (rising (K ++ L)) c ≡ (has K c || has L c)
+pub has-both : (K L : List ℕ) (c : ℕ) → has (rising (K ++ L)) c ≡ (has K c || has L c)
 has-both K L c = has-rising c (K ++ L) ∙ among-append c K L
 
 module _ (uses : List TableInstance) (own : List Aggregation) (D : Tables) (W : Classes) (fits : AreFitting W) where
@@ -104,7 +104,7 @@ module _ (uses : List TableInstance) (own : List Aggregation) (D : Tables) (W : 
       let keys : is_subset K (W.columns a) ≡ true = (and_parts (is_subset K (W.columns a)) (are_different (aggregate_columns G)) parts.0).0 in
       let free : ColumnSet = free_of W.columns W.free (Group K G a) in
       with-columns _ (group_columns K G) free (group K (with_aggregates G) (W.rows a)) (has-both K (aggregate_columns G))
-      (group-fits own K (W.columns a) G free (W.rows a) (in_subset K (W.columns a) keys) parts.1 (first-fits (Group K G a) a [] refl))
+      (group-fits K (W.columns a) G free (W.rows a) (in_subset K (W.columns a) keys) (formed-reads own (W.columns a) G parts.1) (first-fits (Group K G a) a [] refl))
 
 -- ---- classes
 

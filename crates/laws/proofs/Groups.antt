@@ -1,7 +1,7 @@
 -- Groups of rows that fit.
 use Rattle.std.proofs.Common.{◌≡◌, refl, ap, sym, ◌∙◌, ℕ, Bool, true, false, not, ◌||◌, ◌==◌, if◌then◌else◌, List, [], ◌∷◌, map, filter, length}
 use Rattle.std.specs.List.{list_all}
-use Rattle.std.proofs.lemmas.Bool.{and_parts}
+use Rattle.std.proofs.lemmas.Bool.{and_parts, and_from}
 use Rattle.std.proofs.lemmas.List.{length-map}
 use mathlib.Core.List.{map-map}
 use Rattle.values.specs.declared.value.Value.{Value}
@@ -20,6 +20,10 @@ use Rattle.laws.proofs.Operators.{same_on-laid, filter-laid, distinct_on-laid}
 -- an aggregate of rows
 abbrev aggregate_on : Aggregate → List Env → Value
 aggregate_on a L = aggregate_of a (length L) (λ k. map (λ s. s k) L)
+
+-- the aggregate reads these columns alone
+abbrev pub reads_among : List ℕ → Aggregation → Bool
+reads_among X a = is_subset (aggregate_reads a.aggregate) X
 
 -- the columns of a group's rows
 abbrev pub group_columns : List ℕ → List Aggregation → ColumnSet
@@ -57,20 +61,26 @@ module _ (X : List ℕ) (d : Env) where
   aggregate-laid (by.Min k) reads L = ap (λ vs. aggregate_of (by.Min k) 0 (λ c. vs)) (values-laid k (and_parts (has X k) true reads).0 L)
   aggregate-laid (by.Max k) reads L = ap (λ vs. aggregate_of (by.Max k) 0 (λ c. vs)) (values-laid k (and_parts (has X k) true reads).0 L)
 
-  aggregates-laid : (own G : List Aggregation) → list_all (aggregation_formed own X) G ≡ true → (L : List Env) (r : Env) → with_aggregates G (map laid L) r ≡ with_aggregates G L r
-  aggregates-laid own G formed L r = pointwise (λ c. at G formed c)
+  aggregates-laid : (G : List Aggregation) → list_all (reads_among X) G ≡ true → (L : List Env) (r : Env) → with_aggregates G (map laid L) r ≡ with_aggregates G L r
+  aggregates-laid G reads L r = pointwise (λ c. at G reads c)
     where
-      at : (G : List Aggregation) → list_all (aggregation_formed own X) G ≡ true → (c : ℕ) → with_aggregates G (map laid L) r c ≡ with_aggregates G L r c
-      at [] formed c = refl
-      at (a ∷ G) formed c =
-          let parts = and_parts (aggregation_formed own X a) (list_all (aggregation_formed own X) G) formed in
-          two (λ v w. if a.column == c then v else w) (aggregate-laid a.aggregate (and_parts _ _ (and_parts _ (not (has X a.column)) parts.0).0).1 L) (at G parts.1 c)
+      at : (G : List Aggregation) → list_all (reads_among X) G ≡ true → (c : ℕ) → with_aggregates G (map laid L) r c ≡ with_aggregates G L r c
+      at [] reads c = refl
+      at (a ∷ G) reads c =
+          let parts = and_parts (reads_among X a) (list_all (reads_among X) G) reads in
+          two (λ v w. if a.column == c then v else w) (aggregate-laid a.aggregate parts.0 L) (at G parts.1 c)
 
-pub group-fits : (own : List Aggregation) (K X : List ℕ) (G : List Aggregation) (F : ColumnSet) (x : Bag) → ((c : ℕ) → has K c ≡ true → has X c ≡ true) → list_all (aggregation_formed own X) G ≡ true
+pub formed-reads : (own : List Aggregation) (X : List ℕ) (G : List Aggregation) → list_all (aggregation_formed own X) G ≡ true → list_all (reads_among X) G ≡ true
+formed-reads own X [] formed = refl
+formed-reads own X (a ∷ G) formed =
+    let parts = and_parts (aggregation_formed own X a) (list_all (aggregation_formed own X) G) formed in
+    and_from _ _ (and_parts _ _ (and_parts _ (not (has X a.column)) parts.0).0).1 (formed-reads own X G parts.1)
+
+pub group-fits : (K X : List ℕ) (G : List Aggregation) (F : ColumnSet) (x : Bag) → ((c : ℕ) → has K c ≡ true → has X c ≡ true) → list_all (reads_among X) G ≡ true
     → Fits (has X) F x → Fits (group_columns K G) F (group K (with_aggregates G) x)
-group-fits own [] X G F x sub formed fits e d on =
-    ap (λ t. t ∷ []) (ap (λ L. with_aggregates G L d) (fits e d on) ∙ aggregates-laid X d own G formed (x e) d ∙ sym (group-laid [] G (x e) e e d))
-group-fits own (k ∷ K) X G F x sub formed fits e d on =
+group-fits [] X G F x sub reads fits e d on =
+    ap (λ t. t ∷ []) (ap (λ L. with_aggregates G L d) (fits e d on) ∙ aggregates-laid X d G reads (x e) d ∙ sym (group-laid [] G (x e) e e d))
+group-fits (k ∷ K) X G F x sub reads fits e d on =
     let keys : List ℕ = k ∷ K in
     let row : List Env → Env → Env → Env = λ L s r. with_aggregates G (filter (same_on keys r) L) (lay (has keys) r s) in
     ap (λ L. map (row L d) (distinct_on keys L)) (fits e d on)
@@ -78,6 +88,6 @@ group-fits own (k ∷ K) X G F x sub formed fits e d on =
     ∙ map-map (row (map (λ r. lay (has X) r d) (x e)) d) (λ r. lay (has X) r d) (distinct_on keys (x e))
     ∙ mapped _ (λ t. lay (group_columns keys G) t d) (row (x e) e) (λ r.
     ap (λ L. with_aggregates G L (lay (has keys) (lay (has X) r d) d)) (filter-laid keys (has X) d _ _ (same_on-laid keys (has X) d sub r) (x e))
-    ∙ aggregates-laid X d own G formed (filter (same_on keys r) (x e)) (lay (has keys) (lay (has X) r d) d)
+    ∙ aggregates-laid X d G reads (filter (same_on keys r) (x e)) (lay (has keys) (lay (has X) r d) d)
     ∙ ap (with_aggregates G (filter (same_on keys r) (x e))) (lay-within (has keys) (has X) sub r d d)
     ∙ sym (group-laid keys G (filter (same_on keys r) (x e)) r e d)) (distinct_on keys (x e))

@@ -1,3 +1,4 @@
+pub mod EverywhereRows
 pub mod FilteredJoins
 pub mod FirstSeen
 pub mod GroupEnvs

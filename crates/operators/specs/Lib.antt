@@ -1,3 +1,4 @@
+pub mod Everywhere
 pub mod FilteredJoins
 pub mod Grouped
 pub mod Groups

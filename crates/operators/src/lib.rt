@@ -11,6 +11,7 @@ mod scans;
 mod shown;
 mod sorting;
 mod sources;
+mod subqueries;
 
 pub use running::{plan_found, plan_rows};
 pub use shown::{FoundRows, Row, owned_rows};

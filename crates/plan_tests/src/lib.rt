@@ -16,6 +16,8 @@ mod files;
 #[cfg(test)]
 mod frames;
 #[cfg(test)]
+mod free_columns;
+#[cfg(test)]
 mod hash_joins;
 #[cfg(test)]
 mod lines;

@@ -1,0 +1,2 @@
+pub mod KnownReadings
+pub mod OperatorReadings
