@@ -1,5 +1,5 @@
 -- A relation that was made in one environment serves in another, where its rows are the same in all.
-use Rattle.std.proofs.Common.{◌≡◌, ap, sym, ◌∙◌, ℕ, false, List, [], ◌∷◌, ◌++◌, map}
+use Rattle.std.proofs.Common.{◌≡◌, ap, sym, ◌∙◌, ℕ, false, List, [], ◌∷◌, map}
 use mathlib.Core.List.{map-map}
 use Rattle.algebra.specs.Columns.{has}
 use Rattle.algebra.specs.Bags.{Env, Bag, lay}
@@ -28,7 +28,3 @@ outputs-serve [] e d [] fit are = tt
 outputs-serve [] e d (r ∷ relations) fit are = absurd are
 outputs-serve (x ∷ all) e d [] fit are = absurd are
 outputs-serve (x ∷ all) e d (r ∷ relations) fit are = (output-serves x.columns x.rows e d r fit.0 are.0, outputs-serve all e d relations fit.1 are.1)
-
-pub everywhere-more : (all : List Output) (x : Output) → AreEverywhere all → Fits (has x.columns) (λ c. false) x.rows → AreEverywhere (all ++ x ∷ [])
-everywhere-more [] x fit more = (more, tt)
-everywhere-more (y ∷ all) x fit more = (fit.0, everywhere-more all x fit.1 more)

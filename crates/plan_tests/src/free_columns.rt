@@ -38,7 +38,8 @@ impl QueryReporting for FreeColumns {
 #[test]
 fn plans_read_their_environment(rt: HostRuntime) {
     // A subquery alone reads the columns of the row around it; the whole plan reads nothing. The last ones are no plans of a query.
-    const CASES: &str = "SELECT a FROM t WHERE EXISTS (SELECT * FROM u WHERE c = a) => scan 1 1 | filter 2 | cut 3: 2 3 => free 0
+    const CASES: &str =
+        "SELECT a FROM t WHERE EXISTS (SELECT * FROM u WHERE c = a) => scan 1 1 | filter 2 | cut 3: 2 3 => free 0
 SELECT a FROM t WHERE EXISTS (SELECT * FROM u WHERE c = a) => scan 0 0 | scan 1 1 | filter 2 | cut 3: 2 3 | subqueries 4 1 | cut 5: 0 => free
 SELECT a FROM t WHERE EXISTS (SELECT * FROM u WHERE c = 1) => scan 1 1 | filter 2 | cut 3: 2 3 => free
 SELECT a FROM t WHERE a IN (SELECT c FROM u) => scan 1 1 | cut 2: 2 => free
