@@ -1,4 +1,5 @@
 pub mod CutOrders
+pub mod EqualRows
 pub mod FilteredRanges
 pub mod Probes
 pub mod Sorting

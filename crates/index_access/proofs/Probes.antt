@@ -143,8 +143,11 @@ next_at f [] key c low at = absurd (omega (arith, low))
 next_at f (k ∷ columns) [] c low at = ap f (sym at)
 next_at f (k ∷ columns) (w ∷ key) c low at = next_at f columns key c (omega (arith, low)) at
 
+pub equal-order : (v w : Value) → is_true (compare Equal v w) ≡ true → order v w ≡ by.Equal
+equal-order v w h = tied (order v w) (admitted Equal v w h)
+
 equal-first : (f : Env) (c : ℕ) (v : Value) (o : Ordering) → is_true (compare Equal (f c) v) ≡ true → ordering_then (order (f c) v) o ≡ o
-equal-first f c v o h = ap (λ p. ordering_then p o) (tied (order (f c) v) (admitted Equal (f c) v h))
+equal-first f c v o h = ap (λ p. ordering_then p o) (equal-order (f c) v h)
 
 key-equal : (f : Env) (columns : List ℕ) (key : List Value) → Begins f columns key → key_order f columns key ≡ by.Equal
 key-equal f [] key h = refl

@@ -1,6 +1,6 @@
 //! Places between the rows of an index.
 
-ghost use Rattle.std.specs.Prelude.{◌≡◌, ◌≤◌, true, false, length, map};
+ghost use Rattle.std.specs.Prelude.{◌≡◌, ◌≤◌, [], true, false, length, map};
 ghost use Rattle.std.specs.List.Sorted.{IsPartitionPoint, IsSorted};
 ghost use Rattle.values.specs.Cells.{value_of};
 ghost use Rattle.values.specs.Order as orders;
@@ -11,6 +11,7 @@ ghost use Rattle.index_access.specs.Cuts.{key_value, number_order};
 
 use query::ColumnId;
 use relations::{Env, Relation, row_cell};
+use std::alloc::Global;
 use std::cmp::Ordering;
 use values::{Cell, order};
 
@@ -78,6 +79,19 @@ fn key_order(
 pub struct Cut<'c, 't> {
     pub key: Vec<KeyCell<'c, 't>>,
     pub behind: bool,
+}
+
+impl<'c, 't> Cut<'c, 't> {
+    /// Before all rows.
+    pub fn new(alloc: Global) -> Cut<'c, 't>
+        ensures key { result.key.items ≡ [] }
+        ensures behind { result.behind ≡ false }
+    {
+        Cut {
+            key: Vec::new(alloc),
+            behind: false,
+        }
+    }
 }
 
 /// Whether a row stands before the cut.

@@ -6,4 +6,5 @@ mod cuts;
 mod lookup;
 mod ranges;
 
-pub use lookup::{found_by_index, index_numbers};
+pub use cuts::Cut;
+pub use lookup::{equal_rows, found_by_index, index_numbers};

@@ -1,6 +1,7 @@
 //! Rows that are found by an index.
 
-ghost use Rattle.std.specs.Prelude.{◌≡◌, ℕ, filter, IfOk};
+ghost use Rattle.std.specs.Prelude.{◌≡◌, ◌≤◌, ℕ, Bool, false, filter, length, IfOk, IfSome};
+ghost use Rattle.std.specs.List.{AllWithin};
 ghost use Rattle.algebra.specs.Bags as bags;
 ghost use Rattle.algebra.specs.Conditions as spec;
 ghost use Rattle.physical.specs.Indexes.{rising_keys};
@@ -9,13 +10,26 @@ ghost use Rattle.physical.specs.Sorts as sorts;
 ghost use Rattle.relations.specs.Relations.{IsOutput, env_of, numbered_env, numbers_of, rows_of};
 ghost use Rattle.index_access.specs.Cuts.{AreByIndex, columns_order};
 
-use crate::cuts::{Around, position};
-use crate::ranges::range_of;
+use crate::cuts::{Around, Cut, position};
+use crate::ranges::{has_null, put_equal_key, range_of};
 use algebra::Condition;
 use query::ColumnId;
 use relations::tests::{passes_all, resolve};
 use relations::{Env, Relation};
 use std::alloc::{AllocError, Global};
+
+/// The numbers from one place to another; none where they are crossed. All that pass are among them if none passes elsewhere.
+fn between(numbers: &[u32], start: usize, end: usize) -> &[u32]
+    requires start { start ≤ length numbers.now }
+    requires end { end ≤ length numbers.now }
+    ensures { (p : ℕ → Bool) → AllWithin (λ n. p n ≡ false) numbers.entry.now 0 start → AllWithin (λ n. p n ≡ false) numbers.entry.now end (length numbers.entry.now) → filter p result.now ≡ filter p numbers.entry.now }
+{
+    if start < end {
+        &numbers[start..end]
+    } else {
+        &numbers[..0]
+    }
+}
 
 /// Those of the rows by the columns that are left to be tested.
 fn candidates<'n, 't>(
@@ -33,11 +47,38 @@ fn candidates<'n, 't>(
     let rows = Around { relation, env };
     let start = position(&range.lower, columns, rows, numbers);
     let end = position(&range.upper, columns, rows, numbers);
-    if start < end {
-        Ok(&numbers[start..end])
-    } else {
-        Ok(&numbers[..0])
+    Ok(between(numbers, start, end))
+}
+
+/// The rows whose columns equal all that the conditions equate these with, in the relation's own order; none where the conditions
+/// don't equate each of the columns. The cut is overwritten.
+pub fn equal_rows<'n, 'c, 't>(
+    cut: &mut Cut<'c, 't>,
+    relation: &Relation<'t>,
+    columns: &[ColumnId],
+    numbers: &'n [u32],
+    conditions: &'c [Condition],
+    env: &Env<'_, 't>,
+) -> Result<Option<&'n [u32]>, AllocError>
+    requires { AreByIndex (numbered_env relation.now (env_of env.now)) columns.now (numbers_of relation.now) numbers.now }
+    ensures { let passes = λ (n : ℕ). spec.holds no_classes conditions.entry.now (numbered_env relation.now (env_of env.now) n) in IfOk result (λ rows. IfSome rows (λ found. filter passes found.now ≡ filter passes (numbers_of relation.now))) }
+{
+    put_equal_key(
+        &mut cut.key,
+        columns,
+        conditions,
+        &relation.heading.columns,
+        env,
+    )?;
+    if cut.key.len() < columns.len() {
+        return Ok(None);
     }
+    let rows = Around { relation, env };
+    cut.behind = false;
+    let start = position(&*cut, columns, rows, numbers);
+    cut.behind = !has_null(cut.key.as_slice());
+    let end = position(&*cut, columns, rows, numbers);
+    Ok(Some(between(numbers, start, end)))
 }
 
 /// The numbers of those of some rows at which all conditions are true.

@@ -1,6 +1,6 @@
 //! The part of an index in which all rows stand that pass conditions.
 
-ghost use Rattle.std.specs.Prelude.{◌≡◌, ◌++◌, ◌∷◌, [], true, false, map, List, ℕ, IfOk, IfSome};
+ghost use Rattle.std.specs.Prelude.{◌≡◌, ◌++◌, ◌∷◌, [], true, false, map, List, ℕ, IfOk, IfSome, OnOk};
 ghost use Rattle.std.specs.List.{list_any};
 ghost use Rattle.values.specs.Truth.{is_null};
 ghost use Rattle.algebra.specs.Bags as bags;
@@ -25,24 +25,24 @@ pub struct KeyRange<'c, 't> {
     pub upper: Cut<'c, 't>,
 }
 
-/// What the conditions equate the first columns with, as many of them as they do.
-fn equal_key<'c, 't>(
-    alloc: Global,
+/// Puts what the conditions equate the first columns with, as many of them as they do, in the place of a key.
+pub fn put_equal_key<'c, 't>(
+    key: &mut Vec<KeyCell<'c, 't>>,
     columns: &[ColumnId],
     conditions: &'c [Condition],
     own: &Columns,
     env: &Env<'_, 't>,
-) -> Result<Vec<KeyCell<'c, 't>>, AllocError>
-    ensures { IfOk result (λ key. IsSure own.now conditions.entry.now (env_of env.now) (λ f. Begins f columns.now (map key_value key.items))) }
+) -> Result<(), AllocError>
+    ensures { OnOk result (IsSure own.now conditions.entry.now (env_of env.now) (λ f. Begins f columns.now (map key_value key.new.items))) }
 {
-    let mut key = Vec::new(alloc);
+    key.clear();
     for column in columns {
         match bound_in(Side::Exact, conditions, *column, own, env) {
             Some(bound) => key.push(bound.cell)?,
-            None => return Ok(key),
+            None => return Ok(()),
         }
     }
-    Ok(key)
+    Ok(())
 }
 
 fn copied<'c, 't>(
@@ -93,7 +93,8 @@ fn lower_cut<'c, 't>(
     }
 }
 
-fn has_null(key: &[KeyCell<'_, '_>]) -> bool
+/// Whether a key has a Null, which equals nothing.
+pub fn has_null(key: &[KeyCell<'_, '_>]) -> bool
     ensures { result ≡ list_any (λ cell. is_null (key_value cell)) key.now }
 {
     key.iter().any(|cell| cell.is_null())
@@ -149,7 +150,8 @@ pub fn range_of<'c, 't>(
     ensures lower { IfOk result (λ range. IsSure own.now conditions.entry.now (env_of env.now) (λ f. is_before range.lower columns.now f ≡ false)) }
     ensures upper { IfOk result (λ range. IsSure own.now conditions.entry.now (env_of env.now) (λ f. is_before range.upper columns.now f ≡ true)) }
 {
-    let key = equal_key(alloc, columns, conditions, own, env)?;
+    let mut key = Vec::new(alloc);
+    put_equal_key(&mut key, columns, conditions, own, env)?;
     let equal = key.as_slice();
     let low = next_bound(Side::Below, columns, equal, conditions, own, env);
     let high = next_bound(Side::Above, columns, equal, conditions, own, env);

@@ -2,7 +2,7 @@ use Rattle.std.proofs.Common.{◌≡◌, length, map}
 use Rattle.relations.specs.Relations.{env_of}
 use Rattle.index_access.specs.Cuts.{key_value}
 use Rattle.index_access.specs.Probes.{Begins, IsSure}
-use Rattle.index_access.proofs.ranges.equal_key.Given as goal
+use Rattle.index_access.proofs.ranges.put_equal_key.Given as goal
 
 abbrev pub invariant-loop-column : goal.invariant-loop-column
 invariant-loop-column l = record {

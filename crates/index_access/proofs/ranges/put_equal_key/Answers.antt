@@ -5,7 +5,7 @@ use Rattle.relations.specs.Relations.{env_of}
 use Rattle.index_access.specs.Cuts.{key_value}
 use Rattle.index_access.specs.Probes.{Begins, IsSure}
 use Rattle.index_access.proofs.Probes.{sure_more}
-use Rattle.index_access.proofs.ranges.equal_key.Goals as goal
+use Rattle.index_access.proofs.ranges.put_equal_key.Goals as goal
 
 pub loop-column-preserved : goal.loop-column-preserved
 loop-column-preserved c =
