@@ -11,6 +11,7 @@ ghost use Rattle.physical.specs.Orders as orders;
 ghost use Rattle.physical.specs.Orders.{are_columns};
 ghost use Rattle.physical.specs.Outputs as outputs;
 ghost use Rattle.physical.specs.Outputs.{first_columns, second_columns};
+ghost use Rattle.physical.specs.RequiredOrders as required;
 ghost use Rattle.derivation.specs.declared.certificate.CheckReason.TheVariants.{OtherOperator};
 ghost use Rattle.derivation.specs.declared.certificate.CheckRefusal.{CheckRefusal};
 ghost use Rattle.derivation.specs.Replay as spec;
@@ -351,7 +352,7 @@ pub fn is_delivered(alloc: Global, query: &Query, plan: &Plan) -> Result<bool, A
 }
 
 fn begins_with(order: &[OrderKey], wanted: &[OrderKey]) -> bool
-    ensures { result ≡ spec.same_order (take (length wanted.now) order.now) wanted.now }
+    ensures { result ≡ required.same_order (take (length wanted.now) order.now) wanted.now }
 {
     match order.get(..wanted.len()) {
         Some(front) => are_same(front, wanted),
@@ -375,7 +376,7 @@ fn are_same(keys: &[OrderKey], others: &[OrderKey]) -> bool
 
 /// Whether an order begins with the column, rising.
 fn rises_by(order: &[OrderKey], column: ColumnId) -> bool
-    ensures { result ≡ spec.rises_by column order.now }
+    ensures { result ≡ required.rises_by column order.now }
 {
     begins_with(
         order,
@@ -410,7 +411,7 @@ fn key_columns(alloc: Global, keys: &[OrderKey]) -> Result<Columns, AllocError>
 
 /// Whether an order begins with the columns, in whatever order of their own.
 fn begins_with_all(alloc: Global, order: &[OrderKey], columns: &Columns) -> Result<bool, AllocError>
-    ensures { IfOk result (λ r. r ≡ spec.begins_with_all columns.now order.now) }
+    ensures { IfOk result (λ r. r ≡ required.begins_with_all columns.now order.now) }
 {
     let front = front_of(order, columns.as_slice().len());
     let first = key_columns(alloc, front)?;
@@ -437,7 +438,7 @@ fn second_order(
     uses: &[TableInstance],
     plans: &[Plan],
 ) -> Result<Vec<OrderKey>, AllocError>
-    ensures { IfOk result (λ order. order.items ≡ spec.second_order (map (orders.plan_order uses.now) plans.now)) }
+    ensures { IfOk result (λ order. order.items ≡ required.second_order (map (orders.plan_order uses.now) plans.now)) }
 {
     match plans {
         [] => Ok(Vec::new(alloc)),
@@ -468,7 +469,7 @@ fn are_sorted(
     classes: &[ClassId],
     inputs: &[Plan],
 ) -> Result<bool, AllocError>
-    ensures { IfOk result (λ r. r ≡ spec.are_sorted operator.now (map (columns_at derived.entry.columns.now) classes.now) (map (orders.plan_order derived.entry.uses.now) inputs.now)) }
+    ensures { IfOk result (λ r. r ≡ required.are_sorted operator.now (map (columns_at derived.entry.columns.now) classes.now) (map (orders.plan_order derived.entry.uses.now) inputs.now)) }
 {
     match operator {
         Operator::JoinRows { method, .. } => match method {
@@ -507,7 +508,7 @@ fn inputs_sorted(
     classes: &[ClassId],
     inputs: &[Plan],
 ) -> Result<bool, AllocError>
-    ensures { IfOk result (λ r. r ≡ spec.inputs_sorted node.now (map (columns_at derived.entry.columns.now) classes.now) (map (orders.plan_order derived.entry.uses.now) inputs.now)) }
+    ensures { IfOk result (λ r. r ≡ required.inputs_sorted node.now (map (columns_at derived.entry.columns.now) classes.now) (map (orders.plan_order derived.entry.uses.now) inputs.now)) }
 {
     match node {
         Node::Implements { operator, .. } => are_sorted(alloc, derived, operator, classes, inputs),

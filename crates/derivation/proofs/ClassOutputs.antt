@@ -1,4 +1,4 @@
--- A plan that fits produces the bag of its class, and stands in the order that it delivers.
+-- A plan that fits produces the bag of its class, and each of its nodes gets the orders that it requires.
 use Rattle.std.proofs.Common.{◌≡◌, refl, ap, sym, ◌∙◌, subst, ℕ, ◌+◌, ◌<◌, ◌≤◌, Bool, true, ◌==◌, List, [], ◌∷◌, map, length, take, reverse, slice_get, Option, Some, None, Result, Ok, nat_lt, arith}
 use Rattle.std.specs.List.{list_all, AllByRecursion}
 use Rattle.std.proofs.lemmas.Bool.{and_parts, and_from, eqb-true, ltb-true}
@@ -23,12 +23,13 @@ use Rattle.physical.specs.declared.plan.Node.TheVariants.{Implements, Sort}
 use Rattle.physical.specs.declared.plan.Plan.{Plan, roll-Plan, out-roll-Plan, fold-roll-Plan, ind-Plan, map-Plan}
 use Rattle.physical.specs.declared.plan.Plan.TheOpen.{Plan-F}
 use Rattle.physical.specs.Outputs.{Output, node_columns, node_rows, output_layer, plan_output}
-use Rattle.physical.specs.Orders.{are_columns, plan_order, node_stands, Shape, shape_layer, plan_shape}
+use Rattle.physical.specs.Orders.{are_columns, plan_order, node_stands}
+use Rattle.physical.specs.RequiredOrders.{Supply, all_sorted, inputs_sorted, plan_supply, supply_layer}
 use Rattle.physical.specs.Sorts.{keys_order}
-use Rattle.physical.proofs.Deliveries.{delivers}
+use Rattle.physical.proofs.RequiredOrders.{supply-columns, supply-orders}
 use Rattle.physical.proofs.SortedRows.{same_bag-sorted}
 use Rattle.derivation.specs.declared.certificate.CheckRefusal.{CheckRefusal}
-use Rattle.derivation.specs.declared.certificate.CheckReason.TheVariants.{IllFormed, OtherOperator, UnsortedAnswer}
+use Rattle.derivation.specs.declared.certificate.CheckReason.TheVariants.{IllFormed, OtherOperator}
 use Rattle.derivation.specs.Replay.{Fits, refusal, is_get_of, accesses, needed_classes, sort_fits, operator_fits, node_fits, inputs_fit, plan_fits, lines_replay}
 use Rattle.derivation.proofs.Fits.{after_node, after-is, plan_fits_out, operator-is, needed-pass}
 use Rattle.derivation.proofs.Founded.{Stands, line_at, founded, before, founded_columns, before_columns}
@@ -41,10 +42,10 @@ module _ (q : Query) (D : Tables) (lines F : List Expr) (replays : lines_replay 
   abbrev cols : ℕ → List ℕ
   cols = class_columns q.tables (reverse lines)
 
-  -- the plan produces the bag of the class, over its columns, and the order that it delivers stands
+  -- the plan produces the bag of the class, over its columns, and its nodes get the orders that they require
   pub record IsOfClass (p : Plan) (g : ℕ) : Type 0 where
     pub output : Is W (plan_output q.tables D p) g
-    pub stands : (plan_shape q.tables p).stands ≡ true
+    pub sorted : (plan_supply q.tables p).sorted ≡ true
 
   -- so does one that fits the class
   abbrev P : Plan → Type 0
@@ -59,28 +60,30 @@ module _ (q : Query) (D : Tables) (lines F : List Expr) (replays : lines_replay 
   abbrev outputs_of : List Part → List Output
   outputs_of parts = map (plan_output q.tables D) (map (λ p. p.0) parts)
 
-  abbrev shapes_of : List Part → List Shape
-  shapes_of parts = map (plan_shape q.tables) (map (λ p. p.0) parts)
+  abbrev supplies_of : List Part → List Supply
+  supplies_of parts = map (plan_supply q.tables) (map (λ p. p.0) parts)
 
   -- the inputs are of their classes
   record AreOfClasses (parts : List Part) (needed : List ℕ) : Type 0 where
     outputs : AllAre W (outputs_of parts) needed
-    stand : list_all (λ (x : Shape). x.stands) (shapes_of parts) ≡ true
+    sorted : all_sorted (supplies_of parts) ≡ true
 
   all-output : (parts : List Part) (needed : List ℕ) (n m : ℕ) → length (fits_of parts) ≡ length needed → inputs_fit (fits_of parts) needed n ≡ Ok m → AreOfClasses parts needed
-  all-output [] [] n m count fits = record { outputs = tt; stand = refl }
+  all-output [] [] n m count fits = record { outputs = tt; sorted = refl }
   all-output [] (g ∷ needed) n m count fits = absurd (omega (arith, count))
   all-output (p ∷ parts) [] n m count fits = absurd (omega (arith, count))
   all-output (p ∷ parts) (g ∷ needed) n m count fits =
       let steps = both_ok (plan_fits q.tables lines cols p.0 true g n) (λ m. inputs_fit (fits_of parts) needed m) m fits in
       let first = p.1 true g n steps.0 steps.1 in
       let later = all-output parts needed steps.0 m (omega (arith, count)) steps.2 in
-      record { outputs = (first.output, later.outputs); stand = and_from _ _ first.stands later.stand }
+      record { outputs = (first.output, later.outputs); sorted = and_from _ _ first.sorted later.sorted }
 
-  -- the inputs' shapes have the columns of their output
-  columns-same : (parts : List Part) → map (λ (x : Shape). x.columns) (shapes_of parts) ≡ map (λ (x : Output). x.columns) (outputs_of parts)
-  columns-same [] = refl
-  columns-same (p ∷ parts) = two (λ K Ks. K ∷ Ks) (delivers q.tables D p.0).columns (columns-same parts)
+  -- the inputs have the columns of their classes
+  columns-are : (inputs : List Output) (needed : List ℕ) → AllAre W inputs needed → map (λ (x : Output). x.columns) inputs ≡ map cols needed
+  columns-are [] [] all = refl
+  columns-are [] (g ∷ needed) all = absurd all
+  columns-are (x ∷ inputs) [] all = absurd all
+  columns-are (x ∷ inputs) (g ∷ needed) all = two (λ K Ks. K ∷ Ks) all.0.columns (columns-are inputs needed all.1)
 
   -- the classes before a line are as they are in the end
   all-before : (g : ℕ) → g ≤ length lines → (inputs : List Output) (needed : List ℕ) → list_all (λ h. nat_lt h g) needed ≡ true → AllAre W inputs needed → AllAre (classes q.tables D (reverse (take g lines))) inputs needed
@@ -106,15 +109,24 @@ module _ (q : Query) (D : Tables) (lines F : List Expr) (replays : lines_replay 
   abbrev inputs_after : Node → List Part → Bool → ℕ → List ℕ → Result ℕ CheckRefusal
   inputs_after node parts = after_node cols node (orders_of parts) (fits_of parts)
 
-  -- the inputs of a node fit the classes that it needs
-  inputs-output : (node : Node) (parts : List Part) (ordered : Bool) (n m : ℕ) (needed : List ℕ) → length (fits_of parts) ≡ length needed → inputs_after node parts ordered n needed ≡ Ok m → AreOfClasses parts needed
-  inputs-output node parts ordered n m needed count fits = all-output parts needed (n + 1) m count (after-is cols node (orders_of parts) (fits_of parts) ordered n m needed fits).inputs
+  -- and they deliver the orders that the node requires
+  record AreInputsOf (node : Node) (parts : List Part) (needed : List ℕ) : Type 0 where
+    classes : AreOfClasses parts needed
+    required : inputs_sorted node (map (λ (x : Output). x.columns) (outputs_of parts)) (orders_of parts) ≡ true
 
-  -- what a node produces, and that the order which it delivers stands
+  -- the inputs of a node fit the classes that it needs
+  inputs-output : (node : Node) (parts : List Part) (ordered : Bool) (n m : ℕ) (needed : List ℕ) → length (fits_of parts) ≡ length needed → inputs_after node parts ordered n needed ≡ Ok m → AreInputsOf node parts needed
+  inputs-output node parts ordered n m needed count fits =
+      let after = after-is cols node (orders_of parts) (fits_of parts) ordered n m needed fits in
+      let are = all-output parts needed (n + 1) m count after.inputs in
+      record { classes = are; required = subst (λ Ks. inputs_sorted node Ks (orders_of parts) ≡ true) (sym (columns-are (outputs_of parts) needed are.outputs)) after.sorted }
+
+  -- what a node produces, that the order which it delivers stands, and that it gets the orders which it requires
   record IsNodeOf (node : Node) (parts : List Part) (g : ℕ) : Type 0 where
     output : Is W (at_node node parts) g
     stands : node_stands q.tables node (map (λ (x : Output). x.columns) (outputs_of parts)) ≡ true
-    inputs : list_all (λ (x : Shape). x.stands) (shapes_of parts) ≡ true
+    required : inputs_sorted node (map (λ (x : Output). x.columns) (outputs_of parts)) (orders_of parts) ≡ true
+    inputs : all_sorted (supplies_of parts) ≡ true
 
   -- a class that an access is of has what it reads, before and after further lines
   accessed-is : (g : ℕ) → g ≤ length lines → (a : IndexAccess) (K : List ℕ) → list_all (λ h. nat_lt h g) K ≡ true
@@ -146,8 +158,8 @@ module _ (q : Query) (D : Tables) (lines F : List Expr) (replays : lines_replay 
       let stands : Stands q (reverse (take g lines)) x = line_at q lines [] F g x replays found.at in
       let backward : classes_pass (λ h. nat_lt h g) x ≡ true = subst (λ n. classes_pass (λ h. nat_lt h n) x ≡ true) count stands.backward in
       let below : list_all (λ h. nat_lt h g) (needed_classes operator x) ≡ true = needed-pass (λ h. nat_lt h g) operator x backward in
-      let of_classes = inputs-output (Implements line operator) parts ordered n m steps.0 found.count steps.2 in
-      let all : AllAre W (outputs_of parts) (needed_classes operator x) = subst (AllAre W (outputs_of parts)) (sym found.needs) of_classes.outputs in
+      let given = inputs-output (Implements line operator) parts ordered n m steps.0 found.count steps.2 in
+      let all : AllAre W (outputs_of parts) (needed_classes operator x) = subst (AllAre W (outputs_of parts)) (sym found.needs) given.classes.outputs in
       let earlier = all-before g le (outputs_of parts) (needed_classes operator x) below all in
       let reads : (a : IndexAccess) → AllByRecursion (λ h. accesses lines a h ≡ true → Is (classes q.tables D (reverse (take g lines))) (accessed q.tables D a) h) (children x) = λ a. accessed-is g le a (children x) (and_parts (list_all (λ h. nat_lt h g) (children x)) _ backward).0 in
       let gives = operator-gives q.tables (own_aggregates q) D (classes q.tables D (reverse (take g lines))) lines g operator x reads found.indexed cols (outputs_of parts) found.implemented stands.formed earlier in
@@ -157,7 +169,8 @@ module _ (q : Query) (D : Tables) (lines F : List Expr) (replays : lines_replay 
           rows = same_bag-trans _ _ (class_rows q.tables D (reverse lines) g) gives.rows (same_bag-equal _ _ (λ e. sym (founded q.tables D lines g x e found.at)));
         };
         stands = operator-stands q.tables (own_aggregates q) D (classes q.tables D (reverse (take g lines))) lines g operator x reads found.indexed cols (outputs_of parts) found.implemented stands.formed earlier;
-        inputs = of_classes.stand;
+        required = given.required;
+        inputs = given.classes.sorted;
       }
 
   sort-output : (keys : List OrderKey) (parts : List Part) (ordered : Bool) (g n m : ℕ) → (sort_fits cols keys (length (fits_of parts)) g n >>= inputs_after (Sort keys) parts ordered n) ≡ Ok m → IsNodeOf (Sort keys) parts g
@@ -170,17 +183,18 @@ module _ (q : Query) (D : Tables) (lines F : List Expr) (replays : lines_replay 
       let two = wanted_if_ok (refusal n OtherOperator) (k == 1) first.0 steps.0 first.2 in
       let needs : g ∷ [] ≡ steps.0 = one.1 ∙ two.1 in
       let count : k ≡ length (g ∷ []) = eqb-true _ _ two.0 in
-      let of_classes = inputs-output (Sort keys) parts ordered n m (g ∷ []) count (ap (inputs_after (Sort keys) parts ordered n) needs ∙ steps.2) in
-      input parts one.0 of_classes.stand of_classes.outputs
+      let given = inputs-output (Sort keys) parts ordered n m (g ∷ []) count (ap (inputs_after (Sort keys) parts ordered n) needs ∙ steps.2) in
+      input parts one.0 given.classes.sorted given.classes.outputs
     where
-      input : (parts : List Part) → are_columns (cols g) keys ≡ true → list_all (λ (x : Shape). x.stands) (shapes_of parts) ≡ true → AllAre W (outputs_of parts) (g ∷ []) → IsNodeOf (Sort keys) parts g
-      input [] among stand all = absurd all
-      input (p ∷ parts) among stand all =
+      input : (parts : List Part) → are_columns (cols g) keys ≡ true → all_sorted (supplies_of parts) ≡ true → AllAre W (outputs_of parts) (g ∷ []) → IsNodeOf (Sort keys) parts g
+      input [] among sorted all = absurd all
+      input (p ∷ parts) among sorted all =
           let x : Output = plan_output q.tables D p.0 in
           record {
             output = record { columns = all.0.columns; rows = same_bag-trans (λ e. _) x.rows (class_rows q.tables D (reverse lines) g) (same_bag-sorted (keys_order keys) x.rows) all.0.rows };
             stands = ap (λ K. are_columns K keys) all.0.columns ∙ among;
-            inputs = stand;
+            required = refl;
+            inputs = sorted;
           }
 
   layer : (node : Node) (parts : List Part) (ordered : Bool) (g n m : ℕ) → (node_fits q.tables lines cols node (length (fits_of parts)) g n >>= inputs_after node parts ordered n) ≡ Ok m → IsNodeOf node parts g
@@ -188,7 +202,7 @@ module _ (q : Query) (D : Tables) (lines F : List Expr) (replays : lines_replay 
   layer (Sort keys) = sort-output keys
 
   step : (y : Plan-F Part) → P (roll-Plan (map-Plan Part Plan (λ p. p.0) y))
-  unfolding plan_output plan_shape
+  unfolding plan_output plan_supply
   step y ordered g n m fits =
       let z : Plan-F Plan = map-Plan Part Plan (λ p. p.0) y in
       let here : (node_fits q.tables lines cols z.node (length z.inputs) g n >>= inputs_after z.node y.inputs ordered n) ≡ Ok m =
@@ -197,8 +211,13 @@ module _ (q : Query) (D : Tables) (lines F : List Expr) (replays : lines_replay 
       let node = layer y.node y.inputs ordered g n m (subst (λ k. (node_fits q.tables lines cols z.node k g n >>= inputs_after z.node y.inputs ordered n) ≡ Ok m) (sym (length-map z.inputs (plan_fits q.tables lines cols))) here) in
       record {
         output = subst (λ x. Is W x g) (sym (fold-roll-Plan Output (output_layer q.tables D) z)) node.output;
-        stands = ap (λ (x : Shape). x.stands) (fold-roll-Plan Shape (shape_layer q.tables) z)
-            ∙ and_from _ _ (subst (λ Ks. node_stands q.tables y.node Ks ≡ true) (sym (columns-same y.inputs)) node.stands) node.inputs;
+        sorted =
+            let plans = map (λ (p : Part). p.0) y.inputs in
+            let columns = sym (supply-columns q.tables D plans) in
+            let required = subst (λ ks. inputs_sorted y.node (map (λ (x : Output). x.columns) (outputs_of y.inputs)) ks ≡ true) (sym (supply-orders q.tables plans)) node.required in
+            ap (λ (x : Supply). x.sorted) (fold-roll-Plan Supply (supply_layer q.tables) z)
+            ∙ and_from _ _ (subst (λ Ks. node_stands q.tables y.node Ks ≡ true) columns node.stands)
+            (and_from _ _ (subst (λ Ks. inputs_sorted y.node Ks (map (λ (x : Supply). x.order) (supplies_of y.inputs)) ≡ true) columns required) node.inputs);
       }
 
   pub of_class : (p : Plan) → P p

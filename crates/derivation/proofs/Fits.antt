@@ -18,9 +18,10 @@ use Rattle.physical.specs.declared.plan.Node.{Node}
 use Rattle.physical.specs.declared.plan.Plan.{Plan, out-Plan, roll-Plan, fold-Plan, fold-roll-Plan, fold_out-Plan, ind-Plan, map-Plan}
 use Rattle.physical.specs.declared.plan.Plan.TheOpen.{Plan-F}
 use Rattle.physical.specs.Orders.{node_order, order_layer, plan_order}
+use Rattle.physical.specs.RequiredOrders.{inputs_sorted}
 use Rattle.derivation.specs.declared.certificate.CheckReason.TheVariants.{UnknownLine, OtherOperator, UnsortedInput, UnsortedAnswer}
 use Rattle.derivation.specs.declared.certificate.CheckRefusal.{CheckRefusal}
-use Rattle.derivation.specs.Replay.{Fits, refusal, implements, index_fits, names_lines, needed_classes, operator_is_of, operator_fits, Fitted, fitted_layer, fitted, inputs_sorted, node_fits, inputs_fit, plan_fits}
+use Rattle.derivation.specs.Replay.{Fits, refusal, implements, index_fits, names_lines, needed_classes, operator_is_of, operator_fits, Fitted, fitted_layer, fitted, node_fits, inputs_fit, plan_fits}
 
 -- ---- orders
 

@@ -7,7 +7,6 @@ use Rattle.std.specs.declared.cmp.Ordering.{Ordering}
 use Rattle.std.specs.declared.cmp.Ordering.TheVariants.{Equal}
 use Rattle.values.specs.declared.value.Value.TheVariants as value
 use Rattle.values.specs.Order.{directed}
-use Rattle.values.proofs.Orders.{not_gt-then}
 use Rattle.schema.specs.Databases.{Row}
 use Rattle.query.specs.declared.query.SortKey as order_by
 use Rattle.query.specs.declared.query.Query.{Query}
@@ -22,16 +21,12 @@ use Rattle.physical.specs.contracts.plan.OrderKey as order_key
 use Rattle.physical.specs.declared.plan.Plan.{Plan}
 use Rattle.physical.specs.Sorts.{key_order, keys_order}
 use Rattle.physical.specs.Orders.{IsOrdered, plan_order}
+use Rattle.physical.specs.RequiredOrders.{same_order}
+use Rattle.physical.proofs.RequiredOrders.{front-not_gt}
 use Rattle.derivation.specs.QueryOrders.{ordered_column, ordered_columns, query_order}
-use Rattle.derivation.specs.Replay.{same_order, is_delivered}
+use Rattle.derivation.specs.Replay.{is_delivered}
 
 -- ---- an order's beginning
-
--- what does not go after by keys does not by the first of them
-front-not_gt : (n : ℕ) (keys : List OrderKey) (a b : Env) → is_gt (keys_order keys a b) ≡ false → is_gt (keys_order (take n keys) a b) ≡ false
-front-not_gt zero keys a b h = refl
-front-not_gt (suc n) [] a b h = refl
-front-not_gt (suc n) (k ∷ keys) a b h = not_gt-then (key_order k a b) (keys_order keys a b) (keys_order (take n keys) a b) (front-not_gt n keys a b) h
 
 front-ordered : (n : ℕ) (keys : List OrderKey) (rows : List Env) → IsOrdered keys rows → IsOrdered (take n keys) rows
 front-ordered n keys [] h = tt

@@ -38,7 +38,7 @@ use Rattle.physical.specs.Orders.{are_columns, plan_order}
 use Rattle.physical.proofs.StoredValues.{origin-is}
 use Rattle.derivation.specs.declared.certificate.Certificate.{Certificate}
 use Rattle.derivation.specs.declared.certificate.CheckRefusal.{CheckRefusal}
-use Rattle.derivation.specs.declared.certificate.CheckReason.TheVariants.{IllFormed, OtherOperator, UnsortedAnswer}
+use Rattle.derivation.specs.declared.certificate.CheckReason.TheVariants.{IllFormed, OtherOperator}
 use Rattle.derivation.specs.Replay.{Fits, founding, refusal, implements, needed_classes, sort_fits, operator_fits, node_fits, inputs_fit, plan_fits, lines_replay, is_delivered, root, replayed}
 use Rattle.derivation.proofs.ClassOutputs.{of_class}
 use Rattle.derivation.proofs.Fits.{after_node, after-is, plan_fits_out, operator-is, needed-pass}

@@ -2,8 +2,7 @@
 -- node. A derivation that a checker replays is this project's own idea of a certificate; what a node may compute is
 -- G. Graefe's (The Cascades framework for query optimization, 1995: implementation and enforcement).
 use Rattle.std.specs.Prelude.{◌≡◌, ℕ, ◌+◌, ◌-◌, Bool, true, false, not, ◌&&◌, ◌==◌, nat_lt, nat_le, List, [], ◌∷◌, map, length, take, slice_get, Option, Some, None, Result, Ok}
-use Rattle.std.specs.Coded.{coded_list}
-use Rattle.std.specs.List.{AllByRecursion, list_any}
+use Rattle.std.specs.List.{list_any}
 use Rattle.values.specs.Faults.{◌>>=◌, wanted, wanted_if}
 use Rattle.schema.specs.declared.schema.Schema.{Schema}
 use Rattle.schema.specs.Databases.{Database, Satisfies}
@@ -16,9 +15,9 @@ use Rattle.algebra.specs.declared.expr.Expr.{Expr}
 use Rattle.algebra.specs.declared.condition.Condition.{Condition}
 use Rattle.algebra.specs.declared.expr.Expr.TheVariants as expr
 use Rattle.algebra.specs.declared.expr.Expr.TheVariants.{Get, Select, Join, LeftJoin, Keep, Distinct, Group}
-use Rattle.algebra.specs.Columns.{has, rising}
+use Rattle.algebra.specs.Columns.{has}
 use Rattle.algebra.specs.Equated.{equates}
-use Rattle.algebra.specs.ConditionEquality.{same_conditions, same_by}
+use Rattle.algebra.specs.ConditionEquality.{same_conditions}
 use Rattle.algebra.specs.Equality.{same_columns, same_aggregations, same_expr}
 use Rattle.algebra.specs.Expressions.{children, classes_pass, input_classes, is_plain, is_formed}
 use Rattle.algebra.specs.Classes.{class_columns}
@@ -28,7 +27,6 @@ use Rattle.physical.specs.declared.plan.Matching.{Matching}
 use Rattle.physical.specs.declared.plan.Matching.TheVariants.{Inner, Left, Semi, Anti}
 use Rattle.physical.specs.declared.plan.JoinMethod.{JoinMethod}
 use Rattle.physical.specs.declared.plan.JoinMethod.TheVariants.{NestedLoop, Hash, Merge}
-use Rattle.physical.specs.declared.plan.GroupMethod.TheVariants.{Sorted}
 use Rattle.physical.specs.declared.plan.IndexAccess.{IndexAccess}
 use Rattle.physical.specs.declared.plan.Operator.{Operator}
 use Rattle.physical.specs.declared.plan.Operator.TheVariants.{Scan, IndexScan, Filter, FilterSubqueries, Projection, JoinRows, IndexJoin, GroupRows, DistinctRows}
@@ -37,10 +35,10 @@ use Rattle.physical.specs.declared.plan.Node.TheVariants.{Implements, Sort}
 use Rattle.physical.specs.declared.plan.Plan.{Plan, fold-Plan}
 use Rattle.physical.specs.declared.plan.Plan.TheOpen.{Plan-F}
 use Rattle.physical.specs.declared.plan.OrderKey.{OrderKey}
-use Rattle.physical.specs.contracts.plan.OrderKey as order_key
 use Rattle.physical.specs.Indexes.{has_index, finds_by_index}
 use Rattle.physical.specs.Outputs.{first_columns, second_columns}
-use Rattle.physical.specs.Orders.{are_columns, first_order, node_order, plan_order}
+use Rattle.physical.specs.Orders.{are_columns, node_order, plan_order}
+use Rattle.physical.specs.RequiredOrders.{begins_with, inputs_sorted}
 use Rattle.derivation.specs.QueryOrders.{query_order}
 use Rattle.derivation.specs.QueryOrders.{answer}
 use Rattle.derivation.specs.declared.certificate.Line.{Line}
@@ -178,36 +176,6 @@ operator_fits uses lines cols line operator inputs g n =
 abbrev pub node_fits : List TableInstance → List Expr → (ℕ → List ℕ) → Node → ℕ → ℕ → ℕ → Result (List ℕ) CheckRefusal
 node_fits uses lines cols (Implements line operator) inputs g n = operator_fits uses lines cols line operator inputs g n
 node_fits uses lines cols (Sort keys) inputs g n = sort_fits cols keys inputs g n
-
-unfoldable pub same_order : List OrderKey → List OrderKey → Bool
-same_order = same_by (coded_list order_key.the_row.coded)
-
--- an order begins with another
-abbrev pub begins_with : List OrderKey → List OrderKey → Bool
-begins_with order wanted = same_order (take (length wanted) order) wanted
-
--- an order begins with the column, rising
-abbrev pub rises_by : ℕ → List OrderKey → Bool
-rises_by c order = begins_with order (record { column = c; descending = false } ∷ [])
-
--- an order begins with the columns, in whatever order of their own
-abbrev pub begins_with_all : List ℕ → List OrderKey → Bool
-begins_with_all K order = same_columns (rising (map (λ k. k.column) (take (length K) order))) K
-
-abbrev pub second_order : List (List OrderKey) → List OrderKey
-second_order [] = []
-second_order (order ∷ orders) = first_order orders
-
--- the inputs, with these columns, deliver the orders that the operator needs
-abbrev pub are_sorted : Operator → List (List ℕ) → List (List OrderKey) → Bool
-are_sorted (JoinRows (Merge a b) j) columns orders = rises_by a (first_order orders) && rises_by b (second_order orders)
-are_sorted (GroupRows Sorted K G) columns orders = begins_with_all K (first_order orders)
-are_sorted (DistinctRows Sorted) columns orders = begins_with_all (first_columns columns) (first_order orders)
-are_sorted operator columns orders = true
-
-abbrev pub inputs_sorted : Node → List (List ℕ) → List (List OrderKey) → Bool
-inputs_sorted (Implements line operator) columns orders = are_sorted operator columns orders
-inputs_sorted (Sort keys) columns orders = true
 
 -- whether a plan is of a class, and delivers the order that is wanted (as the first argument says), its nodes being numbered
 -- from a number on; gives the number after them

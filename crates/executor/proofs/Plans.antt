@@ -11,11 +11,12 @@ use Rattle.query.proofs.ShortTables.{satisfying_short}
 use Rattle.derivation.specs.declared.certificate.Certificate.{Certificate}
 use Rattle.algebra.specs.Bags.{nulls}
 use Rattle.logical.specs.Frames.{query_numbers}
-use Rattle.physical.specs.Origins.{plan_origin}
 use Rattle.physical.specs.Outputs.{output_rows}
 use Rattle.derivation.specs.QueryOrders.{answer}
 use Rattle.derivation.specs.Replay.{IsChecked}
 use Rattle.derivation.proofs.StoredPlans.{plan-reads}
+use Rattle.derivation.proofs.Soundness.{plan-sorted}
+use Rattle.operators.specs.Runnable.{IsRunnable}
 
 -- the rows that a plan produces, read in the query's columns, are its answer
 pub answer_of : (q r : Query) (U V : Certificate) (S : Schema) (tables D : Database) (columns : List ℕ) (uses : List TableInstance) → columns ≡ query_numbers q → uses ≡ q.tables → q ≡ r → U ≡ V
@@ -31,13 +32,14 @@ answers_of S T q V D checked satisfies same =
     let Answers : Schema → Type 0 = λ U. Satisfies U D → IsAnswer q (tables_of U D) (answer q (tables_of U D) V.plan) in
     subst Answers same (checked.answers D) satisfies
 
--- ---- what its groups read
+-- ---- what it needs to be run
 
--- the groups of a checked plan aggregate stored values alone
-pub reads_of : (S : Schema) (q r : Query) (U V : Certificate) (uses : List TableInstance) → uses ≡ r.tables → r ≡ q → U ≡ V → IsChecked S q V → (plan_origin uses U.plan).reads ≡ true
-reads_of S q r U V uses instances same proof checked =
+-- the groups of a checked plan aggregate stored values alone, and its nodes get the orders that they require
+pub runnable_of : (S : Schema) (q r : Query) (U V : Certificate) (uses : List TableInstance) → uses ≡ r.tables → r ≡ q → U ≡ V → IsChecked S q V → IsRunnable uses U.plan
+runnable_of S q r U V uses instances same proof checked =
     let is : uses ≡ q.tables = instances ∙ ap (λ (x : Query). x.tables) same in
-    ap (λ us. (plan_origin us U.plan).reads) is ∙ ap (λ (W : Certificate). (plan_origin q.tables W.plan).reads) proof ∙ plan-reads q V V checked.replays
+    subst (λ us. IsRunnable us U.plan) (sym is)
+    (subst (λ (W : Certificate). IsRunnable q.tables W.plan) (sym proof) (record { reads = plan-reads q V V checked.replays; sorted = plan-sorted q V V checked.replays }))
 
 -- whose numbers have 64 bits
 pub short_of : (S : Schema) (tables D : Database) → tables ≡ D → Satisfies S D → (T : Schema) → AreShortTables (tables_of T tables)

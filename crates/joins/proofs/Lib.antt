@@ -2,5 +2,6 @@ pub mod Candidates
 pub mod Chains
 pub mod FilteredJoins
 pub mod JoinRows
+pub mod Merges
 pub mod SharedKeys
 pub mod Outputs

@@ -2,3 +2,4 @@ pub mod Chains
 pub mod Hashes
 pub mod Joins
 pub mod Keys
+pub mod Merges

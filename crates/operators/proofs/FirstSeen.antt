@@ -1,7 +1,8 @@
 -- Groups as they are first seen, row by row.
-use Rattle.std.proofs.Common.{◌≡◌, refl, ap, sym, ◌∙◌, ◌+◌, Bool, true, false, not, ◌||◌, if◌then◌else◌, List, [], ◌∷◌, ◌++◌, map, filter, zero, suc, ℕ, append-nil, arith}
-use Rattle.std.specs.List.{list_any, position_or_len}
+use Rattle.std.proofs.Common.{◌≡◌, refl, ap, sym, ◌∙◌, ◌+◌, Bool, true, false, not, ◌||◌, if◌then◌else◌, List, [], ◌∷◌, ◌++◌, length, map, filter, zero, suc, ℕ, append-nil, arith}
+use Rattle.std.specs.List.{AllByRecursion, list_any, position_or_len}
 use Rattle.std.specs.Cmp.{IsEquivalence}
+use Rattle.values.proofs.Each.{all_filter}
 use Rattle.std.proofs.lemmas.List.Elements.{filter-append}
 use Rattle.operators.specs.Groups.{GroupOf, first_seen, groups_by, added_at, with_founder}
 
@@ -156,3 +157,34 @@ module _ {X K : Type 0} (key : X → K) (eq : K → K → Bool) (law : IsEquival
   founders-more rows r =
       sym (firsts-groups (rows ++ r ∷ []) (first_seen alike (rows ++ r ∷ []))) ∙ ap firsts (groups-numbered rows r) ∙ firsts-added (place rows r) r (groups_by alike rows)
       ∙ ap (λ fs. with_founder fs (place rows r) r) (firsts-groups rows (first_seen alike rows))
+
+  -- ---- rows that are the same as earlier ones
+
+  position-last : (p : K → Bool) (y : K) → p y ≡ true → (ks : List K) → position_or_len p (ks ++ y ∷ []) ≡ position_or_len p ks
+  position-last p y h [] = ap (λ b. if not b then 1 + 0 else 0) h
+  position-last p y h (k ∷ ks) = ap (λ n. if not (p k) then 1 + n else 0) (position-last p y h ks)
+
+  -- a row that is like the last one has its place
+  pub place-again : (rows : List X) (r s : X) → alike s r ≡ true → place (rows ++ r ∷ []) s ≡ place rows r
+  place-again rows r s h =
+      ap (position_or_len (eq (key s))) (sym (keys-more rows r)) ∙ by (list_any (eq (key r)) keys) ∙ ap (λ p. position_or_len p keys) (λ i k. law.congr (key s) (key r) k h i)
+    where
+      keys : List K
+      keys = map key (first_seen alike rows)
+
+      by : (b : Bool) → position_or_len (eq (key s)) (if b then keys else keys ++ key r ∷ []) ≡ position_or_len (eq (key s)) keys
+      by true = refl
+      by false = position-last (eq (key s)) (key r) h keys
+
+  all-first : (P : X → Type 0) (rows : List X) → AllByRecursion P rows → AllByRecursion P (first_seen alike rows)
+  all-first P [] all = tt
+  all-first P (r ∷ rows) all = (all.0, all_filter P (λ s. not (alike r s)) (first_seen alike rows) (all-first P rows all.1))
+
+  position-none : (r : X) (xs : List X) → AllByRecursion (λ x. alike r x ≡ false) xs → position_or_len (eq (key r)) (map key xs) ≡ length xs
+  position-none r [] all = refl
+  position-none r (x ∷ xs) all =
+      ap (λ b. if not b then 1 + position_or_len (eq (key r)) (map key xs) else 0) all.0 ∙ ap (λ n. 1 + n) (position-none r xs all.1) ∙ (let next : 1 + length xs ≡ suc (length xs) = omega arith in next)
+
+  -- a row that is like none before it has the next place
+  pub place-new : (rows : List X) (r : X) → AllByRecursion (λ x. alike r x ≡ false) rows → place rows r ≡ length (first_seen alike rows)
+  place-new rows r all = position-none r (first_seen alike rows) (all-first (λ x. alike r x ≡ false) rows all)

@@ -2,10 +2,14 @@ pub mod EverywhereRows
 pub mod FilteredJoins
 pub mod FirstSeen
 pub mod GroupEnvs
+pub mod NumberedGroups
 pub mod PlainParts
 pub mod PlanOutputs
-pub mod PlanReads
 pub mod Readable
+pub mod RunnablePlans
 pub mod RunningGroups
+pub mod RunPlaces
 pub mod ShownRows
+pub mod SortedInputs
 pub mod TableScans
+pub mod Together

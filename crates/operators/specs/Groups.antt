@@ -1,5 +1,5 @@
 -- Groups of rows, as they are first seen.
-use Rattle.std.specs.Prelude.{◌≡◌, ℕ, zero, suc, ◌+◌, ◌<◌, Bool, not, List, [], ◌∷◌, ◌++◌, length, map, filter, slice_index_or, Some}
+use Rattle.std.specs.Prelude.{◌≡◌, ℕ, zero, suc, ◌+◌, ◌<◌, ◌≤◌, Bool, true, false, not, List, [], ◌∷◌, ◌++◌, length, map, filter, slice_index_or, Some}
 use Rattle.std.specs.List.{range_with_len}
 use Rattle.values.specs.declared.value.Value.{Value}
 use Rattle.schema.specs.Databases.{Row}
@@ -15,7 +15,7 @@ use Rattle.relations.specs.declared.rows.Rows.{Rows}
 use Rattle.relations.specs.declared.relation.Relation.{Relation}
 use Rattle.operators.specs.declared.groups.Grouping.{Grouping}
 use Rattle.relations.specs.Parts.{row_at, value_in}
-use Rattle.relations.specs.Relations.{numbered_env, numbers_of}
+use Rattle.relations.specs.Relations.{column_places, numbered_env, numbers_of}
 
 -- rows, and the first of those that are the same
 pub record GroupOf (X : Type 0) : Type 0 where
@@ -53,11 +53,24 @@ key_at places row = map (λ place. value_in (Some place) row) places
 abbrev pub same_at : List Place → Rows → ℕ → ℕ → Bool
 same_at places rows m n = key_eq (key_at places (row_at rows.parts.items m)) (key_at places (row_at rows.parts.items n))
 
+-- whether a row is the same as the one before it
+abbrev pub continues : (ℕ → ℕ → Bool) → ℕ → Bool
+continues same zero = false
+continues same (suc n) = same (suc n) n
+
+-- of so many rows those that are the same stand together
+abbrev pub StandTogether : (ℕ → ℕ → Bool) → ℕ → Type 0
+StandTogether same count = (i j k : ℕ) → i ≤ j → j ≤ k → k < count → same i k ≡ true → same i j ≡ true
+
 -- each row comes to the group of its number
 abbrev pub AreNumbered : (ℕ → ℕ → Bool) → List ℕ → Type 0
 AreNumbered same numbers = (n : ℕ) → n < length numbers → groups_by same (range_with_len 0 (n + 1)) ≡ added_at (slice_index_or numbers n 0) n (groups_by same (range_with_len 0 n))
 
 -- ---- groups of a relation
+
+-- its rows that are the same in some columns stand together
+abbrev pub AreTogether : List ℕ → Relation → Type 0
+AreTogether K r = StandTogether (same_at (column_places r.heading K) r.rows) r.rows.count
 
 -- the groups of a relation's rows by their values at some places
 abbrev pub placed_groups : List Place → Relation → List (GroupOf ℕ)

@@ -2,6 +2,7 @@ pub mod Everywhere
 pub mod FilteredJoins
 pub mod Grouped
 pub mod Groups
+pub mod Runnable
 pub mod Shown
 pub mod Sorting
 pub mod Sources

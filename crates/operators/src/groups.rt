@@ -5,34 +5,46 @@ ghost use Rattle.values.specs.Cells.{value_of};
 ghost use Rattle.algebra.specs.Bags as bags;
 ghost use Rattle.algebra.specs.Columns.{has, rising};
 ghost use Rattle.algebra.specs.Expressions as expressions;
+ghost use Rattle.physical.specs.declared.plan.GroupMethod.TheVariants as by;
 ghost use Rattle.physical.specs.Origins.{AreReadable};
 ghost use Rattle.relations.specs.Relations.{IsOutput, env_of, numbered_env, rows_of};
-ghost use Rattle.operators.specs.Groups.{group_envs};
+ghost use Rattle.operators.specs.Groups.{AreTogether, group_envs};
 ghost use Rattle.operators.specs.Grouped.{groups_in};
 
 use crate::aggregates::{aggregate_column, aggregate_of_all};
 use crate::grouped::Groups;
 use algebra::{Aggregation, Columns};
+use physical::GroupMethod;
 use query::ColumnId;
 use relations::{Env, Part, Relation, row_cell};
 use std::alloc::{AllocError, Global};
 use values::Cell;
 
-/// One of each row, as first seen.
-pub fn distinct<'t>(alloc: Global, input: Relation<'t>) -> Result<Relation<'t>, AllocError>
+/// One of each row, as first seen. By the method sorted, those that are the same stand together.
+pub fn distinct<'t>(
+    alloc: Global,
+    method: GroupMethod,
+    input: Relation<'t>,
+) -> Result<Relation<'t>, AllocError>
+    requires { method ≡ by.Sorted → AreTogether input.heading.columns input }
     ensures { (e : bags.Env) → IfOk result (IsOutput input.entry.heading.columns (bags.distinct input.entry.heading.columns (rows_of input.entry) e) e) }
 {
-    let firsts = distinct_numbers(alloc, &input)?;
+    let firsts = distinct_numbers(alloc, method, &input)?;
     input.chosen(alloc, firsts.as_slice())
 }
 
 /// The numbers of the rows that were seen first of those that are the same.
-fn distinct_numbers(alloc: Global, input: &Relation<'_>) -> Result<Vec<usize>, AllocError>
+fn distinct_numbers(
+    alloc: Global,
+    method: GroupMethod,
+    input: &Relation<'_>,
+) -> Result<Vec<usize>, AllocError>
+    requires { method ≡ by.Sorted → AreTogether input.now.heading.columns input.now }
     ensures { (e : bags.Env) → IfOk result (λ firsts. map (numbered_env input.now e) firsts.items ≡ bags.distinct_on input.now.heading.columns (rows_of input.now e)) }
 {
     let heading = &input.heading;
     let places = heading.places_of(alloc, heading.columns.as_slice())?;
-    let groups = Groups::new(alloc, input, places)?;
+    let groups = Groups::new(alloc, method, input, places)?;
     Ok(groups.into_firsts())
 }
 
@@ -118,6 +130,7 @@ fn group_parts<'t>(
 /// The rows of the groups, as their keys were first seen.
 fn rows_of_groups<'t>(
     alloc: Global,
+    method: GroupMethod,
     grouping: Grouping<'_>,
     columns: Columns,
     input: &Relation<'t>,
@@ -125,10 +138,11 @@ fn rows_of_groups<'t>(
 ) -> Result<Relation<'t>, AllocError>
     requires read { AreReadable grouping.added.now (rows_of input.now (env_of env.now)) }
     requires keyed { 0 < length grouping.keys.now }
+    requires together { method ≡ by.Sorted → AreTogether grouping.keys.now input.now }
     ensures { IfOk result (IsOutput columns (map (λ f. bags.lay (has columns) f (env_of env.now)) (bags.group grouping.entry.keys.now (expressions.with_aggregates grouping.entry.added.now) (rows_of input.now) (env_of env.now))) (env_of env.now)) }
 {
     let places = input.heading.places_of(alloc, grouping.keys.as_slice())?;
-    let groups = Groups::new(alloc, input, places)?;
+    let groups = Groups::new(alloc, method, input, places)?;
     let parts = group_parts(alloc, grouping, &groups, env, columns.as_slice())?;
     Relation::made(alloc, columns, groups.firsts.len(), parts)
 }
@@ -186,15 +200,18 @@ fn row_of_all<'t>(
     Relation::made(alloc, columns, 1, parts)
 }
 
-/// One row for each different key, as first seen, with its aggregates; without keys one row.
+/// One row for each different key, as first seen, with its aggregates; without keys one row. By the method sorted, rows with the same
+/// key stand together.
 pub fn grouped<'g, 't>(
     alloc: Global,
+    method: GroupMethod,
     keys: &'g Columns,
     added: &'g [Aggregation],
     input: &Relation<'t>,
     env: &Env<'_, 't>,
 ) -> Result<Relation<'t>, AllocError>
-    requires { AreReadable added.now (rows_of input.now (env_of env.now)) }
+    requires read { AreReadable added.now (rows_of input.now (env_of env.now)) }
+    requires together { method ≡ by.Sorted → AreTogether keys.now input.now }
     ensures { IfOk result (IsOutput (rising (keys.entry.now ++ expressions.aggregate_columns added.entry.now)) (bags.group keys.entry.now (expressions.with_aggregates added.entry.now) (rows_of input.now) (env_of env.now)) (env_of env.now)) }
 {
     let grouping = Grouping { keys, added };
@@ -202,6 +219,6 @@ pub fn grouped<'g, 't>(
     if keys.as_slice().len() == 0 {
         row_of_all(alloc, grouping, columns, input, env)
     } else {
-        rows_of_groups(alloc, grouping, columns, input, env)
+        rows_of_groups(alloc, method, grouping, columns, input, env)
     }
 }

@@ -36,7 +36,7 @@ impl<'a, 't> Model for PlacedKey<'a, 't> {
 }
 
 impl<'a, 't> PlacedKey<'a, 't> {
-    fn new(rows: &'a Rows<'t>, places: &'a [Place], number: usize) -> PlacedKey<'a, 't>
+    pub fn new(rows: &'a Rows<'t>, places: &'a [Place], number: usize) -> PlacedKey<'a, 't>
         ensures { result ≡ spec.key_at places.entry.now (row_at rows.entry.now.parts.items number) }
     {
         PlacedKey {
@@ -103,7 +103,7 @@ pub struct GroupNumbers {
 
 impl GroupNumbers {
     /// Adds the row that comes next: to the group with this number, or as the first of a new one.
-    fn add(&mut self, row: usize, group: usize) -> Result<(), AllocError>
+    pub fn add(&mut self, row: usize, group: usize) -> Result<(), AllocError>
         ensures firsts { OnOk result (self.new.firsts.items ≡ spec.with_founder self.old.firsts.items group row) }
         ensures numbers { OnOk result (self.new.numbers.items ≡ self.old.numbers.items ++ group ∷ []) }
     {

@@ -7,6 +7,7 @@ mod groups;
 mod index_scans;
 mod keys;
 mod running;
+mod runs;
 mod scans;
 mod shown;
 mod sorting;

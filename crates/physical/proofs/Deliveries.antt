@@ -10,7 +10,6 @@ use Rattle.values.proofs.Orders.{not_gt-then}
 use Rattle.query.specs.declared.query.TableInstance.{TableInstance}
 use Rattle.query.specs.Rows.{Tables}
 use Rattle.query.specs.Meaning.{or_else_row}
-use Rattle.algebra.specs.declared.condition.Condition.{Condition}
 use Rattle.algebra.specs.Columns.{ColumnSet, has, rising, are_disjoint}
 use Rattle.algebra.specs.Bags.{Env, Bag, Test, lay, nulls, select, matches, join, left_join, same_on, distinct_on, group}
 use Rattle.algebra.specs.Conditions.{holds}

@@ -2,4 +2,5 @@ pub mod Indexes
 pub mod Orders
 pub mod Origins
 pub mod Outputs
+pub mod RequiredOrders
 pub mod Sorts

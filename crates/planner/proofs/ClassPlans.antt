@@ -17,7 +17,8 @@ use Rattle.physical.specs.declared.plan.Operator.TheVariants.{Scan, IndexScan, F
 use Rattle.physical.specs.declared.plan.Node.{Node}
 use Rattle.physical.specs.declared.plan.Node.TheVariants.{Implements}
 use Rattle.physical.specs.declared.plan.Plan.{Plan, roll-Plan, out-roll-Plan, fold-roll-Plan}
-use Rattle.derivation.specs.Replay.{implements, index_fits, names_lines, needed_classes, are_sorted, node_fits, inputs_fit, plan_fits}
+use Rattle.physical.specs.RequiredOrders.{are_sorted}
+use Rattle.derivation.specs.Replay.{implements, index_fits, names_lines, needed_classes, node_fits, inputs_fit, plan_fits}
 use Rattle.derivation.proofs.Fits.{plan_fits_out}
 use Rattle.planner.specs.Canonical.{is_basic, is_basic_node, basic_layer, is_basic_plan, IsBasicOf, NameEarlier, IsPlanOf}
 

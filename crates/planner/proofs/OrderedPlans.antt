@@ -18,7 +18,8 @@ use Rattle.physical.specs.declared.plan.Node.TheVariants.{Sort}
 use Rattle.physical.specs.declared.plan.Plan.{Plan, out-roll-Plan, fold-roll-Plan}
 use Rattle.physical.specs.Orders.{order_layer, plan_order}
 use Rattle.derivation.specs.QueryOrders.{ordered_column, ordered_columns, query_order}
-use Rattle.derivation.specs.Replay.{plan_fits, same_order, is_delivered}
+use Rattle.derivation.specs.Replay.{plan_fits, is_delivered}
+use Rattle.physical.specs.RequiredOrders.{same_order}
 use Rattle.derivation.proofs.Fits.{plan_fits_out}
 use Rattle.planner.specs.Canonical.{top, IsPlanOf}
 

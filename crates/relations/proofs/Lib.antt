@@ -2,4 +2,5 @@ pub mod ColumnPlaces
 pub mod Numbers
 pub mod PairedRows
 pub mod RelationRows
+pub mod Settled
 pub mod Steps

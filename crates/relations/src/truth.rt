@@ -103,7 +103,7 @@ fn equals_at(
     }
 }
 
-/// Whether a value equals that of the column in some of the rows.
+/// Whether a value equals that of the column in some of the rows; the first that it equals settles it.
 fn equals_some(
     cell: Cell<'_>,
     relation: &Relation<'_>,
@@ -114,7 +114,11 @@ fn equals_some(
 {
     let mut any = Truth::False;
     for number in 0..relation.rows.count {
-        any = any.or(equals_at(cell, relation, number, column, env));
+        let here = equals_at(cell, relation, number, column, env);
+        if here.is_true() {
+            return Truth::True;
+        }
+        any = any.or(here);
     }
     any
 }

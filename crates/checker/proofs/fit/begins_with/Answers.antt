@@ -4,7 +4,7 @@ use Rattle.std.proofs.lemmas.List.{length-take}
 use Rattle.algebra.proofs.Same.{tested}
 use Rattle.physical.specs.declared.plan.OrderKey.{OrderKey}
 use Rattle.physical.specs.contracts.plan.OrderKey as order_key
-use Rattle.derivation.specs.Replay.{same_order}
+use Rattle.physical.specs.RequiredOrders.{same_order}
 use Rattle.checker.proofs.fit.begins_with.Goals as goal
 
 -- an order that is too short does not begin with the keys

@@ -3,7 +3,7 @@ use Rattle.std.proofs.lemmas.Result.{IfOk-weaker}
 use Rattle.schema.specs.Databases.{Row}
 use Rattle.query.specs.Answer.{IsAnswer}
 use Rattle.query.specs.Rows.{tables_in}
-use Rattle.executor.proofs.Plans.{answer_of, answers_of, reads_of, short_of}
+use Rattle.executor.proofs.Plans.{answer_of, answers_of, runnable_of, short_of}
 use Rattle.executor.proofs.execution.find.Goals as goal
 
 pub returns-clause-rows : goal.returns-clause-rows
@@ -19,10 +19,10 @@ returns-clause-answers c = λ same.
     let answers = answers_of c.args.checked.now.schema D.schema c.args.checked.now.query c.args.checked.now.certificate D.tables c.certificate.ensures.checked c.tables.ensures.satisfies same in
     IfOk-weaker c.plan_found.result _ (λ rows. IsAnswer c.args.checked.now.query (tables_in D) rows) (λ rows is. subst (IsAnswer c.args.checked.now.query (tables_in D)) (sym is) answers) (returns-clause-rows c)
 
-pub plan_found-requires-clause-reads : goal.plan_found-requires-clause-reads
-plan_found-requires-clause-reads c =
+pub plan_found-requires-clause-runnable : goal.plan_found-requires-clause-runnable
+plan_found-requires-clause-runnable c =
     let checked = c.args.checked.now in
-    reads_of checked.schema checked.query c.query-query.result.now c.certificate.result.now checked.certificate c.as_slice-uses.result.now c.as_slice-uses.ensures c.query-query.ensures c.certificate.ensures.certificate c.certificate.ensures.checked
+    runnable_of checked.schema checked.query c.query-query.result.now c.certificate.result.now checked.certificate c.as_slice-uses.result.now c.as_slice-uses.ensures c.query-query.ensures c.certificate.ensures.certificate c.certificate.ensures.checked
 
 pub plan_found-requires-clause-short : goal.plan_found-requires-clause-short
 plan_found-requires-clause-short c = short_of c.args.database.now.schema c.in_ok-tables.tables c.args.database.now.tables (c.in_ok-tables.ensures ∙ c.tables.ensures.tables) c.tables.ensures.satisfies

@@ -1,27 +1,14 @@
-use Rattle.std.proofs.Common.{◌≡◌, ap, sym, subst, ◌∙◌, ℕ, ◌+◌, ◌<◌, Bool, inl, inr, List, [], ◌∷◌, ◌++◌, length, get_or, map, length-append, arith}
+use Rattle.std.proofs.Common.{◌≡◌, ap, sym, subst, ◌∙◌, ℕ, ◌+◌, Bool, List, [], ◌∷◌, length, map, length-append}
 use Rattle.std.specs.List.{position_or_len, range_with_len}
-use Rattle.std.proofs.lemmas.Bool.{cases_eq}
-use Rattle.std.proofs.Math.ListN.{get_or-append}
-use Rattle.std.proofs.Math.Seq.{get_or-append_seam}
 use Rattle.indexmap.specs.IndexSet.{insert_key}
 use Rattle.schema.specs.Databases.{Row}
 use Rattle.store.specs.Keys.{key_eq, key_equiv}
 use Rattle.relations.specs.Parts.{row_at}
 use Rattle.operators.specs.Groups.{AreNumbered, added_at, first_seen, groups_by, key_at, same_at, with_founder}
 use Rattle.operators.proofs.FirstSeen.{groups-numbered, founders-more, keys-more, place}
+use Rattle.operators.proofs.NumberedGroups.{numbered-more}
 use Rattle.relations.proofs.Numbers.{range_number}
 use Rattle.operators.proofs.keys.group_numbers.Goals as goal
-
--- one row more has its number
-numbered-more : (same : ℕ → ℕ → Bool) (numbers : List ℕ) (group : ℕ) → AreNumbered same numbers → groups_by same (range_with_len 0 (length numbers + 1)) ≡ added_at group (length numbers) (groups_by same (range_with_len 0 (length numbers)))
-    → AreNumbered same (numbers ++ group ∷ [])
-numbered-more same numbers group all here n below = elim (cases_eq n (length numbers)) [
-  | inl e ↦ subst (λ m. groups_by same (range_with_len 0 (m + 1)) ≡ added_at (get_or (numbers ++ group ∷ []) m 0) m (groups_by same (range_with_len 0 m))) (sym e)
-      (here ∙ ap (λ g. added_at g (length numbers) (groups_by same (range_with_len 0 (length numbers)))) (sym (get_or-append_seam numbers group [] 0)))
-  | inr ne ↦
-      let low : n < length numbers = omega (arith, ne, below, length-append numbers (group ∷ [])) in
-      all n low ∙ ap (λ g. added_at g n (groups_by same (range_with_len 0 n))) (sym (get_or-append numbers (group ∷ []) 0 n low))
-]
 
 pub loop-number-preserved : goal.loop-number-preserved
 loop-number-preserved c =
