@@ -1,6 +1,7 @@
 pub mod Candidates
 pub mod Chains
 pub mod FilteredJoins
+pub mod FoundRows
 pub mod JoinRows
 pub mod Merges
 pub mod SharedKeys
