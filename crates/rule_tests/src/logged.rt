@@ -9,7 +9,7 @@ use logs::Log;
 use query::BoundQuery;
 use std::alloc::{AllocError, Global};
 use store::Database;
-use values::{Fault, Items};
+use values::{Boxed, Fault, Items};
 
 /// The rules that cases name.
 const RULES: [RuleName; 3] = [
@@ -37,15 +37,18 @@ fn numbers_of(alloc: Global, word: &str) -> Result<Items<u32>, AllocError> {
 }
 
 /// A step: `RULE USES MAKES`.
-fn step_of(alloc: Global, words: &str) -> Result<Step, AllocError> {
+fn step_of(alloc: Global, words: &str) -> Result<Boxed<Step>, AllocError> {
     let (rule, words) = cut(words);
     let (uses, makes) = cut(words);
-    Ok(Step {
-        rule: rule_of(rule),
-        pick: 0,
-        uses: numbers_of(alloc, uses)?,
-        makes: numbers_of(alloc, makes)?,
-    })
+    Boxed::new(
+        alloc,
+        Step {
+            rule: rule_of(rule),
+            pick: 0,
+            uses: numbers_of(alloc, uses)?,
+            makes: numbers_of(alloc, makes)?,
+        },
+    )
 }
 
 /// A line: `A CLASS STEP: ` and an expression's line, `S CLASS CLASS STEP`, `G LINE LINE`, `L CLASS LINE: FACT`, or an expression's line
