@@ -4,7 +4,7 @@ use crate::book::RuleName;
 use algebra::{ClassId, Expr, LineId};
 use props::Fact;
 use thiserror::Error;
-use values::Items;
+use values::{Boxed, Items};
 
 /// A rule, applied to lines.
 #[derive(Drop)]
@@ -18,15 +18,15 @@ pub struct Step {
     pub makes: Items<LineId>,
 }
 
-/// A line of a derivation. Lines are numbered from 0.
+/// A line of a derivation. Lines are numbered from 0. A step is boxed, as most lines have none.
 #[derive(Drop)]
 pub enum Line {
     /// Founds a class, which is named by this line's number.
     Founds(Expr),
     /// The expression is one more of the class, by a step.
-    Adds(ClassId, Step, Expr),
+    Adds(ClassId, Boxed<Step>, Expr),
     /// Two classes are the same, by a step from the first to the second.
-    Unites(ClassId, ClassId, Step),
+    Unites(ClassId, ClassId, Boxed<Step>),
     /// Two lines have expressions that are alike, so their classes are the same.
     Alike(LineId, LineId),
     /// A fact holds of the class, by a line of it.

@@ -1,4 +1,6 @@
 pub mod Equations
+pub mod Chains
+pub mod ClassLines
 pub mod ClosedLogs
 pub mod FreeColumns
 pub mod LogLines
@@ -9,4 +11,5 @@ pub mod NotedLines
 pub mod PushedSets
 pub mod Relabelled
 pub mod SetReads
+pub mod Times
 pub mod UnitedFacts

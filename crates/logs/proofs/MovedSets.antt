@@ -1,5 +1,5 @@
 -- Classes that went from one set to another.
-use Rattle.std.proofs.Common.{◌≡◌, refl, ap, sym, ◌∙◌, subst, inl, inr, ◌⊎◌, ℕ, ◌<◌, ◌≤◌, Bool, true, false, ◌||◌, ◌==◌, nat_lt, if◌then◌else◌, List, [], ◌∷◌, ◌++◌, length, set, get_or, min, take, ◌≢◌, arith}
+use Rattle.std.proofs.Common.{◌≡◌, refl, ap, sym, ◌∙◌, subst, inl, inr, ◌⊎◌, ℕ, ◌+◌, ◌<◌, ◌≤◌, Bool, true, false, ◌||◌, ◌==◌, nat_lt, if◌then◌else◌, List, [], ◌∷◌, ◌++◌, length, set, get_or, min, take, ◌≢◌, arith}
 use Rattle.std.proofs.lemmas.Bool.{cases_lt, eq-eqb, eqb-true, ltb-true, ltb-false, ne_eqb}
 use Rattle.std.proofs.lemmas.List.{length-set, get_or_default, get_or-set_same, get_or-set_other, set-get_or, set-set}
 use Rattle.algebra.specs.Columns.{has, columns_at}
@@ -9,7 +9,8 @@ use Rattle.props.specs.Facts.{no_facts}
 use Rattle.lines.specs.Logs.{lesser, united}
 use Rattle.logs.specs.declared.sets.ClassSets.{ClassSets}
 use Rattle.props.specs.Knowledge.{root_in, set_facts, facts_or_none}
-use Rattle.logs.specs.Sets.{AreSets, AreSetsOf, AreAlike, AreOfBoth, AreFactsJoined, AreUnited, root_of, facts_of, set_at}
+use Rattle.logs.specs.Sets.{AreSets, AreSetsOf, AreAlike, AreOfBoth, AreFactsJoined, AreUnited, root_of, facts_of, set_at, times}
+use Rattle.logs.proofs.Times.{times-append, times-none}
 use Rattle.logs.proofs.SetReads as reads
 use Rattle.logs.proofs.SetReads.{root-at, root-past, facts-here, facts-past, in-roots, in-facts, root-test}
 
@@ -115,6 +116,22 @@ module _ (s t : ClassSets) (are : AreSets s) (a b : ℕ) (a-in : a < length s.se
       by false true e other = at p (in-both g low (ap (λ x. x || own_set g == q) e ∙ other)) (joined g ∙ ap (λ x. has (columns_at s.members.items p) g || x) (are-moved g low other) ∙ or-true _)
       by false false e other = at (own_set g) (in-other g (ap (λ x. x || own_set g == q) e ∙ other)).0 (ap (λ xs. has xs g) (is.others (own_set g) e other) ∙ own)
 
+  once : (r g : ℕ) → times g (columns_at t.members.items r) ≤ 1
+  once r g = by (r == p) (r == q) refl refl
+    where
+      both : times g (columns_at t.members.items p) ≡ times g (columns_at s.members.items p) + times g (columns_at s.members.items q)
+      both = ap (times g) is.into ∙ times-append g (columns_at s.members.items p) (columns_at s.members.items q)
+
+      in-one : (c d : Bool) → has (columns_at s.members.items p) g ≡ c → moved g ≡ d → times g (columns_at t.members.items p) ≤ 1
+      in-one true true e f = absurd (let never : true ≡ false = sym (eq-eqb p q (sym (are.sound p g e).1 ∙ (are.sound q g f).1)) ∙ differ in cc)
+      in-one true false e f = let sum = both in let none = times-none g (columns_at s.members.items q) f in let le = are.once p g in omega (arith, sum, none, le)
+      in-one false d e f = let sum = both in let none = times-none g (columns_at s.members.items p) e in let le = are.once q g in omega (arith, sum, none, le)
+
+      by : (c d : Bool) → (r == p) ≡ c → (r == q) ≡ d → times g (columns_at t.members.items r) ≤ 1
+      by true d e other = subst (λ k. times g (columns_at t.members.items k) ≤ 1) (sym (eqb-true r p e)) (in-one (has (columns_at s.members.items p) g) (moved g) refl refl)
+      by false true e other = subst (λ k. times g (columns_at t.members.items k) ≤ 1) (sym (eqb-true r q other)) (subst (λ xs. times g xs ≤ 1) (sym is.from) (omega arith))
+      by false false e other = subst (λ xs. times g xs ≤ 1) (sym (is.others r e other)) (are.once r g)
+
   sound : (r g : ℕ) → has (columns_at t.members.items r) g ≡ true → (g < length t.sets.items) × (set_at t.sets.items g ≡ r)
   sound r g has-it = by (r == p) (r == q) refl refl
     where
@@ -195,6 +212,7 @@ module _ (s t : ClassSets) (are : AreSets s) (a b : ℕ) (a-in : a < length s.se
     facts = is.facts_count ∙ are.facts ∙ sym is.sets_count;
     bounded = bounded;
     complete = complete;
+    once = once;
     sound = sound;
     stands = stands;
   }

@@ -27,7 +27,7 @@ module _ (uses : List TableInstance) (own : List Aggregation) where
   last-class E (Alike a b) stands i l is at = cc
   last-class E (Gives g m f) stands i l is at = cc
 
-  class-below : (E : Log) → Replays uses own E → (i : ℕ) (l : matches.Line) → member E i ≡ Some l → l.class < length E
+  pub class-below : (E : Log) → Replays uses own E → (i : ℕ) (l : matches.Line) → member E i ≡ Some l → l.class < length E
   class-below [] replays i l is = cc
   class-below (k ∷ E) replays i l is = by (i == length E) refl (class-below E replays.1 i l) is
     where

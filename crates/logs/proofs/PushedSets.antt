@@ -1,12 +1,13 @@
 -- One class more, alone in its set, and one fact more.
-use Rattle.std.proofs.Common.{◌≡◌, refl, ap, sym, ◌∙◌, subst, inl, inr, ℕ, ◌+◌, ◌<◌, Bool, true, false, ◌||◌, ◌==◌, if◌then◌else◌, List, [], ◌∷◌, ◌++◌, length, set, get_or, ◌⊎◌, arith}
+use Rattle.std.proofs.Common.{◌≡◌, refl, ap, sym, ◌∙◌, subst, inl, inr, ℕ, ◌+◌, ◌<◌, Bool, true, false, ◌||◌, ◌==◌, if◌then◌else◌, List, [], ◌∷◌, ◌++◌, length, set, get_or, ◌⊎◌, ◌≤◌, cond, arith}
 use Rattle.std.proofs.lemmas.Bool.{cases_lt, cases_order, eq-eqb, eqb-true, ne_eqb}
 use Rattle.std.proofs.lemmas.List.{length-set, length_push, get_or_push, get_or_append_left, get_or_past, get_or-set_same, get_or-set_other}
 use Rattle.algebra.specs.Columns.{has, columns_at}
 use Rattle.props.specs.declared.fact.Fact.{Fact}
 use Rattle.props.specs.Facts.{no_facts, with_fact}
 use Rattle.logs.specs.declared.sets.ClassSets.{ClassSets}
-use Rattle.logs.specs.Sets.{AreSets, root_of, facts_of, set_at}
+use Rattle.logs.specs.Sets.{AreSets, root_of, facts_of, set_at, times}
+use Rattle.logs.proofs.Times.{times-cons}
 use Rattle.logs.proofs.SetReads.{root-at, root-past, facts-here, facts-past, in-roots, in-facts, root-test}
 
 module _ (s t : ClassSets) (are : AreSets s) (n : ℕ) (count : n ≡ length s.sets.items)
@@ -134,6 +135,19 @@ module _ (s t : ClassSets) (are : AreSets s) (n : ℕ) (count : n ≡ length s.s
       by true e is = sym (eqb-true n g e)
       by false e is = cc
 
+  once : (r g : ℕ) → times g (columns_at t.members.items r) ≤ 1
+  once r g = elim (cases_order r n) [
+    | inl same ↦ subst (λ xs. times g xs ≤ 1) (sym (ap (columns_at t.members.items) same ∙ last s.members.items t.members.items (n ∷ []) [] members-count members)) (by (n == g) (times-cons g n []))
+    | inr other ↦ elim other [
+      | inl less ↦ subst (λ xs. times g xs ≤ 1) (sym (member-front r less)) (are.once r g)
+      | inr gt ↦ subst (λ xs. times g xs ≤ 1) (sym (past s.members.items t.members.items (n ∷ []) [] members-count members r gt)) (omega arith)
+    ]
+  ]
+    where
+      by : (b : Bool) → times g (n ∷ []) ≡ cond b 1 0 + 0 → times g (n ∷ []) ≤ 1
+      by true is = omega (arith, is)
+      by false is = omega (arith, is)
+
   sound : (r g : ℕ) → has (columns_at t.members.items r) g ≡ true → (g < length t.sets.items) × (set_at t.sets.items g ≡ r)
   sound r g has-it = elim (cases_order r n) [
     | inl same ↦
@@ -167,6 +181,7 @@ module _ (s t : ClassSets) (are : AreSets s) (n : ℕ) (count : n ≡ length s.s
     facts = t-facts ∙ ap (λ k. k + 1) count ∙ sym pushed-count;
     bounded = bounded;
     complete = complete;
+    once = once;
     sound = sound;
     stands = stands;
   }

@@ -1,4 +1,5 @@
 pub mod Judging
 pub mod Knowledge
 pub mod Logged
+pub mod Members
 pub mod Sets

@@ -1,5 +1,6 @@
 -- Classes in disjoint sets.
-use Rattle.std.specs.Prelude.{◌≡◌, ℕ, ◌<◌, true, false, ◌||◌, ◌==◌, ◌⊎◌, List, length, slice_index_or, vec_len, vec_capacity}
+use Rattle.std.specs.Prelude.{◌≡◌, ℕ, ◌<◌, ◌≤◌, true, false, ◌||◌, ◌==◌, ◌⊎◌, List, length, slice_index_or, vec_len, vec_capacity}
+use Rattle.std.specs.List.{count_by}
 use Rattle.std.specs.declared.vec.Vec.{Vec}
 use Rattle.algebra.specs.Columns.{has, columns_at}
 use Rattle.props.specs.declared.fact.Facts.{Facts}
@@ -19,13 +20,18 @@ facts_of s g = facts_or_none (set_facts s.sets.items s.facts.items g)
 abbrev pub set_at : List ℕ → ℕ → ℕ
 set_at sets g = slice_index_or sets g 0
 
--- each class is in the set of its number and in no other, and the class that stands for the set is in it too
+-- how often a list has a number
+abbrev pub times : ℕ → List ℕ → ℕ
+times n xs = count_by (λ k. k == n) xs
+
+-- each class is in the set of its number once, and in no other, and the class that stands for the set is in it too
 pub record AreSetsOf (sets standing : List ℕ) (classes : List (List ℕ)) (known : List Facts) : Type 0 where
   pub roots : length standing ≡ length sets
   pub members : length classes ≡ length sets
   pub facts : length known ≡ length sets
   pub bounded : (g : ℕ) → g < length sets → set_at sets g < length sets
   pub complete : (g : ℕ) → g < length sets → has (columns_at classes (set_at sets g)) g ≡ true
+  pub once : (set g : ℕ) → times g (columns_at classes set) ≤ 1
   pub sound : (set g : ℕ) → has (columns_at classes set) g ≡ true → (g < length sets) × (set_at sets g ≡ set)
   pub stands : (g : ℕ) → g < length sets → (root_in sets standing g < length sets) × (set_at sets (root_in sets standing g) ≡ set_at sets g)
 

@@ -223,8 +223,8 @@ impl<'a> Behind<'a> {
     {
         match line {
             Line::Founds(expr) => self.founds(alloc, expr),
-            Line::Adds(class, step, expr) => self.adds(alloc, *class, step, expr),
-            Line::Unites(first, second, step) => self.unites(alloc, *first, *second, step),
+            Line::Adds(class, step, expr) => self.adds(alloc, *class, step.get(), expr),
+            Line::Unites(first, second, step) => self.unites(alloc, *first, *second, step.get()),
             Line::Alike(first, second) => self.alike(alloc, *first, *second),
             Line::Gives(class, line, fact) => self.gives(*class, *line, fact),
         }

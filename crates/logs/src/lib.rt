@@ -1,7 +1,9 @@
 //! Logs: whether the lines of a derivation may stand one behind the other, and what is known by them.
 #![tactic(auto)]
 
+mod additions;
 mod alike;
+mod class_lines;
 mod class_list;
 mod free;
 mod judge;

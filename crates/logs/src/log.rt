@@ -1,6 +1,6 @@
 //! Lines that stand, one behind the other.
 
-ghost use Rattle.std.specs.Prelude.{◌≡◌, ◌<◌, ◌∷◌, [], length, map, option_map, reverse, vec_capacity, vec_len, OnErr, OnOk, Result};
+ghost use Rattle.std.specs.Prelude.{◌≡◌, ◌<◌, ◌∷◌, ℕ, [], length, map, option_map, reverse, vec_capacity, vec_len, IfOk, OnErr, OnOk, Result};
 ghost use Rattle.values.specs.Faults.{Gives};
 ghost use Rattle.algebra.specs.Classes.{class_columns};
 ghost use Rattle.algebra.specs.Columns.{columns_at};
@@ -13,7 +13,11 @@ ghost use Rattle.lines.specs.declared.line.LineReason.{LineReason};
 ghost use Rattle.logs.specs.Knowledge.{IsClosed, IsKnown, NamesEarlier};
 ghost use Rattle.logs.specs.Judging.{IsBehind, the_log};
 ghost use Rattle.logs.specs.Logged.{with_line};
+ghost use Rattle.logs.specs.Members.{AreAdditions, is_member, once_if};
+ghost use Rattle.logs.specs.Sets.{times};
 
+use crate::additions::Additions;
+use crate::class_lines::lines_of;
 use crate::judge::{Behind, LineFault};
 use crate::known::Known;
 use crate::lookups::member;
@@ -21,8 +25,9 @@ use algebra::{Aggregation, ClassId, LineId};
 use lines::Line;
 use props::KnownClasses;
 use query::TableInstance;
+use query::ids::id_behind;
 use rules::MatchedLine;
-use std::alloc::Global;
+use std::alloc::{AllocError, Global};
 use std::marker::Model;
 
 /// Lines over a query's table instances and aggregates, each of which may stand where it does.
@@ -32,6 +37,7 @@ pub struct Log<'q> {
     own: &'q [Aggregation],
     lines: Vec<Line>,
     known: Known,
+    additions: Additions,
 }
 
 impl<'q> Model for Log<'q> {
@@ -46,6 +52,7 @@ impl<'q> Model for Log<'q> {
     ghost use Rattle.lines.specs.declared.line.LineReason.{LineReason};
     ghost use Rattle.logs.specs.Knowledge.{IsClosed, IsKnown, NamesEarlier};
     ghost use Rattle.logs.specs.Logged.{Logged};
+    ghost use Rattle.logs.specs.Members.{AreAdditions};
 
     ghost Value = { Logged };
 
@@ -53,30 +60,38 @@ impl<'q> Model for Log<'q> {
 
     ghost view = { λ l. record { uses = l.uses.now; own = l.own.now; log = reverse l.lines.items } };
 
-    ghost invariant = { λ l. Replays l.uses.now l.own.now (reverse l.lines.items) × IsKnown l.uses.now (reverse l.lines.items) l.known };
+    ghost invariant = { λ l. Replays l.uses.now l.own.now (reverse l.lines.items) × IsKnown l.uses.now (reverse l.lines.items) l.known × AreAdditions (reverse l.lines.items) l.additions };
 }
 
 /// Makes room for a line that may stand by its verdict, and notes what it says. Where there is no memory, nothing is changed.
+#[tactic(auto, using(crate::proofs::Chains::kept_additions))]
 fn note(
     alloc: Global,
     verdict: Result<(), LineFault>,
     uses: &[TableInstance],
     lines: &mut Vec<Line>,
     known: &mut Known,
+    additions: &mut Additions,
     line: &Line,
 ) -> Result<(), LineFault>
     requires closed { IsClosed uses.now (reverse lines.old.items) }
     requires names { OnOk verdict (NamesEarlier (reverse lines.old.items) line.now) }
     requires known { IsKnown uses.now (reverse lines.old.items) known.old }
+    requires additions { AreAdditions (reverse lines.old.items) additions.old }
     ensures verdict { (v : Result Line LineReason) → Gives (λ _. line.now) verdict v → Gives (λ _. line.now) result v }
     ensures lines { lines.new.items ≡ lines.old.items }
     ensures room { OnOk result (vec_len lines.new < vec_capacity lines.new) }
     ensures known { OnOk result (IsKnown uses.now (line.now ∷ reverse lines.old.items) known.new) }
     ensures refused { OnErr result (IsKnown uses.now (reverse lines.old.items) known.new) }
+    ensures added { OnOk result (AreAdditions (line.now ∷ reverse lines.old.items) additions.new) }
+    ensures not_added { OnErr result (AreAdditions (reverse lines.old.items) additions.new) }
 {
     verdict?;
+    let number = id_behind(0, lines.len())?;
     lines.reserve(1)?;
+    additions.make_room()?;
     known.note(alloc, uses, lines.as_slice(), line)?;
+    additions.note(line, number);
     Ok(())
 }
 
@@ -90,6 +105,7 @@ impl<'q> Log<'q> {
             own,
             lines: Vec::new(alloc),
             known: Known::new(alloc),
+            additions: Additions::new(alloc),
         }
     }
 
@@ -122,6 +138,7 @@ impl<'q> Log<'q> {
             self.uses,
             &mut self.lines,
             &mut self.known,
+            &mut self.additions,
             &line,
         )?;
         self.lines.push_reserved(line);
@@ -155,6 +172,18 @@ impl<'q> Log<'q> {
         ensures { option_map line_in result ≡ logs.member self.now.log line }
     {
         member(self.lines(), line)
+    }
+
+    /// The lines with an expression of a class, or of one that is the same, each once, in no order; none where no line founds the class.
+    pub fn members(&self, alloc: Global, class: ClassId) -> Result<Vec<LineId>, AllocError>
+        ensures { IfOk result (λ found. (n : ℕ) → times n found.items ≡ once_if (is_member self.now.log class n)) }
+    {
+        lines_of(
+            alloc,
+            self.lines.as_slice(),
+            &self.additions,
+            self.known.sets.classes_of(class),
+        )
     }
 
     /// Whether two classes are the same.

@@ -1,7 +1,7 @@
 //! Classes in disjoint sets. Uniting two sets relabels the classes of the smaller one, so that n of them take n log n steps in all:
 //! Aho, Hopcroft and Ullman, The design and analysis of computer algorithms, 1974, section 4.6.
 
-ghost use Rattle.std.specs.Prelude.{◌≡◌, ◌<◌, ◌+◌, ◌==◌, ◌++◌, ◌∷◌, [], ℕ, false, length, if◌then◌else◌, slice_index_or, slice_set, OnErr, OnOk};
+ghost use Rattle.std.specs.Prelude.{◌≡◌, ◌<◌, ◌+◌, ◌==◌, ◌++◌, ◌∷◌, ◌&&◌, [], ℕ, false, nat_lt, length, if◌then◌else◌, slice_index_or, slice_set, OnErr, OnOk};
 ghost use Rattle.std.specs.List.{AllByRecursion};
 ghost use Rattle.algebra.specs.Columns.{has};
 ghost use Rattle.props.specs.Facts.{no_facts, with_fact};
@@ -116,6 +116,20 @@ impl ClassSets {
             roots: Vec::new(alloc),
             members: Vec::new(alloc),
             facts: Vec::new(alloc),
+        }
+    }
+
+    /// The classes of a class's set; none where there is no class of its number.
+    pub fn classes_of(&self, class: ClassId) -> &[ClassId]
+        requires { spec.AreSets self.now }
+        ensures { (g : ℕ) → spec.times g result.now ≡ (if nat_lt g (length self.now.sets.items) && (spec.root_of self.now g == spec.root_of self.now class) then 1 else 0) }
+    {
+        let count = self.sets.as_slice().len();
+        if (class as usize) < count {
+            let set = self.sets[class as usize];
+            self.members[set as usize].as_slice()
+        } else {
+            &[]
         }
     }
 

@@ -9,7 +9,7 @@ use logs::Log;
 use query::BoundQuery;
 use std::alloc::{AllocError, Global};
 use store::Database;
-use values::{Fault, Items};
+use values::{Boxed, Fault, Items};
 
 /// The rules that cases name.
 const RULES: [RuleName; 3] = [
@@ -37,15 +37,18 @@ fn numbers_of(alloc: Global, word: &str) -> Result<Items<u32>, AllocError> {
 }
 
 /// A step: `RULE USES MAKES`.
-fn step_of(alloc: Global, words: &str) -> Result<Step, AllocError> {
+fn step_of(alloc: Global, words: &str) -> Result<Boxed<Step>, AllocError> {
     let (rule, words) = cut(words);
     let (uses, makes) = cut(words);
-    Ok(Step {
-        rule: rule_of(rule),
-        pick: 0,
-        uses: numbers_of(alloc, uses)?,
-        makes: numbers_of(alloc, makes)?,
-    })
+    Boxed::new(
+        alloc,
+        Step {
+            rule: rule_of(rule),
+            pick: 0,
+            uses: numbers_of(alloc, uses)?,
+            makes: numbers_of(alloc, makes)?,
+        },
+    )
 }
 
 /// A line: `A CLASS STEP: ` and an expression's line, `S CLASS CLASS STEP`, `G LINE LINE`, `L CLASS LINE: FACT`, or an expression's line
@@ -79,6 +82,27 @@ fn name(reason: LineReason) -> &'static str {
     }
 }
 
+/// Pushes lines, and reports why each is refused that may not stand, with the number that it would have.
+fn push_lines(
+    alloc: Global,
+    log: &mut Log<'_>,
+    lines: &str,
+    reported: &mut String,
+) -> Result<(), AllocError> {
+    for text in lines.split("; ") {
+        match log.push(alloc, log_line_of(alloc, text)?) {
+            Ok(()) => {}
+            Err(Fault::Memory) => return Err(AllocError),
+            Err(Fault::Refused(reason)) => {
+                reported.push_str(name(reason))?;
+                push_number(reported, " at ", log.lines().len())?;
+                reported.push_str(". ")?;
+            }
+        }
+    }
+    Ok(())
+}
+
 /// Reports why each line is refused that may not stand, with the number that it would have; else what the log says of the classes 1
 /// and 2. A refused line isn't there for those behind it.
 struct Pushed;
@@ -93,17 +117,7 @@ impl QueryReporting for Pushed {
         reported: &mut String,
     ) -> Result<(), AllocError> {
         let mut log = Log::new(alloc, query.query().tables.as_slice(), &[]);
-        for text in more.split("; ") {
-            match log.push(alloc, log_line_of(alloc, text)?) {
-                Ok(()) => {}
-                Err(Fault::Memory) => return Err(AllocError),
-                Err(Fault::Refused(reason)) => {
-                    reported.push_str(name(reason))?;
-                    push_number(reported, " at ", log.lines().len())?;
-                    reported.push_str(". ")?;
-                }
-            }
-        }
+        push_lines(alloc, &mut log, more, reported)?;
         reported.push_str(said_of(&log))?;
         push_number(reported, ", lines ", log.into_lines().len())
     }
@@ -162,6 +176,57 @@ SELECT id FROM emp => 0 get 0; 1 keep 0 0; 2 distinct 1; S 2 1 J1 2 - => other f
             &Pushed
         )
         .as_deref(),
+        Ok("")
+    );
+}
+
+/// Reports for the number of each line, and for the number behind them, the lines of the class.
+struct Lent;
+
+impl QueryReporting for Lent {
+    fn report(
+        &self,
+        alloc: Global,
+        _database: &Database<'_>,
+        query: &BoundQuery,
+        more: &str,
+        reported: &mut String,
+    ) -> Result<(), AllocError> {
+        let mut log = Log::new(alloc, query.query().tables.as_slice(), &[]);
+        push_lines(alloc, &mut log, more, reported)?;
+        let count = u32::try_from(log.lines().len()).unwrap_or(0);
+        for class in 0..=count {
+            push_number(
+                reported,
+                if class == 0 { "" } else { " | " },
+                class as usize,
+            )?;
+            reported.push_str(":")?;
+            let mut members = log.members(alloc, class)?;
+            members.sort()?;
+            for line in &members {
+                push_number(reported, " ", *line as usize)?;
+            }
+        }
+        Ok(())
+    }
+}
+
+/// Queries, lines, and the lines of each class: founded, added, and united both ways round.
+#[test]
+fn members_are_lent(rt: HostRuntime) {
+    const ADDED: &str =
+        "SELECT id FROM emp => 0 get 0; 1 group 0 0; 2 keep 0 0; A 1 G1 1 2: 1 distinct 2 => 0: 0 | 1: 1 3 | 2: 2 | 3: | 4:
+SELECT id FROM emp => 0 get 0; 1 group 0 0; 2 keep 0 0; A 1 G1 1 2: 1 distinct 2; A 1 G1 1 2: 1 distinct 2; 5 keep 0 1 => 0: 0 | 1: 1 3 4 | 2: 2 | 3: | 4: | 5: 5 | 6:
+SELECT id FROM emp => 0 get 0; 1 keep 0 0; L 1 1: strong 0 => no such fact at 2. 0: 0 | 1: 1 | 2:";
+    const UNITED: &str =
+        "SELECT id FROM emp => 0 get 0; 1 keep 0 0; 2 keep 0 0; G 1 2 => 0: 0 | 1: 1 2 | 2: 1 2 | 3: | 4:
+SELECT id FROM emp => 0 get 0; 1 keep 0 0; 2 keep 0 0; G 2 1 => 0: 0 | 1: 1 2 | 2: 1 2 | 3: | 4:
+SELECT id FROM emp => 0 get 0; 1 keep 0 0; 2 keep 0 0; 3 keep 0 0; G 1 2; G 3 2; G 1 3 => 0: 0 | 1: 1 2 3 | 2: 1 2 3 | 3: 1 2 3 | 4: | 5: | 6: | 7:
+SELECT id FROM emp => 0 get 0; 1 group 0 0; 2 keep 0 0; A 1 G1 1 2: 1 distinct 2; 4 group 0 0; G 4 1; A 4 G1 4 2: 4 distinct 2 => 0: 0 | 1: 1 3 4 6 | 2: 2 | 3: | 4: 1 3 4 6 | 5: | 6: | 7:
+SELECT id FROM emp => 0 get 0; 1 group 0 0; 2 keep 0 0; A 1 G1 1 2: 1 distinct 2; 4 group 0 0; G 1 4; A 1 G1 4 2: 1 distinct 2 => 0: 0 | 1: 1 3 4 6 | 2: 2 | 3: | 4: 1 3 4 6 | 5: | 6: | 7:";
+    assert_eq!(rt;
+        query_differences(rt.alloc(), TABLES, &[ADDED, UNITED], &Lent).as_deref(),
         Ok("")
     );
 }

@@ -1,8 +1,9 @@
 use Rattle.std.proofs.Common.{sym, subst, reverse}
 use Rattle.lines.specs.Replay.{Replays}
 use Rattle.logs.specs.Knowledge.{IsKnown}
+use Rattle.logs.specs.Members.{AreAdditions}
 use Rattle.logs.proofs.log.Log.new.Goals as goal
 
 pub invariant_of-result : goal.invariant_of-result
 invariant_of-result c =
-    subst (λ lines. Replays c.args.uses.now c.args.own.now (reverse lines) × IsKnown c.args.uses.now (reverse lines) c.new-2.result) (sym c.new.ensures.items) (tt, c.new-2.ensures c.args.uses.now)
+    subst (λ lines. Replays c.args.uses.now c.args.own.now (reverse lines) × IsKnown c.args.uses.now (reverse lines) c.new-2.result × AreAdditions (reverse lines) c.new-3.result) (sym c.new.ensures.items) (tt, c.new-2.ensures c.args.uses.now, c.new-3.ensures)

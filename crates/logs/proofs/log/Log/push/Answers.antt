@@ -7,6 +7,7 @@ use Rattle.lines.specs.declared.line.LineReason.{LineReason}
 use Rattle.lines.specs.Replay.{Replays, stands}
 use Rattle.logs.specs.Knowledge.{IsKnown, NamesEarlier}
 use Rattle.logs.specs.Logged.{Logged}
+use Rattle.logs.specs.Members.{AreAdditions}
 use Rattle.logs.proofs.ClosedLogs.{closed}
 use Rattle.logs.proofs.NamedLines.{names-earlier}
 use Rattle.logs.proofs.log.Log.push.Goals as goal
@@ -39,7 +40,7 @@ invariant_of-self-2 c =
     let is = stands-inside c.args.self.now _ line c.self.view_is (c.in_ok-note.ensures.verdict _ c.judge-verdict.ensures) in
     let next : reverse c.push_reserved.new.self.items ≡ line ∷ reverse inside.lines.items =
     ap reverse (c.push_reserved.ensures.items ∙ ap (λ (lines : List Line). lines ++ line ∷ []) c.in_ok-note.ensures.lines) ∙ reverse-append inside.lines.items (line ∷ []) in
-    subst (λ E. Replays inside.uses.now inside.own.now E × IsKnown inside.uses.now E c.note.new.known) (sym next) ((is, c.self.invariant.0), c.in_ok-note.ensures.known)
+    subst (λ E. Replays inside.uses.now inside.own.now E × IsKnown inside.uses.now E c.note.new.known × AreAdditions E c.note.new.additions) (sym next) ((is, c.self.invariant.0), c.in_ok-note.ensures.known, c.in_ok-note.ensures.added)
 
 pub returns-clause-verdict : goal.returns-clause-verdict
 returns-clause-verdict c = c.in_ok-note.ensures.verdict _ c.judge-verdict.ensures
