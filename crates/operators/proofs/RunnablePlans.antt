@@ -15,7 +15,6 @@ use Rattle.physical.specs.declared.plan.Node.TheVariants.{Implements}
 use Rattle.physical.specs.declared.plan.Plan.{Plan, out-Plan, fold_out-Plan}
 use Rattle.physical.specs.Origins.{Origin, AreReadable, all_read, node_reads, operator_reads, origin_layer, plan_origin}
 use Rattle.physical.specs.Outputs.{plan_output}
-use Rattle.physical.specs.RequiredOrders.{plan_supply}
 use Rattle.physical.proofs.RequiredOrders.{supply-parts}
 use Rattle.physical.proofs.StoredValues.{group-readable}
 use Rattle.relations.specs.declared.relation.Relation.{Relation}
