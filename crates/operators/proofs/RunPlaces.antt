@@ -1,5 +1,5 @@
 -- Groups of rows that stand together: a row has the group of the row before it, or founds the next one.
-use Rattle.std.proofs.Common.{◌≡◌, refl, ap, sym, ◌∙◌, ℕ, zero, suc, ◌+◌, ◌<◌, ◌≤◌, Bool, true, false, if◌then◌else◌, List, [], ◌∷◌, ◌++◌, length, arith, add-one}
+use Rattle.std.proofs.Common.{◌≡◌, refl, ap, sym, ◌∙◌, ℕ, zero, suc, ◌+◌, ◌-◌, ◌<◌, ◌≤◌, Bool, true, false, if◌then◌else◌, List, [], ◌∷◌, ◌++◌, length, arith, add-one}
 use Rattle.std.specs.List.{AllByRecursion, range_with_len}
 use Rattle.std.specs.Cmp.{IsEquivalence}
 use Rattle.operators.specs.Groups.{StandTogether, continues, first_seen}
@@ -9,6 +9,11 @@ use Rattle.relations.proofs.Numbers.{range_number}
 all-numbers : (P : ℕ → Type 0) (a n : ℕ) → ((i : ℕ) → a ≤ i → i < a + n → P i) → AllByRecursion P (range_with_len a n)
 all-numbers P a zero each = tt
 all-numbers P a (suc n) each = (each a (omega arith) (omega arith), all-numbers P (a + 1) n (λ i low high. each i (omega (arith, low)) (omega (arith, high))))
+
+-- behind the first row, it is whether the row is the same as the one before it
+pub continues-before : (same : ℕ → ℕ → Bool) (n : ℕ) → 0 < n → continues same n ≡ same n (n - 1)
+continues-before same zero some = absurd (omega (arith, some))
+continues-before same (suc m) some = let e : suc m - 1 ≡ m = omega arith in ap (same (suc m)) (sym e)
 
 module _ {K : Type 0} (key : ℕ → K) (eq : K → K → Bool) (law : IsEquivalence eq) where
   abbrev same : ℕ → ℕ → Bool
@@ -34,6 +39,6 @@ module _ {K : Type 0} (key : ℕ → K) (eq : K → K → Bool) (law : IsEquival
       by : (b : Bool) → same (suc m) m ≡ b → (if b then before else next) ≡ place_of (suc m) (suc m)
       by true is =
           earlier m (omega arith) ∙ sym (place-again key eq law (range_with_len 0 m) m (suc m) is)
-          ∙ ap (λ rows. place key eq law rows (suc m)) (sym (range_number m) ∙ ap (range_with_len 0) (sym (add-one m)))
+          ∙ ap (λ rows. place key eq law rows (suc m)) (sym (range_number m) ∙ ap (range_with_len 0) (add-one m))
       by false is =
           many ∙ sym (place-new key eq law (range_with_len 0 (suc m)) (suc m) (all-numbers (λ x. same (suc m) x ≡ false) 0 (suc m) (λ x low high. unlike-earlier count m together below is x (omega (arith, high)))))

@@ -31,7 +31,7 @@ use Rattle.operators.proofs.GroupEnvs.{same-key}
 
 tie-of : (o p q : Ordering) → is_gt (ordering_then o p) ≡ false → is_gt (ordering_then (ordering_reverse o) q) ≡ false → (o ≡ Equal) × (is_gt p ≡ false) × (is_gt q ≡ false)
 tie-of Less p q low high = cc
-tie-of Equal p q low high = (refl, (low, high))
+tie-of Equal p q low high = (refl, low, high)
 tie-of Greater p q low high = cc
 
 tied : (d : Bool) (x y : Value) → directed d x y ≡ Equal → same x y ≡ true
@@ -48,7 +48,7 @@ between (k ∷ keys) a b c alike low high =
     let turned : directed k.descending (b k.column) (c k.column) ≡ ordering_reverse (directed k.descending (a k.column) (b k.column)) =
     ap (directed k.descending (b k.column)) (sym first) ∙ (directed_total k.descending).antisymm (b k.column) (a k.column) in
     let tie = tie-of (directed k.descending (a k.column) (b k.column)) (keys_order keys a b) (keys_order keys b c) low (ap (λ o. is_gt (ordering_then o (keys_order keys b c))) (sym turned) ∙ high) in
-    and_from _ _ (tied k.descending (a k.column) (b k.column) tie.0) (between keys a b c ends.1 tie.1.0 tie.1.1)
+    and_from _ _ (tied k.descending (a k.column) (b k.column) tie.0) (between keys a b c ends.1 tie.1 tie.2)
 
 -- so it is in columns that an order begins with
 between-on : (K : List ℕ) (order : List OrderKey) (a b c : Env) → begins_with_all K order ≡ true → same_on K a c ≡ true → is_gt (keys_order order a b) ≡ false → is_gt (keys_order order b c) ≡ false → same_on K a b ≡ true

@@ -1,4 +1,4 @@
-//! What a plan reads: the tables, and those of their indexes that it scans by, each sorted once.
+//! What a plan reads: the tables, and those of their indexes that it scans or joins by, each sorted once.
 
 ghost use Rattle.std.specs.Prelude.{◌≡◌, [], slice_index_or, IfOk, IfSome, IsTrue};
 ghost use Rattle.store.specs.Indexes.{IsIndex};
@@ -59,10 +59,10 @@ pub struct Sources<'q, 't> {
     pub tables: &'q IndexedTables<'t>,
 }
 
-/// The indexes by which a plan scans.
+/// The indexes by which a plan scans or joins.
 fn push_accesses(plan: &Plan, accesses: &mut Vec<IndexAccess>) -> Result<(), AllocError> {
     if let Node::Implements {
-        operator: Operator::IndexScan { access, .. },
+        operator: Operator::IndexScan { access, .. } | Operator::IndexJoin { access, .. },
         ..
     } = &plan.node
     {
@@ -109,7 +109,7 @@ fn missing_index(
 }
 
 impl<'t> IndexedTables<'t> {
-    /// The tables, with the indexes by which a plan scans.
+    /// The tables, with the indexes by which a plan scans or joins.
     pub fn for_plan(
         alloc: Global,
         tables: &'t [Table],

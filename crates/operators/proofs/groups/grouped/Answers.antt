@@ -33,4 +33,4 @@ returns-else-as_slice-eq0 c =
     c.rows_of_groups.ensures
 
 pub rows_of_groups-requires : goal.rows_of_groups-requires
-rows_of_groups-requires c = record { read = c.requires; keyed = omega (arith, c.if-as_slice-eq0.false, ap length c.as_slice.ensures.columns) }
+rows_of_groups-requires c = record { read = c.requires.read; together = c.requires.together; keyed = omega (arith, c.if-as_slice-eq0.false, ap length c.as_slice.ensures.columns) }

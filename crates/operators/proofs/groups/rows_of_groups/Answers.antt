@@ -9,7 +9,7 @@ use Rattle.physical.specs.Origins.{AreReadable}
 use Rattle.relations.specs.declared.headings.Place.{Place}
 use Rattle.relations.specs.declared.relation.Relation.{Relation}
 use Rattle.operators.specs.Grouped.{groups_in}
-use Rattle.operators.specs.Groups.{group_envs, placed_groups}
+use Rattle.operators.specs.Groups.{StandTogether, group_envs, placed_groups, same_at}
 use Rattle.relations.specs.Relations.{column_places, env_of, rows_of}
 use Rattle.operators.proofs.GroupEnvs.{group-rows, groups-many}
 use Rattle.joins.proofs.Outputs.{restated}
@@ -44,3 +44,8 @@ returns c =
     ap (λ (r : Relation). group_envs g r e (placed_groups G.places.items r)) c.in_ok-groups.ensures.input ∙ ap (λ (ps : List Place). group_envs g input e (placed_groups ps input)) places ∙ group-rows g input e c.requires.keyed in
     restated c.made.result _ _ _ _ e refl (ap (map (λ f. lay (has c.args.columns) f e)) is)
     (c.made.ensures made e many (c.in_ok-parts.ensures ∙ ap (map (λ k. map (λ (f : Env). f k ∷ []) made)) c.as_slice-2.ensures.columns))
+
+pub new-requires : goal.new-requires
+new-requires c = λ sorted.
+    let input = c.args.input.now in
+    subst (λ (ps : List Place). StandTogether (same_at ps input.rows) input.rows.count) (sym (c.in_ok-places.ensures ∙ ap (column_places input.heading) c.as_slice.ensures.columns)) (c.requires.together sorted)

@@ -19,10 +19,11 @@ loop-number-preserved c =
     let same : ℕ → ℕ → Bool = same_at places rows in
     let before : List ℕ = range_with_len 0 n in
     let numbers = c.loop-number.groups.numbers.items in
-    let group = c.run_at.result in
+    let group = c.run_at-group.result in
     let many : length numbers ≡ n = c.loop-number.invariant.each in
-    let next : c.len.result ≡ length (first_seen same before) = c.len.ensures ∙ ap length c.loop-number.invariant.firsts in
-    let is : group ≡ place key key_eq key_equiv before n = c.run_at.ensures ∙ run-place key key_eq key_equiv rows.count n c.loop-number.group c.len.result c.requires (omega arith) c.loop-number.invariant.last next in
+    let founders : length c.loop-number.groups.firsts.items ≡ length (first_seen same before) = ap length c.loop-number.invariant.firsts in
+    let next : c.len.result ≡ length (first_seen same before) = omega (arith, c.len.ensures, founders) in
+    let is : group ≡ place key key_eq key_equiv before n = c.run_at-group.ensures ∙ run-place key key_eq key_equiv rows.count n c.loop-number.group c.len.result c.requires (omega arith) c.loop-number.invariant.last next in
     let added : groups_by same (range_with_len 0 (n + 1)) ≡ added_at group n (groups_by same before) =
     ap (groups_by same) (range_number n) ∙ groups-numbered key key_eq key_equiv before n ∙ ap (λ g. added_at g n (groups_by same before)) (sym is) in
     record {
