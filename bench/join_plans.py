@@ -35,13 +35,12 @@ COLUMNS = {
     "pairs": [("id", "INT"), ("low", "INT"), ("high", "INT")],
     "numbers": [("id", "INT"), ("a", "INT"), ("b", "INT"), ("c", "INT")],
 }
-ON_DEPT = "FROM emp e JOIN dept d ON e.dept = d.id"
-AT_DEPT = "(SELECT * FROM dept d WHERE d.id = e.dept)"
 
 
 @dataclasses.dataclass
 class Case:
-    """A plan in words, as crates/plan_tests/src/plans.rt has them, over the lines of the query's frame; or another way to answer."""
+    """A plan in words, as crates/plan_tests/src/plans.rt has them, over the lines of the query's frame; or another way to answer. The
+    first word of its name is its own."""
 
     name: str
     way: str
@@ -67,53 +66,87 @@ class Case:
         return "\n".join([self.way, str(self.schema_path(folder)), str(folder / self.data), self.query, self.plan]) + "\n"
 
     def schema_path(self, folder):
-        return folder / self.data / f"{self.name.split()[0]}.json"
+        return folder / self.data / f"{self.first_word()}.json"
+
+    def first_word(self):
+        return self.name.split()[0].strip(":")
 
 
 def load_of(case):
-    return dataclasses.replace(case, way="load", name=case.name.split()[0] + "-load")
+    return dataclasses.replace(case, way="load", name=case.first_word() + "-load")
 
 
 def index_only(case, query, plan):
-    """A scan by the index of the case that finds no row: the load, and the sort of the index."""
-    return dataclasses.replace(case, way="plan", name=case.name.split()[0] + "-index", query=query, plan=plan)
+    """A scan by the index of the case that finds no row: the load, and the sort of the index. It has the tables of the case."""
+    return dataclasses.replace(case, way="plan", name=case.first_word() + "-index", query=query, plan=plan)
 
 
 def by_index_cases():
-    dept, ids, pay = {"emp": ["dept"]}, {"emp": ["id"]}, {"emp": ["pay"]}
-    in_order = Case("scan-in-order by an index, 1% of the rows, which stand in its order", "plan", ids, "SELECT pay FROM emp WHERE id < {percent}", "iscan 1: 0 0 0 | cut 2: 2")
-    other = Case("scan by an index, 1% of the rows", "plan", pay, "SELECT id FROM emp WHERE pay < 100", "iscan 1: 0 0 0 | cut 2: 0")
-    probe = Case(
-        "probe: a join by an index, 1,000 left rows", "plan", {"few": None, **dept}, "SELECT f.id, e.id FROM few f JOIN emp e ON e.dept = f.id", "scan 0 0 | iloop 2: 1 1 0 | cut 3: 0 1"
+    """What a scan or a join by an index takes beside the load, or beside the load and the sort of the index."""
+    in_order = Case(
+        "scan-in-order by an index, 1% of the rows, which stand in its order",
+        "plan",
+        {"emp": ["id"]},
+        "SELECT pay FROM emp WHERE id < {percent}",
+        "iscan 1: 0 0 0 | cut 2: 2",
+        target=1.05,
     )
-    none = "SELECT id FROM emp WHERE {} < 0"
+    other = Case(
+        "scan by an index, 1% of the rows",
+        "plan",
+        {"emp": ["pay"]},
+        "SELECT id FROM emp WHERE pay < 100",
+        "iscan 1: 0 0 0 | cut 2: 0",
+        target=1.05,
+    )
+    probe = Case(
+        "probe: a join by an index, 1,000 left rows",
+        "plan",
+        {"few": None, "emp": ["dept"]},
+        "SELECT f.id, e.id FROM few f JOIN emp e ON e.dept = f.id",
+        "scan 0 0 | iloop 2: 1 1 0 | cut 3: 0 1",
+        target=1.05,
+    )
+    none = "SELECT e.id FROM emp e WHERE e.{} < 0"
     return [
-        dataclasses.replace(in_order, target=1.05, beside=load_of(in_order)),
-        dataclasses.replace(other, target=1.05, beside=index_only(other, none.format("pay"), other.plan)),
-        dataclasses.replace(probe, target=1.05, beside=index_only(probe, none.format("dept"), "iscan 1: 0 0 0 | cut 2: 1")),
+        dataclasses.replace(in_order, beside=load_of(in_order)),
+        dataclasses.replace(other, beside=index_only(other, none.format("pay"), other.plan)),
+        dataclasses.replace(probe, beside=index_only(probe, none.format("dept"), "iscan 1: 0 0 0 | cut 2: 0")),
+    ]
+
+
+def kept_left_cases():
+    """Joins by hash that keep left rows. A NOT IN has the conditions of the join in its second list."""
+    at_dept = "(SELECT * FROM dept d WHERE d.id = e.dept)"
+    exists, without = (f"SELECT e.id FROM emp e WHERE {word} {at_dept}" for word in ("EXISTS", "NOT EXISTS"))
+    not_in = "SELECT e.id FROM emp e WHERE e.dept NOT IN (SELECT d.id FROM dept d)"
+    join = "SELECT e.id FROM emp e JOIN dept d ON e.dept = d.id"
+    case = lambda name, way, sqlite, data="half": Case(name, way, {"emp": None, "dept": None}, join, "", sqlite, data, 0.1)
+    return [
+        case("semi join by hash", "semi", exists),
+        case("anti join by hash", "anti", without),
+        case("not-in by hash", "not in", not_in),
+        case("not-in-left by hash, Nulls on the left", "not in", not_in, "left_null"),
+        case("not-in-right by hash, a Null on the right", "not in", not_in, "right_null"),
     ]
 
 
 def cases():
-    both = {"emp": None, "dept": None}
-    exists = f"SELECT e.id FROM emp e WHERE EXISTS {AT_DEPT}"
-    without = f"SELECT e.id FROM emp e WHERE NOT EXISTS {AT_DEPT}"
-    not_in = "SELECT e.id FROM emp e WHERE e.dept NOT IN (SELECT d.id FROM dept d)"
-    join = f"SELECT e.id {ON_DEPT}"
-    merged = f"SELECT e.id, d.name {ON_DEPT}"
+    merged = "SELECT e.id, d.name FROM emp e JOIN dept d ON e.dept = d.id"
     groups = "SELECT dept, COUNT(*), SUM(pay) FROM emp GROUP BY dept"
     pairs = "SELECT a.id, b.id FROM pairs a JOIN pairs b ON a.high < b.low"
+    merge = "iscan 0: 0 0 0 | iscan 1: 1 1 0 | merge 2: 1 3 | cut 3: 0 4"
+    group = "iscan 0: 0 0 0 | sgroup 1 | cut 2: 1 3 4"
+    loop = "scan 0 0 | scan 1 1 | loop 2 | cut 3: 0 3"
+    count = "SELECT COUNT(*) FROM numbers"
+    load = Case("load: four columns of numbers in no order", "load", {"numbers": None}, "SELECT id FROM numbers", sqlite=count, target=200e-9)
     return [
-        Case("merge join over two index scans", "plan", {"emp": ["dept"], "dept": ["id"]}, merged, "iscan 0: 0 0 0 | iscan 1: 1 1 0 | merge 2: 1 3 | cut 3: 0 4", target=0.25),
-        Case("semi join by hash", "semi", both, join, sqlite=exists, data="half", target=0.1),
-        Case("anti join by hash", "anti", both, join, sqlite=without, data="half", target=0.1),
-        Case("not-in by hash", "not in", both, join, sqlite=not_in, data="half", target=0.1),
-        Case("not-in-left by hash, Nulls on the left", "not in", both, join, sqlite=not_in, data="left_null", target=0.1),
-        Case("not-in-right by hash, a Null on the right", "not in", both, join, sqlite=not_in, data="right_null", target=0.1),
+        Case("merge join over two index scans", "plan", {"emp": ["dept"], "dept": ["id"]}, merged, merge, target=0.25),
+        *kept_left_cases(),
         *by_index_cases(),
-        Case("group: 10,000 keys, sorted, over an index scan", "plan", {"emp": ["dept"]}, groups, "iscan 0: 0 0 0 | sgroup 1 | cut 2: 1 3 4", target=0.1),
-        Case("loop: nested loops of 3,000 x 3,000", "plan", {"pairs": None}, pairs, "scan 0 0 | scan 1 1 | loop 2 | cut 3: 0 3", target=8e-9),
-        Case("load: four columns of numbers in no order", "load", {"numbers": None}, "SELECT id FROM numbers", sqlite="SELECT COUNT(*) FROM numbers", target=200e-9),
+        Case("group: 10,000 keys, sorted, over an index scan", "plan", {"emp": ["dept"]}, groups, group, target=0.1),
+        Case("loop: nested loops of 3,000 x 3,000", "plan", {"pairs": None}, pairs, loop, target=8e-9),
+        load,
     ]
 
 
@@ -281,7 +314,8 @@ def line(case, program, runs, top, asks):
         beside = f"{its_clock:.2f} s, {clock:.2f} s{same}"
     target = f"{case.target * 1e9:.0f} ns" if case.target < 1e-3 else f"{case.target}"
     met = "met" if value <= case.target else "not met"
-    print(f"| {case.name} | {len(rows)} | {ours:.3f} s, {memory / 2**20:.0f} MB | {its:.3f} s, {verdict} | {words} | {target}, {met} | {beside} |", flush=True)
+    both = f"{ours:.3f} s, {memory / 2**20:.0f} MB | {its:.3f} s, {verdict}"
+    print(f"| {case.name} | {len(rows)} | {both} | {words} | {target}, {met} | {beside} |", flush=True)
 
 
 def main():
@@ -293,7 +327,7 @@ def main():
     parser.add_argument("names", nargs="*")
     asked = parser.parse_args()
     rows = 300 if asked.tree else asked.rows
-    wanted = [case for case in cases() if not asked.names or case.name.split()[0].strip(":") in asked.names]
+    wanted = [case for case in cases() if not asked.names or case.first_word() in asked.names]
     for case in wanted:
         case.query = case.query.format(percent=rows // 100)
     if asked.tree:
