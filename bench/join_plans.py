@@ -229,6 +229,9 @@ def add_crate(tree):
     (crate / "src").mkdir(parents=True)
     shutil.copy(ROOT / "bench/join_plans/main.rt.txt", crate / "src/main.rt")
     shutil.copy(tree / "crates/plan_tests/src/plans.rt", crate / "src/plans.rt")
+    proof = crate / "proofs/rows_of_table"
+    proof.mkdir(parents=True)
+    shutil.copy(ROOT / "bench/join_plans/rows_of_table.antt.txt", proof / "Answers.antt")
     with open(tree / "crates.txt", "a", encoding="utf-8") as listed:
         listed.write(f"{NAME}: {LIBRARIES}\n")
     return crate
