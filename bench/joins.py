@@ -8,6 +8,8 @@ session with COPY into tables that aren't logged, at a server that runs: a clust
 The rows are compared. Wants sqlite3 and GNU time (Debian: sqlite3, time) and the program built; PostgreSQL is left out where it isn't
 there.
 
+The plans that `query` doesn't make yet are measured by join_plans.py.
+
 usage: joins.py [--rows N] [--runs N] [--program PATH]
 """
 
@@ -160,4 +162,5 @@ def main():
                 )
 
 
-main()
+if __name__ == "__main__":
+    main()
