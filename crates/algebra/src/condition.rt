@@ -198,9 +198,9 @@ fn copy_boxed(alloc: Global, condition: &Boxed<Condition>) -> Result<Boxed<Condi
 fn copy_all(alloc: Global, conditions: &[Condition]) -> Result<Items<Condition>, AllocError>
     ensures { IfOk result (λ copied. copied ≡ conditions.now) }
 {
-    let mut copied = Items::new(alloc);
+    let mut copied = Vec::with_capacity(alloc, conditions.len())?;
     for condition in conditions {
         copied.push(condition.copy(alloc)?)?;
     }
-    Ok(copied)
+    Ok(Items::from_vec(copied))
 }

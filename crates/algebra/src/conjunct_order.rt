@@ -123,11 +123,11 @@ fn put_in_order(
 fn conditions_of(alloc: Global, order: Vec<Boxed<Spelt>>) -> Result<Items<Condition>, AllocError>
     ensures { IfOk result (λ conditions. conditions ≡ order.items) }
 {
-    let mut conditions = Items::new(alloc);
+    let mut conditions = Vec::with_capacity(alloc, order.len())?;
     for spelt in order {
         conditions.push(spelt.into_inner().into_condition())?;
     }
-    Ok(conditions)
+    Ok(Items::from_vec(conditions))
 }
 
 /// The conditions in rising order of their texts, each once.
