@@ -4,6 +4,7 @@ pub mod Devices
 pub mod Faults
 pub mod Fields
 pub mod Indexes
+pub mod KeyedRows
 pub mod Keys
 pub mod Numbers
 pub mod Parsing
