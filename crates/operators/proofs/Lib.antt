@@ -1,4 +1,3 @@
-pub mod EverywhereRows
 pub mod FilteredJoins
 pub mod FirstSeen
 pub mod GroupEnvs
@@ -9,6 +8,7 @@ pub mod Readable
 pub mod RunnablePlans
 pub mod RunningGroups
 pub mod RunPlaces
+pub mod SettledRows
 pub mod ShownRows
 pub mod SortedInputs
 pub mod TableScans

@@ -1,59 +1,36 @@
-//! Subqueries that read nothing of the row at which they stand.
+//! Which inputs of a filter by subqueries have the same rows at each row.
 
-ghost use Rattle.std.specs.Prelude.{◌≡◌, IsTrue, filter, map, IfOk};
+ghost use Rattle.std.specs.Prelude.{false, map, IfOk, IsTrue};
 ghost use Rattle.query.specs.Rows.{Tables};
-ghost use Rattle.algebra.specs.Conditions as spec;
-ghost use Rattle.operators.specs.Everywhere.{AreEverywhere};
+ghost use Rattle.algebra.specs.Columns.{has};
+ghost use Rattle.laws.specs.Fitting.{Fits};
+ghost use Rattle.operators.specs.Settled.{AreSettled, IsSettled};
 ghost use Rattle.physical.specs.Outputs as outputs;
-ghost use Rattle.relations.specs.Relations.{env_of, numbered_env, numbers_of, subqueries_given};
 
-use algebra::Conjuncts;
-use joins::push_if;
 use physical::Plan;
 use plan_reads::free_columns;
 use query::TableInstance;
-use relations::truth::{Subqueries, holds};
-use relations::{Env, Relation};
 use std::alloc::{AllocError, Global};
 
-/// Whether no input behind the first reads a column of its environment. It may say no of some that read none.
-pub(crate) fn reads_nothing(
-    alloc: Global,
-    uses: &[TableInstance],
-    inputs: &[Plan],
-) -> Result<bool, AllocError>
-    ensures { (D : Tables) → IfOk result (λ none. IsTrue none → AreEverywhere (outputs.rest (map (outputs.plan_output uses.now D) inputs.now))) }
+/// Whether a plan reads no column of its environment. It may say no of some that read none.
+fn is_settled(alloc: Global, uses: &[TableInstance], plan: &Plan) -> Result<bool, AllocError>
+    ensures { (D : Tables) → IfOk result (λ settled. IsTrue settled → IsSettled (outputs.plan_output uses.now D plan.now)) }
 {
-    let Some((_, rest)) = inputs.split_first() else {
-        return Ok(true);
-    };
-    for plan in rest {
-        let free = free_columns(alloc, uses, plan)?;
-        if !free.as_slice().is_empty() {
-            return Ok(false);
-        }
-    }
-    Ok(true)
+    let free = free_columns(alloc, uses, plan)?;
+    Ok(free.as_slice().is_empty())
 }
 
-/// The numbers of the rows that make all conjuncts true, where the classes that they name have these rows.
-pub(crate) fn passing<'t>(
+/// The same of each of some plans.
+pub(crate) fn settled_plans(
     alloc: Global,
-    conjuncts: &Conjuncts,
-    subqueries: Subqueries<'_, 't>,
-    input: &Relation<'t>,
-    env: &Env<'_, 't>,
-) -> Result<Vec<usize>, AllocError>
-    ensures { IfOk result (λ kept. kept.items ≡ filter (λ n. spec.holds (subqueries_given subqueries.entry) conjuncts.now (numbered_env input.now (env_of env.now) n)) (numbers_of input.now)) }
+    uses: &[TableInstance],
+    plans: &[Plan],
+) -> Result<Vec<bool>, AllocError>
+    ensures { (D : Tables) → IfOk result (λ settled. AreSettled (map (outputs.plan_output uses.now D) plans.now) settled.items) }
 {
-    let mut kept = Vec::new(alloc);
-    for number in 0..input.rows.count {
-        let row = Env::Inner(&*input, number, &*env);
-        push_if(
-            &mut kept,
-            number,
-            holds(conjuncts.as_slice(), subqueries, &row),
-        )?;
+    let mut settled = Vec::with_capacity(alloc, plans.len())?;
+    for plan in plans {
+        settled.push(is_settled(alloc, uses, plan)?)?;
     }
-    Ok(kept)
+    Ok(settled)
 }
