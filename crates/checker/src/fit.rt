@@ -275,7 +275,7 @@ fn operator_fits(
         Some(line) => line.founding(),
         None => return Err(refused(number, CheckReason::UnknownLine)),
     };
-    if !names_lines(derived.lines.len(), operator) {
+    if !names_lines(alloc, derived.lines.len(), operator)? {
         return Err(refused(number, CheckReason::UnknownLine));
     }
     if !is_member(line, class) || !operator_is_of(alloc, derived, line, operator, expr)? {
@@ -478,7 +478,7 @@ fn are_sorted(
                 let second = second_order(alloc, derived.uses, inputs)?;
                 Ok(rises_by(first.as_slice(), *a) && rises_by(second.as_slice(), *b))
             }
-            _ => Ok(true),
+            JoinMethod::NestedLoop | JoinMethod::Hash => Ok(true),
         },
         Operator::GroupRows { method, keys, .. } => match method {
             GroupMethod::Sorted => {
@@ -496,7 +496,12 @@ fn are_sorted(
             }
             GroupMethod::Hash => Ok(true),
         },
-        _ => Ok(true),
+        Operator::Scan { .. }
+        | Operator::IndexScan { .. }
+        | Operator::Filter { .. }
+        | Operator::FilterSubqueries { .. }
+        | Operator::Projection { .. }
+        | Operator::IndexJoin { .. } => Ok(true),
     }
 }
 

@@ -8,7 +8,7 @@ ghost use Rattle.physical.specs.Indexes.{finds_by_index};
 ghost use Rattle.derivation.specs.Replay as spec;
 
 use crate::members::is_member;
-use algebra::{ClassId, Expr, LineId};
+use algebra::{ClassId, Conjuncts, Expr, LineId};
 use derivation::Line;
 use physical::indexes::{finds_by_index, has_index};
 use physical::{IndexAccess, Matching, Operator};
@@ -110,18 +110,57 @@ pub fn index_fits(
         Operator::IndexJoin { access, matching } => {
             join_fits(alloc, uses, lines, *access, matching, expr)
         }
-        _ => Ok(true),
+        Operator::Scan { .. }
+        | Operator::Filter { .. }
+        | Operator::FilterSubqueries { .. }
+        | Operator::Projection { .. }
+        | Operator::JoinRows { .. }
+        | Operator::GroupRows { .. }
+        | Operator::DistinctRows { .. } => Ok(true),
     }
 }
 
-/// Whether the further line that an operator names is one of so many.
-pub fn names_lines(count: usize, operator: &Operator) -> bool
-    ensures { result ≡ spec.names_lines count operator.now }
+/// Whether each class that conditions name is founded by one of so many lines.
+fn are_founded(alloc: Global, count: usize, conjuncts: &Conjuncts) -> Result<bool, AllocError>
+    ensures { IfOk result (λ r. r ≡ spec.are_founded count conjuncts.now) }
+{
+    let classes = conjuncts.classes(alloc)?;
+    Ok(classes.as_slice().iter().all(|class| (*class as usize) < count))
+}
+
+fn matching_is_founded(alloc: Global, count: usize, matching: &Matching) -> Result<bool, AllocError>
+    ensures { IfOk result (λ r. r ≡ spec.matching_is_founded count matching.now) }
+{
+    match matching {
+        Matching::Inner(conjuncts) | Matching::Left(conjuncts) | Matching::Semi(conjuncts) => {
+            are_founded(alloc, count, conjuncts)
+        }
+        Matching::Anti(sure, maybe) => {
+            let first = are_founded(alloc, count, sure)?;
+            Ok(first && are_founded(alloc, count, maybe)?)
+        }
+    }
+}
+
+/// Whether the further lines that an operator names, that of its index and those of its conditions' classes, are among so many.
+pub fn names_lines(alloc: Global, count: usize, operator: &Operator) -> Result<bool, AllocError>
+    ensures { IfOk result (λ r. r ≡ spec.names_lines count operator.now) }
 {
     match operator {
-        Operator::IndexScan { access, .. } => (access.line as usize) < count,
-        Operator::IndexJoin { access, .. } => (access.line as usize) < count,
-        _ => true,
+        Operator::IndexScan { access, conjuncts } => {
+            Ok((access.line as usize) < count && are_founded(alloc, count, conjuncts)?)
+        }
+        Operator::IndexJoin { access, matching } => {
+            Ok((access.line as usize) < count && matching_is_founded(alloc, count, matching)?)
+        }
+        Operator::Filter { conjuncts } | Operator::FilterSubqueries { conjuncts } => {
+            are_founded(alloc, count, conjuncts)
+        }
+        Operator::JoinRows { matching, .. } => matching_is_founded(alloc, count, matching),
+        Operator::Scan { .. }
+        | Operator::Projection { .. }
+        | Operator::GroupRows { .. }
+        | Operator::DistinctRows { .. } => Ok(true),
     }
 }
 
@@ -161,6 +200,12 @@ pub fn needed_classes(
     match operator {
         Operator::IndexScan { .. } => Ok(Vec::new(alloc)),
         Operator::IndexJoin { .. } => first_class(alloc, expr),
-        _ => expr.inputs(alloc),
+        Operator::Scan { .. }
+        | Operator::Filter { .. }
+        | Operator::FilterSubqueries { .. }
+        | Operator::Projection { .. }
+        | Operator::JoinRows { .. }
+        | Operator::GroupRows { .. }
+        | Operator::DistinctRows { .. } => expr.inputs(alloc),
     }
 }

@@ -2,7 +2,7 @@
 -- node. A derivation that a checker replays is this project's own idea of a certificate; what a node may compute is
 -- G. Graefe's (The Cascades framework for query optimization, 1995: implementation and enforcement).
 use Rattle.std.specs.Prelude.{◌≡◌, ℕ, ◌+◌, ◌-◌, Bool, true, false, not, ◌&&◌, ◌==◌, nat_lt, nat_le, List, [], ◌∷◌, map, length, take, slice_get, Option, Some, None, Result, Ok}
-use Rattle.std.specs.List.{list_any}
+use Rattle.std.specs.List.{list_all, list_any}
 use Rattle.values.specs.Faults.{◌>>=◌, wanted, wanted_if}
 use Rattle.schema.specs.declared.schema.Schema.{Schema}
 use Rattle.schema.specs.Databases.{Database, Satisfies}
@@ -19,6 +19,7 @@ use Rattle.algebra.specs.Columns.{has}
 use Rattle.algebra.specs.Equated.{equates}
 use Rattle.algebra.specs.ConditionEquality.{same_conditions}
 use Rattle.algebra.specs.Equality.{same_columns, same_aggregations, same_expr}
+use Rattle.algebra.specs.Conditions.{classes_in}
 use Rattle.algebra.specs.Expressions.{children, classes_pass, input_classes, is_plain, is_formed}
 use Rattle.algebra.specs.Classes.{class_columns}
 use Rattle.logical.specs.Frames.{query_frame}
@@ -149,11 +150,27 @@ index_fits uses lines line (IndexScan a C) (Select D x) = accesses lines a x && 
 index_fits uses lines line (IndexJoin a j) x = accesses_second lines a (children x) && finds_by_index uses a j
 index_fits uses lines line operator x = true
 
--- the further line that an operator names is one of so many
+-- whether each class that conditions name is founded by one of so many lines
+abbrev pub are_founded : ℕ → List Condition → Bool
+are_founded count C = list_all (is_founded count) (classes_in C)
+
+abbrev pub matching_is_founded : ℕ → Matching → Bool
+matching_is_founded count (Inner C) = are_founded count C
+matching_is_founded count (Left C) = are_founded count C
+matching_is_founded count (Semi C) = are_founded count C
+matching_is_founded count (Anti S M) = are_founded count S && are_founded count M
+
+-- the further lines that an operator names, that of its index and those of its conditions' classes, are among so many
 abbrev pub names_lines : ℕ → Operator → Bool
-names_lines count (IndexScan a C) = nat_lt a.line count
-names_lines count (IndexJoin a j) = nat_lt a.line count
-names_lines count operator = true
+names_lines count (Scan o) = true
+names_lines count (IndexScan a C) = nat_lt a.line count && are_founded count C
+names_lines count (Filter C) = are_founded count C
+names_lines count (FilterSubqueries C) = are_founded count C
+names_lines count (Projection K) = true
+names_lines count (JoinRows method j) = matching_is_founded count j
+names_lines count (IndexJoin a j) = nat_lt a.line count && matching_is_founded count j
+names_lines count (GroupRows method K G) = true
+names_lines count (DistinctRows method) = true
 
 -- the classes whose rows an operator needs as inputs, so that it computes an expression
 abbrev pub needed_classes : Operator → Expr → List ℕ

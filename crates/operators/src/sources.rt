@@ -87,7 +87,7 @@ fn missing_index(
     let Some(instance) = uses.get(access.occurrence as usize) else {
         return Ok(None);
     };
-    let Some(places) = instance.entry.indexes.as_slice().get(access.index) else {
+    let Some(places) = instance.entry.indexes.as_slice().get(access.index as usize) else {
         return Ok(None);
     };
     let Some(rows) = tables.get(instance.table) else {
@@ -163,7 +163,7 @@ impl<'q> Sources<'q, '_> {
         let Some(instance) = self.uses.get(access.occurrence as usize) else {
             return Ok(None);
         };
-        let Some(places) = instance.entry.indexes.as_slice().get(access.index) else {
+        let Some(places) = instance.entry.indexes.as_slice().get(access.index as usize) else {
             return Ok(None);
         };
         Ok(self.tables.numbers_by(instance.table, places.as_slice()))

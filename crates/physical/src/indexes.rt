@@ -37,7 +37,7 @@ pub fn index_columns(
     let Some(instance) = uses.get(access.occurrence as usize) else {
         return Ok(Vec::new(alloc));
     };
-    let Some(places) = instance.entry.indexes.as_slice().get(access.index) else {
+    let Some(places) = instance.entry.indexes.as_slice().get(access.index as usize) else {
         return Ok(Vec::new(alloc));
     };
     numbered_from(alloc, instance.first_column, places.as_slice())
@@ -86,7 +86,7 @@ pub fn has_index(
 ) -> Result<bool, AllocError>
     ensures { IfOk result (λ r. r ≡ spec.has_index uses.now access) }
 {
-    if !numbers_index(uses.get(access.occurrence as usize), access.index) {
+    if !numbers_index(uses.get(access.occurrence as usize), access.index as usize) {
         return Ok(false);
     }
     let own = Columns::of_occurrence(alloc, uses, access.occurrence)?;

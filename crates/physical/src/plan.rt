@@ -50,7 +50,7 @@ pub struct IndexAccess {
     pub line: LineId,
     pub occurrence: OccurrenceId,
     /// The index's number in the table's entry.
-    pub index: usize,
+    pub index: u32,
 }
 
 /// How an expression's rows are computed from those of the inputs.

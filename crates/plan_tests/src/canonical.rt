@@ -62,7 +62,7 @@ fn push_join_method(reported: &mut String, method: JoinMethod) -> Result<(), All
 
 /// An index of a table instance.
 fn push_access(reported: &mut String, access: IndexAccess) -> Result<(), AllocError> {
-    push_number(reported, "by index ", access.index)?;
+    push_number(reported, "by index ", access.index as usize)?;
     push_number(reported, " of ", access.occurrence as usize)?;
     reported.push_str(" ")
 }

@@ -143,7 +143,7 @@ fn access_of(words: Words<'_>) -> IndexAccess {
     IndexAccess {
         line: id(line),
         occurrence: id(occurrence),
-        index: number(index),
+        index: id(index),
     }
 }
 

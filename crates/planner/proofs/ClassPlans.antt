@@ -1,13 +1,23 @@
 -- The plan of a class, of its operator and the plans of its inputs.
-use Rattle.std.proofs.Common.{◌≡◌, refl, ap, ◌∙◌, ℕ, suc, ◌+◌, ◌<◌, nat_lt, Bool, true, List, [], ◌∷◌, ◌++◌, map, length, Some, Ok}
+use Rattle.std.proofs.Common.{◌≡◌, refl, ap, sym, ◌∙◌, ℕ, suc, ◌+◌, ◌<◌, nat_lt, Bool, true, List, [], ◌∷◌, ◌++◌, map, length, Some, Ok, arith}
 use Rattle.std.specs.List.{slice_get, list_all}
-use Rattle.std.proofs.lemmas.Bool.{eq-eqb, ltb-true, and_from}
+use Rattle.std.proofs.lemmas.Bool.{eq-eqb, ltb-true, lt-ltb, and_from, and_parts}
+use Rattle.std.proofs.lemmas.List.Folds.{list_all-append}
+use Rattle.std.proofs.lemmas.Option.{slice_get_within}
 use Rattle.values.specs.Faults.{◌>>=◌}
 use Rattle.values.proofs.Lists.{passes_at}
 use Rattle.query.specs.declared.query.TableInstance.{TableInstance}
 use Rattle.algebra.specs.declared.expr.Expr.{Expr}
-use Rattle.algebra.specs.Expressions.{input_classes}
-use Rattle.algebra.proofs.NamedClasses.{inputs-pass}
+use Rattle.algebra.specs.declared.condition.Condition.{Condition}
+use Rattle.algebra.specs.declared.expr.Expr.TheVariants as expr
+use Rattle.algebra.specs.declared.expr.Expr.TheVariants.{Select, Join, LeftJoin}
+use Rattle.algebra.specs.ConditionEquality.{same_conditions}
+use Rattle.algebra.specs.Conditions.{all_classes, classes_in}
+use Rattle.algebra.specs.Expressions.{conditions, input_classes, subqueries_pass}
+use Rattle.algebra.proofs.NamedClasses.{classes-pass, inputs-pass}
+use Rattle.algebra.proofs.Same.{equal_conditions}
+use Rattle.physical.specs.declared.plan.Matching.{Matching}
+use Rattle.physical.specs.declared.plan.Matching.TheVariants.{Inner, Left, Semi, Anti}
 use Rattle.physical.specs.declared.plan.JoinMethod.TheVariants.{NestedLoop, Hash, Merge}
 use Rattle.physical.specs.declared.plan.GroupMethod.TheVariants as by
 use Rattle.physical.specs.declared.plan.OrderKey.{OrderKey}
@@ -18,7 +28,7 @@ use Rattle.physical.specs.declared.plan.Node.{Node}
 use Rattle.physical.specs.declared.plan.Node.TheVariants.{Implements}
 use Rattle.physical.specs.declared.plan.Plan.{Plan, roll-Plan, out-roll-Plan, fold-roll-Plan}
 use Rattle.physical.specs.RequiredOrders.{are_sorted}
-use Rattle.derivation.specs.Replay.{implements, index_fits, names_lines, needed_classes, node_fits, inputs_fit, plan_fits}
+use Rattle.derivation.specs.Replay.{are_founded, implements, index_fits, is_founded, is_join, matching_is_founded, names_lines, needed_classes, node_fits, inputs_fit, plan_fits}
 use Rattle.derivation.proofs.Fits.{plan_fits_out}
 use Rattle.planner.specs.Canonical.{is_basic, is_basic_node, basic_layer, is_basic_plan, IsBasicOf, NameEarlier, IsPlanOf}
 
@@ -61,22 +71,51 @@ module _ (lines : List Expr) where
       let rest = all-fit uses cols classes plans all.1 first.0 in
       (rest.0, ap (λ r. r >>= (λ m. inputs_fit (map (plan_fits uses lines cols) plans) classes m)) first.1 ∙ rest.1)
 
-  -- a basic operator names no further line, reads nothing by an index, and needs all classes that its expression names
+  -- the classes that the conditions of a line name are founded by earlier lines
+  founded-earlier : (g : ℕ) (C D : List Condition) → g < length lines → same_conditions C D ≡ true → subqueries_pass (λ h. nat_lt h g) D ≡ true → are_founded (length lines) C ≡ true
+  founded-earlier g C D lt same pass = rw (equal_conditions C D same) (later (classes_in D) (classes-pass (λ h. nat_lt h g) D pass))
+    where
+      later : (K : List ℕ) → list_all (λ h. nat_lt h g) K ≡ true → list_all (is_founded (length lines)) K ≡ true
+      later [] all = refl
+      later (h ∷ K) all =
+          let parts = and_parts (nat_lt h g) _ all in
+          let below = ltb-true h g parts.0 in
+          and_from _ _ (lt-ltb h (length lines) (omega (arith, below, lt))) (later K parts.1)
+
+  join-founded : (g : ℕ) (j : Matching) (x : Expr) → g < length lines → is_join j x ≡ true → subqueries_pass (λ h. nat_lt h g) (conditions x) ≡ true → matching_is_founded (length lines) j ≡ true
+  join-founded g (Inner C) (Join D a b) lt is pass = founded-earlier g C D lt is pass
+  join-founded g (Left C) (LeftJoin D a b) lt is pass = founded-earlier g C D lt is pass
+  join-founded g (Semi C) (expr.Semi D a b) lt is pass = founded-earlier g C D lt is pass
+  join-founded g (Anti S M) (expr.Anti T N a b) lt is pass =
+      let same = and_parts (same_conditions S T) (same_conditions M N) is in
+      let both = and_parts _ _ (sym (list_all-append (λ d. all_classes d (λ h. nat_lt h g)) T N) ∙ pass) in
+      and_from _ _ (founded-earlier g S T lt same.0 both.0) (founded-earlier g M N lt same.1 both.1)
+  join-founded g j x lt is pass = cc
+
+  -- a basic operator names earlier lines, as its expression does
+  basic-names : (cols : ℕ → List ℕ) (g : ℕ) (operator : Operator) (x : Expr) → g < length lines → is_basic operator ≡ true → implements cols operator x ≡ true → subqueries_pass (λ h. nat_lt h g) (conditions x) ≡ true
+      → names_lines (length lines) operator ≡ true
+  basic-names cols g (Filter C) (Select D y) lt basic is pass = founded-earlier g C D lt (and_parts _ _ is).1 pass
+  basic-names cols g (FilterSubqueries C) (Select D y) lt basic is pass = founded-earlier g C D lt (and_parts _ _ is).1 pass
+  basic-names cols g (JoinRows NestedLoop j) x lt basic is pass = join-founded g j x lt (and_parts (is_join j x) _ is).0 pass
+  basic-names cols g operator x lt basic is pass = cc
+
+  -- a basic operator reads nothing by an index, and needs all classes that its expression names
   pub record IsBasicAt (uses : List TableInstance) (g : ℕ) (operator : Operator) (x : Expr) : Type 0 where
-    pub names : names_lines (length lines) operator ≡ true
     pub indexed : index_fits uses lines g operator x ≡ true
     pub needs : needed_classes operator x ≡ input_classes x
 
   pub basic-at : (uses : List TableInstance) (g : ℕ) (operator : Operator) (x : Expr) → is_basic operator ≡ true → IsBasicAt uses g operator x
   basic-at uses g (IndexScan a C) x is = cc
   basic-at uses g (IndexJoin a j) x is = cc
-  basic-at uses g operator x is = record { names = refl; indexed = refl; needs = refl }
+  basic-at uses g operator x is = record { indexed = refl; needs = refl }
 
-  node-fits : (uses : List TableInstance) (cols : ℕ → List ℕ) (g : ℕ) (x : Expr) (operator : Operator) (n : ℕ) → slice_get lines g ≡ Some x → is_basic operator ≡ true → implements cols operator x ≡ true
+  node-fits : (uses : List TableInstance) (cols : ℕ → List ℕ) (g : ℕ) (x : Expr) (operator : Operator) (n : ℕ) → NameEarlier lines → slice_get lines g ≡ Some x → is_basic operator ≡ true → implements cols operator x ≡ true
       → node_fits uses lines cols (Implements g operator) (length (input_classes x)) g n ≡ Ok (input_classes x)
-  node-fits uses cols g x operator n at basic is =
+  node-fits uses cols g x operator n earlier at basic is =
       let plain = basic-at uses g operator x basic in
-      rw (at, plain.names, eq-eqb g g refl, is, plain.indexed, plain.needs, eq-eqb (length (input_classes x)) (length (input_classes x)) refl) refl
+      let names = basic-names cols g operator x (slice_get_within lines g x at) basic is (and_parts _ _ (earlier g x at).0).1 in
+      rw (at, names, eq-eqb g g refl, is, plain.indexed, plain.needs, eq-eqb (length (input_classes x)) (length (input_classes x)) refl) refl
 
   over-basic : (node : Node) (inputs : List Plan) → is_basic_node node ≡ true → list_all (λ b. b) (map is_basic_plan inputs) ≡ true → is_basic_plan (over node inputs) ≡ true
   unfolding is_basic_plan
@@ -99,15 +138,15 @@ module _ (lines : List Expr) where
   basic-sorted (DistinctRows by.Sorted) is columns orders = cc
 
   -- a basic operator that computes the class's line, over plans of the classes that the line names
-  pub plan_of_class : (g : ℕ) (x : Expr) (operator : Operator) (inputs : List Plan) → slice_get lines g ≡ Some x → IsBasicOf x operator → ArePlansOf (input_classes x) inputs
+  pub plan_of_class : (g : ℕ) (x : Expr) (operator : Operator) (inputs : List Plan) → NameEarlier lines → slice_get lines g ≡ Some x → IsBasicOf x operator → ArePlansOf (input_classes x) inputs
       → IsPlanOf lines g (over (Implements g operator) inputs)
-  plan_of_class g x operator inputs at is all = record {
+  plan_of_class g x operator inputs earlier at is all = record {
     basic = over-basic (Implements g operator) inputs is.basic (all-basic (input_classes x) inputs all);
     fits = λ uses cols n.
         let rest = all-fit uses cols (input_classes x) inputs all (n + 1) in (
           rest.0,
           plan_fits_out uses lines cols (over (Implements g operator) inputs) true g n
-              ∙ rw (out-roll-Plan (record { node = Implements g operator; inputs = inputs }), as-many (input_classes x) inputs all, node-fits uses cols g x operator n at is.basic (is.implemented cols), basic-sorted operator is.basic (map cols (input_classes x)) (map (plan_order uses) inputs)) rest.1,
+              ∙ rw (out-roll-Plan (record { node = Implements g operator; inputs = inputs }), as-many (input_classes x) inputs all, node-fits uses cols g x operator n earlier at is.basic (is.implemented cols), basic-sorted operator is.basic (map cols (input_classes x)) (map (plan_order uses) inputs)) rest.1,
         );
   }
 

@@ -41,4 +41,4 @@ returns t c =
     let at : slice_get c.args.frame.now g ≡ Some x = slice_get-get_or c.args.frame.now g x c.requires.class ∙ ap Some (sym c.index-frame-class.is) in
     let classes : List ℕ = c.as_slice-input-items.result.now in
     let all : take c.loop-input.input-index classes ≡ input_classes x = take_all c.loop-input.input-index classes c.loop-input-test.false ∙ c.as_slice-input-items.ensures.value ∙ c.in_ok-classes.ensures in
-    plan_of_class c.args.frame.now g x c.in_ok-operator.operator c.loop-input.inputs at c.in_ok-operator.ensures (subst (λ L. ArePlansOf c.args.frame.now L c.loop-input.inputs) all c.loop-input.invariant)
+    plan_of_class c.args.frame.now g x c.in_ok-operator.operator c.loop-input.inputs c.requires.earlier at c.in_ok-operator.ensures (subst (λ L. ArePlansOf c.args.frame.now L c.loop-input.inputs) all c.loop-input.invariant)
