@@ -21,7 +21,7 @@ columns_total row columns = by_keys_total (column_order row) (λ c. on_total (λ
 pub number_total : (row : ℕ → Env) (columns : List ℕ) → IsTotalOrder (number_order row columns)
 number_total row columns = then_total (columns_total row columns) nat_cmp_total
 
-not_gt-first : (o p : Ordering) → is_gt (ordering_then o p) ≡ false → is_gt o ≡ false
+pub not_gt-first : (o p : Ordering) → is_gt (ordering_then o p) ≡ false → is_gt o ≡ false
 not_gt-first Less p h = refl
 not_gt-first Equal p h = refl
 not_gt-first Greater p h = h

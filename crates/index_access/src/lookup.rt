@@ -14,7 +14,7 @@ use crate::cuts::{Around, Cut, position};
 use crate::ranges::{has_null, put_equal_key, range_of};
 use algebra::Condition;
 use query::ColumnId;
-use relations::tests::{passes_all, resolve};
+use relations::resolved::{passes_all, resolve};
 use relations::{Env, Relation};
 use std::alloc::{AllocError, Global};
 

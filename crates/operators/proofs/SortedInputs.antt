@@ -26,6 +26,7 @@ use Rattle.physical.proofs.RequiredOrders.{ascends-beginning, columns_in, first-
 use Rattle.physical.proofs.Sorting.{Ascends}
 use Rattle.relations.specs.declared.relation.Relation.{Relation}
 use Rattle.relations.specs.Relations.{IsInputOutput, numbered_env, rows_of}
+use Rattle.index_access.proofs.CutOrders.{not_gt-first}
 use Rattle.joins.specs.Merges.{AreMergeable, RiseBy}
 use Rattle.operators.specs.Groups.{AreTogether}
 use Rattle.operators.specs.Runnable.{AreRunnable, IsOperable}
@@ -33,11 +34,6 @@ use Rattle.operators.proofs.PlanOutputs.{output-first, output-second}
 use Rattle.operators.proofs.Together.{ascends-numbers, stand-together}
 
 -- ---- merge joins
-
-not_gt-first : (o p : Ordering) → is_gt (ordering_then o p) ≡ false → is_gt o ≡ false
-not_gt-first Less p h = refl
-not_gt-first Equal p h = refl
-not_gt-first Greater p h = h
 
 -- rows in an order that begins with a column rise by it
 rises : (c : ℕ) (keys : List OrderKey) (r : Relation) (e : Env) → rises_by c keys ≡ true → Ascends (keys_order keys) (rows_of r e) → RiseBy c r e

@@ -15,7 +15,7 @@ ghost use Rattle.operators.specs.Sources.{AreTableRows};
 use algebra::{Columns, Condition};
 use joins::push_if;
 use query::{ColumnId, OccurrenceId, TableInstance};
-use relations::tests::{passes_all, resolve};
+use relations::resolved::{passes_all, resolve};
 use relations::{Env, Heading, Part, Relation, Rows, row_cell};
 use std::alloc::{AllocError, Global};
 use store::Table;

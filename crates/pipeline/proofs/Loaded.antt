@@ -14,7 +14,7 @@ use Rattle.store.specs.Tables.{records_of}
 use Rattle.store.specs.Databases.{ReplacesTable, LoadsTable, Loads}
 use Rattle.pipeline.specs.declared.refusal.Refusal.{Refusal}
 use Rattle.pipeline.specs.Refusals.{of_table}
-use Rattle.pipeline.specs.EndToEnd.{Input, FileReports, TablesReported, IsLoadFault, IsDeviceFault, AreQuiet}
+use Rattle.pipeline.specs.EndToEnd.{Input, FileReports, TablesReported, IsLoadFault, IsDeviceFault, AreQuiet, RoseAlone}
 
 -- the first so many tables are loaded, the other inputs are as they were, and no call failed
 pub record IsLoaded (S : Schema) (inputs now : List Input) (counts later : List ℕ) (n : ℕ) (D : Database) : Type 0 where
@@ -85,15 +85,15 @@ load_fails S inputs now counts later old new n (faults.Refused r) refusal there 
   fault = λ t bytes at input. reported_there S old new n t bytes (Err (faults.Refused r)) same at (loads bytes (before.unread n (omega arith) ∙ input));
 })
 
--- the count of the failing input rose
+-- the count of the failing input rose, and no other
 pub device_rose : {R : Type 0} (failures : R → ℕ) (S : Schema) (inputs now : List Input) (counts : List ℕ) (tables : List R) (d y : R) (n : ℕ) (D : Database)
     → n < length tables → IsLoaded S inputs now counts (map failures tables) n D
-    → Rose (failures (get_or tables n d)) (failures y) → Rose (get_or counts n 0) (get_or (map failures (set tables n y)) n 0)
+    → Rose (failures (get_or tables n d)) (failures y) → RoseAlone counts (map failures (set tables n y)) n
 device_rose failures S inputs now counts tables d y n D lt before rose =
     let first : get_or counts n 0 ≡ failures (get_or tables n d) = sym (before.quiet n) ∙ get_or-map failures tables n d 0 lt in
     let last : get_or (map failures (set tables n y)) n 0 ≡ failures y
     = get_or-map failures (set tables n y) n y 0 (rw length-set lt) ∙ ap failures (get_or-set_same tables n y y lt) in
-    rw (first, last) rose
+    (rw (first, last) rose, λ m other. ap (λ (l : List ℕ). get_or l m 0) (map-set failures tables n y) ∙ get_or-set_other (map failures tables) n m (failures y) 0 other ∙ before.quiet m)
 
 -- the counts stay where that of the failing input does
 pub device_quiet : {R : Type 0} (failures : R → ℕ) (S : Schema) (inputs now : List Input) (counts : List ℕ) (tables : List R) (d y : R) (n : ℕ) (D : Database)
@@ -103,7 +103,7 @@ device_quiet failures S inputs now counts tables d y n D lt before same =
     rw map-set (quiet_more counts (map failures tables) n (failures y) (rw length-map lt) (still_counted failures tables d y n lt same) before.quiet)
 
 -- so what a failing load reports of its device holds
-pub load_device : (n : ℕ) (fault : TableFault) (refusal : Refusal) (old new : List ℕ) (o : ℕ) → (fault ≡ faults.Device → Rose (get_or old n 0) (get_or new n 0))
+pub load_device : (n : ℕ) (fault : TableFault) (refusal : Refusal) (old new : List ℕ) (o : ℕ) → (fault ≡ faults.Device → RoseAlone old new n)
     → (fault ≢ faults.Device → AreQuiet old new) → refusal ≡ of_table n fault → IsDeviceFault old new o o refusal
 load_device n faults.Memory refusal old new o rose quiet is = rw is (quiet (λ e. cc e), refl)
 load_device n faults.Device refusal old new o rose quiet is = rw is (rose refl, refl)

@@ -1,5 +1,5 @@
 -- From bytes to bytes.
-use Rattle.std.specs.Prelude.{◌≡◌, ◌<◌, ℕ, List, [], length, slice_get, slice_index_or, Option, Some, None, Result, Ok, Err}
+use Rattle.std.specs.Prelude.{◌≡◌, ◌≢◌, ◌<◌, ℕ, List, [], length, slice_get, slice_index_or, Option, Some, None, Result, Ok, Err}
 use Rattle.schema.specs.declared.schema.Schema.{Schema}
 use Rattle.schema.specs.declared.schema.Table.{Table}
 use Rattle.schema.specs.Databases.{Row, Database, Satisfies, Stored}
@@ -184,9 +184,13 @@ AreQuiet old new = (n : ℕ) → slice_index_or new n 0 ≡ slice_index_or old n
 abbrev pub IsQuiet : List ℕ → List ℕ → ℕ → ℕ → Type 0
 IsQuiet old new out out' = AreQuiet old new × (out' ≡ out)
 
--- the device whose fault is reported failed: its count of failures rose between these; where none is reported, none failed
+-- the count with this number rose, and the others stayed as they were
+abbrev pub RoseAlone : List ℕ → List ℕ → ℕ → Type 0
+RoseAlone old new n = Rose (slice_index_or old n 0) (slice_index_or new n 0) × ((m : ℕ) → m ≢ n → slice_index_or new m 0 ≡ slice_index_or old m 0)
+
+-- the device whose fault is reported failed, and no other: its count of failures rose between these; where none is reported, none failed
 abbrev pub IsDeviceFault : List ℕ → List ℕ → ℕ → ℕ → Refusal → Type 0
-IsDeviceFault old new out out' (refusal.TableDevice n) = Rose (slice_index_or old n 0) (slice_index_or new n 0) × (out' ≡ out)
+IsDeviceFault old new out out' (refusal.TableDevice n) = RoseAlone old new n × (out' ≡ out)
 IsDeviceFault old new out out' refusal.Output = AreQuiet old new × Rose out out'
 IsDeviceFault old new out out' refusal.Memory = IsQuiet old new out out'
 IsDeviceFault old new out out' (refusal.Schema r) = IsQuiet old new out out'

@@ -6,9 +6,9 @@ pub mod environment;
 pub mod headings;
 pub mod parts;
 pub mod relation;
+pub mod resolved;
 pub mod rows;
 mod terms;
-pub mod tests;
 pub mod truth;
 
 pub use environment::{Env, row_cell};

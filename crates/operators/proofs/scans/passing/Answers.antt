@@ -3,7 +3,7 @@ use Rattle.std.specs.List.{range_with_len}
 use Rattle.algebra.specs.Conditions.{holds}
 use Rattle.physical.specs.Outputs.{no_classes}
 use Rattle.relations.specs.Relations.{env_of, numbered_env}
-use Rattle.relations.specs.declared.tests.Test.{Test}
+use Rattle.relations.specs.declared.resolved.Test.{Test}
 use Rattle.relations.specs.Resolved.{all_pass}
 use Rattle.relations.proofs.Numbers.{filter_number}
 use Rattle.operators.proofs.scans.passing.Goals as goal
