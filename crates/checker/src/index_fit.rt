@@ -125,7 +125,12 @@ fn are_founded(alloc: Global, count: usize, conjuncts: &Conjuncts) -> Result<boo
     ensures { IfOk result (λ r. r ≡ spec.are_founded count conjuncts.now) }
 {
     let classes = conjuncts.classes(alloc)?;
-    Ok(classes.as_slice().iter().all(|class| (*class as usize) < count))
+    Ok(
+        classes
+            .as_slice()
+            .iter()
+            .all(|class| (*class as usize) < count),
+    )
 }
 
 fn matching_is_founded(alloc: Global, count: usize, matching: &Matching) -> Result<bool, AllocError>
