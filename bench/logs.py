@@ -50,7 +50,7 @@ def main():
         for kind in KINDS:
             for count in counts:
                 runs = [measured(program, kind, count) for _ in range(3)]
-                print(f"{kind:8}{count:9,} lines{min(run[0] for run in runs):8.2f} s{max(run[1] for run in runs):7.0f} MB")
+                print(f"{kind:8}{count:9,} lines{min(run[0] for run in runs):8.2f} s{min(run[1] for run in runs):7.1f} MB")
 
 
 if __name__ == "__main__":

@@ -12,3 +12,4 @@ pub mod Equality
 pub mod Equated
 pub mod Expressions
 pub mod GivenColumns
+pub mod TableColumns

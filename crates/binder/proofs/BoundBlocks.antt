@@ -26,7 +26,7 @@ use Rattle.sql_parse.proofs.PlainParts.{ons-select}
 use Rattle.query.proofs.ScopeEquations.{scope-Block}
 use Rattle.binder.proofs.Given.{Given, and-then, given-from, given-at, given-ok}
 use Rattle.binder.proofs.Rising.{Rising, AreBelow, rising-bounds, rising-below, apart, none-among, none-among-append}
-use Rattle.binder.proofs.Growth.{Grown, Within, grown-none, grown-more, within-first, within-next}
+use Rattle.binder.proofs.Growth.{Grown, Within, grown-none, grown-more, rising-off, within-first, within-next}
 use Rattle.binder.proofs.NamesThere.{Around, around-more}
 use Rattle.binder.proofs.BoundParts.{FromIs, SelectIs, SelectBound}
 use Rattle.binder.proofs.BoundConditions.{ProvedCondition, columns-all}
@@ -71,7 +71,7 @@ module _ (S : Schema) (uses : List TableInstance) (T : ℕ) where
   grown-aggregates : (n : Numbered) (a : ℕ) → Grown S n (with_aggregates n a) 0
   grown-aggregates n a =
       let none = grown-none S n in
-      record { tables = none.tables; over = none.over; columns = none.columns; aggregates = omega arith }
+      record { tables = none.tables; over = none.over; low = none.low; columns = none.columns; aggregates = omega arith }
 
   grouped-if : (keys : List ℕ) (l : SelectList) → 0 < aggregates l → is_grouped keys l ≡ true
   grouped-if keys l lt = or_right _ _ (lt-ltb 0 (aggregates l) lt)
@@ -108,9 +108,10 @@ module _ (S : Schema) (uses : List TableInstance) (T : ℕ) where
               let last = (of_from within).columns in
               let first = within.aggregates in
               and_from _ _ (numbers-new n.next_column sources.2.next_column n.next_aggregate _ outer rows (aggregate_numbers (map (λ o. o.item) outputs)) own fits rises shows.1 (omega (arith, last, first)))
+              (and_from _ _ (rising-off T n.next_aggregate _ uses (aggregate_numbers (map (λ o. o.item) outputs)) shows.1 first within.low)
               (and_from _ _ (from.bound tests.0 (of_from within) rows fits)
               (and_from _ _ (where_.bound tests.1 (of_filter within) (own ∷ rows) inner)
-              (items-by (is_grouped keys l) (length own) keys (map (λ o. o.item) outputs) (own ∷ rows) (keyed sources.2.next_column own rows inner) shows.0)));
+              (items-by (is_grouped keys l) (length own) keys (map (λ o. o.item) outputs) (own ∷ rows) (keyed sources.2.next_column own rows inner) shows.0))));
         })
 
   -- ---- SELECT

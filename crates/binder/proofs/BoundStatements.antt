@@ -34,6 +34,7 @@ use Rattle.binder.proofs.BoundParts.{SelectIs, CondBound, JoinBound, ChainBound,
 use Rattle.binder.proofs.BoundConditions.{bound-Compare, bound-IsNull, bound-Not, bound-And, bound-Or, bound-Exists, bound-In}
 use Rattle.binder.proofs.BoundFroms.{bound-join, bound-chain}
 use Rattle.binder.proofs.BoundBlocks.{bound-select}
+use Rattle.binder.proofs.Growth.{AllBelow}
 
 module _ (S : Schema) (uses : List TableInstance) (T : ℕ) where
   abbrev ProvedCondition : Type 0
@@ -100,6 +101,7 @@ select-known : (S : Schema) (s : Statement) (extent : Extent) (r : BoundSelect �
 select-known S s extent r names order same is = (
   (λ ons. is.bound ons (record {
     tables = ([], sym (append-nil r.1.tables));
+    low = let more = is.grown.columns in let at = ap (λ e. e.columns) same in let wide : r.1.next_column ≡ extent.columns = omega (arith, more, at) in subst (λ b. AllBelow b r.1.tables) wide (is.grown.low tt);
     columns = let more = is.grown.columns in let at = ap (λ e. e.columns) same in omega (arith, more, at);
     aggregates = omega arith;
   }) [] tt),

@@ -4,7 +4,7 @@ use Rattle.std.proofs.Common.{◌≡◌, refl, ap, sym, ◌∙◌, ℕ, ◌+◌,
 use Rattle.std.proofs.lemmas.List.{append-nil}
 use Prim.Native.Nat.{zero, suc}
 use Rattle.std.specs.List.{AllByRecursion, slice_get}
-use Rattle.std.proofs.lemmas.Bool.{eq-eqb}
+use Rattle.std.proofs.lemmas.Bool.{and_from, or_from, not_from_false, eq-eqb}
 use Rattle.std.proofs.lemmas.List.FromFn.{length-range_with_len}
 use Rattle.values.proofs.Lists.{all_append, slice_get_behind}
 use Rattle.schema.specs.declared.schema.Table.{Table}
@@ -19,10 +19,10 @@ use Rattle.binder.specs.Scopes.{Scope, is_taken, known_name}
 use Rattle.binder.specs.Numbers.{next_occurrence, entered, enter}
 use Rattle.binder.specs.Extents.{width_of, one_table}
 use Rattle.binder.specs.Lent.{width}
-use Rattle.query.specs.Bound.{use_numbers, is_used, is_use_of, IsOver}
+use Rattle.query.specs.Bound.{numbers_of_use, use_numbers, is_of_tables, none_of_tables, is_used, is_use_of, IsOver}
 use Rattle.binder.proofs.Indexes.{width-append}
 use Rattle.binder.proofs.Given.{Given, and-then, given-wanted, given-if}
-use Rattle.binder.proofs.Rising.{Rising, rising-range}
+use Rattle.binder.proofs.Rising.{Rising, AreBelow, rising-below, rising-range}
 
 -- ---- table instances
 
@@ -33,22 +33,45 @@ Begins xs front = (more : List _) × (xs ≡ front ++ more)
 pub begins-again : {A : Type 0} (xs ys zs : List A) → Begins xs ys → Begins ys zs → Begins xs zs
 begins-again xs ys zs left right = (right.0 ++ left.0, left.1 ∙ ap (λ l. l ++ left.0) right.1 ∙ append_assoc zs right.0 left.0)
 
+-- ---- columns of table instances
+
+-- the columns of each have numbers below this one
+abbrev pub AllBelow : ℕ → List TableInstance → Type 0
+AllBelow b uses = AllByRecursion (λ t. AreBelow b (numbers_of_use (Some t))) uses
+
+all-wider : (a b : ℕ) → a ≤ b → (uses : List TableInstance) → AllBelow a uses → AllBelow b uses
+all-wider a b le [] all = tt
+all-wider a b le (t ∷ uses) all = (λ j high. all.0 j (omega arith), all-wider a b le uses all.1)
+
+off-tables : (b k : ℕ) (uses : List TableInstance) → b ≤ k → AllBelow b uses → is_of_tables uses k ≡ false
+off-tables b k [] le all = refl
+off-tables b k (t ∷ uses) le all = or_from _ _ (all.0 k le) (off-tables b k uses le all.1)
+
+-- so numbers that rise from there on are those of none
+pub rising-off : (b c d : ℕ) (uses : List TableInstance) (xs : List ℕ) → Rising c d xs → b ≤ c → AllBelow b uses → none_of_tables uses xs ≡ true
+rising-off b c d uses [] rises le all = refl
+rising-off b c d uses (k ∷ xs) rises le all =
+    let first = rises.0 in
+    and_from _ _ (not_from_false _ (off-tables b k uses (omega arith) all)) (rising-off b (k + 1) d uses xs rises.1 (omega arith) all)
+
 -- ---- growth
 
 -- what has numbers after a part of so many columns
 pub record Grown (S : Schema) (n m : Numbered) (more : ℕ) : Type 0 where
   pub tables : Begins m.tables n.tables
   pub over : AllByRecursion (IsOver S) n.tables → AllByRecursion (IsOver S) m.tables
+  pub low : AllBelow n.next_column n.tables → AllBelow m.next_column m.tables
   pub columns : m.next_column ≡ n.next_column + more
   pub aggregates : n.next_aggregate ≤ m.next_aggregate
 
 pub grown-none : (S : Schema) (n : Numbered) → Grown S n n 0
-grown-none S n = record { tables = ([], sym (append-nil n.tables)); over = λ all. all; columns = omega arith; aggregates = omega arith }
+grown-none S n = record { tables = ([], sym (append-nil n.tables)); over = λ all. all; low = λ all. all; columns = omega arith; aggregates = omega arith }
 
 pub grown-more : (S : Schema) (n k m : Numbered) (a b c : ℕ) → Grown S n k a → Grown S k m b → a + b ≡ c → Grown S n m c
 grown-more S n k m a b c first next sum = record {
   tables = begins-again m.tables k.tables n.tables next.tables first.tables;
   over = λ all. next.over (first.over all);
+  low = λ all. next.low (first.low all);
   columns = let x = first.columns in let y = next.columns in omega (arith, x, y, sum);
   aggregates = let x = first.aggregates in let y = next.aggregates in omega (arith, x, y);
 }
@@ -56,6 +79,7 @@ grown-more S n k m a b c first next sum = record {
 -- the part from n to m is one of a text whose occurrences are these, and whose aggregates are numbered from T on
 pub record Within (uses : List TableInstance) (T : ℕ) (n m : Numbered) : Type 0 where
   pub tables : Begins uses m.tables
+  pub low : AllBelow T uses
   pub columns : m.next_column ≤ T
   pub aggregates : T ≤ n.next_aggregate
 
@@ -63,6 +87,7 @@ module _ (S : Schema) (uses : List TableInstance) (T : ℕ) (n k m : Numbered) (
   pub within-first : Grown S k m b → Within uses T n m → Within uses T n k
   within-first next all = record {
     tables = begins-again uses m.tables k.tables all.tables next.tables;
+    low = all.low;
     columns = let x = next.columns in let y = all.columns in omega (arith, x, y);
     aggregates = all.aggregates;
   }
@@ -70,6 +95,7 @@ module _ (S : Schema) (uses : List TableInstance) (T : ℕ) (n k m : Numbered) (
   pub within-next : Grown S n k a → Within uses T n m → Within uses T k m
   within-next first all = record {
     tables = all.tables;
+    low = all.low;
     columns = all.columns;
     aggregates = let x = first.aggregates in let y = all.aggregates in omega (arith, x, y);
   }
@@ -115,6 +141,9 @@ module _ (S : Schema) (uses : List TableInstance) (T : ℕ) (chain : Scope) (t :
         grown = record {
           tables = (next ∷ [], refl);
           over = λ all. all_append (IsOver S) n.tables (next ∷ []) all (find-is S.tables t.name.text found is, tt);
+          low = λ all. let wide : ℕ = length found.1.columns in
+              all_append (λ t. AreBelow (n.next_column + wide) (numbers_of_use (Some t))) n.tables (next ∷ []) (all-wider n.next_column (n.next_column + wide) (omega arith) n.tables all)
+              (rising-below n.next_column (n.next_column + wide) _ (rising-range n.next_column wide), tt);
           columns = ap (λ o. n.next_column + width_of o) (sym is);
           aggregates = omega arith;
         };

@@ -1,2 +1,1 @@
 pub mod ReplayedLines
-pub mod Verdicts

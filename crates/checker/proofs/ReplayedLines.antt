@@ -1,57 +1,58 @@
--- One more line replayed.
-use Rattle.std.proofs.Common.{◌≡◌, refl, ap, sym, ◌∙◌, ℕ, ◌+◌, ◌<◌, List, [], ◌∷◌, ◌++◌, map, length, take, drop, reverse, get_or, Ok, inl, inr, arith}
-use Rattle.std.proofs.lemmas.Bool.{cases_order, eq-eqb, ne_eqb}
-use Rattle.std.proofs.lemmas.List.{reverse-append, length-reverse, length-map, length-take-le, length_push, get_or_push, get_or_append_left, get_or_past}
-use Rattle.values.specs.Faults.{◌>>=◌}
-use Rattle.values.proofs.Lists.{map_next, drop_next}
-use Rattle.query.specs.declared.query.TableInstance.{TableInstance}
+-- One line more of a certificate, behind those of a log, and a plan behind all of them.
+use Rattle.std.proofs.Common.{◌≡◌, refl, ap, sym, ◌∙◌, subst, ℕ, ◌+◌, ◌<◌, Bool, true, false, List, [], ◌∷◌, length, drop, get_or, slice_get, Option, Result, Ok, Err}
+use Rattle.values.specs.Faults.{◌>>=◌, Fails, wanted_if}
+use Rattle.values.specs.declared.fault.Fault.{Fault}
+use Rattle.values.specs.declared.fault.Fault.TheVariants.{Memory, Refused}
+use Rattle.values.proofs.Lists.{drop_next}
 use Rattle.query.specs.declared.query.Query.{Query}
+use Rattle.query.specs.declared.query.TableInstance.{TableInstance}
 use Rattle.algebra.specs.declared.expr.Expr.{Expr}
-use Rattle.algebra.specs.Columns.{columns_at}
-use Rattle.algebra.specs.Expressions.{columns_of}
-use Rattle.algebra.specs.Classes.{class_columns}
-use Rattle.derivation.specs.declared.certificate.Line.{Line}
-use Rattle.derivation.specs.Replay.{founding, line_replays, lines_replay}
+use Rattle.algebra.specs.declared.expr.Aggregation.{Aggregation}
+use Rattle.logical.specs.Frames.{query_frame}
+use Rattle.logical.specs.FormedFrames.{own_aggregates}
+use Rattle.lines.specs.declared.line.Line.{Line}
+use Rattle.lines.specs.declared.line.LineReason.{LineReason}
+use Rattle.lines.specs.Logs.{Log}
+use Rattle.lines.specs.Replay.{stands}
+use Rattle.physical.specs.declared.plan.Plan.{Plan}
+use Rattle.certificate.specs.declared.certificate.Certificate.{Certificate}
+use Rattle.certificate.specs.declared.certificate.CheckReason.TheVariants.{OtherLine}
+use Rattle.certificate.specs.declared.certificate.CheckRefusal.{CheckRefusal}
+use Rattle.certificate.specs.Replay.{refusal, at_line, is_frame_line, line_replays, lines_replay, fitted_plan, replayed}
 
--- the expressions before a line, the last of them first
-abbrev pub before : List Line → ℕ → List Expr
-before lines i = reverse (map founding (take i lines))
+-- ---- a line
 
--- those from it on
-abbrev pub after : List Line → ℕ → List Expr
-after lines i = map founding (drop i lines)
+-- its copy stands as it does
+pub stands_as : (q : Query) (E : Log) (line copy : Line) (uses : List TableInstance) (own : List Aggregation) → uses ≡ q.tables → own ≡ own_aggregates q → copy ≡ line
+    → stands uses own E copy ≡ stands q.tables (own_aggregates q) E line
+stands_as q E line copy uses own instances aggregates same = rw (instances, aggregates, same) refl
 
-pub before_more : (lines : List Line) (i : ℕ) (line : Line) → i < length lines → line ≡ get_or lines i line → before lines (i + 1) ≡ founding line ∷ before lines i
-before_more lines i line lt is =
-    rw (map_next founding lines i line lt is, reverse-append (map founding (take i lines)) (founding line ∷ [])) refl
+-- a fault of a first step is one of both
+fails-first : {A B R : Type 0} (f : Fault R) (x : Result A R) (next : A → Result B R) → Fails f x → Fails f (x >>= next)
+fails-first Memory x next fails = tt
+fails-first (Refused r) x next fails = ap (λ y. y >>= next) fails
 
-pub after_first : (lines : List Line) (i : ℕ) (line : Line) → i < length lines → line ≡ get_or lines i line → after lines i ≡ founding line ∷ after lines (i + 1)
-after_first lines i line lt is = ap (map founding) (drop_next lines i line lt is)
+pub refused_line : (q : Query) (E : Log) (line : Line) (n : ℕ) (f : Fault CheckRefusal) → n ≡ length E → Fails f (at_line n (stands q.tables (own_aggregates q) E line)) → Fails f (line_replays q E line)
+refused_line q E line n f count fails =
+    fails-first f (at_line (length E) (stands q.tables (own_aggregates q) E line)) (λ l. wanted_if (refusal (length E) OtherLine) (is_frame_line (slice_get (query_frame q) (length E)) l) l)
+    (subst (λ k. Fails f (at_line k (stands q.tables (own_aggregates q) E line))) count fails)
 
-pub length_before : (lines : List Line) (i : ℕ) → i < length lines → length (before lines i) ≡ i
-length_before lines i lt = length-reverse (map founding (take i lines)) ∙ length-map (take i lines) founding ∙ length-take-le i lines (omega (arith, lt))
+-- a line that may stand is the frame's, or not
+pub framed_line : (q : Query) (E : Log) (line : Line) (n : ℕ) (frame : List Expr) (b : Bool) → stands q.tables (own_aggregates q) E line ≡ Ok line → n ≡ length E → frame ≡ query_frame q → b ≡ is_frame_line (slice_get frame n) line
+    → line_replays q E line ≡ wanted_if (refusal n OtherLine) b line
+framed_line q E line n frame b stands_there count is framed = rw (framed, is, count, stands_there) refl
 
--- the columns of one more class
-pub columns_more : (uses : List TableInstance) (columns : List (List ℕ)) (K : List ℕ) (x : Expr) (E : List Expr) → length E ≡ length columns
-    → columns_at columns ≡ class_columns uses E → K ≡ columns_of uses (columns_at columns) x → columns_at (columns ++ K ∷ []) ≡ class_columns uses (x ∷ E)
-columns_more uses columns K x E count same is = λ i g. at g i
-  where
-    at : (g : ℕ) → columns_at (columns ++ K ∷ []) g ≡ class_columns uses (x ∷ E) g
-    at g = rw (count, ← same, ← is) (elim (cases_order g (length columns)) [
-      | inl e ↦ rw (eq-eqb g (length columns) e) (get_or_push columns K [] g (sym e))
-      | inr o ↦ elim o [
-        | inl lt ↦ rw (ne_eqb g (length columns) (λ e. absurd (omega (arith, e, lt)))) (get_or_append_left columns (K ∷ []) [] g lt)
-        | inr gt ↦ rw (ne_eqb g (length columns) (λ e. absurd (omega (arith, e, gt))))
-            (get_or_past (columns ++ K ∷ []) g [] (rw length_push (omega (arith, gt))) ∙ sym (get_or_past columns g [] (omega (arith, gt))))
-      ]
-    ])
+-- one line more
+pub line_more : (q : Query) (E : Log) (lines : List Line) (i : ℕ) (line : Line) → i < length lines → line ≡ get_or lines i line → line_replays q E line ≡ Ok line
+    → lines_replay q E (drop i lines) ≡ lines_replay q (line ∷ E) (drop (i + 1) lines)
+line_more q E lines i line lt is stands_there =
+    ap (lines_replay q E) (drop_next lines i line lt is) ∙ ap (λ r. r >>= (λ l. lines_replay q (l ∷ E) (drop (i + 1) lines))) stands_there
 
-pub lines_more : (q : Query) (lines : List Line) (i : ℕ) (line : Line) (columns : List (List ℕ)) → i < length lines → line ≡ get_or lines i line
-    → length columns ≡ i → columns_at columns ≡ class_columns q.tables (before lines i)
-    → line_replays q (length columns) (columns_at columns) (founding line) ≡ Ok (founding line)
-    → lines_replay q (before lines i) (after lines i) ≡ lines_replay q (before lines (i + 1)) (after lines (i + 1))
-lines_more q lines i line columns lt is count same stands =
-    let B : List Expr = before lines i in
-    let A : List Expr = after lines (i + 1) in
-    let e : line_replays q (length B) (class_columns q.tables B) (founding line) ≡ Ok (founding line) = rw (length_before lines i lt ∙ sym count, ← same) stands in
-    ap (lines_replay q B) (after_first lines i line lt is) ∙ ap (λ r. r >>= (λ x. lines_replay q (x ∷ B) A)) e ∙ ap (λ E. lines_replay q E A) (sym (before_more lines i line lt is))
+-- ---- a certificate
+
+pub certificate_replays : (q : Query) (V : Certificate) (lines : List Line) (E : Log) → lines ≡ V.lines → lines_replay q [] lines ≡ Ok E → fitted_plan q E V.plan ≡ Ok V.plan → replayed q V ≡ Ok V
+unfolding replayed
+certificate_replays q V lines E is replay fits =
+    let last : Plan → Result Certificate CheckRefusal = λ p. Ok V in
+    let next : Log → Result Certificate CheckRefusal = λ E. fitted_plan q E V.plan >>= last in
+    ap (λ L. lines_replay q [] L >>= next) (sym is) ∙ ap (λ r. r >>= next) replay ∙ ap (λ r. r >>= last) fits

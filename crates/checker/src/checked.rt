@@ -3,11 +3,10 @@
 ghost use Rattle.std.specs.Prelude.{◌≡◌, IfOk};
 ghost use Rattle.values.specs.Faults.{Gives};
 ghost use Rattle.query.specs.Bound.{IsBoundOver, TablesAreOver};
-ghost use Rattle.derivation.specs.Replay.{replayed, IsChecked};
+ghost use Rattle.certificate.specs.Replay.{replayed, IsChecked};
 
-use crate::fit::{Derived, is_delivered, plan_fits};
-use crate::replay::replay;
-use derivation::{Certificate, CheckFault};
+use crate::replay::{own_aggregates, replay};
+use certificate::{Certificate, CheckFault, fit};
 use logical::frame;
 use query::ids::id_of;
 use query::{BoundQuery, Query};
@@ -16,7 +15,7 @@ use std::alloc::Global;
 use std::marker::Model;
 
 /// The check of a certificate against its query's tree.
-#[tactic(auto, unfolding(derivation::specs::Replay::replayed))]
+#[tactic(auto, unfolding(certificate::specs::Replay::replayed))]
 fn accepted<'a>(
     alloc: Global,
     schema: &'a Schema,
@@ -28,18 +27,12 @@ fn accepted<'a>(
     ensures of { IfOk result (λ c. (c.schema ≡ schema.now) × (c.query ≡ query.now)) }
 {
     let frame = frame(alloc, query)?;
+    let own = own_aggregates(alloc, frame.as_slice())?;
     let lines = certificate.lines.as_slice();
-    let columns = replay(alloc, query, frame.as_slice(), lines)?;
-    let plan = &certificate.plan;
-    let ordered = is_delivered(alloc, query, plan)?;
+    let log = replay(alloc, query, frame.as_slice(), own.as_slice(), lines)?;
     let last = frame.len() - 1;
     let root = id_of(last)?;
-    let derived = Derived {
-        uses: query.tables.as_slice(),
-        lines,
-        columns: columns.as_slice(),
-    };
-    plan_fits(alloc, derived, plan, ordered, root, lines.len())?;
+    fit(alloc, query, root, &log, &certificate.plan)?;
     Ok(Checked {
         schema,
         query,
@@ -78,9 +71,9 @@ impl<'a> Model for Checked<'a> {
     ghost use Rattle.schema.specs.contracts.schema.Schema as s;
     ghost use Rattle.query.specs.declared.query.Query.{Query};
     ghost use Rattle.query.specs.contracts.query.Query as q;
-    ghost use Rattle.derivation.specs.declared.certificate.Certificate.{Certificate};
-    ghost use Rattle.derivation.specs.contracts.certificate.Certificate as c;
-    ghost use Rattle.derivation.specs.Replay.{IsChecked};
+    ghost use Rattle.certificate.specs.declared.certificate.Certificate.{Certificate};
+    ghost use Rattle.certificate.specs.contracts.certificate.Certificate as c;
+    ghost use Rattle.certificate.specs.Replay.{IsChecked};
     ghost use Rattle.checker.specs.Accepted.{Accepted};
 
     ghost Value = { Accepted };

@@ -1,39 +1,56 @@
-//! The lines of a certificate, one after the other.
+//! The lines of a certificate, one behind the other.
 
-ghost use Rattle.std.specs.Prelude.{◌≡◌, [], length, map, reverse, option_map, flat_map, IfOk};
-ghost use Rattle.values.specs.Faults.{Gives};
-ghost use Rattle.values.specs.declared.fault.Fault.TheVariants.{Refused};
-ghost use Rattle.algebra.specs.Classes.{class_columns};
-ghost use Rattle.algebra.specs.Columns.{columns_at};
+ghost use Rattle.std.specs.Prelude.{◌≡◌, [], option_map, flat_map, slice_get, IfOk, OnOk, Result};
+ghost use Rattle.values.specs.Faults.{Fails, Gives};
 ghost use Rattle.logical.specs.Frames.{query_frame};
 ghost use Rattle.logical.specs.FormedFrames.{group_aggregates, own_aggregates};
-ghost use Rattle.derivation.specs.Replay as spec;
+ghost use Rattle.certificate.specs.Replay as spec;
+ghost use Rattle.lines.specs.declared.line.Line.{Line};
+ghost use Rattle.lines.specs.declared.line.LineReason.{LineReason};
+ghost use Rattle.logs.specs.Logged.{with_line};
 
-use algebra::{Aggregation, Columns, Expr};
-use derivation::{CheckFault, CheckReason, CheckRefusal, Line};
+use algebra::{Aggregation, Expr};
+use certificate::plan_fit::refused;
+use certificate::{CheckFault, CheckReason};
+use lines::Line;
+use logs::{LineFault, Log};
 use query::Query;
 use std::alloc::{AllocError, Global};
 use values::Fault;
 
-/// What a fault of a line or node is.
-pub fn refused(line: usize, reason: CheckReason) -> CheckFault
-    ensures { result ≡ Refused (spec.refusal line reason) }
+/// The fault of a line that may not stand.
+fn fault_at(number: usize, fault: LineFault) -> CheckFault
+    ensures { (read : Result Line LineReason) → Fails fault read → Fails result (spec.at_line number read) }
 {
-    Fault::Refused(CheckRefusal { line, reason })
-}
-
-/// Whether the line is the frame's, where the frame has one.
-fn is_frame_line(line: Option<&Expr>, expr: &Expr) -> bool
-    ensures { result ≡ spec.is_frame_line (option_map (λ x. x.now) line.entry) expr.now }
-{
-    match line {
-        Some(own) => expr.same(own),
-        None => true,
+    match fault {
+        Fault::Refused(reason) => refused(number, CheckReason::of_line(reason)),
+        Fault::Memory => Fault::Memory,
     }
 }
 
+/// Whether the line founds the frame's class, where the frame has one.
+fn is_frame_line(own: Option<&Expr>, line: &Line) -> bool
+    ensures { result ≡ spec.is_frame_line (option_map (λ x. x.now) own.entry) line.now }
+{
+    match (own, line) {
+        (None, _) => true,
+        (Some(own), Line::Founds(expr)) => expr.same(own),
+        (
+            Some(_),
+            Line::Adds(_, _, _) | Line::Unites(_, _, _) | Line::Alike(_, _) | Line::Gives(_, _, _),
+        ) => false,
+    }
+}
+
+/// Whether a line of this number is the frame's, where the frame has one.
+fn is_of_frame(frame: &[Expr], number: usize, line: &Line) -> bool
+    ensures { result ≡ spec.is_frame_line (slice_get frame.now number) line.now }
+{
+    is_frame_line(frame.get(number), line)
+}
+
 /// The aggregates that are the query's own: those of its frame.
-fn own_aggregates(alloc: Global, frame: &[Expr]) -> Result<Vec<Aggregation>, AllocError>
+pub fn own_aggregates(alloc: Global, frame: &[Expr]) -> Result<Vec<Aggregation>, AllocError>
     ensures { IfOk result (λ own. own.items ≡ flat_map group_aggregates frame.now) }
 {
     let mut own = Vec::new(alloc);
@@ -45,51 +62,50 @@ fn own_aggregates(alloc: Global, frame: &[Expr]) -> Result<Vec<Aggregation>, All
     Ok(own)
 }
 
-/// Whether a line may stand after earlier ones, whose classes have these columns.
-fn line_replays(
+/// Adds a line to the log of those before it, if it may stand there.
+fn push_line(
+    alloc: Global,
     query: &Query,
     frame: &[Expr],
-    own: &[Aggregation],
-    columns: &[Columns],
-    expr: &Expr,
+    log: &mut Log<'_>,
+    line: &Line,
 ) -> Result<(), CheckFault>
     requires frame { frame.now ≡ query_frame query.now }
-    requires own { own.now ≡ own_aggregates query.now }
-    ensures { Gives (λ _. expr.now) result (spec.line_replays query.now (length columns.now) (columns_at columns.now) expr.now) }
+    requires uses { log.old.uses ≡ query.now.tables }
+    requires own { log.old.own ≡ own_aggregates query.now }
+    ensures verdict { Gives (λ _. line.now) result (spec.line_replays query.now log.old.log line.now) }
+    ensures added { OnOk result (log.new ≡ with_line log.old line.now) }
 {
-    let number = columns.len();
-    if !expr.names_below(number) {
-        return Err(refused(number, CheckReason::UnknownLine));
+    let number = log.len();
+    let copy = line.copy(alloc)?;
+    if let Err(fault) = log.push(alloc, copy) {
+        return Err(fault_at(number, fault));
     }
-    if !expr.is_formed(query.tables.as_slice(), own, columns) {
-        return Err(refused(number, CheckReason::IllFormed));
-    }
-    if !is_frame_line(frame.get(number), expr) {
+    if !is_of_frame(frame, number, line) {
         return Err(refused(number, CheckReason::OtherLine));
     }
     Ok(())
 }
 
-/// Replays the lines against the query's frame, and gives the columns of their classes.
-pub fn replay(
+/// The log of the lines, whose first ones are those of the query's frame.
+pub fn replay<'q>(
     alloc: Global,
-    query: &Query,
+    query: &'q Query,
     frame: &[Expr],
+    own: &'q [Aggregation],
     lines: &[Line],
-) -> Result<Vec<Columns>, CheckFault>
-    requires { frame.now ≡ query_frame query.now }
-    ensures verdict { Gives (λ _. reverse (map spec.founding lines.now)) result (spec.lines_replay query.now [] (map spec.founding lines.now)) }
-    ensures columns { IfOk result (λ columns. columns_at columns.items ≡ class_columns query.now.tables (reverse (map spec.founding lines.now))) }
+) -> Result<Log<'q>, CheckFault>
+    requires frame { frame.now ≡ query_frame query.now }
+    requires own { own.now ≡ own_aggregates query.now }
+    ensures verdict { Gives (λ log. log.log) result (spec.lines_replay query.now [] lines.now) }
+    ensures uses { IfOk result (λ log. log.uses ≡ query.now.tables) }
 {
-    let own = own_aggregates(alloc, frame)?;
-    let mut columns = Vec::new(alloc);
+    let mut log = Log::new(alloc, query.tables.as_slice(), own);
     for line in lines {
-        let expr = line.founding();
-        line_replays(query, frame, own.as_slice(), &columns, expr)?;
-        columns.push(expr.columns(alloc, query.tables.as_slice(), &columns)?)?;
+        push_line(alloc, query, frame, &mut log, line)?;
     }
     if lines.len() < frame.len() {
         return Err(refused(lines.len(), CheckReason::OtherLine));
     }
-    Ok(columns)
+    Ok(log)
 }

@@ -8,14 +8,12 @@ use Rattle.query.specs.Answer.{IsAnswer}
 use Rattle.query.specs.Aggregates.{AreShortTables}
 use Rattle.query.specs.Rows.{tables_of}
 use Rattle.query.proofs.ShortTables.{satisfying_short}
-use Rattle.derivation.specs.declared.certificate.Certificate.{Certificate}
+use Rattle.certificate.specs.declared.certificate.Certificate.{Certificate}
 use Rattle.algebra.specs.Bags.{nulls}
 use Rattle.logical.specs.Frames.{query_numbers}
 use Rattle.physical.specs.Outputs.{output_rows}
-use Rattle.derivation.specs.QueryOrders.{answer}
-use Rattle.derivation.specs.Replay.{IsChecked}
-use Rattle.derivation.proofs.StoredPlans.{plan-reads}
-use Rattle.derivation.proofs.Soundness.{plan-sorted}
+use Rattle.certificate.specs.QueryOrders.{answer}
+use Rattle.certificate.specs.Replay.{IsChecked}
 use Rattle.operators.specs.Runnable.{IsRunnable}
 
 -- the rows that a plan produces, read in the query's columns, are its answer
@@ -34,12 +32,12 @@ answers_of S T q V D checked satisfies same =
 
 -- ---- what it needs to be run
 
--- the groups of a checked plan aggregate stored values alone, and its nodes get the orders that they require
+-- the groups of a checked plan aggregate values of tables alone, and its nodes get the orders that they require
 pub runnable_of : (S : Schema) (q r : Query) (U V : Certificate) (uses : List TableInstance) → uses ≡ r.tables → r ≡ q → U ≡ V → IsChecked S q V → IsRunnable uses U.plan
 runnable_of S q r U V uses instances same proof checked =
     let is : uses ≡ q.tables = instances ∙ ap (λ (x : Query). x.tables) same in
     subst (λ us. IsRunnable us U.plan) (sym is)
-    (subst (λ (W : Certificate). IsRunnable q.tables W.plan) (sym proof) (record { reads = plan-reads q V V checked.replays; sorted = plan-sorted q V V checked.replays }))
+    (subst (λ (W : Certificate). IsRunnable q.tables W.plan) (sym proof) (record { reads = checked.reads; sorted = checked.sorted }))
 
 -- whose numbers have 64 bits
 pub short_of : (S : Schema) (tables D : Database) → tables ≡ D → Satisfies S D → (T : Schema) → AreShortTables (tables_of T tables)

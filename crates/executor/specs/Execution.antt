@@ -2,7 +2,7 @@
 use Rattle.std.specs.Prelude.{ℕ, List}
 use Rattle.schema.specs.Databases.{Row, Stored}
 use Rattle.query.specs.Rows.{tables_in}
-use Rattle.derivation.specs.QueryOrders.{answer}
+use Rattle.certificate.specs.QueryOrders.{answer}
 use Rattle.checker.specs.Accepted.{Accepted}
 use Rattle.executor.specs.AnswerText.{answer_text}
 

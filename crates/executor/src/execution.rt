@@ -2,7 +2,7 @@
 
 ghost use Rattle.std.specs.Prelude.{◌≡◌, IfOk};
 ghost use Rattle.query.specs.Answer.{IsAnswer};
-ghost use Rattle.derivation.specs.QueryOrders.{answer};
+ghost use Rattle.certificate.specs.QueryOrders.{answer};
 ghost use Rattle.query.specs.Rows.{tables_in};
 
 use checker::Checked;

@@ -17,15 +17,6 @@ use Rattle.index_access.specs.declared.bounds.Side.TheVariants as side
 
 -- ---- comparisons
 
--- the comparison with its sides exchanged
-abbrev pub turned : Comparison → Comparison
-turned Equal = Equal
-turned NotEqual = NotEqual
-turned Less = Greater
-turned LessOrEqual = GreaterOrEqual
-turned Greater = Less
-turned GreaterOrEqual = LessOrEqual
-
 -- whether a comparison bounds its left side so
 abbrev pub bounds : Side → Comparison → Bool
 bounds side.Exact Equal = true

@@ -13,7 +13,7 @@ ghost use Rattle.index_access.specs.Probes.{IsSure, IsWithin, is_bounded};
 use crate::cuts::KeyCell;
 use algebra::{Columns, Condition, Term};
 use query::ColumnId;
-use relations::Env;
+use relations::{Env, turned};
 use values::Comparison;
 
 /// A comparison of a column with a value that is the same at all rows.
@@ -29,19 +29,6 @@ pub enum Side {
     Exact,
     Below,
     Above,
-}
-
-fn turned(comparison: Comparison) -> Comparison
-    ensures { result ≡ spec.turned comparison }
-{
-    match comparison {
-        Comparison::Equal => Comparison::Equal,
-        Comparison::NotEqual => Comparison::NotEqual,
-        Comparison::Less => Comparison::Greater,
-        Comparison::LessOrEqual => Comparison::GreaterOrEqual,
-        Comparison::Greater => Comparison::Less,
-        Comparison::GreaterOrEqual => Comparison::LessOrEqual,
-    }
 }
 
 fn bounds(side: Side, comparison: Comparison) -> bool

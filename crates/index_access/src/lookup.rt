@@ -91,8 +91,7 @@ fn passing<'t>(
 ) -> Result<Vec<usize>, AllocError>
     ensures { IfOk result (λ kept. kept.items ≡ filter (λ n. spec.holds no_classes conditions.now (numbered_env relation.now (env_of env.now) n)) numbers.now) }
 {
-    let mut tests = Vec::new(alloc);
-    resolve(conditions, relation, env, &mut tests)?;
+    let tests = resolve(alloc, conditions, relation, env)?;
     let mut kept = Vec::new(alloc);
     for number in numbers {
         let number = *number as usize;

@@ -4,5 +4,6 @@ pub mod FilteredJoins
 pub mod FoundRows
 pub mod JoinRows
 pub mod Merges
-pub mod SharedKeys
 pub mod Outputs
+pub mod SharedKeys
+pub mod TestedPairs

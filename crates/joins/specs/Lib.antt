@@ -3,3 +3,4 @@ pub mod Hashes
 pub mod Joins
 pub mod Keys
 pub mod Merges
+pub mod TestedPairs

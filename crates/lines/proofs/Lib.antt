@@ -8,3 +8,5 @@ pub mod Sameness
 pub mod Spellings
 pub mod Standing
 pub mod Truth
+pub mod Worked
+pub mod WorkedEquations

@@ -1,5 +1,7 @@
 pub mod Book
+pub mod Examples
 pub mod Laws
 pub mod Logs
+pub mod Numbers
 pub mod Replay
 pub mod Spelling

@@ -7,7 +7,7 @@ use Rattle.algebra.specs.declared.expr.Expr.{Expr}
 use Rattle.algebra.specs.declared.expr.Expr.TheVariants.{Keep}
 use Rattle.algebra.specs.Classes.{class_columns, class_free}
 use Rattle.props.specs.declared.fact.Fact.{Fact}
-use Rattle.props.specs.declared.fact.Facts.{Facts}
+use Rattle.props.specs.declared.fact.FactSets.{FactSets}
 use Rattle.props.specs.Facts.{no_facts, with_fact}
 use Rattle.props.specs.Knowledge.{Knowledge}
 use Rattle.rules.specs.Matches as matches
@@ -102,7 +102,7 @@ pub data SameBy (E : Log) : ℕ → ℕ → Type 0 where
 -- ---- facts
 
 -- the facts that lines say of a class and of those that are the same
-abbrev pub facts_among : (ℕ → Bool) → Log → Facts
+abbrev pub facts_among : (ℕ → Bool) → Log → FactSets
 facts_among same [] = no_facts
 facts_among same (Founds x ∷ E) = facts_among same E
 facts_among same (Adds g s x ∷ E) = facts_among same E
@@ -110,7 +110,7 @@ facts_among same (Unites g h s ∷ E) = facts_among same E
 facts_among same (Alike i j ∷ E) = facts_among same E
 facts_among same (Gives g m f ∷ E) = if same g then with_fact (facts_among same E) f else facts_among same E
 
-abbrev pub facts : Log → ℕ → Facts
+abbrev pub facts : Log → ℕ → FactSets
 facts E k = facts_among (are_same E k) E
 
 -- ---- all that is known

@@ -1,6 +1,8 @@
 //! The rule book: the rules by their names in certificates.
 
-ghost use Rattle.std.specs.Prelude.{◌≡◌};
+ghost use Rattle.std.specs.Prelude.{◌≡◌, ◌≢◌, MatchOption};
+ghost use Rattle.std.specs.List.{AllByRecursion};
+ghost use Rattle.lines.specs.declared.book.RuleName.{RuleName};
 ghost use Rattle.values.specs.Faults.{Gives};
 ghost use Rattle.rules.specs.Matches.{matched};
 ghost use Rattle.lines.specs.Book as spec;
@@ -37,25 +39,60 @@ pub enum RuleName {
     GroupIsDistinct,
 }
 
+const RULES: [RuleName; 12] = [
+    RuleName::JoinCommutes,
+    RuleName::JoinAssociates,
+    RuleName::SelectsMerge,
+    RuleName::SelectBelowJoin,
+    RuleName::SelectIntoJoin,
+    RuleName::ConditionBelowJoin,
+    RuleName::SelectBelowSemi,
+    RuleName::KeepsMerge,
+    RuleName::KeepOfAll,
+    RuleName::KeepBelowJoin,
+    RuleName::DistinctOfKeyed,
+    RuleName::GroupIsDistinct,
+];
+
+/// The first of the rules that has the code.
+fn with_code(mut rules: &[RuleName], code: &str) -> Option<RuleName>
+    ensures { MatchOption result (AllByRecursion (λ rule. spec.code_of rule ≢ code.now) rules.entry.now) (λ rule. spec.code_of rule ≡ code.now) }
+{
+    'rules: while let [rule, rest @ ..] = rules {
+        if rule.code() == code {
+            return Some(*rule);
+        }
+        rules = rest;
+    }
+    None
+}
+
 impl RuleName {
     /// Its name in certificates.
     pub fn code(self) -> &'static str
         ensures { result.now ≡ spec.code_of self }
     {
         match self {
-            RuleName::JoinCommutes => "J1",
-            RuleName::JoinAssociates => "J2",
-            RuleName::SelectsMerge => "S1",
-            RuleName::SelectBelowJoin => "S2",
-            RuleName::SelectIntoJoin => "S3",
-            RuleName::ConditionBelowJoin => "S4",
-            RuleName::SelectBelowSemi => "S5",
-            RuleName::KeepsMerge => "K1",
-            RuleName::KeepOfAll => "K2",
-            RuleName::KeepBelowJoin => "K3",
-            RuleName::DistinctOfKeyed => "D1",
-            RuleName::GroupIsDistinct => "G1",
+            RuleName::JoinCommutes => JoinCommutes::CODE,
+            RuleName::JoinAssociates => JoinAssociates::CODE,
+            RuleName::SelectsMerge => SelectsMerge::CODE,
+            RuleName::SelectBelowJoin => SelectBelowJoin::CODE,
+            RuleName::SelectIntoJoin => SelectIntoJoin::CODE,
+            RuleName::ConditionBelowJoin => ConditionBelowJoin::CODE,
+            RuleName::SelectBelowSemi => SelectBelowSemi::CODE,
+            RuleName::KeepsMerge => KeepsMerge::CODE,
+            RuleName::KeepOfAll => KeepOfAll::CODE,
+            RuleName::KeepBelowJoin => KeepBelowJoin::CODE,
+            RuleName::DistinctOfKeyed => DistinctOfKeyed::CODE,
+            RuleName::GroupIsDistinct => GroupIsDistinct::CODE,
         }
+    }
+
+    /// The rule with this name in certificates, if there is one.
+    pub fn of_code(code: &str) -> Option<RuleName>
+        ensures { MatchOption result ((rule : RuleName) → spec.code_of rule ≢ code.now) (λ rule. spec.code_of rule ≡ code.now) }
+    {
+        with_code(&RULES, code)
     }
 
     /// What the rule of this name gives.

@@ -2,8 +2,11 @@
 #![tactic(auto)]
 
 pub mod book;
+mod copies;
 pub mod line;
+pub mod numbers;
 pub mod soundness;
 
 pub use book::RuleName;
 pub use line::{Line, LineReason, Step};
+pub use numbers::Numbers;

@@ -1,10 +1,11 @@
 //! The lines of a derivation.
 
 use crate::book::RuleName;
+use crate::numbers::Numbers;
 use algebra::{ClassId, Expr, LineId};
 use props::Fact;
 use thiserror::Error;
-use values::{Boxed, Items};
+use values::Boxed;
 
 /// A rule, applied to lines.
 #[derive(Drop)]
@@ -13,9 +14,9 @@ pub struct Step {
     /// The conjunct or the class that is meant, where a rule has a choice; else 0.
     pub pick: u32,
     /// The lines that the rule is applied to, the top first.
-    pub uses: Items<LineId>,
+    pub uses: Numbers,
     /// The lines that spell the inner expressions of what it gives, outer before inner, left before right.
-    pub makes: Items<LineId>,
+    pub makes: Numbers,
 }
 
 /// A line of a derivation. Lines are numbered from 0. A step is boxed, as most lines have none.

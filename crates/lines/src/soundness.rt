@@ -1,5 +1,6 @@
 //! The laws of logs. The functions do nothing: their contracts are the laws.
 
+ghost use Rattle.lines.specs.Examples.{WorkedLogs};
 ghost use Rattle.lines.specs.Laws.{BookIsSound, LogsAreTrue, SamenessIsLeast};
 
 /// Each rule of the book is sound.
@@ -16,4 +17,9 @@ pub fn logs_are_true()
 /// that unites two.
 pub fn sameness_is_least()
     ensures { SamenessIsLeast }
+{}
+
+/// Lines of every kind and steps of every rule may stand where they should: small logs, worked out.
+pub fn worked_logs_replay()
+    ensures { WorkedLogs }
 {}

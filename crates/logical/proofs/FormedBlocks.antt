@@ -50,7 +50,7 @@ different-are [] = refl
 different-are (k ∷ ks) = ap (λ b. not (has ks k) && b) (different-are ks)
 
 -- the columns of a block's aggregates differ
-apart : (numbers : List ℕ) (items : List Item) (others : List ℕ) → all_differ (aggregate_numbers items ++ others) ≡ true → are_different (aggregate_columns (aggregations numbers items)) ≡ true
+pub apart : (numbers : List ℕ) (items : List Item) (others : List ℕ) → all_differ (aggregate_numbers items ++ others) ≡ true → are_different (aggregate_columns (aggregations numbers items)) ≡ true
 apart numbers items others differ = ap are_different (columns-are numbers items) ∙ different-are (aggregate_numbers items) ∙ differ-left (aggregate_numbers items) others differ
 
 -- the query's own aggregates are its own in order too

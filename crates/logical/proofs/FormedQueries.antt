@@ -30,6 +30,7 @@ use Rattle.logical.proofs.FrameEquations.{frame-Block}
 use Rattle.logical.proofs.FrameShapes.{BoundParts, block-shape, bound-parts}
 use Rattle.logical.proofs.Growth.{top-columns, last-is}
 use Rattle.logical.proofs.Induction.{Steps, each-block}
+use Rattle.logical.proofs.OwnAggregates.{flat-apart, lines-apart}
 use Rattle.algebra.proofs.Same.{same_aggregation-refl}
 use Rattle.algebra.proofs.Sets.{has-rising}
 
@@ -159,4 +160,5 @@ frames_formed q bound =
       shown = ap (λ L. is_subset ((block_frame uses q.block).shown []) (class_columns uses L (length (reverse lines) - 1))) turned ∙ ap (λ n. is_subset ((block_frame uses q.block).shown []) (class_columns uses lines n)) last_is
           ∙ block-shown uses q.block bound;
       some = omega (arith, long, adds);
+      apart = flat-apart uses (reverse lines) (all-reverse _ lines (lines-apart uses q.block [] [] tt bound));
     }

@@ -14,7 +14,7 @@ use Rattle.query.specs.declared.query.Cond.TheVariants as cond
 use Rattle.query.specs.declared.query.From.{From}
 use Rattle.query.specs.declared.query.From.TheVariants as from
 use Rattle.query.specs.declared.query.Block.{Block}
-use Rattle.query.specs.Bound.{Scope, CondScope, FromScope, BlockScope, cond_scope, from_scope, block_scope, join_scope, is_used, numbers_of_use, use_numbers, is_single, are_new, aggregate_numbers, bound_filter, bound_items, block_scope_layer}
+use Rattle.query.specs.Bound.{Scope, CondScope, FromScope, BlockScope, cond_scope, from_scope, block_scope, join_scope, is_used, numbers_of_use, use_numbers, is_single, are_new, aggregate_numbers, bound_filter, bound_items, block_scope_layer, none_of_tables}
 use Rattle.query.proofs.ScopeEquations.{scope-Compare, scope-IsNull, scope-Not, scope-And, scope-Or, scope-Exists, scope-In, scope-Table, scope-Join, scope-LeftJoin, scope-Comma, scope-Block, scoped}
 use Rattle.algebra.specs.declared.condition.Condition.{Condition}
 use Rattle.algebra.specs.declared.expr.Expr.{Expr}
@@ -350,18 +350,20 @@ module _ (uses : List TableInstance) where
   -- what is known of a bound block, over the column numbers of its FROM's frame
   pub record BoundParts (q : Block) (scope : Scope) : Type 0 where
     pub new : are_new (aggregate_numbers q.items ++ (from_frame uses q.from).numbers) scope ≡ true
+    pub apart : none_of_tables uses (aggregate_numbers q.items) ≡ true
     pub from : (from_scope uses q.from).bound scope ≡ true
     pub filter : bound_filter (option_map (cond_scope uses) q.filter) ((from_frame uses q.from).numbers ∷ scope) ≡ true
     pub items : bound_items q.grouped (length (from_frame uses q.from).numbers) q.keys q.items ((from_frame uses q.from).numbers ∷ scope) ≡ true
 
-  pub bound-parts : (q : Block) (scope : Scope) → (block_scope_layer (scoped uses q)).bound scope ≡ true → BoundParts q scope
+  pub bound-parts : (q : Block) (scope : Scope) → (block_scope_layer uses (scoped uses q)).bound scope ≡ true → BoundParts q scope
   bound-parts q scope bound =
-      let moved = subst (λ ns. (are_new (aggregate_numbers q.items ++ ns) scope && ((from_scope uses q.from).bound scope && (bound_filter (option_map (cond_scope uses) q.filter) (ns ∷ scope) && bound_items q.grouped (length ns) q.keys q.items (ns ∷ scope)))) ≡ true)
+      let moved = subst (λ ns. (are_new (aggregate_numbers q.items ++ ns) scope && (none_of_tables uses (aggregate_numbers q.items) && ((from_scope uses q.from).bound scope && (bound_filter (option_map (cond_scope uses) q.filter) (ns ∷ scope) && bound_items q.grouped (length ns) q.keys q.items (ns ∷ scope))))) ≡ true)
       (from-shape q.from scope []).numbers bound in
       let a = and_parts (are_new (aggregate_numbers q.items ++ (from_frame uses q.from).numbers) scope) _ moved in
-      let b = and_parts ((from_scope uses q.from).bound scope) _ a.1 in
+      let others = and_parts (none_of_tables uses (aggregate_numbers q.items)) _ a.1 in
+      let b = and_parts ((from_scope uses q.from).bound scope) _ others.1 in
       let c = and_parts (bound_filter (option_map (cond_scope uses) q.filter) ((from_frame uses q.from).numbers ∷ scope)) _ b.1 in
-      record { new = a.0; from = b.0; filter = c.0; items = c.1 }
+      record { new = a.0; apart = others.0; from = b.0; filter = c.0; items = c.1 }
 
   -- what is known of a bound join, over the column numbers of its left side's frame
   pub record JoinParts (f : From) (o : Occurrence) (on : Cond) (scope : Scope) : Type 0 where

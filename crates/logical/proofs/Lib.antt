@@ -18,3 +18,4 @@ pub mod Growth
 pub mod Induction
 pub mod QueryNumbers
 pub mod Shown
+pub mod OwnAggregates

@@ -4,7 +4,7 @@ use Rattle.std.proofs.lemmas.Bool.{cases_lt, eq-eqb, eqb-true, ltb-true, ltb-fal
 use Rattle.std.proofs.lemmas.List.{length-set, get_or_default, get_or-set_same, get_or-set_other, set-get_or, set-set}
 use Rattle.algebra.specs.Columns.{has, columns_at}
 use Rattle.algebra.proofs.Puts.{among-append}
-use Rattle.props.specs.declared.fact.Facts.{Facts}
+use Rattle.props.specs.declared.fact.FactSets.{FactSets}
 use Rattle.props.specs.Facts.{no_facts}
 use Rattle.lines.specs.Logs.{lesser, united}
 use Rattle.logs.specs.declared.sets.ClassSets.{ClassSets}
@@ -27,8 +27,8 @@ module _ (s t : ClassSets) (p q : ℕ) where
     pub others : (r : ℕ) → (r == p) ≡ false → (r == q) ≡ false → columns_at t.members.items r ≡ columns_at s.members.items r
     pub root : (d : ℕ) → get_or t.roots.items p d ≡ lesser (get_or s.roots.items p d) (get_or s.roots.items q d)
     pub other_roots : (r d : ℕ) → (r == p) ≡ false → get_or t.roots.items r d ≡ get_or s.roots.items r d
-    pub facts : (d : Facts) → AreOfBoth (get_or s.facts.items p d) (get_or s.facts.items q d) (get_or t.facts.items p d)
-    pub other_facts : (r : ℕ) (d : Facts) → (r == p) ≡ false → (r == q) ≡ false → get_or t.facts.items r d ≡ get_or s.facts.items r d
+    pub facts : (d : FactSets) → AreOfBoth (get_or s.facts.items p d) (get_or s.facts.items q d) (get_or t.facts.items p d)
+    pub other_facts : (r : ℕ) (d : FactSets) → (r == p) ≡ false → (r == q) ≡ false → get_or t.facts.items r d ≡ get_or s.facts.items r d
 
 module _ (s t : ClassSets) (are : AreSets s) (a b : ℕ) (a-in : a < length s.sets.items) (b-in : b < length s.sets.items)
     (differ : (set_at s.sets.items a == set_at s.sets.items b) ≡ false) (is : AreMoved s t (set_at s.sets.items a) (set_at s.sets.items b)) where
@@ -313,7 +313,7 @@ module _ (p q : ℕ) (apart : (p == q) ≡ false) where
     at-other r d not-p not-q = get_or-set_other (set xs q x) p r y d (other-one r p not-p) ∙ get_or-set_other xs q r x d (other-one r q not-q)
 
 module _ (s t : ClassSets) (p q : ℕ) (are : AreSets s) (p-in : p < length s.sets.items) (q-in : q < length s.sets.items) (apart : (p == q) ≡ false) where
-  pub written : (joined : List Facts) (rest : Facts)
+  pub written : (joined : List FactSets) (rest : FactSets)
       → length t.sets.items ≡ length s.sets.items
       → ((g : ℕ) → set_at t.sets.items g ≡ (if has (columns_at s.members.items q) g then p else set_at s.sets.items g))
       → t.members.items ≡ set (set s.members.items p (columns_at s.members.items p ++ columns_at s.members.items q)) q []
@@ -345,11 +345,11 @@ module _ (s t : ClassSets) (p q : ℕ) (are : AreSets s) (p-in : p < length s.se
       }
 
 -- two sets' facts, written back one behind the other
-module _ (facts : List Facts) (into from : ℕ) (none first rest : Facts) (in-p : into < length facts) (in-q : from < length facts) (apart : (into == from) ≡ false) where
-  abbrev after : List Facts
+module _ (facts : List FactSets) (into from : ℕ) (none first rest : FactSets) (in-p : into < length facts) (in-q : from < length facts) (apart : (into == from) ≡ false) where
+  abbrev after : List FactSets
   after = set (set (set facts from none) into first) from rest
 
-  pub facts-joined : ((d : Facts) → AreOfBoth (get_or facts into d) (get_or facts from d) first) → AreFactsJoined facts into from after
+  pub facts-joined : ((d : FactSets) → AreOfBoth (get_or facts into d) (get_or facts from d) first) → AreFactsJoined facts into from after
   facts-joined both = record {
     count = length-set (set (set facts from none) into first) from rest ∙ length-set (set facts from none) into first ∙ length-set facts from none;
     both = λ d. subst (AreOfBoth (get_or facts into d) (get_or facts from d))
@@ -357,7 +357,7 @@ module _ (facts : List Facts) (into from : ℕ) (none first rest : Facts) (in-p 
     others = λ r d not-p not-q. get_or-set_other (set (set facts from none) into first) from r rest d (other-one into from apart r from not-q) ∙ at-other into from apart facts none first in-p in-q r d not-p not-q;
   }
 
-  pub facts-back : (d : Facts) → first ≡ get_or (set facts from none) into d → rest ≡ get_or facts from d → after ≡ facts
+  pub facts-back : (d : FactSets) → first ≡ get_or (set facts from none) into d → rest ≡ get_or facts from d → after ≡ facts
   facts-back d here there =
       ap (λ x. set (set (set facts from none) into x) from rest) here ∙ ap (λ xs. set xs from rest) (set-get_or (set facts from none) into d)
       ∙ set-set facts from none rest ∙ ap (set facts from) there ∙ set-get_or facts from d
@@ -392,7 +392,7 @@ module _ (s t : ClassSets) (a b : ℕ) where
   either-turned : (g : ℕ) → (root_of s g == root_of s b || root_of s g == root_of s a) ≡ (root_of s g == root_of s a || root_of s g == root_of s b)
   either-turned g = or-turned (root_of s g == root_of s b) (root_of s g == root_of s a)
 
-  swapped : (F G both : Facts) → AreOfBoth G F both → AreOfBoth F G both
+  swapped : (F G both : FactSets) → AreOfBoth G F both → AreOfBoth F G both
   swapped F G both (inl is) = inr is
   swapped F G both (inr is) = inl is
 

@@ -1,8 +1,8 @@
 -- What is known once there is a line more.
-use Rattle.std.proofs.Common.{◌≡◌, refl, ap, sym, ◌∙◌, subst, ℕ, ◌+◌, Bool, true, false, ◌||◌, ◌==◌, if◌then◌else◌, List, [], ◌∷◌, length, Result, Ok, Err, OnErr, OnOk, arith}
+use Rattle.std.proofs.Common.{◌≡◌, refl, ap, sym, ◌∙◌, subst, ℕ, ◌+◌, Bool, true, false, ◌||◌, ◌==◌, if◌then◌else◌, List, [], ◌∷◌, ◌++◌, ◌≤◌, inl, inr, length, Result, Ok, Err, OnErr, OnOk, arith}
 use Rattle.std.specs.declared.alloc.AllocError.{AllocError}
-use Rattle.std.proofs.lemmas.Bool.{eqb-true}
-use Rattle.std.proofs.lemmas.List.{length-map}
+use Rattle.std.proofs.lemmas.Bool.{cases_lt, eq-eqb, eqb-true}
+use Rattle.std.proofs.lemmas.List.{length-map, length_push, get_or_append_left, get_or_past, get_or_push}
 use Rattle.query.specs.declared.query.TableInstance.{TableInstance}
 use Rattle.algebra.specs.declared.expr.Expr.{Expr}
 use Rattle.algebra.specs.declared.expr.Expr.TheVariants.{Keep}
@@ -10,7 +10,7 @@ use Rattle.algebra.specs.Classes.{class_columns, class_free}
 use Rattle.algebra.specs.Columns.{ColumnSet, has, columns_at}
 use Rattle.algebra.specs.Expressions.{columns_of, free_of}
 use Rattle.props.specs.declared.fact.Fact.{Fact}
-use Rattle.props.specs.declared.fact.Facts.{Facts}
+use Rattle.props.specs.declared.fact.FactSets.{FactSets}
 use Rattle.props.specs.Facts.{with_fact}
 use Rattle.props.specs.Knowledge.{Knowledge}
 use Rattle.lines.specs.declared.line.Line.{Line}
@@ -21,7 +21,7 @@ use Rattle.logs.specs.Sets.{AreUnited, AreOfBoth, root_of, facts_of}
 use Rattle.logs.proofs.MovedSets.{alike-facts, alike-roots, alike-sets}
 use Rattle.logs.proofs.UnitedFacts.{is_either, united-test, among-alike, among-both, turned-facts, apart-tests, one-class}
 
-one-knowledge : {c d : ℕ → List ℕ} {f h : ℕ → ColumnSet} {r q : ℕ → ℕ} {F G : ℕ → Facts} → c ≡ d → f ≡ h → r ≡ q → F ≡ G
+one-knowledge : {c d : ℕ → List ℕ} {f h : ℕ → ColumnSet} {r q : ℕ → ℕ} {F G : ℕ → FactSets} → c ≡ d → f ≡ h → r ≡ q → F ≡ G
     → (let first : Knowledge = record { columns = c; free = f; root = r; facts = F } in first) ≡ (let second : Knowledge = record { columns = d; free = h; root = q; facts = G } in second)
 one-knowledge a b e i = rw (a, b, e, i) refl
 
@@ -142,7 +142,7 @@ known-of-alike uses E k l is alike =
     let step : AreInStep l = record {
       sets = alike-sets k.sets l.sets alike.sets is.step.sets;
       columns = ap length alike.columns ∙ is.step.columns ∙ sym (ap length alike.sets.sets);
-      free = ap length alike.free ∙ is.step.free ∙ sym (ap length alike.sets.sets);
+      free = let own = ap length alike.free in let others = ap length alike.sets.sets in let before = is.step.free in omega (arith, own, others, before);
     } in
     known-alike uses E k l is step alike.columns alike.free (alike-roots k.sets l.sets alike.sets) (alike-facts k.sets l.sets alike.sets)
 
@@ -166,3 +166,62 @@ class-as k l K F G same also = record {
   columns_ = also.columns_;
   free_ = λ g c. also.free_ g c ∙ ap (λ b. if g == length k.columns.items then b else has (columns_at k.free.items g) c) (same c);
 }
+
+-- ---- free columns
+
+-- a class past the end of the list has none
+free-past : (xs : List (List ℕ)) (n : ℕ) → length xs ≤ n → (g c : ℕ) → has (columns_at xs g) c ≡ (if g == n then false else has (columns_at xs g) c)
+free-past xs n short g c = by (g == n) refl
+  where
+    by : (b : Bool) → (g == n) ≡ b → has (columns_at xs g) c ≡ (if b then false else has (columns_at xs g) c)
+    by true e = ap (λ ys. has ys c) (get_or_past xs g [] (subst (λ m. length xs ≤ m) (sym (eqb-true g n e)) short))
+    by false e = refl
+
+-- a class more, without columns
+pub idle-class : (k l : Known) → AreInStep k → length l.columns.items ≡ length k.columns.items + 1
+    → ((g : ℕ) → columns_at l.columns.items g ≡ (if g == length k.columns.items then [] else columns_at k.columns.items g)) → l.free.items ≡ k.free.items → HasClass k [] (λ c. false) l
+idle-class k l step count columns free = record {
+  count = count;
+  columns_ = columns;
+  free_ = λ g c. ap (λ xs. has (columns_at xs g) c) free ∙ free-past k.free.items (length k.columns.items) (let short = step.free in let all = step.columns in omega (arith, short, all)) g c;
+}
+
+has-either : (b : Bool) (xs ys : List ℕ) (c : ℕ) → has (if b then xs else ys) c ≡ (if b then has xs c else has ys c)
+has-either true xs ys c = refl
+has-either false xs ys c = refl
+
+-- a class more, with its columns and free columns
+pub founded-class : (k l : Known) (K own : List ℕ) (n : ℕ) → n ≡ length k.columns.items → length l.columns.items ≡ length k.columns.items + 1
+    → ((g : ℕ) → columns_at l.columns.items g ≡ (if g == length k.columns.items then K else columns_at k.columns.items g))
+    → ((g : ℕ) → columns_at l.free.items g ≡ (if g == n then own else columns_at k.free.items g)) → HasClass k K (has own) l
+founded-class k l K own n is count columns free = record {
+  count = count;
+  columns_ = columns;
+  free_ = λ g c. ap (λ ys. has ys c) (free g) ∙ has-either (g == n) own (columns_at k.free.items g) c ∙ ap (λ m. if g == m then has own c else has (columns_at k.free.items g) c) is;
+}
+
+-- the free columns of a class that is noted past the end of the list, where it has none
+pub none-noted : (xs : List (List ℕ)) (n : ℕ) (own : List ℕ) → own ≡ [] → length xs ≤ n → (g : ℕ) → columns_at xs g ≡ (if g == n then own else columns_at xs g)
+none-noted xs n own none short g = by (g == n) refl
+  where
+    by : (b : Bool) → (g == n) ≡ b → columns_at xs g ≡ (if b then own else columns_at xs g)
+    by true e = get_or_past xs g [] (subst (λ m. length xs ≤ m) (sym (eqb-true g n e)) short) ∙ sym none
+    by false e = refl
+
+-- the entry behind the last
+pub one-noted : (xs before : List (List ℕ)) (n : ℕ) (own : List ℕ) → length xs ≡ n → ((g : ℕ) → columns_at xs g ≡ columns_at before g) → (g : ℕ) → columns_at (xs ++ own ∷ []) g ≡ (if g == n then own else columns_at before g)
+one-noted xs before n own long same g = by (g == n) refl
+  where
+    past : (g ≡ n → ⊥) → length xs ≤ g → length (xs ++ own ∷ []) ≤ g
+    past other le = let more = length_push xs own in omega (arith, other, le, more, long)
+
+    by : (b : Bool) → (g == n) ≡ b → columns_at (xs ++ own ∷ []) g ≡ (if b then own else columns_at before g)
+    by true e = get_or_push xs own [] g (long ∙ sym (eqb-true g n e))
+    by false e = elim (cases_lt g (length xs)) [
+      | inl lt ↦ get_or_append_left xs (own ∷ []) [] g lt ∙ same g
+      | inr le ↦ get_or_past (xs ++ own ∷ []) g [] (past (λ i. let is = eq-eqb g n i in cc) le) ∙ sym (get_or_past xs g [] le) ∙ same g
+    ]
+
+-- one entry more without columns
+pub none-more : (xs : List (List ℕ)) (g : ℕ) → columns_at (xs ++ [] ∷ []) g ≡ columns_at xs g
+none-more xs g = one-noted xs xs (length xs) [] refl (λ h. refl) g ∙ sym (none-noted xs (length xs) [] refl (omega arith) g)

@@ -3,7 +3,7 @@ use Rattle.std.proofs.Common.{◌≡◌, refl, ap, sym, ◌∙◌, subst, ℕ, �
 use Rattle.std.proofs.lemmas.Bool.{eq-eqb, eqb-true, ltb-true, lt-ltb}
 use Rattle.std.proofs.lemmas.List.{get_or_default}
 use Rattle.std.proofs.lemmas.Option.{slice_get-get_or, slice_get_past}
-use Rattle.props.specs.declared.fact.Facts.{Facts}
+use Rattle.props.specs.declared.fact.FactSets.{FactSets}
 use Rattle.props.specs.Facts.{no_facts}
 use Rattle.props.specs.Knowledge.{root_of, facts_at, facts_or_none}
 use Rattle.logs.specs.declared.sets.ClassSets.{ClassSets}
@@ -27,7 +27,7 @@ module _ (s : ClassSets) where
   root-past g le = ap (root_of roots g) (slice_get_past sets g le)
 
   -- the facts of its set
-  pub facts-here : (g : ℕ) (d : Facts) → g < length sets → set_at sets g < length s.facts.items → facts_of s g ≡ get_or s.facts.items (set_at sets g) d
+  pub facts-here : (g : ℕ) (d : FactSets) → g < length sets → set_at sets g < length s.facts.items → facts_of s g ≡ get_or s.facts.items (set_at sets g) d
   facts-here g d lt within = ap (λ o. facts_or_none (facts_at s.facts.items o)) (slice_get-get_or sets g 0 lt) ∙ ap facts_or_none (slice_get-get_or s.facts.items (set_at sets g) d within)
 
   pub facts-past : (g : ℕ) → length sets ≤ g → facts_of s g ≡ no_facts

@@ -1,7 +1,7 @@
 -- The facts of classes that become the same.
 use Rattle.std.proofs.Common.{◌≡◌, refl, ap, sym, ◌∙◌, inl, inr, ◌⊎◌, ℕ, Bool, true, false, ◌&&◌, ◌||◌, ◌==◌, nat_lt, if◌then◌else◌, [], ◌∷◌}
 use Rattle.std.proofs.lemmas.Bool.{eq-eqb, eqb-true}
-use Rattle.props.specs.declared.fact.Facts.{Facts}
+use Rattle.props.specs.declared.fact.FactSets.{FactSets}
 use Rattle.props.specs.Facts.{with_fact, with_facts}
 use Rattle.props.proofs.FactUnions.{learnt-first, learnt-other}
 use Rattle.lines.specs.declared.line.Line.TheVariants.{Founds, Adds, Unites, Alike, Gives}
@@ -74,10 +74,10 @@ among-either p q disjoint (Unites g h s ∷ E) = among-either p q disjoint E
 among-either p q disjoint (Alike i j ∷ E) = among-either p q disjoint E
 among-either p q disjoint (Gives g m f ∷ E) = by (among-either p q disjoint E) (p g) (q g) (disjoint g)
   where
-    F : Facts
+    F : FactSets
     F = facts_among p E
 
-    G : Facts
+    G : FactSets
     G = facts_among q E
 
     by : facts_among (λ g. p g || q g) E ≡ with_facts F G → (c d : Bool) → (c && d) ≡ false
@@ -103,7 +103,7 @@ and-turned false true = refl
 and-turned false false = refl
 
 -- in either order
-pub among-both : (p q : ℕ → Bool) → ((g : ℕ) → (p g && q g) ≡ false) → (E : Log) (both : Facts) → AreOfBoth (facts_among p E) (facts_among q E) both → both ≡ facts_among (λ g. p g || q g) E
+pub among-both : (p q : ℕ → Bool) → ((g : ℕ) → (p g && q g) ≡ false) → (E : Log) (both : FactSets) → AreOfBoth (facts_among p E) (facts_among q E) both → both ≡ facts_among (λ g. p g || q g) E
 among-both p q disjoint E both is = elim is [
   | inl first ↦ first ∙ sym (among-either p q disjoint E)
   | inr second ↦ second ∙ sym (among-either q p (λ g. and-turned (q g) (p g) ∙ disjoint g) E) ∙ among-alike (λ g. q g || p g) (λ g. p g || q g) (λ g. or-turned (q g) (p g)) E

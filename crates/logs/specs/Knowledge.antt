@@ -1,5 +1,5 @@
 -- What is known of a log, as code keeps it.
-use Rattle.std.specs.Prelude.{◌≡◌, ℕ, ◌+◌, ◌<◌, ◌==◌, true, false, nat_lt, if◌then◌else◌, List, length}
+use Rattle.std.specs.Prelude.{◌≡◌, ℕ, ◌+◌, ◌<◌, ◌≤◌, ◌==◌, true, false, nat_lt, if◌then◌else◌, List, length}
 use Rattle.query.specs.declared.query.TableInstance.{TableInstance}
 use Rattle.algebra.specs.declared.expr.Expr.{Expr}
 use Rattle.algebra.specs.Classes.{class_free}
@@ -23,11 +23,11 @@ known_by k = record {
   facts = facts_of k.sets;
 }
 
--- the lists have an entry for each class
+-- the lists have an entry for each class; that of free columns may end before
 pub record AreInStep (k : Known) : Type 0 where
   pub sets : AreSets k.sets
   pub columns : length k.columns.items ≡ length k.sets.sets.items
-  pub free : length k.free.items ≡ length k.sets.sets.items
+  pub free : length k.free.items ≤ length k.sets.sets.items
 
 -- one class more, with its columns and free columns
 pub record HasClass (k : Known) (columns : List ℕ) (free : ColumnSet) (l : Known) : Type 0 where
@@ -44,7 +44,6 @@ pub record IsAlike (k l : Known) : Type 0 where
 -- there is room for one class more
 pub record HasRoom (k : Known) : Type 0 where
   pub columns : has_room k.columns
-  pub free : has_room k.free
   pub sets : sets.HasRoom k.sets
 
 -- the columns of an expression over the classes, and its free columns

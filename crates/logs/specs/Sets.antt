@@ -3,7 +3,7 @@ use Rattle.std.specs.Prelude.{◌≡◌, ℕ, ◌<◌, ◌≤◌, true, false, �
 use Rattle.std.specs.List.{count_by}
 use Rattle.std.specs.declared.vec.Vec.{Vec}
 use Rattle.algebra.specs.Columns.{has, columns_at}
-use Rattle.props.specs.declared.fact.Facts.{Facts}
+use Rattle.props.specs.declared.fact.FactSets.{FactSets}
 use Rattle.props.specs.Facts.{with_facts}
 use Rattle.props.specs.Knowledge.{root_in, set_facts, facts_or_none}
 use Rattle.lines.specs.Logs.{united}
@@ -14,7 +14,7 @@ abbrev pub root_of : ClassSets → ℕ → ℕ
 root_of s = root_in s.sets.items s.roots.items
 
 -- the facts of a class's set
-abbrev pub facts_of : ClassSets → ℕ → Facts
+abbrev pub facts_of : ClassSets → ℕ → FactSets
 facts_of s g = facts_or_none (set_facts s.sets.items s.facts.items g)
 
 abbrev pub set_at : List ℕ → ℕ → ℕ
@@ -25,7 +25,7 @@ abbrev pub times : ℕ → List ℕ → ℕ
 times n xs = count_by (λ k. k == n) xs
 
 -- each class is in the set of its number once, and in no other, and the class that stands for the set is in it too
-pub record AreSetsOf (sets standing : List ℕ) (classes : List (List ℕ)) (known : List Facts) : Type 0 where
+pub record AreSetsOf (sets standing : List ℕ) (classes : List (List ℕ)) (known : List FactSets) : Type 0 where
   pub roots : length standing ≡ length sets
   pub members : length classes ≡ length sets
   pub facts : length known ≡ length sets
@@ -39,14 +39,14 @@ abbrev pub AreSets : ClassSets → Type 0
 AreSets s = AreSetsOf s.sets.items s.roots.items s.members.items s.facts.items
 
 -- the facts of two classes, one list's behind the other's
-abbrev pub AreOfBoth : Facts → Facts → Facts → Type 0
+abbrev pub AreOfBoth : FactSets → FactSets → FactSets → Type 0
 AreOfBoth F G both = (both ≡ with_facts F G) ⊎ (both ≡ with_facts G F)
 
 -- the facts of one set went over to another
-pub record AreFactsJoined (facts : List Facts) (into from : ℕ) (joined : List Facts) : Type 0 where
+pub record AreFactsJoined (facts : List FactSets) (into from : ℕ) (joined : List FactSets) : Type 0 where
   pub count : length joined ≡ length facts
-  pub both : (d : Facts) → AreOfBoth (slice_index_or facts into d) (slice_index_or facts from d) (slice_index_or joined into d)
-  pub others : (r : ℕ) (d : Facts) → (r == into) ≡ false → (r == from) ≡ false → slice_index_or joined r d ≡ slice_index_or facts r d
+  pub both : (d : FactSets) → AreOfBoth (slice_index_or facts into d) (slice_index_or facts from d) (slice_index_or joined into d)
+  pub others : (r : ℕ) (d : FactSets) → (r == into) ≡ false → (r == from) ≡ false → slice_index_or joined r d ≡ slice_index_or facts r d
 
 -- the sets of two classes are one: one class stands for both, and their facts are those of both
 pub record AreUnited (s : ClassSets) (a b : ℕ) (t : ClassSets) : Type 0 where

@@ -1,16 +1,15 @@
 //! What is known by the lines of a log.
 
-ghost use Rattle.std.specs.Prelude.{◌≡◌, ◌<◌, ◌∷◌, ◌==◌, ℕ, [], true, false, nat_lt, if◌then◌else◌, List, length, reverse, OnErr, OnOk};
+ghost use Rattle.std.specs.Prelude.{◌≡◌, ◌<◌, ◌≤◌, ◌+◌, ◌∷◌, ◌==◌, ℕ, [], true, false, nat_lt, if◌then◌else◌, List, length, reverse, OnErr, OnOk};
 ghost use Rattle.query.specs.declared.query.TableInstance as instance;
-ghost use Rattle.algebra.specs.Columns.{has};
+ghost use Rattle.algebra.specs.Columns.{columns_at};
 ghost use Rattle.algebra.specs.Expressions.{classes_pass};
 ghost use Rattle.props.specs.Facts.{with_fact};
 ghost use Rattle.props.specs.Knowledge.{known};
 ghost use Rattle.lines.specs.Logs as logs;
 ghost use Rattle.logs.specs.Knowledge as spec;
-ghost use Rattle.logs.specs.Sets.{AreUnited, root_of, facts_of};
+ghost use Rattle.logs.specs.Sets.{AreSets, AreUnited, root_of, facts_of};
 
-use crate::class_list::ClassList;
 use crate::free::free_columns;
 use crate::lookups::member;
 use crate::sets::ClassSets;
@@ -27,7 +26,7 @@ use std::alloc::{AllocError, Global};
 pub struct Known {
     /// Their columns.
     pub columns: Vec<Columns>,
-    /// The columns of the environment on which their rows depend.
+    /// The columns of the environment on which their rows depend, up to the last class that has such columns.
     pub free: Vec<Columns>,
     /// Which of them are the same, and their facts.
     pub sets: ClassSets,
@@ -41,6 +40,31 @@ fn class_at(lines: &[Line], line: LineId) -> ClassId
         Some(member) => member.class,
         None => line,
     }
+}
+
+/// Notes the free columns of a class that is past the end of the list. Classes without any need no entry. Where there is no memory,
+/// nothing is changed.
+fn put_free(
+    alloc: Global,
+    list: &mut Vec<Columns>,
+    class: ClassId,
+    free: Columns,
+) -> Result<(), AllocError>
+    requires { length list.old.items ≤ class }
+    ensures class { OnOk result ((g : ℕ) → columns_at list.new.items g ≡ (if g == class then free else columns_at list.old.items g)) }
+    ensures count { OnOk result (length list.new.items ≤ class + 1) }
+    ensures refused { OnErr result (list.new.items ≡ list.old.items) }
+{
+    if free.as_slice().is_empty() {
+        return Ok(());
+    }
+    let count = list.as_slice().len();
+    list.reserve(class as usize - count + 1)?;
+    for _none in count..class as usize {
+        list.push_reserved(Columns::from_vec(Vec::new(alloc)));
+    }
+    list.push_reserved(free);
+    Ok(())
 }
 
 impl Known {
@@ -77,47 +101,38 @@ impl Known {
         ensures room { OnOk result (spec.HasRoom self.new) }
     {
         self.columns.reserve(1)?;
-        self.free.reserve(1)?;
         self.sets.make_room()
     }
 
-    /// Adds a class with its columns and free columns, where there is room for it.
-    fn put(
-        &mut self,
-        alloc: Global,
-        columns: Columns,
-        free: Columns,
-        class: ClassId,
-        alone: ClassList,
-    )
-        requires step { spec.AreInStep self.old }
+    /// Adds a class with its columns, where there is room for it.
+    fn put(&mut self, columns: Columns, class: ClassId)
+        requires sets { AreSets self.old.sets }
+        requires count { length self.old.columns.items ≡ length self.old.sets.sets.items }
         requires room { spec.HasRoom self.old }
         requires class { class ≡ length self.old.columns.items }
-        requires alone { alone ≡ class ∷ [] }
-        ensures step { spec.AreInStep self.new }
-        ensures class { spec.HasClass self.old columns (has free) self.new }
+        ensures sets { AreSets self.new.sets }
+        ensures in_step { length self.new.columns.items ≡ length self.new.sets.sets.items }
+        ensures count { length self.new.columns.items ≡ length self.old.columns.items + 1 }
+        ensures columns { (g : ℕ) → columns_at self.new.columns.items g ≡ (if g == length self.old.columns.items then columns else columns_at self.old.columns.items g) }
+        ensures free { self.new.free.items ≡ self.old.free.items }
         ensures roots { (g : ℕ) → root_of self.new.sets g ≡ root_of self.old.sets g }
         ensures facts { (g : ℕ) → facts_of self.new.sets g ≡ facts_of self.old.sets g }
     {
         self.columns.push_reserved(columns);
-        self.free.push_reserved(free);
-        self.sets.put(alloc, class, alone);
+        self.sets.put(class);
     }
 
     /// Adds a class that has neither columns nor free columns, where there is room for it.
-    fn put_idle(&mut self, alloc: Global, class: ClassId, alone: ClassList)
+    fn put_idle(&mut self, alloc: Global, class: ClassId)
         requires step { spec.AreInStep self.old }
         requires room { spec.HasRoom self.old }
         requires class { class ≡ length self.old.columns.items }
-        requires alone { alone ≡ class ∷ [] }
         ensures step { spec.AreInStep self.new }
         ensures class { spec.HasClass self.old [] (λ c. false) self.new }
         ensures roots { (g : ℕ) → root_of self.new.sets g ≡ root_of self.old.sets g }
         ensures facts { (g : ℕ) → facts_of self.new.sets g ≡ facts_of self.old.sets g }
     {
-        let columns = Columns::from_vec(Vec::new(alloc));
-        let free = Columns::from_vec(Vec::new(alloc));
-        self.put(alloc, columns, free, class, alone);
+        self.put(Columns::from_vec(Vec::new(alloc)), class);
     }
 
     /// Adds the class that a line founds, where there is room for it.
@@ -127,12 +142,10 @@ impl Known {
         uses: &[TableInstance],
         expr: &Expr,
         class: ClassId,
-        alone: ClassList,
     ) -> Result<(), AllocError>
         requires step { spec.AreInStep self.old }
         requires room { spec.HasRoom self.old }
         requires class { class ≡ length self.old.columns.items }
-        requires alone { alone ≡ class ∷ [] }
         requires named { classes_pass (λ g. nat_lt g (length self.old.columns.items)) expr.now ≡ true }
         ensures step { spec.AreInStep self.new }
         ensures class { OnOk result (spec.HasClass self.old (spec.expr_columns uses.now self.old expr.now) (spec.expr_free self.old expr.now) self.new) }
@@ -142,7 +155,8 @@ impl Known {
     {
         let columns = expr.columns(alloc, uses, self.columns.as_slice())?;
         let free = free_columns(alloc, expr, self.classes().columns)?;
-        self.put(alloc, columns, free, class, alone);
+        put_free(alloc, &mut self.free, class, free)?;
+        self.put(columns, class);
         Ok(())
     }
 
@@ -153,12 +167,10 @@ impl Known {
         first: ClassId,
         second: ClassId,
         class: ClassId,
-        alone: ClassList,
     ) -> Result<(), AllocError>
         requires step { spec.AreInStep self.old }
         requires room { spec.HasRoom self.old }
         requires class { class ≡ length self.old.columns.items }
-        requires alone { alone ≡ class ∷ [] }
         requires first { first < length self.old.columns.items }
         requires second { second < length self.old.columns.items }
         ensures step { OnOk result (spec.AreInStep self.new) }
@@ -167,7 +179,7 @@ impl Known {
         ensures refused { OnErr result (spec.IsAlike self.old self.new) }
     {
         self.sets.unite(alloc, first, second)?;
-        self.put_idle(alloc, class, alone);
+        self.put_idle(alloc, class);
         Ok(())
     }
 
@@ -178,12 +190,10 @@ impl Known {
         of: ClassId,
         fact: &Fact,
         class: ClassId,
-        alone: ClassList,
     ) -> Result<(), AllocError>
         requires step { spec.AreInStep self.old }
         requires room { spec.HasRoom self.old }
         requires class { class ≡ length self.old.columns.items }
-        requires alone { alone ≡ class ∷ [] }
         requires of { of < length self.old.columns.items }
         ensures step { spec.AreInStep self.new }
         ensures class { OnOk result (spec.HasClass self.old [] (λ c. false) self.new) }
@@ -193,7 +203,7 @@ impl Known {
         ensures refused_columns { OnErr result ((self.new.columns.items ≡ self.old.columns.items) × (self.new.free.items ≡ self.old.free.items)) }
     {
         self.sets.learn(alloc, of, fact)?;
-        self.put_idle(alloc, class, alone);
+        self.put_idle(alloc, class);
         Ok(())
     }
 
@@ -206,30 +216,28 @@ impl Known {
         lines: &[Line],
         line: &Line,
         class: ClassId,
-        alone: ClassList,
     ) -> Result<(), AllocError>
         requires known { spec.IsKnown uses.now (reverse lines.now) self.old }
         requires closed { spec.IsClosed uses.now (reverse lines.now) }
         requires names { spec.NamesEarlier (reverse lines.now) line.now }
         requires room { spec.HasRoom self.old }
         requires class { class ≡ length lines.now }
-        requires alone { alone ≡ class ∷ [] }
         ensures known { OnOk result (spec.IsKnown uses.now (line.now ∷ reverse lines.now) self.new) }
         ensures refused { OnErr result (spec.IsKnown uses.now (reverse lines.now) self.new) }
     {
         match line {
-            Line::Founds(expr) => self.found(alloc, uses, expr, class, alone),
+            Line::Founds(expr) => self.found(alloc, uses, expr, class),
             Line::Adds(_, _, _) => {
-                self.put_idle(alloc, class, alone);
+                self.put_idle(alloc, class);
                 Ok(())
             }
-            Line::Unites(first, second, _) => self.unite(alloc, *first, *second, class, alone),
+            Line::Unites(first, second, _) => self.unite(alloc, *first, *second, class),
             Line::Alike(first, second) => {
                 let first = class_at(lines, *first);
                 let second = class_at(lines, *second);
-                self.unite(alloc, first, second, class, alone)
+                self.unite(alloc, first, second, class)
             }
-            Line::Gives(of, _, fact) => self.learn(alloc, *of, fact, class, alone),
+            Line::Gives(of, _, fact) => self.learn(alloc, *of, fact, class),
         }
     }
 
@@ -248,8 +256,7 @@ impl Known {
         ensures refused { OnErr result (spec.IsKnown uses.now (reverse lines.now) self.new) }
     {
         let class = id_behind(0, lines.len())?;
-        let alone = ClassList::one(alloc, class)?;
         self.make_room()?;
-        self.add(alloc, uses, lines, line, class, alone)
+        self.add(alloc, uses, lines, line, class)
     }
 }

@@ -4,7 +4,6 @@
 mod additions;
 mod alike;
 mod class_lines;
-mod class_list;
 mod free;
 mod judge;
 mod known;

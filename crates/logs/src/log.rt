@@ -20,7 +20,7 @@ use crate::additions::Additions;
 use crate::class_lines::lines_of;
 use crate::judge::{Behind, LineFault};
 use crate::known::Known;
-use crate::lookups::member;
+use crate::lookups::{founds, member};
 use algebra::{Aggregation, ClassId, LineId};
 use lines::Line;
 use props::KnownClasses;
@@ -117,6 +117,20 @@ impl<'q> Log<'q> {
         self.lines.as_slice()
     }
 
+    /// How many lines there are, which is the number of the next one.
+    pub fn len(&self) -> usize
+        ensures { result ≡ length self.now.log }
+    {
+        self.lines.len()
+    }
+
+    /// The query's table instances.
+    pub fn instances(&self) -> &'q [TableInstance]
+        ensures { result.now ≡ self.now.uses }
+    {
+        self.uses
+    }
+
     /// What is known of the classes that the lines found.
     pub fn classes(&self) -> KnownClasses<'_>
         ensures known { known result ≡ logs.knowledge self.now.uses self.now.log }
@@ -172,6 +186,13 @@ impl<'q> Log<'q> {
         ensures { option_map line_in result ≡ logs.member self.now.log line }
     {
         member(self.lines(), line)
+    }
+
+    /// Whether a line of this number founds a class.
+    pub fn founds(&self, class: ClassId) -> bool
+        ensures { result ≡ logs.founds self.now.log class }
+    {
+        founds(self.lines(), class)
     }
 
     /// The lines with an expression of a class, or of one that is the same, each once, in no order; none where no line founds the class.

@@ -7,8 +7,8 @@ ghost use Rattle.algebra.specs.Columns.{has};
 ghost use Rattle.props.specs.Facts.{no_facts, with_fact};
 ghost use Rattle.logs.specs.Sets as spec;
 
-use crate::class_list::ClassList;
 use algebra::ClassId;
+use lines::Numbers;
 use props::{Fact, Facts};
 use std::alloc::{AllocError, Global};
 use std::mem;
@@ -21,7 +21,7 @@ pub struct ClassSets {
     /// For each set the class that stands for it.
     pub roots: Vec<ClassId>,
     /// For each set its classes; none where they went over to another set.
-    pub members: Vec<ClassList>,
+    pub members: Vec<Numbers>,
     /// For each set the facts of its classes.
     pub facts: Vec<Facts>,
 }
@@ -66,7 +66,7 @@ fn join_facts(
     ensures refused { OnErr result (facts.new.items ≡ facts.old.items) }
     ensures room { spec.KeepsRoom facts.old facts.new }
 {
-    let mut more = mem::replace(&mut facts[from], Facts::none(alloc));
+    let mut more = mem::replace(&mut facts[from], Facts::none());
     let joined = unite_facts(alloc, &mut facts[into], &mut more);
     facts[from] = more;
     joined
@@ -75,9 +75,9 @@ fn join_facts(
 /// Puts these classes, which are those of one set, and its facts to another set's. Where there is no memory, nothing is changed.
 fn join(
     alloc: Global,
-    members: &mut Vec<ClassList>,
+    members: &mut Vec<Numbers>,
     facts: &mut Vec<Facts>,
-    classes: &ClassList,
+    classes: &Numbers,
     into: usize,
     from: usize,
 ) -> Result<(), AllocError>
@@ -93,7 +93,7 @@ fn join(
     ensures facts_room { spec.KeepsRoom facts.old facts.new }
 {
     let count = members[into].len();
-    members[into].extend(classes)?;
+    members[into].extend(alloc, classes)?;
     match join_facts(alloc, facts, into, from) {
         Ok(()) => Ok(()),
         Err(error) => {
@@ -145,11 +145,10 @@ impl ClassSets {
     }
 
     /// Adds a class alone in its set, where there is room for it. Its number is that of all before it.
-    pub fn put(&mut self, alloc: Global, class: ClassId, alone: ClassList)
+    pub fn put(&mut self, class: ClassId)
         requires sets { spec.AreSets self.old }
         requires room { spec.HasRoom self.old }
         requires next { class ≡ length self.old.sets.items }
-        requires alone { alone ≡ class ∷ [] }
         ensures sets { spec.AreSets self.new }
         ensures count { length self.new.sets.items ≡ length self.old.sets.items + 1 }
         ensures roots { (g : ℕ) → spec.root_of self.new g ≡ spec.root_of self.old g }
@@ -157,8 +156,8 @@ impl ClassSets {
     {
         self.sets.push_reserved(class);
         self.roots.push_reserved(class);
-        self.members.push_reserved(alone);
-        self.facts.push_reserved(Facts::none(alloc));
+        self.members.push_reserved(Numbers::one(class));
+        self.facts.push_reserved(Facts::none());
     }
 
     /// Puts the classes of one set into another, where the sets of two classes differ. Where there is no memory, nothing is changed.
@@ -184,8 +183,8 @@ impl ClassSets {
             into as usize,
             from as usize,
         )?;
-        self.members[from as usize] = ClassList::none(alloc);
-        self.facts[from as usize] = Facts::none(alloc);
+        self.members[from as usize] = Numbers::none();
+        self.facts[from as usize] = Facts::none();
         relabel(&mut self.sets, classes.as_slice(), into);
         self.roots[into as usize] = self.roots[into as usize].min(self.roots[from as usize]);
         Ok(())

@@ -26,13 +26,13 @@ module _ (uses : List TableInstance) where
   abbrev origins : List Plan → List Origin
   origins inputs = map (plan_origin uses) inputs
 
-  -- where a plan's groups aggregate stored values alone, its root's and its inputs' do
-  plan-parts : (p : Plan) (node : Node) (inputs : List Plan) → (out-Plan p).node ≡ node → inputs ≡ (out-Plan p).inputs → (plan_origin uses p).reads ≡ true → (node_reads node (origins inputs) ≡ true) × (all_read (origins inputs) ≡ true)
+  -- where a plan's groups aggregate values of tables alone, its root's and its inputs' do
+  plan-parts : (p : Plan) (node : Node) (inputs : List Plan) → (out-Plan p).node ≡ node → inputs ≡ (out-Plan p).inputs → (plan_origin uses p).reads ≡ true → (node_reads uses node (origins inputs) ≡ true) × (all_read (origins inputs) ≡ true)
   unfolding plan_origin
   plan-parts p node inputs is given reads =
       let here = sym (ap (λ (x : Origin). x.reads) (fold_out-Plan Origin (origin_layer uses) p)) ∙ reads in
-      let parts = and_parts (node_reads (out-Plan p).node (origins (out-Plan p).inputs)) _ here in (
-        subst (λ ps. node_reads node (origins ps) ≡ true) (sym given) (subst (λ (n : Node). node_reads n (origins (out-Plan p).inputs) ≡ true) is parts.0),
+      let parts = and_parts (node_reads uses (out-Plan p).node (origins (out-Plan p).inputs)) _ here in (
+        subst (λ ps. node_reads uses node (origins ps) ≡ true) (sym given) (subst (λ (n : Node). node_reads uses n (origins (out-Plan p).inputs) ≡ true) is parts.0),
         subst (λ ps. all_read (origins ps) ≡ true) (sym given) parts.1,
       )
 
@@ -58,9 +58,9 @@ module _ (uses : List TableInstance) where
   rest-runnable (p ∷ inputs) may = record { reads = (and_parts _ _ may.reads).1; sorted = (and_parts _ _ may.sorted).1 }
 
   -- a group may read the relation of its input
-  pub input-readable : (D : Tables) → AreShortTables D → (operator : Operator) (method : GroupMethod) (K : List ℕ) (G added : List Aggregation) (inputs : List Plan) (e : Env) (r : Relation) → operator ≡ GroupRows method K G → added ≡ G → IsOperable uses operator inputs
+  pub input-readable : (D : Tables) → AreShortTables D → (operator : Operator) (method : GroupMethod) (K : List ℕ) (G added : List Aggregation) (inputs : List Plan) (e : Env) (r : Relation) → operator ≡ GroupRows method K G → added ≡ G → IsOperable uses operator inputs → AreRunnable uses inputs
       → IsInputOutput (map (plan_output uses D) inputs) 0 e r → AreReadable added (rows_of r e)
-  input-readable D short operator method K G added inputs e r is same may given =
+  input-readable D short operator method K G added inputs e r is same may all given =
       let rows = (output-first (map (plan_output uses D) inputs) e r given).rows_are in
       subst (λ A. AreReadable A (rows_of r e)) (sym same)
-      (subst (AreReadable G) (sym rows) (group-readable uses D short method K G inputs (subst (λ (o : Operator). operator_reads o (origins inputs) ≡ true) is may.reads) e))
+      (subst (AreReadable G) (sym rows) (group-readable uses D short method K G inputs (subst (λ (o : Operator). operator_reads uses o (origins inputs) ≡ true) is may.reads) all.reads e))

@@ -6,7 +6,7 @@ use Rattle.physical.specs.declared.plan.Plan.{Plan}
 use Rattle.physical.specs.Origins.{all_read, operator_reads, plan_origin}
 use Rattle.physical.specs.RequiredOrders.{all_sorted, are_sorted, plan_supply}
 
--- the groups of a plan aggregate stored values alone, and its nodes get the orders that they require
+-- the groups of a plan aggregate values of tables alone, and its nodes get the orders that they require
 pub record IsRunnable (uses : List TableInstance) (plan : Plan) : Type 0 where
   pub reads : (plan_origin uses plan).reads ≡ true
   pub sorted : (plan_supply uses plan).sorted ≡ true
@@ -16,7 +16,7 @@ pub record AreRunnable (uses : List TableInstance) (inputs : List Plan) : Type 0
   pub reads : all_read (map (plan_origin uses) inputs) ≡ true
   pub sorted : all_sorted (map (plan_supply uses) inputs) ≡ true
 
--- an operator aggregates values that are stored in its inputs, and gets the orders that it requires
+-- an operator aggregates values of tables alone, and gets the orders that it requires
 pub record IsOperable (uses : List TableInstance) (operator : Operator) (inputs : List Plan) : Type 0 where
-  pub reads : operator_reads operator (map (plan_origin uses) inputs) ≡ true
+  pub reads : operator_reads uses operator (map (plan_origin uses) inputs) ≡ true
   pub sorted : are_sorted operator (map (λ x. x.columns) (map (plan_supply uses) inputs)) (map (λ x. x.order) (map (plan_supply uses) inputs)) ≡ true

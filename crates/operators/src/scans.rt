@@ -59,8 +59,7 @@ fn passing<'t>(
 ) -> Result<Vec<usize>, AllocError>
     ensures { IfOk result (λ kept. kept.items ≡ filter (λ n. spec.holds no_classes conditions.now (numbered_env input.now (env_of env.now) n)) (numbers_of input.now)) }
 {
-    let mut tests = Vec::new(alloc);
-    resolve(conditions, input, env, &mut tests)?;
+    let tests = resolve(alloc, conditions, input, env)?;
     let mut kept = Vec::new(alloc);
     for number in 0..input.rows.count {
         push_if(

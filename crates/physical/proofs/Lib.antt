@@ -1,5 +1,6 @@
 pub mod ClosureSorts
 pub mod Delivered
+pub mod DeliveredOrders
 pub mod Deliveries
 pub mod OrderedLists
 pub mod RequiredOrders

@@ -1,3 +1,4 @@
+pub mod EachOrder
 pub mod Indexes
 pub mod Orders
 pub mod Origins

@@ -6,6 +6,7 @@
 
 pub mod indexes;
 pub mod laws;
+pub mod node_orders;
 pub mod order;
 pub mod plan;
 

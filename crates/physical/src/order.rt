@@ -11,7 +11,11 @@ use query::TableInstance;
 use std::alloc::{AllocError, Global};
 
 /// The keys before the first one whose column isn't in the set.
-fn front(alloc: Global, order: &[OrderKey], columns: &Columns) -> Result<Vec<OrderKey>, AllocError>
+pub fn front(
+    alloc: Global,
+    order: &[OrderKey],
+    columns: &Columns,
+) -> Result<Vec<OrderKey>, AllocError>
     ensures { IfOk result (λ keys. keys.items ≡ spec.front (has columns.now) order.now) }
 {
     let mut keys = Vec::new(alloc);

@@ -9,10 +9,10 @@ use Rattle.schema.specs.Databases.{Stored}
 use Rattle.store.specs.Devices.{Rose}
 use Rattle.query.specs.declared.query.Query.{Query}
 use Rattle.query.specs.Rows.{tables_of}
-use Rattle.derivation.specs.QueryOrders.{answer}
-use Rattle.derivation.specs.declared.certificate.Certificate.{Certificate}
-use Rattle.derivation.specs.declared.certificate.CheckRefusal.{CheckRefusal}
-use Rattle.derivation.specs.Replay.{replayed, IsChecked}
+use Rattle.certificate.specs.QueryOrders.{answer}
+use Rattle.certificate.specs.declared.certificate.Certificate.{Certificate}
+use Rattle.certificate.specs.declared.certificate.CheckRefusal.{CheckRefusal}
+use Rattle.certificate.specs.Replay.{replayed, IsChecked}
 use Rattle.checker.specs.Accepted.{Accepted}
 use Rattle.executor.specs.declared.output.OutputFailed.{OutputFailed}
 use Rattle.executor.specs.AnswerText.{answer_text}

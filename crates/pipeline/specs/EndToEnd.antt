@@ -14,9 +14,9 @@ use Rattle.binder.specs.declared.fault.BindRefusal.{BindRefusal}
 use Rattle.binder.specs.Queries.{bound_statement}
 use Rattle.query.specs.Rows.{tables_of}
 use Rattle.query.specs.Answer.{IsAnswer}
-use Rattle.derivation.specs.declared.certificate.Certificate.{Certificate}
-use Rattle.derivation.specs.QueryOrders.{answer}
-use Rattle.derivation.specs.Replay.{IsChecked}
+use Rattle.certificate.specs.declared.certificate.Certificate.{Certificate}
+use Rattle.certificate.specs.QueryOrders.{answer}
+use Rattle.certificate.specs.Replay.{IsChecked}
 use Rattle.executor.specs.AnswerText.{answer_text}
 use Rattle.pipeline.specs.declared.refusal.Refusal.{Refusal}
 use Rattle.pipeline.specs.declared.refusal.Refusal.TheVariants as refusal

@@ -3,7 +3,7 @@ use Rattle.std.specs.Prelude.{ℕ}
 use Rattle.values.specs.declared.fault.Fault.{Fault}
 use Rattle.values.specs.declared.fault.Fault.TheVariants as fault
 use Rattle.schema.specs.declared.fault.SchemaRefusal.{SchemaRefusal}
-use Rattle.derivation.specs.declared.certificate.CheckRefusal.{CheckRefusal}
+use Rattle.certificate.specs.declared.certificate.CheckRefusal.{CheckRefusal}
 use Rattle.sql_parse.specs.declared.fault.ParseRefusal.{ParseRefusal}
 use Rattle.binder.specs.declared.fault.BindRefusal.{BindRefusal}
 use Rattle.executor.specs.declared.output.OutputFailed.{OutputFailed}

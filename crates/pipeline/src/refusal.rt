@@ -3,11 +3,12 @@
 ghost use Rattle.std.specs.Prelude.{◌≡◌, ◌++◌, codes, decimal, string_bytes, IfOk};
 ghost use Rattle.std.specs.Option.{option_copied};
 ghost use Rattle.pipeline.specs.Refusals as spec;
+ghost use Rattle.certificate.specs.Codes as check;
 ghost use Rattle.pipeline.specs.Lines as lines;
 ghost use Rattle.store.specs.Faults.{code_of, earlier_of};
 
 use binder::{BindFault, BindRefusal};
-use derivation::{CheckFault, CheckRefusal};
+use certificate::{CheckFault, CheckRefusal};
 use executor::AnswerFault;
 use schema::{Schema, SchemaFault, SchemaRefusal};
 use sql_parse::{ParseFault, ParseRefusal};
@@ -176,6 +177,18 @@ fn place_line(alloc: Global, code: &str, at: usize) -> Result<String, AllocError
     format!(in alloc; "refused {code} at {at}")
 }
 
+/// The line of a refusal at a line or node of a certificate.
+fn check_line(alloc: Global, refusal: CheckRefusal) -> Result<String, AllocError>
+    ensures { IfOk result (λ line. string_bytes line ≡ codes "refused " ++ (check.code_of refusal.reason ++ (lines.rule_text (check.rule_of refusal.reason) ++ (codes " line " ++ decimal refusal.line)))) }
+{
+    let code = refusal.reason.code();
+    let line = refusal.line;
+    match refusal.reason.rule() {
+        Some(rule) => format!(in alloc; "refused {code} {rule} line {line}"),
+        None => format!(in alloc; "refused {code} line {line}"),
+    }
+}
+
 /// The line that reports a refusal, without its line end. The schema names the table of a table's fault.
 pub fn fault_line(
     alloc: Global,
@@ -192,11 +205,7 @@ pub fn fault_line(
         }
         Refusal::Text(refusal) => place_line(alloc, refusal.reason.code(), refusal.at),
         Refusal::Scope(refusal) => place_line(alloc, refusal.reason.code(), refusal.at),
-        Refusal::Check(refusal) => {
-            let code = refusal.reason.code();
-            let line = refusal.line;
-            format!(in alloc; "refused {code} line {line}")
-        }
+        Refusal::Check(refusal) => check_line(alloc, *refusal),
         Refusal::Table(table, refusal) => table_line(alloc, name_of(schema, *table), *refusal),
         Refusal::TableDevice(table) => {
             let name = name_of(schema, *table);

@@ -1,17 +1,26 @@
 //! The canonical certificates of three queries: their lines, and their plans as texts.
 
-use crate::lines::{push_aggregates, push_columns, push_keys, push_line};
+use crate::texts::{push_aggregates, push_columns, push_keys, push_line};
 use algebra::{Conjuncts, Expr, LineId};
-use derivation::{Certificate, Line};
+use certificate::Certificate;
 use fixtures::{COMPANY, DEPT, EMP, QueryReporting, Tables, push_number, query_differences};
+use lines::Line;
 use physical::{GroupMethod, IndexAccess, JoinMethod, Matching, Node, Operator, Plan};
 use planner::canonical;
 use query::BoundQuery;
 use std::alloc::{AllocError, Global};
 use store::Database;
 
-fn conjuncts_of(expr: &Expr) -> Option<&Conjuncts> {
-    match expr {
+/// The expression of a line, if it has one.
+fn expr_of(line: &Line) -> Option<&Expr> {
+    match line {
+        Line::Founds(expr) | Line::Adds(_, _, expr) => Some(expr),
+        Line::Unites(_, _, _) | Line::Alike(_, _) | Line::Gives(_, _, _) => None,
+    }
+}
+
+fn conjuncts_of(line: &Line) -> Option<&Conjuncts> {
+    match expr_of(line)? {
         Expr::Select(own, _) => Some(own),
         Expr::Join(own, _, _) => Some(own),
         Expr::LeftJoin(own, _, _) => Some(own),
@@ -26,7 +35,7 @@ fn are_of_line(lines: &[Line], line: LineId, conjuncts: &Conjuncts) -> bool {
     let Some(own) = lines.get(line as usize) else {
         return false;
     };
-    match conjuncts_of(own.founding()) {
+    match conjuncts_of(own) {
         Some(own) => conjuncts.same(own),
         None => false,
     }
@@ -167,7 +176,10 @@ fn push_certificate(
 ) -> Result<(), AllocError> {
     let lines = certificate.lines.as_slice();
     for line in lines {
-        push_line(alloc, reported, line.founding())?;
+        match expr_of(line) {
+            Some(expr) => push_line(alloc, reported, expr)?,
+            None => reported.push_str("no expression")?,
+        }
         reported.push_str("; ")?;
     }
     push_plan(reported, lines, &certificate.plan)

@@ -2,24 +2,28 @@
 
 ghost use Rattle.query.specs.Bound.{TablesAreOver};
 
+use crate::derived::{expressions_of, lines_of};
 use crate::plans::{cut, number, plan_of};
 use crate::tables::TABLES;
 use algebra::Expr;
+use certificate::{Certificate, CheckRefusal};
 use checker::{Checked, check};
-use derivation::{Certificate, Line};
 use executor::run;
-use fixtures::{QueryReporting, drop_query, push_rows, query_differences, query_of};
+use fixtures::{
+    COMPANY, DEPT, EMP, QueryReporting, Tables, drop_query, push_number, push_rows,
+    query_differences, query_of,
+};
+use lines::Line;
 use logical::frame;
 use physical::Plan;
 use query::{BoundQuery, Query};
 use schema::Schema;
 use std::alloc::{AllocError, Global};
-use std::fmt::Write;
 use store::Database;
-use values::Items;
+use values::{Fault, Items};
 
 /// The lines of the query's frame, or of another text's where there is one.
-fn frame_of(
+fn frame_or_other(
     alloc: Global,
     schema: &Schema,
     query: &Query,
@@ -64,7 +68,7 @@ fn plan_over(
     conjuncts: &str,
     plan: &str,
 ) -> Result<Option<Plan>, AllocError> {
-    let frame = frame_of(alloc, schema, query, conjuncts)?;
+    let frame = frame_or_other(alloc, schema, query, conjuncts)?;
     plan_of(alloc, frame.as_slice(), plan)
 }
 
@@ -79,10 +83,23 @@ fn certificate_of(
     let (plan, rest) = cut(words, " / ");
     let (lines, rest) = cut(rest, " / ");
     let (without, conjuncts) = cut(rest, " / ");
-    let frame = frame_of(alloc, schema, query, lines)?;
+    let frame = frame_or_other(alloc, schema, query, lines)?;
     let lines = founded(alloc, frame, number(without))?;
     match plan_over(alloc, schema, query, conjuncts, plan)? {
         Some(plan) => Ok(Some(Certificate { lines, plan })),
+        None => Ok(None),
+    }
+}
+
+/// A certificate of lines and a plan in words, with ` / ` between them.
+fn derived_certificate(alloc: Global, words: &str) -> Result<Option<Certificate>, AllocError> {
+    let (lines, plan) = cut(words, " / ");
+    let expressions = expressions_of(alloc, lines)?;
+    match plan_of(alloc, expressions.as_slice(), plan)? {
+        Some(plan) => {
+            let lines = lines_of(alloc, lines)?;
+            Ok(Some(Certificate { lines, plan }))
+        }
         None => Ok(None),
     }
 }
@@ -100,7 +117,17 @@ fn push_answer(
     push_rows(reported, rows.as_slice())
 }
 
-/// The code and the line of a refusal, or `accepted` and the rows.
+/// The code of a refusal, the rule whose condition fails, and the line.
+fn push_refusal(reported: &mut String, refusal: CheckRefusal) -> Result<(), AllocError> {
+    reported.push_str(refusal.reason.code())?;
+    if let Some(rule) = refusal.reason.rule() {
+        reported.push_str(" ")?;
+        reported.push_str(rule)?;
+    }
+    push_number(reported, " line ", refusal.line)
+}
+
+/// A refusal, or `accepted` and the rows.
 fn push_verdict(
     alloc: Global,
     reported: &mut String,
@@ -112,7 +139,8 @@ fn push_verdict(
 {
     match check(alloc, database.schema(), query, certificate) {
         Ok(checked) => push_answer(alloc, reported, &checked, database),
-        Err(fault) => write!(reported, "{fault}"),
+        Err(Fault::Refused(refusal)) => push_refusal(reported, refusal),
+        Err(Fault::Memory) => Err(AllocError),
     }
 }
 
@@ -129,6 +157,25 @@ impl QueryReporting for Verdicts {
         reported: &mut String,
     ) -> Result<(), AllocError> {
         match &certificate_of(alloc, database.schema(), query.query(), more)? {
+            Some(certificate) => push_verdict(alloc, reported, database, query, certificate),
+            None => reported.push_str("no plan"),
+        }
+    }
+}
+
+/// Reports the verdict on a certificate whose lines stand in words too.
+struct Derivations;
+
+impl QueryReporting for Derivations {
+    fn report(
+        &self,
+        alloc: Global,
+        database: &Database<'_>,
+        query: &BoundQuery,
+        more: &str,
+        reported: &mut String,
+    ) -> Result<(), AllocError> {
+        match &derived_certificate(alloc, more)? {
             Some(certificate) => push_verdict(alloc, reported, database, query, certificate),
             None => reported.push_str("no plan"),
         }
@@ -262,6 +309,59 @@ fn certificates_are_judged(rt: HostRuntime) {
             &Verdicts
         )
         .as_deref(),
+        Ok("")
+    );
+}
+
+/// Lines of every kind, and a plan of what they found. An id has no Null and is a key, so distinct rows are the rows themselves; a badge
+/// may be Null, so its key is weak and serves for nothing.
+const FACTS: &str =
+    "SELECT DISTINCT id FROM emp => F get 0; F keep 0 0; F distinct 1; L 0 0 notnull 0; L 0 0 weak 0; L 0 0 strong 0; L 1 1 strong 0; S 2 1 D1 0 2 - / scan 0 0 | cut 1: 0 => accepted ;10,;11,;12,;13,
+SELECT DISTINCT id FROM emp => F get 0; F keep 0 0; F distinct 1; L 0 0 notnull 0; L 0 0 weak 0; L 1 1 strong 0; S 2 1 D1 0 2 - / scan 0 0 | cut 1: 0 => K05 L line 5
+SELECT DISTINCT id FROM emp => F get 0; F keep 0 0; F distinct 1; L 0 0 notnull 0; L 0 0 weak 0; L 0 0 strong 0; L 1 1 strong 0 / scan 0 0 | cut 1: 0 => K06 line 7
+SELECT DISTINCT id FROM emp => F get 0; F keep 0 0; F distinct 1; L 0 0 notnull 1 / scan 0 0 | cut 1: 0 => K05 L line 3
+SELECT DISTINCT id FROM emp => F get 0; F keep 0 0; F distinct 1; L 0 1 notnull 0 / scan 0 0 | cut 1: 0 => K02 line 3
+SELECT DISTINCT id FROM emp => F get 0; F keep 0 0; F distinct 1; L 1 1 notnull 3 / scan 0 0 | cut 1: 0 => K04 line 3
+SELECT DISTINCT id FROM emp => F get 0; F keep 0 0; F distinct 1; L 3 0 notnull 0 / scan 0 0 | cut 1: 0 => K01 line 3
+SELECT DISTINCT badge FROM emp => F get 0; F keep 3 0; F distinct 1; S 2 1 D1 0 2 - / scan 0 0 | cut 1: 3 => K05 D1 line 3
+SELECT DISTINCT badge FROM emp => F get 0; F keep 3 0; F distinct 1; S 2 1 K2 0 1 - / scan 0 0 | cut 1: 3 => K02 line 3
+SELECT DISTINCT badge FROM emp => F get 0; F keep 3 0; F distinct 1 / scan 0 0 | cut 1: 3 | distinct 2 => accepted ;7,;-,;9,
+SELECT DISTINCT badge FROM emp => F get 0; F keep 3 5; F distinct 1 / scan 0 0 | cut 1: 3 | distinct 2 => K01 line 1
+SELECT DISTINCT badge FROM emp => F get 0; F keep 2,3 0; F distinct 1 / scan 0 0 | cut 1: 3 | distinct 2 => K03 line 1
+SELECT DISTINCT badge FROM emp => F get 0; F keep 3 0; F distinct 1 / scan 0 0 | cut 1: 3 | sdistinct 2 => K07 line 3
+SELECT DISTINCT badge FROM emp => F get 0; F keep 3 0; F distinct 1 / scan 0 0 | cut 1: 2 | distinct 2 => K06 line 4
+SELECT DISTINCT badge FROM emp ORDER BY badge => F get 0; F keep 3 0; F distinct 1 / scan 0 0 | cut 1: 3 | distinct 2 => K08 line 3
+SELECT DISTINCT badge FROM emp ORDER BY badge => F get 0; F keep 3 0; F distinct 1 / scan 0 0 | cut 1: 3 | distinct 2 | sort: 3 => accepted ;-,;7,;9,";
+
+/// Plans over members that rules add: a join turned round, a filter below a join, a group as distinct rows, a group over a group. A node
+/// names a line with an expression of its own class, or of one that earlier lines make the same.
+const MEMBERS: &str =
+    "SELECT d.id, e.id FROM dept d JOIN emp e ON e.dept = d.id => F get 0; F get 1; F join [=(c4,c0)] 0 1; F keep 0,3 2; A 2 J1 0 2 - join [=(c4,c0)] 1 0 / scan 1 1 | scan 0 0 | hash 4 | cut 3: 0 3 => accepted ;1,10,;1,11,;3,12,
+SELECT d.id, e.id FROM dept d JOIN emp e ON e.dept = d.id => F get 0; F get 1; F join [=(c4,c0)] 0 1; F keep 0,3 2; A 2 J1 0 2 - join [=(c4,c0)] 0 1 / scan 1 1 | scan 0 0 | hash 4 | cut 3: 0 3 => K03 line 4
+SELECT d.id, e.id FROM dept d JOIN emp e ON e.dept = d.id => F get 0; F get 1; F join [=(c4,c0)] 0 1; F keep 0,3 2; A 3 J1 0 2 - join [=(c4,c0)] 1 0 / scan 1 1 | scan 0 0 | hash 4 | cut 3: 0 3 => K04 line 4
+SELECT d.id, e.id FROM dept d JOIN emp e ON e.dept = d.id => F get 0; F get 1; F join [=(c4,c0)] 0 1; F keep 0,3 2; A 2 J1 0 4 - join [=(c4,c0)] 1 0 / scan 1 1 | scan 0 0 | hash 4 | cut 3: 0 3 => K01 line 4
+SELECT d.id, e.id FROM dept d JOIN emp e ON e.dept = d.id => F get 0; F get 1; F join [=(c4,c0)] 0 1; F keep 0,3 2; A 2 J1 0 1 - join [=(c4,c0)] 1 0 / scan 1 1 | scan 0 0 | hash 4 | cut 3: 0 3 => K02 line 4
+SELECT d.id, e.id FROM dept d JOIN emp e ON e.dept = d.id => F get 0; F get 1; F join [=(c4,c0)] 0 1; F keep 0,3 2; F join [=(c4,c0)] 1 0 / scan 1 1 | scan 0 0 | hash 4 | cut 3: 0 3 => K06 line 6
+SELECT d.id, e.id FROM dept d JOIN emp e ON e.dept = d.id => F get 0; F get 1; F join [=(c4,c0)] 0 1; F keep 0,3 2; F join [=(c4,c0)] 1 0; S 2 4 J1 0 2 4 / scan 1 1 | scan 0 0 | hash 4 | cut 3: 0 3 => accepted ;1,10,;1,11,;3,12,
+SELECT d.id, e.id FROM dept d JOIN emp e ON e.dept = d.id => F get 0; F get 1; F join [=(c4,c0)] 0 1; F keep 0,3 2; F join [=(c4,c0)] 1 0; S 2 4 J1 0 2 4 / scan 1 1 | scan 0 0 | hash 5 | cut 3: 0 3 => K06 line 7
+SELECT d.id FROM dept d JOIN emp e ON e.dept = d.id WHERE d.boss = 10 => F get 0; F get 1; F join [=(c4,c0)] 0 1; F select [=(c2,i10)] 2; F keep 0 3; F select [=(c2,i10)] 0; A 3 S2 0 3,2 5 join [=(c4,c0)] 5 1 / scan 0 0 | filter 5 | scan 1 1 | hash 6 | cut 4: 0 => accepted ;1,;1,
+SELECT d.id FROM dept d JOIN emp e ON e.dept = d.id WHERE d.boss = 10 => F get 0; F get 1; F join [=(c4,c0)] 0 1; F select [=(c2,i10)] 2; F keep 0 3; F select [=(c2,i12)] 0; A 3 S2 0 3,2 5 join [=(c4,c0)] 5 1 / scan 0 0 | filter 5 | scan 1 1 | hash 6 | cut 4: 0 => K03 line 6
+SELECT dept FROM emp GROUP BY dept => F get 0; F group 1 0; F keep 1 1; F keep 1 0; A 1 G1 0 1 3 distinct 3 / scan 0 0 | cut 3: 1 | distinct 4 | cut 2: 1 => accepted ;1,;3,;-,
+SELECT DISTINCT dept FROM emp GROUP BY dept => F get 0; F group 1 0; F keep 1 1; F distinct 2; F distinct 1; G 2 2; F group 1 1 / scan 0 0 | group 1 | cut 2: 1 | distinct 3 => accepted ;1,;3,;-,
+SELECT id FROM emp => F get 0; F keep 0 0; F get 0; G 0 2; F keep 0 2; G 1 4 / scan 2 0 | cut 4: 0 => accepted ;10,;11,;12,;13,
+SELECT id FROM emp => F get 0; F keep 0 0; F get 0; F keep 0 2; G 1 3; G 0 2 / scan 2 0 | cut 3: 0 => K02 line 4
+SELECT d.id FROM dept d, emp e => F get 0; F get 1; F join [] 0 1; F keep 0 2; F semi [=(c4,c0)] 0 1; F select [=(c2,i10)] 4; F select [=(c2,i10)] 0; A 5 S5 0 5,4 6 semi [=(c4,c0)] 6 1 / scan 0 0 | scan 1 1 | loop 2 | cut 3: 0 => accepted ;1,;1,;1,;1,;2,;2,;2,;2,;3,;3,;3,;3,
+SELECT d.id FROM dept d, emp e => F get 0; F get 1; F join [] 0 1; F keep 0 2; F anti [=(c4,c0)] [] 0 1; F select [=(c2,i10)] 4; F select [=(c2,i10)] 0; A 5 S5 0 5,4 6 semi [=(c4,c0)] 6 1 / scan 0 0 | scan 1 1 | loop 2 | cut 3: 0 => K03 line 7";
+
+#[test]
+fn derivations_are_judged(rt: HostRuntime) {
+    let company = Tables {
+        schema: COMPANY,
+        first: DEPT,
+        second: EMP,
+    };
+    assert_eq!(rt;
+        query_differences(rt.alloc(), company, &[FACTS, MEMBERS], &Derivations).as_deref(),
         Ok("")
     );
 }

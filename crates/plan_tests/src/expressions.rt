@@ -2,9 +2,9 @@
 
 ghost use Rattle.std.specs.Prelude.{◌≡◌, IfOk, length};
 
-use crate::lines::{push_aggregates, push_columns};
 use crate::plans::{columns_of, cut, id};
 use crate::tables::TABLES;
+use crate::texts::{push_aggregates, push_columns};
 use algebra::{Aggregation, Aggregations, Columns, Condition, Conjuncts, Expr, Term};
 use fixtures::{QueryReporting, Reporting, differences, push_number, query_differences};
 use query::{Aggregate, BoundQuery, ColumnId, OccurrenceId, TableInstance};

@@ -1,7 +1,7 @@
 //! Frames of queries of each form.
 
-use crate::lines::push_line;
 use crate::tables::TABLES;
+use crate::texts::push_line;
 use algebra::{Aggregation, Columns, Conjuncts, Expr};
 use fixtures::{QueryReporting, query_differences};
 use logical::frame;

@@ -1,8 +1,8 @@
 //! The columns of their environment that plans read.
 
-use crate::lines::push_columns;
 use crate::plans::plan_of;
 use crate::tables::TABLES;
+use crate::texts::push_columns;
 use fixtures::{QueryReporting, query_differences};
 use logical::frame;
 use plan_reads::free_columns;

@@ -10,6 +10,8 @@ mod certificates;
 #[cfg(test)]
 mod commands;
 #[cfg(test)]
+mod derived;
+#[cfg(test)]
 mod expressions;
 #[cfg(test)]
 mod files;
@@ -20,10 +22,10 @@ mod free_columns;
 #[cfg(test)]
 mod hash_joins;
 #[cfg(test)]
-mod lines;
-#[cfg(test)]
 mod orders;
 #[cfg(test)]
 mod plans;
 #[cfg(test)]
 mod tables;
+#[cfg(test)]
+mod lines;

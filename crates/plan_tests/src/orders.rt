@@ -1,9 +1,9 @@
 //! The orders that plans deliver, and that queries ask for.
 
-use crate::lines::push_keys;
 use crate::plans::plan_of;
 use crate::tables::TABLES;
-use derivation::query_order;
+use crate::texts::push_keys;
+use certificate::query_order;
 use fixtures::{QueryReporting, query_differences};
 use logical::frame;
 use physical::{Plan, delivers};

@@ -1,5 +1,5 @@
 -- The plan of a class, of its operator and the plans of its inputs.
-use Rattle.std.proofs.Common.{◌≡◌, refl, ap, sym, ◌∙◌, ℕ, suc, ◌+◌, ◌<◌, nat_lt, Bool, true, List, [], ◌∷◌, ◌++◌, map, length, Some, Ok, arith}
+use Rattle.std.proofs.Common.{◌≡◌, refl, ap, sym, ◌∙◌, subst, ℕ, suc, ◌+◌, ◌<◌, nat_lt, Bool, true, List, [], ◌∷◌, ◌++◌, map, length, Some, Ok, arith}
 use Rattle.std.specs.List.{slice_get, list_all}
 use Rattle.std.proofs.lemmas.Bool.{eq-eqb, ltb-true, lt-ltb, and_from, and_parts}
 use Rattle.std.proofs.lemmas.List.Folds.{list_all-append}
@@ -28,9 +28,11 @@ use Rattle.physical.specs.declared.plan.Node.{Node}
 use Rattle.physical.specs.declared.plan.Node.TheVariants.{Implements}
 use Rattle.physical.specs.declared.plan.Plan.{Plan, roll-Plan, out-roll-Plan, fold-roll-Plan}
 use Rattle.physical.specs.RequiredOrders.{are_sorted}
-use Rattle.derivation.specs.Replay.{are_founded, implements, index_fits, is_founded, is_join, matching_is_founded, names_lines, needed_classes, node_fits, inputs_fit, plan_fits}
-use Rattle.derivation.proofs.Fits.{plan_fits_out}
-use Rattle.planner.specs.Canonical.{is_basic, is_basic_node, basic_layer, is_basic_plan, IsBasicOf, NameEarlier, IsPlanOf}
+use Rattle.lines.specs.Logs.{founds}
+use Rattle.certificate.specs.Replay.{are_founded, implements, index_fits, is_join, matching_is_founded, names_lines, needed_classes, node_fits, inputs_fit, plan_fits}
+use Rattle.certificate.proofs.Fits.{plan_fits_out}
+use Rattle.planner.specs.Canonical.{is_basic, is_basic_node, basic_layer, is_basic_plan, log_of, IsBasicOf, NameEarlier, IsPlanOf}
+use Rattle.planner.proofs.FrameLogs.{length-log, same-itself, member-log, founds-log}
 
 -- a plan by its node and inputs
 abbrev pub over : Node → List Plan → Plan
@@ -62,27 +64,27 @@ module _ (lines : List Expr) where
   all-basic (h ∷ classes) [] all = absurd all
   all-basic (h ∷ classes) (x ∷ plans) all = and_from _ _ all.0.basic (all-basic classes plans all.1)
 
-  all-fit : (uses : List TableInstance) (cols : ℕ → List ℕ) (classes : List ℕ) (plans : List Plan) → ArePlansOf classes plans → (n : ℕ) → (m : ℕ) × (inputs_fit (map (plan_fits uses lines cols) plans) classes n ≡ Ok m)
+  all-fit : (uses : List TableInstance) (cols : ℕ → List ℕ) (classes : List ℕ) (plans : List Plan) → ArePlansOf classes plans → (n : ℕ) → (m : ℕ) × (inputs_fit (map (plan_fits uses (log_of lines) cols) plans) classes n ≡ Ok m)
   all-fit uses cols [] [] all n = (n, refl)
   all-fit uses cols [] (x ∷ plans) all n = absurd all
   all-fit uses cols (h ∷ classes) [] all n = absurd all
   all-fit uses cols (h ∷ classes) (x ∷ plans) all n =
       let first = all.0.fits uses cols n in
       let rest = all-fit uses cols classes plans all.1 first.0 in
-      (rest.0, ap (λ r. r >>= (λ m. inputs_fit (map (plan_fits uses lines cols) plans) classes m)) first.1 ∙ rest.1)
+      (rest.0, ap (λ r. r >>= (λ m. inputs_fit (map (plan_fits uses (log_of lines) cols) plans) classes m)) first.1 ∙ rest.1)
 
   -- the classes that the conditions of a line name are founded by earlier lines
-  founded-earlier : (g : ℕ) (C D : List Condition) → g < length lines → same_conditions C D ≡ true → subqueries_pass (λ h. nat_lt h g) D ≡ true → are_founded (length lines) C ≡ true
+  founded-earlier : (g : ℕ) (C D : List Condition) → g < length lines → same_conditions C D ≡ true → subqueries_pass (λ h. nat_lt h g) D ≡ true → are_founded (log_of lines) C ≡ true
   founded-earlier g C D lt same pass = rw (equal_conditions C D same) (later (classes_in D) (classes-pass (λ h. nat_lt h g) D pass))
     where
-      later : (K : List ℕ) → list_all (λ h. nat_lt h g) K ≡ true → list_all (is_founded (length lines)) K ≡ true
+      later : (K : List ℕ) → list_all (λ h. nat_lt h g) K ≡ true → list_all (founds (log_of lines)) K ≡ true
       later [] all = refl
       later (h ∷ K) all =
           let parts = and_parts (nat_lt h g) _ all in
           let below = ltb-true h g parts.0 in
-          and_from _ _ (lt-ltb h (length lines) (omega (arith, below, lt))) (later K parts.1)
+          and_from _ _ (founds-log lines h (omega (arith, below, lt))) (later K parts.1)
 
-  join-founded : (g : ℕ) (j : Matching) (x : Expr) → g < length lines → is_join j x ≡ true → subqueries_pass (λ h. nat_lt h g) (conditions x) ≡ true → matching_is_founded (length lines) j ≡ true
+  join-founded : (g : ℕ) (j : Matching) (x : Expr) → g < length lines → is_join j x ≡ true → subqueries_pass (λ h. nat_lt h g) (conditions x) ≡ true → matching_is_founded (log_of lines) j ≡ true
   join-founded g (Inner C) (Join D a b) lt is pass = founded-earlier g C D lt is pass
   join-founded g (Left C) (LeftJoin D a b) lt is pass = founded-earlier g C D lt is pass
   join-founded g (Semi C) (expr.Semi D a b) lt is pass = founded-earlier g C D lt is pass
@@ -94,7 +96,7 @@ module _ (lines : List Expr) where
 
   -- a basic operator names earlier lines, as its expression does
   basic-names : (cols : ℕ → List ℕ) (g : ℕ) (operator : Operator) (x : Expr) → g < length lines → is_basic operator ≡ true → implements cols operator x ≡ true → subqueries_pass (λ h. nat_lt h g) (conditions x) ≡ true
-      → names_lines (length lines) operator ≡ true
+      → names_lines (log_of lines) operator ≡ true
   basic-names cols g (Filter C) (Select D y) lt basic is pass = founded-earlier g C D lt (and_parts _ _ is).1 pass
   basic-names cols g (FilterSubqueries C) (Select D y) lt basic is pass = founded-earlier g C D lt (and_parts _ _ is).1 pass
   basic-names cols g (JoinRows NestedLoop j) x lt basic is pass = join-founded g j x lt (and_parts (is_join j x) _ is).0 pass
@@ -102,7 +104,7 @@ module _ (lines : List Expr) where
 
   -- a basic operator reads nothing by an index, and needs all classes that its expression names
   pub record IsBasicAt (uses : List TableInstance) (g : ℕ) (operator : Operator) (x : Expr) : Type 0 where
-    pub indexed : index_fits uses lines g operator x ≡ true
+    pub indexed : index_fits uses (log_of lines) g operator x ≡ true
     pub needs : needed_classes operator x ≡ input_classes x
 
   pub basic-at : (uses : List TableInstance) (g : ℕ) (operator : Operator) (x : Expr) → is_basic operator ≡ true → IsBasicAt uses g operator x
@@ -111,11 +113,12 @@ module _ (lines : List Expr) where
   basic-at uses g operator x is = record { indexed = refl; needs = refl }
 
   node-fits : (uses : List TableInstance) (cols : ℕ → List ℕ) (g : ℕ) (x : Expr) (operator : Operator) (n : ℕ) → NameEarlier lines → slice_get lines g ≡ Some x → is_basic operator ≡ true → implements cols operator x ≡ true
-      → node_fits uses lines cols (Implements g operator) (length (input_classes x)) g n ≡ Ok (input_classes x)
+      → node_fits uses (log_of lines) cols (Implements g operator) (length (input_classes x)) g n ≡ Ok (input_classes x)
   node-fits uses cols g x operator n earlier at basic is =
       let plain = basic-at uses g operator x basic in
       let names = basic-names cols g operator x (slice_get_within lines g x at) basic is (and_parts _ _ (earlier g x at).0).1 in
-      rw (at, names, eq-eqb g g refl, is, plain.indexed, plain.needs, eq-eqb (length (input_classes x)) (length (input_classes x)) refl) refl
+      let there = lt-ltb g (length (log_of lines)) (subst (λ n. g < n) (sym (length-log lines)) (slice_get_within lines g x at)) in
+      rw (there, names, member-log lines g x at, same-itself lines g, is, plain.indexed, plain.needs, eq-eqb (length (input_classes x)) (length (input_classes x)) refl) refl
 
   over-basic : (node : Node) (inputs : List Plan) → is_basic_node node ≡ true → list_all (λ b. b) (map is_basic_plan inputs) ≡ true → is_basic_plan (over node inputs) ≡ true
   unfolding is_basic_plan
@@ -145,7 +148,7 @@ module _ (lines : List Expr) where
     fits = λ uses cols n.
         let rest = all-fit uses cols (input_classes x) inputs all (n + 1) in (
           rest.0,
-          plan_fits_out uses lines cols (over (Implements g operator) inputs) true g n
+          plan_fits_out uses (log_of lines) cols (over (Implements g operator) inputs) true g n
               ∙ rw (out-roll-Plan (record { node = Implements g operator; inputs = inputs }), as-many (input_classes x) inputs all, node-fits uses cols g x operator n earlier at is.basic (is.implemented cols), basic-sorted operator is.basic (map cols (input_classes x)) (map (plan_order uses) inputs)) rest.1,
         );
   }

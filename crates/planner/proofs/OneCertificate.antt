@@ -1,5 +1,5 @@
 -- One canonical certificate of a query replays.
-use Rattle.std.proofs.Common.{◌≡◌, refl, ap, sym, ◌∙◌, subst, ℕ, ◌+◌, Bool, true, not, ◌==◌, if◌then◌else◌, List, [], ◌∷◌, map, length, Some, Result, Ok, arith}
+use Rattle.std.proofs.Common.{◌≡◌, refl, ap, sym, ◌∙◌, subst, ℕ, ◌+◌, Bool, true, not, ◌==◌, if◌then◌else◌, List, [], ◌∷◌, map, length, reverse, Some, Result, Ok, arith}
 use Rattle.std.specs.List.{slice_get, list_all}
 use Rattle.std.proofs.lemmas.Bool.{and_parts, eqb-true, not-true}
 use Rattle.values.specs.Faults.{◌>>=◌, wanted_if}
@@ -28,15 +28,19 @@ use Rattle.physical.specs.declared.plan.Node.{Node}
 use Rattle.physical.specs.declared.plan.Node.TheVariants.{Implements, Sort}
 use Rattle.physical.specs.declared.plan.Plan.{Plan, roll-Plan, out-Plan, out-roll-Plan, roll-out-Plan, fold_out-Plan, ind-Plan, map-Plan}
 use Rattle.physical.specs.declared.plan.Plan.TheOpen.{Plan-F}
-use Rattle.derivation.specs.QueryOrders.{query_order}
-use Rattle.derivation.specs.declared.certificate.Line.{Line}
-use Rattle.derivation.specs.declared.certificate.Certificate.{Certificate}
-use Rattle.derivation.specs.declared.certificate.CheckRefusal.{CheckRefusal}
-use Rattle.derivation.specs.declared.certificate.CheckReason.TheVariants.{IllFormed, OtherOperator}
-use Rattle.derivation.specs.Replay.{refusal, founding, implements, sort_fits, operator_fits, node_fits, inputs_fit, plan_fits, lines_replay, is_delivered, root, replayed}
-use Rattle.derivation.proofs.Fits.{after_node, after-is, plan_fits_out, operator-is}
-use Rattle.planner.specs.Canonical.{is_basic, is_basic_node, basic_layer, is_basic_plan, top, IsCanonical, IsOnlyCanonical}
-use Rattle.planner.proofs.Accepted.{founding_lines}
+use Rattle.certificate.specs.QueryOrders.{query_order}
+use Rattle.rules.specs.Matches as matches
+use Rattle.lines.specs.declared.line.Line.{Line}
+use Rattle.lines.specs.declared.line.Line.TheVariants.{Founds}
+use Rattle.lines.specs.Logs.{Log, entries}
+use Rattle.certificate.specs.declared.certificate.Certificate.{Certificate}
+use Rattle.certificate.specs.declared.certificate.CheckRefusal.{CheckRefusal}
+use Rattle.certificate.specs.declared.certificate.CheckReason.TheVariants.{IllFormed, OtherOperator}
+use Rattle.certificate.specs.Replay.{refusal, implements, sort_fits, operator_fits, node_fits, inputs_fit, plan_fits, fitted_plan, lines_replay, is_delivered, root, replayed}
+use Rattle.certificate.proofs.Founded.{map-reverse, turned}
+use Rattle.certificate.proofs.Fits.{after_node, after-is, plan_fits_out, operator-is}
+use Rattle.planner.specs.Canonical.{is_basic, is_basic_node, basic_layer, is_basic_plan, log_of, top, IsCanonical, IsOnlyCanonical}
+use Rattle.planner.proofs.FrameLogs.{same-one, member-from}
 use Rattle.planner.proofs.ClassPlans.{basic-at}
 
 -- ---- one operator implements an expression
@@ -96,7 +100,7 @@ module _ (uses : List TableInstance) (lines : List Expr) where
     ordered : Bool
     number : ℕ
     after : ℕ
-    fits : plan_fits uses lines cols p ordered g number ≡ Ok after
+    fits : plan_fits uses (log_of lines) cols p ordered g number ≡ Ok after
 
   abbrev AllFit : List ℕ → List Plan → Type 0
   AllFit [] [] = Unit {0}
@@ -104,12 +108,12 @@ module _ (uses : List TableInstance) (lines : List Expr) where
   AllFit (g ∷ classes) [] = ⊥
   AllFit (g ∷ classes) (p ∷ plans) = Fits g p × AllFit classes plans
 
-  all-fit : (cols : ℕ → List ℕ) (classes : List ℕ) (plans : List Plan) (n m : ℕ) → length plans ≡ length classes → inputs_fit (map (plan_fits uses lines cols) plans) classes n ≡ Ok m → AllFit classes plans
+  all-fit : (cols : ℕ → List ℕ) (classes : List ℕ) (plans : List Plan) (n m : ℕ) → length plans ≡ length classes → inputs_fit (map (plan_fits uses (log_of lines) cols) plans) classes n ≡ Ok m → AllFit classes plans
   all-fit cols [] [] n m count fits = tt
   all-fit cols [] (p ∷ plans) n m count fits = absurd (omega (arith, count))
   all-fit cols (g ∷ classes) [] n m count fits = absurd (omega (arith, count))
   all-fit cols (g ∷ classes) (p ∷ plans) n m count fits =
-      let steps = both_ok (plan_fits uses lines cols p true g n) (λ m. inputs_fit (map (plan_fits uses lines cols) plans) classes m) m fits in
+      let steps = both_ok (plan_fits uses (log_of lines) cols p true g n) (λ m. inputs_fit (map (plan_fits uses (log_of lines) cols) plans) classes m) m fits in
       (record { cols = cols; ordered = true; number = n; after = steps.0; fits = steps.1 }, all-fit cols classes plans steps.0 m (omega (arith, count)) steps.2)
 
   -- the operator that implements the expression of its class, over plans of the classes that it names
@@ -121,26 +125,29 @@ module _ (uses : List TableInstance) (lines : List Expr) where
 
   -- what is left of a plan that fits behind its node
   abbrev rest : (ℕ → List ℕ) → Plan → Bool → ℕ → List ℕ → Result ℕ CheckRefusal
-  rest cols p = after_node cols (out-Plan p).node (map (plan_order uses) (out-Plan p).inputs) (map (plan_fits uses lines cols) (out-Plan p).inputs)
+  rest cols p = after_node cols (out-Plan p).node (map (plan_order uses) (out-Plan p).inputs) (map (plan_fits uses (log_of lines) cols) (out-Plan p).inputs)
 
   inputs-are : (cols : ℕ → List ℕ) (p : Plan) (ordered : Bool) (n m : ℕ) (needed : List ℕ) → length (out-Plan p).inputs ≡ length needed → rest cols p ordered n needed ≡ Ok m → AllFit needed (out-Plan p).inputs
   inputs-are cols p ordered n m needed count e =
-      all-fit cols needed (out-Plan p).inputs (n + 1) m count (after-is cols (out-Plan p).node (map (plan_order uses) (out-Plan p).inputs) (map (plan_fits uses lines cols) (out-Plan p).inputs) ordered n m needed e).inputs
+      all-fit cols needed (out-Plan p).inputs (n + 1) m count (after-is cols (out-Plan p).node (map (plan_order uses) (out-Plan p).inputs) (map (plan_fits uses (log_of lines) cols) (out-Plan p).inputs) ordered n m needed e).inputs
 
   node-is : (p : Plan) (g : ℕ) → is_basic_node (out-Plan p).node ≡ true → Fits g p → FitsNode g (out-Plan p).node (out-Plan p).inputs
   node-is p g basic f =
       let node : Node = (out-Plan p).node in
       let k : ℕ = length (out-Plan p).inputs in
       let n : ℕ = f.number in
-      let steps = both_ok (node_fits uses lines f.cols node k g n) (rest f.cols p f.ordered n) f.after (sym (plan_fits_out uses lines f.cols p f.ordered g n) ∙ f.fits) in
+      let steps = both_ok (node_fits uses (log_of lines) f.cols node k g n) (rest f.cols p f.ordered n) f.after (sym (plan_fits_out uses (log_of lines) f.cols p f.ordered g n) ∙ f.fits) in
       let there = operator-there node basic in
-      let fits : operator_fits uses lines f.cols there.line there.operator k g n ≡ Ok steps.0 = sym (ap (λ node. node_fits uses lines f.cols node k g n) there.is) ∙ steps.1 in
-      let found = operator-is uses lines f.cols there.line there.operator k g n steps.0 fits in
+      let fits : operator_fits uses (log_of lines) f.cols there.line there.operator k g n ≡ Ok steps.0 = sym (ap (λ node. node_fits uses (log_of lines) f.cols node k g n) there.is) ∙ steps.1 in
+      let found = operator-is uses (log_of lines) f.cols there.line there.operator k g n steps.0 fits in
+      let l : matches.Line = found.member_of in
+      let own = member-from lines there.line l found.at in
+      let here : there.line ≡ g = sym own.0 ∙ same-one lines l.class g found.same in
       record {
-        expr = found.expr;
-        at = found.at;
-        is = there.is ∙ two found.founds (one-operator f.cols there.operator found.expr there.basic found.implemented);
-        all = subst (λ L. AllFit L (out-Plan p).inputs) (sym found.needs ∙ (basic-at lines uses g there.operator found.expr there.basic).needs) (inputs-are f.cols p f.ordered n f.after steps.0 found.count steps.2);
+        expr = l.expr;
+        at = ap (slice_get lines) (sym here) ∙ own.1;
+        is = there.is ∙ two here (one-operator f.cols there.operator l.expr there.basic found.implemented);
+        all = subst (λ L. AllFit L (out-Plan p).inputs) (sym found.needs ∙ (basic-at lines uses g there.operator l.expr there.basic).needs) (inputs-are f.cols p f.ordered n f.after steps.0 found.count steps.2);
       }
     where
       two : {l m : ℕ} {a b : Operator} → l ≡ m → a ≡ b → Implements l a ≡ Implements m b
@@ -200,14 +207,14 @@ module _ (uses : List TableInstance) (lines : List Expr) where
   below-fits (k ∷ keys) p g f =
       let n : ℕ = f.number in
       let z : Plan-F Plan = record { node = Sort (k ∷ keys); inputs = p ∷ [] } in
-      let next : Plan-F Plan → List ℕ → Result ℕ CheckRefusal = λ w. after_node f.cols w.node (map (plan_order uses) w.inputs) (map (plan_fits uses lines f.cols) w.inputs) f.ordered n in
+      let next : Plan-F Plan → List ℕ → Result ℕ CheckRefusal = λ w. after_node f.cols w.node (map (plan_order uses) w.inputs) (map (plan_fits uses (log_of lines) f.cols) w.inputs) f.ordered n in
       let e : (sort_fits f.cols (k ∷ keys) 1 g n >>= next z) ≡ Ok f.after
-      = sym (ap (λ w. node_fits uses lines f.cols w.node (length w.inputs) g n >>= next w) (out-roll-Plan z)) ∙ sym (plan_fits_out uses lines f.cols (top (k ∷ keys) p) f.ordered g n) ∙ f.fits in
+      = sym (ap (λ w. node_fits uses (log_of lines) f.cols w.node (length w.inputs) g n >>= next w) (out-roll-Plan z)) ∙ sym (plan_fits_out uses (log_of lines) f.cols (top (k ∷ keys) p) f.ordered g n) ∙ f.fits in
       let steps = both_ok (sort_fits f.cols (k ∷ keys) 1 g n) (next z) f.after e in
       let sorted = both_ok (wanted_if (refusal n IllFormed) (list_all (λ k. has (f.cols g) k.column) (k ∷ keys)) (g ∷ [])) (λ classes. wanted_if (refusal n OtherOperator) (1 == 1) classes) steps.0 steps.1 in
       let needs : g ∷ [] ≡ steps.0 = (wanted_if_ok (refusal n IllFormed) _ (g ∷ []) sorted.0 sorted.1).1 ∙ (wanted_if_ok (refusal n OtherOperator) (1 == 1) sorted.0 steps.0 sorted.2).1 in
-      let inputs = (after-is f.cols z.node (map (plan_order uses) z.inputs) (map (plan_fits uses lines f.cols) z.inputs) f.ordered n f.after steps.0 steps.2).inputs in
-      let last = both_ok (plan_fits uses lines f.cols p true g (n + 1)) (λ m. inputs_fit [] [] m) f.after (ap (λ classes. inputs_fit (plan_fits uses lines f.cols p ∷ []) classes (n + 1)) needs ∙ inputs) in
+      let inputs = (after-is f.cols z.node (map (plan_order uses) z.inputs) (map (plan_fits uses (log_of lines) f.cols) z.inputs) f.ordered n f.after steps.0 steps.2).inputs in
+      let last = both_ok (plan_fits uses (log_of lines) f.cols p true g (n + 1)) (λ m. inputs_fit [] [] m) f.after (ap (λ classes. inputs_fit (plan_fits uses (log_of lines) f.cols p ∷ []) classes (n + 1)) needs ∙ inputs) in
       record { cols = f.cols; ordered = true; number = n + 1; after = last.0; fits = last.1 }
 
 -- ---- one certificate
@@ -217,18 +224,19 @@ module _ (q : Query) where
   unfolding replayed
   fits-of V is replays =
       let frame : List Expr = query_frame q in
-      let founded : map founding V.lines ≡ frame = ap (map founding) is.lines ∙ founding_lines frame in
-      let next : List Expr → Result Certificate CheckRefusal = λ E. plan_fits q.tables (map founding V.lines) (class_columns q.tables E) V.plan (is_delivered q V.plan) (root q) (length E) >>= λ n. Ok V in
-      let steps = both_ok (lines_replay q [] (map founding V.lines)) next V replays in
-      let E : List Expr = steps.0 in
-      let fits = both_ok (plan_fits q.tables (map founding V.lines) (class_columns q.tables E) V.plan (is_delivered q V.plan) (root q) (length E)) (λ n. Ok V) V steps.2 in
+      let steps = both_ok (lines_replay q [] V.lines) (λ E. fitted_plan q E V.plan >>= λ p. Ok V) V replays in
+      let E : Log = steps.0 in
+      let cols : ℕ → List ℕ = class_columns q.tables (entries E) in
+      let fitted = both_ok (fitted_plan q E V.plan) (λ p. Ok V) V steps.2 in
+      let fits = both_ok (plan_fits q.tables E cols V.plan (is_delivered q V.plan) (root q) (length E)) (λ n. Ok V.plan) fitted.0 fitted.1 in
+      let founded : E ≡ log_of frame = turned q V.lines [] E steps.1 ∙ ap reverse is.lines ∙ sym (map-reverse Founds frame) in
       below-fits q.tables frame (query_order q) is.below (root q) (record {
-        cols = class_columns q.tables E;
+        cols = cols;
         ordered = is_delivered q V.plan;
         number = length E;
         after = fits.0;
-        fits = ap (λ p. plan_fits q.tables frame (class_columns q.tables E) p (is_delivered q V.plan) (root q) (length E)) (sym is.plan)
-            ∙ ap (λ L. plan_fits q.tables L (class_columns q.tables E) V.plan (is_delivered q V.plan) (root q) (length E)) (sym founded) ∙ fits.1;
+        fits = ap (λ p. plan_fits q.tables (log_of frame) cols p (is_delivered q V.plan) (root q) (length E)) (sym is.plan)
+            ∙ ap (λ L. plan_fits q.tables L cols V.plan (is_delivered q V.plan) (root q) (length E)) (sym founded) ∙ fits.1;
       })
 
   pub one_certificate : (V : Certificate) → IsCanonical q V → replayed q V ≡ Ok V → IsOnlyCanonical q V

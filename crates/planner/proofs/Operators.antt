@@ -12,7 +12,7 @@ use Rattle.physical.specs.declared.plan.Matching.TheVariants.{Inner, Left}
 use Rattle.physical.specs.declared.plan.JoinMethod.TheVariants.{NestedLoop}
 use Rattle.physical.specs.declared.plan.GroupMethod.TheVariants.{Hash}
 use Rattle.physical.specs.declared.plan.Operator.TheVariants.{Filter, FilterSubqueries, Projection, JoinRows, GroupRows}
-use Rattle.derivation.specs.Replay.{implements}
+use Rattle.certificate.specs.Replay.{implements}
 use Rattle.planner.specs.Canonical.{IsBasicOf}
 
 same-conditions : (C D : List Condition) → C ≡ D → same_conditions C D ≡ true

@@ -17,11 +17,11 @@ use Rattle.physical.specs.contracts.plan.OrderKey as order_key
 use Rattle.physical.specs.declared.plan.Node.TheVariants.{Sort}
 use Rattle.physical.specs.declared.plan.Plan.{Plan, out-roll-Plan, fold-roll-Plan}
 use Rattle.physical.specs.Orders.{order_layer, plan_order}
-use Rattle.derivation.specs.QueryOrders.{ordered_column, ordered_columns, query_order}
-use Rattle.derivation.specs.Replay.{plan_fits, is_delivered}
+use Rattle.certificate.specs.QueryOrders.{ordered_column, ordered_columns, query_order}
+use Rattle.certificate.specs.Replay.{plan_fits, is_delivered}
 use Rattle.physical.specs.RequiredOrders.{same_order}
-use Rattle.derivation.proofs.Fits.{plan_fits_out}
-use Rattle.planner.specs.Canonical.{top, IsPlanOf}
+use Rattle.certificate.proofs.Fits.{plan_fits_out}
+use Rattle.planner.specs.Canonical.{log_of, top, IsPlanOf}
 
 -- the columns of the keys are among these
 abbrev pub AreColumns : List ℕ → List OrderKey → Type 0
@@ -59,11 +59,11 @@ top_delivered q plan = by (query_order q)
 
 -- the sort is of the class of the plan below
 pub top_fits : (uses : List TableInstance) (lines : List Expr) (cols : ℕ → List ℕ) (keys : List OrderKey) (plan : Plan) (g n : ℕ) → IsPlanOf lines g plan → AreColumns (cols g) keys
-    → (m : ℕ) × (plan_fits uses lines cols (top keys plan) true g n ≡ Ok m)
+    → (m : ℕ) × (plan_fits uses (log_of lines) cols (top keys plan) true g n ≡ Ok m)
 top_fits uses lines cols [] plan g n is columns = is.fits uses cols n
 top_fits uses lines cols (k ∷ keys) plan g n is columns =
     let input = is.fits uses cols (n + 1) in
-    (input.0, plan_fits_out uses lines cols (top (k ∷ keys) plan) true g n ∙ rw (out-roll-Plan (record { node = Sort (k ∷ keys); inputs = plan ∷ [] }), columns, input.1) refl)
+    (input.0, plan_fits_out uses (log_of lines) cols (top (k ∷ keys) plan) true g n ∙ rw (out-roll-Plan (record { node = Sort (k ∷ keys); inputs = plan ∷ [] }), columns, input.1) refl)
 
 -- the ORDER BY is by columns of the class that shows the items
 pub order_subset : (q : Query) (columns : List ℕ) → is_subset (query_numbers q) columns ≡ true → AreColumns columns (query_order q)

@@ -1,6 +1,6 @@
 -- The certificate that follows a query's frame, operator by operator. What a node may compute is the check's; that the one
 -- sort stands on top of all is this project's profile.
-use Rattle.std.specs.Prelude.{◌≡◌, ℕ, Bool, true, false, ◌&&◌, nat_lt, List, [], ◌∷◌, map, slice_get, Some, Ok}
+use Rattle.std.specs.Prelude.{◌≡◌, ℕ, Bool, true, false, ◌&&◌, nat_lt, List, [], ◌∷◌, map, reverse, slice_get, Some, Ok}
 use Rattle.std.specs.List.{list_all}
 use Rattle.query.specs.declared.query.Query.{Query}
 use Rattle.query.specs.declared.query.TableInstance.{TableInstance}
@@ -16,10 +16,11 @@ use Rattle.physical.specs.declared.plan.Node.{Node}
 use Rattle.physical.specs.declared.plan.Node.TheVariants.{Implements, Sort}
 use Rattle.physical.specs.declared.plan.Plan.{Plan, roll-Plan, fold-Plan}
 use Rattle.physical.specs.declared.plan.Plan.TheOpen.{Plan-F}
-use Rattle.derivation.specs.QueryOrders.{query_order}
-use Rattle.derivation.specs.declared.certificate.Line.TheVariants.{Founds}
-use Rattle.derivation.specs.declared.certificate.Certificate.{Certificate}
-use Rattle.derivation.specs.Replay.{implements, plan_fits, replayed}
+use Rattle.lines.specs.Logs.{Log}
+use Rattle.certificate.specs.QueryOrders.{query_order}
+use Rattle.lines.specs.declared.line.Line.TheVariants.{Founds}
+use Rattle.certificate.specs.declared.certificate.Certificate.{Certificate}
+use Rattle.certificate.specs.Replay.{implements, plan_fits, replayed}
 
 -- ---- the certificate
 
@@ -62,6 +63,10 @@ IsOnlyCanonical q V = (W : Certificate) → IsCanonical q W → replayed q W ≡
 
 -- ---- the plan of a class
 
+-- the log whose lines found the classes of these expressions
+abbrev pub log_of : List Expr → Log
+log_of lines = map Founds (reverse lines)
+
 -- each line has an operator of frames, and names earlier lines
 abbrev pub NameEarlier : List Expr → Type 0
 NameEarlier lines = (n : ℕ) (x : Expr) → slice_get lines n ≡ Some x → (classes_pass (λ g. nat_lt g n) x ≡ true) × (is_framed x ≡ true)
@@ -74,4 +79,4 @@ pub record IsBasicOf (x : Expr) (operator : Operator) : Type 0 where
 -- the plan has basic operators alone, and is of the class, whatever the table instances are and at whatever number its nodes begin
 pub record IsPlanOf (lines : List Expr) (g : ℕ) (plan : Plan) : Type 0 where
   pub basic : is_basic_plan plan ≡ true
-  pub fits : (uses : List TableInstance) (cols : ℕ → List ℕ) (n : ℕ) → (m : ℕ) × (plan_fits uses lines cols plan true g n ≡ Ok m)
+  pub fits : (uses : List TableInstance) (cols : ℕ → List ℕ) (n : ℕ) → (m : ℕ) × (plan_fits uses (log_of lines) cols plan true g n ≡ Ok m)

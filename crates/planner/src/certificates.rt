@@ -3,12 +3,13 @@
 ghost use Rattle.std.specs.Prelude.{◌≡◌, ◌<◌, IfOk, Ok, true, length, map};
 ghost use Rattle.query.specs.Bound.{is_bound};
 ghost use Rattle.logical.specs.Frames.{is_framed};
-ghost use Rattle.derivation.specs.declared.certificate.Line.TheVariants.{Founds};
-ghost use Rattle.derivation.specs.Replay.{replayed};
+ghost use Rattle.lines.specs.declared.line.Line.TheVariants.{Founds};
+ghost use Rattle.certificate.specs.Replay.{replayed};
 ghost use Rattle.planner.specs.Canonical as spec;
 
 use algebra::{ClassId, Expr};
-use derivation::{Certificate, Line, query_order};
+use certificate::{Certificate, query_order};
+use lines::Line;
 use logical::frame;
 use physical::{GroupMethod, JoinMethod, Matching, Node, Operator, OrderKey, Plan};
 use query::ids::id_of;

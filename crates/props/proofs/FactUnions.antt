@@ -5,7 +5,7 @@ use Rattle.algebra.proofs.Puts.{among-append}
 use Rattle.algebra.proofs.Sets.{has-rising, one-rising, rises-rising}
 use Rattle.props.specs.declared.fact.Fact.{Fact}
 use Rattle.props.specs.declared.fact.Fact.TheVariants.{NotNull, WeakKey, StrongKey}
-use Rattle.props.specs.declared.fact.Facts.{Facts}
+use Rattle.props.specs.declared.fact.FactSets.{FactSets}
 use Rattle.props.specs.Facts.{with_fact, with_facts}
 use Rattle.props.proofs.KeySets.{with-more, with-other}
 
@@ -35,13 +35,13 @@ other-column xs ys zs = one-rising _ _ (rises-rising (xs ++ rising (ys ++ zs))) 
     ∙ ap (λ b. b || has zs k) (sym (has-both k xs ys)) ∙ sym (has-both k (rising (xs ++ ys)) zs))
 
 -- one more of the first facts
-pub learnt-first : (F G : Facts) (f : Fact) → with_facts (with_fact F f) G ≡ with_fact (with_facts F G) f
+pub learnt-first : (F G : FactSets) (f : Fact) → with_facts (with_fact F f) G ≡ with_fact (with_facts F G) f
 learnt-first F G (NotNull c) = ap (λ columns. record { not_null = columns; weak_keys = (with_facts F G).weak_keys; strong_keys = (with_facts F G).strong_keys }) (first-column F.not_null G.not_null (c ∷ []))
 learnt-first F G (WeakKey L) = ap (λ keys. record { not_null = (with_facts F G).not_null; weak_keys = keys; strong_keys = (with_facts F G).strong_keys }) (with-more F.weak_keys G.weak_keys L)
 learnt-first F G (StrongKey L) = ap (λ keys. record { not_null = (with_facts F G).not_null; weak_keys = (with_facts F G).weak_keys; strong_keys = keys }) (with-more F.strong_keys G.strong_keys L)
 
 -- one more of the others
-pub learnt-other : (F G : Facts) (f : Fact) → with_facts F (with_fact G f) ≡ with_fact (with_facts F G) f
+pub learnt-other : (F G : FactSets) (f : Fact) → with_facts F (with_fact G f) ≡ with_fact (with_facts F G) f
 learnt-other F G (NotNull c) = ap (λ columns. record { not_null = columns; weak_keys = (with_facts F G).weak_keys; strong_keys = (with_facts F G).strong_keys }) (other-column F.not_null G.not_null (c ∷ []))
 learnt-other F G (WeakKey L) = ap (λ keys. record { not_null = (with_facts F G).not_null; weak_keys = keys; strong_keys = (with_facts F G).strong_keys }) (with-other F.weak_keys G.weak_keys L)
 learnt-other F G (StrongKey L) = ap (λ keys. record { not_null = (with_facts F G).not_null; weak_keys = (with_facts F G).weak_keys; strong_keys = keys }) (with-other F.strong_keys G.strong_keys L)

@@ -12,7 +12,7 @@ use Rattle.algebra.proofs.Sets.{has-rising, one-rising, rises, rises-rising}
 use Rattle.std.specs.List.Sorted.{IsStrictlyIncreasing}
 use Rattle.props.specs.declared.fact.Fact.{Fact}
 use Rattle.props.specs.declared.fact.Fact.TheVariants.{NotNull, WeakKey, StrongKey}
-use Rattle.props.specs.declared.fact.Facts.{Facts}
+use Rattle.props.specs.declared.fact.FactSets.{FactSets}
 use Rattle.props.specs.Keys.{has_key, with_key}
 use Rattle.props.proofs.KeySets.{has-with}
 use Rattle.props.specs.Facts.{FactHolds, FactsHold, fact_columns, with_fact}
@@ -22,7 +22,7 @@ one-more : (keys : List (List ℕ)) (L M : List ℕ) → has_key (with_key keys 
 one-more keys L M is true among new = absurd (new refl)
 one-more keys L M is false among new = equal_columns L M (sym (or-false (same_columns L M)) ∙ sym (ap (λ b. same_columns L M || b) among) ∙ sym (has-with L M keys) ∙ is)
 
-module _ (columns : List ℕ) (x : Bag) (F : Facts) (hold : FactsHold columns x F) where
+module _ (columns : List ℕ) (x : Bag) (F : FactSets) (hold : FactsHold columns x F) where
   abbrev Holds : Fact → Type 0
   Holds f = (is_subset (fact_columns f) columns ≡ true) × FactHolds x f
 
@@ -55,3 +55,11 @@ column-known columns c sorted is = one-rising columns _ (rises columns sorted) (
     by : (k : ℕ) (b : Bool) → (c == k) ≡ b → (has columns k || (c == k || false)) ≡ has columns k
     by k true e = ap (λ n. has columns n || (c == n || false)) (sym (eqb-true c k e)) ∙ ap (λ b. b || (c == c || false)) is ∙ sym is ∙ ap (has columns) (eqb-true c k e)
     by k false e = ap (λ b. has columns k || (b || false)) e ∙ or-false (has columns k)
+
+-- ---- nothing more
+
+pub nothing-behind : (columns : List ℕ) → IsStrictlyIncreasing columns → rising (columns ++ []) ≡ columns
+nothing-behind columns sorted = sym (one-rising columns _ (rises columns sorted) (rises-rising (columns ++ [])) (λ k. sym (has-rising k (columns ++ []) ∙ among-append k columns [] ∙ or-false (has columns k))))
+
+pub nothing-before : (columns : List ℕ) → IsStrictlyIncreasing columns → rising columns ≡ columns
+nothing-before columns sorted = sym (one-rising columns _ (rises columns sorted) (rises-rising columns) (λ k. sym (has-rising k columns)))

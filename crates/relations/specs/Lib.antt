@@ -1,3 +1,4 @@
+pub mod Comparisons
 pub mod Parts
 pub mod Places
 pub mod Relations

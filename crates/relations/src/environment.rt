@@ -1,9 +1,12 @@
 //! The rows that a condition sees.
 
-ghost use Rattle.std.specs.Prelude.{◌≡◌};
+ghost use Rattle.std.specs.Prelude.{◌≡◌, Some};
 ghost use Rattle.values.specs.Cells.{value_of};
+ghost use Rattle.relations.specs.Parts.{value_in};
 ghost use Rattle.relations.specs.Relations.{env_of, numbered_env};
+ghost use Rattle.relations.specs.Resolved.{inner_row};
 
+use crate::headings::Place;
 use crate::relation::Relation;
 use query::ColumnId;
 use values::Cell;
@@ -26,6 +29,16 @@ impl<'t> Env<'_, 't> {
                 Some(place) => relation.rows.cell(*number, place),
                 None => outer.column(column),
             },
+        }
+    }
+
+    /// The cell at a place of the innermost row; Null where there is none.
+    pub fn inner_cell(&self, place: Place) -> Cell<'t>
+        ensures { value_of result ≡ value_in (Some place) (inner_row self.now) }
+    {
+        match self {
+            Env::Empty => Cell::Null,
+            Env::Inner(relation, number, _) => relation.rows.cell(*number, place),
         }
     }
 }

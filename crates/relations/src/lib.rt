@@ -3,6 +3,7 @@
 
 mod building;
 pub mod environment;
+mod exchanged;
 pub mod headings;
 pub mod parts;
 pub mod relation;
@@ -12,6 +13,7 @@ mod terms;
 pub mod truth;
 
 pub use environment::{Env, row_cell};
+pub use exchanged::turned;
 pub use headings::{Heading, Place};
 pub use parts::Part;
 pub use relation::Relation;

@@ -5,39 +5,10 @@ use crate::shapes::push_shape;
 use crate::words::{line_of, number};
 use algebra::{ClassId, Expr};
 use fixtures::{Reporting, differences};
-use rules::condition_below_join::ConditionBelowJoin;
-use rules::distinct_of_keyed::DistinctOfKeyed;
-use rules::group_is_distinct::GroupIsDistinct;
-use rules::join_associates::JoinAssociates;
-use rules::join_commutes::JoinCommutes;
-use rules::keep_below_join::KeepBelowJoin;
-use rules::keep_of_all::KeepOfAll;
-use rules::keeps_merge::KeepsMerge;
-use rules::select_below_join::SelectBelowJoin;
-use rules::select_below_semi::SelectBelowSemi;
-use rules::select_into_join::SelectIntoJoin;
-use rules::selects_merge::SelectsMerge;
-use rules::{Match, MatchedLine, Rule, RuleFault, Shape, Unfit};
+use lines::RuleName;
+use rules::{Match, MatchedLine, RuleFault, Shape, Unfit};
 use std::alloc::{AllocError, Global};
 use values::Fault;
-
-/// Applies the rule of a code.
-fn apply(alloc: Global, code: &str, at: Match<'_>) -> Result<Shape, RuleFault> {
-    match code {
-        "J1" => JoinCommutes::apply(alloc, at),
-        "J2" => JoinAssociates::apply(alloc, at),
-        "S1" => SelectsMerge::apply(alloc, at),
-        "S2" => SelectBelowJoin::apply(alloc, at),
-        "S3" => SelectIntoJoin::apply(alloc, at),
-        "S4" => ConditionBelowJoin::apply(alloc, at),
-        "S5" => SelectBelowSemi::apply(alloc, at),
-        "K1" => KeepsMerge::apply(alloc, at),
-        "K2" => KeepOfAll::apply(alloc, at),
-        "K3" => KeepBelowJoin::apply(alloc, at),
-        "D1" => DistinctOfKeyed::apply(alloc, at),
-        _ => GroupIsDistinct::apply(alloc, at),
-    }
-}
 
 fn push_applied(
     alloc: Global,
@@ -63,7 +34,7 @@ fn lines_of(alloc: Global, text: &str) -> Result<Vec<(ClassId, Expr)>, AllocErro
 
 fn report_applied(
     alloc: Global,
-    code: &str,
+    rule: RuleName,
     pick: u32,
     lines: &[(ClassId, Expr)],
     known: &Known,
@@ -81,7 +52,7 @@ fn report_applied(
         pick,
         classes: known.lent(),
     };
-    push_applied(alloc, reported, &apply(alloc, code, at))
+    push_applied(alloc, reported, &rule.apply(alloc, at))
 }
 
 /// Reports what the rule of a code gives at lines.
@@ -91,10 +62,13 @@ impl Reporting for Applied {
     fn report(&self, alloc: Global, text: &str, reported: &mut String) -> Result<(), AllocError> {
         let (code, lines) = text.split_once(": ").unwrap_or((text, ""));
         let (code, pick) = code.split_once(" pick ").unwrap_or((code, "0"));
+        let Some(rule) = RuleName::of_code(code) else {
+            return reported.push_str("no such rule");
+        };
         let lines = lines_of(alloc, lines)?;
         report_applied(
             alloc,
-            code,
+            rule,
             number(pick),
             lines.as_slice(),
             &known_classes(alloc)?,
@@ -108,6 +82,7 @@ impl Reporting for Applied {
 fn rules_apply(rt: HostRuntime) {
     const JOINS: &str = "J1: 3 join 0 1 m => join [=(c0,c2)] (1) (0)
 J1: 3 left 0 1 m => another form
+J9: 3 join 0 1 m => no such rule
 J1 pick 1: 3 join 0 1 m => another form
 J1: 3 join 0 1 m, 3 join 0 1 m => another form
 J2: 7 join 3 2 u, 3 join 0 1 m => join [=(c0,c2)] (0) (join [=(c2,c4)] (1) (2))
@@ -149,27 +124,15 @@ G1: 7 count 3 0 => another form";
     );
 }
 
-/// Codes are those of the cases.
+/// Each code is that of the rule that is found by it, and a text that is none finds no rule.
 #[test]
-fn codes_are_told_apart(rt: HostRuntime) {
-    let codes = [
-        JoinCommutes::CODE,
-        JoinAssociates::CODE,
-        SelectsMerge::CODE,
-        SelectBelowJoin::CODE,
-        SelectIntoJoin::CODE,
-        ConditionBelowJoin::CODE,
-        SelectBelowSemi::CODE,
-        KeepsMerge::CODE,
-        KeepOfAll::CODE,
-        KeepBelowJoin::CODE,
-        DistinctOfKeyed::CODE,
-        GroupIsDistinct::CODE,
-    ];
-    let wanted = [
+fn rules_are_found(rt: HostRuntime) {
+    for code in [
         "J1", "J2", "S1", "S2", "S3", "S4", "S5", "K1", "K2", "K3", "D1", "G1",
-    ];
-    for place in 0..12 {
-        assert_eq!(rt; codes[place], wanted[place]);
+    ] {
+        assert_eq!(rt; RuleName::of_code(code).map(|rule| rule.code()), Some(code));
+    }
+    for text in ["", "J", "J3", "j1", "J1 ", "JJ1"] {
+        assert_eq!(rt; RuleName::of_code(text), None);
     }
 }

@@ -46,7 +46,7 @@ pub fn fact_of(alloc: Global, words: &str) -> Result<Fact, AllocError> {
 
 /// The facts of words with `,` between them.
 fn facts_of(alloc: Global, words: &str) -> Result<Facts, AllocError> {
-    let mut facts = Facts::none(alloc);
+    let mut facts = Facts::none();
     for word in words.split(", ") {
         facts.learn(alloc, &fact_of(alloc, word)?)?;
     }

@@ -12,6 +12,10 @@ mod facts;
 #[cfg(test)]
 mod logged;
 #[cfg(test)]
+mod numbers;
+#[cfg(test)]
+mod outcomes;
+#[cfg(test)]
 mod shapes;
 #[cfg(test)]
 mod words;

@@ -2,58 +2,47 @@
 
 use crate::answers::TABLES;
 use crate::classes::fact_of;
-use crate::words::{cut, line_of, number};
+use crate::words::{cut, line_of, number, numbers_of};
 use fixtures::{QueryReporting, push_number, query_differences};
 use lines::{Line, LineReason, RuleName, Step};
 use logs::Log;
 use query::BoundQuery;
 use std::alloc::{AllocError, Global};
 use store::Database;
-use values::{Boxed, Fault, Items};
+use values::{Boxed, Fault};
 
-/// The rules that cases name.
-const RULES: [RuleName; 3] = [
-    RuleName::JoinCommutes,
-    RuleName::DistinctOfKeyed,
-    RuleName::GroupIsDistinct,
-];
-
-fn rule_of(code: &str) -> RuleName {
-    match RULES.iter().find(|rule| rule.code() == code) {
-        Some(rule) => *rule,
-        None => RuleName::KeepOfAll,
-    }
-}
-
-/// The numbers of a word, with `,` between them; none for `-`.
-fn numbers_of(alloc: Global, word: &str) -> Result<Items<u32>, AllocError> {
-    let mut numbers = Vec::new(alloc);
-    if word != "-" {
-        for part in word.split(",") {
-            numbers.push(number(part))?;
+/// The rule of a code. Where there is none, that is reported.
+fn rule_of(code: &str, reported: &mut String) -> Result<RuleName, AllocError> {
+    match RuleName::of_code(code) {
+        Some(rule) => Ok(rule),
+        None => {
+            reported.push_str("no such rule. ")?;
+            Ok(RuleName::KeepOfAll)
         }
     }
-    Ok(Items::from_vec(numbers))
 }
 
 /// A step: `RULE USES MAKES`.
-fn step_of(alloc: Global, words: &str) -> Result<Boxed<Step>, AllocError> {
+fn step_of(alloc: Global, words: &str, reported: &mut String) -> Result<Boxed<Step>, AllocError> {
     let (rule, words) = cut(words);
     let (uses, makes) = cut(words);
+    let rule = rule_of(rule, reported)?;
+    let uses = numbers_of(alloc, uses)?;
+    let makes = numbers_of(alloc, makes)?;
     Boxed::new(
         alloc,
         Step {
-            rule: rule_of(rule),
+            rule,
             pick: 0,
-            uses: numbers_of(alloc, uses)?,
-            makes: numbers_of(alloc, makes)?,
+            uses,
+            makes,
         },
     )
 }
 
 /// A line: `A CLASS STEP: ` and an expression's line, `S CLASS CLASS STEP`, `G LINE LINE`, `L CLASS LINE: FACT`, or an expression's line
 /// that founds a class.
-fn log_line_of(alloc: Global, text: &str) -> Result<Line, AllocError> {
+fn log_line_of(alloc: Global, text: &str, reported: &mut String) -> Result<Line, AllocError> {
     let (words, more) = text.split_once(": ").unwrap_or((text, ""));
     let (kind, words) = cut(words);
     let (first, words) = cut(words);
@@ -61,14 +50,22 @@ fn log_line_of(alloc: Global, text: &str) -> Result<Line, AllocError> {
     Ok(match kind {
         "A" => Line::Adds(
             number(first),
-            step_of(alloc, words)?,
+            step_of(alloc, words, reported)?,
             line_of(alloc, more)?.1,
         ),
-        "S" => Line::Unites(number(first), number(second), step_of(alloc, step)?),
+        "S" => Line::Unites(
+            number(first),
+            number(second),
+            step_of(alloc, step, reported)?,
+        ),
         "G" => Line::Alike(number(first), number(second)),
         "L" => Line::Gives(number(first), number(second), fact_of(alloc, more)?),
         _ => Line::Founds(line_of(alloc, text)?.1),
     })
+}
+
+fn copied_line_of(alloc: Global, text: &str, reported: &mut String) -> Result<Line, AllocError> {
+    log_line_of(alloc, text, reported)?.copy(alloc)
 }
 
 fn name(reason: LineReason) -> &'static str {
@@ -82,7 +79,7 @@ fn name(reason: LineReason) -> &'static str {
     }
 }
 
-/// Pushes lines, and reports why each is refused that may not stand, with the number that it would have.
+/// Pushes copies of lines, and reports why each is refused that may not stand, with the number that it would have.
 fn push_lines(
     alloc: Global,
     log: &mut Log<'_>,
@@ -90,7 +87,7 @@ fn push_lines(
     reported: &mut String,
 ) -> Result<(), AllocError> {
     for text in lines.split("; ") {
-        match log.push(alloc, log_line_of(alloc, text)?) {
+        match log.push(alloc, copied_line_of(alloc, text, reported)?) {
             Ok(()) => {}
             Err(Fault::Memory) => return Err(AllocError),
             Err(Fault::Refused(reason)) => {
@@ -167,7 +164,8 @@ SELECT id FROM emp => 0 get 0; 1 keep 0 5 => ill formed at 1. 1 and 2, lines 1";
 SELECT id FROM emp => 0 get 0; 1 keep 0 0; L 1 1: strong 0; 2 distinct 1; S 2 1 D1 2 - => no such fact at 2. D1 at 3. 1 is like 2, lines 3
 SELECT id FROM emp => 0 get 0; 1 keep 0 0; G 1 2 => unknown line at 2. 1 and 2, lines 2
 SELECT id FROM emp => 0 get 0; 1 keep 0 0; A 1 G1 3 -: 1 keep 0 0 => unknown line at 2. 1 and 2, lines 2
-SELECT id FROM emp => 0 get 0; 1 keep 0 0; 2 distinct 1; S 2 1 J1 2 - => other form at 3. 1 is like 2, lines 3";
+SELECT id FROM emp => 0 get 0; 1 keep 0 0; 2 distinct 1; S 2 1 J1 2 - => other form at 3. 1 is like 2, lines 3
+SELECT id FROM emp => 0 get 0; 1 keep 0 0; 2 distinct 1; S 2 1 J9 2 - => no such rule. other form at 3. 1 is like 2, lines 3";
     assert_eq!(rt;
         query_differences(
             rt.alloc(),

@@ -2,6 +2,7 @@
 //! `distinct INPUT`, `group INPUT COLUMNS`, and `count INPUT COLUMNS` with a count of the rows. Conditions are named by letters.
 
 use algebra::{Aggregation, Aggregations, ClassId, Columns, Condition, Conjuncts, Expr, Term};
+use lines::Numbers;
 use query::{Aggregate, ColumnId};
 use std::alloc::{AllocError, Global};
 use values::{Comparison, Literal};
@@ -20,6 +21,18 @@ pub fn cut(text: &str) -> (&str, &str) {
         Some(parts) => parts,
         None => (text, ""),
     }
+}
+
+/// The numbers of a word, with `,` between them; none for `-`.
+pub fn numbers_of(alloc: Global, word: &str) -> Result<Numbers, AllocError> {
+    if word == "-" {
+        return Ok(Numbers::none());
+    }
+    let mut numbers = Vec::new(alloc);
+    for part in word.split(",") {
+        numbers.push(number(part))?;
+    }
+    Numbers::from_slice(alloc, numbers.as_slice())
 }
 
 /// The set of the numbers of a text.
@@ -44,14 +57,17 @@ fn is_seven(column: ColumnId) -> Condition {
 }
 
 /// The condition of a letter: `l` and `r` read a column of the class 0 and of the class 1, `m` one of each, `t` and `u` one of the
-/// class 0 and of the class 1 and one of the class 2; `x` is EXISTS of the class 6, which has the free column 2.
-fn condition_of(letter: char) -> Condition {
+/// class 0 and of the class 1 and one of the class 2; `n` is IS NULL of a column of the class 0, `e` its IN among the class 6; `x` is
+/// EXISTS of the class 6, which has the free column 2.
+pub fn condition_of(letter: char) -> Condition {
     match letter {
         'l' => is_seven(0),
         'r' => is_seven(2),
         'm' => equal(0, 2),
         't' => equal(0, 4),
         'u' => equal(2, 4),
+        'n' => Condition::IsNull(Term::Column(0)),
+        'e' => Condition::In(Term::Column(0), 6, 4),
         _ => Condition::Exists(6),
     }
 }

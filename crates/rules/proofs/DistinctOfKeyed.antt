@@ -9,7 +9,7 @@ use Rattle.algebra.proofs.Same.{same_columns-refl}
 use Rattle.laws.specs.Keys.{IsStrongKey}
 use Rattle.laws.proofs.DistinctRows as distinct_law
 use Rattle.algebra.specs.Bags.{Bag}
-use Rattle.props.specs.declared.fact.Facts.{Facts}
+use Rattle.props.specs.declared.fact.FactSets.{FactSets}
 use Rattle.props.specs.declared.fact.Fact.TheVariants.{StrongKey}
 use Rattle.props.specs.Facts as facts
 use Rattle.props.specs.Knowledge.{with_rows, has_strong_key}
@@ -25,7 +25,7 @@ record Keyed (columns : List ℕ) (x : Bag) : Type 0 where
   within : is_subset key columns ≡ true
   strong : IsStrongKey key x
 
-keyed : (columns : List ℕ) (x : Bag) (F : Facts) → facts.FactsHold columns x F → facts.has_strong_key F ≡ true → Keyed columns x
+keyed : (columns : List ℕ) (x : Bag) (F : FactSets) → facts.FactsHold columns x F → facts.has_strong_key F ≡ true → Keyed columns x
 keyed columns x F hold has_one = by F.strong_keys refl has_one
   where
     by : (keys : List (List ℕ)) → F.strong_keys ≡ keys → facts.any_key keys ≡ true → Keyed columns x

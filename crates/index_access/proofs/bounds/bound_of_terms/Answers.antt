@@ -1,8 +1,8 @@
 use Rattle.std.proofs.Common.{ap, sym, ◌∙◌}
 use Rattle.values.specs.Truth.{compare, is_true}
 use Rattle.algebra.specs.Conditions.{term_value}
+use Rattle.relations.proofs.Comparisons.{compare_turned}
 use Rattle.index_access.specs.Cuts.{key_value}
-use Rattle.index_access.proofs.Probes.{compare_turned}
 use Rattle.index_access.proofs.bounds.bound_of_terms.Goals as goal
 
 pub returns-in-Some-fixed_cell : goal.returns-in-Some-fixed_cell

@@ -1,0 +1,10 @@
+pub mod Answers
+pub mod ClassOutputs
+pub mod Fits
+pub mod FittedPlans
+pub mod Founded
+pub mod FrameLines
+pub mod Operators
+pub mod Ordered
+pub mod OrderKeys
+pub mod StoredPlans

@@ -1,0 +1,3 @@
+mod LimitLists
+mod PlanTexts
+mod WorkedTexts

@@ -1,0 +1,6 @@
+use Rattle.std.proofs.Common.{◌≡◌, ◌++◌, flat_map, take}
+use Rattle.certificate_text.specs.CertificateText as spec
+use Rattle.certificate_text.proofs.line_text.push_lines.Given as goal
+
+abbrev pub invariant-loop-line : goal.invariant-loop-line
+invariant-loop-line l = l.text.items ≡ l.fn.text.items ++ flat_map spec.line_text (take l.line-index l.lines)

@@ -1,0 +1,4 @@
+pub mod CertificateText
+pub mod Codes
+pub mod Limits
+pub mod WorkedTexts

@@ -1,0 +1,13 @@
+//! Certificates as text.
+#![tactic(auto)]
+
+pub mod fault;
+mod limits;
+mod line_text;
+mod node_text;
+mod parts;
+pub mod worked;
+pub mod writing;
+
+pub use fault::{TextFault, TextReason, TextRefusal};
+pub use writing::write;

@@ -1,0 +1,78 @@
+//! Copies of lines.
+
+ghost use Rattle.std.specs.Prelude.{◌≡◌, IfOk};
+
+use crate::line::{Line, Step};
+use algebra::Expr;
+use props::Fact;
+use std::alloc::{AllocError, Global};
+use values::Boxed;
+
+fn copy_expr(alloc: Global, expr: &Expr) -> Result<Expr, AllocError>
+    ensures { IfOk result (λ x. x ≡ expr.now) }
+{
+    match expr {
+        Expr::Get(occurrence) => Ok(Expr::Get(*occurrence)),
+        Expr::Select(on, x) => Ok(Expr::Select(on.copy(alloc)?, *x)),
+        Expr::Join(on, a, b) => Ok(Expr::Join(on.copy(alloc)?, *a, *b)),
+        Expr::LeftJoin(on, a, b) => Ok(Expr::LeftJoin(on.copy(alloc)?, *a, *b)),
+        Expr::Semi(on, a, b) => Ok(Expr::Semi(on.copy(alloc)?, *a, *b)),
+        Expr::Anti(sure, maybe, a, b) => {
+            let sure = sure.copy(alloc)?;
+            Ok(Expr::Anti(sure, maybe.copy(alloc)?, *a, *b))
+        }
+        Expr::Keep(columns, x) => Ok(Expr::Keep(columns.copy(alloc)?, *x)),
+        Expr::Distinct(x) => Ok(Expr::Distinct(*x)),
+        Expr::Group(keys, added, x) => {
+            let keys = keys.copy(alloc)?;
+            Ok(Expr::Group(keys, added.copy(alloc)?, *x))
+        }
+    }
+}
+
+fn copy_fact(alloc: Global, fact: &Fact) -> Result<Fact, AllocError>
+    ensures { IfOk result (λ f. f ≡ fact.now) }
+{
+    match fact {
+        Fact::NotNull(column) => Ok(Fact::NotNull(*column)),
+        Fact::WeakKey(key) => Ok(Fact::WeakKey(key.copy(alloc)?)),
+        Fact::StrongKey(key) => Ok(Fact::StrongKey(key.copy(alloc)?)),
+    }
+}
+
+fn copy_step(alloc: Global, step: &Step) -> Result<Boxed<Step>, AllocError>
+    ensures { IfOk result (λ s. s ≡ step.now) }
+{
+    let uses = step.uses.copy(alloc)?;
+    let makes = step.makes.copy(alloc)?;
+    Boxed::new(
+        alloc,
+        Step {
+            rule: step.rule,
+            pick: step.pick,
+            uses,
+            makes,
+        },
+    )
+}
+
+impl Line {
+    pub fn copy(&self, alloc: Global) -> Result<Line, AllocError>
+        ensures { IfOk result (λ l. l ≡ self.now) }
+    {
+        match self {
+            Line::Founds(expr) => Ok(Line::Founds(copy_expr(alloc, expr)?)),
+            Line::Adds(class, step, expr) => {
+                let step = copy_step(alloc, step.get())?;
+                Ok(Line::Adds(*class, step, copy_expr(alloc, expr)?))
+            }
+            Line::Unites(first, second, step) => {
+                Ok(Line::Unites(*first, *second, copy_step(alloc, step.get())?))
+            }
+            Line::Alike(first, second) => Ok(Line::Alike(*first, *second)),
+            Line::Gives(class, member, fact) => {
+                Ok(Line::Gives(*class, *member, copy_fact(alloc, fact)?))
+            }
+        }
+    }
+}

@@ -1,0 +1,55 @@
+-- The orders of a plan's nodes, by its root's node.
+use Rattle.std.proofs.Common.{◌≡◌, refl, ap, sym, ◌∙◌, subst, List, [], ◌∷◌, map}
+use Rattle.algebra.proofs.Lists.{two}
+use Rattle.query.specs.declared.query.TableInstance.{TableInstance}
+use Rattle.physical.specs.declared.node_orders.Delivered.{Delivered, roll-Delivered, out-Delivered, out-roll-Delivered}
+use Rattle.physical.specs.declared.plan.OrderKey.{OrderKey}
+use Rattle.physical.specs.declared.plan.Plan.{Plan, out-Plan, roll-Plan, fold_out-Plan, fold-roll-Plan, ind-Plan, map-Plan}
+use Rattle.physical.specs.declared.plan.Plan.TheOpen.{Plan-F}
+use Rattle.physical.specs.EachOrder.{order_of, each_layer, each_order}
+use Rattle.physical.specs.Orders.{node_order, order_layer, plan_order}
+
+pub each_at : (uses : List TableInstance) (p : Plan) (inputs : List Plan) (order : List OrderKey) (all : List Delivered) → inputs ≡ (out-Plan p).inputs → all ≡ map (each_order uses) inputs
+    → order ≡ node_order uses (out-Plan p).node (map order_of all) → roll-Delivered (record { order = order; inputs = all }) ≡ each_order uses p
+unfolding each_order
+each_at uses p inputs order all given is ordered =
+    let same : all ≡ map (each_order uses) (out-Plan p).inputs = is ∙ ap (map (each_order uses)) given in
+    two (λ o ds. roll-Delivered (record { order = o; inputs = ds })) (ordered ∙ ap (λ ds. node_order uses (out-Plan p).node (map order_of ds)) same) same ∙ sym (fold_out-Plan Delivered (each_layer uses) p)
+
+-- they are the orders that plans deliver
+module _ (uses : List TableInstance) where
+  abbrev Same : Plan → Type 0
+  Same p = order_of (each_order uses p) ≡ plan_order uses p
+
+  abbrev Part : Type 0
+  Part = (p : Plan) × Same p
+
+  parts-same : (parts : List Part) → map order_of (map (each_order uses) (map (λ p. p.0) parts)) ≡ map (plan_order uses) (map (λ p. p.0) parts)
+  parts-same [] = refl
+  parts-same (p ∷ parts) = two (λ k ks. k ∷ ks) p.1 (parts-same parts)
+
+  step : (y : Plan-F Part) → Same (roll-Plan (map-Plan Part Plan (λ p. p.0) y))
+  unfolding each_order plan_order
+  step y =
+      let z : Plan-F Plan = map-Plan Part Plan (λ p. p.0) y in
+      ap order_of (fold-roll-Plan Delivered (each_layer uses) z)
+      ∙ ap (λ x. x.order) (out-roll-Delivered (record { order = node_order uses z.node (map order_of (map (each_order uses) z.inputs)); inputs = map (each_order uses) z.inputs }))
+      ∙ ap (node_order uses y.node) (parts-same y.inputs) ∙ sym (fold-roll-Plan (List OrderKey) (order_layer uses) z)
+
+  pub each-is : (p : Plan) → Same p
+  each-is = ind-Plan Same (λ x y is. subst (λ z. Same (roll-Plan z)) is (step y))
+
+  pub each-are : (plans : List Plan) → map order_of (map (each_order uses) plans) ≡ map (plan_order uses) plans
+  each-are [] = refl
+  each-are (p ∷ plans) = two (λ k ks. k ∷ ks) (each-is p) (each-are plans)
+
+-- what stands in a plan's orders for its inputs
+pub inputs_at : (uses : List TableInstance) (p : Plan) (d : Delivered) → d ≡ each_order uses p → (out-Delivered d).inputs ≡ map (each_order uses) (out-Plan p).inputs
+unfolding each_order
+inputs_at uses p d is =
+    let inputs : List Delivered = map (each_order uses) (out-Plan p).inputs in
+    ap (λ d. (out-Delivered d).inputs) (is ∙ fold_out-Plan Delivered (each_layer uses) p)
+    ∙ ap (λ x. x.inputs) (out-roll-Delivered (record { order = node_order uses (out-Plan p).node (map order_of inputs); inputs = inputs }))
+
+pub orders_at : (uses : List TableInstance) (p : Plan) (d : Delivered) → d ≡ each_order uses p → map order_of (out-Delivered d).inputs ≡ map (plan_order uses) (out-Plan p).inputs
+orders_at uses p d is = ap (map order_of) (inputs_at uses p d is) ∙ each-are uses (out-Plan p).inputs
