@@ -16,7 +16,7 @@ import tempfile
 
 ROOT = pathlib.Path(__file__).resolve().parent.parent
 NAME = "certificates_bench"
-LIBRARIES = "values schema sql_parse query binder algebra laws props rules lines logs logical physical certificate checker planner anyhow"
+LIBRARIES = "values schema sql_parse query binder algebra laws props rules derivation logs frame physical certificate checker planner anyhow"
 
 
 def built(tree):

@@ -25,7 +25,7 @@ def built(tree):
     (crate / "src").mkdir(parents=True)
     shutil.copy(ROOT / "bench/logs/main.rt.txt", crate / "src/main.rt")
     with open(tree / "crates.txt", "a", encoding="utf-8") as listed:
-        listed.write(f"{NAME}: values schema query algebra laws props rules lines logs anyhow\n")
+        listed.write(f"{NAME}: values schema query algebra laws props rules derivation logs anyhow\n")
     subprocess.run(["rt", "run"], cwd=crate, check=True, stdin=subprocess.DEVNULL, stdout=subprocess.DEVNULL)
     return crate / "out" / NAME
 

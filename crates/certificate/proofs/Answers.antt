@@ -17,15 +17,15 @@ use Rattle.query.proofs.Widths.{satisfying_fits}
 use Rattle.algebra.specs.declared.expr.Expr.{Expr}
 use Rattle.algebra.specs.Bags.{Env, SameRows, nulls, total}
 use Rattle.algebra.specs.Classes.{class_columns, class_rows, root_rows}
-use Rattle.logical.specs.Frames.{query_frame, query_numbers, query_shown}
-use Rattle.logical.specs.FormedFrames.{own_aggregates, own_apart}
-use Rattle.logical.proofs.FrameMeaning.{frame_means}
-use Rattle.logical.proofs.FormedQueries.{frames_formed}
-use Rattle.lines.specs.declared.line.Line.{Line}
-use Rattle.lines.specs.declared.line.Line.TheVariants.{Founds}
-use Rattle.lines.specs.Laws.{IsTrue}
-use Rattle.lines.specs.Logs.{Log, entry, entries}
-use Rattle.lines.proofs.Truth.{logs_true}
+use Rattle.frame.specs.Frames.{query_frame, query_numbers, query_shown}
+use Rattle.frame.specs.FormedFrames.{own_aggregates, own_apart}
+use Rattle.frame.proofs.FrameMeaning.{frame_means}
+use Rattle.frame.proofs.FormedQueries.{frames_formed}
+use Rattle.derivation.specs.declared.line.Line.{Line}
+use Rattle.derivation.specs.declared.line.Line.TheVariants.{Founds}
+use Rattle.derivation.specs.Laws.{IsTrue}
+use Rattle.derivation.specs.Logs.{Log, entry, entries}
+use Rattle.derivation.proofs.Truth.{logs_true}
 use Rattle.physical.specs.declared.plan.Plan.{Plan, out-Plan}
 use Rattle.physical.specs.Origins.{plan_origin}
 use Rattle.physical.specs.Outputs.{output_rows}

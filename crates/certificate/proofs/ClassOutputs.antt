@@ -18,9 +18,9 @@ use Rattle.algebra.proofs.SameBags.{same_bag-equal, same_bag-trans}
 use Rattle.props.specs.Knowledge.{with_rows}
 use Rattle.rules.specs.Matches as matches
 use Rattle.rules.specs.Soundness.{IsLine}
-use Rattle.lines.specs.Laws.{IsTrue, world}
-use Rattle.lines.specs.Logs.{Log, entries, member, are_same, knowledge}
-use Rattle.lines.proofs.Invariants.{same_bag-turned}
+use Rattle.derivation.specs.Laws.{IsTrue, world}
+use Rattle.derivation.specs.Logs.{Log, entries, member, are_same, knowledge}
+use Rattle.derivation.proofs.Invariants.{same_bag-turned}
 use Rattle.physical.specs.declared.plan.OrderKey.{OrderKey}
 use Rattle.physical.specs.declared.plan.IndexAccess.{IndexAccess}
 use Rattle.physical.specs.declared.plan.Operator.{Operator}

@@ -7,8 +7,8 @@ use Rattle.values.proofs.Results.{both_ok, wanted_ok, wanted_if_ok}
 use Rattle.query.specs.declared.query.TableInstance.{TableInstance}
 use mathlib.Core.List.{map-map}
 use Rattle.rules.specs.Matches as matches
-use Rattle.lines.specs.Logs.{Log, member, are_same}
-use Rattle.lines.specs.Replay.{is_earlier}
+use Rattle.derivation.specs.Logs.{Log, member, are_same}
+use Rattle.derivation.specs.Replay.{is_earlier}
 use Rattle.physical.specs.declared.plan.Operator.{Operator}
 use Rattle.algebra.proofs.Lists.{two}
 use Rattle.physical.specs.declared.plan.OrderKey.{OrderKey}

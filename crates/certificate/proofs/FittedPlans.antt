@@ -4,7 +4,7 @@ use Rattle.values.specs.Faults.{◌>>=◌}
 use Rattle.query.specs.declared.query.Query.{Query}
 use Rattle.query.specs.declared.query.TableInstance.{TableInstance}
 use Rattle.algebra.specs.Classes.{class_columns}
-use Rattle.lines.specs.Logs.{Log, entries}
+use Rattle.derivation.specs.Logs.{Log, entries}
 use Rattle.physical.specs.declared.node_orders.Delivered.{Delivered}
 use Rattle.physical.specs.declared.plan.OrderKey.{OrderKey}
 use Rattle.physical.specs.declared.plan.Plan.{Plan}

@@ -21,16 +21,16 @@ use Rattle.algebra.specs.declared.expr.Aggregation.{Aggregation}
 use Rattle.props.specs.Facts.{fact_columns}
 use Rattle.props.specs.Knowledge.{Knowledge, are_same}
 use Rattle.rules.specs.declared.shape.Shape.{Shape}
-use Rattle.logical.specs.Frames.{query_frame}
-use Rattle.logical.specs.FormedFrames.{own_aggregates}
+use Rattle.frame.specs.Frames.{query_frame}
+use Rattle.frame.specs.FormedFrames.{own_aggregates}
 use Rattle.algebra.proofs.Same.{equal_expr}
-use Rattle.lines.specs.declared.line.Line.{Line}
-use Rattle.lines.specs.declared.line.Line.TheVariants.{Founds, Adds, Unites, Alike, Gives}
-use Rattle.lines.specs.declared.line.LineReason.{LineReason}
-use Rattle.lines.specs.Logs.{Log, entry, founds, member, knowledge}
-use Rattle.lines.specs.declared.line.LineReason.TheVariants as why
-use Rattle.lines.specs.Replay.{judged, stands, is_known, is_earlier, cites, is_of, given, gives_fact, are_alike, Replays}
-use Rattle.lines.specs.Spelling.{is_expr, is_class}
+use Rattle.derivation.specs.declared.line.Line.{Line}
+use Rattle.derivation.specs.declared.line.Line.TheVariants.{Founds, Adds, Unites, Alike, Gives}
+use Rattle.derivation.specs.declared.line.LineReason.{LineReason}
+use Rattle.derivation.specs.Logs.{Log, entry, founds, member, knowledge}
+use Rattle.derivation.specs.declared.line.LineReason.TheVariants as why
+use Rattle.derivation.specs.Replay.{judged, stands, is_known, is_earlier, cites, is_of, given, gives_fact, are_alike, Replays}
+use Rattle.derivation.specs.Spelling.{is_expr, is_class}
 use Rattle.certificate.specs.declared.certificate.CheckRefusal.{CheckRefusal}
 use Rattle.certificate.specs.declared.certificate.CheckReason.TheVariants.{OtherLine}
 use Rattle.certificate.specs.Replay.{refusal, is_frame_line, at_line, line_replays, lines_replay}

@@ -12,12 +12,12 @@ use Rattle.algebra.specs.Equality.{same_expr}
 use Rattle.algebra.specs.Expressions.{classes_pass, is_formed}
 use Rattle.algebra.specs.Classes.{class_columns, AreFormed}
 use Rattle.algebra.proofs.Same.{tested_expr}
-use Rattle.logical.specs.Frames.{query_frame}
-use Rattle.logical.specs.FormedFrames.{own_aggregates}
-use Rattle.logical.proofs.FormedQueries.{frames_formed}
-use Rattle.lines.specs.declared.line.Line.TheVariants.{Founds}
-use Rattle.lines.specs.Logs.{Log, line_at, entries, is_founding, founds}
-use Rattle.lines.proofs.Lookups.{classes-wider}
+use Rattle.frame.specs.Frames.{query_frame}
+use Rattle.frame.specs.FormedFrames.{own_aggregates}
+use Rattle.frame.proofs.FormedQueries.{frames_formed}
+use Rattle.derivation.specs.declared.line.Line.TheVariants.{Founds}
+use Rattle.derivation.specs.Logs.{Log, line_at, entries, is_founding, founds}
+use Rattle.derivation.proofs.Lookups.{classes-wider}
 use Rattle.certificate.specs.Replay.{line_replays, lines_replay, FramesReplay}
 
 same-expr : (x : Expr) → same_expr x x ≡ true

@@ -22,7 +22,7 @@ use Rattle.algebra.proofs.Same.{equal_conditions, equal_columns, equal_aggregati
 use Rattle.algebra.proofs.SameBags.{same_bag-equal, same_bag-trans, select-same, join-same, left_join-same, semi-same, anti-same, keep-same, distinct-same}
 use Rattle.algebra.proofs.SameConditions.{holds-same}
 use Rattle.algebra.proofs.SameGroups.{aggregated-same}
-use Rattle.lines.specs.Logs.{Log}
+use Rattle.derivation.specs.Logs.{Log}
 use Rattle.physical.specs.declared.plan.JoinMethod.{JoinMethod}
 use Rattle.physical.specs.declared.plan.GroupMethod.{GroupMethod}
 use Rattle.physical.specs.declared.plan.Matching.{Matching}

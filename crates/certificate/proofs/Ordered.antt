@@ -14,7 +14,7 @@ use Rattle.query.specs.Rows.{value_at}
 use Rattle.query.specs.Answer as asked
 use Rattle.query.specs.Answer.{IsAllowed}
 use Rattle.algebra.specs.Bags.{Env}
-use Rattle.logical.specs.Frames.{query_numbers, query_shown}
+use Rattle.frame.specs.Frames.{query_numbers, query_shown}
 use Rattle.algebra.proofs.Same.{same_by-equal}
 use Rattle.physical.specs.declared.plan.OrderKey.{OrderKey}
 use Rattle.physical.specs.contracts.plan.OrderKey as order_key

@@ -17,8 +17,8 @@ use Rattle.algebra.specs.Expressions.{is_formed, aggregation_formed, are_differe
 use Rattle.algebra.specs.TableColumns.{is_table_column, is_apart, are_apart}
 use Rattle.algebra.proofs.Same.{equal_columns, equal_aggregation, equal_aggregations}
 use Rattle.rules.specs.Soundness.{IsLine}
-use Rattle.lines.specs.Laws.{IsTrue, world}
-use Rattle.lines.specs.Logs.{Log, knowledge}
+use Rattle.derivation.specs.Laws.{IsTrue, world}
+use Rattle.derivation.specs.Logs.{Log, knowledge}
 use Rattle.physical.specs.declared.plan.GroupMethod.{GroupMethod}
 use Rattle.physical.specs.declared.plan.OrderKey.{OrderKey}
 use Rattle.physical.specs.declared.plan.Operator.{Operator}

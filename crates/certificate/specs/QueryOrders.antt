@@ -5,7 +5,7 @@ use Rattle.query.specs.declared.query.SortKey as order_by
 use Rattle.query.specs.declared.query.Query.{Query}
 use Rattle.query.specs.Rows.{Tables}
 use Rattle.algebra.specs.Bags.{nulls}
-use Rattle.logical.specs.Frames.{query_numbers, query_shown}
+use Rattle.frame.specs.Frames.{query_numbers, query_shown}
 use Rattle.physical.specs.declared.plan.OrderKey.{OrderKey}
 use Rattle.physical.specs.declared.plan.Plan.{Plan}
 use Rattle.physical.specs.Outputs.{output_rows}

@@ -23,14 +23,14 @@ use Rattle.algebra.specs.Conditions.{classes_in}
 use Rattle.algebra.specs.Expressions.{children, input_classes, is_plain}
 use Rattle.algebra.specs.Classes.{class_columns}
 use Rattle.rules.specs.Matches as matches
-use Rattle.lines.specs.declared.line.Line.{Line}
-use Rattle.lines.specs.declared.line.Line.TheVariants.{Founds, Adds, Unites, Alike, Gives}
-use Rattle.lines.specs.declared.line.LineReason.{LineReason}
-use Rattle.lines.specs.declared.line.LineReason.TheVariants as why
-use Rattle.lines.specs.Logs.{Log, entries, founds, member, are_same}
-use Rattle.lines.specs.Replay.{stands, is_earlier}
-use Rattle.logical.specs.Frames.{query_frame}
-use Rattle.logical.specs.FormedFrames.{own_aggregates}
+use Rattle.derivation.specs.declared.line.Line.{Line}
+use Rattle.derivation.specs.declared.line.Line.TheVariants.{Founds, Adds, Unites, Alike, Gives}
+use Rattle.derivation.specs.declared.line.LineReason.{LineReason}
+use Rattle.derivation.specs.declared.line.LineReason.TheVariants as why
+use Rattle.derivation.specs.Logs.{Log, entries, founds, member, are_same}
+use Rattle.derivation.specs.Replay.{stands, is_earlier}
+use Rattle.frame.specs.Frames.{query_frame}
+use Rattle.frame.specs.FormedFrames.{own_aggregates}
 use Rattle.physical.specs.declared.plan.Matching.{Matching}
 use Rattle.physical.specs.declared.plan.Matching.TheVariants.{Inner, Left, Semi, Anti}
 use Rattle.physical.specs.declared.plan.JoinMethod.{JoinMethod}

@@ -4,7 +4,7 @@ ghost use Rattle.std.specs.Prelude.{◌≡◌, option_map};
 ghost use Rattle.certificate.specs.Codes.{code_of, rule_of};
 ghost use Rattle.certificate.specs.Replay.{reason_of};
 
-use lines::{Line, LineReason, RuleName};
+use derivation::{Line, LineReason, RuleName};
 use physical::Plan;
 use thiserror::Error;
 use values::{Fault, Items};

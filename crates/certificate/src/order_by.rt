@@ -3,7 +3,7 @@
 ghost use Rattle.std.specs.Prelude.{◌≡◌, IfOk};
 ghost use Rattle.certificate.specs.QueryOrders as spec;
 
-use logical::query_numbers;
+use frame::query_numbers;
 use physical::OrderKey;
 use query::{ColumnId, Query, SortKey};
 use std::alloc::{AllocError, Global};

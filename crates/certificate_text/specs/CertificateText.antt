@@ -11,10 +11,10 @@ use Rattle.algebra.specs.declared.expr.Expr.TheVariants.{Get, Select, Join, Left
 use Rattle.algebra.specs.ConjunctOrder.{condition_text}
 use Rattle.props.specs.declared.fact.Fact.{Fact}
 use Rattle.props.specs.declared.fact.Fact.TheVariants.{NotNull, WeakKey, StrongKey}
-use Rattle.lines.specs.Book.{code_of}
-use Rattle.lines.specs.declared.line.Step.{Step}
-use Rattle.lines.specs.declared.line.Line.{Line}
-use Rattle.lines.specs.declared.line.Line.TheVariants.{Founds, Adds, Unites, Alike, Gives}
+use Rattle.derivation.specs.Book.{code_of}
+use Rattle.derivation.specs.declared.line.Step.{Step}
+use Rattle.derivation.specs.declared.line.Line.{Line}
+use Rattle.derivation.specs.declared.line.Line.TheVariants.{Founds, Adds, Unites, Alike, Gives}
 use Rattle.physical.specs.declared.plan.GroupMethod.{GroupMethod}
 use Rattle.physical.specs.declared.plan.GroupMethod.TheVariants as group
 use Rattle.physical.specs.declared.plan.IndexAccess.{IndexAccess}

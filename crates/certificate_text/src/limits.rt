@@ -11,7 +11,7 @@ use crate::fault::{TextFault, TextReason, TextRefusal};
 use crate::node_text::count_nodes;
 use algebra::Condition;
 use certificate::Certificate;
-use lines::Line;
+use derivation::Line;
 use physical::{Matching, Node, Operator, Plan};
 use values::Fault;
 

@@ -5,7 +5,7 @@ ghost use Rattle.certificate_text.specs.CertificateText as spec;
 
 use crate::parts::{push_aggregations, push_conjuncts, push_number, push_numbers, push_text};
 use algebra::{ClassId, Conjuncts, Expr};
-use lines::{Line, Step};
+use derivation::{Line, Step};
 use props::Fact;
 use std::alloc::{AllocError, Global};
 

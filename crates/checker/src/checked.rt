@@ -7,7 +7,7 @@ ghost use Rattle.certificate.specs.Replay.{replayed, IsChecked};
 
 use crate::replay::{own_aggregates, replay};
 use certificate::{Certificate, CheckFault, fit};
-use logical::frame;
+use frame::frame_of;
 use query::ids::id_of;
 use query::{BoundQuery, Query};
 use schema::Schema;
@@ -26,7 +26,7 @@ fn accepted<'a>(
     ensures verdict { Gives (λ c. c.certificate) result (replayed query.now certificate.now) }
     ensures of { IfOk result (λ c. (c.schema ≡ schema.now) × (c.query ≡ query.now)) }
 {
-    let frame = frame(alloc, query)?;
+    let frame = frame_of(alloc, query)?;
     let own = own_aggregates(alloc, frame.as_slice())?;
     let lines = certificate.lines.as_slice();
     let log = replay(alloc, query, frame.as_slice(), own.as_slice(), lines)?;

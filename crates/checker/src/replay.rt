@@ -2,17 +2,17 @@
 
 ghost use Rattle.std.specs.Prelude.{◌≡◌, [], option_map, flat_map, slice_get, IfOk, OnOk, Result};
 ghost use Rattle.values.specs.Faults.{Fails, Gives};
-ghost use Rattle.logical.specs.Frames.{query_frame};
-ghost use Rattle.logical.specs.FormedFrames.{group_aggregates, own_aggregates};
+ghost use Rattle.frame.specs.Frames.{query_frame};
+ghost use Rattle.frame.specs.FormedFrames.{group_aggregates, own_aggregates};
 ghost use Rattle.certificate.specs.Replay as spec;
-ghost use Rattle.lines.specs.declared.line.Line.{Line};
-ghost use Rattle.lines.specs.declared.line.LineReason.{LineReason};
+ghost use Rattle.derivation.specs.declared.line.Line.{Line};
+ghost use Rattle.derivation.specs.declared.line.LineReason.{LineReason};
 ghost use Rattle.logs.specs.Logged.{with_line};
 
 use algebra::{Aggregation, Expr};
 use certificate::plan_fit::refused;
 use certificate::{CheckFault, CheckReason};
-use lines::Line;
+use derivation::Line;
 use logs::{LineFault, Log};
 use query::Query;
 use std::alloc::{AllocError, Global};

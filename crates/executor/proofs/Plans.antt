@@ -10,7 +10,7 @@ use Rattle.query.specs.Rows.{tables_of}
 use Rattle.query.proofs.ShortTables.{satisfying_short}
 use Rattle.certificate.specs.declared.certificate.Certificate.{Certificate}
 use Rattle.algebra.specs.Bags.{nulls}
-use Rattle.logical.specs.Frames.{query_numbers}
+use Rattle.frame.specs.Frames.{query_numbers}
 use Rattle.physical.specs.Outputs.{output_rows}
 use Rattle.certificate.specs.QueryOrders.{answer}
 use Rattle.certificate.specs.Replay.{IsChecked}

@@ -6,7 +6,7 @@ ghost use Rattle.certificate.specs.QueryOrders.{answer};
 ghost use Rattle.query.specs.Rows.{tables_in};
 
 use checker::Checked;
-use logical::query_numbers;
+use frame::query_numbers;
 use operators::{FoundRows, IndexedTables, Row, Sources, owned_rows, plan_found};
 use std::alloc::{AllocError, Global};
 use store::Database;

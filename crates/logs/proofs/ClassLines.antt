@@ -5,11 +5,11 @@ use Rattle.std.proofs.lemmas.Bool.{eq-eqb, eqb-true, ne_eqb, lt-ltb, ltb-true}
 use Rattle.query.specs.declared.query.TableInstance.{TableInstance}
 use Rattle.algebra.specs.declared.expr.Aggregation.{Aggregation}
 use Rattle.rules.specs.Matches as matches
-use Rattle.lines.specs.declared.line.Line.{Line}
-use Rattle.lines.specs.declared.line.Line.TheVariants.{Founds, Adds, Unites, Alike, Gives}
-use Rattle.lines.specs.Logs.{Log, line_at, founds, is_founding, as_member, member, least, are_same}
-use Rattle.lines.specs.Replay.{Replays}
-use Rattle.lines.proofs.Lookups.{within}
+use Rattle.derivation.specs.declared.line.Line.{Line}
+use Rattle.derivation.specs.declared.line.Line.TheVariants.{Founds, Adds, Unites, Alike, Gives}
+use Rattle.derivation.specs.Logs.{Log, line_at, founds, is_founding, as_member, member, least, are_same}
+use Rattle.derivation.specs.Replay.{Replays}
+use Rattle.derivation.proofs.Lookups.{within}
 use Rattle.logs.specs.declared.known.Known.{Known}
 use Rattle.logs.specs.Knowledge.{IsKnown}
 use Rattle.logs.specs.Members.{adding, IsChain, once_if, once_of, is_of, is_member}

@@ -7,12 +7,12 @@ use Rattle.algebra.specs.declared.expr.Expr.{Expr}
 use Rattle.algebra.specs.declared.expr.Expr.TheVariants.{Get, Select, Join, LeftJoin, Semi, Anti, Keep, Distinct, Group}
 use Rattle.algebra.specs.Expressions.{free_of, classes_pass}
 use Rattle.algebra.specs.Classes.{class_columns, class_free}
-use Rattle.lines.specs.declared.line.Line.{Line}
-use Rattle.lines.specs.declared.line.Line.TheVariants.{Founds, Adds, Unites, Alike, Gives}
-use Rattle.lines.specs.Logs.{Log, entries, founds}
-use Rattle.lines.specs.Replay.{Replays}
-use Rattle.lines.proofs.Lookups.{founded, member-within}
-use Rattle.lines.proofs.Standing.{founds-stands, adds-stands, unites-stands, alike-stands, gives-stands}
+use Rattle.derivation.specs.declared.line.Line.{Line}
+use Rattle.derivation.specs.declared.line.Line.TheVariants.{Founds, Adds, Unites, Alike, Gives}
+use Rattle.derivation.specs.Logs.{Log, entries, founds}
+use Rattle.derivation.specs.Replay.{Replays}
+use Rattle.derivation.proofs.Lookups.{founded, member-within}
+use Rattle.derivation.proofs.Standing.{founds-stands, adds-stands, unites-stands, alike-stands, gives-stands}
 use Rattle.logs.specs.Knowledge.{IsClosed}
 
 module _ (uses : List TableInstance) (own : List Aggregation) where

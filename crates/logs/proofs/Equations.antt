@@ -14,7 +14,7 @@ use Rattle.rules.specs.declared.shape.Shape.TheOpen.{Shape-F}
 use Rattle.rules.specs.declared.shape.Shape.TheVariants as shape
 use Rattle.rules.specs.declared.shape.Shape.TheVariants.{rolls-Class, rolls-Select, rolls-Join, rolls-LeftJoin, rolls-Semi, rolls-Anti, rolls-Keep, rolls-Distinct}
 use Rattle.rules.specs.Matches.{Line}
-use Rattle.lines.specs.Spelling.{Spelling, class_with, class_by, spelling_layer, spelling}
+use Rattle.derivation.specs.Spelling.{Spelling, class_with, class_by, spelling_layer, spelling}
 
 module _ (root : ℕ → ℕ) where
   rooted-at : (x : Condition-F Condition) (c : Condition) → roll-Condition x ≡ c → rooted_condition root c ≡ rooted_layer root (map-Condition Condition Condition (rooted_condition root) x)

@@ -11,8 +11,8 @@ use Rattle.algebra.specs.Columns.{has, rising}
 use Rattle.algebra.proofs.MentionedColumns.{all_has, each_has}
 use Rattle.algebra.proofs.NamedClasses.{all-named}
 use Rattle.algebra.proofs.Sets.{has-rising}
-use Rattle.lines.specs.declared.line.Line.{Line}
-use Rattle.lines.specs.Logs.{Log, line_at, is_founding, founds, as_member, member}
+use Rattle.derivation.specs.declared.line.Line.{Line}
+use Rattle.derivation.specs.Logs.{Log, line_at, is_founding, founds, as_member, member}
 
 length-behind : (E : Log) (l : Line) → length (E ++ l ∷ []) ≡ suc (length E)
 length-behind [] l = refl

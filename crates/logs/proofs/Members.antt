@@ -3,8 +3,8 @@ use Rattle.std.proofs.Common.{◌≡◌, refl, ap, sym, ◌∙◌, ℕ, ◌+◌,
 use Rattle.std.proofs.lemmas.List.{append_assoc}
 use Rattle.values.proofs.Lists.{drop_next}
 use Rattle.rules.specs.Matches as matches
-use Rattle.lines.specs.Logs.{Log, member}
-use Rattle.lines.specs.Replay.{both_lines, members}
+use Rattle.derivation.specs.Logs.{Log, member}
+use Rattle.derivation.specs.Replay.{both_lines, members}
 
 module _ (E : Log) (uses : List ℕ) (i : ℕ) (line : ℕ) (lt : i < length uses) (is : line ≡ get_or uses i line) where
   next : (o : Option matches.Line) → member E line ≡ o → members E (drop i uses) ≡ both_lines o (members E (drop (i + 1) uses))

@@ -6,7 +6,7 @@ use Rattle.algebra.specs.Columns.{has, columns_at}
 use Rattle.algebra.proofs.Puts.{among-append}
 use Rattle.props.specs.declared.fact.FactSets.{FactSets}
 use Rattle.props.specs.Facts.{no_facts}
-use Rattle.lines.specs.Logs.{lesser, united}
+use Rattle.derivation.specs.Logs.{lesser, united}
 use Rattle.logs.specs.declared.sets.ClassSets.{ClassSets}
 use Rattle.props.specs.Knowledge.{root_in, set_facts, facts_or_none}
 use Rattle.logs.specs.Sets.{AreSets, AreSetsOf, AreAlike, AreOfBoth, AreFactsJoined, AreUnited, root_of, facts_of, set_at, times}

@@ -7,12 +7,12 @@ use Rattle.algebra.specs.declared.expr.Aggregation.{Aggregation}
 use Rattle.algebra.specs.declared.expr.Expr.{Expr}
 use Rattle.algebra.specs.Expressions.{classes_pass}
 use Rattle.rules.specs.Matches as matches
-use Rattle.lines.specs.declared.line.Line.{Line}
-use Rattle.lines.specs.declared.line.Line.TheVariants.{Founds, Adds, Unites, Alike, Gives}
-use Rattle.lines.specs.Logs.{Log, founds, line_at, as_member, or_class, member}
-use Rattle.lines.specs.Replay.{stands, Replays}
-use Rattle.lines.proofs.Lookups.{below, founded, member-within}
-use Rattle.lines.proofs.Standing.{founds-stands, adds-stands, unites-stands, alike-stands, gives-stands}
+use Rattle.derivation.specs.declared.line.Line.{Line}
+use Rattle.derivation.specs.declared.line.Line.TheVariants.{Founds, Adds, Unites, Alike, Gives}
+use Rattle.derivation.specs.Logs.{Log, founds, line_at, as_member, or_class, member}
+use Rattle.derivation.specs.Replay.{stands, Replays}
+use Rattle.derivation.proofs.Lookups.{below, founded, member-within}
+use Rattle.derivation.proofs.Standing.{founds-stands, adds-stands, unites-stands, alike-stands, gives-stands}
 use Rattle.logs.specs.Knowledge.{NamesEarlier}
 
 module _ (uses : List TableInstance) (own : List Aggregation) where

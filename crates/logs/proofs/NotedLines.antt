@@ -13,8 +13,8 @@ use Rattle.props.specs.declared.fact.Fact.{Fact}
 use Rattle.props.specs.declared.fact.FactSets.{FactSets}
 use Rattle.props.specs.Facts.{with_fact}
 use Rattle.props.specs.Knowledge.{Knowledge}
-use Rattle.lines.specs.declared.line.Line.{Line}
-use Rattle.lines.specs.Logs.{Log, entry, entries, least, united, are_same, facts, facts_among}
+use Rattle.derivation.specs.declared.line.Line.{Line}
+use Rattle.derivation.specs.Logs.{Log, entry, entries, least, united, are_same, facts, facts_among}
 use Rattle.logs.specs.declared.known.Known.{Known}
 use Rattle.logs.specs.Knowledge.{expr_columns, expr_free, AreInStep, HasClass, IsAlike, IsClosed, IsKnown}
 use Rattle.logs.specs.Sets.{AreUnited, AreOfBoth, root_of, facts_of}

@@ -4,8 +4,8 @@ use Rattle.std.proofs.lemmas.Bool.{eq-eqb, eqb-true}
 use Rattle.props.specs.declared.fact.FactSets.{FactSets}
 use Rattle.props.specs.Facts.{with_fact, with_facts}
 use Rattle.props.proofs.FactUnions.{learnt-first, learnt-other}
-use Rattle.lines.specs.declared.line.Line.TheVariants.{Founds, Adds, Unites, Alike, Gives}
-use Rattle.lines.specs.Logs.{Log, lesser, united, least, are_same, facts_among}
+use Rattle.derivation.specs.declared.line.Line.TheVariants.{Founds, Adds, Unites, Alike, Gives}
+use Rattle.derivation.specs.Logs.{Log, lesser, united, least, are_same, facts_among}
 use Rattle.logs.specs.Sets.{AreOfBoth}
 
 -- ---- numbers of which two become one

@@ -1,6 +1,6 @@
 -- What a line is judged by.
 use Rattle.std.specs.Prelude.{◌≡◌, length, reverse}
-use Rattle.lines.specs.Logs.{Log}
+use Rattle.derivation.specs.Logs.{Log}
 use Rattle.logs.specs.declared.judge.Behind.{Behind}
 
 abbrev pub the_log : Behind → Log

@@ -6,9 +6,9 @@ use Rattle.algebra.specs.Classes.{class_free}
 use Rattle.algebra.specs.Columns.{ColumnSet, has, columns_at}
 use Rattle.algebra.specs.Expressions.{classes_pass, columns_of, free_of}
 use Rattle.props.specs.Knowledge.{Knowledge}
-use Rattle.lines.specs.declared.line.Line.{Line}
-use Rattle.lines.specs.declared.line.Line.TheVariants.{Founds, Adds, Unites, Alike, Gives}
-use Rattle.lines.specs.Logs.{Log, entries, class_at, knowledge}
+use Rattle.derivation.specs.declared.line.Line.{Line}
+use Rattle.derivation.specs.declared.line.Line.TheVariants.{Founds, Adds, Unites, Alike, Gives}
+use Rattle.derivation.specs.Logs.{Log, entries, class_at, knowledge}
 use Rattle.logs.specs.declared.known.Known.{Known}
 use Rattle.logs.specs.Sets as sets
 use Rattle.logs.specs.Sets.{AreSets, AreAlike, has_room, root_of, facts_of}

@@ -2,8 +2,8 @@
 use Rattle.std.specs.Prelude.{List, ◌∷◌}
 use Rattle.query.specs.declared.query.TableInstance.{TableInstance}
 use Rattle.algebra.specs.declared.expr.Aggregation.{Aggregation}
-use Rattle.lines.specs.declared.line.Line.{Line}
-use Rattle.lines.specs.Logs.{Log}
+use Rattle.derivation.specs.declared.line.Line.{Line}
+use Rattle.derivation.specs.Logs.{Log}
 
 -- the table instances and the aggregates of a query, and lines over them, the last of them first
 pub record Logged : Type 0 where

@@ -6,7 +6,7 @@ use Rattle.algebra.specs.Columns.{has, columns_at}
 use Rattle.props.specs.declared.fact.FactSets.{FactSets}
 use Rattle.props.specs.Facts.{with_facts}
 use Rattle.props.specs.Knowledge.{root_in, set_facts, facts_or_none}
-use Rattle.lines.specs.Logs.{united}
+use Rattle.derivation.specs.Logs.{united}
 use Rattle.logs.specs.declared.sets.ClassSets.{ClassSets}
 
 -- the class that stands for a class's set; the class itself where there is none of its number

@@ -1,12 +1,12 @@
 //! The lines that add expressions to classes.
 
 ghost use Rattle.std.specs.Prelude.{◌≡◌, ◌<◌, ◌≤◌, ◌++◌, ◌∷◌, [], length, slice_index_or, slice_set, OnOk};
-ghost use Rattle.lines.specs.Logs.{Log};
+ghost use Rattle.derivation.specs.Logs.{Log};
 ghost use Rattle.logs.specs.Knowledge.{NamesEarlier};
 ghost use Rattle.logs.specs.Members as spec;
 
 use algebra::{ClassId, LineId};
-use lines::Line;
+use derivation::Line;
 use std::alloc::{AllocError, Global};
 
 /// For each class the lines that add to it, in a chain from the last of them to the class.

@@ -2,14 +2,14 @@
 
 ghost use Rattle.std.specs.Prelude.{◌≡◌, ◌<◌, ◌+◌, ◌==◌, ◌&&◌, ℕ, length, reverse, OnOk, IfOk};
 ghost use Rattle.std.specs.List.{AllByRecursion, sum_by};
-ghost use Rattle.lines.specs.Logs as logs;
+ghost use Rattle.derivation.specs.Logs as logs;
 ghost use Rattle.logs.specs.Members as spec;
 ghost use Rattle.logs.specs.Sets.{times};
 
 use crate::additions::Additions;
 use crate::lookups::founds;
 use algebra::{ClassId, LineId};
-use lines::Line;
+use derivation::Line;
 use std::alloc::{AllocError, Global};
 
 /// Adds the line that founds a class, if one does.

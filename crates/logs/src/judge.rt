@@ -10,15 +10,15 @@ ghost use Rattle.algebra.specs.Expressions.{columns_of, classes_pass};
 ghost use Rattle.props.specs.Facts.{fact_columns};
 ghost use Rattle.props.specs.Knowledge.{known};
 ghost use Rattle.rules.specs.Matches.{line_in};
-ghost use Rattle.lines.specs.declared.line.Line.TheVariants as says;
-ghost use Rattle.lines.specs.Replay as spec;
+ghost use Rattle.derivation.specs.declared.line.Line.TheVariants as says;
+ghost use Rattle.derivation.specs.Replay as spec;
 ghost use Rattle.logs.specs.Judging.{IsBehind, the_log};
 
 use crate::alike::are_alike;
 use crate::lookups::{cites, founds, is_earlier, is_known, member, members};
 use crate::spelling::{is_class, is_expr};
 use algebra::{Aggregation, ClassId, Expr, LineId};
-use lines::{Line, LineReason, RuleName, Step};
+use derivation::{Line, LineReason, RuleName, Step};
 use props::given::gives;
 use props::{Fact, KnownClasses};
 use query::TableInstance;

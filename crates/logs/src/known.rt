@@ -6,7 +6,7 @@ ghost use Rattle.algebra.specs.Columns.{columns_at};
 ghost use Rattle.algebra.specs.Expressions.{classes_pass};
 ghost use Rattle.props.specs.Facts.{with_fact};
 ghost use Rattle.props.specs.Knowledge.{known};
-ghost use Rattle.lines.specs.Logs as logs;
+ghost use Rattle.derivation.specs.Logs as logs;
 ghost use Rattle.logs.specs.Knowledge as spec;
 ghost use Rattle.logs.specs.Sets.{AreSets, AreUnited, root_of, facts_of};
 
@@ -14,7 +14,7 @@ use crate::free::free_columns;
 use crate::lookups::member;
 use crate::sets::ClassSets;
 use algebra::{ClassColumns, ClassId, Columns, Expr, LineId};
-use lines::Line;
+use derivation::Line;
 use props::{Fact, KnownClasses};
 use query::TableInstance;
 use query::ids::id_behind;

@@ -4,11 +4,11 @@ ghost use Rattle.std.specs.Prelude.{◌≡◌, map, reverse, option_map, Some, I
 ghost use Rattle.std.specs.List.{list_all};
 ghost use Rattle.algebra.specs.Expressions.{classes_pass};
 ghost use Rattle.rules.specs.Matches.{line_in};
-ghost use Rattle.lines.specs.Logs as logs;
-ghost use Rattle.lines.specs.Replay as spec;
+ghost use Rattle.derivation.specs.Logs as logs;
+ghost use Rattle.derivation.specs.Replay as spec;
 
 use algebra::{ClassId, Expr, LineId};
-use lines::{Line, Step};
+use derivation::{Line, Step};
 use rules::MatchedLine;
 use std::alloc::{AllocError, Global};
 

@@ -8,7 +8,7 @@ ghost use Rattle.props.specs.Facts.{no_facts, with_fact};
 ghost use Rattle.logs.specs.Sets as spec;
 
 use algebra::ClassId;
-use lines::Numbers;
+use derivation::Numbers;
 use props::{Fact, Facts};
 use std::alloc::{AllocError, Global};
 use std::mem;

@@ -2,12 +2,12 @@
 
 ghost use Rattle.std.specs.Prelude.{◌≡◌, reverse, option_map};
 ghost use Rattle.props.specs.Knowledge.{are_same, known};
-ghost use Rattle.lines.specs.Logs as logs;
-ghost use Rattle.lines.specs.Spelling as spec;
+ghost use Rattle.derivation.specs.Logs as logs;
+ghost use Rattle.derivation.specs.Spelling as spec;
 
 use crate::lookups::member;
 use algebra::{ClassId, Expr, LineId};
-use lines::Line;
+use derivation::Line;
 use props::KnownClasses;
 use rules::Shape;
 

@@ -3,8 +3,8 @@
 use crate::texts::{push_aggregates, push_columns, push_keys, push_line};
 use algebra::{Conjuncts, Expr, LineId};
 use certificate::Certificate;
+use derivation::Line;
 use fixtures::{COMPANY, DEPT, EMP, QueryReporting, Tables, push_number, query_differences};
-use lines::Line;
 use physical::{GroupMethod, IndexAccess, JoinMethod, Matching, Node, Operator, Plan};
 use planner::canonical;
 use query::BoundQuery;

@@ -8,13 +8,13 @@ use crate::tables::TABLES;
 use algebra::Expr;
 use certificate::{Certificate, CheckRefusal};
 use checker::{Checked, check};
+use derivation::Line;
 use executor::run;
 use fixtures::{
     COMPANY, DEPT, EMP, QueryReporting, Tables, drop_query, push_number, push_rows,
     query_differences, query_of,
 };
-use lines::Line;
-use logical::frame;
+use frame::frame_of;
 use physical::Plan;
 use query::{BoundQuery, Query};
 use schema::Schema;
@@ -30,11 +30,11 @@ fn frame_or_other(
     other: &str,
 ) -> Result<Items<Expr>, AllocError> {
     if other.is_empty() {
-        return frame(alloc, query);
+        return frame_of(alloc, query);
     }
     let other = query_of(alloc, schema, other);
     let frame = match &other {
-        Some(other) => frame(alloc, other.query()),
+        Some(other) => frame_of(alloc, other.query()),
         None => Ok(Items::new(alloc)),
     };
     drop_query(other);

@@ -5,7 +5,7 @@
 
 use crate::plans::{cut, id};
 use algebra::{Aggregations, Columns, Condition, Conjuncts, Expr, Term};
-use lines::{Line, Numbers, RuleName, Step};
+use derivation::{Line, Numbers, RuleName, Step};
 use props::Fact;
 use std::alloc::{AllocError, Global};
 use values::{Boxed, Comparison, Items, Literal};

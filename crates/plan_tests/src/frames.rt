@@ -4,7 +4,7 @@ use crate::tables::TABLES;
 use crate::texts::push_line;
 use algebra::{Aggregation, Columns, Conjuncts, Expr};
 use fixtures::{QueryReporting, query_differences};
-use logical::frame;
+use frame::frame_of;
 use query::{BoundQuery, Query, TableInstance};
 use std::alloc::{AllocError, Global};
 use store::Database;
@@ -77,7 +77,7 @@ impl QueryReporting for Frames {
         reported: &mut String,
     ) -> Result<(), AllocError> {
         let query = query.query();
-        let frame = frame(alloc, query)?;
+        let frame = frame_of(alloc, query)?;
         if !are_formed(alloc, query, frame.as_slice())? {
             reported.push_str("not well formed: ")?;
         }

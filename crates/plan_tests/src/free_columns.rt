@@ -4,7 +4,7 @@ use crate::plans::plan_of;
 use crate::tables::TABLES;
 use crate::texts::push_columns;
 use fixtures::{QueryReporting, query_differences};
-use logical::frame;
+use frame::frame_of;
 use plan_reads::free_columns;
 use query::BoundQuery;
 use std::alloc::{AllocError, Global};
@@ -23,7 +23,7 @@ impl QueryReporting for FreeColumns {
         reported: &mut String,
     ) -> Result<(), AllocError> {
         let query = query.query();
-        let frame = frame(alloc, query)?;
+        let frame = frame_of(alloc, query)?;
         reported.push_str("free")?;
         match &plan_of(alloc, frame.as_slice(), plan)? {
             Some(plan) => push_columns(

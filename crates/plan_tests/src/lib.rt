@@ -1,4 +1,4 @@
-//! Tests of plans, and of the whole way: `logical`, `physical`, `checker`, `executor`, `planner` and `pipeline`.
+//! Tests of plans, and of the whole way: `frame`, `physical`, `checker`, `executor`, `planner` and `pipeline`.
 #![tactic(auto)]
 
 #[cfg(test)]
@@ -28,4 +28,4 @@ mod plans;
 #[cfg(test)]
 mod tables;
 #[cfg(test)]
-mod lines;
+mod texts;

@@ -5,7 +5,7 @@ use crate::tables::TABLES;
 use crate::texts::push_keys;
 use certificate::query_order;
 use fixtures::{QueryReporting, query_differences};
-use logical::frame;
+use frame::frame_of;
 use physical::{Plan, delivers};
 use query::{BoundQuery, Query};
 use std::alloc::{AllocError, Global};
@@ -13,7 +13,7 @@ use store::Database;
 
 /// A plan in words, over the query's frame.
 fn plan_over(alloc: Global, query: &Query, plan: &str) -> Result<Option<Plan>, AllocError> {
-    let frame = frame(alloc, query)?;
+    let frame = frame_of(alloc, query)?;
     plan_of(alloc, frame.as_slice(), plan)
 }
 

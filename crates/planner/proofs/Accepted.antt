@@ -5,10 +5,10 @@ use Rattle.query.specs.Bound.{is_bound}
 use Rattle.algebra.specs.declared.expr.Expr.{Expr}
 use Rattle.algebra.specs.Classes.{class_columns}
 use Rattle.algebra.specs.Columns.{is_subset}
-use Rattle.logical.specs.Frames.{query_frame, query_numbers}
-use Rattle.logical.proofs.FormedQueries.{frames_formed}
-use Rattle.lines.specs.declared.line.Line.TheVariants.{Founds}
-use Rattle.lines.specs.Logs.{Log, entries}
+use Rattle.frame.specs.Frames.{query_frame, query_numbers}
+use Rattle.frame.proofs.FormedQueries.{frames_formed}
+use Rattle.derivation.specs.declared.line.Line.TheVariants.{Founds}
+use Rattle.derivation.specs.Logs.{Log, entries}
 use Rattle.physical.specs.declared.plan.Plan.{Plan}
 use Rattle.certificate.specs.QueryOrders.{query_order}
 use Rattle.certificate.specs.declared.certificate.Certificate.{Certificate}

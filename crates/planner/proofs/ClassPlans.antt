@@ -28,7 +28,7 @@ use Rattle.physical.specs.declared.plan.Node.{Node}
 use Rattle.physical.specs.declared.plan.Node.TheVariants.{Implements}
 use Rattle.physical.specs.declared.plan.Plan.{Plan, roll-Plan, out-roll-Plan, fold-roll-Plan}
 use Rattle.physical.specs.RequiredOrders.{are_sorted}
-use Rattle.lines.specs.Logs.{founds}
+use Rattle.derivation.specs.Logs.{founds}
 use Rattle.certificate.specs.Replay.{are_founded, implements, index_fits, is_join, matching_is_founded, names_lines, needed_classes, node_fits, inputs_fit, plan_fits}
 use Rattle.certificate.proofs.Fits.{plan_fits_out}
 use Rattle.planner.specs.Canonical.{is_basic, is_basic_node, basic_layer, is_basic_plan, log_of, IsBasicOf, NameEarlier, IsPlanOf}

@@ -8,10 +8,10 @@ use Rattle.query.specs.Bound.{is_bound}
 use Rattle.algebra.specs.declared.expr.Expr.{Expr}
 use Rattle.algebra.specs.Expressions.{classes_pass}
 use Rattle.algebra.specs.Classes.{AreFormed}
-use Rattle.logical.specs.Frames.{query_frame, is_framed}
-use Rattle.logical.specs.FormedFrames.{own_aggregates}
-use Rattle.logical.proofs.FormedQueries.{frames_formed}
-use Rattle.logical.proofs.FrameOperators.{frames_framed}
+use Rattle.frame.specs.Frames.{query_frame, is_framed}
+use Rattle.frame.specs.FormedFrames.{own_aggregates}
+use Rattle.frame.proofs.FormedQueries.{frames_formed}
+use Rattle.frame.proofs.FrameOperators.{frames_framed}
 use Rattle.planner.specs.Canonical.{NameEarlier}
 
 module _ (q : Query) where

@@ -5,9 +5,9 @@ use Rattle.std.proofs.lemmas.List.{map-append, reverse-append, length-map, lengt
 use Rattle.std.proofs.lemmas.Option.{slice_get-map}
 use Rattle.algebra.specs.declared.expr.Expr.{Expr}
 use Rattle.rules.specs.Matches as matches
-use Rattle.lines.specs.declared.line.Line.{Line}
-use Rattle.lines.specs.declared.line.Line.TheVariants.{Founds}
-use Rattle.lines.specs.Logs.{as_member, founds, least, are_same, member}
+use Rattle.derivation.specs.declared.line.Line.{Line}
+use Rattle.derivation.specs.declared.line.Line.TheVariants.{Founds}
+use Rattle.derivation.specs.Logs.{as_member, founds, least, are_same, member}
 use Rattle.logs.proofs.LogLines.{member_at}
 use Rattle.certificate.proofs.Founded.{map-reverse}
 use Rattle.certificate.proofs.FrameLines.{all-found}

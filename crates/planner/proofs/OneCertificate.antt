@@ -14,7 +14,7 @@ use Rattle.algebra.specs.ConditionEquality.{same_conditions}
 use Rattle.algebra.specs.Equality.{same_columns, same_aggregations}
 use Rattle.algebra.specs.Expressions.{input_classes, is_plain}
 use Rattle.algebra.specs.Classes.{class_columns}
-use Rattle.logical.specs.Frames.{query_frame}
+use Rattle.frame.specs.Frames.{query_frame}
 use Rattle.algebra.proofs.Same.{equal_conditions, equal_columns, equal_aggregations}
 use Rattle.physical.specs.declared.plan.Matching.{Matching}
 use Rattle.physical.specs.declared.plan.Matching.TheVariants.{Inner, Left, Semi, Anti}
@@ -30,9 +30,9 @@ use Rattle.physical.specs.declared.plan.Plan.{Plan, roll-Plan, out-Plan, out-rol
 use Rattle.physical.specs.declared.plan.Plan.TheOpen.{Plan-F}
 use Rattle.certificate.specs.QueryOrders.{query_order}
 use Rattle.rules.specs.Matches as matches
-use Rattle.lines.specs.declared.line.Line.{Line}
-use Rattle.lines.specs.declared.line.Line.TheVariants.{Founds}
-use Rattle.lines.specs.Logs.{Log, entries}
+use Rattle.derivation.specs.declared.line.Line.{Line}
+use Rattle.derivation.specs.declared.line.Line.TheVariants.{Founds}
+use Rattle.derivation.specs.Logs.{Log, entries}
 use Rattle.certificate.specs.declared.certificate.Certificate.{Certificate}
 use Rattle.certificate.specs.declared.certificate.CheckRefusal.{CheckRefusal}
 use Rattle.certificate.specs.declared.certificate.CheckReason.TheVariants.{IllFormed, OtherOperator}

@@ -10,7 +10,7 @@ use Rattle.query.specs.declared.query.Query.{Query}
 use Rattle.query.specs.declared.query.TableInstance.{TableInstance}
 use Rattle.algebra.specs.declared.expr.Expr.{Expr}
 use Rattle.algebra.specs.Columns.{has, is_subset}
-use Rattle.logical.specs.Frames.{query_numbers}
+use Rattle.frame.specs.Frames.{query_numbers}
 use Rattle.algebra.proofs.Same.{tested}
 use Rattle.physical.specs.declared.plan.OrderKey.{OrderKey}
 use Rattle.physical.specs.contracts.plan.OrderKey as order_key

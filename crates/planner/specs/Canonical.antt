@@ -6,7 +6,7 @@ use Rattle.query.specs.declared.query.Query.{Query}
 use Rattle.query.specs.declared.query.TableInstance.{TableInstance}
 use Rattle.algebra.specs.declared.expr.Expr.{Expr}
 use Rattle.algebra.specs.Expressions.{classes_pass}
-use Rattle.logical.specs.Frames.{query_frame, is_framed}
+use Rattle.frame.specs.Frames.{query_frame, is_framed}
 use Rattle.physical.specs.declared.plan.OrderKey.{OrderKey}
 use Rattle.physical.specs.declared.plan.JoinMethod.TheVariants.{NestedLoop}
 use Rattle.physical.specs.declared.plan.GroupMethod.TheVariants.{Sorted}
@@ -16,9 +16,9 @@ use Rattle.physical.specs.declared.plan.Node.{Node}
 use Rattle.physical.specs.declared.plan.Node.TheVariants.{Implements, Sort}
 use Rattle.physical.specs.declared.plan.Plan.{Plan, roll-Plan, fold-Plan}
 use Rattle.physical.specs.declared.plan.Plan.TheOpen.{Plan-F}
-use Rattle.lines.specs.Logs.{Log}
+use Rattle.derivation.specs.Logs.{Log}
 use Rattle.certificate.specs.QueryOrders.{query_order}
-use Rattle.lines.specs.declared.line.Line.TheVariants.{Founds}
+use Rattle.derivation.specs.declared.line.Line.TheVariants.{Founds}
 use Rattle.certificate.specs.declared.certificate.Certificate.{Certificate}
 use Rattle.certificate.specs.Replay.{implements, plan_fits, replayed}
 

@@ -2,15 +2,15 @@
 
 ghost use Rattle.std.specs.Prelude.{◌≡◌, ◌<◌, IfOk, Ok, true, length, map};
 ghost use Rattle.query.specs.Bound.{is_bound};
-ghost use Rattle.logical.specs.Frames.{is_framed};
-ghost use Rattle.lines.specs.declared.line.Line.TheVariants.{Founds};
+ghost use Rattle.frame.specs.Frames.{is_framed};
+ghost use Rattle.derivation.specs.declared.line.Line.TheVariants.{Founds};
 ghost use Rattle.certificate.specs.Replay.{replayed};
 ghost use Rattle.planner.specs.Canonical as spec;
 
 use algebra::{ClassId, Expr};
 use certificate::{Certificate, query_order};
-use lines::Line;
-use logical::frame;
+use derivation::Line;
+use frame::frame_of;
 use physical::{GroupMethod, JoinMethod, Matching, Node, Operator, OrderKey, Plan};
 use query::ids::id_of;
 use query::{BoundQuery, Query};
@@ -113,7 +113,7 @@ fn certificate_of(alloc: Global, query: &Query) -> Result<Certificate, AllocErro
     ensures only { IfOk result (spec.IsOnlyCanonical query.now) }
 {
     let order = query_order(alloc, query)?;
-    let frame = frame(alloc, query)?;
+    let frame = frame_of(alloc, query)?;
     let last = frame.len() - 1;
     let root = id_of(last)?;
     let below = plan_of(alloc, frame.as_slice(), root)?;

@@ -3,8 +3,8 @@
 use crate::answers::TABLES;
 use crate::classes::fact_of;
 use crate::words::{cut, line_of, number, numbers_of};
+use derivation::{Line, LineReason, RuleName, Step};
 use fixtures::{QueryReporting, push_number, query_differences};
-use lines::{Line, LineReason, RuleName, Step};
 use logs::Log;
 use query::BoundQuery;
 use std::alloc::{AllocError, Global};

@@ -1,8 +1,8 @@
 //! Lists of numbers.
 
 use crate::words::{cut, number, numbers_of};
+use derivation::Numbers;
 use fixtures::{Reporting, differences, push_number};
-use lines::Numbers;
 use std::alloc::{AllocError, Global};
 
 fn push_numbers(reported: &mut String, numbers: &Numbers) -> Result<(), AllocError> {

@@ -2,7 +2,7 @@
 //! `distinct INPUT`, `group INPUT COLUMNS`, and `count INPUT COLUMNS` with a count of the rows. Conditions are named by letters.
 
 use algebra::{Aggregation, Aggregations, ClassId, Columns, Condition, Conjuncts, Expr, Term};
-use lines::Numbers;
+use derivation::Numbers;
 use query::{Aggregate, ColumnId};
 use std::alloc::{AllocError, Global};
 use values::{Comparison, Literal};

@@ -1,6 +1,6 @@
 use Rattle.std.proofs.Common.{◌≡◌, ap, ◌∙◌, ◌<◌, ◌-◌, subst, length, arith, Ok}
-use Rattle.logical.specs.Frames.{query_frame}
-use Rattle.logical.proofs.FormedQueries.{frames_formed}
+use Rattle.frame.specs.Frames.{query_frame}
+use Rattle.frame.proofs.FormedQueries.{frames_formed}
 use Rattle.certificate.proofs.Answers.{checked}
 use Rattle.checker.proofs.ReplayedLines.{certificate_replays}
 use Rattle.checker.proofs.checked.accepted.Goals as goal

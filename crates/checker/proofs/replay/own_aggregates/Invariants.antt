@@ -1,6 +1,6 @@
 use Rattle.std.proofs.Common.{◌≡◌, take}
 use Rattle.std.specs.List.{flat_map}
-use Rattle.logical.specs.FormedFrames.{group_aggregates}
+use Rattle.frame.specs.FormedFrames.{group_aggregates}
 use Rattle.checker.proofs.replay.own_aggregates.Given as goal
 
 abbrev pub invariant-loop-expr : goal.invariant-loop-expr

@@ -1,9 +1,9 @@
 use Rattle.std.proofs.Common.{◌≡◌, rules, ap, sym, subst, ◌∙◌, Result, Ok}
 use Rattle.values.specs.Faults.{Fails, wanted_if}
-use Rattle.logical.specs.FormedFrames.{own_aggregates}
-use Rattle.lines.specs.declared.line.Line.{Line}
-use Rattle.lines.specs.declared.line.LineReason.{LineReason}
-use Rattle.lines.specs.Replay.{stands}
+use Rattle.frame.specs.FormedFrames.{own_aggregates}
+use Rattle.derivation.specs.declared.line.Line.{Line}
+use Rattle.derivation.specs.declared.line.LineReason.{LineReason}
+use Rattle.derivation.specs.Replay.{stands}
 use Rattle.certificate.specs.declared.certificate.CheckRefusal.{CheckRefusal}
 use Rattle.certificate.specs.declared.certificate.CheckReason.TheVariants.{OtherLine}
 use Rattle.certificate.specs.Replay.{refusal, at_line, line_replays}

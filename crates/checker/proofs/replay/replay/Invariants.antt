@@ -1,5 +1,5 @@
 use Rattle.std.proofs.Common.{◌≡◌, length, drop, []}
-use Rattle.logical.specs.FormedFrames.{own_aggregates}
+use Rattle.frame.specs.FormedFrames.{own_aggregates}
 use Rattle.certificate.specs.Replay.{lines_replay}
 use Rattle.checker.proofs.replay.replay.Given as goal
 

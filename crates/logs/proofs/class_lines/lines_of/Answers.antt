@@ -2,7 +2,7 @@ use Rattle.std.proofs.Common.{◌≡◌, ap, sym, ◌∙◌, ℕ, ◌+◌, ◌<�
 use Rattle.std.specs.List.{sum_by}
 use Rattle.std.proofs.lemmas.List.{take_all}
 use Rattle.std.proofs.lemmas.List.Sums.{sum_by_more}
-use Rattle.lines.specs.Logs.{Log, member}
+use Rattle.derivation.specs.Logs.{Log, member}
 use Rattle.logs.specs.Members.{once_of}
 use Rattle.logs.proofs.Relabelled.{read-all}
 use Rattle.logs.proofs.class_lines.lines_of.Goals as goal

@@ -1,6 +1,6 @@
 use Rattle.std.proofs.Common.{◌≡◌, ℕ, reverse, take}
 use Rattle.std.specs.List.{sum_by}
-use Rattle.lines.specs.Logs.{member}
+use Rattle.derivation.specs.Logs.{member}
 use Rattle.logs.specs.Members.{once_of}
 use Rattle.logs.specs.Sets.{times}
 use Rattle.logs.proofs.class_lines.lines_of.Given as goal

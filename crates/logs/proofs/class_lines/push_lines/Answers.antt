@@ -1,7 +1,7 @@
 use Rattle.std.proofs.Common.{◌≡◌, refl, ap, sym, subst, ℕ, ◌+◌, ◌<◌, ◌&&◌, ◌==◌, List, length, reverse, arith}
 use Rattle.std.proofs.lemmas.List.{length-reverse}
 use Rattle.std.proofs.lemmas.Result.{on_ok_weaker}
-use Rattle.lines.specs.Logs.{Log, founds, member}
+use Rattle.derivation.specs.Logs.{Log, founds, member}
 use Rattle.logs.specs.Members.{IsChain, adding, once_if, once_of}
 use Rattle.logs.specs.Sets.{times}
 use Rattle.logs.proofs.ClassLines.{IsNext, next-of, none-left, moved-on, line-times}

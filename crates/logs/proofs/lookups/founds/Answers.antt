@@ -1,6 +1,6 @@
 use Rattle.std.proofs.Common.{refl, ap, sym, ◌∙◌, length}
 use Rattle.std.proofs.lemmas.Option.{slice_get_read, slice_get_past}
-use Rattle.lines.specs.Logs.{is_founding}
+use Rattle.derivation.specs.Logs.{is_founding}
 use Rattle.logs.proofs.LogLines.{founds_at}
 use Rattle.logs.proofs.lookups.founds.Goals as goal
 

@@ -1,6 +1,6 @@
 use Rattle.std.proofs.Common.{ap, sym, ◌∙◌, reverse}
 use Rattle.std.specs.List.{list_all}
-use Rattle.lines.specs.Logs.{founds}
+use Rattle.derivation.specs.Logs.{founds}
 use Rattle.logs.proofs.LogLines.{pass-inputs}
 use Rattle.logs.proofs.lookups.is_known.Goals as goal
 

@@ -1,6 +1,6 @@
 use Rattle.std.proofs.Common.{refl, ap, sym, ◌∙◌, length}
 use Rattle.std.proofs.lemmas.Option.{slice_get_read, slice_get_past}
-use Rattle.lines.specs.Logs.{as_member}
+use Rattle.derivation.specs.Logs.{as_member}
 use Rattle.logs.proofs.LogLines.{member_at}
 use Rattle.logs.proofs.lookups.member.Goals as goal
 

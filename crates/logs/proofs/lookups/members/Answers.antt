@@ -2,7 +2,7 @@ use Rattle.std.proofs.Common.{◌≡◌, ap, sym, ◌∙◌, [], ◌++◌, ◌�
 use Rattle.std.proofs.lemmas.List.{get_or_default, map-append, append-nil}
 use Rattle.rules.specs.Matches as matches
 use Rattle.rules.specs.Matches.{line_in}
-use Rattle.lines.specs.Replay as spec
+use Rattle.derivation.specs.Replay as spec
 use Rattle.logs.proofs.Members.{members-none, members-more}
 use Rattle.logs.proofs.lookups.members.Goals as goal
 

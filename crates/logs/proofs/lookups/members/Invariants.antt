@@ -1,6 +1,6 @@
 use Rattle.std.proofs.Common.{◌≡◌, map, reverse, drop, option_map, ◌++◌}
 use Rattle.rules.specs.Matches.{line_in}
-use Rattle.lines.specs.Replay as spec
+use Rattle.derivation.specs.Replay as spec
 use Rattle.logs.proofs.lookups.members.Given as goal
 
 abbrev pub invariant-loop-line : goal.invariant-loop-line

@@ -1,5 +1,5 @@
 use Rattle.std.proofs.Common.{ap, sym, ◌∙◌, reverse, option_map}
-use Rattle.lines.specs.Logs as logs
+use Rattle.derivation.specs.Logs as logs
 use Rattle.logs.proofs.Equations.{no-line, no-expr, with-class}
 use Rattle.logs.proofs.spelling.+spelling.Goals as goal
 

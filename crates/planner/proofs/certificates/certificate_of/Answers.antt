@@ -1,7 +1,7 @@
 use Rattle.std.proofs.Common.{◌≡◌, sym, ◌∙◌, ap, subst, ◌<◌, ◌-◌, map, length, arith}
-use Rattle.logical.specs.Frames.{query_frame}
-use Rattle.logical.proofs.FormedQueries.{frames_formed}
-use Rattle.lines.specs.declared.line.Line.TheVariants.{Founds}
+use Rattle.frame.specs.Frames.{query_frame}
+use Rattle.frame.proofs.FormedQueries.{frames_formed}
+use Rattle.derivation.specs.declared.line.Line.TheVariants.{Founds}
 use Rattle.certificate.specs.Replay.{root}
 use Rattle.planner.specs.Canonical.{NameEarlier, IsPlanOf, top}
 use Rattle.planner.proofs.FrameLines.{names_earlier}

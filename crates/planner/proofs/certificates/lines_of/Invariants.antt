@@ -1,5 +1,5 @@
 use Rattle.std.proofs.Common.{◌≡◌, ◌++◌, map, length}
-use Rattle.lines.specs.declared.line.Line.TheVariants.{Founds}
+use Rattle.derivation.specs.declared.line.Line.TheVariants.{Founds}
 use Rattle.planner.proofs.certificates.lines_of.Given as goal
 
 abbrev pub invariant-loop-lines : goal.invariant-loop-lines

@@ -1,6 +1,6 @@
 use Rattle.std.proofs.Common.{◌≡◌, reverse, true, rules}
 use Rattle.algebra.specs.Expressions.{classes_pass}
-use Rattle.lines.specs.Logs.{founds}
+use Rattle.derivation.specs.Logs.{founds}
 use Rattle.logs.proofs.NamedLines.{named_below}
 use Rattle.logs.proofs.judge.Behind.founds.Goals as goal
 

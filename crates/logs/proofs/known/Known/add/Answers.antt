@@ -1,9 +1,9 @@
 use Rattle.std.proofs.Common.{refl, sym, subst, ℕ, Bool, false, [], ◌∷◌, reverse, OnOk}
 use Rattle.std.proofs.lemmas.Result.{on_err_weaker, on_ok_weaker}
 use Rattle.props.specs.declared.fact.Fact.{Fact}
-use Rattle.lines.specs.Logs.{Log, class_at}
-use Rattle.lines.specs.declared.line.Line.{Line}
-use Rattle.lines.specs.declared.line.Line.TheVariants.{Founds, Adds, Unites, Alike, Gives}
+use Rattle.derivation.specs.Logs.{Log, class_at}
+use Rattle.derivation.specs.declared.line.Line.{Line}
+use Rattle.derivation.specs.declared.line.Line.TheVariants.{Founds, Adds, Unites, Alike, Gives}
 use Rattle.logs.specs.declared.known.Known.{Known}
 use Rattle.logs.specs.Knowledge.{HasClass, IsKnown, expr_columns, expr_free}
 use Rattle.logs.specs.Sets.{AreUnited}

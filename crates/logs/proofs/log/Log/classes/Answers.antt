@@ -1,5 +1,5 @@
 use Rattle.std.proofs.Common.{ap, ◌∙◌}
-use Rattle.lines.specs.Logs.{knowledge}
+use Rattle.derivation.specs.Logs.{knowledge}
 use Rattle.logs.specs.Logged.{Logged}
 use Rattle.logs.proofs.log.Log.classes.Goals as goal
 

@@ -1,8 +1,8 @@
 use Rattle.std.proofs.Common.{◌≡◌, refl, subst}
 use Rattle.values.specs.Faults.{Gives}
 use Rattle.props.specs.Knowledge.{known}
-use Rattle.lines.specs.declared.line.Line.{Line}
-use Rattle.lines.specs.Replay.{judged, stands}
+use Rattle.derivation.specs.declared.line.Line.{Line}
+use Rattle.derivation.specs.Replay.{judged, stands}
 use Rattle.logs.specs.Judging.{the_log}
 use Rattle.logs.specs.Logged.{Logged}
 use Rattle.logs.proofs.log.Log.judge.Goals as goal

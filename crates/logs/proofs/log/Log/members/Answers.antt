@@ -2,8 +2,8 @@ use Rattle.std.proofs.Common.{◌≡◌, ap, sym, ◌∙◌, subst, ℕ, ◌<◌
 use Rattle.std.specs.List.{AllByRecursion, sum_by}
 use Rattle.std.proofs.lemmas.List.{length-reverse}
 use Rattle.std.proofs.lemmas.Result.{IfOk-weaker}
-use Rattle.lines.specs.declared.line.Line.{Line}
-use Rattle.lines.specs.Logs.{Log, member}
+use Rattle.derivation.specs.declared.line.Line.{Line}
+use Rattle.derivation.specs.Logs.{Log, member}
 use Rattle.logs.specs.Logged.{Logged}
 use Rattle.logs.specs.Members.{is_member, once_if, once_of}
 use Rattle.logs.specs.Sets.{times}

@@ -1,5 +1,5 @@
 use Rattle.std.proofs.Common.{sym, subst, reverse}
-use Rattle.lines.specs.Replay.{Replays}
+use Rattle.derivation.specs.Replay.{Replays}
 use Rattle.logs.specs.Knowledge.{IsKnown}
 use Rattle.logs.specs.Members.{AreAdditions}
 use Rattle.logs.proofs.log.Log.new.Goals as goal

@@ -2,9 +2,9 @@ use Rattle.std.proofs.Common.{◌≡◌, ap, sym, ◌∙◌, ◌++◌, ◌∷◌
 use Rattle.std.proofs.lemmas.List.{reverse-append}
 use Rattle.values.specs.Faults.{Gives}
 use Rattle.values.specs.declared.fault.Fault.{Fault}
-use Rattle.lines.specs.declared.line.Line.{Line}
-use Rattle.lines.specs.declared.line.LineReason.{LineReason}
-use Rattle.lines.specs.Replay.{Replays, stands}
+use Rattle.derivation.specs.declared.line.Line.{Line}
+use Rattle.derivation.specs.declared.line.LineReason.{LineReason}
+use Rattle.derivation.specs.Replay.{Replays, stands}
 use Rattle.logs.specs.Knowledge.{IsKnown, NamesEarlier}
 use Rattle.logs.specs.Logged.{Logged}
 use Rattle.logs.specs.Members.{AreAdditions}

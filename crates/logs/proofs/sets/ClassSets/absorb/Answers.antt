@@ -2,7 +2,7 @@ use Rattle.std.proofs.Common.{◌≡◌, refl, sym, ap, ◌∙◌, subst, set, g
 use Rattle.std.specs.Vec.{with_item, with_items}
 use Rattle.std.proofs.lemmas.List.{get_or_default, with_items_is}
 use Rattle.algebra.specs.Columns.{has, columns_at}
-use Rattle.lines.specs.Logs.{lesser}
+use Rattle.derivation.specs.Logs.{lesser}
 use Rattle.logs.specs.declared.sets.ClassSets.{ClassSets}
 use Rattle.logs.specs.Sets.{set_at}
 use Rattle.logs.proofs.MovedSets.{AreMoved, written, moved-sets, moved-united, lesser-min}

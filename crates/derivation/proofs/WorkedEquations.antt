@@ -1,0 +1,117 @@
+-- What the definitions behind `stands` give at the expressions of the worked logs: one equation for each form.
+use Rattle.std.proofs.Common.{◌≡◌, refl, ap, sym, ◌∙◌, ℕ, Bool, true, false, ◌&&◌, List, [], ◌∷◌, ◌++◌, Option, Ok}
+use Rattle.std.specs.Cmp.Lexicographic.{slice_cmp}
+use Rattle.std.specs.Ordering.{nat_cmp, is_lt}
+use Rattle.values.specs.declared.truth.Comparison.{Comparison}
+use Rattle.query.specs.declared.query.TableInstance.{TableInstance}
+use Rattle.algebra.specs.declared.condition.Condition.{Condition, fold-roll-Condition}
+use Rattle.algebra.specs.declared.condition.Condition.TheVariants.{Compare, IsNull, rolls-Compare, rolls-IsNull}
+use Rattle.algebra.specs.declared.condition.Condition.TheOpen.{Condition-F}
+use Rattle.algebra.specs.declared.condition.Term.{Term}
+use Rattle.algebra.specs.declared.expr.Aggregation.{Aggregation}
+use Rattle.algebra.specs.declared.expr.Expr.{Expr}
+use Rattle.algebra.specs.declared.expr.Expr.TheVariants as expr
+use Rattle.algebra.specs.Conditions.{Passes, columns_layer, all_columns, term_passes, classes_layer, all_classes}
+use Rattle.algebra.specs.ConditionEquality.{same_condition}
+use Rattle.algebra.specs.ConjunctOrder.{condition_text, text_layer, goes_before, in_order, Flat, flat, flat_layer, parts_of}
+use Rattle.algebra.specs.ConjunctParts.{union}
+use Rattle.algebra.specs.Equality.{same_columns, same_expr}
+use Rattle.algebra.specs.Expressions.{columns_of, is_formed}
+use Rattle.algebra.proofs.Lists.{two}
+use Rattle.algebra.proofs.Same.{tested_expr}
+use Rattle.rules.specs.declared.shape.Shape.{Shape, fold-roll-Shape}
+use Rattle.rules.specs.declared.shape.Shape.TheOpen.{Shape-F}
+use Rattle.rules.specs.declared.shape.Shape.TheVariants.{Class, Select, Join, Semi, Anti, Keep, Distinct, rolls-Class, rolls-Select, rolls-Join, rolls-Semi, rolls-Anti, rolls-Keep, rolls-Distinct}
+use Rattle.rules.specs.Matches.{Line}
+use Rattle.derivation.specs.declared.line.Line.TheVariants.{Adds}
+use Rattle.derivation.specs.declared.line.Step.{Step}
+use Rattle.derivation.specs.Logs.{Log, founds, member, knowledge}
+use Rattle.derivation.specs.Replay.{cites, is_known, given, stands}
+use Rattle.derivation.specs.Spelling.{Spelling, over_one, over_two, spelling_layer, spelling, is_expr}
+
+-- ---- tests of equality
+
+pub same_expr-refl : (x : Expr) → same_expr x x ≡ true
+same_expr-refl x = sym (tested_expr true x x (λ e. refl, λ e. refl))
+
+-- ---- conditions
+
+pub columns-Compare : (op : Comparison) (a b : Term) (p : ℕ → Bool) → all_columns (Compare op a b) p ≡ (term_passes p a && term_passes p b)
+unfolding all_columns
+columns-Compare op a b p = ap (λ c. all_columns c p) (sym (rolls-Compare op a b)) ∙ ap (λ f. f p) (fold-roll-Condition Passes columns_layer (Condition-F.Compare op a b))
+
+pub columns-IsNull : (a : Term) (p : ℕ → Bool) → all_columns (IsNull a) p ≡ term_passes p a
+unfolding all_columns
+columns-IsNull a p = ap (λ c. all_columns c p) (sym (rolls-IsNull a)) ∙ ap (λ f. f p) (fold-roll-Condition Passes columns_layer (Condition-F.IsNull a))
+
+pub classes-Compare : (op : Comparison) (a b : Term) (p : ℕ → Bool) → all_classes (Compare op a b) p ≡ true
+unfolding all_classes
+classes-Compare op a b p = ap (λ c. all_classes c p) (sym (rolls-Compare op a b)) ∙ ap (λ f. f p) (fold-roll-Condition Passes classes_layer (Condition-F.Compare op a b))
+
+pub classes-IsNull : (a : Term) (p : ℕ → Bool) → all_classes (IsNull a) p ≡ true
+unfolding all_classes
+classes-IsNull a p = ap (λ c. all_classes c p) (sym (rolls-IsNull a)) ∙ ap (λ f. f p) (fold-roll-Condition Passes classes_layer (Condition-F.IsNull a))
+
+pub parts-Compare : (op : Comparison) (a b : Term) → parts_of (Compare op a b) ≡ Compare op a b ∷ []
+unfolding flat
+parts-Compare op a b = ap parts_of (sym (rolls-Compare op a b)) ∙ ap (λ f. f.parts) (fold-roll-Condition Flat flat_layer (Condition-F.Compare op a b))
+
+pub parts-IsNull : (a : Term) → parts_of (IsNull a) ≡ IsNull a ∷ []
+unfolding flat
+parts-IsNull a = ap parts_of (sym (rolls-IsNull a)) ∙ ap (λ f. f.parts) (fold-roll-Condition Flat flat_layer (Condition-F.IsNull a))
+
+pub text-Compare : (op : Comparison) (a b : Term) → condition_text (Compare op a b) ≡ text_layer (Condition-F.Compare op a b)
+unfolding condition_text
+text-Compare op a b = ap condition_text (sym (rolls-Compare op a b)) ∙ fold-roll-Condition (List ℕ) text_layer (Condition-F.Compare op a b)
+
+pub text-IsNull : (a : Term) → condition_text (IsNull a) ≡ text_layer (Condition-F.IsNull a)
+unfolding condition_text
+text-IsNull a = ap condition_text (sym (rolls-IsNull a)) ∙ fold-roll-Condition (List ℕ) text_layer (Condition-F.IsNull a)
+
+pub by-texts : (c d : Condition) (s t : List ℕ) → condition_text c ≡ s → condition_text d ≡ t → is_lt (slice_cmp nat_cmp s t) ≡ true → goes_before c d ≡ true
+unfolding goes_before
+by-texts c d s t is other before = two (λ s t. is_lt (slice_cmp nat_cmp s t)) is other ∙ before
+
+-- of two conjuncts in order the list of both is
+pub union-of-two : (c d : Condition) → parts_of c ≡ c ∷ [] → parts_of d ≡ d ∷ [] → same_condition c d ≡ false → goes_before c d ≡ true → union (c ∷ []) (d ∷ []) ≡ c ∷ d ∷ []
+union-of-two c d whole other differ before = two (λ C D. in_order (C ++ (D ++ []))) whole other ∙ rw (differ, before) refl
+
+-- ---- shapes
+
+module _ (member : ℕ → Option Line) where
+  pub spelling-Class : (g : ℕ) → spelling member (Class g) ≡ spelling_layer member (Shape-F.Class g)
+  unfolding spelling
+  spelling-Class g = ap (spelling member) (sym (rolls-Class g)) ∙ fold-roll-Shape Spelling (spelling_layer member) (Shape-F.Class g)
+
+  pub spelling-Select : (C : List Condition) (x : Shape) → spelling member (Select C x) ≡ over_one member (expr.Select C) (spelling member x)
+  unfolding spelling
+  spelling-Select C x = ap (spelling member) (sym (rolls-Select C x)) ∙ fold-roll-Shape Spelling (spelling_layer member) (Shape-F.Select C x)
+
+  pub spelling-Join : (C : List Condition) (a b : Shape) → spelling member (Join C a b) ≡ over_two member (expr.Join C) (spelling member a) (spelling member b)
+  unfolding spelling
+  spelling-Join C a b = ap (spelling member) (sym (rolls-Join C a b)) ∙ fold-roll-Shape Spelling (spelling_layer member) (Shape-F.Join C a b)
+
+  pub spelling-Semi : (C : List Condition) (a b : Shape) → spelling member (Semi C a b) ≡ over_two member (expr.Semi C) (spelling member a) (spelling member b)
+  unfolding spelling
+  spelling-Semi C a b = ap (spelling member) (sym (rolls-Semi C a b)) ∙ fold-roll-Shape Spelling (spelling_layer member) (Shape-F.Semi C a b)
+
+  pub spelling-Anti : (S M : List Condition) (a b : Shape) → spelling member (Anti S M a b) ≡ over_two member (expr.Anti S M) (spelling member a) (spelling member b)
+  unfolding spelling
+  spelling-Anti S M a b = ap (spelling member) (sym (rolls-Anti S M a b)) ∙ fold-roll-Shape Spelling (spelling_layer member) (Shape-F.Anti S M a b)
+
+  pub spelling-Keep : (K : List ℕ) (x : Shape) → spelling member (Keep K x) ≡ over_one member (expr.Keep K) (spelling member x)
+  unfolding spelling
+  spelling-Keep K x = ap (spelling member) (sym (rolls-Keep K x)) ∙ fold-roll-Shape Spelling (spelling_layer member) (Shape-F.Keep K x)
+
+  pub spelling-Distinct : (x : Shape) → spelling member (Distinct x) ≡ over_one member expr.Distinct (spelling member x)
+  unfolding spelling
+  spelling-Distinct x = ap (spelling member) (sym (rolls-Distinct x)) ∙ fold-roll-Shape Spelling (spelling_layer member) (Shape-F.Distinct x)
+
+-- ---- lines
+
+-- a line that adds an expression stands where each test of it passes
+module _ (uses : List TableInstance) (own : List Aggregation) (E : Log) (g : ℕ) (s : Step) (x : Expr) (shape : Shape) where
+  pub adds-stands : (founds E g && cites E s && is_known E x) ≡ true
+      → (is_formed uses own (knowledge uses E).columns x && same_columns (columns_of uses (knowledge uses E).columns x) ((knowledge uses E).columns g)) ≡ true
+      → given (knowledge uses E) E g s ≡ Ok shape → is_expr (member E) shape s.makes x ≡ true → stands uses own E (Adds g s x) ≡ Ok (Adds g s x)
+  adds-stands named formed is spelt = rw (named, formed, is, spelt) refl

@@ -1,0 +1,159 @@
+-- Small logs over three instances of one table, and what each judges of the line that comes next.
+use Rattle.std.specs.Prelude.{◌≡◌, ℕ, true, false, List, [], ◌∷◌, ◌++◌, reverse, Ok, Err, codes}
+use Rattle.values.specs.declared.truth.Comparison.TheVariants as by
+use Rattle.schema.specs.declared.schema.Table.{Table}
+use Rattle.schema.specs.declared.schema.Kind.TheVariants as kind
+use Rattle.query.specs.declared.query.TableInstance.{TableInstance}
+use Rattle.algebra.specs.declared.condition.Condition.{Condition}
+use Rattle.algebra.specs.declared.condition.Condition.TheVariants.{Compare, IsNull}
+use Rattle.algebra.specs.declared.condition.Term.TheVariants.{Column}
+use Rattle.algebra.specs.declared.expr.Expr.TheVariants.{Get, Select, Join, Semi, Anti, Keep, Distinct, Group}
+use Rattle.props.specs.declared.fact.Fact.TheVariants.{NotNull, WeakKey, StrongKey}
+use Rattle.derivation.specs.declared.book.RuleName.{RuleName}
+use Rattle.derivation.specs.declared.book.RuleName.TheVariants as rule
+use Rattle.derivation.specs.declared.line.Line.{Line}
+use Rattle.derivation.specs.declared.line.Line.TheVariants.{Founds, Adds, Unites, Alike, Gives}
+use Rattle.derivation.specs.declared.line.LineReason.{LineReason}
+use Rattle.derivation.specs.declared.line.LineReason.TheVariants as reason
+use Rattle.derivation.specs.declared.line.Step.{Step}
+use Rattle.derivation.specs.Replay.{stands}
+
+-- ---- the query's table instances
+
+-- two columns: the key, which is NOT NULL, and one that may be Null
+abbrev pub emp_table : Table
+emp_table = record {
+  name = codes "emp";
+  columns = record { name = codes "id"; kind = kind.Int; not_null = true } ∷ record { name = codes "dept"; kind = kind.Int; not_null = false } ∷ [];
+  unique = (0 ∷ []) ∷ [];
+  indexes = [];
+}
+
+-- an instance whose columns have this number and the next
+abbrev pub emp : ℕ → TableInstance
+emp first = record { table = 0; entry = emp_table; name = codes "e"; first_column = first }
+
+-- the instances 0, 1 and 2
+abbrev pub emps : List TableInstance
+emps = emp 0 ∷ emp 2 ∷ emp 4 ∷ []
+
+-- ---- lines that are numbered from 0
+
+-- the line may stand behind the others
+abbrev pub Stands : List Line → Line → Type 0
+Stands lines l = stands emps [] (reverse lines) l ≡ Ok l
+
+-- it may not, and this is why
+abbrev pub IsRefused : List Line → Line → LineReason → Type 0
+IsRefused lines l r = stands emps [] (reverse lines) l ≡ Err r
+
+-- a rule, applied to the lines of the first list, the top first; those of the second spell the inner expressions of what it gives
+abbrev pub by_rule : RuleName → List ℕ → List ℕ → Step
+by_rule name uses makes = record { rule = name; pick = 0; uses = uses; makes = makes }
+
+-- ---- conditions and expressions
+
+-- e0.id = e1.id
+abbrev pub equal_ids : List Condition
+equal_ids = Compare by.Equal (Column 0) (Column 2) ∷ []
+
+-- e1.id > e2.id
+abbrev pub falling_ids : List Condition
+falling_ids = Compare by.Greater (Column 2) (Column 4) ∷ []
+
+-- e0.dept IS NULL
+abbrev pub without_dept : List Condition
+without_dept = IsNull (Column 1) ∷ []
+
+-- e0.id = e1.id AND e0.dept IS NULL
+abbrev pub both : List Condition
+both = Compare by.Equal (Column 0) (Column 2) ∷ IsNull (Column 1) ∷ []
+
+-- ---- the first lines of logs
+
+abbrev pub one_table : List Line
+one_table = Founds (Get 0) ∷ []
+
+abbrev pub two_tables : List Line
+two_tables = Founds (Get 0) ∷ Founds (Get 1) ∷ []
+
+-- two tables and, in line 2, their join
+abbrev pub joined : List Line
+joined = two_tables ++ Founds (Join equal_ids 0 1) ∷ []
+
+-- three tables, in line 3 the join of the first two, in line 4 its join with the third
+abbrev pub twice_joined : List Line
+twice_joined = two_tables ++ Founds (Get 2) ∷ Founds (Join equal_ids 0 1) ∷ Founds (Join falling_ids 3 2) ∷ []
+
+-- a table of which a weak key is known, of NOT NULL columns
+abbrev pub weakly_keyed : List Line
+weakly_keyed = one_table ++ Gives 0 0 (NotNull 0) ∷ Gives 0 0 (WeakKey (0 ∷ [])) ∷ []
+
+-- ---- the verdicts
+
+-- lines that name no rule
+pub record WorkedLines : Type 0 where
+  pub founds : Stands [] (Founds (Get 0))
+  pub alike : Stands (one_table ++ Founds (Distinct 0) ∷ Founds (Distinct 0) ∷ []) (Alike 1 2)
+  -- the two joins are alike, as the classes 2 and 3 are the same
+  pub alike_over_others : Stands (two_tables ++ Founds (Distinct 0) ∷ Founds (Distinct 0) ∷ Alike 2 3 ∷ Founds (Join equal_ids 2 1) ∷ Founds (Join equal_ids 3 1) ∷ []) (Alike 5 6)
+  pub not_null : Stands one_table (Gives 0 0 (NotNull 0))
+  pub weak_key : Stands one_table (Gives 0 0 (WeakKey (0 ∷ [])))
+  pub strong_key : Stands weakly_keyed (Gives 0 0 (StrongKey (0 ∷ [])))
+
+-- lines by a step of each rule: most add an expression to a class, some say that two classes are the same
+pub record WorkedRules : Type 0 where
+  pub join_commutes : Stands joined (Adds 2 (by_rule rule.JoinCommutes (2 ∷ []) []) (Join equal_ids 1 0))
+  pub join_commutes_united : Stands (joined ++ Founds (Join equal_ids 1 0) ∷ []) (Unites 2 3 (by_rule rule.JoinCommutes (2 ∷ []) (3 ∷ [])))
+  pub join_associates : Stands (twice_joined ++ Founds (Join falling_ids 1 2) ∷ []) (Adds 4 (by_rule rule.JoinAssociates (4 ∷ 3 ∷ []) (5 ∷ [])) (Join equal_ids 0 5))
+  pub selects_merge : Stands (joined ++ Founds (Select without_dept 2) ∷ Founds (Select equal_ids 3) ∷ []) (Adds 4 (by_rule rule.SelectsMerge (4 ∷ 3 ∷ []) []) (Select both 2))
+  pub select_below_join : Stands (joined ++ Founds (Select without_dept 2) ∷ Founds (Select without_dept 0) ∷ [])
+      (Adds 3 (by_rule rule.SelectBelowJoin (3 ∷ 2 ∷ []) (4 ∷ [])) (Join equal_ids 4 1))
+  pub select_into_join : Stands (joined ++ Founds (Select without_dept 2) ∷ []) (Adds 3 (by_rule rule.SelectIntoJoin (3 ∷ 2 ∷ []) []) (Join both 0 1))
+  pub condition_below_join : Stands (two_tables ++ Founds (Join both 0 1) ∷ Founds (Select without_dept 0) ∷ [])
+      (Adds 2 (by_rule rule.ConditionBelowJoin (2 ∷ []) (3 ∷ [])) (Join equal_ids 3 1))
+  pub select_below_semi : Stands (two_tables ++ Founds (Semi equal_ids 0 1) ∷ Founds (Select without_dept 2) ∷ Founds (Select without_dept 0) ∷ [])
+      (Adds 3 (by_rule rule.SelectBelowSemi (3 ∷ 2 ∷ []) (4 ∷ [])) (Semi equal_ids 4 1))
+  pub select_below_anti : Stands (two_tables ++ Founds (Anti equal_ids [] 0 1) ∷ Founds (Select without_dept 2) ∷ Founds (Select without_dept 0) ∷ [])
+      (Adds 3 (by_rule rule.SelectBelowSemi (3 ∷ 2 ∷ []) (4 ∷ [])) (Anti equal_ids [] 4 1))
+  pub keeps_merge : Stands (one_table ++ Founds (Keep (0 ∷ 1 ∷ []) 0) ∷ Founds (Keep (1 ∷ []) 1) ∷ []) (Adds 2 (by_rule rule.KeepsMerge (2 ∷ 1 ∷ []) []) (Keep (1 ∷ []) 0))
+  pub keep_of_all : Stands (one_table ++ Founds (Keep (0 ∷ 1 ∷ []) 0) ∷ []) (Unites 1 0 (by_rule rule.KeepOfAll (1 ∷ []) []))
+  pub keep_below_join : Stands (joined ++ Founds (Keep (2 ∷ []) 2) ∷ Founds (Keep (0 ∷ []) 0) ∷ Founds (Join equal_ids 4 1) ∷ [])
+      (Adds 3 (by_rule rule.KeepBelowJoin (3 ∷ 2 ∷ []) (5 ∷ 4 ∷ [])) (Keep (2 ∷ []) 5))
+  pub distinct_of_keyed : Stands (weakly_keyed ++ Gives 0 0 (StrongKey (0 ∷ [])) ∷ Founds (Distinct 0) ∷ []) (Unites 4 0 (by_rule rule.DistinctOfKeyed (4 ∷ []) []))
+  pub group_is_distinct : Stands (one_table ++ Founds (Group (1 ∷ []) [] 0) ∷ Founds (Keep (1 ∷ []) 0) ∷ []) (Adds 1 (by_rule rule.GroupIsDistinct (1 ∷ []) (2 ∷ [])) (Distinct 2))
+
+-- each rule that has a condition, where it fails
+pub record WorkedConditions : Type 0 where
+  -- the first join's condition reads the third table
+  pub join_associates : IsRefused (two_tables ++ Founds (Get 2) ∷ Founds (Join falling_ids 0 1) ∷ Founds (Join equal_ids 3 2) ∷ [])
+      (Adds 4 (by_rule rule.JoinAssociates (4 ∷ 3 ∷ []) []) (Join equal_ids 3 2)) (reason.FailedCondition rule.JoinAssociates)
+  pub keep_of_all : IsRefused (one_table ++ Founds (Keep (0 ∷ []) 0) ∷ []) (Unites 1 1 (by_rule rule.KeepOfAll (1 ∷ []) [])) (reason.FailedCondition rule.KeepOfAll)
+  -- all columns of the left side are kept
+  pub keep_below_join : IsRefused (joined ++ Founds (Keep (0 ∷ 1 ∷ []) 2) ∷ []) (Adds 3 (by_rule rule.KeepBelowJoin (3 ∷ 2 ∷ []) []) (Keep (0 ∷ 1 ∷ []) 2))
+      (reason.FailedCondition rule.KeepBelowJoin)
+  pub distinct_of_keyed : IsRefused (one_table ++ Founds (Distinct 0) ∷ []) (Unites 1 0 (by_rule rule.DistinctOfKeyed (1 ∷ []) [])) (reason.FailedCondition rule.DistinctOfKeyed)
+  -- there is no key
+  pub group_is_distinct : IsRefused (one_table ++ Founds (Group [] [] 0) ∷ []) (Adds 1 (by_rule rule.GroupIsDistinct (1 ∷ []) []) (Group [] [] 0))
+      (reason.FailedCondition rule.GroupIsDistinct)
+
+-- each other reason why a line may not stand
+pub record WorkedRefusals : Type 0 where
+  pub unknown_line : IsRefused one_table (Founds (Distinct 1)) reason.UnknownLine
+  -- a class is named by the line that founds it
+  pub unknown_class : IsRefused (one_table ++ Gives 0 0 (NotNull 0) ∷ []) (Founds (Distinct 1)) reason.UnknownLine
+  pub ill_formed : IsRefused one_table (Founds (Keep (2 ∷ []) 0)) reason.IllFormed
+  -- the columns of the two classes are others
+  pub other_columns : IsRefused joined (Unites 2 0 (by_rule rule.JoinCommutes (2 ∷ []) [])) reason.IllFormed
+  pub other_form : IsRefused (one_table ++ Founds (Distinct 0) ∷ []) (Unites 1 0 (by_rule rule.KeepOfAll (1 ∷ []) [])) reason.OtherForm
+  -- the expressions differ in their columns
+  pub unlike : IsRefused (one_table ++ Founds (Keep (0 ∷ []) 0) ∷ Founds (Keep (1 ∷ []) 0) ∷ []) (Alike 1 2) reason.OtherForm
+  pub failed_fact : IsRefused one_table (Gives 0 0 (NotNull 1)) reason.FailedFact
+  -- the sides haven't changed places
+  pub other_line : IsRefused joined (Adds 2 (by_rule rule.JoinCommutes (2 ∷ []) []) (Join equal_ids 0 1)) reason.OtherLine
+
+pub record WorkedLogs : Type 0 where
+  pub lines : WorkedLines
+  pub rules : WorkedRules
+  pub conditions : WorkedConditions
+  pub refusals : WorkedRefusals

@@ -1,0 +1,164 @@
+-- The frame of a bound query is well formed.
+use Rattle.std.proofs.Common.{◌≡◌, refl, ap, sym, ◌∙◌, subst, ℕ, zero, suc, ◌-◌, ◌<◌, Bool, true, false, ◌==◌, nat_lt, if◌then◌else◌, List, [], ◌∷◌, ◌++◌, map, flat_map, length, reverse, option_map, arith}
+use Rattle.std.specs.Prelude.{slice_index_or}
+use Rattle.std.specs.List.{list_all, list_any, AllByRecursion}
+use Rattle.std.proofs.lemmas.Bool.{and_parts, and_from, or_left, or_right, cond-true, ltb-true, false≢true}
+use Rattle.std.proofs.lemmas.List.{length-reverse, reverse-append, reverse-reverse}
+use Rattle.std.proofs.lemmas.List.Folds.{list_any-append}
+use Rattle.values.proofs.Lists.{all_append}
+use Rattle.query.specs.declared.query.Column.{Column}
+use Rattle.query.specs.declared.query.Item.{Item}
+use Rattle.query.specs.declared.query.Item.TheVariants as item
+use Rattle.query.specs.declared.query.TableInstance.{TableInstance}
+use Rattle.query.specs.declared.query.Block.{Block}
+use Rattle.query.specs.Bound.{Scope, names, is_among, bound_aggregate, bound_item, bound_group_item, bound_items, block_scope}
+use Rattle.query.proofs.ScopeEquations.{scope-Block}
+use Rattle.algebra.specs.declared.expr.Aggregation.{Aggregation}
+use Rattle.algebra.specs.declared.expr.Expr.{Expr}
+use Rattle.algebra.specs.declared.expr.Expr.TheVariants.{Keep, Distinct}
+use Rattle.algebra.specs.Columns.{has, is_subset, rising}
+use Rattle.algebra.specs.Equality.{same_aggregation}
+use Rattle.algebra.specs.Classes.{class_columns, AreFormed}
+use Rattle.frame.specs.FormedFrames.{group_aggregates, own_aggregates, FramesAreFormed}
+use Rattle.frame.specs.Frames as frame
+use Rattle.frame.specs.Frames.{cond_frame, from_frame, block_frame, where_lines, group_lines, keep_lines, distinct_lines, item_number, own_numbers, kept, last, query_frame, query_numbers}
+use Rattle.frame.proofs.FormedBlocks.{formed-Block}
+use Rattle.frame.proofs.FormedConds.{formed-Compare, formed-IsNull, formed-Not, formed-And, formed-Or, formed-Exists, formed-In}
+use Rattle.frame.proofs.FormedFroms.{all-has, formed-Table, formed-Join, formed-LeftJoin, formed-Comma}
+use Rattle.frame.proofs.FormedParts.{among_own, GroupsOwn, FormedBlock, CondFormed, FromFormed, BlockFormed}
+use Rattle.frame.proofs.FrameEquations.{frame-Block}
+use Rattle.frame.proofs.FrameShapes.{BoundParts, block-shape, bound-parts}
+use Rattle.frame.proofs.Growth.{top-columns, last-is}
+use Rattle.frame.proofs.Induction.{Steps, each-block}
+use Rattle.frame.proofs.OwnAggregates.{flat-apart, lines-apart}
+use Rattle.algebra.proofs.Same.{same_aggregation-refl}
+use Rattle.algebra.proofs.Sets.{has-rising}
+
+-- ---- blocks
+
+module _ (uses : List TableInstance) (own : List Aggregation) where
+  steps : Steps (CondFormed uses own) (FromFormed uses own) (BlockFormed uses own)
+  steps = record {
+    compare = formed-Compare uses own;
+    is_null = formed-IsNull uses own;
+    not = formed-Not uses own;
+    and = formed-And uses own;
+    or = formed-Or uses own;
+    exists = formed-Exists uses own;
+    in_ = formed-In uses own;
+    table = formed-Table uses own;
+    join = formed-Join uses own;
+    left_join = formed-LeftJoin uses own;
+    comma = formed-Comma uses own;
+    block = formed-Block uses own;
+  }
+
+  -- the lines of a bound block are well formed, in a query that has their aggregates
+  pub block-formed : (q : Block) → BlockFormed uses own q
+  block-formed = each-block (CondFormed uses own) (FromFormed uses own) (BlockFormed uses own) steps
+
+-- ---- the query's own aggregates
+
+-- aggregates that are among some are among more
+among-more : (uses : List TableInstance) (own more added : List Aggregation) → among_own uses own added ≡ true → among_own uses (more ++ own) added ≡ true
+among-more uses own more [] h = refl
+among-more uses own more (a ∷ added) h =
+    let parts = and_parts (list_any (same_aggregation a) own) _ h in
+    and_from _ _ (list_any-append (same_aggregation a) more own ∙ or_right _ _ parts.0) (among-more uses own more added parts.1)
+
+among-itself : (uses : List TableInstance) (added own : List Aggregation) → among_own uses (added ++ own) added ≡ true
+among-itself uses [] own = refl
+among-itself uses (a ∷ added) own = and_from _ _ (or_left _ _ (same_aggregation-refl a)) (among-more uses (added ++ own) (a ∷ []) added (among-itself uses added own))
+
+groups-more : (uses : List TableInstance) (own more : List Aggregation) (lines : List Expr) → GroupsOwn uses own lines → GroupsOwn uses (more ++ own) lines
+groups-more uses own more [] h = tt
+groups-more uses own more (x ∷ lines) h = (among-more uses own more (group_aggregates x) h.0, groups-more uses own more lines h.1)
+
+-- the aggregates of lines are among those of all of them
+groups-own : (uses : List TableInstance) (lines : List Expr) → GroupsOwn uses (flat_map group_aggregates lines) lines
+groups-own uses [] = tt
+groups-own uses (x ∷ lines) =
+    (among-itself uses (group_aggregates x) (flat_map group_aggregates lines), groups-more uses (flat_map group_aggregates lines) (group_aggregates x) lines (groups-own uses lines))
+
+all-reverse : {X : Type 0} (P : X → Type 0) (xs : List X) → AllByRecursion P xs → AllByRecursion P (reverse xs)
+all-reverse P [] all = tt
+all-reverse P (x ∷ xs) all = subst (AllByRecursion P) (sym (reverse-append (x ∷ []) xs)) (all_append P (reverse xs) (x ∷ []) (all-reverse P xs all.1) (all.0, tt))
+
+-- ---- what a query shows
+
+-- no row stands around a query
+names-own : (numbers : List ℕ) (c : Column) → names (numbers ∷ []) c ≡ true → (c.level == 0) ≡ true
+names-own numbers c there = by c.level there
+  where
+    by : (l : ℕ) → nat_lt c.place (length (slice_index_or (numbers ∷ []) l [])) ≡ true → (l == 0) ≡ true
+    by zero there = refl
+    by (suc l) there = absurd (let below : c.place < 0 = ltb-true _ _ there in omega (arith, below))
+
+plain-own : (numbers : List ℕ) (items : List Item) → list_all (bound_item (numbers ∷ [])) items ≡ true → AllByRecursion (λ i. frame.is_block_item i ≡ true) items
+plain-own numbers [] bound = tt
+plain-own numbers (item.Column c ∷ items) bound = let parts = and_parts (names (numbers ∷ []) c) _ bound in (names-own numbers c parts.0, plain-own numbers items parts.1)
+plain-own numbers (item.Aggregate n a ∷ items) bound = absurd (false≢true bound)
+
+group-own : (numbers keys : List ℕ) (items : List Item) → list_all (bound_group_item (length numbers) keys (numbers ∷ [])) items ≡ true → AllByRecursion (λ i. frame.is_block_item i ≡ true) items
+group-own numbers keys [] bound = tt
+group-own numbers keys (item.Column c ∷ items) bound =
+    let parts = and_parts (bound_group_item (length numbers) keys (numbers ∷ []) (item.Column c)) _ bound in
+    (from (c.level == 0) refl parts.0, group-own numbers keys items parts.1)
+  where
+    from : (b : Bool) → (c.level == 0) ≡ b → (if b then is_among c.place keys else names (numbers ∷ []) c) ≡ true → (c.level == 0) ≡ true
+    from true is h = is
+    from false is h = names-own numbers c h
+group-own numbers keys (item.Aggregate n a ∷ items) bound = (refl, group-own numbers keys items (and_parts (bound_aggregate (length numbers) a) _ bound).1)
+
+items-own : (is_grouped : Bool) (numbers keys : List ℕ) (items : List Item) → bound_items is_grouped (length numbers) keys items (numbers ∷ []) ≡ true → AllByRecursion (λ i. frame.is_block_item i ≡ true) items
+items-own false numbers keys items bound = plain-own numbers items bound
+items-own true numbers keys items bound = group-own numbers keys items (and_parts (list_all (λ k. nat_lt k (length numbers)) keys) _ bound).1
+
+own-all : (scope : Scope) (items : List Item) → AllByRecursion (λ i. frame.is_block_item i ≡ true) items → own_numbers scope items ≡ map (item_number scope) items
+own-all scope [] all = refl
+own-all scope (i ∷ items) all = cond-true _ _ _ all.0 ∙ ap (λ ks. item_number scope i ∷ ks) (own-all scope items all.1)
+
+module _ (uses : List TableInstance) where
+  -- a block's last class has the columns that it keeps
+  end-columns : (twice : Bool) (scope : Scope) (items : List Item) (G : List Expr)
+      → class_columns uses (distinct_lines twice (keep_lines scope items G)) (last (distinct_lines twice (keep_lines scope items G))) ≡ kept scope items
+  end-columns false scope items G = top-columns uses (Keep (kept scope items) (last G)) G
+  end-columns true scope items G = top-columns uses (Distinct (length G)) (keep_lines scope items G) ∙ top-columns uses (Keep (kept scope items) (last G)) G
+
+  shown-in : (twice : Bool) (scope : Scope) (items : List Item) (G : List Expr) → AllByRecursion (λ i. frame.is_block_item i ≡ true) items
+      → is_subset (map (item_number scope) items) (class_columns uses (distinct_lines twice (keep_lines scope items G)) (last (distinct_lines twice (keep_lines scope items G)))) ≡ true
+  shown-in twice scope items G all =
+      let ns : List ℕ = map (item_number scope) items in
+      ap (is_subset ns) (end-columns twice scope items G ∙ ap rising (own-all scope items all)) ∙ all-has (has (rising ns)) ns (λ c in_. has-rising c ns ∙ in_)
+
+  -- all that a query's block shows is among the columns of its last class
+  block-shown : (q : Block) → (block_scope uses q).bound [] ≡ true → is_subset ((block_frame uses q).shown []) (class_columns uses ((block_frame uses q).lines [] []) (last ((block_frame uses q).lines [] []))) ≡ true
+  block-shown q bound =
+      let numbers : List ℕ = (from_frame uses q.from).numbers in
+      let A : List Expr = (from_frame uses q.from).lines [] [] in
+      let B : List Expr = where_lines (option_map (cond_frame uses) q.filter) (numbers ∷ []) A in
+      let parts : BoundParts uses q [] = bound-parts uses q [] (sym (ap (λ s. s.bound []) (scope-Block uses q)) ∙ bound) in
+      rw (frame-Block uses q) (shown-in q.distinct (numbers ∷ []) q.items (group_lines q.grouped numbers q.keys q.items B) (items-own q.grouped numbers q.keys q.items parts.items))
+
+-- ---- queries
+
+-- the frame of each bound query is well formed
+pub frames_formed : FramesAreFormed
+unfolding query_frame query_numbers
+frames_formed q bound =
+    let uses : List TableInstance = q.tables in
+    let own : List Aggregation = own_aggregates q in
+    let lines : List Expr = (block_frame uses q.block).lines [] [] in
+    let turned : reverse (reverse lines) ≡ lines = reverse-reverse lines in
+    let long : length (reverse lines) ≡ length lines = length-reverse lines in
+    let last_is : length (reverse lines) - 1 ≡ last lines = ap (λ n. n - 1) long ∙ sym (last-is lines) in
+    let groups : GroupsOwn uses own lines = subst (GroupsOwn uses own) turned (all-reverse _ (reverse lines) (groups-own uses (reverse lines))) in
+    let formed : FormedBlock uses own (block_frame uses q.block) [] [] = block-formed uses own q.block [] [] tt tt bound groups in
+    let adds : 0 < length lines = (block-shape uses q.block [] []).adds in
+    record {
+      lines = subst (AreFormed uses own) (sym turned) formed.lines;
+      shown = ap (λ L. is_subset ((block_frame uses q.block).shown []) (class_columns uses L (length (reverse lines) - 1))) turned ∙ ap (λ n. is_subset ((block_frame uses q.block).shown []) (class_columns uses lines n)) last_is
+          ∙ block-shown uses q.block bound;
+      some = omega (arith, long, adds);
+      apart = flat-apart uses (reverse lines) (all-reverse _ lines (lines-apart uses q.block [] [] tt bound));
+    }

@@ -1,0 +1,65 @@
+//! The column numbers of a query's items.
+
+ghost use Rattle.std.specs.Prelude.{◌≡◌, ◌++◌, map, IfOk};
+ghost use Rattle.frame.specs.Frames as spec;
+ghost use Rattle.frame.specs.Lent.{scope_of};
+
+use crate::frames::item_number;
+use crate::scope::{Scope, use_numbers};
+use query::{ColumnId, From, Item, Query, TableInstance};
+use std::alloc::{AllocError, Global};
+
+fn append(mut left: Vec<ColumnId>, right: Vec<ColumnId>) -> Result<Vec<ColumnId>, AllocError>
+    ensures { IfOk result (λ numbers. numbers.items ≡ left.items ++ right.items) }
+{
+    left.extend_from_slice(right.as_slice())?;
+    Ok(left)
+}
+
+/// The column numbers of a FROM's rows.
+fn from_numbers(
+    alloc: Global,
+    uses: &[TableInstance],
+    from: &From,
+) -> Result<Vec<ColumnId>, AllocError>
+    ensures { IfOk result (λ numbers. numbers.items ≡ (spec.from_frame uses.now from.now).numbers) }
+{
+    match from {
+        From::Table(occurrence) => use_numbers(alloc, uses, *occurrence),
+        From::Join(left, occurrence, _) => {
+            let numbers = from_numbers(alloc, uses, left.get())?;
+            append(numbers, use_numbers(alloc, uses, *occurrence)?)
+        }
+        From::LeftJoin(left, occurrence, _) => {
+            let numbers = from_numbers(alloc, uses, left.get())?;
+            append(numbers, use_numbers(alloc, uses, *occurrence)?)
+        }
+        From::Comma(left, right) => {
+            let numbers = from_numbers(alloc, uses, left.get())?;
+            append(numbers, from_numbers(alloc, uses, right.get())?)
+        }
+    }
+}
+
+fn item_numbers(
+    alloc: Global,
+    scope: &Scope<'_>,
+    items: &[Item],
+) -> Result<Vec<ColumnId>, AllocError>
+    ensures { IfOk result (λ numbers. numbers.items ≡ map (spec.item_number (scope_of scope.now)) items.now) }
+{
+    let mut numbers = Vec::new(alloc);
+    for item in items {
+        numbers.push(item_number(scope, *item))?;
+    }
+    Ok(numbers)
+}
+
+/// The column numbers of a query's items, in their order.
+pub fn query_numbers(alloc: Global, query: &Query) -> Result<Vec<ColumnId>, AllocError>
+    ensures { IfOk result (λ numbers. numbers.items ≡ spec.query_numbers query.now) }
+{
+    let numbers = from_numbers(alloc, query.tables.as_slice(), &query.block.from)?;
+    let scope = Scope::Inner(numbers.as_slice(), &Scope::Outermost);
+    item_numbers(alloc, &scope, query.block.items.as_slice())
+}

@@ -1,6 +1,0 @@
-use Rattle.std.proofs.Common.{}
-use Rattle.lines.proofs.LeastEquivalence.{sameness_least}
-use Rattle.lines.proofs.soundness.sameness_is_least.Goals as goal
-
-pub returns : goal.returns
-returns c = sameness_least

@@ -1,5 +1,0 @@
-use Rattle.logical.proofs.FormedQueries.{frames_formed}
-use Rattle.logical.proofs.laws.frames_are_formed.Goals as goal
-
-pub returns : goal.returns
-returns c = frames_formed

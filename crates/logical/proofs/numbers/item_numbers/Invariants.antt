@@ -1,7 +1,0 @@
-use Rattle.std.proofs.Common.{◌≡◌, map, take}
-use Rattle.logical.specs.Frames as spec
-use Rattle.logical.specs.Lent.{scope_of}
-use Rattle.logical.proofs.numbers.item_numbers.Given as goal
-
-abbrev pub invariant-loop-item : goal.invariant-loop-item
-invariant-loop-item l = l.numbers.items ≡ map (spec.item_number (scope_of l.scope)) (take l.item-index l.items)
