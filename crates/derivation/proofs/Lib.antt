@@ -3,7 +3,6 @@ pub mod Invariants
 pub mod LeastEquivalence
 pub mod Lookups
 pub mod Pairs
-pub mod RuleLaws
 pub mod Sameness
 pub mod Spellings
 pub mod Standing

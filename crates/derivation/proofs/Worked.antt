@@ -10,7 +10,7 @@ use Rattle.algebra.specs.Equality.{same_columns, same_expr}
 use Rattle.algebra.proofs.Same.{same_columns-refl, tested_condition, tested_columns, tested_expr}
 use Rattle.algebra.proofs.MentionedColumns.{mentions-Compare, mentions-IsNull}
 use Rattle.rules.specs.declared.shape.Shape.TheVariants.{Class, Join, Keep}
-use Rattle.derivation.specs.declared.book.RuleName.TheVariants as rule
+use Rattle.rules.specs.declared.book.RuleName.TheVariants as rule
 use Rattle.derivation.specs.declared.line.Line.TheVariants.{Founds}
 use Rattle.derivation.specs.Examples.{WorkedLines, WorkedRules, WorkedConditions, WorkedRefusals, WorkedLogs, emps, joined, twice_joined, by_rule, equal_ids, falling_ids, without_dept, both}
 use Rattle.derivation.proofs.WorkedEquations.{same_expr-refl, columns-Compare, columns-IsNull, classes-Compare, classes-IsNull, parts-Compare, parts-IsNull, text-Compare, text-IsNull, by-texts, union-of-two, adds-stands, spelling-Class, spelling-Select, spelling-Join, spelling-Semi, spelling-Anti, spelling-Keep, spelling-Distinct}

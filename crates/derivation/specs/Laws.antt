@@ -10,14 +10,9 @@ use Rattle.algebra.specs.declared.expr.Aggregation.{Aggregation}
 use Rattle.algebra.specs.Classes.{class_rows}
 use Rattle.props.specs.Knowledge.{IsTrueOf}
 use Rattle.rules.specs.Matches as matches
-use Rattle.rules.specs.Soundness.{World, IsLine, IsSound}
-use Rattle.derivation.specs.declared.book.RuleName.{RuleName}
-use Rattle.derivation.specs.Book.{given_by}
+use Rattle.rules.specs.Soundness.{World, IsLine}
 use Rattle.derivation.specs.Logs.{Log, entries, member, are_same, knowledge, SameBy}
 use Rattle.derivation.specs.Replay.{Replays}
-
-abbrev pub BookIsSound : Type 0
-BookIsSound = (rule : RuleName) → IsSound (given_by rule)
 
 -- the rows of each class are those of the line that founds it
 abbrev pub world : List TableInstance → List Aggregation → Tables → Log → World

@@ -1,4 +1,3 @@
-pub mod Book
 pub mod Examples
 pub mod Laws
 pub mod Logs

@@ -1,12 +1,10 @@
 //! The lines of a derivation: what each of them says, when it may stand, and that what they say is true.
 #![tactic(auto)]
 
-pub mod book;
 mod copies;
 pub mod line;
 pub mod numbers;
 pub mod soundness;
 
-pub use book::RuleName;
 pub use line::{Line, LineReason, Step};
 pub use numbers::Numbers;

@@ -1,9 +1,9 @@
 //! The lines of a derivation.
 
-use crate::book::RuleName;
 use crate::numbers::Numbers;
 use algebra::{ClassId, Expr, LineId};
 use props::Fact;
+use rules::RuleName;
 use thiserror::Error;
 use values::Boxed;
 

@@ -1,12 +1,7 @@
 //! The laws of logs. The functions do nothing: their contracts are the laws.
 
 ghost use Rattle.derivation.specs.Examples.{WorkedLogs};
-ghost use Rattle.derivation.specs.Laws.{BookIsSound, LogsAreTrue, SamenessIsLeast};
-
-/// Each rule of the book is sound.
-pub fn book_is_sound()
-    ensures { BookIsSound }
-{}
+ghost use Rattle.derivation.specs.Laws.{LogsAreTrue, SamenessIsLeast};
 
 /// In each database that satisfies the schema, what the lines of a log that replays say is true.
 pub fn logs_are_true()

@@ -4,7 +4,7 @@ use Rattle.schema.specs.Databases.{Row, Stored}
 use Rattle.query.specs.Rows.{tables_in}
 use Rattle.certificate.specs.QueryOrders.{answer}
 use Rattle.checker.specs.Accepted.{Accepted}
-use Rattle.executor.specs.AnswerText.{answer_text}
+use Rattle.answer_text.specs.AnswerText.{answer_text}
 
 -- the rows that an accepted plan gives
 abbrev pub accepted_rows : Accepted → Stored → List Row

@@ -1,2 +1,1 @@
-pub mod AnswerText
 pub mod Execution

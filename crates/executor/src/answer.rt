@@ -4,13 +4,12 @@ ghost use Rattle.std.specs.Prelude.{◌≡◌, ◌≢◌, [], IsErrAnd, OnOk, On
 ghost use Rattle.std.specs.Io.KnownBytes.{Appends};
 ghost use Rattle.query.specs.Answer.{IsAnswer};
 ghost use Rattle.store.specs.Devices.{Rose};
-ghost use Rattle.executor.specs.AnswerText.{HasFront};
+ghost use Rattle.answer_text.specs.AnswerText.{HasFront};
 ghost use Rattle.query.specs.Rows.{tables_in};
 ghost use Rattle.executor.specs.Execution.{accepted_rows, accepted_text};
 
 use crate::execution::find;
-use crate::output::AnswerOutput;
-use crate::text::{AnswerFault, write_found};
+use answer_text::{AnswerFault, AnswerOutput, write_found};
 use checker::Checked;
 use std::alloc::Global;
 use store::Database;

@@ -14,8 +14,8 @@ use Rattle.certificate.specs.declared.certificate.Certificate.{Certificate}
 use Rattle.certificate.specs.declared.certificate.CheckRefusal.{CheckRefusal}
 use Rattle.certificate.specs.Replay.{replayed, IsChecked}
 use Rattle.checker.specs.Accepted.{Accepted}
-use Rattle.executor.specs.declared.output.OutputFailed.{OutputFailed}
-use Rattle.executor.specs.AnswerText.{answer_text}
+use Rattle.answer_text.specs.declared.output.OutputFailed.{OutputFailed}
+use Rattle.answer_text.specs.AnswerText.{answer_text}
 use Rattle.executor.specs.Execution.{accepted_text}
 use Rattle.pipeline.specs.declared.refusal.Refusal.{Refusal}
 use Rattle.pipeline.specs.declared.refusal.Refusal.TheVariants as refusal

@@ -17,7 +17,7 @@ use Rattle.query.specs.Answer.{IsAnswer}
 use Rattle.certificate.specs.declared.certificate.Certificate.{Certificate}
 use Rattle.certificate.specs.QueryOrders.{answer}
 use Rattle.certificate.specs.Replay.{IsChecked}
-use Rattle.executor.specs.AnswerText.{answer_text}
+use Rattle.answer_text.specs.AnswerText.{answer_text}
 use Rattle.pipeline.specs.declared.refusal.Refusal.{Refusal}
 use Rattle.pipeline.specs.declared.refusal.Refusal.TheVariants as refusal
 

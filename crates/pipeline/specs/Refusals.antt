@@ -6,7 +6,7 @@ use Rattle.schema.specs.declared.fault.SchemaRefusal.{SchemaRefusal}
 use Rattle.certificate.specs.declared.certificate.CheckRefusal.{CheckRefusal}
 use Rattle.sql_parse.specs.declared.fault.ParseRefusal.{ParseRefusal}
 use Rattle.binder.specs.declared.fault.BindRefusal.{BindRefusal}
-use Rattle.executor.specs.declared.output.OutputFailed.{OutputFailed}
+use Rattle.answer_text.specs.declared.output.OutputFailed.{OutputFailed}
 use Rattle.store.specs.declared.fault.TableFault.{TableFault}
 use Rattle.store.specs.declared.fault.TableFault.TheVariants as table
 use Rattle.pipeline.specs.declared.refusal.Refusal.{Refusal}

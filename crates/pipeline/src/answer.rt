@@ -3,12 +3,13 @@
 ghost use Rattle.std.specs.Prelude.{◌≡◌, ◌⊎◌, [], OnOk, OnErr, IfErr};
 ghost use Rattle.std.specs.Io.KnownBytes.{Appends};
 ghost use Rattle.query.specs.Bound.{IsBoundOver};
-ghost use Rattle.executor.specs.AnswerText.{HasFront};
+ghost use Rattle.answer_text.specs.AnswerText.{HasFront};
 ghost use Rattle.pipeline.specs.EndToEnd.{ByPlan, ByMeaning, IsAnswerFault};
 
 use crate::refusal::Refusal;
+use answer_text::{AnswerOutput, write_rows};
 use checker::{Checked, check};
-use executor::{AnswerOutput, write_answer, write_rows};
+use executor::write_answer;
 use oracle::meaning;
 use planner::{canonical, with_hash_joins};
 use query::BoundQuery;

@@ -2,13 +2,13 @@
 
 ghost use Rattle.std.specs.Prelude.{◌≡◌, ◌⊎◌, [], length, map, IfErr, OnOk, OnErr};
 ghost use Rattle.std.specs.Io.KnownBytes.{Appends};
-ghost use Rattle.executor.specs.AnswerText.{HasFront};
+ghost use Rattle.answer_text.specs.AnswerText.{HasFront};
 ghost use Rattle.pipeline.specs.EndToEnd.{HasTables, WithAnswer, WithPlanned, IsRefusedBy, IsBefore, IsDeviceFault, IsQuiet};
 
 use crate::answer::{answer_by_meaning, answer_by_plan};
 use crate::preparation::prepare;
 use crate::refusal::Refusal;
-use executor::AnswerOutput;
+use answer_text::AnswerOutput;
 use schema::Schema;
 use std::alloc::Global;
 use store::TableInput;

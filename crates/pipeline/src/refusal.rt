@@ -7,9 +7,9 @@ ghost use Rattle.certificate.specs.Codes as check;
 ghost use Rattle.pipeline.specs.Lines as lines;
 ghost use Rattle.store.specs.Faults.{code_of, earlier_of};
 
+use answer_text::AnswerFault;
 use binder::{BindFault, BindRefusal};
 use certificate::{CheckFault, CheckRefusal};
-use executor::AnswerFault;
 use schema::{Schema, SchemaFault, SchemaRefusal};
 use sql_parse::{ParseFault, ParseRefusal};
 use std::alloc::{AllocError, AllocFailed, Global};

@@ -2,7 +2,7 @@
 
 ghost use Rattle.pipeline.specs.EndToEnd.{HasTables};
 
-use executor::CountedOutput;
+use answer_text::CountedOutput;
 use fixtures::push_lines;
 use pipeline::{Refusal, evaluate, fault_line, query};
 use schema::Schema;

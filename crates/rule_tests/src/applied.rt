@@ -4,9 +4,8 @@ use crate::classes::{Known, known_classes};
 use crate::shapes::push_shape;
 use crate::words::{line_of, number};
 use algebra::{ClassId, Expr};
-use derivation::RuleName;
 use fixtures::{Reporting, differences};
-use rules::{Match, MatchedLine, RuleFault, Shape, Unfit};
+use rules::{Match, MatchedLine, RuleFault, RuleName, Shape, Unfit};
 use std::alloc::{AllocError, Global};
 use values::Fault;
 

@@ -8,6 +8,7 @@ pub mod KeepBelowJoin
 pub mod KeepOfAll
 pub mod KeepsMerge
 pub mod MatchedLines
+pub mod RuleLaws
 pub mod SelectBelowJoin
 pub mod SelectBelowSemi
 pub mod SelectIntoJoin

@@ -1,3 +1,4 @@
+pub mod Book
 pub mod ConditionBelowJoin
 pub mod Conjuncts
 pub mod DistinctOfKeyed

@@ -1,6 +1,7 @@
 //! Rules that rewrite expressions over classes, each with its law.
 #![tactic(auto)]
 
+pub mod book;
 pub mod condition_below_join;
 pub mod distinct_of_keyed;
 pub mod group_is_distinct;
@@ -19,6 +20,7 @@ pub mod shape;
 mod shaping;
 pub mod unfit;
 
+pub use book::RuleName;
 pub use matching::{Match, MatchedLine};
 pub use rule::Rule;
 pub use shape::Shape;

@@ -9,10 +9,10 @@ ghost use Rattle.sqlplan.specs.Stops.{SaysFile, SaysTable};
 mod command;
 mod stop;
 
+use answer_text::CountedOutput;
 use clap::ArgMatches;
 use clap::error::ErrorKind;
 use command::command;
-use executor::CountedOutput;
 use pipeline::{Refusal, evaluate, query};
 use schema::Schema;
 use std::alloc::Global;

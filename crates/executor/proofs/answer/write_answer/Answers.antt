@@ -1,7 +1,7 @@
 use Rattle.std.proofs.Common.{◌≡◌, ◌∙◌, ℕ, List, ap, sym, subst, OnOk, OnErr}
 use Rattle.std.specs.Io.KnownBytes.{Appends}
 use Rattle.query.specs.Answer.{IsAnswer}
-use Rattle.executor.specs.AnswerText.{answer_text, HasFront}
+use Rattle.answer_text.specs.AnswerText.{answer_text, HasFront}
 use Rattle.query.specs.Rows.{tables_in}
 use Rattle.executor.specs.Execution.{accepted_text}
 use Rattle.executor.proofs.Sent.{front_of_nothing, on_err, on_ok}

@@ -1,7 +1,7 @@
 use Rattle.std.proofs.Common.{◌∙◌, ap, Err, inr}
 use Rattle.std.proofs.lemmas.Result.{err_from_is_err_and}
 use Rattle.std.specs.Io.KnownBytes.{Appends}
-use Rattle.executor.specs.AnswerText.{HasFront}
+use Rattle.answer_text.specs.AnswerText.{HasFront}
 use Rattle.pipeline.specs.Refusals.{of_answer}
 use Rattle.pipeline.proofs.Answered.{on_fault, by_plan}
 use Rattle.pipeline.proofs.answer.answer_by.Goals as goal

@@ -1,6 +1,6 @@
 use Rattle.std.proofs.Common.{◌≡◌, ◌⊎◌, OnOk, OnErr}
 use Rattle.std.specs.Io.KnownBytes.{Appends}
-use Rattle.executor.specs.AnswerText.{HasFront}
+use Rattle.answer_text.specs.AnswerText.{HasFront}
 use Rattle.pipeline.specs.EndToEnd.{ByPlan}
 use Rattle.pipeline.proofs.Answered.{of_accepted}
 use Rattle.pipeline.proofs.answer.answer_by_plan.Goals as goal

@@ -1,7 +1,7 @@
 use Rattle.std.proofs.Common.{◌∙◌, ap, map, Err, inl, inr}
 use Rattle.std.proofs.lemmas.Result.{err_from_is_err_and, on_ok_weaker, on_err_weaker, IfErr-weaker}
 use Rattle.std.specs.Io.KnownBytes.{Appends}
-use Rattle.executor.specs.AnswerText.{HasFront}
+use Rattle.answer_text.specs.AnswerText.{HasFront}
 use Rattle.pipeline.proofs.Answered.{of_fault, unprepared_refused, answer_refused, planned}
 use Rattle.pipeline.proofs.Prepared.{query_bound}
 use Rattle.pipeline.proofs.commands.query.Goals as goal

@@ -1,0 +1,126 @@
+//! The rule book: the rules by their names in certificates.
+
+ghost use Rattle.std.specs.Prelude.{◌≡◌, ◌≢◌, MatchOption};
+ghost use Rattle.std.specs.List.{AllByRecursion};
+ghost use Rattle.rules.specs.declared.book.RuleName.{RuleName};
+ghost use Rattle.values.specs.Faults.{Gives};
+ghost use Rattle.rules.specs.Matches.{matched};
+ghost use Rattle.rules.specs.Book.{BookIsSound};
+ghost use Rattle.rules.specs.Book as spec;
+
+use crate::condition_below_join::ConditionBelowJoin;
+use crate::distinct_of_keyed::DistinctOfKeyed;
+use crate::group_is_distinct::GroupIsDistinct;
+use crate::join_associates::JoinAssociates;
+use crate::join_commutes::JoinCommutes;
+use crate::keep_below_join::KeepBelowJoin;
+use crate::keep_of_all::KeepOfAll;
+use crate::keeps_merge::KeepsMerge;
+use crate::matching::Match;
+use crate::rule::Rule;
+use crate::select_below_join::SelectBelowJoin;
+use crate::select_below_semi::SelectBelowSemi;
+use crate::select_into_join::SelectIntoJoin;
+use crate::selects_merge::SelectsMerge;
+use crate::shape::Shape;
+use crate::unfit::RuleFault;
+use std::alloc::Global;
+
+/// A rule of the book.
+#[derive(Clone, Copy, Debug, PartialEq, Eq)]
+pub enum RuleName {
+    JoinCommutes,
+    JoinAssociates,
+    SelectsMerge,
+    SelectBelowJoin,
+    SelectIntoJoin,
+    ConditionBelowJoin,
+    SelectBelowSemi,
+    KeepsMerge,
+    KeepOfAll,
+    KeepBelowJoin,
+    DistinctOfKeyed,
+    GroupIsDistinct,
+}
+
+const RULES: [RuleName; 12] = [
+    RuleName::JoinCommutes,
+    RuleName::JoinAssociates,
+    RuleName::SelectsMerge,
+    RuleName::SelectBelowJoin,
+    RuleName::SelectIntoJoin,
+    RuleName::ConditionBelowJoin,
+    RuleName::SelectBelowSemi,
+    RuleName::KeepsMerge,
+    RuleName::KeepOfAll,
+    RuleName::KeepBelowJoin,
+    RuleName::DistinctOfKeyed,
+    RuleName::GroupIsDistinct,
+];
+
+/// The first of the rules that has the code.
+fn with_code(mut rules: &[RuleName], code: &str) -> Option<RuleName>
+    ensures { MatchOption result (AllByRecursion (λ rule. spec.code_of rule ≢ code.now) rules.entry.now) (λ rule. spec.code_of rule ≡ code.now) }
+{
+    'rules: while let [rule, rest @ ..] = rules {
+        if rule.code() == code {
+            return Some(*rule);
+        }
+        rules = rest;
+    }
+    None
+}
+
+impl RuleName {
+    /// Its name in certificates.
+    pub fn code(self) -> &'static str
+        ensures { result.now ≡ spec.code_of self }
+    {
+        match self {
+            RuleName::JoinCommutes => JoinCommutes::CODE,
+            RuleName::JoinAssociates => JoinAssociates::CODE,
+            RuleName::SelectsMerge => SelectsMerge::CODE,
+            RuleName::SelectBelowJoin => SelectBelowJoin::CODE,
+            RuleName::SelectIntoJoin => SelectIntoJoin::CODE,
+            RuleName::ConditionBelowJoin => ConditionBelowJoin::CODE,
+            RuleName::SelectBelowSemi => SelectBelowSemi::CODE,
+            RuleName::KeepsMerge => KeepsMerge::CODE,
+            RuleName::KeepOfAll => KeepOfAll::CODE,
+            RuleName::KeepBelowJoin => KeepBelowJoin::CODE,
+            RuleName::DistinctOfKeyed => DistinctOfKeyed::CODE,
+            RuleName::GroupIsDistinct => GroupIsDistinct::CODE,
+        }
+    }
+
+    /// The rule with this name in certificates, if there is one.
+    pub fn of_code(code: &str) -> Option<RuleName>
+        ensures { MatchOption result ((rule : RuleName) → spec.code_of rule ≢ code.now) (λ rule. spec.code_of rule ≡ code.now) }
+    {
+        with_code(&RULES, code)
+    }
+
+    /// What the rule of this name gives.
+    pub fn apply(self, alloc: Global, at: Match<'_>) -> Result<Shape, RuleFault>
+        ensures { Gives (λ s. s) result (spec.given_by self (matched at.entry)) }
+    {
+        match self {
+            RuleName::JoinCommutes => JoinCommutes::apply(alloc, at),
+            RuleName::JoinAssociates => JoinAssociates::apply(alloc, at),
+            RuleName::SelectsMerge => SelectsMerge::apply(alloc, at),
+            RuleName::SelectBelowJoin => SelectBelowJoin::apply(alloc, at),
+            RuleName::SelectIntoJoin => SelectIntoJoin::apply(alloc, at),
+            RuleName::ConditionBelowJoin => ConditionBelowJoin::apply(alloc, at),
+            RuleName::SelectBelowSemi => SelectBelowSemi::apply(alloc, at),
+            RuleName::KeepsMerge => KeepsMerge::apply(alloc, at),
+            RuleName::KeepOfAll => KeepOfAll::apply(alloc, at),
+            RuleName::KeepBelowJoin => KeepBelowJoin::apply(alloc, at),
+            RuleName::DistinctOfKeyed => DistinctOfKeyed::apply(alloc, at),
+            RuleName::GroupIsDistinct => GroupIsDistinct::apply(alloc, at),
+        }
+    }
+}
+
+/// The law of the book: each of its rules is sound. The function does nothing: its contract is the law.
+pub fn book_is_sound()
+    ensures { BookIsSound }
+{}
