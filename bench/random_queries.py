@@ -25,7 +25,7 @@ Column = collections.namedtuple("Column", "text kind level")
 
 
 class Maker:
-    """Makes one query. Its occurrences have names of their own, so each qualified name means one column."""
+    """Makes one query. Its instances have names of their own, so each qualified name means one column."""
 
     def __init__(self, rng):
         self.rng, self.made = rng, 0

@@ -113,8 +113,8 @@ module _ (root : ℕ → ℕ) where
   abbrev of_roots_in : Classes → Classes
   of_roots_in V = record { rows = λ g. V.rows (root g); columns = λ g. V.columns (root g); free = λ g. V.free (root g) }
 
-  module _ (uses : List TableInstance) (D : Tables) (V : Classes) where
-    bag-rooted : (x : Expr) → SameBag (means uses D V (rooted root x)) (means uses D (of_roots_in V) x)
+  module _ (instances : List TableInstance) (D : Tables) (V : Classes) where
+    bag-rooted : (x : Expr) → SameBag (means instances D V (rooted root x)) (means instances D (of_roots_in V) x)
     bag-rooted (expr.Get o) = λ e f. refl
     bag-rooted (expr.Select C x) = select-same _ _ _ _ (λ r. holds-rooted V.rows r C) (λ e f. refl)
     bag-rooted (expr.Join C a b) = join-same _ _ (has (V.columns (root b))) (V.rows (root a)) (V.rows (root a)) (V.rows (root b)) (V.rows (root b)) (λ r. holds-rooted V.rows r C) (λ e f. refl) (λ e f. refl)
@@ -125,7 +125,7 @@ module _ (root : ℕ → ℕ) where
     bag-rooted (expr.Distinct x) = λ e f. refl
     bag-rooted (expr.Group K G x) = λ e f. refl
 
-    columns-rooted : (x : Expr) → columns_of uses V.columns (rooted root x) ≡ columns_of uses (λ g. V.columns (root g)) x
+    columns-rooted : (x : Expr) → columns_of instances V.columns (rooted root x) ≡ columns_of instances (λ g. V.columns (root g)) x
     columns-rooted (expr.Get o) = refl
     columns-rooted (expr.Select C x) = refl
     columns-rooted (expr.Join C a b) = refl
@@ -273,16 +273,16 @@ module _ (root : ℕ → ℕ) where
 
   -- ---- expressions that are alike
 
-  module _ (uses : List TableInstance) (D : Tables) (W : Classes) (gs : List ℕ) (same : (g h : ℕ) → root g ≡ root h → IsSameIn W W g h) where
+  module _ (instances : List TableInstance) (D : Tables) (W : Classes) (gs : List ℕ) (same : (g h : ℕ) → root g ≡ root h → IsSameIn W W g h) where
     abbrev V : Classes
     V = at_roots gs W
 
     -- over the roots an expression with roots is what it is over its classes
     over-roots : (x : Expr) → ((g : ℕ) → has (input_classes x) g ≡ true → has gs g ≡ true)
-        → (columns_of uses V.columns (rooted root x) ≡ columns_of uses W.columns x) × SameBag (means uses D V (rooted root x)) (means uses D W x)
+        → (columns_of instances V.columns (rooted root x) ≡ columns_of instances W.columns x) × SameBag (means instances D V (rooted root x)) (means instances D W x)
     over-roots x among =
-        let keeps = expressions_keep_classes uses D (of_roots_in V) W x (λ g in_. same (one_of gs (root g)) g (one-root gs g (among g in_))) in
-        (columns-rooted uses D V x ∙ keeps.0, same_bag-trans _ _ _ (bag-rooted uses D V x) keeps.1)
+        let keeps = expressions_keep_classes instances D (of_roots_in V) W x (λ g in_. same (one_of gs (root g)) g (one-root gs g (among g in_))) in
+        (columns-rooted instances D V x ∙ keeps.0, same_bag-trans _ _ _ (bag-rooted instances D V x) keeps.1)
 
   among-left : (x y : Expr) (g : ℕ) → has (input_classes x) g ≡ true → has (input_classes x ++ input_classes y) g ≡ true
   among-left x y g in_ = among-append g (input_classes x) (input_classes y) ∙ or_left _ _ in_
@@ -291,12 +291,12 @@ module _ (root : ℕ → ℕ) where
   among-right x y g in_ = among-append g (input_classes x) (input_classes y) ∙ or_right (has (input_classes x) g) _ in_
 
 pub alike_is_same : AlikeIsSame
-alike_is_same uses D W root same x y alike =
+alike_is_same instances D W root same x y alike =
     let gs : List ℕ = input_classes x ++ input_classes y in
     let V : Classes = at_roots root gs W in
-    let left = over-roots root uses D W gs same x (among-left root x y) in
-    let right = over-roots root uses D W gs same y (among-right root x y) in
-    (sym left.0 ∙ ap (columns_of uses V.columns) alike ∙ right.0, λ e f. sym (left.1 e f) ∙ ap (λ z. total f (means uses D V z e)) alike ∙ right.1 e f)
+    let left = over-roots root instances D W gs same x (among-left root x y) in
+    let right = over-roots root instances D W gs same y (among-right root x y) in
+    (sym left.0 ∙ ap (columns_of instances V.columns) alike ∙ right.0, λ e f. sym (left.1 e f) ∙ ap (λ z. total f (means instances D V z e)) alike ∙ right.1 e f)
 
 pub alike_is_free : AlikeIsFree
 alike_is_free cols free root same x y alike c =

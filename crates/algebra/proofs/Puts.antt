@@ -13,7 +13,7 @@ use Rattle.query.specs.Rows.{value_at, column}
 use Rattle.query.specs.Bound.{Scope, number, names, all_differ, none_among}
 use Rattle.algebra.specs.Columns.{ColumnSet, has}
 use Rattle.algebra.specs.Bags.{Env, lay, nulls}
-use Rattle.algebra.specs.Expressions.{use_columns, use_row}
+use Rattle.algebra.specs.Expressions.{instance_columns, instance_row}
 use Rattle.algebra.proofs.Sets.{range_has}
 use Rattle.algebra.proofs.Lists.{cons-same}
 
@@ -126,7 +126,7 @@ run-put first (suc n) (v ∷ row) e c h = by (first == c) refl (run-put (first +
     by true is rest = let none : c - first ≡ 0 = omega (arith, eqb-true first c is) in ap (λ p. value_at p (v ∷ row)) none
     by false is rest = more (has (range_with_len (first + 1) n) c) refl ∙ rest
 
-pub use-put : (t : TableInstance) (row : Row) (e : Env) → length row ≡ length t.entry.columns → use_row t row e ≡ put (use_columns t) row e
+pub use-put : (t : TableInstance) (row : Row) (e : Env) → length row ≡ length t.entry.columns → instance_row t row e ≡ put (instance_columns t) row e
 use-put t row e h = pointwise (λ c. run-put t.first_column (length t.entry.columns) row e c h)
 
 -- ---- scopes

@@ -32,7 +32,7 @@ Joining = Test → ColumnSet → Bag → Bag → Bag
 abbrev KeepsBags : Joining → Type 0
 KeepsBags f = (p q : Test) (right : ColumnSet) (a b c d : Bag) → SameTest p q → SameBag a b → SameBag c d → SameBag (f p right a c) (f q right b d)
 
-module _ (uses : List TableInstance) (D : Tables) (V W : Classes) where
+module _ (instances : List TableInstance) (D : Tables) (V W : Classes) where
   child : (x : Expr) → SameInputs V W x → (g : ℕ) → has (children x) g ≡ true → IsSameIn V W g g
   child x same g in_ = same g (among-append g (children x) (classes_in (conditions x)) ∙ or_left _ _ in_)
 
@@ -58,7 +58,7 @@ module _ (uses : List TableInstance) (D : Tables) (V W : Classes) where
       (holds-among S V.rows W.rows (same-left (flat_map named_classes S) (flat_map named_classes M) V.rows W.rows all) r)
       (allows-among M V.rows W.rows (same-right (flat_map named_classes S) (flat_map named_classes M) V.rows W.rows all) r)
 
-  bag : (x : Expr) → SameInputs V W x → SameBag (means uses D V x) (means uses D W x)
+  bag : (x : Expr) → SameInputs V W x → SameBag (means instances D V x) (means instances D W x)
   bag (Get o) same = λ e f. refl
   bag (Select C x) same = select-same _ _ _ _ (holds-inputs C (Select C x) refl same) (child (Select C x) same x (has-first x [])).1
   bag (Join C a b) same =
@@ -80,7 +80,7 @@ module _ (uses : List TableInstance) (D : Tables) (V W : Classes) where
   both-columns : (K L M N : List ℕ) → K ≡ L → M ≡ N → rising (K ++ M) ≡ rising (L ++ N)
   both-columns K L M N e f = rw (e, f) refl
 
-  columns : (x : Expr) → SameInputs V W x → columns_of uses V.columns x ≡ columns_of uses W.columns x
+  columns : (x : Expr) → SameInputs V W x → columns_of instances V.columns x ≡ columns_of instances W.columns x
   columns (Get o) same = refl
   columns (Select C x) same = (child (Select C x) same x (has-first x [])).0
   columns (Join C a b) same = both-columns _ _ _ _ (child (Join C a b) same a (has-first a (b ∷ []))).0 (child (Join C a b) same b (has-second a b [])).0
@@ -92,4 +92,4 @@ module _ (uses : List TableInstance) (D : Tables) (V W : Classes) where
   columns (Group K G x) same = refl
 
 pub expressions_keep_classes : ExpressionsKeepClasses
-expressions_keep_classes uses D V W x same = (columns uses D V W x same, bag uses D V W x same)
+expressions_keep_classes instances D V W x same = (columns instances D V W x same, bag instances D V W x same)

@@ -59,13 +59,13 @@ SameInputs V W x = (g : ℕ) → has (input_classes x) g ≡ true → IsSameIn V
 
 -- over classes that are the same an expression has the same columns and the same bag
 abbrev pub ExpressionsKeepClasses : Type 0
-ExpressionsKeepClasses = (uses : List TableInstance) (D : Tables) (V W : Classes) (x : Expr) → SameInputs V W x
-    → (columns_of uses V.columns x ≡ columns_of uses W.columns x) × SameBag (means uses D V x) (means uses D W x)
+ExpressionsKeepClasses = (instances : List TableInstance) (D : Tables) (V W : Classes) (x : Expr) → SameInputs V W x
+    → (columns_of instances V.columns x ≡ columns_of instances W.columns x) × SameBag (means instances D V x) (means instances D W x)
 
 -- where classes of one root are the same, expressions that are alike have the same columns and the same bag
 abbrev pub AlikeIsSame : Type 0
-AlikeIsSame = (uses : List TableInstance) (D : Tables) (W : Classes) (root : ℕ → ℕ) → ((g h : ℕ) → root g ≡ root h → IsSameIn W W g h) → (x y : Expr) → AreAlike root x y
-    → (columns_of uses W.columns x ≡ columns_of uses W.columns y) × SameBag (means uses D W x) (means uses D W y)
+AlikeIsSame = (instances : List TableInstance) (D : Tables) (W : Classes) (root : ℕ → ℕ) → ((g h : ℕ) → root g ≡ root h → IsSameIn W W g h) → (x y : Expr) → AreAlike root x y
+    → (columns_of instances W.columns x ≡ columns_of instances W.columns y) × SameBag (means instances D W x) (means instances D W y)
 
 -- where classes of one root have the same columns and free columns, expressions that are alike have the same free columns
 abbrev pub AlikeIsFree : Type 0

@@ -11,29 +11,29 @@ use Rattle.algebra.specs.Expressions.{Classes, means, columns_of, free_of, class
 
 -- the columns of each class
 abbrev pub class_columns : List TableInstance → List Expr → ℕ → List ℕ
-class_columns uses [] g = []
-class_columns uses (x ∷ E) g = if g == length E then columns_of uses (class_columns uses E) x else class_columns uses E g
+class_columns instances [] g = []
+class_columns instances (x ∷ E) g = if g == length E then columns_of instances (class_columns instances E) x else class_columns instances E g
 
 -- the free columns of each class
 abbrev pub class_free : List TableInstance → List Expr → ℕ → ColumnSet
-class_free uses [] g c = false
-class_free uses (x ∷ E) g c = if g == length E then free_of (class_columns uses E) (class_free uses E) x c else class_free uses E g c
+class_free instances [] g c = false
+class_free instances (x ∷ E) g c = if g == length E then free_of (class_columns instances E) (class_free instances E) x c else class_free instances E g c
 
 -- the rows of each class: those of its founding expression over the classes before it
 abbrev pub class_rows : List TableInstance → Tables → List Expr → ℕ → Bag
-class_rows uses D [] g e = []
-class_rows uses D (x ∷ E) g e =
-    if g == length E then means uses D (record { rows = class_rows uses D E; columns = class_columns uses E; free = class_free uses E }) x e
-    else class_rows uses D E g e
+class_rows instances D [] g e = []
+class_rows instances D (x ∷ E) g e =
+    if g == length E then means instances D (record { rows = class_rows instances D E; columns = class_columns instances E; free = class_free instances E }) x e
+    else class_rows instances D E g e
 
 abbrev pub classes : List TableInstance → Tables → List Expr → Classes
-classes uses D E = record { rows = class_rows uses D E; columns = class_columns uses E; free = class_free uses E }
+classes instances D E = record { rows = class_rows instances D E; columns = class_columns instances E; free = class_free instances E }
 
 -- the rows of the class that the last of the expressions founds, in their order
 abbrev pub root_rows : List TableInstance → Tables → List Expr → Bag
-root_rows uses D lines = class_rows uses D (reverse lines) (length lines - 1)
+root_rows instances D lines = class_rows instances D (reverse lines) (length lines - 1)
 
 -- each expression names earlier classes alone, and is well formed over their columns, where these aggregates are the query's own
 abbrev pub AreFormed : List TableInstance → List Aggregation → List Expr → Type 0
-AreFormed uses own [] = Unit {0}
-AreFormed uses own (x ∷ E) = (classes_pass (λ g. nat_lt g (length E)) x ≡ true) × (is_formed uses own (class_columns uses E) x ≡ true) × AreFormed uses own E
+AreFormed instances own [] = Unit {0}
+AreFormed instances own (x ∷ E) = (classes_pass (λ g. nat_lt g (length E)) x ≡ true) × (is_formed instances own (class_columns instances E) x ≡ true) × AreFormed instances own E

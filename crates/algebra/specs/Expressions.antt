@@ -51,24 +51,24 @@ conditions (Group K G x) = []
 -- ---- table instances
 
 -- the columns of a table instance
-abbrev pub use_columns : TableInstance → List ℕ
-use_columns t = range_with_len t.first_column (length t.entry.columns)
+abbrev pub instance_columns : TableInstance → List ℕ
+instance_columns t = range_with_len t.first_column (length t.entry.columns)
 
--- a row of the occurrence in an environment
-abbrev pub use_row : TableInstance → Row → Env → Env
-use_row t row e = lay (has (use_columns t)) (λ c. value_at (c - t.first_column) row) e
+-- a row of the instance in an environment
+abbrev pub instance_row : TableInstance → Row → Env → Env
+instance_row t row e = lay (has (instance_columns t)) (λ c. value_at (c - t.first_column) row) e
 
--- the rows of the occurrence
-abbrev pub use_rows : TableInstance → Tables → Bag
-use_rows t D e = map (λ row. use_row t row e) (D.rows t.table)
+-- the rows of the instance
+abbrev pub instance_rows : TableInstance → Tables → Bag
+instance_rows t D e = map (λ row. instance_row t row e) (D.rows t.table)
 
 abbrev pub get_rows : Option TableInstance → Tables → Bag
 get_rows None D e = []
-get_rows (Some t) D e = use_rows t D e
+get_rows (Some t) D e = instance_rows t D e
 
 abbrev pub get_columns : Option TableInstance → List ℕ
 get_columns None = []
-get_columns (Some t) = use_columns t
+get_columns (Some t) = instance_columns t
 
 -- ---- aggregates
 
@@ -91,26 +91,26 @@ aggregate_columns added = map (λ a. a.column) added
 -- ---- what an expression means, its columns and its free columns, given the classes that it names
 
 abbrev pub means : List TableInstance → Tables → Classes → Expr → Bag
-means uses D W (Get o) = get_rows (slice_get uses o) D
-means uses D W (Select C x) = select (holds W.rows C) (W.rows x)
-means uses D W (Join C a b) = join (holds W.rows C) (has (W.columns b)) (W.rows a) (W.rows b)
-means uses D W (LeftJoin C a b) = left_join (holds W.rows C) (has (W.columns b)) (W.rows a) (W.rows b)
-means uses D W (Semi C a b) = semi (holds W.rows C) (has (W.columns b)) (W.rows a) (W.rows b)
-means uses D W (Anti S M a b) = anti (λ r. holds W.rows S r && allows W.rows M r) (has (W.columns b)) (W.rows a) (W.rows b)
-means uses D W (Keep K x) = keep (has K) (W.rows x)
-means uses D W (Distinct x) = distinct (W.columns x) (W.rows x)
-means uses D W (Group K G x) = group K (with_aggregates G) (W.rows x)
+means instances D W (Get o) = get_rows (slice_get instances o) D
+means instances D W (Select C x) = select (holds W.rows C) (W.rows x)
+means instances D W (Join C a b) = join (holds W.rows C) (has (W.columns b)) (W.rows a) (W.rows b)
+means instances D W (LeftJoin C a b) = left_join (holds W.rows C) (has (W.columns b)) (W.rows a) (W.rows b)
+means instances D W (Semi C a b) = semi (holds W.rows C) (has (W.columns b)) (W.rows a) (W.rows b)
+means instances D W (Anti S M a b) = anti (λ r. holds W.rows S r && allows W.rows M r) (has (W.columns b)) (W.rows a) (W.rows b)
+means instances D W (Keep K x) = keep (has K) (W.rows x)
+means instances D W (Distinct x) = distinct (W.columns x) (W.rows x)
+means instances D W (Group K G x) = group K (with_aggregates G) (W.rows x)
 
 abbrev pub columns_of : List TableInstance → (ℕ → List ℕ) → Expr → List ℕ
-columns_of uses cols (Get o) = get_columns (slice_get uses o)
-columns_of uses cols (Select C x) = cols x
-columns_of uses cols (Join C a b) = rising (cols a ++ cols b)
-columns_of uses cols (LeftJoin C a b) = rising (cols a ++ cols b)
-columns_of uses cols (Semi C a b) = cols a
-columns_of uses cols (Anti S M a b) = cols a
-columns_of uses cols (Keep K x) = K
-columns_of uses cols (Distinct x) = cols x
-columns_of uses cols (Group K G x) = rising (K ++ aggregate_columns G)
+columns_of instances cols (Get o) = get_columns (slice_get instances o)
+columns_of instances cols (Select C x) = cols x
+columns_of instances cols (Join C a b) = rising (cols a ++ cols b)
+columns_of instances cols (LeftJoin C a b) = rising (cols a ++ cols b)
+columns_of instances cols (Semi C a b) = cols a
+columns_of instances cols (Anti S M a b) = cols a
+columns_of instances cols (Keep K x) = K
+columns_of instances cols (Distinct x) = cols x
+columns_of instances cols (Group K G x) = rising (K ++ aggregate_columns G)
 
 -- the columns that conditions read
 abbrev pub mentioned : (ℕ → List ℕ) → (ℕ → ColumnSet) → List Condition → ColumnSet
@@ -136,10 +136,10 @@ input_classes x = children x ++ classes_in (conditions x)
 
 -- a column of the query: of a table instance, or of an aggregate of its own
 abbrev pub is_query_column : List TableInstance → List Aggregation → ColumnSet
-is_query_column uses own c = list_any (λ t. has (use_columns t) c) uses || list_any (λ a. a.column == c) own
+is_query_column instances own c = list_any (λ t. has (instance_columns t) c) instances || list_any (λ a. a.column == c) own
 
 abbrev pub names_own : List TableInstance → List Aggregation → List Condition → Bool
-names_own uses own C = list_all (λ d. all_columns d (is_query_column uses own)) C
+names_own instances own C = list_all (λ d. all_columns d (is_query_column instances own)) C
 
 -- the conditions name no class
 abbrev pub is_plain : List Condition → Bool
@@ -159,16 +159,16 @@ aggregation_formed own columns a = list_any (same_aggregation a) own && is_subse
 
 -- what the operator itself asks, over classes with these columns, in a query with these table instances and aggregates
 abbrev pub operator_formed : List TableInstance → List Aggregation → (ℕ → List ℕ) → Expr → Bool
-operator_formed uses own cols (Get o) = nat_lt o (length uses)
-operator_formed uses own cols (Select C x) = true
-operator_formed uses own cols (Join C a b) = sides_formed C (cols a) (cols b)
-operator_formed uses own cols (LeftJoin C a b) = sides_formed C (cols a) (cols b)
-operator_formed uses own cols (Semi C a b) = sides_formed C (cols a) (cols b)
-operator_formed uses own cols (Anti S M a b) = sides_formed (S ++ M) (cols a) (cols b)
-operator_formed uses own cols (Keep K x) = is_subset K (cols x)
-operator_formed uses own cols (Distinct x) = true
-operator_formed uses own cols (Group K G x) = is_subset K (cols x) && are_different (aggregate_columns G) && list_all (aggregation_formed own (cols x)) G
+operator_formed instances own cols (Get o) = nat_lt o (length instances)
+operator_formed instances own cols (Select C x) = true
+operator_formed instances own cols (Join C a b) = sides_formed C (cols a) (cols b)
+operator_formed instances own cols (LeftJoin C a b) = sides_formed C (cols a) (cols b)
+operator_formed instances own cols (Semi C a b) = sides_formed C (cols a) (cols b)
+operator_formed instances own cols (Anti S M a b) = sides_formed (S ++ M) (cols a) (cols b)
+operator_formed instances own cols (Keep K x) = is_subset K (cols x)
+operator_formed instances own cols (Distinct x) = true
+operator_formed instances own cols (Group K G x) = is_subset K (cols x) && are_different (aggregate_columns G) && list_all (aggregation_formed own (cols x)) G
 
 -- whether the expression is well formed: its conditions name columns of the query, and it is as its operator asks
 abbrev pub is_formed : List TableInstance → List Aggregation → (ℕ → List ℕ) → Expr → Bool
-is_formed uses own cols x = names_own uses own (conditions x) && operator_formed uses own cols x
+is_formed instances own cols x = names_own instances own (conditions x) && operator_formed instances own cols x

@@ -4,12 +4,12 @@ use Rattle.std.specs.List.{list_any, list_all}
 use Rattle.query.specs.declared.query.TableInstance.{TableInstance}
 use Rattle.algebra.specs.declared.expr.Aggregation.{Aggregation}
 use Rattle.algebra.specs.Columns.{ColumnSet, has}
-use Rattle.algebra.specs.Expressions.{use_columns, aggregate_reads}
+use Rattle.algebra.specs.Expressions.{instance_columns, aggregate_reads}
 
 -- whether a column is one of a table instance. Each value there is one of a table or Null, whatever operator gives it, where the
 -- values that aggregates make stand in other columns.
 abbrev pub is_table_column : List TableInstance → ColumnSet
-is_table_column uses c = list_any (λ t. has (use_columns t) c) uses
+is_table_column instances c = list_any (λ t. has (instance_columns t) c) instances
 
 -- an aggregate reads such columns alone, and stands in none
 abbrev pub is_apart : ColumnSet → Aggregation → Bool

@@ -7,7 +7,7 @@ ghost use Rattle.algebra.specs.Expressions.{children, conditions};
 use crate::aggregations::Aggregations;
 use crate::columns::Columns;
 use crate::condition::{ClassId, Condition, Conjuncts};
-use query::{Aggregate, ColumnId, OccurrenceId};
+use query::{Aggregate, ColumnId, InstanceId};
 
 /// An aggregate in a column of its own. Here the aggregate names the column that it reads by its number.
 #[derive(Clone, Copy, PartialEq, Eq)]
@@ -21,7 +21,7 @@ pub struct Aggregation {
 #[derive(Drop)]
 pub enum Expr {
     /// The rows of a table instance.
-    Get(OccurrenceId),
+    Get(InstanceId),
     /// The rows that make all conjuncts true.
     Select(Conjuncts, ClassId),
     /// The pairs that make all conjuncts true.
@@ -31,7 +31,7 @@ pub enum Expr {
     /// The left rows for which some right row makes all conjuncts true.
     Semi(Conjuncts, ClassId, ClassId),
     /// The left rows for which no right row makes all of the first true and none of the second false:
-    /// `Anti(sure, maybe, left, right)`.
+    /// `Anti(ordinary, null_aware, left, right)`.
     Anti(Conjuncts, Conjuncts, ClassId, ClassId),
     /// The rows projected to the columns, as many as they were.
     Keep(Columns, ClassId),
@@ -67,7 +67,7 @@ impl Expr {
             | Expr::Join(c, _, _)
             | Expr::LeftJoin(c, _, _)
             | Expr::Semi(c, _, _) => (c.as_slice(), &[]),
-            Expr::Anti(sure, maybe, _, _) => (sure.as_slice(), maybe.as_slice()),
+            Expr::Anti(ordinary, null_aware, _, _) => (ordinary.as_slice(), null_aware.as_slice()),
             Expr::Get(_) | Expr::Keep(_, _) | Expr::Distinct(_) | Expr::Group(_, _, _) => (
                 &[],
                 &[],

@@ -17,24 +17,24 @@ use std::alloc::{AllocError, Global};
 /// Whether the column is one of a table instance.
 #[tactic(auto, using(crate::proofs::Sets::range_has))]
 fn is_in_table(table: &TableInstance, column: ColumnId) -> bool
-    ensures { result ≡ has (spec.use_columns table.now) column }
+    ensures { result ≡ has (spec.instance_columns table.now) column }
 {
     table.first_column <= column
         && ((column - table.first_column) as usize) < table.entry.columns.len()
 }
 
 /// Whether the column is one of the query's: of a table instance, or of an aggregate of its own.
-fn is_query_column(uses: &[TableInstance], own: &[Aggregation], column: ColumnId) -> bool
-    ensures { result ≡ spec.is_query_column uses.now own.now column }
+fn is_query_column(instances: &[TableInstance], own: &[Aggregation], column: ColumnId) -> bool
+    ensures { result ≡ spec.is_query_column instances.now own.now column }
 {
-    is_in_tables(uses, column) || is_added(own, column)
+    is_in_tables(instances, column) || is_added(own, column)
 }
 
 /// Whether the column is one of a table instance of the list.
-fn is_in_tables(uses: &[TableInstance], column: ColumnId) -> bool
-    ensures { result ≡ list_any (λ t. has (spec.use_columns t) column) uses.now }
+fn is_in_tables(instances: &[TableInstance], column: ColumnId) -> bool
+    ensures { result ≡ list_any (λ t. has (spec.instance_columns t) column) instances.now }
 {
-    uses.iter().any(|t| is_in_table(t, column))
+    instances.iter().any(|t| is_in_table(t, column))
 }
 
 /// Whether the column is that of an aggregate of the list.
@@ -45,11 +45,11 @@ fn is_added(added: &[Aggregation], column: ColumnId) -> bool
 }
 
 /// Whether the column of a term, if it has one, is one of the query's.
-fn term_names_own(term: &Term, uses: &[TableInstance], own: &[Aggregation]) -> bool
-    ensures { result ≡ reads.term_passes (spec.is_query_column uses.now own.now) term.now }
+fn term_names_own(term: &Term, instances: &[TableInstance], own: &[Aggregation]) -> bool
+    ensures { result ≡ reads.term_passes (spec.is_query_column instances.now own.now) term.now }
 {
     match term {
-        Term::Column(k) => is_query_column(uses, own, *k),
+        Term::Column(k) => is_query_column(instances, own, *k),
         Term::Literal(_) => true,
     }
 }
@@ -57,36 +57,38 @@ fn term_names_own(term: &Term, uses: &[TableInstance], own: &[Aggregation]) -> b
 /// Whether each column that a condition names is one of the query's.
 #[cycle(own)]
 #[tactic(auto, using(crate::proofs::Equations::all_columns_and, crate::proofs::Equations::all_columns_or), unfolding(crate::specs::Conditions::all_columns))]
-fn names_own(condition: &Condition, uses: &[TableInstance], own: &[Aggregation]) -> bool
-    ensures { result ≡ reads.all_columns condition.now (spec.is_query_column uses.now own.now) }
+fn names_own(condition: &Condition, instances: &[TableInstance], own: &[Aggregation]) -> bool
+    ensures { result ≡ reads.all_columns condition.now (spec.is_query_column instances.now own.now) }
 {
     match condition {
-        Condition::Compare(_, a, b) => term_names_own(a, uses, own) && term_names_own(b, uses, own),
-        Condition::IsNull(a) => term_names_own(a, uses, own),
-        Condition::Not(c) => names_own(c.get(), uses, own),
+        Condition::Compare(_, a, b) => term_names_own(a, instances, own)
+            && term_names_own(b, instances, own),
+        Condition::IsNull(a) => term_names_own(a, instances, own),
+        Condition::Not(c) => names_own(c.get(), instances, own),
         Condition::And(a, b, cs) => {
-            let first = names_own(a.get(), uses, own);
-            let second = names_own(b.get(), uses, own);
-            let more = all_name_own(cs.as_slice(), uses, own);
+            let first = names_own(a.get(), instances, own);
+            let second = names_own(b.get(), instances, own);
+            let more = all_name_own(cs.as_slice(), instances, own);
             first && (second && more)
         }
         Condition::Or(a, b, cs) => {
-            let first = names_own(a.get(), uses, own);
-            let second = names_own(b.get(), uses, own);
-            let more = all_name_own(cs.as_slice(), uses, own);
+            let first = names_own(a.get(), instances, own);
+            let second = names_own(b.get(), instances, own);
+            let more = all_name_own(cs.as_slice(), instances, own);
             first && (second && more)
         }
         Condition::Exists(_) => true,
-        Condition::In(a, _, k) => term_names_own(a, uses, own) && is_query_column(uses, own, *k),
+        Condition::In(a, _, k) => term_names_own(a, instances, own)
+            && is_query_column(instances, own, *k),
     }
 }
 
 #[cycle(own)]
-fn all_name_own(conditions: &[Condition], uses: &[TableInstance], own: &[Aggregation]) -> bool
-    ensures { result ≡ spec.names_own uses.now own.now conditions.now }
+fn all_name_own(conditions: &[Condition], instances: &[TableInstance], own: &[Aggregation]) -> bool
+    ensures { result ≡ spec.names_own instances.now own.now conditions.now }
 {
     for condition in conditions {
-        if !names_own(condition, uses, own) {
+        if !names_own(condition, instances, own) {
             return false;
         }
     }
@@ -159,39 +161,39 @@ impl Expr {
     /// those of the classes, by their numbers.
     pub fn is_formed(
         &self,
-        uses: &[TableInstance],
+        instances: &[TableInstance],
         own: &[Aggregation],
         columns: &[Columns],
     ) -> bool
         requires { spec.classes_pass (λ g. nat_lt g (length columns.now)) self.now ≡ true }
-        ensures { result ≡ spec.is_formed uses.now own.now (columns_at columns.now) self.now }
+        ensures { result ≡ spec.is_formed instances.now own.now (columns_at columns.now) self.now }
     {
         let (first, second) = self.conditions();
-        all_name_own(first, uses, own)
-            && all_name_own(second, uses, own)
-            && self.operator_formed(uses, own, columns)
+        all_name_own(first, instances, own)
+            && all_name_own(second, instances, own)
+            && self.operator_formed(instances, own, columns)
     }
 
     /// Whether the expression is as its operator asks.
     fn operator_formed(
         &self,
-        uses: &[TableInstance],
+        instances: &[TableInstance],
         own: &[Aggregation],
         columns: &[Columns],
     ) -> bool
         requires { spec.classes_pass (λ g. nat_lt g (length columns.now)) self.now ≡ true }
-        ensures { result ≡ spec.operator_formed uses.now own.now (columns_at columns.now) self.now }
+        ensures { result ≡ spec.operator_formed instances.now own.now (columns_at columns.now) self.now }
     {
         match self {
-            Expr::Get(o) => (*o as usize) < uses.len(),
+            Expr::Get(o) => (*o as usize) < instances.len(),
             Expr::Select(_, _) | Expr::Distinct(_) => true,
             Expr::Join(c, a, b) | Expr::LeftJoin(c, a, b) | Expr::Semi(c, a, b) => {
                 c.is_plain()
                     && are_disjoint_from(columns[*a as usize].as_slice(), &columns[*b as usize])
             }
-            Expr::Anti(sure, maybe, a, b) => {
-                sure.is_plain()
-                    && maybe.is_plain()
+            Expr::Anti(ordinary, null_aware, a, b) => {
+                ordinary.is_plain()
+                    && null_aware.is_plain()
                     && are_disjoint_from(columns[*a as usize].as_slice(), &columns[*b as usize])
             }
             Expr::Keep(k, x) => is_subset_of(k.as_slice(), &columns[*x as usize]),
@@ -206,14 +208,14 @@ impl Expr {
     pub fn columns(
         &self,
         alloc: Global,
-        uses: &[TableInstance],
+        instances: &[TableInstance],
         columns: &[Columns],
     ) -> Result<Columns, AllocError>
         requires { spec.classes_pass (λ g. nat_lt g (length columns.now)) self.now ≡ true }
-        ensures { IfOk result (λ c. c ≡ spec.columns_of uses.now (columns_at columns.now) self.now) }
+        ensures { IfOk result (λ c. c ≡ spec.columns_of instances.now (columns_at columns.now) self.now) }
     {
         match self {
-            Expr::Get(o) => Columns::of_occurrence(alloc, uses, *o),
+            Expr::Get(o) => Columns::of_instance(alloc, instances, *o),
             Expr::Join(_, a, b) | Expr::LeftJoin(_, a, b) => columns[*a as usize].union(
                 alloc,
                 &columns[*b as usize],

@@ -6,19 +6,19 @@ ghost use Rattle.algebra.specs.Expressions as spec;
 
 use crate::columns::Columns;
 use crate::expr::Aggregation;
-use query::{OccurrenceId, TableInstance};
+use query::{InstanceId, TableInstance};
 use std::alloc::{AllocError, Global};
 
 impl Columns {
-    /// The columns of a table instance of the list; none where the list has no occurrence of this number.
-    pub fn of_occurrence(
+    /// The columns of a table instance of the list; none where the list has no instance of this number.
+    pub fn of_instance(
         alloc: Global,
-        uses: &[TableInstance],
-        occurrence: OccurrenceId,
+        instances: &[TableInstance],
+        instance: InstanceId,
     ) -> Result<Columns, AllocError>
-        ensures { IfOk result (λ columns. columns ≡ spec.get_columns (slice_get uses.now occurrence)) }
+        ensures { IfOk result (λ columns. columns ≡ spec.get_columns (slice_get instances.now instance)) }
     {
-        match uses.get(occurrence as usize) {
+        match instances.get(instance as usize) {
             Some(table) => Columns::run(alloc, table.first_column, table.entry.columns.len()),
             None => Columns::run(alloc, 0, 0),
         }

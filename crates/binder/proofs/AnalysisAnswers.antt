@@ -23,7 +23,7 @@ use Rattle.binder.specs.Numbers.{enter, with_aggregates}
 use Rattle.binder.specs.Outputs.{aggregates, is_grouped, key_in, outputs_in}
 use Rattle.binder.specs.Scopes.{Scope, Scopes}
 use Rattle.binder.specs.Selects.{FromSoFar, condition_in, join_in, chain_in, select_in, comparison_in, membership_in, term_in, all_in, joined, through, commas, from_in, filter_in, block_of}
-use Rattle.binder.specs.Parts.{term_faults, the_term, known, table_faults, the_occurrence, key_faults, the_key, list_faults, shown}
+use Rattle.binder.specs.Parts.{term_faults, the_term, known, table_faults, the_reference, key_faults, the_key, list_faults, shown}
 use Rattle.binder.specs.Analyses.{Before, Content, behind, nothing, both, all_contents, ConditionAnalysis, JoinAnalysis, ChainAnalysis, SelectAnalysis, all_become, one_table, joins_faults, joins_become, chain_layer, chains_faults, commas_become, from_faults, from_becomes, from_content, filter_content, filter_faults, filter_becomes, scope_of_from, select_layer, condition_analysis, join_analysis, chain_analysis, select_analysis}
 use Rattle.binder.proofs.PartAnswers.{answer, then-answer, made-answer, each-answer, term-answer, comparison-answer, membership-answer, key-answer, list-answer, shown-kinds, numbered, enter-answer}
 use Rattle.binder.proofs.SelectParts.{compared, null_tested, negated, conjoined, disjoined, existing, contained, join_at, chain_at, select_at}
@@ -141,11 +141,11 @@ module _ (S : Schema) where
       let right : Scope = chain ++ known S t ∷ [] in
       let inside : Before = behind b (one_table S t) in
       join_at S j outer others (left, chain, state b) (out-Join j).condition refl
-      ∙ then-answer (enter S others chain t (state b)) (table_faults S (others ++ chain) t) (the_occurrence S b.tables t, right, numbered S (b.tables ++ t ∷ []) b.aggregates) _ _ _ (enter-answer S others chain t b.tables b.aggregates)
-      (ap (λ k. condition_in S (out-Join j).condition (right ∷ outer) (numbered S (b.tables ++ t ∷ []) k) >>= λ on. Ok (joined (out-Join j).kind left (the_occurrence S b.tables t) on.0, right, on.1)) (plus-nothing b.aggregates)
+      ∙ then-answer (enter S others chain t (state b)) (table_faults S (others ++ chain) t) (the_reference S b.tables t, right, numbered S (b.tables ++ t ∷ []) b.aggregates) _ _ _ (enter-answer S others chain t b.tables b.aggregates)
+      (ap (λ k. condition_in S (out-Join j).condition (right ∷ outer) (numbered S (b.tables ++ t ∷ []) k) >>= λ on. Ok (joined (out-Join j).kind left (the_reference S b.tables t) on.0, right, on.1)) (plus-nothing b.aggregates)
       ∙ made-answer (condition_in S (out-Join j).condition (right ∷ outer) (state inside)) (on.faults (right ∷ outer)) (on.becomes (right ∷ outer) inside, state (behind inside on.content))
-      (λ on. (joined (out-Join j).kind left (the_occurrence S b.tables t) on.0, right, on.1)) (is (right ∷ outer) inside)
-      ∙ ap (λ (m : Before). answer (on.faults (right ∷ outer)) (joined (out-Join j).kind left (the_occurrence S b.tables t) (on.becomes (right ∷ outer) inside), right, state m)) (behind-both b (one_table S t) on.content)))
+      (λ on. (joined (out-Join j).kind left (the_reference S b.tables t) on.0, right, on.1)) (is (right ∷ outer) inside)
+      ∙ ap (λ (m : Before). answer (on.faults (right ∷ outer)) (joined (out-Join j).kind left (the_reference S b.tables t) (on.becomes (right ∷ outer) inside), right, state m)) (behind-both b (one_table S t) on.content)))
     where
       plus-nothing : (n : ℕ) → n ≡ n + 0
       plus-nothing n = omega arith
@@ -178,14 +178,14 @@ module _ (S : Schema) where
       let t = (out-Chain c).table in
       let analyses = map (join_analysis S) (joins_of joins) in
       let inside : Before = behind b (one_table S t) in
-      let left : From = from.Table (the_occurrence S b.tables t) in
+      let left : From = from.Table (the_reference S b.tables t) in
       let found : FromSoFar = (
         joins_become S outer (known S t ∷ []) inside left analyses,
         known S t ∷ map (λ j. known S j.table) analyses,
         state (behind b (both (one_table S t) (all_contents (map (λ j. j.content) analyses)))),
       ) in
       chain_at S c outer others (state b) [] (joins_of joins) refl same
-      ∙ then-answer (enter S others [] t (state b)) (table_faults S (others ++ []) t) (the_occurrence S b.tables t, known S t ∷ [], numbered S (b.tables ++ t ∷ []) b.aggregates) _ _ _ (enter-answer S others [] t b.tables b.aggregates)
+      ∙ then-answer (enter S others [] t (state b)) (table_faults S (others ++ []) t) (the_reference S b.tables t, known S t ∷ [], numbered S (b.tables ++ t ∷ []) b.aggregates) _ _ _ (enter-answer S others [] t b.tables b.aggregates)
       (ap (λ k. through (map (join_in S) (joins_of joins)) outer others (left, known S t ∷ [], numbered S (b.tables ++ t ∷ []) k)) (plus-nothing b.aggregates)
       ∙ through-answer joins outer others (known S t ∷ []) inside left
       ∙ ap (λ (m : Before). answer (joins_faults S outer others (known S t ∷ []) analyses) (joins_become S outer (known S t ∷ []) inside left analyses, known S t ∷ map (λ j. known S j.table) analyses, state m)) (behind-both b (one_table S t) (all_contents (map (λ j. j.content) analyses))))

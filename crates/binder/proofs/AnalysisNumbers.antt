@@ -14,13 +14,13 @@ use Rattle.sql_parse.specs.declared.statement.TableName.{TableName}
 use Rattle.query.specs.declared.query.Cond.{Cond}
 use Rattle.query.specs.declared.query.From.{From}
 use Rattle.query.specs.declared.query.Item.{Item}
-use Rattle.query.specs.declared.query.Occurrence.{Occurrence}
+use Rattle.query.specs.declared.query.TableReference.{TableReference}
 use Rattle.query.specs.Bound.{aggregate_numbers}
 use Rattle.binder.specs.Meanings.{columns_of}
 use Rattle.binder.specs.Outputs.{aggregates, columns_from, is_aggregate, is_call}
 use Rattle.binder.specs.Scopes.{Scope, Scopes}
 use Rattle.binder.specs.Selects.{joined}
-use Rattle.binder.specs.Parts.{the_item, the_occurrence, the_outputs, shown}
+use Rattle.binder.specs.Parts.{the_item, the_reference, the_outputs, shown}
 use Rattle.binder.specs.Analyses.{Before, Content, behind, both}
 use Rattle.binder.specs.TextNumbers.{Listing, no_listing, one_listing, both_listings, cond_listing, from_listing}
 use Rattle.binder.proofs.PartAnswers.{star-columns}
@@ -44,39 +44,39 @@ range-append n (suc a) b =
 
 -- ---- listed
 
-abbrev listing_of : List Occurrence → List ℕ → Listing
-listing_of os ns = record { occurrences = os; aggregates = ns }
+abbrev listing_of : List TableReference → List ℕ → Listing
+listing_of os ns = record { references = os; aggregates = ns }
 
-listing-is : (os ps : List Occurrence) (ms ns : List ℕ) → os ≡ ps → ms ≡ ns → listing_of os ms ≡ listing_of ps ns
+listing-is : (os ps : List TableReference) (ms ns : List ℕ) → os ≡ ps → ms ≡ ns → listing_of os ms ≡ listing_of ps ns
 listing-is os ps ms ns same also = ap (λ x. listing_of x ms) same ∙ ap (λ x. listing_of ps x) also
 
 pub both-assoc : (a b c : Listing) → both_listings (both_listings a b) c ≡ both_listings a (both_listings b c)
-both-assoc a b c = listing-is _ _ _ _ (append_assoc a.occurrences b.occurrences c.occurrences) (append_assoc a.aggregates b.aggregates c.aggregates)
+both-assoc a b c = listing-is _ _ _ _ (append_assoc a.references b.references c.references) (append_assoc a.aggregates b.aggregates c.aggregates)
 
 pub both-none : (a : Listing) → both_listings a no_listing ≡ a
-both-none a = listing-is _ _ _ _ (append-nil a.occurrences) (append-nil a.aggregates)
+both-none a = listing-is _ _ _ _ (append-nil a.references) (append-nil a.aggregates)
 
-pub listing-joined : (k : JoinKind) (f : From) (o : Occurrence) (on : Cond) → from_listing (joined k f o on) ≡ both_listings (from_listing f) (both_listings (one_listing o) (cond_listing on))
+pub listing-joined : (k : JoinKind) (f : From) (o : TableReference) (on : Cond) → from_listing (joined k f o on) ≡ both_listings (from_listing f) (both_listings (one_listing o) (cond_listing on))
 listing-joined by.Inner f o on = listing-Join f o on
 listing-joined by.Left f o on = listing-LeftJoin f o on
 
 module _ (S : Schema) where
-  abbrev pub occurrences_behind : List TableName → List TableName → List Occurrence
-  occurrences_behind before [] = []
-  occurrences_behind before (t ∷ ts) = the_occurrence S before t ∷ occurrences_behind (before ++ t ∷ []) ts
+  abbrev pub references_behind : List TableName → List TableName → List TableReference
+  references_behind before [] = []
+  references_behind before (t ∷ ts) = the_reference S before t ∷ references_behind (before ++ t ∷ []) ts
 
-  occurrences-append : (before xs ys : List TableName) → occurrences_behind before (xs ++ ys) ≡ occurrences_behind before xs ++ occurrences_behind (before ++ xs) ys
-  occurrences-append before [] ys = ap (λ b. occurrences_behind b ys) (sym (append-nil before))
-  occurrences-append before (t ∷ xs) ys =
-      ap (λ os. the_occurrence S before t ∷ os) (occurrences-append (before ++ t ∷ []) xs ys
-      ∙ ap (λ b. occurrences_behind (before ++ t ∷ []) xs ++ occurrences_behind b ys) (append_assoc before (t ∷ []) xs))
+  references-append : (before xs ys : List TableName) → references_behind before (xs ++ ys) ≡ references_behind before xs ++ references_behind (before ++ xs) ys
+  references-append before [] ys = ap (λ b. references_behind b ys) (sym (append-nil before))
+  references-append before (t ∷ xs) ys =
+      ap (λ os. the_reference S before t ∷ os) (references-append (before ++ t ∷ []) xs ys
+      ∙ ap (λ b. references_behind (before ++ t ∷ []) xs ++ references_behind b ys) (append_assoc before (t ∷ []) xs))
 
   -- what is listed of such a part
   abbrev pub of_content : Before → Content → Listing
-  of_content b c = record { occurrences = occurrences_behind b.tables c.tables; aggregates = range_with_len b.aggregates c.aggregates }
+  of_content b c = record { references = references_behind b.tables c.tables; aggregates = range_with_len b.aggregates c.aggregates }
 
   pub both-listed : (b : Before) (c d : Content) → both_listings (of_content b c) (of_content (behind b c) d) ≡ of_content b (both c d)
-  both-listed b c d = listing-is _ _ _ _ (sym (occurrences-append b.tables c.tables d.tables)) (sym (range-append b.aggregates c.aggregates d.aggregates))
+  both-listed b c d = listing-is _ _ _ _ (sym (references-append b.tables c.tables d.tables)) (sym (range-append b.aggregates c.aggregates d.aggregates))
 
 -- ---- items
 

@@ -48,21 +48,21 @@ numbers-new a b c d scopes rows xs ys fits columns others le =
     and_from _ _ (apart a b c d xs ys others columns le)
     (new-among a scopes rows (xs ++ ys) fits (λ row below. none-among-append xs ys row (none-among c d a xs row others below (omega (arith, bounds, le))) (none-among a b a ys row columns below (omega arith))))
 
-module _ (S : Schema) (uses : List TableInstance) (T : ℕ) where
+module _ (S : Schema) (instances : List TableInstance) (T : ℕ) where
   -- ---- WHERE
 
   pub record FilterIs (more : ℕ) (ons : Bool) (scopes : Scopes) (n : Numbered) (o : Option CondScope) (m : Numbered) : Type 0 where
     pub grown : Grown S n m more
-    pub bound : ons ≡ true → Within uses T n m → (rows : numbers.Scope) → Around n.next_column scopes rows → bound_filter o rows ≡ true
+    pub bound : ons ≡ true → Within instances T n m → (rows : numbers.Scope) → Around n.next_column scopes rows → bound_filter o rows ≡ true
 
-  abbrev pub filter_of : Option (ProvedCondition S uses T) → Option Condition
+  abbrev pub filter_of : Option (ProvedCondition S instances T) → Option Condition
   filter_of None = None
   filter_of (Some c) = Some c.0
 
   abbrev FilterGiven : Option Condition → Scopes → Numbered → Option Cond × Numbered → Type 0
-  FilterGiven o scopes n r = FilterIs (of_filter (option_map (of_condition S) o)).columns (filter_ons (option_map plainness o)) scopes n (option_map (cond_scope uses) r.0) r.1
+  FilterGiven o scopes n r = FilterIs (of_filter (option_map (of_condition S) o)).columns (filter_ons (option_map plainness o)) scopes n (option_map (cond_scope instances) r.0) r.1
 
-  filter-bound : (w : Option (ProvedCondition S uses T)) (scopes : Scopes) (n : Numbered) → Given (FilterGiven (filter_of w) scopes n) (filter_in (option_map (condition_in S) (filter_of w)) scopes n)
+  filter-bound : (w : Option (ProvedCondition S instances T)) (scopes : Scopes) (n : Numbered) → Given (FilterGiven (filter_of w) scopes n) (filter_in (option_map (condition_in S) (filter_of w)) scopes n)
   filter-bound None scopes n = record { grown = grown-none S n; bound = λ ons within rows fits. refl }
   filter-bound (Some c) scopes n = and-then _ (FilterGiven (Some c.0) scopes n) (condition_in S c.0 scopes n) _ (c.1 scopes n) (λ r is. record { grown = is.grown; bound = is.bound })
 
@@ -83,19 +83,19 @@ module _ (S : Schema) (uses : List TableInstance) (T : ℕ) where
     abbrev ShownAre : Type 0
     ShownAre = (b : ℕ) (row : List ℕ) (rows : numbers.Scope) (fits : Around b (sources.1 ∷ outer) (row ∷ rows)) → OutputsAre b sources.1 outer row rows fits (is_grouped keys l) keys n.next_aggregate (aggregates l) outputs
 
-    select-is : (x y : ℕ) (ons others : Bool) → FromIs S uses T x ons outer (with_aggregates n (aggregates l)) (from_scope uses sources.0) sources.1 sources.2
-        → FilterIs y others (sources.1 ∷ outer) sources.2 (option_map (cond_scope uses) filter.0) filter.1 → KeysAre → ShownAre
-        → SelectIs S uses T (x + y) (ons && others) outer n (block_scope uses (block_of distinct sources.0 filter.0 (is_grouped keys l) keys outputs)) outputs filter.1
+    select-is : (x y : ℕ) (ons others : Bool) → FromIs S instances T x ons outer (with_aggregates n (aggregates l)) (from_scope instances sources.0) sources.1 sources.2
+        → FilterIs y others (sources.1 ∷ outer) sources.2 (option_map (cond_scope instances) filter.0) filter.1 → KeysAre → ShownAre
+        → SelectIs S instances T (x + y) (ons && others) outer n (block_scope instances (block_of distinct sources.0 filter.0 (is_grouped keys l) keys outputs)) outputs filter.1
     select-is x y ons others from where_ keyed shown =
         let k : Numbered = with_aggregates n (aggregates l) in
         let m : Numbered = filter.1 in
-        let own : List ℕ = (from_scope uses sources.0).numbers in
+        let own : List ℕ = (from_scope instances sources.0).numbers in
         let before : Grown S n k 0 = grown-aggregates n (aggregates l) in
         let after : Grown S k m (x + y) = grown-more S k sources.2 m x y (x + y) from.grown where_.grown refl in
-        let of_all : Within uses T n m → Within uses T k m = λ within. within-next S uses T n k m 0 (x + y) before within in
-        let of_from : Within uses T n m → Within uses T k sources.2 = λ within. within-first S uses T k sources.2 m x y where_.grown (of_all within) in
-        let of_filter : Within uses T n m → Within uses T sources.2 m = λ within. within-next S uses T k sources.2 m x y from.grown (of_all within) in
-        rw (scope-Block uses (block_of distinct sources.0 filter.0 (is_grouped keys l) keys outputs)) (record {
+        let of_all : Within instances T n m → Within instances T k m = λ within. within-next S instances T n k m 0 (x + y) before within in
+        let of_from : Within instances T n m → Within instances T k sources.2 = λ within. within-first S instances T k sources.2 m x y where_.grown (of_all within) in
+        let of_filter : Within instances T n m → Within instances T sources.2 m = λ within. within-next S instances T k sources.2 m x y from.grown (of_all within) in
+        rw (scope-Block instances (block_of distinct sources.0 filter.0 (is_grouped keys l) keys outputs)) (record {
           grown = grown-more S n k m 0 (x + y) (x + y) before after (omega arith);
           single = λ one. eq-eqb _ _ (length-map outputs (λ o. o.item) ∙ one);
           bound = λ h within rows fits.
@@ -108,7 +108,7 @@ module _ (S : Schema) (uses : List TableInstance) (T : ℕ) where
               let last = (of_from within).columns in
               let first = within.aggregates in
               and_from _ _ (numbers-new n.next_column sources.2.next_column n.next_aggregate _ outer rows (aggregate_numbers (map (λ o. o.item) outputs)) own fits rises shows.1 (omega (arith, last, first)))
-              (and_from _ _ (rising-off T n.next_aggregate _ uses (aggregate_numbers (map (λ o. o.item) outputs)) shows.1 first within.low)
+              (and_from _ _ (rising-off T n.next_aggregate _ instances (aggregate_numbers (map (λ o. o.item) outputs)) shows.1 first within.low)
               (and_from _ _ (from.bound tests.0 (of_from within) rows fits)
               (and_from _ _ (where_.bound tests.1 (of_filter within) (own ∷ rows) inner)
               (items-by (is_grouped keys l) (length own) keys (map (λ o. o.item) outputs) (own ∷ rows) (keyed sources.2.next_column own rows inner) shows.0))));
@@ -116,12 +116,12 @@ module _ (S : Schema) (uses : List TableInstance) (T : ℕ) where
 
   -- ---- SELECT
 
-  pub bound-select : (q : Select) (cs : List (ProvedChain S uses T)) (w : Option (ProvedCondition S uses T)) → chains_of S uses T cs ≡ (out-Select q).from → filter_of w ≡ (out-Select q).filter → SelectBound S uses T q
+  pub bound-select : (q : Select) (cs : List (ProvedChain S instances T)) (w : Option (ProvedCondition S instances T)) → chains_of S instances T cs ≡ (out-Select q).from → filter_of w ≡ (out-Select q).filter → SelectBound S instances T q
   bound-select q cs w from_is filter_is outer n =
       let x = out-Select q in
       let k : Numbered = with_aggregates n (aggregates x.list) in
-      given-at _ (select_in S q outer n) _ (select_at S q outer n k (chains_of S uses T cs) x.group refl from_is refl)
-      (and-then _ _ (from_in (map (chain_in S) (chains_of S uses T cs)) outer k) _ (from-bound S uses T cs outer k) (λ sources from.
+      given-at _ (select_in S q outer n) _ (select_at S q outer n k (chains_of S instances T cs) x.group refl from_is refl)
+      (and-then _ _ (from_in (map (chain_in S) (chains_of S instances T cs)) outer k) _ (from-bound S instances T cs outer k) (λ sources from.
       and-then (FilterGiven x.filter (sources.1 ∷ outer) sources.2) _ (filter_in (option_map (condition_in S) x.filter) (sources.1 ∷ outer) sources.2) _
       (subst (λ o. Given (FilterGiven o (sources.1 ∷ outer) sources.2) (filter_in (option_map (condition_in S) o) (sources.1 ∷ outer) sources.2)) filter_is (filter-bound w (sources.1 ∷ outer) sources.2)) (λ filter where_.
       and-then (λ keys. (b : ℕ) (row : List ℕ) (rows : numbers.Scope) → Around b (sources.1 ∷ outer) (row ∷ rows) → list_all (λ k. nat_lt k (length row)) keys ≡ true) _ (each (key_in (sources.1 ∷ outer)) x.group) _

@@ -20,38 +20,38 @@ use Rattle.binder.proofs.Growth.{Grown, Within}
 use Rattle.binder.proofs.NamesThere.{Around}
 use Rattle.binder.proofs.Rising.{Rising}
 
-module _ (S : Schema) (uses : List TableInstance) (T : ℕ) where
+module _ (S : Schema) (instances : List TableInstance) (T : ℕ) where
   -- a condition of so many columns, which became one of this scope, while what has numbers went from n to m
   pub record CondIs (more : ℕ) (p : Plainness) (scopes : Scopes) (n : Numbered) (s : CondScope) (m : Numbered) : Type 0 where
     pub grown : Grown S n m more
     pub whole : p.plain ≡ true → p.ons ≡ true
     pub plain : p.plain ≡ true → s.plain ≡ true
-    pub bound : p.ons ≡ true → Within uses T n m → (rows : numbers.Scope) → Around n.next_column scopes rows → s.bound rows ≡ true
+    pub bound : p.ons ≡ true → Within instances T n m → (rows : numbers.Scope) → Around n.next_column scopes rows → s.bound rows ≡ true
 
   pub record FromIs (more : ℕ) (ons : Bool) (outer : Scopes) (n : Numbered) (s : FromScope) (scope : Scope) (m : Numbered) : Type 0 where
     pub grown : Grown S n m more
-    pub rises : Within uses T n m → Rising n.next_column m.next_column s.numbers
-    pub wide : Within uses T n m → length s.numbers ≡ width scope
-    pub bound : ons ≡ true → Within uses T n m → (rows : numbers.Scope) → Around n.next_column outer rows → s.bound rows ≡ true
+    pub rises : Within instances T n m → Rising n.next_column m.next_column s.numbers
+    pub wide : Within instances T n m → length s.numbers ≡ width scope
+    pub bound : ons ≡ true → Within instances T n m → (rows : numbers.Scope) → Around n.next_column outer rows → s.bound rows ≡ true
 
   pub record SelectIs (more : ℕ) (ons : Bool) (outer : Scopes) (n : Numbered) (s : BlockScope) (outputs : List Output) (m : Numbered) : Type 0 where
     pub grown : Grown S n m more
     pub single : length outputs ≡ 1 → s.single ≡ true
-    pub bound : ons ≡ true → Within uses T n m → (rows : numbers.Scope) → Around n.next_column outer rows → s.bound rows ≡ true
+    pub bound : ons ≡ true → Within instances T n m → (rows : numbers.Scope) → Around n.next_column outer rows → s.bound rows ≡ true
 
   abbrev pub CondBound : Condition → Type 0
-  CondBound c = (scopes : Scopes) (n : Numbered) → Given (λ r. CondIs (of_condition S c).columns (plainness c) scopes n (cond_scope uses r.0) r.1) (condition_in S c scopes n)
+  CondBound c = (scopes : Scopes) (n : Numbered) → Given (λ r. CondIs (of_condition S c).columns (plainness c) scopes n (cond_scope instances r.0) r.1) (condition_in S c scopes n)
 
   -- behind what its FROM has so far
   abbrev pub JoinBound : Join → Type 0
-  JoinBound j = (outer : Scopes) (before : Scope) (n : Numbered) (more : ℕ) (ons : Bool) (left : FromSoFar) → FromIs more ons outer n (from_scope uses left.0) left.1 left.2
-      → Given (λ r. FromIs (more + (of_join S j).columns) (ons && join_ons j) outer n (from_scope uses r.0) r.1 r.2) (join_in S j outer before left)
+  JoinBound j = (outer : Scopes) (before : Scope) (n : Numbered) (more : ℕ) (ons : Bool) (left : FromSoFar) → FromIs more ons outer n (from_scope instances left.0) left.1 left.2
+      → Given (λ r. FromIs (more + (of_join S j).columns) (ons && join_ons j) outer n (from_scope instances r.0) r.1 r.2) (join_in S j outer before left)
 
   abbrev pub ChainBound : Chain → Type 0
-  ChainBound c = (outer : Scopes) (before : Scope) (n : Numbered) → Given (λ r. FromIs (of_chain S c).columns (chain_ons c) outer n (from_scope uses r.0) r.1 r.2) (chain_in S c outer before n)
+  ChainBound c = (outer : Scopes) (before : Scope) (n : Numbered) → Given (λ r. FromIs (of_chain S c).columns (chain_ons c) outer n (from_scope instances r.0) r.1 r.2) (chain_in S c outer before n)
 
   abbrev pub SelectBound : Select → Type 0
-  SelectBound q = (outer : Scopes) (n : Numbered) → Given (λ r. SelectIs (of_select S q).columns (select_ons q) outer n (block_scope uses r.0.block) r.0.outputs r.1) (select_in S q outer n)
+  SelectBound q = (outer : Scopes) (n : Numbered) → Given (λ r. SelectIs (of_select S q).columns (select_ons q) outer n (block_scope instances r.0.block) r.0.outputs r.1) (select_in S q outer n)
 
   -- a condition may be said in other words
   pub cond-is : (x y : ℕ) (p q : Plainness) (scopes : Scopes) (n : Numbered) (s t : CondScope) (m : Numbered) → x ≡ y → p ≡ q → s ≡ t → CondIs y q scopes n t m → CondIs x p scopes n s m

@@ -26,7 +26,7 @@ use Rattle.binder.specs.Selects.{select_in}
 use Rattle.binder.specs.Ordering.{order_in}
 use Rattle.binder.specs.Queries.{at_start, bound_statement}
 use Rattle.query.specs.Bound.{block_scope, is_bound, IsOver}
-use Rattle.query.proofs.TableUses.{uses-wide}
+use Rattle.query.proofs.TableInstances.{instances-wide}
 use Rattle.sql_parse.specs.PlainOns.{select_ons, ons_are_plain}
 use Rattle.binder.specs.BoundStatements.{StatementsAreBound, StatementsAreOver, StatementsAreWide}
 use Rattle.binder.proofs.Given.{Given, and-then, given-from, given-if, given-ok}
@@ -36,18 +36,18 @@ use Rattle.binder.proofs.BoundFroms.{bound-join, bound-chain}
 use Rattle.binder.proofs.BoundBlocks.{bound-select}
 use Rattle.binder.proofs.Growth.{AllBelow}
 
-module _ (S : Schema) (uses : List TableInstance) (T : ℕ) where
+module _ (S : Schema) (instances : List TableInstance) (T : ℕ) where
   abbrev ProvedCondition : Type 0
-  ProvedCondition = (c : Condition) × CondBound S uses T c
+  ProvedCondition = (c : Condition) × CondBound S instances T c
 
   abbrev ProvedJoin : Type 0
-  ProvedJoin = (j : Join) × JoinBound S uses T j
+  ProvedJoin = (j : Join) × JoinBound S instances T j
 
   abbrev ProvedChain : Type 0
-  ProvedChain = (c : Chain) × ChainBound S uses T c
+  ProvedChain = (c : Chain) × ChainBound S instances T c
 
   abbrev ProvedSelect : Type 0
-  ProvedSelect = (q : Select) × SelectBound S uses T q
+  ProvedSelect = (q : Select) × SelectBound S instances T q
 
   abbrev plain_condition : Condition-F ProvedCondition ProvedChain ProvedJoin ProvedSelect → Condition-F Condition Chain Join Select
   plain_condition = map-Condition _ _ _ _ Condition Chain Join Select (λ c. c.0) (λ c. c.0) (λ j. j.0) (λ q. q.0)
@@ -61,34 +61,34 @@ module _ (S : Schema) (uses : List TableInstance) (T : ℕ) where
   abbrev plain_select : Select-F ProvedCondition ProvedChain ProvedJoin ProvedSelect → Select-F Condition Chain Join Select
   plain_select = map-Select _ _ _ _ Condition Chain Join Select (λ c. c.0) (λ c. c.0) (λ j. j.0) (λ q. q.0)
 
-  condition-bound : (y : Condition-F ProvedCondition ProvedChain ProvedJoin ProvedSelect) → CondBound S uses T (roll-Condition (plain_condition y))
-  condition-bound (Condition-F.Compare a op b) = subst (CondBound S uses T) (sym (tree.rolls-Compare a op b)) (bound-Compare S uses T a op b)
-  condition-bound (Condition-F.IsNull a) = subst (CondBound S uses T) (sym (tree.rolls-IsNull a)) (bound-IsNull S uses T a)
-  condition-bound (Condition-F.Not c) = subst (CondBound S uses T) (sym (tree.rolls-Not c.0)) (bound-Not S uses T c.0 c.1)
-  condition-bound (Condition-F.And cs) = subst (CondBound S uses T) (sym (tree.rolls-And (map (λ c. c.0) cs))) (bound-And S uses T cs)
-  condition-bound (Condition-F.Or cs) = subst (CondBound S uses T) (sym (tree.rolls-Or (map (λ c. c.0) cs))) (bound-Or S uses T cs)
-  condition-bound (Condition-F.Exists q) = subst (CondBound S uses T) (sym (tree.rolls-Exists q.0)) (bound-Exists S uses T q.0 q.1)
-  condition-bound (Condition-F.In a at q) = subst (CondBound S uses T) (sym (tree.rolls-In a at q.0)) (bound-In S uses T a at q.0 q.1)
+  condition-bound : (y : Condition-F ProvedCondition ProvedChain ProvedJoin ProvedSelect) → CondBound S instances T (roll-Condition (plain_condition y))
+  condition-bound (Condition-F.Compare a op b) = subst (CondBound S instances T) (sym (tree.rolls-Compare a op b)) (bound-Compare S instances T a op b)
+  condition-bound (Condition-F.IsNull a) = subst (CondBound S instances T) (sym (tree.rolls-IsNull a)) (bound-IsNull S instances T a)
+  condition-bound (Condition-F.Not c) = subst (CondBound S instances T) (sym (tree.rolls-Not c.0)) (bound-Not S instances T c.0 c.1)
+  condition-bound (Condition-F.And cs) = subst (CondBound S instances T) (sym (tree.rolls-And (map (λ c. c.0) cs))) (bound-And S instances T cs)
+  condition-bound (Condition-F.Or cs) = subst (CondBound S instances T) (sym (tree.rolls-Or (map (λ c. c.0) cs))) (bound-Or S instances T cs)
+  condition-bound (Condition-F.Exists q) = subst (CondBound S instances T) (sym (tree.rolls-Exists q.0)) (bound-Exists S instances T q.0 q.1)
+  condition-bound (Condition-F.In a at q) = subst (CondBound S instances T) (sym (tree.rolls-In a at q.0)) (bound-In S instances T a at q.0 q.1)
 
-  chain-bound : (y : Chain-F ProvedCondition ProvedChain ProvedJoin ProvedSelect) → ChainBound S uses T (roll-Chain (plain_chain y))
-  chain-bound y = bound-chain S uses T (roll-Chain (plain_chain y)) y.joins (sym (ap (λ x. x.joins) (out-roll-Chain (plain_chain y))))
+  chain-bound : (y : Chain-F ProvedCondition ProvedChain ProvedJoin ProvedSelect) → ChainBound S instances T (roll-Chain (plain_chain y))
+  chain-bound y = bound-chain S instances T (roll-Chain (plain_chain y)) y.joins (sym (ap (λ x. x.joins) (out-roll-Chain (plain_chain y))))
 
-  join-bound : (y : Join-F ProvedCondition ProvedChain ProvedJoin ProvedSelect) → JoinBound S uses T (roll-Join (plain_join y))
-  join-bound y = bound-join S uses T (roll-Join (plain_join y)) (subst (CondBound S uses T) (sym (ap (λ x. x.condition) (out-roll-Join (plain_join y)))) y.condition.1)
+  join-bound : (y : Join-F ProvedCondition ProvedChain ProvedJoin ProvedSelect) → JoinBound S instances T (roll-Join (plain_join y))
+  join-bound y = bound-join S instances T (roll-Join (plain_join y)) (subst (CondBound S instances T) (sym (ap (λ x. x.condition) (out-roll-Join (plain_join y)))) y.condition.1)
 
-  select-bound : (y : Select-F ProvedCondition ProvedChain ProvedJoin ProvedSelect) (w : Option ProvedCondition) → SelectBound S uses T (roll-Select (plain_select (record y { filter = w })))
-  select-bound y None = bound-select S uses T (roll-Select (plain_select (record y { filter = None }))) y.from None
+  select-bound : (y : Select-F ProvedCondition ProvedChain ProvedJoin ProvedSelect) (w : Option ProvedCondition) → SelectBound S instances T (roll-Select (plain_select (record y { filter = w })))
+  select-bound y None = bound-select S instances T (roll-Select (plain_select (record y { filter = None }))) y.from None
       (sym (ap (λ x. x.from) (out-roll-Select (plain_select (record y { filter = None }))))) (sym (ap (λ x. x.filter) (out-roll-Select (plain_select (record y { filter = None })))))
-  select-bound y (Some c) = bound-select S uses T (roll-Select (plain_select (record y { filter = Some c }))) y.from (Some c)
+  select-bound y (Some c) = bound-select S instances T (roll-Select (plain_select (record y { filter = Some c }))) y.from (Some c)
       (sym (ap (λ x. x.from) (out-roll-Select (plain_select (record y { filter = Some c }))))) (sym (ap (λ x. x.filter) (out-roll-Select (plain_select (record y { filter = Some c })))))
 
   -- each SELECT is bound, wherever it stands
-  pub selects_bound : (q : Select) → SelectBound S uses T q
-  selects_bound = ind-Select (CondBound S uses T) (ChainBound S uses T) (JoinBound S uses T) (SelectBound S uses T)
-      (λ x y is. subst (λ z. CondBound S uses T (roll-Condition z)) is (condition-bound y))
-      (λ x y is. subst (λ z. ChainBound S uses T (roll-Chain z)) is (chain-bound y))
-      (λ x y is. subst (λ z. JoinBound S uses T (roll-Join z)) is (join-bound y))
-      (λ x y is. subst (λ z. SelectBound S uses T (roll-Select z)) is (select-bound y y.filter))
+  pub selects_bound : (q : Select) → SelectBound S instances T q
+  selects_bound = ind-Select (CondBound S instances T) (ChainBound S instances T) (JoinBound S instances T) (SelectBound S instances T)
+      (λ x y is. subst (λ z. CondBound S instances T (roll-Condition z)) is (condition-bound y))
+      (λ x y is. subst (λ z. ChainBound S instances T (roll-Chain z)) is (chain-bound y))
+      (λ x y is. subst (λ z. JoinBound S instances T (roll-Join z)) is (join-bound y))
+      (λ x y is. subst (λ z. SelectBound S instances T (roll-Select z)) is (select-bound y y.filter))
 
 -- what is known of the query of a statement
 abbrev IsKnown : Schema → Statement → Query → Type 0
@@ -125,4 +125,4 @@ pub statements_over : StatementsAreOver
 statements_over S s q is = (given-ok (IsKnown S s) (bound_statement S s) q is (statement-known S s)).1
 
 pub statements_wide : StatementsAreWide
-statements_wide S D s q is = uses-wide S D q.tables (statements_over S s q is)
+statements_wide S D s q is = instances-wide S D q.tables (statements_over S s q is)

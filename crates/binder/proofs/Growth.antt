@@ -11,15 +11,15 @@ use Rattle.schema.specs.declared.schema.Table.{Table}
 use Rattle.schema.specs.declared.schema.Schema.{Schema}
 use Rattle.sql_parse.specs.declared.statement.TableName.{TableName}
 use Rattle.query.specs.declared.query.TableInstance.{TableInstance}
-use Rattle.query.specs.declared.query.Occurrence.{Occurrence}
+use Rattle.query.specs.declared.query.TableReference.{TableReference}
 use Rattle.binder.specs.declared.tables.Numbered.{Numbered}
 use Rattle.binder.specs.declared.fault.BindReason.TheVariants.{RepeatedName, UnknownTable}
 use Rattle.binder.specs.Lookups.{find_table, table_in, refusal}
 use Rattle.binder.specs.Scopes.{Scope, is_taken, known_name}
-use Rattle.binder.specs.Numbers.{next_occurrence, entered, enter}
+use Rattle.binder.specs.Numbers.{next_reference, entered, enter}
 use Rattle.binder.specs.Extents.{width_of, one_table}
 use Rattle.binder.specs.Lent.{width}
-use Rattle.query.specs.Bound.{numbers_of_use, use_numbers, is_of_tables, none_of_tables, is_used, is_use_of, IsOver}
+use Rattle.query.specs.Bound.{numbers_of_instance, instance_numbers, is_of_tables, none_of_tables, names_instance, is_named_by, IsOver}
 use Rattle.binder.proofs.Indexes.{width-append}
 use Rattle.binder.proofs.Given.{Given, and-then, given-wanted, given-if}
 use Rattle.binder.proofs.Rising.{Rising, AreBelow, rising-below, rising-range}
@@ -37,22 +37,22 @@ begins-again xs ys zs left right = (right.0 ++ left.0, left.1 ∙ ap (λ l. l ++
 
 -- the columns of each have numbers below this one
 abbrev pub AllBelow : ℕ → List TableInstance → Type 0
-AllBelow b uses = AllByRecursion (λ t. AreBelow b (numbers_of_use (Some t))) uses
+AllBelow b instances = AllByRecursion (λ t. AreBelow b (numbers_of_instance (Some t))) instances
 
-all-wider : (a b : ℕ) → a ≤ b → (uses : List TableInstance) → AllBelow a uses → AllBelow b uses
+all-wider : (a b : ℕ) → a ≤ b → (instances : List TableInstance) → AllBelow a instances → AllBelow b instances
 all-wider a b le [] all = tt
-all-wider a b le (t ∷ uses) all = (λ j high. all.0 j (omega arith), all-wider a b le uses all.1)
+all-wider a b le (t ∷ instances) all = (λ j high. all.0 j (omega arith), all-wider a b le instances all.1)
 
-off-tables : (b k : ℕ) (uses : List TableInstance) → b ≤ k → AllBelow b uses → is_of_tables uses k ≡ false
+off-tables : (b k : ℕ) (instances : List TableInstance) → b ≤ k → AllBelow b instances → is_of_tables instances k ≡ false
 off-tables b k [] le all = refl
-off-tables b k (t ∷ uses) le all = or_from _ _ (all.0 k le) (off-tables b k uses le all.1)
+off-tables b k (t ∷ instances) le all = or_from _ _ (all.0 k le) (off-tables b k instances le all.1)
 
 -- so numbers that rise from there on are those of none
-pub rising-off : (b c d : ℕ) (uses : List TableInstance) (xs : List ℕ) → Rising c d xs → b ≤ c → AllBelow b uses → none_of_tables uses xs ≡ true
-rising-off b c d uses [] rises le all = refl
-rising-off b c d uses (k ∷ xs) rises le all =
+pub rising-off : (b c d : ℕ) (instances : List TableInstance) (xs : List ℕ) → Rising c d xs → b ≤ c → AllBelow b instances → none_of_tables instances xs ≡ true
+rising-off b c d instances [] rises le all = refl
+rising-off b c d instances (k ∷ xs) rises le all =
     let first = rises.0 in
-    and_from _ _ (not_from_false _ (off-tables b k uses (omega arith) all)) (rising-off b (k + 1) d uses xs rises.1 (omega arith) all)
+    and_from _ _ (not_from_false _ (off-tables b k instances (omega arith) all)) (rising-off b (k + 1) d instances xs rises.1 (omega arith) all)
 
 -- ---- growth
 
@@ -76,23 +76,23 @@ grown-more S n k m a b c first next sum = record {
   aggregates = let x = first.aggregates in let y = next.aggregates in omega (arith, x, y);
 }
 
--- the part from n to m is one of a text whose occurrences are these, and whose aggregates are numbered from T on
-pub record Within (uses : List TableInstance) (T : ℕ) (n m : Numbered) : Type 0 where
-  pub tables : Begins uses m.tables
-  pub low : AllBelow T uses
+-- the part from n to m is one of a text whose instances are these, and whose aggregates are numbered from T on
+pub record Within (instances : List TableInstance) (T : ℕ) (n m : Numbered) : Type 0 where
+  pub tables : Begins instances m.tables
+  pub low : AllBelow T instances
   pub columns : m.next_column ≤ T
   pub aggregates : T ≤ n.next_aggregate
 
-module _ (S : Schema) (uses : List TableInstance) (T : ℕ) (n k m : Numbered) (a b : ℕ) where
-  pub within-first : Grown S k m b → Within uses T n m → Within uses T n k
+module _ (S : Schema) (instances : List TableInstance) (T : ℕ) (n k m : Numbered) (a b : ℕ) where
+  pub within-first : Grown S k m b → Within instances T n m → Within instances T n k
   within-first next all = record {
-    tables = begins-again uses m.tables k.tables all.tables next.tables;
+    tables = begins-again instances m.tables k.tables all.tables next.tables;
     low = all.low;
     columns = let x = next.columns in let y = all.columns in omega (arith, x, y);
     aggregates = all.aggregates;
   }
 
-  pub within-next : Grown S n k a → Within uses T n m → Within uses T k m
+  pub within-next : Grown S n k a → Within instances T n m → Within instances T k m
   within-next first all = record {
     tables = all.tables;
     low = all.low;
@@ -119,42 +119,42 @@ find-is ts name found is =
     rw at there.2
 
 -- a table that has entered a FROM
-pub record Entered (S : Schema) (uses : List TableInstance) (T : ℕ) (chain : Scope) (t : TableName) (n : Numbered) (r : Occurrence × Scope × Numbered) : Type 0 where
+pub record Entered (S : Schema) (instances : List TableInstance) (T : ℕ) (chain : Scope) (t : TableName) (n : Numbered) (r : TableReference × Scope × Numbered) : Type 0 where
   pub grown : Grown S n r.2 (one_table S t).columns
-  pub used : Within uses T n r.2 → is_used uses r.0 ≡ true
-  pub rises : Within uses T n r.2 → Rising n.next_column r.2.next_column (use_numbers uses r.0)
-  pub wide : Within uses T n r.2 → width r.1 ≡ width chain + length (use_numbers uses r.0)
+  pub used : Within instances T n r.2 → names_instance instances r.0 ≡ true
+  pub rises : Within instances T n r.2 → Rising n.next_column r.2.next_column (instance_numbers instances r.0)
+  pub wide : Within instances T n r.2 → width r.1 ≡ width chain + length (instance_numbers instances r.0)
 
--- the occurrence that gets the next number
-abbrev next_use : Numbered → ℕ → Table → List ℕ → TableInstance
-next_use n place entry name = record { table = place; entry = entry; name = name; first_column = n.next_column }
+-- the instance that gets the next number
+abbrev next_instance : Numbered → ℕ → Table → List ℕ → TableInstance
+next_instance n place entry name = record { table = place; entry = entry; name = name; first_column = n.next_column }
 
-used-next : (uses : List TableInstance) (n : Numbered) (t : TableInstance) → Begins uses (n.tables ++ t ∷ []) → slice_get uses (length n.tables) ≡ Some t
-used-next uses n t begins = ap (λ l. slice_get l (length n.tables)) (begins.1 ∙ append_assoc n.tables (t ∷ []) begins.0) ∙ slice_get_behind n.tables t begins.0
+used-next : (instances : List TableInstance) (n : Numbered) (t : TableInstance) → Begins instances (n.tables ++ t ∷ []) → slice_get instances (length n.tables) ≡ Some t
+used-next instances n t begins = ap (λ l. slice_get l (length n.tables)) (begins.1 ∙ append_assoc n.tables (t ∷ []) begins.0) ∙ slice_get_behind n.tables t begins.0
 
-module _ (S : Schema) (uses : List TableInstance) (T : ℕ) (chain : Scope) (t : TableName) (n : Numbered) where
-  enters : (found : ℕ × Table) → find_table 0 S.tables t.name.text ≡ Some found → Entered S uses T chain t n (entered chain t n found)
+module _ (S : Schema) (instances : List TableInstance) (T : ℕ) (chain : Scope) (t : TableName) (n : Numbered) where
+  enters : (found : ℕ × Table) → find_table 0 S.tables t.name.text ≡ Some found → Entered S instances T chain t n (entered chain t n found)
   enters found is =
-      let next = next_use n found.0 found.1 (known_name t).text in
-      let at : Within uses T n (entered chain t n found).2 → slice_get uses (length n.tables) ≡ Some next = λ within. used-next uses n next within.tables in
+      let next = next_instance n found.0 found.1 (known_name t).text in
+      let at : Within instances T n (entered chain t n found).2 → slice_get instances (length n.tables) ≡ Some next = λ within. used-next instances n next within.tables in
       record {
         grown = record {
           tables = (next ∷ [], refl);
           over = λ all. all_append (IsOver S) n.tables (next ∷ []) all (find-is S.tables t.name.text found is, tt);
           low = λ all. let wide : ℕ = length found.1.columns in
-              all_append (λ t. AreBelow (n.next_column + wide) (numbers_of_use (Some t))) n.tables (next ∷ []) (all-wider n.next_column (n.next_column + wide) (omega arith) n.tables all)
+              all_append (λ t. AreBelow (n.next_column + wide) (numbers_of_instance (Some t))) n.tables (next ∷ []) (all-wider n.next_column (n.next_column + wide) (omega arith) n.tables all)
               (rising-below n.next_column (n.next_column + wide) _ (rising-range n.next_column wide), tt);
           columns = ap (λ o. n.next_column + width_of o) (sym is);
           aggregates = omega arith;
         };
-        used = λ within. ap (λ o. is_use_of o (next_occurrence n found.0)) (at within) ∙ eq-eqb found.0 found.0 refl;
+        used = λ within. ap (λ o. is_named_by o (next_reference n found.0)) (at within) ∙ eq-eqb found.0 found.0 refl;
         rises = λ within. rw (at within) (rising-range n.next_column (length found.1.columns));
         wide = λ within. width-append chain _ ∙ rw (at within) (let l = length-range_with_len n.next_column (length found.1.columns) in omega (arith, l));
       }
 
-  pub enter-gives : (before : Scope) → Given (Entered S uses T chain t n) (enter S before chain t n)
+  pub enter-gives : (before : Scope) → Given (Entered S instances T chain t n) (enter S before chain t n)
   unfolding enter
   enter-gives before =
-      and-then (λ found. find_table 0 S.tables t.name.text ≡ Some found) (Entered S uses T chain t n) (table_in S t.name) _
+      and-then (λ found. find_table 0 S.tables t.name.text ≡ Some found) (Entered S instances T chain t n) (table_in S t.name) _
       (given-wanted _ (refusal UnknownTable t.name.at) (find_table 0 S.tables t.name.text) (λ found is. is))
-      (λ found is. given-if (Entered S uses T chain t n) (refusal RepeatedName (known_name t).at) (not (is_taken (known_name t).text (before ++ chain))) (entered chain t n found) (λ free. enters found is))
+      (λ found is. given-if (Entered S instances T chain t n) (refusal RepeatedName (known_name t).at) (not (is_taken (known_name t).text (before ++ chain))) (entered chain t n found) (λ free. enters found is))

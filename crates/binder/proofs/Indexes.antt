@@ -15,7 +15,7 @@ use Rattle.binder.specs.declared.scope.Meaning.{Meaning}
 use Rattle.binder.specs.declared.scope.Meaning.TheVariants.{Several}
 use Rattle.binder.specs.declared.fault.BindReason.TheVariants.{UnknownColumn}
 use Rattle.binder.specs.Lookups.{find_column, refusal}
-use Rattle.binder.specs.Scopes.{Known, Scope, is_taken, columns_named, named_in, occurrence_named, at_level, column_of}
+use Rattle.binder.specs.Scopes.{Known, Scope, is_taken, columns_named, named_in, instance_named, at_level, column_of}
 use Rattle.binder.specs.Lent.{IsIndexed, width, placed_of, meaning_of, one_more, with_more}
 use Rattle.binder.proofs.NameKeys.{after-insert}
 
@@ -41,24 +41,24 @@ abbrev pub or_first : Option (ℕ × Table) → Option (ℕ × Table) → Option
 or_first None second = second
 or_first (Some p) second = Some p
 
-pub occurrence-append : (q : List ℕ) (n : ℕ) (a b : Scope) → occurrence_named q n (a ++ b) ≡ or_first (occurrence_named q n a) (occurrence_named q (n + width a) b)
-occurrence-append q n [] b = ap (λ m. occurrence_named q m b) (omega arith)
-occurrence-append q n (o ∷ a) b =
+pub reference-append : (q : List ℕ) (n : ℕ) (a b : Scope) → instance_named q n (a ++ b) ≡ or_first (instance_named q n a) (instance_named q (n + width a) b)
+reference-append q n [] b = ap (λ m. instance_named q m b) (omega arith)
+reference-append q n (o ∷ a) b =
     let m : (n + length o.entry.columns) + width a ≡ n + (length o.entry.columns + width a) = omega arith in
-    step (bytes_eq q o.name) (occurrence-append q (n + length o.entry.columns) a b ∙ ap (λ k. or_first (occurrence_named q (n + length o.entry.columns) a) (occurrence_named q k b)) m)
+    step (bytes_eq q o.name) (reference-append q (n + length o.entry.columns) a b ∙ ap (λ k. or_first (instance_named q (n + length o.entry.columns) a) (instance_named q k b)) m)
   where
-    step : (same : Bool) → occurrence_named q (n + length o.entry.columns) (a ++ b) ≡ or_first (occurrence_named q (n + length o.entry.columns) a) (occurrence_named q (n + (length o.entry.columns + width a)) b)
-        → (if same then Some (n, o.entry) else occurrence_named q (n + length o.entry.columns) (a ++ b))
-        ≡ or_first (if same then Some (n, o.entry) else occurrence_named q (n + length o.entry.columns) a) (occurrence_named q (n + (length o.entry.columns + width a)) b)
+    step : (same : Bool) → instance_named q (n + length o.entry.columns) (a ++ b) ≡ or_first (instance_named q (n + length o.entry.columns) a) (instance_named q (n + (length o.entry.columns + width a)) b)
+        → (if same then Some (n, o.entry) else instance_named q (n + length o.entry.columns) (a ++ b))
+        ≡ or_first (if same then Some (n, o.entry) else instance_named q (n + length o.entry.columns) a) (instance_named q (n + (length o.entry.columns + width a)) b)
     step true h = refl
     step false h = h
 
-pub taken-occurrence : (q : List ℕ) (n : ℕ) (a : Scope) → is_taken q a ≡ is_some (occurrence_named q n a)
-taken-occurrence q n [] = refl
-taken-occurrence q n (o ∷ a) = step (bytes_eq q o.name) (taken-occurrence q (n + length o.entry.columns) a)
+pub taken-instance : (q : List ℕ) (n : ℕ) (a : Scope) → is_taken q a ≡ is_some (instance_named q n a)
+taken-instance q n [] = refl
+taken-instance q n (o ∷ a) = step (bytes_eq q o.name) (taken-instance q (n + length o.entry.columns) a)
   where
-    step : (same : Bool) → is_taken q a ≡ is_some (occurrence_named q (n + length o.entry.columns) a)
-        → (same || is_taken q a) ≡ is_some (if same then Some (n, o.entry) else occurrence_named q (n + length o.entry.columns) a)
+    step : (same : Bool) → is_taken q a ≡ is_some (instance_named q (n + length o.entry.columns) a)
+        → (same || is_taken q a) ≡ is_some (if same then Some (n, o.entry) else instance_named q (n + length o.entry.columns) a)
     step true h = refl
     step false h = h
 
@@ -172,8 +172,8 @@ indexed-push scope o tables new_tables columns new_columns w new_w i named colum
       finds_tables = λ q.
           named q
           ∙ ap (λ found. or_first found (if bytes_eq q o.name then Some (w, o.entry) else None)) (i.finds_tables q)
-          ∙ ap (λ n. or_first (occurrence_named q 0 scope) (occurrence_named q n (o ∷ []))) (sym at)
-          ∙ sym (occurrence-append q 0 scope (o ∷ []));
+          ∙ ap (λ n. or_first (instance_named q 0 scope) (instance_named q n (o ∷ []))) (sym at)
+          ∙ sym (reference-append q 0 scope (o ∷ []));
       finds_columns = λ q.
           columned q
           ∙ ap (λ m. with_more m (columns_named q w o.entry.columns)) (i.finds_columns q)

@@ -2,7 +2,7 @@
 use Rattle.std.proofs.Common.{◌≡◌, refl, ap, sym, ◌∙◌, List, [], map, Option, Some, None, option_map}
 use Rattle.values.specs.declared.truth.Comparison.{Comparison}
 use Rattle.query.specs.declared.query.Term.{Term}
-use Rattle.query.specs.declared.query.Occurrence.{Occurrence}
+use Rattle.query.specs.declared.query.TableReference.{TableReference}
 use Rattle.query.specs.declared.query.Cond.{Cond, roll-Cond}
 use Rattle.query.specs.declared.query.Cond.TheVariants as cond
 use Rattle.query.specs.declared.query.Cond.TheOpen.{Cond-F, From-F, Block-F}
@@ -42,27 +42,27 @@ listing-Exists q = cond_at (Cond-F.Exists q) _ (cond.rolls-Exists q)
 pub listing-In : (a : Term) (q : Block) → cond_listing (cond.In a q) ≡ block_listing q
 listing-In a q = cond_at (Cond-F.In a q) _ (cond.rolls-In a q)
 
-pub listing-Table : (o : Occurrence) → from_listing (from.Table o) ≡ one_listing o
+pub listing-Table : (o : TableReference) → from_listing (from.Table o) ≡ one_listing o
 listing-Table o = from_at (From-F.Table o) _ (from.rolls-Table o)
 
-pub listing-Join : (f : From) (o : Occurrence) (on : Cond) → from_listing (from.Join f o on) ≡ both_listings (from_listing f) (both_listings (one_listing o) (cond_listing on))
+pub listing-Join : (f : From) (o : TableReference) (on : Cond) → from_listing (from.Join f o on) ≡ both_listings (from_listing f) (both_listings (one_listing o) (cond_listing on))
 listing-Join f o on = from_at (From-F.Join f o on) _ (from.rolls-Join f o on)
 
-pub listing-LeftJoin : (f : From) (o : Occurrence) (on : Cond) → from_listing (from.LeftJoin f o on) ≡ both_listings (from_listing f) (both_listings (one_listing o) (cond_listing on))
+pub listing-LeftJoin : (f : From) (o : TableReference) (on : Cond) → from_listing (from.LeftJoin f o on) ≡ both_listings (from_listing f) (both_listings (one_listing o) (cond_listing on))
 listing-LeftJoin f o on = from_at (From-F.LeftJoin f o on) _ (from.rolls-LeftJoin f o on)
 
 pub listing-Comma : (f g : From) → from_listing (from.Comma f g) ≡ both_listings (from_listing f) (from_listing g)
 listing-Comma f g = from_at (From-F.Comma f g) _ (from.rolls-Comma f g)
 
 abbrev items_listing : Block → Listing
-items_listing q = record { occurrences = []; aggregates = aggregate_numbers q.items }
+items_listing q = record { references = []; aggregates = aggregate_numbers q.items }
 
 block_roll : (q : Block) → block_listing q ≡ block_layer (map-Block Cond From Block Listing Listing Listing cond_listing from_listing block_listing (out-Block q))
 unfolding cond_listing from_listing block_listing
 block_roll q = fold_out-Block Listing Listing Listing cond_layer from_layer block_layer q
 
 block-is : (x : Block-F Cond From Block) (w : Option Cond) → block_layer (map-Block Cond From Block Listing Listing Listing cond_listing from_listing block_listing (record x { filter = w }))
-    ≡ both_listings (record { occurrences = []; aggregates = aggregate_numbers x.items }) (both_listings (from_listing x.from) (filter_listing (option_map cond_listing w)))
+    ≡ both_listings (record { references = []; aggregates = aggregate_numbers x.items }) (both_listings (from_listing x.from) (filter_listing (option_map cond_listing w)))
 block-is x None = refl
 block-is x (Some c) = refl
 

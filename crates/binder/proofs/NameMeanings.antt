@@ -11,7 +11,7 @@ use Rattle.binder.specs.declared.fault.BindReason.{BindReason}
 use Rattle.binder.specs.declared.fault.BindReason.TheVariants.{UnknownColumn, AmbiguousName}
 use Rattle.binder.specs.declared.fault.BindRefusal.{BindRefusal}
 use Rattle.binder.specs.Lookups.{find_column, refusal}
-use Rattle.binder.specs.Scopes.{Known, Scope, Scopes, columns_named, named_in, at_level, only, plain, occurrence_named, in_occurrence, qualified, meant_by, meant, front_of}
+use Rattle.binder.specs.Scopes.{Known, Scope, Scopes, columns_named, named_in, at_level, only, plain, instance_named, in_instance, qualified, meant_by, meant, front_of}
 use Rattle.binder.specs.Meanings.{IsFirst, IsOnly, IsColumn, IsInstance, columns_of, HasColumn, HasInstance, MeansPlain, PlainFault, MeansQualified, QualifiedFault, means_by, fault_by, NamesMean, NamesFail}
 use Rattle.binder.proofs.FirstOnes.{none-here, first-here, first-behind, only-or-two, first-once, only-once, Listed, listed, listed-append, FoundColumn, found-column}
 
@@ -86,14 +86,14 @@ instance-behind table n o scope None other none = none-here (IsInstance table) o
 instance-behind table n o scope (Some found) other (i, p, first, entry, at) =
     (suc i, p, first-behind (IsInstance table) o scope i p other first, entry, omega (arith, at, length-append o.entry.columns (columns_of (take i scope))))
 
-pub found-instance : (table : Name) (n : ℕ) (scope : Scope) → FoundInstance table n scope (occurrence_named table.text n scope)
+pub found-instance : (table : Name) (n : ℕ) (scope : Scope) → FoundInstance table n scope (instance_named table.text n scope)
 unfolding FoundInstance
 found-instance table n [] = λ (i, o, (at, holds)). cc
 found-instance table n (o ∷ scope) = by (bytes_eq table.text o.name) refl (found-instance table (n + length o.entry.columns) scope) where
-  by : (b : Bool) → bytes_eq table.text o.name ≡ b → FoundInstance table (n + length o.entry.columns) scope (occurrence_named table.text (n + length o.entry.columns) scope) → FoundInstance table n (o ∷ scope) (if b then Some (n, o.entry) else occurrence_named table.text (n + length o.entry.columns) scope)
+  by : (b : Bool) → bytes_eq table.text o.name ≡ b → FoundInstance table (n + length o.entry.columns) scope (instance_named table.text (n + length o.entry.columns) scope) → FoundInstance table n (o ∷ scope) (if b then Some (n, o.entry) else instance_named table.text (n + length o.entry.columns) scope)
   by true is more = (0, o, first-here (IsInstance table) o scope (sym ((bytes_eq-Decides table.text o.name).0 is)), refl, omega arith)
   by false is more =
-      instance-behind table n o scope (occurrence_named table.text (n + length o.entry.columns) scope)
+      instance-behind table n o scope (instance_named table.text (n + length o.entry.columns) scope)
       (λ same. let yes : bytes_eq table.text o.name ≡ true = (bytes_eq-Decides table.text o.name).1 (sym same) in cc) more
 
 record QualifiedAt (table name : Name) (level : ℕ) (scopes : Scopes) (found : TypedColumn) : Type 0 where
@@ -102,11 +102,11 @@ record QualifiedAt (table name : Name) (level : ℕ) (scopes : Scopes) (found : 
   scope : Scope
   innermost : IsFirst (HasInstance table) scopes outside scope
   before : ℕ
-  occurrence : Known
-  known : IsFirst (IsInstance table) scope before occurrence
+  reference : Known
+  known : IsFirst (IsInstance table) scope before reference
   within : ℕ
   column : entries.Column
-  named : IsFirst (IsColumn name) occurrence.entry.columns within column
+  named : IsFirst (IsColumn name) reference.entry.columns within column
   place : found.column.place ≡ length (columns_of (take before scope)) + within
   kind : found.kind ≡ column.kind
 
@@ -121,7 +121,7 @@ unknown-behind table name scope outer none (inr lacks) = inr (record {
   scope = lacks.scope;
   innermost = first-behind (HasInstance table) scope outer lacks.level lacks.scope none lacks.innermost;
   before = lacks.before;
-  occurrence = lacks.occurrence;
+  reference = lacks.reference;
   known = lacks.known;
   lacks = lacks.lacks;
 })
@@ -136,7 +136,7 @@ qualified-behind table name level scope outer (Ok found) none is =
       scope = is.scope;
       innermost = first-behind (HasInstance table) scope outer is.outside is.scope none is.innermost;
       before = is.before;
-      occurrence = is.occurrence;
+      reference = is.reference;
       known = is.known;
       within = is.within;
       column = is.column;
@@ -153,14 +153,14 @@ module _ (table name : Name) (level : ℕ) (scope : Scope) (outer : Scopes) (i :
   column-here : (n : ℕ) (p : Option (ℕ × entries.Column)) → n ≡ length (columns_of (take i scope)) → FoundColumn name.text n o.entry.columns p
       → QualifiedIs table name level (scope ∷ outer) (wanted (refusal UnknownColumn table.at) (option_map (λ found. at_level level (found.0, found.1.kind)) p))
   unfolding QualifiedIs
-  column-here n None at lacks = (refl, inr (record { level = 0; scope = scope; innermost = innermost_here; before = i; occurrence = o; known = first; lacks = lacks }))
+  column-here n None at lacks = (refl, inr (record { level = 0; scope = scope; innermost = innermost_here; before = i; reference = o; known = first; lacks = lacks }))
   column-here n (Some p) at (j, named, place) = record {
     outside = 0;
     at = omega arith;
     scope = scope;
     innermost = innermost_here;
     before = i;
-    occurrence = o;
+    reference = o;
     known = first;
     within = j;
     column = p.1;
@@ -170,7 +170,7 @@ module _ (table name : Name) (level : ℕ) (scope : Scope) (outer : Scopes) (i :
   }
 
 qualified-here : (table name : Name) (level : ℕ) (scope : Scope) (outer : Scopes) (found : Option (ℕ × Table)) → FoundInstance table 0 scope found → QualifiedIs table name (level + 1) outer (qualified table name (level + 1) outer)
-    → QualifiedIs table name level (scope ∷ outer) (in_occurrence table name level found (qualified table name (level + 1) outer))
+    → QualifiedIs table name level (scope ∷ outer) (in_instance table name level found (qualified table name (level + 1) outer))
 unfolding FoundInstance
 qualified-here table name level scope outer None none outside = qualified-behind table name level scope outer (qualified table name (level + 1) outer) none outside
 qualified-here table name level scope outer (Some (n, entry)) (i, o, first, same, at) outside =
@@ -180,7 +180,7 @@ qualified-here table name level scope outer (Some (n, entry)) (i, o, first, same
 qualified-is : (table name : Name) (level : ℕ) (scopes : Scopes) → QualifiedIs table name level scopes (qualified table name level scopes)
 unfolding qualified QualifiedIs
 qualified-is table name level [] = (refl, inl (λ (i, scope, (at, holds)). cc))
-qualified-is table name level (scope ∷ outer) = qualified-here table name level scope outer (occurrence_named table.text 0 scope) (found-instance table 0 scope) (qualified-is table name (level + 1) outer)
+qualified-is table name level (scope ∷ outer) = qualified-here table name level scope outer (instance_named table.text 0 scope) (found-instance table 0 scope) (qualified-is table name (level + 1) outer)
 
 -- ---- either
 
@@ -205,7 +205,7 @@ qualified-read table name scopes (Ok found) is =
       scope = is.scope;
       innermost = subst (λ l. IsFirst (HasInstance table) scopes l is.scope) level is.innermost;
       before = is.before;
-      occurrence = is.occurrence;
+      reference = is.reference;
       known = is.known;
       within = is.within;
       column = is.column;
@@ -246,9 +246,9 @@ qualified-once : (table name : Name) (scopes : Scopes) (f g : TypedColumn) → M
 qualified-once table name scopes f g one other =
     let at = first-once (HasInstance table) scopes f.column.level g.column.level one.scope other.scope one.innermost other.innermost in
     let known = rw at.1 at one.known in
-    let instance = first-once (IsInstance table) other.scope one.before other.before one.occurrence other.occurrence known other.known in
+    let instance = first-once (IsInstance table) other.scope one.before other.before one.reference other.reference known other.known in
     let named = rw instance.1 at one.named in
-    let column = first-once (IsColumn name) other.occurrence.entry.columns one.within other.within one.column other.column named other.named in
+    let column = first-once (IsColumn name) other.reference.entry.columns one.within other.within one.column other.column named other.named in
     let scope = at.1 in
     let before = instance.0 in
     let within = column.0 in
@@ -265,7 +265,7 @@ qualified-or-unknown table name scopes f is (inl none) = none (f.column.level, i
 qualified-or-unknown table name scopes f is (inr lacks) =
     let at = first-once (HasInstance table) scopes f.column.level lacks.level is.scope lacks.scope is.innermost lacks.innermost in
     let known = rw at.1 at is.known in
-    let instance = first-once (IsInstance table) lacks.scope is.before lacks.before is.occurrence lacks.occurrence known lacks.known in
+    let instance = first-once (IsInstance table) lacks.scope is.before lacks.before is.reference lacks.reference known lacks.known in
     let named = rw instance.1 at is.named in
     lacks.lacks (is.within, is.column, named.stands)
 

@@ -11,7 +11,7 @@ use Rattle.sql_parse.specs.declared.statement.ColumnName.{ColumnName}
 use Rattle.binder.specs.declared.scope.TypedColumn.{TypedColumn}
 use Rattle.binder.specs.declared.fault.BindRefusal.{BindRefusal}
 use Rattle.binder.specs.Lookups.{find_column, refusal}
-use Rattle.binder.specs.Scopes.{Scope, Scopes, columns_named, named_in, at_level, only, plain, occurrence_named, column_of, in_occurrence, qualified, meant_by, meant}
+use Rattle.binder.specs.Scopes.{Scope, Scopes, columns_named, named_in, at_level, only, plain, instance_named, column_of, in_instance, qualified, meant_by, meant}
 use Rattle.binder.specs.Lent.{width}
 use Rattle.query.specs.Bound as numbers
 use Rattle.query.specs.Bound.{names}
@@ -53,12 +53,12 @@ named-below name n w [] le = tt
 named-below name n w (o ∷ scope) le =
     below-append w (columns_named name n o.entry.columns) _ (columns-below name n w o.entry.columns (omega (arith, le))) (named-below name (n + length o.entry.columns) w scope (omega (arith, le)))
 
-occurrence-below : (name : List ℕ) (n : ℕ) (scope : Scope) (found : ℕ × Table) → occurrence_named name n scope ≡ Some found → found.0 + length found.1.columns ≤ n + width scope
-occurrence-below name n [] found is = cc is
-occurrence-below name n (o ∷ scope) found is = by (bytes_eq name o.name) is (occurrence-below name (n + length o.entry.columns) scope found)
+reference-below : (name : List ℕ) (n : ℕ) (scope : Scope) (found : ℕ × Table) → instance_named name n scope ≡ Some found → found.0 + length found.1.columns ≤ n + width scope
+reference-below name n [] found is = cc is
+reference-below name n (o ∷ scope) found is = by (bytes_eq name o.name) is (reference-below name (n + length o.entry.columns) scope found)
   where
-    by : (b : Bool) → (if b then Some (n, o.entry) else occurrence_named name (n + length o.entry.columns) scope) ≡ Some found
-        → (occurrence_named name (n + length o.entry.columns) scope ≡ Some found → found.0 + length found.1.columns ≤ (n + length o.entry.columns) + width scope)
+    by : (b : Bool) → (if b then Some (n, o.entry) else instance_named name (n + length o.entry.columns) scope) ≡ Some found
+        → (instance_named name (n + length o.entry.columns) scope ≡ Some found → found.0 + length found.1.columns ≤ (n + length o.entry.columns) + width scope)
         → found.0 + length found.1.columns ≤ n + width (o ∷ scope)
     by true e more = let same : (n, o.entry) ≡ found = cc e in rw (← same) (omega arith)
     by false e more = let h = more e in omega (arith, h)
@@ -110,10 +110,10 @@ column-there table name level row rows o le = by (find_column o.0 o.1.columns na
     by None below = tt
     by (Some p) below = let lt = below p refl in (0, omega arith, omega (arith, lt, le))
 
-occurrence-there : (table name : Name) (level : ℕ) (row : List ℕ) (rows : numbers.Scope) (found : Option (ℕ × Table)) (outside : Result TypedColumn BindRefusal)
-    → ((o : ℕ × Table) → found ≡ Some o → o.0 + length o.1.columns ≤ length row) → Given (IsThere level (row ∷ rows)) outside → Given (IsThere level (row ∷ rows)) (in_occurrence table name level found outside)
-occurrence-there table name level row rows None outside below there = there
-occurrence-there table name level row rows (Some o) outside below there = column-there table name level row rows o (below o refl)
+reference-there : (table name : Name) (level : ℕ) (row : List ℕ) (rows : numbers.Scope) (found : Option (ℕ × Table)) (outside : Result TypedColumn BindRefusal)
+    → ((o : ℕ × Table) → found ≡ Some o → o.0 + length o.1.columns ≤ length row) → Given (IsThere level (row ∷ rows)) outside → Given (IsThere level (row ∷ rows)) (in_instance table name level found outside)
+reference-there table name level row rows None outside below there = there
+reference-there table name level row rows (Some o) outside below there = column-there table name level row rows o (below o refl)
 
 qualified-there : (table name : Name) (level b : ℕ) (scopes : Scopes) (rows : numbers.Scope) → Around b scopes rows → Given (IsThere level rows) (qualified table name level scopes)
 unfolding qualified
@@ -121,8 +121,8 @@ qualified-there table name level b [] rows fits = tt
 qualified-there table name level b (scope ∷ outer) [] fits = absurd fits
 qualified-there table name level b (scope ∷ outer) (row ∷ rows) fits =
     let wide = fits.0 in
-    occurrence-there table name level row rows (occurrence_named table.text 0 scope) (qualified table name (level + 1) outer)
-    (λ o is. let le = occurrence-below table.text 0 scope o is in omega (arith, le, wide))
+    reference-there table name level row rows (instance_named table.text 0 scope) (qualified table name (level + 1) outer)
+    (λ o is. let le = reference-below table.text 0 scope o is in omega (arith, le, wide))
     (outside-there level row rows (qualified table name (level + 1) outer) (qualified-there table name (level + 1) b outer rows fits.2))
 
 -- the scope has the column

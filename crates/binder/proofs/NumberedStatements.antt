@@ -16,13 +16,13 @@ use Rattle.query.specs.declared.query.From.{From}
 use Rattle.query.specs.declared.query.From.TheVariants as from
 use Rattle.query.specs.declared.query.TableInstance.{TableInstance}
 use Rattle.binder.specs.Outputs.{aggregates, is_grouped}
-use Rattle.binder.specs.Parts.{known, table_faults, term_faults, the_term, the_key, the_occurrence, the_instance, the_table, widths, instances_behind, shown}
+use Rattle.binder.specs.Parts.{known, table_faults, term_faults, the_term, the_key, the_reference, the_instance, the_table, widths, instances_behind, shown}
 use Rattle.binder.specs.Scopes.{Scope, Scopes}
 use Rattle.binder.specs.Selects.{block_of}
 use Rattle.binder.specs.Analyses.{Before, Content, behind, both, all_contents, ConditionAnalysis, JoinAnalysis, ChainAnalysis, SelectAnalysis, all_become, condition_layer, one_table, joins_faults, joins_become, chain_layer, chains_faults, commas_become, from_faults, from_becomes, from_content, filter_content, filter_faults, filter_becomes, scope_of_from, select_layer, condition_analysis, join_analysis, chain_analysis, select_analysis, statement_content, statement_faults, statement_query}
 use Rattle.binder.specs.TextNumbers.{Listing, one_listing, both_listings, all_listings, filter_listing, cond_listing, from_listing, block_listing, columns_together, IsNumbered}
 use Rattle.binder.proofs.PartAnswers.{instances-length, widths-append}
-use Rattle.binder.proofs.AnalysisNumbers.{nil-parts, both-assoc, both-none, listing-joined, occurrences_behind, of_content, both-listed, shown-numbers}
+use Rattle.binder.proofs.AnalysisNumbers.{nil-parts, both-assoc, both-none, listing-joined, references_behind, of_content, both-listed, shown-numbers}
 use Rattle.binder.proofs.AnalysisParts.{analysis-condition, analysis-join, analysis-chain, select_parts, analysis-select}
 use Rattle.binder.proofs.ListingEquations.{listing-Compare, listing-IsNull, listing-Not, listing-And, listing-Or, listing-Exists, listing-In, listing-Table, listing-Comma, listing-Block}
 
@@ -91,7 +91,7 @@ module _ (S : Schema) where
       let analysis = condition_analysis S (out-Join j).condition in
       let right : Scope = chain ++ known S t ∷ [] in
       let inside : Before = behind b (one_table S t) in
-      let o = the_occurrence S b.tables t in
+      let o = the_reference S b.tables t in
       listing-joined (out-Join j).kind left o (analysis.becomes (right ∷ outer) inside)
       ∙ ap (λ x. both_listings (from_listing left) (both_listings (one_listing o) x)) (on (right ∷ outer) inside (nil-parts (table_faults S (others ++ chain) t) _ none).1)
       ∙ ap (both_listings (from_listing left)) (both-listed S b (one_table S t) analysis.content))
@@ -115,10 +115,10 @@ module _ (S : Schema) where
   chain-listed : (c : Chain) (joins : List ProvedJoin) → map (λ j. j.0) joins ≡ (out-Chain c).joins → ChainListed (chain_analysis S c)
   chain-listed c joins same = subst ChainListed (sym (analysis-chain S c ∙ ap (λ js. chain_layer S (record { table = (out-Chain c).table; joins = map (join_analysis S) js })) (sym same))) (λ outer others b none.
       let t = (out-Chain c).table in
-      let left : From = from.Table (the_occurrence S b.tables t) in
+      let left : From = from.Table (the_reference S b.tables t) in
       let rest = all_contents (map (λ (j : JoinAnalysis). j.content) (joins_of joins)) in
       joins-listed joins outer others (known S t ∷ []) (behind b (one_table S t)) left (nil-parts (table_faults S others t) _ none).1
-      ∙ ap (λ x. both_listings x (of_content S (behind b (one_table S t)) rest)) (listing-Table (the_occurrence S b.tables t))
+      ∙ ap (λ x. both_listings x (of_content S (behind b (one_table S t)) rest)) (listing-Table (the_reference S b.tables t))
       ∙ both-listed S b (one_table S t) rest)
 
   abbrev chains_of : List ProvedChain → List ChainAnalysis
@@ -173,7 +173,7 @@ module _ (S : Schema) where
       let first = nil-parts (from_faults outer chains) _ none in
       let next = nil-parts (filter_faults scopes filter) _ first.1 in
       listing-Block (block_of x.distinct (from_becomes outer inside chains) (filter_becomes scopes further filter) (is_grouped keys x.list) keys outputs)
-      ∙ ap (λ ns. both_listings (record { occurrences = []; aggregates = ns }) (both_listings (from_listing (from_becomes outer inside chains)) (filter_listing (option_map cond_listing (filter_becomes scopes further filter))))) (shown-numbers scope scopes b.aggregates x.list)
+      ∙ ap (λ ns. both_listings (record { references = []; aggregates = ns }) (both_listings (from_listing (from_becomes outer inside chains)) (filter_listing (option_map cond_listing (filter_becomes scopes further filter))))) (shown-numbers scope scopes b.aggregates x.list)
       ∙ ap (λ y. both_listings (of_content S b own) (both_listings y (filter_listing (option_map cond_listing (filter_becomes scopes further filter))))) (from-listed cs outer inside first.0)
       ∙ ap (λ y. both_listings (of_content S b own) (both_listings (of_content S inside (from_content chains)) y)) (filter-listed w scopes further next.0)
       ∙ ap (both_listings (of_content S b own)) (both-listed S inside (from_content chains) (filter_content filter))
@@ -240,13 +240,13 @@ module _ (S : Schema) where
 
   -- ---- numbers, one after the other
 
-  in-order : (before ts : List TableName) → map (λ o. o.number) (occurrences_behind S before ts) ≡ range_with_len (length before) (length ts)
+  in-order : (before ts : List TableName) → map (λ o. o.number) (references_behind S before ts) ≡ range_with_len (length before) (length ts)
   in-order before [] = refl
   in-order before (t ∷ ts) =
       let more : length (before ++ t ∷ []) ≡ length before + 1 = omega (arith, length-append before (t ∷ [])) in
       ap (λ ns. length before ∷ ns) (in-order (before ++ t ∷ []) ts ∙ ap (λ n. range_with_len n (length ts)) more)
 
-  pub same-tables : (before ts : List TableName) → map (λ o. o.table) (occurrences_behind S before ts) ≡ map (λ t. t.table) (instances_behind S before ts)
+  pub same-tables : (before ts : List TableName) → map (λ o. o.table) (references_behind S before ts) ≡ map (λ t. t.table) (instances_behind S before ts)
   same-tables before [] = refl
   same-tables before (t ∷ ts) = ap (λ places. (the_table S t).0 ∷ places) (same-tables (before ++ t ∷ []) ts)
 
@@ -276,8 +276,8 @@ module _ (S : Schema) where
     numbered-query : block_listing (statement_query S s).block ≡ of_content S (record { tables = []; aggregates = widths S content.tables }) content → IsNumbered (statement_query S s)
     unfolding statement_query
     numbered-query listed = record {
-      numbers = ap (λ (x : Listing). map (λ o. o.number) x.occurrences) listed ∙ in-order [] content.tables ∙ ap (range_with_len 0) (sym (instances-length S [] content.tables));
-      tables = ap (λ (x : Listing). map (λ o. o.table) x.occurrences) listed ∙ same-tables [] content.tables;
+      numbers = ap (λ (x : Listing). map (λ o. o.number) x.references) listed ∙ in-order [] content.tables ∙ ap (range_with_len 0) (sym (instances-length S [] content.tables));
+      tables = ap (λ (x : Listing). map (λ o. o.table) x.references) listed ∙ same-tables [] content.tables;
       columns = λ i t is. let first = first-columns [] content.tables i t is in omega (arith, first);
       aggregates =
           let here = ap (λ (x : Listing). x.aggregates) listed in

@@ -42,7 +42,7 @@ use Rattle.binder.specs.Ordering.{first_place, one_column, order_in, sort_key_in
 use Rattle.binder.specs.Outputs.{aggregate_in, aggregate_of, all_columns as all_columns_from, columns_from, is_aggregate, is_shown, item_in, items_in, key_in, output_in, output_name, outputs_in, shows}
 use Rattle.binder.specs.Scopes.{Scope, Scopes, is_taken, known_name, meant, place_in_text}
 use Rattle.binder.specs.Selects.{are_comparable, comparison_in, membership_in, one_output, term_in}
-use Rattle.binder.specs.Parts.{all_columns, output_at, unless, fault_in, value_in, name_faults, the_column, term_faults, the_term, no_table, the_table, known, table_faults, widths, the_occurrence, the_instance, instances_behind, key_faults, the_key, aggregate_by, kind_by, has_aggregate, aggregate_faults, the_aggregate, aggregate_kind, item_faults, the_item, item_kind, the_output, the_outputs, list_faults, shown, kinds_shown, is_one, first_kind, is_empty, are_one, place_of, items_meant, order_faults, the_sort_key}
+use Rattle.binder.specs.Parts.{all_columns, output_at, unless, fault_in, value_in, name_faults, the_column, term_faults, the_term, no_table, the_table, known, table_faults, widths, the_reference, the_instance, instances_behind, key_faults, the_key, aggregate_by, kind_by, has_aggregate, aggregate_faults, the_aggregate, aggregate_kind, item_faults, the_item, item_kind, the_output, the_outputs, list_faults, shown, kinds_shown, is_one, first_kind, is_empty, are_one, place_of, items_meant, order_faults, the_sort_key}
 
 -- ---- answers
 
@@ -244,14 +244,14 @@ module _ (S : Schema) where
   find-answer (Some found) at = refl
 
   pub enter-answer : (others chain : Scope) (t : TableName) (before : List TableName) (number : ℕ) → enter S others chain t (numbered before number)
-      ≡ answer (table_faults S (others ++ chain) t) (the_occurrence S before t, chain ++ known S t ∷ [], numbered (before ++ t ∷ []) number)
+      ≡ answer (table_faults S (others ++ chain) t) (the_reference S before t, chain ++ known S t ∷ [], numbered (before ++ t ∷ []) number)
   unfolding enter
   enter-answer others chain t before number =
       then-answer (table_in S t.name) (unless (is_some (find_table 0 S.tables t.name.text)) UnknownTable t.name.at) (the_table S t) _ _ _ (find-answer (find_table 0 S.tables t.name.text) t.name.at)
       (if-answer (not (is_taken (known_name t).text (others ++ chain))) RepeatedName (known_name t).at (entered chain t (numbered before number) (the_table S t))
       ∙ ap (λ x. answer (unless (not (is_taken (known_name t).text (others ++ chain))) RepeatedName (known_name t).at) x) entered-is)
     where
-      entered-is : entered chain t (numbered before number) (the_table S t) ≡ (the_occurrence S before t, chain ++ known S t ∷ [], numbered (before ++ t ∷ []) number)
+      entered-is : entered chain t (numbered before number) (the_table S t) ≡ (the_reference S before t, chain ++ known S t ∷ [], numbered (before ++ t ∷ []) number)
       entered-is =
           ap (λ n. (record { number = n; table = (the_table S t).0 }, chain ++ known S t ∷ [], with_table (numbered before number) (the_table S t).0 (the_table S t).1 (known_name t).text)) (instances-length [] before)
-          ∙ ap (λ (m : Numbered). (the_occurrence S before t, chain ++ known S t ∷ [], m)) (numbered-next before number t)
+          ∙ ap (λ (m : Numbered). (the_reference S before t, chain ++ known S t ∷ [], m)) (numbered-next before number t)

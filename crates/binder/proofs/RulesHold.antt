@@ -37,15 +37,15 @@ use Rattle.binder.specs.Lookups.{find_table}
 use Rattle.binder.specs.Meanings.{HasAny, IsFirst, Means, HasInstance}
 use Rattle.binder.specs.Ordering.{first_place, same_item}
 use Rattle.binder.specs.Outputs.{aggregates, is_aggregate, is_grouped}
-use Rattle.binder.specs.Parts.{unless, name_faults, the_column, term_faults, the_term, no_table, the_table, known, table_faults, the_occurrence, key_faults, the_key, aggregate_faults, the_aggregate, aggregate_kind, item_faults, the_item, item_kind, the_outputs, list_faults, shown, is_one, first_kind, is_empty, are_one, items_meant, place_of, order_faults, the_sort_key}
+use Rattle.binder.specs.Parts.{unless, name_faults, the_column, term_faults, the_term, no_table, the_table, known, table_faults, the_reference, key_faults, the_key, aggregate_faults, the_aggregate, aggregate_kind, item_faults, the_item, item_kind, the_outputs, list_faults, shown, is_one, first_kind, is_empty, are_one, items_meant, place_of, order_faults, the_sort_key}
 use Rattle.binder.specs.Rules.{BindsTerm, BindsKey, BindsAggregate, BindsValue, BindsItem, BindsList, BindsTable, BindsCondition, BindsConditions, BindsJoins, BindsChain, BindsCommas, BindsFilter, BindsSelect, BindsOrder}
-use Rattle.binder.specs.Scopes.{Scope, Scopes, is_taken, known_name, occurrence_named}
+use Rattle.binder.specs.Scopes.{Scope, Scopes, is_taken, known_name, instance_named}
 use Rattle.binder.specs.Selects.{are_comparable}
 use Rattle.binder.proofs.AnalysisAnswers.{bound_select, has-kinds}
 use Rattle.binder.proofs.AnalysisNumbers.{nil-parts}
 use Rattle.binder.proofs.AnalysisParts.{analysis-condition, analysis-join, analysis-chain, select_parts, analysis-select}
 use Rattle.binder.proofs.FirstOnes.{first-here, first-behind, none-here}
-use Rattle.binder.proofs.Indexes.{taken-occurrence}
+use Rattle.binder.proofs.Indexes.{taken-instance}
 use Rattle.binder.proofs.NameMeanings.{names_mean, FoundInstance, found-instance}
 use Rattle.binder.proofs.PartAnswers.{answer, name-answer}
 
@@ -128,12 +128,12 @@ module _ (S : Schema) where
 
   free-of : (name : Rattle.sql_parse.specs.declared.name.Name.Name) (others : Scope) → not (is_taken name.text others) ≡ true → HasInstance name others → ⊥
   unfolding FoundInstance
-  free-of name others free = by (occurrence_named name.text 0 others) (subst (λ b. not b ≡ true) (taken-occurrence name.text 0 others) free) (found-instance name 0 others) where
+  free-of name others free = by (instance_named name.text 0 others) (subst (λ b. not b ≡ true) (taken-instance name.text 0 others) free) (found-instance name 0 others) where
     by : (o : Option (ℕ × Table)) → not (is_some o) ≡ true → FoundInstance name 0 others o → HasInstance name others → ⊥
     by None none found = found
     by (Some p) none found = cc none
 
-  pub table-binds : (others : Scope) (t : TableName) (before : List TableName) → table_faults S others t ≡ [] → BindsTable S others t (the_occurrence S before t) (known S t)
+  pub table-binds : (others : Scope) (t : TableName) (before : List TableName) → table_faults S others t ≡ [] → BindsTable S others t (the_reference S before t) (known S t)
   table-binds others t before none =
       let parts = nil-parts (unless (is_some (find_table 0 S.tables t.name.text)) _ t.name.at) _ none in
       record { entry = table-first t (held _ _ t.name.at parts.0); name = refl; free = free-of (known_name t) others (held _ _ (known_name t).at parts.1) }
@@ -213,7 +213,7 @@ module _ (S : Schema) where
   join-binds j on = subst (JoinBinds j) (sym (analysis-join S j)) (λ outer others chain b left js all whole none more.
       let t = (out-Join j).table in
       let parts = nil-parts (table_faults S (others ++ chain) t) _ none in
-      BindsJoins.joins j (the_occurrence S b.tables t) (known S t) _ (table-binds (others ++ chain) t b.tables parts.0) (on ((chain ++ known S t ∷ []) ∷ outer) (behind b (one_table S t)) parts.1) more)
+      BindsJoins.joins j (the_reference S b.tables t) (known S t) _ (table-binds (others ++ chain) t b.tables parts.0) (on ((chain ++ known S t ∷ []) ∷ outer) (behind b (one_table S t)) parts.1) more)
 
   abbrev joins_of : List ProvedJoin → List JoinAnalysis
   joins_of joins = map (join_analysis S) (map (λ j. j.0) joins)
@@ -234,9 +234,9 @@ module _ (S : Schema) where
   chain-binds c joins same = subst (ChainBinds c) (sym (analysis-chain S c ∙ ap (λ js. chain_layer S (record { table = (out-Chain c).table; joins = map (join_analysis S) js })) (sym same))) (λ outer others b none.
       let t = (out-Chain c).table in
       let parts = nil-parts (table_faults S others t) _ none in
-      let left : From = from.Table (the_occurrence S b.tables t) in
+      let left : From = from.Table (the_reference S b.tables t) in
       let binds = joins-bind joins outer others (known S t ∷ []) (behind b (one_table S t)) left parts.1 in
-      BindsChain.chain c (the_occurrence S b.tables t) (known S t) (table-binds others t b.tables parts.0)
+      BindsChain.chain c (the_reference S b.tables t) (known S t) (table-binds others t b.tables parts.0)
       (subst (λ js. BindsJoins S outer others (known S t ∷ []) left js (known S t ∷ map (λ j. known S j.table) (joins_of joins)) (joins_become S outer (known S t ∷ []) (behind b (one_table S t)) left (joins_of joins))) same binds))
 
   abbrev chains_of : List ProvedChain → List ChainAnalysis

@@ -21,7 +21,7 @@ use Rattle.sql_parse.specs.declared.statement.Term.TheVariants as written
 use Rattle.query.specs.declared.query.Aggregate.{Aggregate}
 use Rattle.query.specs.declared.query.Item.{Item}
 use Rattle.query.specs.declared.query.Item.TheVariants as item
-use Rattle.query.specs.declared.query.Occurrence.{Occurrence}
+use Rattle.query.specs.declared.query.TableReference.{TableReference}
 use Rattle.query.specs.Bound.{aggregate_numbers}
 use Rattle.binder.specs.declared.fault.BindReason.{BindReason}
 use Rattle.binder.specs.declared.fault.BindRefusal.{BindRefusal}
@@ -32,13 +32,13 @@ use Rattle.binder.specs.Analyses.{Before, Content, behind}
 use Rattle.binder.specs.Lookups.{find_table}
 use Rattle.binder.specs.Meanings.{HasInstance, IsFirst, Means}
 use Rattle.binder.specs.Outputs.{is_aggregate, is_call, is_shown, shows}
-use Rattle.binder.specs.Parts.{unless, fault_in, value_in, name_faults, the_column, term_faults, the_term, no_table, the_table, known, table_faults, the_occurrence, key_faults, the_key, has_aggregate, aggregate_faults, the_aggregate, aggregate_kind, item_faults, the_item, item_kind, the_output, the_outputs, all_columns, list_faults, shown}
+use Rattle.binder.specs.Parts.{unless, fault_in, value_in, name_faults, the_column, term_faults, the_term, no_table, the_table, known, table_faults, the_reference, key_faults, the_key, has_aggregate, aggregate_faults, the_aggregate, aggregate_kind, item_faults, the_item, item_kind, the_output, the_outputs, all_columns, list_faults, shown}
 use Rattle.binder.specs.Rules.{BindsTerm, BindsKey, BindsAggregate, BindsValue, BindsItem, BindsList, BindsTable}
-use Rattle.binder.specs.Scopes.{Known, Scope, Scopes, is_taken, known_name, occurrence_named}
+use Rattle.binder.specs.Scopes.{Known, Scope, Scopes, is_taken, known_name, instance_named}
 use Rattle.binder.specs.TextNumbers.{Listing, one_listing, both_listings}
 use Rattle.binder.proofs.AnalysisNumbers.{of_content}
 use Rattle.binder.proofs.FirstOnes.{first-once}
-use Rattle.binder.proofs.Indexes.{taken-occurrence}
+use Rattle.binder.proofs.Indexes.{taken-instance}
 use Rattle.binder.proofs.NameMeanings.{names_mean, FoundInstance, found-instance}
 use Rattle.binder.proofs.RulesHold.{FoundTable, found-table}
 
@@ -161,47 +161,47 @@ split-range n (x ∷ xs) ys is =
     let all : x ∷ xs ≡ n ∷ range_with_len (n + 1) (length xs) = cc in
     (all, more.1 ∙ ap (λ m. range_with_len m (length ys)) next)
 
--- the occurrences and aggregates have the next numbers
+-- the instances and aggregates have the next numbers
 abbrev pub Runs : Before → Listing → Type 0
-Runs b l = (map (λ o. o.number) l.occurrences ≡ range_with_len (length b.tables) (length l.occurrences)) × (l.aggregates ≡ range_with_len b.aggregates (length l.aggregates))
+Runs b l = (map (λ o. o.number) l.references ≡ range_with_len (length b.tables) (length l.references)) × (l.aggregates ≡ range_with_len b.aggregates (length l.aggregates))
 
-occurrences-split : (b : Before) (p q : Listing) → Runs b (both_listings p q)
-    → (map (λ o. o.number) p.occurrences ≡ range_with_len (length b.tables) (length (map (λ o. o.number) p.occurrences)))
-    × (map (λ o. o.number) q.occurrences ≡ range_with_len (length b.tables + length (map (λ o. o.number) p.occurrences)) (length (map (λ o. o.number) q.occurrences)))
-occurrences-split b p q runs =
-    let numbers : List Occurrence → List ℕ = map (λ o. o.number) in
-    let whole : numbers p.occurrences ++ numbers q.occurrences ≡ numbers (p.occurrences ++ q.occurrences) = sym (map-append (λ o. o.number) p.occurrences q.occurrences) in
-    let count : length (p.occurrences ++ q.occurrences) ≡ length (numbers p.occurrences ++ numbers q.occurrences) = sym (length-map (p.occurrences ++ q.occurrences) (λ o. o.number)) ∙ sym (ap length whole) in
-    split-range (length b.tables) (numbers p.occurrences) (numbers q.occurrences) (whole ∙ runs.0 ∙ ap (range_with_len (length b.tables)) count)
+references-split : (b : Before) (p q : Listing) → Runs b (both_listings p q)
+    → (map (λ o. o.number) p.references ≡ range_with_len (length b.tables) (length (map (λ o. o.number) p.references)))
+    × (map (λ o. o.number) q.references ≡ range_with_len (length b.tables + length (map (λ o. o.number) p.references)) (length (map (λ o. o.number) q.references)))
+references-split b p q runs =
+    let numbers : List TableReference → List ℕ = map (λ o. o.number) in
+    let whole : numbers p.references ++ numbers q.references ≡ numbers (p.references ++ q.references) = sym (map-append (λ o. o.number) p.references q.references) in
+    let count : length (p.references ++ q.references) ≡ length (numbers p.references ++ numbers q.references) = sym (length-map (p.references ++ q.references) (λ o. o.number)) ∙ sym (ap length whole) in
+    split-range (length b.tables) (numbers p.references) (numbers q.references) (whole ∙ runs.0 ∙ ap (range_with_len (length b.tables)) count)
 
 pub runs-left : (b : Before) (p q : Listing) → Runs b (both_listings p q) → Runs b p
 runs-left b p q runs = (
-  (occurrences-split b p q runs).0 ∙ ap (range_with_len (length b.tables)) (length-map p.occurrences (λ o. o.number)),
+  (references-split b p q runs).0 ∙ ap (range_with_len (length b.tables)) (length-map p.references (λ o. o.number)),
   (split-range b.aggregates p.aggregates q.aggregates runs.1).0,
 )
 
 module _ (S : Schema) where
-  occurrences-length : (before ts : List TableName) → length (Rattle.binder.proofs.AnalysisNumbers.occurrences_behind S before ts) ≡ length ts
-  occurrences-length before [] = refl
-  occurrences-length before (t ∷ ts) = let rest = occurrences-length (before ++ t ∷ []) ts in omega (arith, rest)
+  references-length : (before ts : List TableName) → length (Rattle.binder.proofs.AnalysisNumbers.references_behind S before ts) ≡ length ts
+  references-length before [] = refl
+  references-length before (t ∷ ts) = let rest = references-length (before ++ t ∷ []) ts in omega (arith, rest)
 
   pub runs-right : (b : Before) (p q : Listing) (c : Content) → Runs b (both_listings p q) → p ≡ of_content S b c → Runs (behind b c) q
   runs-right b p q c runs is =
-      let numbers : List Occurrence → List ℕ = map (λ o. o.number) in
-      let many = ap (λ (l : Listing). length l.occurrences) is in
-      let count = occurrences-length b.tables c.tables in
-      let mapped = length-map p.occurrences (λ o. o.number) in
-      let place : length b.tables + length (numbers p.occurrences) ≡ length (b.tables ++ c.tables) = omega (arith, many, count, mapped, length-append b.tables c.tables) in
+      let numbers : List TableReference → List ℕ = map (λ o. o.number) in
+      let many = ap (λ (l : Listing). length l.references) is in
+      let count = references-length b.tables c.tables in
+      let mapped = length-map p.references (λ o. o.number) in
+      let place : length b.tables + length (numbers p.references) ≡ length (b.tables ++ c.tables) = omega (arith, many, count, mapped, length-append b.tables c.tables) in
       let calls = ap (λ (l : Listing). length l.aggregates) is in
       let called = length-range_with_len b.aggregates c.aggregates in
       let number : b.aggregates + length p.aggregates ≡ b.aggregates + c.aggregates = omega (arith, calls, called) in (
-        (occurrences-split b p q runs).1 ∙ ap (λ n. range_with_len n (length (numbers q.occurrences))) place ∙ ap (range_with_len (length (b.tables ++ c.tables))) (length-map q.occurrences (λ o. o.number)),
+        (references-split b p q runs).1 ∙ ap (λ n. range_with_len n (length (numbers q.references))) place ∙ ap (range_with_len (length (b.tables ++ c.tables))) (length-map q.references (λ o. o.number)),
         (split-range b.aggregates p.aggregates q.aggregates runs.1).1 ∙ ap (λ n. range_with_len n (length q.aggregates)) number,
       )
 
   -- ---- tables
 
-  find-only : (t : TableName) (o : Occurrence) (e : Table) → IsFirst (λ (e : Table). e.name ≡ t.name.text) S.tables o.table e → find_table 0 S.tables t.name.text ≡ Some (o.table, e)
+  find-only : (t : TableName) (o : TableReference) (e : Table) → IsFirst (λ (e : Table). e.name ≡ t.name.text) S.tables o.table e → find_table 0 S.tables t.name.text ≡ Some (o.table, e)
   unfolding FoundTable
   find-only t o e first = by (find_table 0 S.tables t.name.text) (found-table t.name.text 0 S.tables) where
     by : (f : Option (ℕ × Table)) → FoundTable t.name.text 0 S.tables f → f ≡ Some (o.table, e)
@@ -215,19 +215,19 @@ module _ (S : Schema) where
 
   not-taken : (name : Rattle.sql_parse.specs.declared.name.Name.Name) (others : Scope) → (HasInstance name others → ⊥) → not (is_taken name.text others) ≡ true
   unfolding FoundInstance
-  not-taken name others free = ap not (taken-occurrence name.text 0 others) ∙ by (occurrence_named name.text 0 others) (found-instance name 0 others) where
+  not-taken name others free = ap not (taken-instance name.text 0 others) ∙ by (instance_named name.text 0 others) (found-instance name 0 others) where
     by : (o : Option (ℕ × Table)) → FoundInstance name 0 others o → not (is_some o) ≡ true
     by None found = refl
     by (Some p) (i, k, first, entry, at) = absurd (free (i, k, first.stands))
 
-  abbrev occurrence_of : ℕ → ℕ → Occurrence
-  occurrence_of number table = record { number = number; table = table }
+  abbrev instance_of : ℕ → ℕ → TableReference
+  instance_of number table = record { number = number; table = table }
 
   abbrev known_of : List ℕ → Table → Known
   known_of name entry = record { name = name; entry = entry }
 
-  pub table-only : (others : Scope) (t : TableName) (o : Occurrence) (k : Known) (b : Before) → BindsTable S others t o k → Runs b (one_listing o)
-      → (table_faults S others t ≡ []) × (o ≡ the_occurrence S b.tables t) × (k ≡ known S t)
+  pub table-only : (others : Scope) (t : TableName) (o : TableReference) (k : Known) (b : Before) → BindsTable S others t o k → Runs b (one_listing o)
+      → (table_faults S others t ≡ []) × (o ≡ the_reference S b.tables t) × (k ≡ known S t)
   table-only others t o k b binds runs =
       let found = find-only t o k.entry binds.entry in
       let number : o.number ≡ length b.tables = let listed = runs.0 in cc in
@@ -235,6 +235,6 @@ module _ (S : Schema) where
       let entry : k.entry ≡ (the_table S t).1 = sym (ap (λ x. (unwrap_or x no_table).1) found) in
       let name = binds.name in
       let free = not-taken (known_name t) others (λ (i, other, (at, is)). binds.free (i, other, (at, is ∙ sym name))) in
-      let occurrence : occurrence_of o.number o.table ≡ the_occurrence S b.tables t = cc in
+      let reference : instance_of o.number o.table ≡ the_reference S b.tables t = cc in
       let instance : known_of k.name k.entry ≡ known S t = cc in
-      (no-faults _ _ (required _ _ t.name.at (ap is_some found)) (required _ _ (known_name t).at free), occurrence, instance)
+      (no-faults _ _ (required _ _ t.name.at (ap is_some found)) (required _ _ (known_name t).at free), reference, instance)

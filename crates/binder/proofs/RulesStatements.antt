@@ -164,9 +164,9 @@ module _ (S : Schema) where
       runs : Runs from_there (block_listing binds.shown.block)
       runs =
           let many = ap length binds.numbered.tables in
-          let count = length-map (block_listing q.block).occurrences (λ o. o.table) in
+          let count = length-map (block_listing q.block).references (λ o. o.table) in
           let tables = length-map q.tables (λ t. t.table) in
-          let as_many : length q.tables ≡ length (block_listing q.block).occurrences = omega (arith, many, count, tables) in
+          let as_many : length q.tables ≡ length (block_listing q.block).references = omega (arith, many, count, tables) in
           subst (λ x. Runs from_there (block_listing x)) binds.block (binds.numbered.numbers ∙ ap (range_with_len 0) as_many, binds.numbered.aggregates)
 
       only-query : (statement_faults S s ≡ []) × (q ≡ statement_query S s)
@@ -179,7 +179,7 @@ module _ (S : Schema) where
           let there : q.block ≡ analysis.becomes [] from_there = binds.block ∙ ap (λ (r : BoundSelect). r.block) one.1 in
           let listed : block_listing q.block ≡ of_content S from_there content = ap block_listing there ∙ selects-listed S s.select [] from_there none in
           let tables : map (λ t. t.table) q.tables ≡ map (λ t. t.table) (instances_behind S [] content.tables) =
-          sym binds.numbered.tables ∙ ap (λ (l : Listing). map (λ o. o.table) l.occurrences) listed ∙ same-tables S [] content.tables in
+          sym binds.numbered.tables ∙ ap (λ (l : Listing). map (λ o. o.table) l.references) listed ∙ same-tables S [] content.tables in
           let instances : q.tables ≡ instances_behind S [] content.tables =
           same-instances S 0 0 q.tables (instances_behind S [] content.tables) refl tables (binds.known ∙ sym (names-behind [] content.tables)) binds.over (instances-over s.select 0 none)
           (λ i t is. let at = binds.numbered.columns i t is in omega (arith, at)) (λ i t is. let at = first-columns S [] content.tables i t is in omega (arith, at)) in

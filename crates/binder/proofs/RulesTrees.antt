@@ -15,7 +15,7 @@ use Rattle.query.specs.declared.query.Cond.{Cond}
 use Rattle.query.specs.declared.query.Cond.TheVariants as cond
 use Rattle.query.specs.declared.query.From.{From}
 use Rattle.query.specs.declared.query.From.TheVariants as from
-use Rattle.query.specs.declared.query.Occurrence.{Occurrence}
+use Rattle.query.specs.declared.query.TableReference.{TableReference}
 use Rattle.query.specs.Bound.{aggregate_numbers}
 use Rattle.binder.specs.declared.fault.BindRefusal.{BindRefusal}
 use Rattle.binder.specs.declared.output.Output.{Output}
@@ -23,7 +23,7 @@ use Rattle.binder.specs.declared.selects.BoundSelect.{BoundSelect}
 use Rattle.binder.specs.declared.selects.BoundTerm.{BoundTerm}
 use Rattle.binder.specs.Analyses.{Before, Content, behind, both, ConditionAnalysis, JoinAnalysis, ChainAnalysis, SelectAnalysis, all_become, one_table, joins_faults, joins_become, chains_faults, commas_become, from_faults, from_becomes, from_content, filter_faults, filter_becomes, scope_of_from, select_layer, condition_analysis, join_analysis, chain_analysis, select_analysis}
 use Rattle.binder.specs.Outputs.{aggregates, is_grouped}
-use Rattle.binder.specs.Parts.{is_one, first_kind, key_faults, known, list_faults, shown, the_key, the_occurrence, the_term}
+use Rattle.binder.specs.Parts.{is_one, first_kind, key_faults, known, list_faults, shown, the_key, the_reference, the_term}
 use Rattle.binder.specs.Rules.{BindsTerm, BindsKey, BindsList, BindsTable, BindsCondition, BindsConditions, BindsJoins, BindsChain, BindsCommas, BindsFilter, BindsSelect}
 use Rattle.binder.specs.Scopes.{Known, Scope, Scopes}
 use Rattle.binder.specs.Selects.{are_comparable, block_of, joined}
@@ -142,7 +142,7 @@ module _ (S : Schema) where
   pub only-no-join : (outer : Scopes) (others chain : Scope) (left : From) → JoinsOnly outer others chain left [] chain left
   only-no-join outer others chain left = (no_listing, sym (both-none (from_listing left)), λ b runs. (refl, refl, sym (append-nil chain)))
 
-  pub only-join : (outer : Scopes) (others chain : Scope) (left : From) (j : Join) (o : Occurrence) (k : Known) (on : Cond) (js : List Join) (all : Scope) (whole : From)
+  pub only-join : (outer : Scopes) (others chain : Scope) (left : From) (j : Join) (o : TableReference) (k : Known) (on : Cond) (js : List Join) (all : Scope) (whole : From)
       → BindsTable S (others ++ chain) (out-Join j).table o k → ConditionOnly ((chain ++ k ∷ []) ∷ outer) (out-Join j).condition on
       → JoinsOnly outer others (chain ++ k ∷ []) (joined (out-Join j).kind left o on) js all whole → JoinsOnly outer others chain left (j ∷ js) all whole
   only-join outer others chain left j o k on js all whole table condition (rest, split, more) = (further, split_here, go) where
@@ -179,7 +179,7 @@ module _ (S : Schema) where
         let pair : right ≡ of_content S b (both (one_table S t) analysis.content) = ap (λ x. both_listings x (cond_listing on)) at ∙ ap (both_listings (of_content S b (one_table S t))) listed ∙ both-listed S b (one_table S t) analysis.content in
         let tail = more (behind b (both (one_table S t) analysis.content)) (runs-right S b right rest (both (one_table S t) analysis.content) runs pair) in
         let kind = (out-Join j).kind in
-        let further_left : joined kind left o on ≡ joined kind left (the_occurrence S b.tables t) (analysis.becomes scopes inside) = ap (λ o. joined kind left o on) entered.1 ∙ ap (joined kind left (the_occurrence S b.tables t)) on_is in
+        let further_left : joined kind left o on ≡ joined kind left (the_reference S b.tables t) (analysis.becomes scopes inside) = ap (λ o. joined kind left o on) entered.1 ∙ ap (joined kind left (the_reference S b.tables t)) on_is in
         let known_is = entered.2 in
         subst (joins_end outer others chain left js all whole b) (sym (analysis-join S j)) (
           no-faults _ _ (no-faults _ _ entered.0 quiet) (ap (λ k. joins_faults S outer others (chain ++ k ∷ []) (map (join_analysis S) js)) (sym known_is) ∙ tail.0),
@@ -188,7 +188,7 @@ module _ (S : Schema) where
           tail.2 ∙ append_assoc chain (k ∷ []) (map (λ j. known S j.table) (map (join_analysis S) js)) ∙ ap (λ k. chain ++ k ∷ map (λ j. known S j.table) (map (join_analysis S) js)) known_is,
         )
 
-  pub only-chain : (outer : Scopes) (others : Scope) (c : Chain) (o : Occurrence) (k : Known) (all : Scope) (whole : From) → BindsTable S others (out-Chain c).table o k
+  pub only-chain : (outer : Scopes) (others : Scope) (c : Chain) (o : TableReference) (k : Known) (all : Scope) (whole : From) → BindsTable S others (out-Chain c).table o k
       → JoinsOnly outer others (k ∷ []) (from.Table o) (out-Chain c).joins all whole → ChainOnly outer others c all whole
   only-chain outer others c o k all whole table (rest, split, more) b runs =
       let t = (out-Chain c).table in
@@ -245,7 +245,7 @@ module _ (S : Schema) where
       record { block = block_of (out-Select q).distinct sources where_ (is_grouped keys (out-Select q).list) keys outputs; outputs = outputs; scope = scope }
 
   abbrev items_listed : List Output → Listing
-  items_listed outputs = record { occurrences = []; aggregates = aggregate_numbers (map (λ o. o.item) outputs) }
+  items_listed outputs = record { references = []; aggregates = aggregate_numbers (map (λ o. o.item) outputs) }
 
   abbrev keys_in : Select → Scopes → List ℕ
   keys_in q scopes = map (the_key scopes) (out-Select q).group
@@ -299,7 +299,7 @@ module _ (S : Schema) where
       )
     where
       numbers_listed : List ℕ → Listing
-      numbers_listed ns = record { occurrences = []; aggregates = ns }
+      numbers_listed ns = record { references = []; aggregates = ns }
 
   -- ---- each part by its rule
 

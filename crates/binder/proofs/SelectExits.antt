@@ -12,7 +12,7 @@ use Rattle.sql_parse.specs.declared.statement.Join.{Join, out-Join}
 use Rattle.sql_parse.specs.declared.statement.Chain.{Chain}
 use Rattle.sql_parse.specs.declared.statement.Select.{Select, out-Select}
 use Rattle.query.specs.declared.query.Cond.{Cond}
-use Rattle.query.specs.declared.query.Occurrence.{Occurrence}
+use Rattle.query.specs.declared.query.TableReference.{TableReference}
 use Rattle.query.specs.declared.query.From.{From}
 use Rattle.query.specs.declared.query.Item.{Item}
 use Rattle.query.specs.declared.query.Block.{roll-Block}
@@ -51,15 +51,15 @@ module _ (S : Schema) (j : Join) (outer : Scopes) (before : Scope) (left : FromS
   pub right_fails : (e : Fault BindRefusal) → Fails e (enter S before left.1 (out-Join j).table left.2) → Fails e (join_in S j outer before left)
   right_fails e = reported e _ _ _ (join_at S j outer before left (out-Join j).condition refl)
 
-  with_right : (lent : Condition) (right : Occurrence × Scope × Numbered) → lent ≡ (out-Join j).condition → enter S before left.1 (out-Join j).table left.2 ≡ Ok right → join_in S j outer before left
+  with_right : (lent : Condition) (right : TableReference × Scope × Numbered) → lent ≡ (out-Join j).condition → enter S before left.1 (out-Join j).table left.2 ≡ Ok right → join_in S j outer before left
       ≡ (condition_in S lent (right.1 ∷ outer) right.2 >>= λ on. Ok (joined (out-Join j).kind left.0 right.0 on.0, right.1, on.1))
   with_right lent right at entered = handed _ _ _ _ (join_at S j outer before left lent at) entered
 
-  pub on_fails : (e : Fault BindRefusal) (lent : Condition) (right : Occurrence × Scope × Numbered) → lent ≡ (out-Join j).condition → enter S before left.1 (out-Join j).table left.2 ≡ Ok right
+  pub on_fails : (e : Fault BindRefusal) (lent : Condition) (right : TableReference × Scope × Numbered) → lent ≡ (out-Join j).condition → enter S before left.1 (out-Join j).table left.2 ≡ Ok right
       → Fails e (condition_in S lent (right.1 ∷ outer) right.2) → Fails e (join_in S j outer before left)
   on_fails e lent right at entered = reported e _ _ _ (with_right lent right at entered)
 
-  pub join_is : (lent : Condition) (right : Occurrence × Scope × Numbered) (on : Cond × Numbered) (f : From) → lent ≡ (out-Join j).condition → enter S before left.1 (out-Join j).table left.2 ≡ Ok right
+  pub join_is : (lent : Condition) (right : TableReference × Scope × Numbered) (on : Cond × Numbered) (f : From) → lent ≡ (out-Join j).condition → enter S before left.1 (out-Join j).table left.2 ≡ Ok right
       → condition_in S lent (right.1 ∷ outer) right.2 ≡ Ok on → f ≡ joined (out-Join j).kind left.0 right.0 on.0 → join_in S j outer before left ≡ Ok (f, right.1, on.1)
   join_is lent right on f at entered bound is = rw is (handed _ _ _ _ (with_right lent right at entered) bound)
 

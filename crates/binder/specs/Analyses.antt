@@ -25,7 +25,7 @@ use Rattle.binder.specs.declared.statement.TheConstants.{MAX_COLUMNS}
 use Rattle.binder.specs.Extents.{is_within, of_select}
 use Rattle.binder.specs.Ordering.{without_repeats}
 use Rattle.binder.specs.Outputs.{aggregates, is_grouped}
-use Rattle.binder.specs.Parts.{unless, term_faults, the_term, known, table_faults, widths, the_occurrence, instances_behind, key_faults, the_key, list_faults, shown, kinds_shown, is_empty, is_one, first_kind, order_faults, the_sort_key}
+use Rattle.binder.specs.Parts.{unless, term_faults, the_term, known, table_faults, widths, the_reference, instances_behind, key_faults, the_key, list_faults, shown, kinds_shown, is_empty, is_one, first_kind, order_faults, the_sort_key}
 use Rattle.binder.specs.Queries.{bound_statement}
 use Rattle.binder.specs.Scopes.{Scope, Scopes}
 use Rattle.binder.specs.Selects.{are_comparable, block_of, joined}
@@ -133,7 +133,7 @@ module _ (S : Schema) where
     content = both (one_table x.table) x.condition.content;
     faults = λ outer others chain. table_faults S (others ++ chain) x.table ++ x.condition.faults ((chain ++ known S x.table ∷ []) ∷ outer);
     becomes = λ outer chain before left.
-        joined x.kind left (the_occurrence S before.tables x.table) (x.condition.becomes ((chain ++ known S x.table ∷ []) ∷ outer) (behind before (one_table x.table)));
+        joined x.kind left (the_reference S before.tables x.table) (x.condition.becomes ((chain ++ known S x.table ∷ []) ∷ outer) (behind before (one_table x.table)));
   }
 
   abbrev pub joins_faults : Scopes → Scope → Scope → List JoinAnalysis → List BindRefusal
@@ -150,7 +150,7 @@ module _ (S : Schema) where
     scope = known S x.table ∷ map (λ j. known S j.table) x.joins;
     content = both (one_table x.table) (all_contents (map (λ j. j.content) x.joins));
     faults = λ outer others. table_faults S others x.table ++ joins_faults outer others (known S x.table ∷ []) x.joins;
-    becomes = λ outer before. joins_become outer (known S x.table ∷ []) (behind before (one_table x.table)) (from.Table (the_occurrence S before.tables x.table)) x.joins;
+    becomes = λ outer before. joins_become outer (known S x.table ∷ []) (behind before (one_table x.table)) (from.Table (the_reference S before.tables x.table)) x.joins;
   }
 
 abbrev pub chains_faults : Scopes → Scope → List ChainAnalysis → List BindRefusal

@@ -9,7 +9,7 @@ use Rattle.binder.specs.declared.scope.LentTable.{LentTable}
 use Rattle.binder.specs.declared.scope.Placed.{Placed}
 use Rattle.binder.specs.declared.scope.Meaning.{Meaning}
 use Rattle.binder.specs.declared.scope.Meaning.TheVariants.{One, Several}
-use Rattle.binder.specs.Scopes.{Known, Scope, named_in, occurrence_named}
+use Rattle.binder.specs.Scopes.{Known, Scope, named_in, instance_named}
 
 abbrev pub known_of : LentTable → Known
 known_of t = record { name = t.name.now; entry = t.entry.now }
@@ -43,6 +43,6 @@ with_more meaning (found ∷ more) = with_more (one_more meaning found) more
 
 -- the maps answer as the list of tables does
 pub record IsIndexed {S T : Type 0} (scope : Scope) (by_name : HashMap (Bor (List ℕ)) Placed S) (columns : HashMap (Bor (List ℕ)) Meaning T) (places : ℕ) : Type 0 where
-  pub finds_tables : (q : List ℕ) → option_map placed_of (hash.get_by (λ k. bytes_eq q k.now) by_name) ≡ occurrence_named q 0 scope
+  pub finds_tables : (q : List ℕ) → option_map placed_of (hash.get_by (λ k. bytes_eq q k.now) by_name) ≡ instance_named q 0 scope
   pub finds_columns : (q : List ℕ) → hash.get_by (λ k. bytes_eq q k.now) columns ≡ meaning_of (named_in q 0 scope)
   pub counts : places ≡ width scope

@@ -78,11 +78,11 @@ pub record MeansQualified (table name : Name) (scopes : Scopes) (found : TypedCo
   pub scope : Scope
   pub innermost : IsFirst (HasInstance table) scopes found.column.level scope
   pub before : ℕ
-  pub occurrence : Known
-  pub known : IsFirst (IsInstance table) scope before occurrence
+  pub reference : Known
+  pub known : IsFirst (IsInstance table) scope before reference
   pub within : ℕ
   pub column : entries.Column
-  pub named : IsFirst (IsColumn name) occurrence.entry.columns within column
+  pub named : IsFirst (IsColumn name) reference.entry.columns within column
   pub place : found.column.place ≡ length (columns_of (take before scope)) + within
   pub kind : found.kind ≡ column.kind
 
@@ -92,9 +92,9 @@ pub record LacksColumn (table name : Name) (scopes : Scopes) : Type 0 where
   pub scope : Scope
   pub innermost : IsFirst (HasInstance table) scopes level scope
   pub before : ℕ
-  pub occurrence : Known
-  pub known : IsFirst (IsInstance table) scope before occurrence
-  pub lacks : HasAny (IsColumn name) occurrence.entry.columns → ⊥
+  pub reference : Known
+  pub known : IsFirst (IsInstance table) scope before reference
+  pub lacks : HasAny (IsColumn name) reference.entry.columns → ⊥
 
 -- It is unknown if no FROM has an a, or the a has no such column.
 abbrev pub QualifiedFault : BindReason → Name → Name → Scopes → Type 0

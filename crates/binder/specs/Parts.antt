@@ -23,7 +23,7 @@ use Rattle.query.specs.declared.query.Aggregate.{Aggregate}
 use Rattle.query.specs.declared.query.Aggregate.TheVariants as by
 use Rattle.query.specs.declared.query.Item.{Item}
 use Rattle.query.specs.declared.query.Item.TheVariants as item
-use Rattle.query.specs.declared.query.Occurrence.{Occurrence}
+use Rattle.query.specs.declared.query.TableReference.{TableReference}
 use Rattle.query.specs.declared.query.SortKey.{SortKey}
 use Rattle.query.specs.declared.query.TableInstance.{TableInstance}
 use Rattle.query.specs.declared.query.Term.TheVariants as term
@@ -97,8 +97,8 @@ module _ (S : Schema) where
   widths (t ∷ ts) = length (the_table t).1.columns + widths ts
 
   -- behind these in the text: it has their number, and its columns are numbered on from theirs
-  abbrev pub the_occurrence : List TableName → TableName → Occurrence
-  the_occurrence before t = record { number = length before; table = (the_table t).0 }
+  abbrev pub the_reference : List TableName → TableName → TableReference
+  the_reference before t = record { number = length before; table = (the_table t).0 }
 
   abbrev pub the_instance : List TableName → TableName → TableInstance
   the_instance before t = record { table = (the_table t).0; entry = (the_table t).1; name = (known_name t).text; first_column = widths before }

@@ -32,7 +32,7 @@ use Rattle.query.specs.declared.query.From.{From}
 use Rattle.query.specs.declared.query.From.TheVariants as from
 use Rattle.query.specs.declared.query.Item.{Item}
 use Rattle.query.specs.declared.query.Item.TheVariants as item
-use Rattle.query.specs.declared.query.Occurrence.{Occurrence}
+use Rattle.query.specs.declared.query.TableReference.{TableReference}
 use Rattle.query.specs.declared.query.Query.{Query}
 use Rattle.query.specs.declared.query.SortKey.{SortKey}
 use Rattle.query.specs.declared.query.Term.TheVariants as term
@@ -83,7 +83,7 @@ BindsList scope scopes grouped keys (list.Star at) outputs = (outputs ≡ all_co
 
 module _ (S : Schema) where
   -- a table of the schema, whose name is no other's of the FROM
-  pub record BindsTable (others : Scope) (t : TableName) (o : Occurrence) (k : Known) : Type 0 where
+  pub record BindsTable (others : Scope) (t : TableName) (o : TableReference) (k : Known) : Type 0 where
     pub entry : IsFirst (λ e. e.name ≡ t.name.text) S.tables o.table k.entry
     pub name : k.name ≡ (known_name t).text
     pub free : HasAny (λ (other : Known). other.name ≡ k.name) others → ⊥
@@ -116,13 +116,13 @@ module _ (S : Schema) where
     pub data BindsJoins : Scopes → Scope → Scope → From → List Join → Scope → From → Type 0 where
       no_join : {outer : Scopes} {others chain : Scope} {left : From} → BindsJoins outer others chain left [] chain left
       -- an ON sees both sides
-      joins : {outer : Scopes} {others chain all : Scope} {left whole : From} {js : List Join} (j : Join) (o : Occurrence) (k : Known) (on : Cond) → BindsTable (others ++ chain) (out-Join j).table o k
+      joins : {outer : Scopes} {others chain all : Scope} {left whole : From} {js : List Join} (j : Join) (o : TableReference) (k : Known) (on : Cond) → BindsTable (others ++ chain) (out-Join j).table o k
           → BindsCondition ((chain ++ k ∷ []) ∷ outer) (out-Join j).condition on → BindsJoins outer others (chain ++ k ∷ []) (joined (out-Join j).kind left o on) js all whole
           → BindsJoins outer others chain left (j ∷ js) all whole
 
     -- a table and what is joined to it
     pub data BindsChain : Scopes → Scope → Chain → Scope → From → Type 0 where
-      chain : {outer : Scopes} {others all : Scope} {whole : From} (c : Chain) (o : Occurrence) (k : Known) → BindsTable others (out-Chain c).table o k
+      chain : {outer : Scopes} {others all : Scope} {whole : From} (c : Chain) (o : TableReference) (k : Known) → BindsTable others (out-Chain c).table o k
           → BindsJoins outer others (k ∷ []) (from.Table o) (out-Chain c).joins all whole → BindsChain outer others c all whole
 
     -- behind the tables and the FROM so far

@@ -28,7 +28,7 @@ Scope = List Known
 abbrev pub Scopes : Type 0
 Scopes = List Scope
 
--- whether an occurrence has this name
+-- whether an instance has this name
 abbrev pub is_taken : List ℕ → Scope → Bool
 is_taken name scope = list_any (λ o. bytes_eq name o.name) scope
 
@@ -61,25 +61,25 @@ plain name level (scope ∷ outer) = only name level (named_in name.text 0 scope
 
 -- ---- names with a table's name before them
 
--- the entry of the occurrence of this name, and the place of its first column
-abbrev pub occurrence_named : List ℕ → ℕ → Scope → Option (ℕ × Table)
-occurrence_named name n [] = None
-occurrence_named name n (o ∷ scope) = if bytes_eq name o.name then Some (n, o.entry) else occurrence_named name (n + length o.entry.columns) scope
+-- the entry of the instance of this name, and the place of its first column
+abbrev pub instance_named : List ℕ → ℕ → Scope → Option (ℕ × Table)
+instance_named name n [] = None
+instance_named name n (o ∷ scope) = if bytes_eq name o.name then Some (n, o.entry) else instance_named name (n + length o.entry.columns) scope
 
--- the column of an occurrence whose columns begin at this place
+-- the column of an instance whose columns begin at this place
 abbrev pub column_of : Name → Name → ℕ → ℕ × Table → Result TypedColumn BindRefusal
 column_of table name level (n, entry) =
     wanted (refusal UnknownColumn table.at) (option_map (λ found. at_level level (found.0, found.1.kind)) (find_column n entry.columns name.text))
 
-abbrev pub in_occurrence : Name → Name → ℕ → Option (ℕ × Table) → Result TypedColumn BindRefusal → Result TypedColumn BindRefusal
-in_occurrence table name level None outside = outside
-in_occurrence table name level (Some o) outside = column_of table name level o
+abbrev pub in_instance : Name → Name → ℕ → Option (ℕ × Table) → Result TypedColumn BindRefusal → Result TypedColumn BindRefusal
+in_instance table name level None outside = outside
+in_instance table name level (Some o) outside = column_of table name level o
 
--- what a name means in the innermost scope with an occurrence of the table's name, where the innermost scope has this level
+-- what a name means in the innermost scope with an instance of the table's name, where the innermost scope has this level
 unfoldable pub qualified : Name → Name → ℕ → Scopes → Result TypedColumn BindRefusal
 qualified table name level [] = Err (refusal UnknownColumn table.at)
 qualified table name level (scope ∷ outer) =
-    in_occurrence table name level (occurrence_named table.text 0 scope) (qualified table name (level + 1) outer)
+    in_instance table name level (instance_named table.text 0 scope) (qualified table name (level + 1) outer)
 
 -- ---- either
 

@@ -22,7 +22,7 @@ use Rattle.sql_parse.specs.declared.statement.Select.{Select}
 use Rattle.query.specs.declared.query.Term.TheVariants as term
 use Rattle.query.specs.declared.query.Cond.{Cond}
 use Rattle.query.specs.declared.query.Cond.TheVariants as cond
-use Rattle.query.specs.declared.query.Occurrence.{Occurrence}
+use Rattle.query.specs.declared.query.TableReference.{TableReference}
 use Rattle.query.specs.declared.query.From.{From}
 use Rattle.query.specs.declared.query.From.TheVariants as from
 use Rattle.query.specs.declared.query.Block.{Block, roll-Block}
@@ -125,7 +125,7 @@ condition_layer (Condition-F.In a at q) scopes n = do
 
 -- ---- FROM
 
-abbrev pub joined : JoinKind → From → Occurrence → Cond → From
+abbrev pub joined : JoinKind → From → TableReference → Cond → From
 joined by.Inner left o on = from.Join left o on
 joined by.Left left o on = from.LeftJoin left o on
 

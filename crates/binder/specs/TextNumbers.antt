@@ -6,25 +6,25 @@ use Rattle.query.specs.declared.query.Cond.{Cond}
 use Rattle.query.specs.declared.query.Cond.TheFolds.{fold-Cond, fold-From, fold-Block}
 use Rattle.query.specs.declared.query.Cond.TheOpen.{Cond-F, From-F, Block-F}
 use Rattle.query.specs.declared.query.From.{From}
-use Rattle.query.specs.declared.query.Occurrence.{Occurrence}
+use Rattle.query.specs.declared.query.TableReference.{TableReference}
 use Rattle.query.specs.declared.query.Query.{Query}
 use Rattle.query.specs.declared.query.TableInstance.{TableInstance}
 use Rattle.query.specs.Bound.{aggregate_numbers}
 
--- What stands in a part: its occurrences, as they stand in the text, and the numbers of its aggregates, SELECT by SELECT from
+-- What stands in a part: its instances, as they stand in the text, and the numbers of its aggregates, SELECT by SELECT from
 -- the outside.
 pub record Listing : Type 0 where
-  pub occurrences : List Occurrence
+  pub references : List TableReference
   pub aggregates : List ℕ
 
 abbrev pub no_listing : Listing
-no_listing = record { occurrences = []; aggregates = [] }
+no_listing = record { references = []; aggregates = [] }
 
-abbrev pub one_listing : Occurrence → Listing
-one_listing o = record { occurrences = o ∷ []; aggregates = [] }
+abbrev pub one_listing : TableReference → Listing
+one_listing o = record { references = o ∷ []; aggregates = [] }
 
 abbrev pub both_listings : Listing → Listing → Listing
-both_listings a b = record { occurrences = a.occurrences ++ b.occurrences; aggregates = a.aggregates ++ b.aggregates }
+both_listings a b = record { references = a.references ++ b.references; aggregates = a.aggregates ++ b.aggregates }
 
 abbrev pub all_listings : List Listing → Listing
 all_listings [] = no_listing
@@ -50,7 +50,7 @@ from_layer (From-F.LeftJoin f o on) = both_listings f (both_listings (one_listin
 from_layer (From-F.Comma f g) = both_listings f g
 
 abbrev pub block_layer : Block-F Listing Listing Listing → Listing
-block_layer x = both_listings (record { occurrences = []; aggregates = aggregate_numbers x.items }) (both_listings x.from (filter_listing x.filter))
+block_layer x = both_listings (record { references = []; aggregates = aggregate_numbers x.items }) (both_listings x.from (filter_listing x.filter))
 
 unfoldable pub cond_listing : Cond → Listing
 cond_listing = fold-Cond Listing Listing Listing cond_layer from_layer block_layer
@@ -67,8 +67,8 @@ columns_together = sum_by (λ t. length t.entry.columns)
 
 pub record IsNumbered (q : Query) : Type 0 where
   -- the table instances have the numbers 0, 1, 2 and so on as they stand in the text, and are listed by them
-  pub numbers : map (λ o. o.number) (block_listing q.block).occurrences ≡ range_with_len 0 (length q.tables)
-  pub tables : map (λ o. o.table) (block_listing q.block).occurrences ≡ map (λ t. t.table) q.tables
+  pub numbers : map (λ o. o.number) (block_listing q.block).references ≡ range_with_len 0 (length q.tables)
+  pub tables : map (λ o. o.table) (block_listing q.block).references ≡ map (λ t. t.table) q.tables
   -- their columns are numbered on, from one instance to the next
   pub columns : (i : ℕ) (t : TableInstance) → slice_get q.tables i ≡ Some t → t.first_column ≡ columns_together (take i q.tables)
   -- and behind all of these the aggregates

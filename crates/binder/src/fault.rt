@@ -27,7 +27,7 @@ pub enum BindReason {
     NotOneColumn,
     /// B09: an ORDER BY key that is no output column.
     NoOutputColumn,
-    /// B10: more occurrences, levels, tests or columns than a query may have.
+    /// B10: more instances, levels, tests or columns than a query may have.
     TooLarge,
     /// B11: an aggregate of a column of an enclosing query.
     OuterAggregate,

@@ -144,7 +144,7 @@ impl<'s> Scope<'s> {
     }
 
     fn table(&self, name: &str) -> Option<Placed<'s>>
-        ensures { option_map placed_of result ≡ spec.occurrence_named name.now 0 self.now }
+        ensures { option_map placed_of result ≡ spec.instance_named name.now 0 self.now }
     {
         self.index.by_name.get(name).copied()
     }

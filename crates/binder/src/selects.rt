@@ -9,7 +9,7 @@ use crate::fault::{BindFault, BindReason, refused};
 use crate::output::{Grouping, Output, aggregates, keys, outputs};
 use crate::scope::{Scope, Scopes, meant};
 use crate::tables::{Numbered, enter};
-use query::{Block, Cond, From, Item, Occurrence, Term};
+use query::{Block, Cond, From, Item, TableReference, Term};
 use schema::{Kind, Schema};
 use sql_parse::statement as tree;
 use sql_parse::statement::{Chain, Condition, Join, JoinKind, Select};
@@ -174,7 +174,7 @@ fn joined(
     alloc: Global,
     kind: JoinKind,
     left: Boxed<From>,
-    right: Occurrence,
+    right: TableReference,
     on: Cond,
 ) -> Result<Boxed<From>, AllocError>
     ensures { IfOk result (λ from. from ≡ spec.joined kind left right on) }

@@ -7,7 +7,7 @@ ghost use Rattle.binder.specs.Numbers as spec;
 use crate::fault::{BindFault, BindReason, refused};
 use crate::scope::{Scope, find_table, known_name};
 use query::ids::id_of;
-use query::{Occurrence, TableInstance};
+use query::{TableInstance, TableReference};
 use schema::{Schema, Table};
 use sql_parse::statement::TableName;
 use std::alloc::{AllocError, Global};
@@ -18,7 +18,7 @@ use values::{Items, Text};
 pub struct Numbered {
     /// The table instances, in the order of the text.
     pub tables: Items<TableInstance>,
-    /// The number of the next occurrence's first column.
+    /// The number of the next instance's first column.
     pub next_column: usize,
     /// The number of the next aggregate.
     pub next_aggregate: usize,
@@ -32,8 +32,8 @@ impl Numbered {
         table: usize,
         entry: &Table,
         name: &Text,
-    ) -> Result<Occurrence, AllocError>
-        ensures occurrence { IfOk result (λ o. o ≡ spec.next_occurrence self.old table) }
+    ) -> Result<TableReference, AllocError>
+        ensures reference { IfOk result (λ o. o ≡ spec.next_reference self.old table) }
         ensures pushed { OnOk result (self.new ≡ spec.with_table self.old table entry.now name.now) }
     {
         let number = id_of(self.tables.len())?;
@@ -45,7 +45,7 @@ impl Numbered {
         })?;
         let columns = entry.columns.len();
         self.next_column = self.next_column.checked_add(columns).ok_or(AllocError)?;
-        Ok(Occurrence { number, table })
+        Ok(TableReference { number, table })
     }
 
     /// So many aggregates get numbers.
@@ -57,7 +57,7 @@ impl Numbered {
     }
 }
 
-/// A table that a FROM names joins the occurrences of its chain. Those of the chains before it have other names.
+/// A table that a FROM names joins the instances of its chain. Those of the chains before it have other names.
 #[tactic(auto, unfolding(crate::specs::Numbers::enter))]
 pub fn enter<'s>(
     alloc: Global,
@@ -66,7 +66,7 @@ pub fn enter<'s>(
     chain: Scope<'s>,
     table: &'s TableName,
     numbered: &mut Numbered,
-) -> Result<(Occurrence, Scope<'s>), BindFault>
+) -> Result<(TableReference, Scope<'s>), BindFault>
     ensures { Gives (λ x. (x.0, x.1, numbered.new)) result (spec.enter schema.entry.now before.now chain.entry table.entry.now numbered.old) }
 {
     let Some((place, entry)) = find_table(schema, table.name.text.as_str()) else {
@@ -76,7 +76,7 @@ pub fn enter<'s>(
     if before.has(name.text.as_str()) || chain.has(name.text.as_str()) {
         return Err(refused(BindReason::RepeatedName, name.at));
     }
-    let occurrence = numbered.push(alloc, place, entry, &name.text)?;
+    let reference = numbered.push(alloc, place, entry, &name.text)?;
     let chain = chain.with(name.text.as_str(), entry)?;
-    Ok((occurrence, chain))
+    Ok((reference, chain))
 }

@@ -12,7 +12,7 @@ use Rattle.query.specs.declared.query.TableInstance.{TableInstance}
 use Rattle.query.specs.Bound.{IsBoundOver, TablesAreOver}
 use Rattle.query.specs.Rows.{Tables, tables_of, same_rows, count}
 use Rattle.query.proofs.ShortTables.{satisfying_short}
-use Rattle.query.proofs.TableUses.{uses-wide}
+use Rattle.query.proofs.TableInstances.{instances-wide}
 use Rattle.query.proofs.Widths.{satisfying_fits}
 use Rattle.algebra.specs.declared.expr.Expr.{Expr}
 use Rattle.algebra.specs.Bags.{Env, SameRows, nulls, total}
@@ -55,12 +55,12 @@ root-is q some D lines rest e is =
     ap (λ E. class_rows q.tables D E (root q) e) all ∙ later q.tables D (reverse (map entry rest)) (reverse frame) (root q) e (omega (arith, some, count))
 
 -- a plan that fits delivers the order that is wanted
-ordered-is : (uses : List TableInstance) (E : Log) (cols : ℕ → List ℕ) (p : Plan) (ordered : Bool) (g n m : ℕ) → plan_fits uses E cols p ordered g n ≡ Ok m → ordered ≡ true
-ordered-is uses E cols p ordered g n m fits =
+ordered-is : (instances : List TableInstance) (E : Log) (cols : ℕ → List ℕ) (p : Plan) (ordered : Bool) (g n m : ℕ) → plan_fits instances E cols p ordered g n ≡ Ok m → ordered ≡ true
+ordered-is instances E cols p ordered g n m fits =
     let node = (out-Plan p).node in
-    let after : List ℕ → Result ℕ CheckRefusal = after_node cols node (map (plan_order uses) (out-Plan p).inputs) (map (plan_fits uses E cols) (out-Plan p).inputs) ordered n in
-    let first = both_ok (node_fits uses E cols node (length (out-Plan p).inputs) g n) after m (sym (plan_fits_out uses E cols p ordered g n) ∙ fits) in
-    (after-is cols node (map (plan_order uses) (out-Plan p).inputs) (map (plan_fits uses E cols) (out-Plan p).inputs) ordered n m first.0 first.2).delivered
+    let after : List ℕ → Result ℕ CheckRefusal = after_node cols node (map (plan_order instances) (out-Plan p).inputs) (map (plan_fits instances E cols) (out-Plan p).inputs) ordered n in
+    let first = both_ok (node_fits instances E cols node (length (out-Plan p).inputs) g n) after m (sym (plan_fits_out instances E cols p ordered g n) ∙ fits) in
+    (after-is cols node (map (plan_order instances) (out-Plan p).inputs) (map (plan_fits instances E cols) (out-Plan p).inputs) ordered n m first.0 first.2).delivered
 
 -- what a certificate that replays leaves: a log, and a plan that fits
 record IsReplayed (q : Query) (c : Certificate) : Type 0 where
@@ -106,9 +106,9 @@ no-rows (t ∷ ts) = (record { few = omega arith; fit = tt; unique = none-same t
     none-same (p ∷ places) = ((λ i j lt below known. absurd (omega (arith, below))), none-same places)
 
 -- what is said of the plan alone: its groups aggregate values of tables, and its nodes get the orders that they require
-record IsOfTables (uses : List TableInstance) (p : Plan) : Type 0 where
-  reads : (plan_origin uses p).reads ≡ true
-  sorted : (plan_supply uses p).sorted ≡ true
+record IsOfTables (instances : List TableInstance) (p : Plan) : Type 0 where
+  reads : (plan_origin instances p).reads ≡ true
+  sorted : (plan_supply instances p).sorted ≡ true
 
 -- so it is of a plan that fits: its columns and its lines' forms are those over tables without rows
 fitting-is : (S : Schema) (q : Query) → IsBoundOver S q → own_apart q ≡ true → (c : Certificate) → IsReplayed q c → IsOfTables q.tables c.plan
@@ -143,7 +143,7 @@ checked S q bound c ok =
           let root = root-output q formed.some c T is (log-true S D q satisfies bound.over c is) in
           record {
             spread = λ r. count-shown q r (output_rows q.tables T c.plan nulls) ∙ root.rows nulls (λ s. if same_rows r (map s (query_numbers q)) then 1 else 0) ∙ sym (count-shown q r (root_rows q.tables T (query_frame q) nulls))
-                ∙ frame_means q bound.bound T (satisfying_fits S D satisfies) (uses-wide S D q.tables bound.over) nulls r;
+                ∙ frame_means q bound.bound T (satisfying_fits S D satisfies) (instances-wide S D q.tables bound.over) nulls r;
             ordered = delivered-allowed q c.plan (output_rows q.tables T c.plan nulls) root.ordered (plans_deliver q.tables T c.plan nulls ((supplied q.tables c.plan).stands plan.sorted));
           };
     }

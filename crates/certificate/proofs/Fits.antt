@@ -23,14 +23,14 @@ use Rattle.certificate.specs.Replay.{Fits, refusal, implements, is_member, index
 
 -- ---- orders
 
-module _ (uses : List TableInstance) (E : Log) (cols : ℕ → List ℕ) where
+module _ (instances : List TableInstance) (E : Log) (cols : ℕ → List ℕ) where
   abbrev Ordered : Plan → Type 0
-  Ordered p = (fitted uses E cols p).order ≡ plan_order uses p
+  Ordered p = (fitted instances E cols p).order ≡ plan_order instances p
 
   abbrev Part : Type 0
   Part = (p : Plan) × Ordered p
 
-  orders-same : (parts : List Part) → map (λ (x : Fitted). x.order) (map (fitted uses E cols) (map (λ p. p.0) parts)) ≡ map (plan_order uses) (map (λ p. p.0) parts)
+  orders-same : (parts : List Part) → map (λ (x : Fitted). x.order) (map (fitted instances E cols) (map (λ p. p.0) parts)) ≡ map (plan_order instances) (map (λ p. p.0) parts)
   orders-same [] = refl
   orders-same (p ∷ parts) = two (λ k ks. k ∷ ks) p.1 (orders-same parts)
 
@@ -38,13 +38,13 @@ module _ (uses : List TableInstance) (E : Log) (cols : ℕ → List ℕ) where
   unfolding fitted plan_order
   order-step y =
       let z : Plan-F Plan = map-Plan Part Plan (λ p. p.0) y in
-      ap (λ (x : Fitted). x.order) (fold-roll-Plan Fitted (fitted_layer uses E cols) z) ∙ ap (node_order uses y.node) (orders-same y.inputs) ∙ sym (fold-roll-Plan (List OrderKey) (order_layer uses) z)
+      ap (λ (x : Fitted). x.order) (fold-roll-Plan Fitted (fitted_layer instances E cols) z) ∙ ap (node_order instances y.node) (orders-same y.inputs) ∙ sym (fold-roll-Plan (List OrderKey) (order_layer instances) z)
 
   -- the order of a plan that is judged is that which it delivers
   fitted-order : (p : Plan) → Ordered p
   fitted-order = ind-Plan Ordered (λ x y is. subst (λ z. Ordered (roll-Plan z)) is (order-step y))
 
-  all-ordered : (plans : List Plan) → map (λ (x : Fitted). x.order) (map (fitted uses E cols) plans) ≡ map (plan_order uses) plans
+  all-ordered : (plans : List Plan) → map (λ (x : Fitted). x.order) (map (fitted instances E cols) plans) ≡ map (plan_order instances) plans
   all-ordered [] = refl
   all-ordered (p ∷ plans) = two (λ k ks. k ∷ ks) (fitted-order p) (all-ordered plans)
 
@@ -73,33 +73,33 @@ after-is cols node orders fits ordered n m needed ok =
     let two = wanted_if_ok (refusal n UnsortedAnswer) ordered first.0 second.0 second.1 in
     record { sorted = one.0; delivered = two.0; inputs = ap last (one.1 ∙ two.1) ∙ second.2 }
 
-pub plan_fits_out : (uses : List TableInstance) (E : Log) (cols : ℕ → List ℕ) (p : Plan) (ordered : Bool) (g n : ℕ) → plan_fits uses E cols p ordered g n
-    ≡ (node_fits uses E cols (out-Plan p).node (length (out-Plan p).inputs) g n >>= after_node cols (out-Plan p).node (map (plan_order uses) (out-Plan p).inputs) (map (plan_fits uses E cols) (out-Plan p).inputs) ordered n)
+pub plan_fits_out : (instances : List TableInstance) (E : Log) (cols : ℕ → List ℕ) (p : Plan) (ordered : Bool) (g n : ℕ) → plan_fits instances E cols p ordered g n
+    ≡ (node_fits instances E cols (out-Plan p).node (length (out-Plan p).inputs) g n >>= after_node cols (out-Plan p).node (map (plan_order instances) (out-Plan p).inputs) (map (plan_fits instances E cols) (out-Plan p).inputs) ordered n)
 unfolding fitted
-plan_fits_out uses E cols p ordered g n =
-    ap (λ (x : Fitted). x.fits ordered g n) (fold_out-Plan Fitted (fitted_layer uses E cols) p)
-    ∙ rw (length-map, all-ordered uses E cols (out-Plan p).inputs, map-map (λ (x : Fitted). x.fits) (fold-Plan Fitted (fitted_layer uses E cols)) (out-Plan p).inputs) refl
+plan_fits_out instances E cols p ordered g n =
+    ap (λ (x : Fitted). x.fits ordered g n) (fold_out-Plan Fitted (fitted_layer instances E cols) p)
+    ∙ rw (length-map, all-ordered instances E cols (out-Plan p).inputs, map-map (λ (x : Fitted). x.fits) (fold-Plan Fitted (fitted_layer instances E cols)) (out-Plan p).inputs) refl
 
 -- an operator that fits at its line
-pub record FitsLine (uses : List TableInstance) (E : Log) (cols : ℕ → List ℕ) (line : ℕ) (operator : Operator) (inputs g : ℕ) (needed : List ℕ) : Type 0 where
+pub record FitsLine (instances : List TableInstance) (E : Log) (cols : ℕ → List ℕ) (line : ℕ) (operator : Operator) (inputs g : ℕ) (needed : List ℕ) : Type 0 where
   pub member_of : matches.Line
   pub at : member E line ≡ Some member_of
   pub same : are_same E member_of.class g ≡ true
   pub implemented : implements cols operator member_of.expr ≡ true
-  pub indexed : index_fits uses E line operator member_of.expr ≡ true
+  pub indexed : index_fits instances E line operator member_of.expr ≡ true
   pub needs : needed_classes operator member_of.expr ≡ needed
   pub count : inputs ≡ length needed
 
-pub operator-is : (uses : List TableInstance) (E : Log) (cols : ℕ → List ℕ) (line : ℕ) (operator : Operator) (inputs g n : ℕ) (needed : List ℕ) → operator_fits uses E cols line operator inputs g n ≡ Ok needed → FitsLine uses E cols line operator inputs g needed
-operator-is uses E cols line operator inputs g n needed e =
-    let last : ℕ → matches.Line → Result (List ℕ) CheckRefusal = λ line l. wanted_if (refusal n OtherOperator) (is_member E l g && operator_is_of uses E cols line operator l.expr inputs) (needed_classes operator l.expr) in
+pub operator-is : (instances : List TableInstance) (E : Log) (cols : ℕ → List ℕ) (line : ℕ) (operator : Operator) (inputs g n : ℕ) (needed : List ℕ) → operator_fits instances E cols line operator inputs g n ≡ Ok needed → FitsLine instances E cols line operator inputs g needed
+operator-is instances E cols line operator inputs g n needed e =
+    let last : ℕ → matches.Line → Result (List ℕ) CheckRefusal = λ line l. wanted_if (refusal n OtherOperator) (is_member E l g && operator_is_of instances E cols line operator l.expr inputs) (needed_classes operator l.expr) in
     let next : ℕ → Result (List ℕ) CheckRefusal = λ line. wanted (refusal n OtherOperator) (member E line) >>= last line in
     let named : Bool = is_earlier E line && names_lines E operator in
     let first = both_ok (wanted_if (refusal n UnknownLine) named line) next needed e in
     let same : line ≡ first.0 = (wanted_if_ok (refusal n UnknownLine) named line first.0 first.1).1 in
     let second = both_ok (wanted (refusal n OtherOperator) (member E line)) (last line) needed (ap next same ∙ first.2) in
     let l : matches.Line = second.0 in
-    let all = wanted_if_ok (refusal n OtherOperator) (is_member E l g && operator_is_of uses E cols line operator l.expr inputs) (needed_classes operator l.expr) needed second.2 in
+    let all = wanted_if_ok (refusal n OtherOperator) (is_member E l g && operator_is_of instances E cols line operator l.expr inputs) (needed_classes operator l.expr) needed second.2 in
     let tests = and_parts (is_member E l g) _ all.0 in
     let fits = and_parts _ _ tests.1 in
     let parts = and_parts _ _ fits.0 in

@@ -15,11 +15,11 @@ use Rattle.certificate.specs.QueryOrders.{query_order}
 use Rattle.certificate.specs.Replay.{plan_fits, fitted_plan, is_delivered, root}
 
 -- the order that a plan delivers, made with those of its inputs
-pub delivered_is : (q : Query) (plan : Plan) (ordered : Bool) (uses : List TableInstance) (d : Delivered) (order : List OrderKey) → uses ≡ q.tables → d ≡ each_order uses plan → order ≡ order_of d → ordered ≡ begins_with order (query_order q)
+pub delivered_is : (q : Query) (plan : Plan) (ordered : Bool) (instances : List TableInstance) (d : Delivered) (order : List OrderKey) → instances ≡ q.tables → d ≡ each_order instances plan → order ≡ order_of d → ordered ≡ begins_with order (query_order q)
     → ordered ≡ is_delivered q plan
-delivered_is q plan ordered uses d order instances is at e =
-    e ∙ ap (λ o. begins_with o (query_order q)) (at ∙ ap order_of (is ∙ ap (λ us. each_order us plan) instances) ∙ each-is q.tables plan)
+delivered_is q plan ordered instances d order same_instances is at e =
+    e ∙ ap (λ o. begins_with o (query_order q)) (at ∙ ap order_of (is ∙ ap (λ us. each_order us plan) same_instances) ∙ each-is q.tables plan)
 
-pub fitted_by : (q : Query) (E : Log) (plan : Plan) (uses : List TableInstance) (cols : ℕ → List ℕ) (ordered : Bool) (g n : ℕ) → uses ≡ q.tables → cols ≡ class_columns uses (entries E) → ordered ≡ is_delivered q plan → g ≡ root q → n ≡ length E
-    → fitted_plan q E plan ≡ (plan_fits uses E cols plan ordered g n >>= λ m. Ok plan)
-fitted_by q E plan uses cols ordered g n instances columns delivers class count = rw (columns, instances, delivers, class, count) refl
+pub fitted_by : (q : Query) (E : Log) (plan : Plan) (instances : List TableInstance) (cols : ℕ → List ℕ) (ordered : Bool) (g n : ℕ) → instances ≡ q.tables → cols ≡ class_columns instances (entries E) → ordered ≡ is_delivered q plan → g ≡ root q → n ≡ length E
+    → fitted_plan q E plan ≡ (plan_fits instances E cols plan ordered g n >>= λ m. Ok plan)
+fitted_by q E plan instances cols ordered g n same_instances columns delivers class count = rw (columns, same_instances, delivers, class, count) refl

@@ -57,18 +57,18 @@ through r b x f y is =
     ap f (wanted_if_ok r b x parts.0 parts.1).1 ∙ parts.2
 
 -- what may stand is the line itself
-module _ (uses : List TableInstance) (own : List Aggregation) (K : Knowledge) (E : Log) where
-  stands-itself : (l k : Line) → judged uses own K E l ≡ Ok k → k ≡ l
+module _ (instances : List TableInstance) (own : List Aggregation) (K : Knowledge) (E : Log) where
+  stands-itself : (l k : Line) → judged instances own K E l ≡ Ok k → k ≡ l
   stands-itself (Founds x) k is =
       let l : Line = Founds x in
-      let last : Line → Result Line LineReason = λ l. wanted_if why.IllFormed (is_formed uses own K.columns x) l in
-      sym (wanted_if_ok why.IllFormed (is_formed uses own K.columns x) l k (through why.UnknownLine (is_known E x) l last k is)).1
+      let last : Line → Result Line LineReason = λ l. wanted_if why.IllFormed (is_formed instances own K.columns x) l in
+      sym (wanted_if_ok why.IllFormed (is_formed instances own K.columns x) l k (through why.UnknownLine (is_known E x) l last k is)).1
   stands-itself (Adds g s x) k is =
       let l : Line = Adds g s x in
       let last : Line → Shape → Result Line LineReason = λ l shape. wanted_if why.OtherLine (is_expr (member E) shape s.makes x) l in
       let rule : Line → Result Line LineReason = λ l. given K E g s >>= last l in
-      let formed : Line → Result Line LineReason = λ l. wanted_if why.IllFormed (is_formed uses own K.columns x && same_columns (columns_of uses K.columns x) (K.columns g)) l >>= rule in
-      let two = through why.IllFormed (is_formed uses own K.columns x && same_columns (columns_of uses K.columns x) (K.columns g)) l rule k (through why.UnknownLine (founds E g && cites E s && is_known E x) l formed k is) in
+      let formed : Line → Result Line LineReason = λ l. wanted_if why.IllFormed (is_formed instances own K.columns x && same_columns (columns_of instances K.columns x) (K.columns g)) l >>= rule in
+      let two = through why.IllFormed (is_formed instances own K.columns x && same_columns (columns_of instances K.columns x) (K.columns g)) l rule k (through why.UnknownLine (founds E g && cites E s && is_known E x) l formed k is) in
       let three = both_ok (given K E g s) (last l) k two in
       sym (wanted_if_ok why.OtherLine (is_expr (member E) three.0 s.makes x) l k three.2).1
   stands-itself (Unites g h s) k is =
@@ -85,11 +85,11 @@ module _ (uses : List TableInstance) (own : List Aggregation) (K : Knowledge) (E
       sym (wanted_if_ok why.OtherForm (are_alike K (member E i) (member E j)) l k (through why.UnknownLine (is_earlier E i && is_earlier E j) l last k is)).1
   stands-itself (Gives g m f) k is =
       let l : Line = Gives g m f in
-      let last : Line → Result Line LineReason = λ l. wanted_if why.FailedFact (gives_fact uses K g f (member E m)) l in
+      let last : Line → Result Line LineReason = λ l. wanted_if why.FailedFact (gives_fact instances K g f (member E m)) l in
       let of_class : Line → Result Line LineReason = λ l. wanted_if why.OtherForm (is_of K g (member E m)) l >>= last in
       let formed : Line → Result Line LineReason = λ l. wanted_if why.IllFormed (is_subset (fact_columns f) (K.columns g)) l >>= of_class in
       let two = through why.IllFormed (is_subset (fact_columns f) (K.columns g)) l of_class k (through why.UnknownLine (founds E g && is_earlier E m) l formed k is) in
-      sym (wanted_if_ok why.FailedFact (gives_fact uses K g f (member E m)) l k (through why.OtherForm (is_of K g (member E m)) l last k two)).1
+      sym (wanted_if_ok why.FailedFact (gives_fact instances K g f (member E m)) l k (through why.OtherForm (is_of K g (member E m)) l last k two)).1
 
 line_stands : (q : Query) (E : Log) (l k : Line) → line_replays q E l ≡ Ok k → StandsBehind q E l × (l ≡ k)
 line_stands q E l k e =
@@ -143,7 +143,7 @@ begins q (l ∷ lines) E F e =
     ]
 
 -- a class keeps its rows when more are founded
-pub later : (uses : List TableInstance) (D : Tables) (ys E : List Expr) (g : ℕ) (e : Env) → g < length E → class_rows uses D (ys ++ E) g e ≡ class_rows uses D E g e
-later uses D [] E g e lt = refl
-later uses D (y ∷ ys) E g e lt =
-    rw (ne_eqb g (length (ys ++ E)) (λ is. absurd (omega (arith, is, lt, length-append ys E)))) (later uses D ys E g e lt)
+pub later : (instances : List TableInstance) (D : Tables) (ys E : List Expr) (g : ℕ) (e : Env) → g < length E → class_rows instances D (ys ++ E) g e ≡ class_rows instances D E g e
+later instances D [] E g e lt = refl
+later instances D (y ∷ ys) E g e lt =
+    rw (ne_eqb g (length (ys ++ E)) (λ is. absurd (omega (arith, is, lt, length-append ys E)))) (later instances D ys E g e lt)

@@ -51,21 +51,21 @@ AllAre W (x ∷ inputs) (g ∷ classes) = Is W x g × AllAre W inputs classes
 
 -- what is accessed by an index, as an output
 abbrev pub accessed : List TableInstance → Tables → IndexAccess → Output
-accessed uses D a = record { columns = accessed_columns uses a; rows = accessed_rows uses D a }
+accessed instances D a = record { columns = accessed_columns instances a; rows = accessed_rows instances D a }
 
-module _ (uses : List TableInstance) (own : List Aggregation) (D : Tables) (W : Classes) where
+module _ (instances : List TableInstance) (own : List Aggregation) (D : Tables) (W : Classes) where
   -- the operator over the inputs has the columns and the bag of the expression over the classes
   pub record Gives (operator : Operator) (inputs : List Output) (x : Expr) : Type 0 where
-    pub columns : operator_columns uses operator (map (λ p. p.columns) inputs) ≡ columns_of uses W.columns x
-    pub rows : SameBag (operator_rows uses D operator inputs) (means uses D W x)
+    pub columns : operator_columns instances operator (map (λ p. p.columns) inputs) ≡ columns_of instances W.columns x
+    pub rows : SameBag (operator_rows instances D operator inputs) (means instances D W x)
 
   abbrev Implementing : Operator → Expr → Type 0
-  Implementing operator x = (cols : ℕ → List ℕ) (inputs : List Output) → implements cols operator x ≡ true → is_formed uses own W.columns x ≡ true → AllAre W inputs (input_classes x) → Gives operator inputs x
+  Implementing operator x = (cols : ℕ → List ℕ) (inputs : List Output) → implements cols operator x ≡ true → is_formed instances own W.columns x ≡ true → AllAre W inputs (input_classes x) → Gives operator inputs x
 
   scan-gives : (o : ℕ) (x : Expr) → Implementing (Scan o) x
   scan-gives o (Get p) cols inputs h formed all =
       let is : o ≡ p = eqb-true o p h in
-      record { columns = ap (λ o. get_columns (slice_get uses o)) is; rows = same_bag-equal _ _ (λ e. ap (λ o. get_rows (slice_get uses o) D e) is) }
+      record { columns = ap (λ o. get_columns (slice_get instances o)) is; rows = same_bag-equal _ _ (λ e. ap (λ o. get_rows (slice_get instances o) D e) is) }
   scan-gives o x cols inputs h formed all = cc
 
   filter-gives : (C : List Condition) (x : Expr) → Implementing (Filter C) x
@@ -116,28 +116,28 @@ module _ (uses : List TableInstance) (own : List Aggregation) (D : Tables) (W : 
 
   -- a class that an access is of has what it reads
   abbrev pub AreAccessed : Log → List ℕ → Type 0
-  AreAccessed log classes = (a : IndexAccess) → AllByRecursion (λ g. accesses log a g ≡ true → Is W (accessed uses D a) g) classes
+  AreAccessed log classes = (a : IndexAccess) → AllByRecursion (λ g. accesses log a g ≡ true → Is W (accessed instances D a) g) classes
 
-  sorted-gives : (a : IndexAccess) (C : List Condition) (b : Bag) → SameBag (select (holds no_classes C) (accessed_rows uses D a)) b
-      → SameBag (λ e. sorted (keys_order (index_order uses a)) (select (holds no_classes C) (accessed_rows uses D a) e)) b
-  sorted-gives a C b same = same_bag-trans (λ e. sorted (keys_order (index_order uses a)) (select (holds no_classes C) (accessed_rows uses D a) e)) (select (holds no_classes C) (accessed_rows uses D a)) b
-      (same_bag-sorted (keys_order (index_order uses a)) (select (holds no_classes C) (accessed_rows uses D a))) same
+  sorted-gives : (a : IndexAccess) (C : List Condition) (b : Bag) → SameBag (select (holds no_classes C) (accessed_rows instances D a)) b
+      → SameBag (λ e. sorted (keys_order (index_order instances a)) (select (holds no_classes C) (accessed_rows instances D a) e)) b
+  sorted-gives a C b same = same_bag-trans (λ e. sorted (keys_order (index_order instances a)) (select (holds no_classes C) (accessed_rows instances D a) e)) (select (holds no_classes C) (accessed_rows instances D a)) b
+      (same_bag-sorted (keys_order (index_order instances a)) (select (holds no_classes C) (accessed_rows instances D a))) same
 
-  index_scan-gives : (E : Log) (line : ℕ) (a : IndexAccess) (C : List Condition) (x : Expr) → AreAccessed E (children x) → index_fits uses E line (IndexScan a C) x ≡ true → (cols : ℕ → List ℕ) (inputs : List Output)
+  index_scan-gives : (E : Log) (line : ℕ) (a : IndexAccess) (C : List Condition) (x : Expr) → AreAccessed E (children x) → index_fits instances E line (IndexScan a C) x ≡ true → (cols : ℕ → List ℕ) (inputs : List Output)
       → implements cols (IndexScan a C) x ≡ true → Gives (IndexScan a C) inputs x
   index_scan-gives log line a C (Get p) reads indexed cols inputs h =
-      let is : a.occurrence ≡ p = eqb-true _ _ (and_parts _ _ (and_parts _ _ indexed).0).1 in
+      let is : a.instance ≡ p = eqb-true _ _ (and_parts _ _ (and_parts _ _ indexed).0).1 in
       record {
-        columns = ap (λ o. get_columns (slice_get uses o)) is;
-        rows = sorted-gives a C (get_rows (slice_get uses p) D)
-            (same_bag-equal _ _ (λ e. ap (λ C. filter (holds no_classes C) (accessed_rows uses D a e)) (equal_conditions C [] h) ∙ filter_all (accessed_rows uses D a e) ∙ ap (λ o. get_rows (slice_get uses o) D e) is));
+        columns = ap (λ o. get_columns (slice_get instances o)) is;
+        rows = sorted-gives a C (get_rows (slice_get instances p) D)
+            (same_bag-equal _ _ (λ e. ap (λ C. filter (holds no_classes C) (accessed_rows instances D a e)) (equal_conditions C [] h) ∙ filter_all (accessed_rows instances D a e) ∙ ap (λ o. get_rows (slice_get instances o) D e) is));
       }
   index_scan-gives log line a C (Select E g) reads indexed cols inputs h =
       let parts : (is_plain E ≡ true) × (same_conditions C E ≡ true) = and_parts _ _ h in
-      let is : Is W (accessed uses D a) g = (reads a).0 (and_parts _ _ indexed).0 in
+      let is : Is W (accessed instances D a) g = (reads a).0 (and_parts _ _ indexed).0 in
       record {
         columns = is.columns;
-        rows = sorted-gives a C (select (holds W.rows E) (W.rows g)) (select-same (holds no_classes C) (holds W.rows E) (accessed_rows uses D a) (W.rows g) (test-same C E parts.1 parts.0) is.rows);
+        rows = sorted-gives a C (select (holds W.rows E) (W.rows g)) (select-same (holds no_classes C) (holds W.rows E) (accessed_rows instances D a) (W.rows g) (test-same C E parts.1 parts.0) is.rows);
       }
   index_scan-gives log line a C x reads indexed cols inputs h = cc
 
@@ -161,7 +161,7 @@ module _ (uses : List TableInstance) (own : List Aggregation) (D : Tables) (W : 
   inputs-sides (g ∷ k ∷ K) more (a ∷ []) all = absurd all.1
   inputs-sides (g ∷ k ∷ K) more (a ∷ b ∷ inputs) all = (record { columns = all.0.columns; rows = all.0.rows }, record { columns = all.1.0.columns; rows = all.1.0.rows })
 
-  index-sides : (E : Log) (a : IndexAccess) (K : List ℕ) (inputs : List Output) → AreAccessed E K → accesses_second E a K ≡ true → AllAre W inputs (take 1 K) → AreSides K (first_output inputs) (accessed uses D a)
+  index-sides : (E : Log) (a : IndexAccess) (K : List ℕ) (inputs : List Output) → AreAccessed E K → accesses_second E a K ≡ true → AllAre W inputs (take 1 K) → AreSides K (first_output inputs) (accessed instances D a)
   index-sides log a [] inputs reads second all = tt
   index-sides log a (g ∷ []) inputs reads second all = tt
   index-sides log a (g ∷ k ∷ K) [] reads second all = absurd all
@@ -169,10 +169,10 @@ module _ (uses : List TableInstance) (own : List Aggregation) (D : Tables) (W : 
 
   -- a join over outputs of its sides has the columns and the bag of the expression
   record JoinGives (j : Matching) (x : Expr) (a b : Output) : Type 0 where
-    columns : join_columns j a.columns b.columns ≡ columns_of uses W.columns x
-    rows : SameBag (join_rows j b.columns a.rows b.rows) (means uses D W x)
+    columns : join_columns j a.columns b.columns ≡ columns_of instances W.columns x
+    rows : SameBag (join_rows j b.columns a.rows b.rows) (means instances D W x)
 
-  join-gives : (j : Matching) (x : Expr) (a b : Output) → is_join j x ≡ true → is_formed uses own W.columns x ≡ true → AreSides (children x) a b → JoinGives j x a b
+  join-gives : (j : Matching) (x : Expr) (a b : Output) → is_join j x ≡ true → is_formed instances own W.columns x ≡ true → AreSides (children x) a b → JoinGives j x a b
   join-gives (Inner C) (Join E g k) a b h formed sides = record {
     columns = both-columns sides.0.columns sides.1.columns;
     rows = subst (λ K. SameBag (join (holds no_classes C) (has K) a.rows b.rows) (join (holds W.rows E) (has (W.columns k)) (W.rows g) (W.rows k))) (sym sides.1.columns)
@@ -206,10 +206,10 @@ module _ (uses : List TableInstance) (own : List Aggregation) (D : Tables) (W : 
       let gives = join-gives j x (first_output inputs) (second_output inputs) (and_parts _ _ h).0 formed (inputs-sides (children x) (classes_in (conditions x)) inputs all) in
       record { columns = gives.columns; rows = gives.rows }
 
-  index_join-gives : (E : Log) (line : ℕ) (a : IndexAccess) (j : Matching) (x : Expr) → AreAccessed E (children x) → index_fits uses E line (IndexJoin a j) x ≡ true → (cols : ℕ → List ℕ) (inputs : List Output)
-      → implements cols (IndexJoin a j) x ≡ true → is_formed uses own W.columns x ≡ true → AllAre W inputs (take 1 (children x)) → Gives (IndexJoin a j) inputs x
+  index_join-gives : (E : Log) (line : ℕ) (a : IndexAccess) (j : Matching) (x : Expr) → AreAccessed E (children x) → index_fits instances E line (IndexJoin a j) x ≡ true → (cols : ℕ → List ℕ) (inputs : List Output)
+      → implements cols (IndexJoin a j) x ≡ true → is_formed instances own W.columns x ≡ true → AllAre W inputs (take 1 (children x)) → Gives (IndexJoin a j) inputs x
   index_join-gives log line a j x reads indexed cols inputs h formed all =
-      let gives = join-gives j x (first_output inputs) (accessed uses D a) h formed (index-sides log a (children x) inputs reads (and_parts _ _ indexed).0 all) in
+      let gives = join-gives j x (first_output inputs) (accessed instances D a) h formed (index-sides log a (children x) inputs reads (and_parts _ _ indexed).0 all) in
       record { columns = gives.columns; rows = gives.rows }
 
   group-gives : (method : GroupMethod) (K : List ℕ) (G : List Aggregation) (x : Expr) → Implementing (GroupRows method K G) x
@@ -229,8 +229,8 @@ module _ (uses : List TableInstance) (own : List Aggregation) (D : Tables) (W : 
   distinct-gives method x cols inputs h formed all = cc
 
   -- an operator that implements an expression
-  pub operator-gives : (E : Log) (line : ℕ) (operator : Operator) (x : Expr) → AreAccessed E (children x) → index_fits uses E line operator x ≡ true → (cols : ℕ → List ℕ) (inputs : List Output)
-      → implements cols operator x ≡ true → is_formed uses own W.columns x ≡ true → AllAre W inputs (needed_classes operator x) → Gives operator inputs x
+  pub operator-gives : (E : Log) (line : ℕ) (operator : Operator) (x : Expr) → AreAccessed E (children x) → index_fits instances E line operator x ≡ true → (cols : ℕ → List ℕ) (inputs : List Output)
+      → implements cols operator x ≡ true → is_formed instances own W.columns x ≡ true → AllAre W inputs (needed_classes operator x) → Gives operator inputs x
   operator-gives log line (Scan o) x reads indexed cols inputs h formed all = scan-gives o x cols inputs h formed all
   operator-gives log line (IndexScan a C) x reads indexed cols inputs h formed all = index_scan-gives log line a C x reads indexed cols inputs h
   operator-gives log line (Filter C) x reads indexed cols inputs h formed all = filter-gives C x cols inputs h formed all
@@ -264,12 +264,12 @@ module _ (uses : List TableInstance) (own : List Aggregation) (D : Tables) (W : 
   keys-among columns [] all = refl
   keys-among columns (k ∷ K) all = let parts = and_parts _ _ all in and_from _ _ parts.0 (keys-among columns K parts.1)
 
-  index_scan-stands : (E : Log) (line : ℕ) (a : IndexAccess) (C : List Condition) (x : Expr) (cols : ℕ → List ℕ) → implements cols (IndexScan a C) x ≡ true → index_fits uses E line (IndexScan a C) x ≡ true → has_index uses a ≡ true
+  index_scan-stands : (E : Log) (line : ℕ) (a : IndexAccess) (C : List Condition) (x : Expr) (cols : ℕ → List ℕ) → implements cols (IndexScan a C) x ≡ true → index_fits instances E line (IndexScan a C) x ≡ true → has_index instances a ≡ true
   index_scan-stands log line a C (Get p) cols h indexed = (and_parts _ _ indexed).1
   index_scan-stands log line a C (Select E g) cols h indexed = (and_parts _ _ indexed).1
   index_scan-stands log line a C x cols h indexed = cc
 
-  join-stands : (j : Matching) (x : Expr) (a b : Output) → is_join j x ≡ true → is_formed uses own W.columns x ≡ true → AreSides (children x) a b → join_stands j a.columns b.columns ≡ true
+  join-stands : (j : Matching) (x : Expr) (a b : Output) → is_join j x ≡ true → is_formed instances own W.columns x ≡ true → AreSides (children x) a b → join_stands j a.columns b.columns ≡ true
   join-stands (Inner C) (Join E g k) a b h formed sides = rw (sides.0.columns, sides.1.columns) (and_parts _ _ (and_parts _ _ formed).1).1
   join-stands (Inner C) x a b h formed sides = cc
   join-stands (Left C) (LeftJoin E g k) a b h formed sides = rw (sides.0.columns, sides.1.columns) (and_parts _ _ (and_parts _ _ formed).1).1
@@ -279,16 +279,16 @@ module _ (uses : List TableInstance) (own : List Aggregation) (D : Tables) (W : 
 
   -- a join of a well-formed expression hides no column of its left side, and no aggregate of a group a key; an index is by columns
   -- of its table instance
-  pub operator-stands : (E : Log) (line : ℕ) (operator : Operator) (x : Expr) → AreAccessed E (children x) → index_fits uses E line operator x ≡ true → (cols : ℕ → List ℕ) (inputs : List Output)
-      → implements cols operator x ≡ true → is_formed uses own W.columns x ≡ true → AllAre W inputs (needed_classes operator x) → operator_stands uses operator (map (λ p. p.columns) inputs) ≡ true
+  pub operator-stands : (E : Log) (line : ℕ) (operator : Operator) (x : Expr) → AreAccessed E (children x) → index_fits instances E line operator x ≡ true → (cols : ℕ → List ℕ) (inputs : List Output)
+      → implements cols operator x ≡ true → is_formed instances own W.columns x ≡ true → AllAre W inputs (needed_classes operator x) → operator_stands instances operator (map (λ p. p.columns) inputs) ≡ true
   operator-stands log line (Scan o) x reads indexed cols inputs h formed all = refl
-  operator-stands log line (IndexScan a C) x reads indexed cols inputs h formed all = keys-among (accessed_columns uses a) (index_columns uses a) (and_parts _ _ (index_scan-stands log line a C x cols h indexed)).1
+  operator-stands log line (IndexScan a C) x reads indexed cols inputs h formed all = keys-among (accessed_columns instances a) (index_columns instances a) (and_parts _ _ (index_scan-stands log line a C x cols h indexed)).1
   operator-stands log line (Filter C) x reads indexed cols inputs h formed all = refl
   operator-stands log line (FilterSubqueries C) x reads indexed cols inputs h formed all = refl
   operator-stands log line (Projection K) x reads indexed cols inputs h formed all = refl
   operator-stands log line (JoinRows method j) x reads indexed cols inputs h formed all =
       join-stands j x (first_output inputs) (second_output inputs) (and_parts _ _ h).0 formed (inputs-sides (children x) (classes_in (conditions x)) inputs all)
-  operator-stands log line (IndexJoin a j) x reads indexed cols inputs h formed all = join-stands j x (first_output inputs) (accessed uses D a) h formed (index-sides log a (children x) inputs reads (and_parts _ _ indexed).0 all)
+  operator-stands log line (IndexJoin a j) x reads indexed cols inputs h formed all = join-stands j x (first_output inputs) (accessed instances D a) h formed (index-sides log a (children x) inputs reads (and_parts _ _ indexed).0 all)
   operator-stands log line (GroupRows method K G) (Group L H g) reads indexed cols inputs h formed all =
       let same = and_parts (same_columns K L) _ h in
       let is = and_parts (is_subset L (W.columns g) && are_different (aggregate_columns H)) _ formed in

@@ -56,19 +56,19 @@ inputs-read cols [] classes all = refl
 inputs-read cols (x ∷ inputs) [] all = absurd all
 inputs-read cols (x ∷ inputs) (g ∷ classes) all = and_from _ _ all.0.reads (inputs-read cols inputs classes all.1)
 
-module _ (uses : List TableInstance) (own : List Aggregation) (apart : are_apart (is_table_column uses) own ≡ true) (cols : ℕ → List ℕ) where
+module _ (instances : List TableInstance) (own : List Aggregation) (apart : are_apart (is_table_column instances) own ≡ true) (cols : ℕ → List ℕ) where
   -- an aggregate that is one of the query's own is apart
-  own-apart : (others : List Aggregation) (a : Aggregation) → are_apart (is_table_column uses) others ≡ true → list_any (same_aggregation a) others ≡ true → is_apart (is_table_column uses) a ≡ true
+  own-apart : (others : List Aggregation) (a : Aggregation) → are_apart (is_table_column instances) others ≡ true → list_any (same_aggregation a) others ≡ true → is_apart (is_table_column instances) a ≡ true
   own-apart [] a all is = absurd (false≢true is)
   own-apart (b ∷ others) a all is =
-      let parts = and_parts (is_apart (is_table_column uses) b) _ all in
+      let parts = and_parts (is_apart (is_table_column instances) b) _ all in
       elim (or_cases (same_aggregation a b) _ is) [
-        | inl same ↦ ap (is_apart (is_table_column uses)) (equal_aggregation a b same) ∙ parts.0
+        | inl same ↦ ap (is_apart (is_table_column instances)) (equal_aggregation a b same) ∙ parts.0
         | inr later ↦ own-apart others a parts.1 later
       ]
 
   -- well-formed aggregates are apart, and read columns of the class
-  formed-apart : (K : List ℕ) (G : List Aggregation) → list_all (aggregation_formed own K) G ≡ true → are_apart (is_table_column uses) G ≡ true
+  formed-apart : (K : List ℕ) (G : List Aggregation) → list_all (aggregation_formed own K) G ≡ true → are_apart (is_table_column instances) G ≡ true
   formed-apart K [] formed = refl
   formed-apart K (a ∷ G) formed =
       let parts = and_parts (aggregation_formed own K a) _ formed in
@@ -82,7 +82,7 @@ module _ (uses : List TableInstance) (own : List Aggregation) (apart : are_apart
 
   -- an operator that implements a well-formed expression
   abbrev Implementing : Operator → Expr → Type 0
-  Implementing operator x = (sides : ℕ → List ℕ) (inputs : List Origin) → implements sides operator x ≡ true → is_formed uses own cols x ≡ true → AllAre cols inputs (needed_classes operator x) → operator_reads uses operator inputs ≡ true
+  Implementing operator x = (sides : ℕ → List ℕ) (inputs : List Origin) → implements sides operator x ≡ true → is_formed instances own cols x ≡ true → AllAre cols inputs (needed_classes operator x) → operator_reads instances operator inputs ≡ true
 
   projection-reads : (K : List ℕ) (x : Expr) → Implementing (Projection K) x
   projection-reads K (Keep L g) sides [] h formed all = absurd all
@@ -97,7 +97,7 @@ module _ (uses : List TableInstance) (own : List Aggregation) (apart : are_apart
       let keys : K ≡ L = equal_columns K L both.0 in
       let parts = and_parts (is_subset L (cols g) && are_different (aggregate_columns H)) _ formed in
       and_from _ _ (ap (λ M. is_subset K M) all.0.columns ∙ ap (λ M. is_subset M (cols g)) keys ∙ (and_parts (is_subset L (cols g)) _ parts.0).0)
-      (and_from _ _ (ap (λ M. read_among M G) all.0.columns ∙ ap (read_among (cols g)) same ∙ formed-among (cols g) H parts.1) (ap (are_apart (is_table_column uses)) same ∙ formed-apart (cols g) H parts.1))
+      (and_from _ _ (ap (λ M. read_among M G) all.0.columns ∙ ap (read_among (cols g)) same ∙ formed-among (cols g) H parts.1) (ap (are_apart (is_table_column instances)) same ∙ formed-apart (cols g) H parts.1))
   group-reads method K G x sides inputs h formed all = cc
 
   reads : (operator : Operator) (x : Expr) → Implementing operator x
@@ -113,33 +113,33 @@ module _ (uses : List TableInstance) (own : List Aggregation) (apart : are_apart
 
 -- ---- a plan that fits
 
-module _ (uses : List TableInstance) (own : List Aggregation) (apart : are_apart (is_table_column uses) own ≡ true) (D : Tables) (short : AreShortTables D) (E : Log) (is_true : IsTrue uses own D E) where
+module _ (instances : List TableInstance) (own : List Aggregation) (apart : are_apart (is_table_column instances) own ≡ true) (D : Tables) (short : AreShortTables D) (E : Log) (is_true : IsTrue instances own D E) where
   abbrev cols : ℕ → List ℕ
-  cols = (knowledge uses E).columns
+  cols = (knowledge instances E).columns
 
   -- a plan that fits a class is of its origin
   abbrev P : Plan → Type 0
-  P p = (ordered : Bool) (g n m : ℕ) → plan_fits uses E cols p ordered g n ≡ Ok m → IsOriginOf cols (plan_origin uses p) g
+  P p = (ordered : Bool) (g n m : ℕ) → plan_fits instances E cols p ordered g n ≡ Ok m → IsOriginOf cols (plan_origin instances p) g
 
   abbrev Part : Type 0
   Part = (p : Plan) × P p
 
   abbrev fits_of : List Part → List Fits
-  fits_of parts = map (plan_fits uses E cols) (map (λ p. p.0) parts)
+  fits_of parts = map (plan_fits instances E cols) (map (λ p. p.0) parts)
 
   abbrev origins_of : List Part → List Origin
-  origins_of parts = map (plan_origin uses) (map (λ p. p.0) parts)
+  origins_of parts = map (plan_origin instances) (map (λ p. p.0) parts)
 
   all-are : (parts : List Part) (needed : List ℕ) (n m : ℕ) → length (fits_of parts) ≡ length needed → inputs_fit (fits_of parts) needed n ≡ Ok m → AllAre cols (origins_of parts) needed
   all-are [] [] n m count fits = tt
   all-are [] (g ∷ needed) n m count fits = absurd (omega (arith, count))
   all-are (p ∷ parts) [] n m count fits = absurd (omega (arith, count))
   all-are (p ∷ parts) (g ∷ needed) n m count fits =
-      let steps = both_ok (plan_fits uses E cols p.0 true g n) (λ m. inputs_fit (fits_of parts) needed m) m fits in
+      let steps = both_ok (plan_fits instances E cols p.0 true g n) (λ m. inputs_fit (fits_of parts) needed m) m fits in
       (p.1 true g n steps.0 steps.1, all-are parts needed steps.0 m (omega (arith, count)) steps.2)
 
   abbrev orders_of : List Part → List (List OrderKey)
-  orders_of parts = map (plan_order uses) (map (λ p. p.0) parts)
+  orders_of parts = map (plan_order instances) (map (λ p. p.0) parts)
 
   abbrev inputs_after : Node → List Part → Bool → ℕ → List ℕ → Result ℕ CheckRefusal
   inputs_after node parts = after_node cols node (orders_of parts) (fits_of parts)
@@ -149,17 +149,17 @@ module _ (uses : List TableInstance) (own : List Aggregation) (apart : are_apart
 
   -- a node aggregates values of tables alone, and so do its inputs
   record IsNodeOf (node : Node) (parts : List Part) : Type 0 where
-    reads : node_reads uses node (origins_of parts) ≡ true
+    reads : node_reads instances node (origins_of parts) ≡ true
     inputs : all_read (origins_of parts) ≡ true
 
-  operator-is-of : (line : ℕ) (operator : Operator) (parts : List Part) (ordered : Bool) (g n m : ℕ) → (operator_fits uses E cols line operator (length (fits_of parts)) g n >>= inputs_after (Implements line operator) parts ordered n) ≡ Ok m → IsNodeOf (Implements line operator) parts
+  operator-is-of : (line : ℕ) (operator : Operator) (parts : List Part) (ordered : Bool) (g n m : ℕ) → (operator_fits instances E cols line operator (length (fits_of parts)) g n >>= inputs_after (Implements line operator) parts ordered n) ≡ Ok m → IsNodeOf (Implements line operator) parts
   operator-is-of line operator parts ordered g n m fits =
-      let steps = both_ok (operator_fits uses E cols line operator (length (fits_of parts)) g n) (inputs_after (Implements line operator) parts ordered n) m fits in
-      let found = operator-is uses E cols line operator (length (fits_of parts)) g n steps.0 steps.1 in
-      let is : IsLine (knowledge uses E) (world uses own D E) found.member_of = is_true.members line found.member_of found.at in
+      let steps = both_ok (operator_fits instances E cols line operator (length (fits_of parts)) g n) (inputs_after (Implements line operator) parts ordered n) m fits in
+      let found = operator-is instances E cols line operator (length (fits_of parts)) g n steps.0 steps.1 in
+      let is : IsLine (knowledge instances E) (world instances own D E) found.member_of = is_true.members line found.member_of found.at in
       let all = inputs-are (Implements line operator) parts ordered n m steps.0 found.count steps.2 in
       record {
-        reads = reads uses own apart cols operator found.member_of.expr cols (origins_of parts) found.implemented is.formed (subst (AllAre cols (origins_of parts)) (sym found.needs) all);
+        reads = reads instances own apart cols operator found.member_of.expr cols (origins_of parts) found.implemented is.formed (subst (AllAre cols (origins_of parts)) (sym found.needs) all);
         inputs = inputs-read cols (origins_of parts) steps.0 all;
       }
 
@@ -175,7 +175,7 @@ module _ (uses : List TableInstance) (own : List Aggregation) (apart : are_apart
       let all = inputs-are (Sort keys) parts ordered n m (g ∷ []) count (ap (inputs_after (Sort keys) parts ordered n) (one.1 ∙ two.1) ∙ steps.2) in
       record { reads = refl; inputs = inputs-read cols (origins_of parts) (g ∷ []) all }
 
-  layer : (node : Node) (parts : List Part) (ordered : Bool) (g n m : ℕ) → (node_fits uses E cols node (length (fits_of parts)) g n >>= inputs_after node parts ordered n) ≡ Ok m → IsNodeOf node parts
+  layer : (node : Node) (parts : List Part) (ordered : Bool) (g n m : ℕ) → (node_fits instances E cols node (length (fits_of parts)) g n >>= inputs_after node parts ordered n) ≡ Ok m → IsNodeOf node parts
   layer (Implements line operator) = operator-is-of line operator
   layer (Sort keys) = sort-is-of keys
 
@@ -183,13 +183,13 @@ module _ (uses : List TableInstance) (own : List Aggregation) (apart : are_apart
   unfolding plan_origin
   step y ordered g n m fits =
       let z : Plan-F Plan = map-Plan Part Plan (λ p. p.0) y in
-      let here : (node_fits uses E cols z.node (length z.inputs) g n >>= inputs_after z.node y.inputs ordered n) ≡ Ok m =
-      subst (λ (w : Plan-F Plan). (node_fits uses E cols w.node (length w.inputs) g n >>= after_node cols w.node (map (plan_order uses) w.inputs) (map (plan_fits uses E cols) w.inputs) ordered n) ≡ Ok m)
-      (out-roll-Plan z) (sym (plan_fits_out uses E cols (roll-Plan z) ordered g n) ∙ fits) in
-      let node = layer y.node y.inputs ordered g n m (subst (λ k. (node_fits uses E cols z.node k g n >>= inputs_after z.node y.inputs ordered n) ≡ Ok m) (sym (length-map z.inputs (plan_fits uses E cols))) here) in
-      let rolled = fold-roll-Plan Origin (origin_layer uses) z in
+      let here : (node_fits instances E cols z.node (length z.inputs) g n >>= inputs_after z.node y.inputs ordered n) ≡ Ok m =
+      subst (λ (w : Plan-F Plan). (node_fits instances E cols w.node (length w.inputs) g n >>= after_node cols w.node (map (plan_order instances) w.inputs) (map (plan_fits instances E cols) w.inputs) ordered n) ≡ Ok m)
+      (out-roll-Plan z) (sym (plan_fits_out instances E cols (roll-Plan z) ordered g n) ∙ fits) in
+      let node = layer y.node y.inputs ordered g n m (subst (λ k. (node_fits instances E cols z.node k g n >>= inputs_after z.node y.inputs ordered n) ≡ Ok m) (sym (length-map z.inputs (plan_fits instances E cols))) here) in
+      let rolled = fold-roll-Plan Origin (origin_layer instances) z in
       record {
-        columns = (origin-is uses D short (roll-Plan z)).columns ∙ (of_class uses own D E is_true (roll-Plan z) ordered g n m fits).output.columns;
+        columns = (origin-is instances D short (roll-Plan z)).columns ∙ (of_class instances own D E is_true (roll-Plan z) ordered g n m fits).output.columns;
         reads = ap (λ (x : Origin). x.reads) rolled ∙ and_from _ _ node.reads node.inputs;
       }
 
@@ -197,5 +197,5 @@ module _ (uses : List TableInstance) (own : List Aggregation) (apart : are_apart
   of_origin = ind-Plan P (λ x y is. subst (λ z. P (roll-Plan z)) is (step y))
 
   -- the groups of a plan that fits aggregate values of tables alone
-  pub plan-reads : (p : Plan) (ordered : Bool) (g n m : ℕ) → plan_fits uses E cols p ordered g n ≡ Ok m → (plan_origin uses p).reads ≡ true
+  pub plan-reads : (p : Plan) (ordered : Bool) (g n m : ℕ) → plan_fits instances E cols p ordered g n ≡ Ok m → (plan_origin instances p).reads ≡ true
   plan-reads p ordered g n m fits = (of_origin p ordered g n m fits).reads

@@ -153,7 +153,7 @@ gets E (Some l) g o = is_member E l g && is_get_of l.expr o
 
 -- whether an access is of the class: so is its line
 abbrev pub accesses : Log → IndexAccess → ℕ → Bool
-accesses E a g = gets E (member E a.line) g a.occurrence
+accesses E a g = gets E (member E a.line) g a.instance
 
 -- so it is of the second of some classes
 abbrev pub accesses_second : Log → IndexAccess → List ℕ → Bool
@@ -162,10 +162,10 @@ accesses_second E a classes = false
 
 -- whether an operator of a line with the expression reads by an index what would be its input, and a Get itself
 abbrev pub index_fits : List TableInstance → Log → ℕ → Operator → Expr → Bool
-index_fits uses E line (IndexScan a C) (Get p) = a.line == line && a.occurrence == p && has_index uses a
-index_fits uses E line (IndexScan a C) (Select D x) = accesses E a x && has_index uses a
-index_fits uses E line (IndexJoin a j) x = accesses_second E a (children x) && finds_by_index uses a j
-index_fits uses E line operator x = true
+index_fits instances E line (IndexScan a C) (Get p) = a.line == line && a.instance == p && has_index instances a
+index_fits instances E line (IndexScan a C) (Select D x) = accesses E a x && has_index instances a
+index_fits instances E line (IndexJoin a j) x = accesses_second E a (children x) && finds_by_index instances a j
+index_fits instances E line operator x = true
 
 -- whether a line founds each class that conditions name
 abbrev pub are_founded : Log → List Condition → Bool
@@ -197,20 +197,20 @@ needed_classes operator x = input_classes x
 
 -- an operator of a line with the expression, over so many inputs
 abbrev pub operator_is_of : List TableInstance → Log → (ℕ → List ℕ) → ℕ → Operator → Expr → ℕ → Bool
-operator_is_of uses E cols line operator x inputs = implements cols operator x && index_fits uses E line operator x && inputs == length (needed_classes operator x)
+operator_is_of instances E cols line operator x inputs = implements cols operator x && index_fits instances E line operator x && inputs == length (needed_classes operator x)
 
 -- an operator: its line has an expression of the class or of one that is the same, it implements that, and has an input for each class
 -- that it needs
 abbrev pub operator_fits : List TableInstance → Log → (ℕ → List ℕ) → ℕ → Operator → ℕ → ℕ → ℕ → Result (List ℕ) CheckRefusal
-operator_fits uses E cols line operator inputs g n =
+operator_fits instances E cols line operator inputs g n =
     wanted_if (refusal n UnknownLine) (is_earlier E line && names_lines E operator) line
     >>= λ line. wanted (refusal n OtherOperator) (member E line)
-    >>= λ l. wanted_if (refusal n OtherOperator) (is_member E l g && operator_is_of uses E cols line operator l.expr inputs) (needed_classes operator l.expr)
+    >>= λ l. wanted_if (refusal n OtherOperator) (is_member E l g && operator_is_of instances E cols line operator l.expr inputs) (needed_classes operator l.expr)
 
 -- the classes that the node at number n needs as inputs, if it is of the class
 abbrev pub node_fits : List TableInstance → Log → (ℕ → List ℕ) → Node → ℕ → ℕ → ℕ → Result (List ℕ) CheckRefusal
-node_fits uses E cols (Implements line operator) inputs g n = operator_fits uses E cols line operator inputs g n
-node_fits uses E cols (Sort keys) inputs g n = sort_fits cols keys inputs g n
+node_fits instances E cols (Implements line operator) inputs g n = operator_fits instances E cols line operator inputs g n
+node_fits instances E cols (Sort keys) inputs g n = sort_fits cols keys inputs g n
 
 -- whether a plan is of a class, and delivers the order that is wanted (as the first argument says), its nodes being numbered
 -- from a number on; gives the number after them
@@ -230,22 +230,22 @@ pub record Fitted : Type 0 where
 
 -- a node goes before its inputs: what it is, then their orders, then its own
 abbrev pub fitted_layer : List TableInstance → Log → (ℕ → List ℕ) → Plan-F Fitted → Fitted
-fitted_layer uses E cols p =
+fitted_layer instances E cols p =
     let orders = map (λ x. x.order) p.inputs in
     record {
-      order = node_order uses p.node orders;
+      order = node_order instances p.node orders;
       fits = λ ordered g n.
-          node_fits uses E cols p.node (length p.inputs) g n
+          node_fits instances E cols p.node (length p.inputs) g n
           >>= λ classes. wanted_if (refusal n UnsortedInput) (inputs_sorted p.node (map cols classes) orders) classes
           >>= λ classes. wanted_if (refusal n UnsortedAnswer) ordered classes
           >>= λ classes. inputs_fit (map (λ x. x.fits) p.inputs) classes (n + 1);
     }
 
 unfoldable pub fitted : List TableInstance → Log → (ℕ → List ℕ) → Plan → Fitted
-fitted uses E cols = fold-Plan Fitted (fitted_layer uses E cols)
+fitted instances E cols = fold-Plan Fitted (fitted_layer instances E cols)
 
 abbrev pub plan_fits : List TableInstance → Log → (ℕ → List ℕ) → Plan → Fits
-plan_fits uses E cols plan = (fitted uses E cols plan).fits
+plan_fits instances E cols plan = (fitted instances E cols plan).fits
 
 -- ---- certificates
 

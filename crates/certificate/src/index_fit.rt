@@ -11,15 +11,15 @@ use algebra::{ClassId, Conjuncts, Expr, LineId};
 use logs::Log;
 use physical::indexes::{finds_by_index, has_index};
 use physical::{IndexAccess, Matching, Operator};
-use query::OccurrenceId;
+use query::InstanceId;
 use std::alloc::{AllocError, Global};
 
 /// Whether the expression is the Get of a table instance.
-fn is_get_of(expr: &Expr, occurrence: OccurrenceId) -> bool
-    ensures { result ≡ spec.is_get_of expr.now occurrence }
+fn is_get_of(expr: &Expr, instance: InstanceId) -> bool
+    ensures { result ≡ spec.is_get_of expr.now instance }
 {
     match expr {
-        Expr::Get(own) => occurrence == *own,
+        Expr::Get(own) => instance == *own,
         _ => false,
     }
 }
@@ -30,7 +30,7 @@ fn accesses(log: &Log<'_>, access: IndexAccess, class: ClassId) -> bool
 {
     match log.member(access.line) {
         Some(member) => {
-            log.are_same(member.class, class) && is_get_of(member.expr, access.occurrence)
+            log.are_same(member.class, class) && is_get_of(member.expr, access.instance)
         }
         None => false,
     }
@@ -61,10 +61,10 @@ fn scan_fits(
     access: IndexAccess,
     expr: &Expr,
 ) -> Result<bool, AllocError>
-    ensures { (C : List Condition) → IfOk result (λ r. r ≡ spec.index_fits log.now.uses log.now.log line (IndexScan access C) expr.now) }
+    ensures { (C : List Condition) → IfOk result (λ r. r ≡ spec.index_fits log.now.instances log.now.log line (IndexScan access C) expr.now) }
 {
     let reads = match expr {
-        Expr::Get(own) => access.line == line && access.occurrence == *own,
+        Expr::Get(own) => access.line == line && access.instance == *own,
         Expr::Select(_, input) => accesses(log, access, *input),
         _ => return Ok(true),
     };
@@ -82,7 +82,7 @@ fn join_fits(
     matching: &Matching,
     expr: &Expr,
 ) -> Result<bool, AllocError>
-    ensures { IfOk result (λ r. r ≡ (spec.accesses_second log.now.log access (children expr.now) && finds_by_index log.now.uses access matching.now)) }
+    ensures { IfOk result (λ r. r ≡ (spec.accesses_second log.now.log access (children expr.now) && finds_by_index log.now.instances access matching.now)) }
 {
     if !accesses_right(log, access, expr) {
         return Ok(false);
@@ -98,7 +98,7 @@ pub fn index_fits(
     operator: &Operator,
     expr: &Expr,
 ) -> Result<bool, AllocError>
-    ensures { IfOk result (λ r. r ≡ spec.index_fits log.now.uses log.now.log line operator.now expr.now) }
+    ensures { IfOk result (λ r. r ≡ spec.index_fits log.now.instances log.now.log line operator.now expr.now) }
 {
     match operator {
         Operator::IndexScan { access, .. } => scan_fits(alloc, log, line, *access, expr),
@@ -134,9 +134,9 @@ fn matching_is_founded(
         Matching::Inner(conjuncts) | Matching::Left(conjuncts) | Matching::Semi(conjuncts) => {
             are_founded(alloc, log, conjuncts)
         }
-        Matching::Anti(sure, maybe) => {
-            let first = are_founded(alloc, log, sure)?;
-            Ok(first && are_founded(alloc, log, maybe)?)
+        Matching::Anti(ordinary, null_aware) => {
+            let first = are_founded(alloc, log, ordinary)?;
+            Ok(first && are_founded(alloc, log, null_aware)?)
         }
     }
 }

@@ -22,9 +22,9 @@ fn hashed(matching: &Matching) -> &[Condition]
         Matching::Inner(conjuncts) | Matching::Left(conjuncts) | Matching::Semi(conjuncts) => {
             conjuncts.as_slice()
         }
-        Matching::Anti(sure, maybe) => match (sure.as_slice(), maybe.as_slice()) {
-            ([], [only]) => maybe.as_slice(),
-            (sure, _) => sure,
+        Matching::Anti(ordinary, null_aware) => match (ordinary.as_slice(), null_aware.as_slice()) {
+            ([], [only]) => null_aware.as_slice(),
+            (ordinary, _) => ordinary,
         },
     }
 }
@@ -92,8 +92,8 @@ pub fn joined_classes(matching: &Matching, expr: &Expr) -> Option<(ClassId, Clas
         } else {
             None
         },
-        (Matching::Anti(sure, maybe), Expr::Anti(own, others, a, b)) => {
-            if sure.same(own) && maybe.same(others) {
+        (Matching::Anti(ordinary, null_aware), Expr::Anti(own, others, a, b)) => {
+            if ordinary.same(own) && null_aware.same(others) {
                 Some((*a, *b))
             } else {
                 None

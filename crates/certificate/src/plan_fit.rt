@@ -47,7 +47,7 @@ fn implements(
     ensures { IfOk result (λ r. r ≡ spec.implements (columns_at columns.now) operator.now expr.now) }
 {
     match (operator, expr) {
-        (Operator::Scan { occurrence }, Expr::Get(own)) => Ok(*occurrence == *own),
+        (Operator::Scan { instance }, Expr::Get(own)) => Ok(*instance == *own),
         (Operator::IndexScan { conjuncts, .. }, Expr::Get(_)) => Ok(conjuncts.same(&Conjuncts::none(
             alloc,
         ))),
@@ -134,7 +134,7 @@ fn operator_is_of(
     operator: &Operator,
     expr: &Expr,
 ) -> Result<bool, AllocError>
-    ensures { IfOk result (λ r. r ≡ (spec.implements (columns_at derived.entry.columns.now) operator.now expr.now && spec.index_fits derived.entry.log.now.uses derived.entry.log.now.log line operator.now expr.now)) }
+    ensures { IfOk result (λ r. r ≡ (spec.implements (columns_at derived.entry.columns.now) operator.now expr.now && spec.index_fits derived.entry.log.now.instances derived.entry.log.now.log line operator.now expr.now)) }
 {
     if !implements(alloc, derived.columns, operator, expr)? {
         return Ok(false);
@@ -152,7 +152,7 @@ fn operator_fits(
     class: ClassId,
     number: usize,
 ) -> Result<Vec<ClassId>, CheckFault>
-    ensures classes { Gives (λ classes. classes.items) result (spec.operator_fits derived.entry.log.now.uses derived.entry.log.now.log (columns_at derived.entry.columns.now) line operator.now inputs class number) }
+    ensures classes { Gives (λ classes. classes.items) result (spec.operator_fits derived.entry.log.now.instances derived.entry.log.now.log (columns_at derived.entry.columns.now) line operator.now inputs class number) }
     ensures count { IfOk result (λ classes. length classes.items ≡ inputs) }
 {
     let names = (line as usize) < derived.log.len() && names_lines(alloc, derived.log, operator)?;
@@ -199,7 +199,7 @@ fn node_fits(
     class: ClassId,
     number: usize,
 ) -> Result<Vec<ClassId>, CheckFault>
-    ensures classes { Gives (λ classes. classes.items) result (spec.node_fits derived.entry.log.now.uses derived.entry.log.now.log (columns_at derived.entry.columns.now) node.now inputs class number) }
+    ensures classes { Gives (λ classes. classes.items) result (spec.node_fits derived.entry.log.now.instances derived.entry.log.now.log (columns_at derived.entry.columns.now) node.now inputs class number) }
     ensures count { IfOk result (λ classes. length classes.items ≡ inputs) }
 {
     match node {
@@ -242,8 +242,8 @@ fn plan_fits(
     class: ClassId,
     number: usize,
 ) -> Result<usize, CheckFault>
-    requires { delivered.now ≡ each.each_order derived.log.now.uses plan.now }
-    ensures { Gives (λ n. n) result (spec.plan_fits derived.entry.log.now.uses derived.entry.log.now.log (columns_at derived.entry.columns.now) plan.now ordered class number) }
+    requires { delivered.now ≡ each.each_order derived.log.now.instances plan.now }
+    ensures { Gives (λ n. n) result (spec.plan_fits derived.entry.log.now.instances derived.entry.log.now.log (columns_at derived.entry.columns.now) plan.now ordered class number) }
 {
     let inputs = plan.inputs.as_slice();
     let classes = node_fits(alloc, derived, &plan.node, inputs.len(), class, number)?;
@@ -280,8 +280,8 @@ fn inputs_fit(
     number: usize,
 ) -> Result<usize, CheckFault>
     requires count { length inputs.now ≡ length classes.now }
-    requires orders { delivered.now ≡ map (each.each_order derived.log.now.uses) inputs.now }
-    ensures { Gives (λ n. n) result (spec.inputs_fit (map (spec.plan_fits derived.entry.log.now.uses derived.entry.log.now.log (columns_at derived.entry.columns.now)) inputs.now) classes.now number) }
+    requires orders { delivered.now ≡ map (each.each_order derived.log.now.instances) inputs.now }
+    ensures { Gives (λ n. n) result (spec.inputs_fit (map (spec.plan_fits derived.entry.log.now.instances derived.entry.log.now.log (columns_at derived.entry.columns.now)) inputs.now) classes.now number) }
 {
     let mut after = number;
     for i in 0..inputs.len() {
@@ -308,7 +308,7 @@ pub fn fit(
     log: &Log<'_>,
     plan: &Plan,
 ) -> Result<(), CheckFault>
-    requires uses { log.now.uses ≡ query.now.tables }
+    requires instances { log.now.instances ≡ query.now.tables }
     requires root { root ≡ spec.root query.now }
     ensures { Gives (λ _. plan.now) result (spec.fitted_plan query.now log.now.log plan.now) }
 {

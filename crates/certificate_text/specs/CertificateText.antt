@@ -143,10 +143,10 @@ join_text (method.Merge a b) j line = codes "merge" ␣ decimal line ␣ decimal
 
 -- of an index: the line of the instance's Get, the instance and the index
 abbrev pub index_scan_text : IndexAccess → List Condition → ℕ → Text
-index_scan_text a C line = codes "iscan" ␣ decimal line ␣ decimal a.line ␣ decimal a.occurrence ␣ decimal a.index ␣ conjuncts_text C
+index_scan_text a C line = codes "iscan" ␣ decimal line ␣ decimal a.line ␣ decimal a.instance ␣ decimal a.index ␣ conjuncts_text C
 
 abbrev pub index_join_text : IndexAccess → Matching → ℕ → Text
-index_join_text a j line = codes "iloop" ␣ decimal line ␣ decimal a.line ␣ kind_text j ␣ decimal a.occurrence ␣ decimal a.index ␣ lists_text j
+index_join_text a j line = codes "iloop" ␣ decimal line ␣ decimal a.line ␣ kind_text j ␣ decimal a.instance ␣ decimal a.index ␣ lists_text j
 
 abbrev pub group_text : GroupMethod → List ℕ → List Aggregation → ℕ → Text
 group_text group.Hash K G line = codes "hgroup" ␣ decimal line ␣ numbers_text K ␣ aggregations_text G

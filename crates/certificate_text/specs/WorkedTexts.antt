@@ -68,7 +68,7 @@ LinesAreSpelled =
 
 -- an index of table instance 1, whose Get is line 3
 abbrev pub by_index : IndexAccess
-by_index = record { line = 3; occurrence = 1; index = 0 }
+by_index = record { line = 3; instance = 1; index = 0 }
 
 abbrev pub NodesAreSpelled : Type 0
 NodesAreSpelled =

@@ -104,7 +104,7 @@ fn matching_conditions(matching: &Matching) -> (&[Condition], &[Condition])
 {
     match matching {
         Matching::Inner(on) | Matching::Left(on) | Matching::Semi(on) => (on.as_slice(), &[]),
-        Matching::Anti(sure, maybe) => (sure.as_slice(), maybe.as_slice()),
+        Matching::Anti(ordinary, null_aware) => (ordinary.as_slice(), null_aware.as_slice()),
     }
 }
 

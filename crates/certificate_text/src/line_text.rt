@@ -30,7 +30,7 @@ fn push_expr(alloc: Global, text: &mut Vec<u8>, before: &str, expr: &Expr) -> Re
 {
     push_text(text, before)?;
     match expr {
-        Expr::Get(occurrence) => push_number(text, "get ", *occurrence),
+        Expr::Get(instance) => push_number(text, "get ", *instance),
         Expr::Select(conjuncts, x) => {
             push_conjuncts(alloc, text, "select ", conjuncts.as_slice())?;
             push_number(text, " ", *x)
@@ -38,9 +38,9 @@ fn push_expr(alloc: Global, text: &mut Vec<u8>, before: &str, expr: &Expr) -> Re
         Expr::Join(conjuncts, a, b) => push_sides(alloc, text, "join ", conjuncts, *a, *b),
         Expr::LeftJoin(conjuncts, a, b) => push_sides(alloc, text, "left ", conjuncts, *a, *b),
         Expr::Semi(conjuncts, a, b) => push_sides(alloc, text, "semi ", conjuncts, *a, *b),
-        Expr::Anti(sure, maybe, a, b) => {
-            push_conjuncts(alloc, text, "anti ", sure.as_slice())?;
-            push_sides(alloc, text, " ", maybe, *a, *b)
+        Expr::Anti(ordinary, null_aware, a, b) => {
+            push_conjuncts(alloc, text, "anti ", ordinary.as_slice())?;
+            push_sides(alloc, text, " ", null_aware, *a, *b)
         }
         Expr::Keep(columns, x) => {
             push_numbers(text, "keep ", columns.as_slice())?;

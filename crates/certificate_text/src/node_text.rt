@@ -29,9 +29,9 @@ fn push_lists(alloc: Global, text: &mut Vec<u8>, matching: &Matching) -> Result<
         Matching::Inner(on) => push_conjuncts(alloc, text, " ", on.as_slice()),
         Matching::Left(on) => push_conjuncts(alloc, text, " ", on.as_slice()),
         Matching::Semi(on) => push_conjuncts(alloc, text, " ", on.as_slice()),
-        Matching::Anti(sure, maybe) => {
-            push_conjuncts(alloc, text, " ", sure.as_slice())?;
-            push_conjuncts(alloc, text, " ", maybe.as_slice())
+        Matching::Anti(ordinary, null_aware) => {
+            push_conjuncts(alloc, text, " ", ordinary.as_slice())?;
+            push_conjuncts(alloc, text, " ", null_aware.as_slice())
         }
     }
 }
@@ -85,7 +85,7 @@ fn push_index_join(
     push_number(text, "iloop ", line)?;
     push_number(text, " ", access.line)?;
     push_kind(text, matching)?;
-    push_number(text, " ", access.occurrence)?;
+    push_number(text, " ", access.instance)?;
     push_number(text, " ", access.index)?;
     push_lists(alloc, text, matching)
 }
@@ -101,7 +101,7 @@ fn push_index_scan(
 {
     push_number(text, "iscan ", line)?;
     push_number(text, " ", access.line)?;
-    push_number(text, " ", access.occurrence)?;
+    push_number(text, " ", access.instance)?;
     push_number(text, " ", access.index)?;
     push_conjuncts(alloc, text, " ", conjuncts.as_slice())
 }
@@ -134,9 +134,9 @@ fn push_operator(
     ensures { OnOk result (text.new.items ≡ text.old.items ++ spec.operator_text operator.now line inputs) }
 {
     match operator {
-        Operator::Scan { occurrence } => {
+        Operator::Scan { instance } => {
             push_number(text, "scan ", line)?;
-            push_number(text, " ", *occurrence)
+            push_number(text, " ", *instance)
         }
         Operator::IndexScan { access, conjuncts } => {
             push_index_scan(alloc, text, line, *access, conjuncts)

@@ -23,9 +23,9 @@ use Rattle.certificate.specs.Replay.{refusal, at_line, is_frame_line, line_repla
 -- ---- a line
 
 -- its copy stands as it does
-pub stands_as : (q : Query) (E : Log) (line copy : Line) (uses : List TableInstance) (own : List Aggregation) → uses ≡ q.tables → own ≡ own_aggregates q → copy ≡ line
-    → stands uses own E copy ≡ stands q.tables (own_aggregates q) E line
-stands_as q E line copy uses own instances aggregates same = rw (instances, aggregates, same) refl
+pub stands_as : (q : Query) (E : Log) (line copy : Line) (instances : List TableInstance) (own : List Aggregation) → instances ≡ q.tables → own ≡ own_aggregates q → copy ≡ line
+    → stands instances own E copy ≡ stands q.tables (own_aggregates q) E line
+stands_as q E line copy instances own same_instances aggregates same = rw (same_instances, aggregates, same) refl
 
 -- a fault of a first step is one of both
 fails-first : {A B R : Type 0} (f : Fault R) (x : Result A R) (next : A → Result B R) → Fails f x → Fails f (x >>= next)

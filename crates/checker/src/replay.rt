@@ -71,7 +71,7 @@ fn push_line(
     line: &Line,
 ) -> Result<(), CheckFault>
     requires frame { frame.now ≡ query_frame query.now }
-    requires uses { log.old.uses ≡ query.now.tables }
+    requires instances { log.old.instances ≡ query.now.tables }
     requires own { log.old.own ≡ own_aggregates query.now }
     ensures verdict { Gives (λ _. line.now) result (spec.line_replays query.now log.old.log line.now) }
     ensures added { OnOk result (log.new ≡ with_line log.old line.now) }
@@ -98,7 +98,7 @@ pub fn replay<'q>(
     requires frame { frame.now ≡ query_frame query.now }
     requires own { own.now ≡ own_aggregates query.now }
     ensures verdict { Gives (λ log. log.log) result (spec.lines_replay query.now [] lines.now) }
-    ensures uses { IfOk result (λ log. log.uses ≡ query.now.tables) }
+    ensures instances { IfOk result (λ log. log.instances ≡ query.now.tables) }
 {
     let mut log = Log::new(alloc, query.tables.as_slice(), own);
     for line in lines {

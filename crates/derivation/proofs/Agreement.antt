@@ -15,15 +15,15 @@ use Rattle.algebra.proofs.MentionedColumns.{each_has}
 use Rattle.algebra.proofs.NamedClasses.{inputs-pass}
 use Rattle.algebra.proofs.SameInputs.{expressions_keep_classes}
 
-module _ (uses : List TableInstance) (own : List Aggregation) (D : Tables) (V W : Classes) (p : ℕ → Bool) (alike : (g : ℕ) → p g ≡ true → IsSameIn V W g g) where
+module _ (instances : List TableInstance) (own : List Aggregation) (D : Tables) (V W : Classes) (p : ℕ → Bool) (alike : (g : ℕ) → p g ≡ true → IsSameIn V W g g) where
   inputs : (x : Expr) → classes_pass p x ≡ true → SameInputs V W x
   inputs x pass g in_ = alike g (each_has p (input_classes x) (inputs-pass p x pass) g in_)
 
-  pub means-agree : (x : Expr) → classes_pass p x ≡ true → SameBag (means uses D V x) (means uses D W x)
-  means-agree x pass = (expressions_keep_classes uses D V W x (inputs x pass)).1
+  pub means-agree : (x : Expr) → classes_pass p x ≡ true → SameBag (means instances D V x) (means instances D W x)
+  means-agree x pass = (expressions_keep_classes instances D V W x (inputs x pass)).1
 
-  pub columns-agree : (x : Expr) → classes_pass p x ≡ true → columns_of uses V.columns x ≡ columns_of uses W.columns x
-  columns-agree x pass = (expressions_keep_classes uses D V W x (inputs x pass)).0
+  pub columns-agree : (x : Expr) → classes_pass p x ≡ true → columns_of instances V.columns x ≡ columns_of instances W.columns x
+  columns-agree x pass = (expressions_keep_classes instances D V W x (inputs x pass)).0
 
   columns-are : (g : ℕ) (others : List ℕ) (C : List Condition) → (list_all p (g ∷ others) && subqueries_pass p C) ≡ true → V.columns g ≡ W.columns g
   columns-are g others C pass = (alike g (and_parts _ _ (and_parts _ _ pass).0).0).0
@@ -31,7 +31,7 @@ module _ (uses : List TableInstance) (own : List Aggregation) (D : Tables) (V W 
   second-are : (g h : ℕ) (C : List Condition) → (list_all p (g ∷ h ∷ []) && subqueries_pass p C) ≡ true → V.columns h ≡ W.columns h
   second-are g h C pass = (alike h (and_parts _ _ (and_parts _ _ (and_parts _ _ pass).0).1).0).0
 
-  pub formed-agree : (x : Expr) → classes_pass p x ≡ true → is_formed uses own V.columns x ≡ is_formed uses own W.columns x
+  pub formed-agree : (x : Expr) → classes_pass p x ≡ true → is_formed instances own V.columns x ≡ is_formed instances own W.columns x
   formed-agree (Get o) pass = refl
   formed-agree (Select C a) pass = refl
   formed-agree (Join C a b) pass = rw (columns-are a (b ∷ []) C pass, second-are a b C pass) refl

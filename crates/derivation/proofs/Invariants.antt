@@ -37,14 +37,14 @@ alike-along V x y z is next = (is.0 ∙ next.0, same_bag-trans (V.rows x) (V.row
 abbrev pub AgreeBelow : ℕ → Classes → Classes → Type 0
 AgreeBelow n V W = (g : ℕ) → g < n → (V.columns g ≡ W.columns g) × SameBag (V.rows g) (W.rows g)
 
-module _ (uses : List TableInstance) (own : List Aggregation) (D : Tables) where
+module _ (instances : List TableInstance) (own : List Aggregation) (D : Tables) where
   -- an expression of a class, all of whose names are below the number: it has the class's columns and bag
   pub record IsMember (n : ℕ) (V : Classes) (l : matches.Line) : Type 0 where
     pub below : l.class < n
     pub known : classes_pass (λ g. nat_lt g n) l.expr ≡ true
-    pub formed : is_formed uses own V.columns l.expr ≡ true
-    pub columns : columns_of uses V.columns l.expr ≡ V.columns l.class
-    pub rows : SameBag (V.rows l.class) (means uses D V l.expr)
+    pub formed : is_formed instances own V.columns l.expr ≡ true
+    pub columns : columns_of instances V.columns l.expr ≡ V.columns l.class
+    pub rows : SameBag (V.rows l.class) (means instances D V l.expr)
 
   -- a fact of a class with a number below
   pub record IsFact (n : ℕ) (V : Classes) (g : ℕ) (f : Fact) : Type 0 where
@@ -124,9 +124,9 @@ module _ (uses : List TableInstance) (own : List Aggregation) (D : Tables) where
     member-stays l is = record {
       below = let lt : l.class < n = is.below in omega (arith, lt);
       known = classes-wider is_below (λ g. nat_lt g (suc n)) (λ g lt. lt-ltb g (suc n) (let less : g < n = ltb-true g n lt in omega (arith, less))) l.expr is.known;
-      formed = sym (formed-agree uses own D V W is_below agree-named l.expr is.known) ∙ is.formed;
-      columns = sym (columns-agree uses own D V W is_below agree-named l.expr is.known) ∙ is.columns ∙ (agree l.class is.below).0;
-      rows = same_bag-trans _ _ _ (same_bag-turned _ _ (agree l.class is.below).1) (same_bag-trans _ _ _ is.rows (means-agree uses own D V W is_below agree-named l.expr is.known));
+      formed = sym (formed-agree instances own D V W is_below agree-named l.expr is.known) ∙ is.formed;
+      columns = sym (columns-agree instances own D V W is_below agree-named l.expr is.known) ∙ is.columns ∙ (agree l.class is.below).0;
+      rows = same_bag-trans _ _ _ (same_bag-turned _ _ (agree l.class is.below).1) (same_bag-trans _ _ _ is.rows (means-agree instances own D V W is_below agree-named l.expr is.known));
     }
 
     pub fact-stays : (g : ℕ) (f : Fact) → IsFact n V g f → IsFact (suc n) W g f

@@ -23,8 +23,8 @@ more l E g h (by_rule n x y s at) = by_rule n g h s (earlier l E n (within E n (
 more l E g h (by_alike n i j a b at first second) =
     by_alike n i j a b (earlier l E n (within E n (Alike i j) at) ∙ at) (member-stays l E i a first) (member-stays l E j b second)
 
-module _ (uses : List TableInstance) (own : List Aggregation) where
-  equivalent : (E : Log) → Replays uses own E → (g h : ℕ) → least E g ≡ least E h → SameBy E g h
+module _ (instances : List TableInstance) (own : List Aggregation) where
+  equivalent : (E : Log) → Replays instances own E → (g h : ℕ) → least E g ≡ least E h → SameBy E g h
   equivalent [] replays g h is = subst (SameBy [] g) is (itself g)
   equivalent (Founds x ∷ E) replays g h is = more (Founds x) E g h (equivalent E replays.1 g h is)
   equivalent (Adds c s x ∷ E) replays g h is = more (Adds c s x) E g h (equivalent E replays.1 g h is)
@@ -34,7 +34,7 @@ module _ (uses : List TableInstance) (own : List Aggregation) where
       (by_rule (length E) a b s (here l E)) g h is
   equivalent (Alike i j ∷ E) replays g h is =
       let l : Line = Alike i j in
-      let stands = alike-stands uses own E i j l replays.0 in
+      let stands = alike-stands instances own E i j l replays.0 in
       let first : class_at E i ≡ stands.first.class = ap (or_class i) stands.first_at in
       let second : class_at E j ≡ stands.second.class = ap (or_class j) stands.second_at in
       let new : SameBy (l ∷ E) stands.first.class stands.second.class = by_alike (length E) i j stands.first stands.second (here l E) (member-stays l E i stands.first stands.first_at) (member-stays l E j stands.second stands.second_at) in
@@ -59,11 +59,11 @@ module _ (uses : List TableInstance) (own : List Aggregation) where
   ]
 
   -- lines that are alike are earlier ones
-  low : (E : Log) → Replays uses own E → (n i j : ℕ) → line_at E n ≡ Some (Alike i j) → (i < length E) × (j < length E)
+  low : (E : Log) → Replays instances own E → (n i j : ℕ) → line_at E n ≡ Some (Alike i j) → (i < length E) × (j < length E)
   low [] replays n i j at = cc
   low (k ∷ E) replays n i j at = elim (this-or k E n (Alike i j) at) [
     | inl last ↦
-        let stands = alike-stands uses own E i j (Alike i j) (subst (λ l. stands uses own E l ≡ Ok l) last.1 replays.0) in
+        let stands = alike-stands instances own E i j (Alike i j) (subst (λ l. stands instances own E l ≡ Ok l) last.1 replays.0) in
         let first : i < length E = member-within E i stands.first stands.first_at in
         let second : j < length E = member-within E j stands.second stands.second_at in
         (omega (arith, first), omega (arith, second))
@@ -77,11 +77,11 @@ module _ (uses : List TableInstance) (own : List Aggregation) where
   class-stays : (k : Line) (E : Log) (i : ℕ) → i < length E → class_at (k ∷ E) i ≡ class_at E i
   class-stays k E i lt = ap (λ o. or_class i (as_member i o)) (earlier k E i lt)
 
-  by-alike : (E : Log) → Replays uses own E → (n i j : ℕ) → line_at E n ≡ Some (Alike i j) → least E (class_at E i) ≡ least E (class_at E j)
+  by-alike : (E : Log) → Replays instances own E → (n i j : ℕ) → line_at E n ≡ Some (Alike i j) → least E (class_at E i) ≡ least E (class_at E j)
   by-alike [] replays n i j at = cc
   by-alike (k ∷ E) replays n i j at = elim (this-or k E n (Alike i j) at) [
     | inl last ↦
-        let stands = alike-stands uses own E i j (Alike i j) (subst (λ l. stands uses own E l ≡ Ok l) last.1 replays.0) in
+        let stands = alike-stands instances own E i j (Alike i j) (subst (λ l. stands instances own E l ≡ Ok l) last.1 replays.0) in
         let first = class-stays k E i (member-within E i stands.first stands.first_at) in
         let second = class-stays k E j (member-within E j stands.second stands.second_at) in
         ap (least (k ∷ E)) first ∙ subst (λ l. least (l ∷ E) (class_at E i) ≡ least (l ∷ E) (class_at E j)) (sym last.1) (united-first (least E (class_at E i)) (least E (class_at E j)))
@@ -91,7 +91,7 @@ module _ (uses : List TableInstance) (own : List Aggregation) where
         ap (least (k ∷ E)) (class-stays k E i both.0) ∙ stays k E (class_at E i) (class_at E j) (by-alike E replays.1 n i j later) ∙ sym (ap (least (k ∷ E)) (class-stays k E j both.1))
   ]
 
-  same : (E : Log) → Replays uses own E → (g h : ℕ) → SameBy E g h → least E g ≡ least E h
+  same : (E : Log) → Replays instances own E → (g h : ℕ) → SameBy E g h → least E g ≡ least E h
   same E replays g h (itself k) = refl
   same E replays g h (turned x y is) = sym (same E replays h g is)
   same E replays g h (along x y z is next) = same E replays g y is ∙ same E replays y h next
@@ -100,7 +100,7 @@ module _ (uses : List TableInstance) (own : List Aggregation) where
       sym (ap (least E) (ap (or_class i) first)) ∙ by-alike E replays n i j at ∙ ap (least E) (ap (or_class j) second)
 
 pub sameness_least : SamenessIsLeast
-sameness_least uses own E replays g h = (
-  (λ is. equivalent uses own E replays g h (eqb-true (least E g) (least E h) is)),
-  (λ is. eq-eqb (least E g) (least E h) (same uses own E replays g h is)),
+sameness_least instances own E replays g h = (
+  (λ is. equivalent instances own E replays g h (eqb-true (least E g) (least E h) is)),
+  (λ is. eq-eqb (least E g) (least E h) (same instances own E replays g h is)),
 )

@@ -56,11 +56,11 @@ member-stays k E i l is = ap (as_member i) (earlier k E i (member-within E i l i
 
 -- ---- classes, once there is one line more
 
-pub columns-stay : (uses : List TableInstance) (l : Line) (E : Log) (g : ℕ) → g < length E → class_columns uses (entries (l ∷ E)) g ≡ class_columns uses (entries E) g
-columns-stay uses l E g lt = rw (ne_eqb g (length (entries E)) (λ is. absurd (omega (arith, is, lt, length-map E entry)))) refl
+pub columns-stay : (instances : List TableInstance) (l : Line) (E : Log) (g : ℕ) → g < length E → class_columns instances (entries (l ∷ E)) g ≡ class_columns instances (entries E) g
+columns-stay instances l E g lt = rw (ne_eqb g (length (entries E)) (λ is. absurd (omega (arith, is, lt, length-map E entry)))) refl
 
-pub rows-stay : (uses : List TableInstance) (D : Tables) (l : Line) (E : Log) (g : ℕ) (e : Env) → g < length E → class_rows uses D (entries (l ∷ E)) g e ≡ class_rows uses D (entries E) g e
-rows-stay uses D l E g e lt = rw (ne_eqb g (length (entries E)) (λ is. absurd (omega (arith, is, lt, length-map E entry)))) refl
+pub rows-stay : (instances : List TableInstance) (D : Tables) (l : Line) (E : Log) (g : ℕ) (e : Env) → g < length E → class_rows instances D (entries (l ∷ E)) g e ≡ class_rows instances D (entries E) g e
+rows-stay instances D l E g e lt = rw (ne_eqb g (length (entries E)) (λ is. absurd (omega (arith, is, lt, length-map E entry)))) refl
 
 -- ---- the classes that an expression names
 

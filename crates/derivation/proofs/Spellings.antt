@@ -22,11 +22,11 @@ use Rattle.derivation.proofs.Invariants.{same_bag-turned}
 use Rattle.derivation.proofs.Pairs.{first-is}
 use Rattle.derivation.specs.Spelling.{Spelt, Spelling, class_with, class_by, over_one, over_two, spelling_layer, spelling}
 
-module _ (uses : List TableInstance) (own : List Aggregation) (D : Tables) (V : Classes) (member : ℕ → Option Line)
-    (is-line : (i : ℕ) (l : Line) → member i ≡ Some l → (columns_of uses V.columns l.expr ≡ V.columns l.class) × SameBag (V.rows l.class) (means uses D V l.expr)) where
+module _ (instances : List TableInstance) (own : List Aggregation) (D : Tables) (V : Classes) (member : ℕ → Option Line)
+    (is-line : (i : ℕ) (l : Line) → member i ≡ Some l → (columns_of instances V.columns l.expr ≡ V.columns l.class) × SameBag (V.rows l.class) (means instances D V l.expr)) where
   -- what is meant has the columns and the bag of an expression, and of a class
   abbrev IsExpr : Meant → Expr → Type 0
-  IsExpr m x = (m.columns ≡ columns_of uses V.columns x) × SameBag m.rows (means uses D V x)
+  IsExpr m x = (m.columns ≡ columns_of instances V.columns x) × SameBag m.rows (means instances D V x)
 
   abbrev IsClass : Meant → ℕ → Type 0
   IsClass m g = (m.columns ≡ V.columns g) × SameBag m.rows (V.rows g)
@@ -55,8 +55,8 @@ module _ (uses : List TableInstance) (own : List Aggregation) (D : Tables) (V : 
               let it : x ≡ l.expr = sym (equal_expr l.expr x equal) in
               let line = is-line i l there in
               subst (IsClass m) here (
-                is.0 ∙ ap (columns_of uses V.columns) it ∙ line.0,
-                same_bag-trans m.rows (means uses D V x) (V.rows l.class) is.1 (subst (λ y. SameBag (means uses D V y) (V.rows l.class)) (sym it) (same_bag-turned (V.rows l.class) (means uses D V l.expr) line.1)),
+                is.0 ∙ ap (columns_of instances V.columns) it ∙ line.0,
+                same_bag-trans m.rows (means instances D V x) (V.rows l.class) is.1 (subst (λ y. SameBag (means instances D V y) (V.rows l.class)) (sym it) (same_bag-turned (V.rows l.class) (means instances D V l.expr) line.1)),
               )
           same false equal at = cc
 

@@ -47,33 +47,33 @@ use Rattle.derivation.proofs.Spellings.{shape-spells}
 -- ---- what is true of a log
 
 abbrev world_of : List TableInstance → Tables → Log → Classes
-world_of uses D E = classes uses D (entries E)
+world_of instances D E = classes instances D (entries E)
 
-record Holds (uses : List TableInstance) (own : List Aggregation) (D : Tables) (E : Log) : Type 0 where
-  formed : AreFormed uses own (entries E)
+record Holds (instances : List TableInstance) (own : List Aggregation) (D : Tables) (E : Log) : Type 0 where
+  formed : AreFormed instances own (entries E)
   low : AreBelow E
-  lines : AreTrue uses own D (length E) (world_of uses D E) E
-  same : (x y : ℕ) → least E x ≡ least E y → AreAlike (world_of uses D E) x y
+  lines : AreTrue instances own D (length E) (world_of instances D E) E
+  same : (x y : ℕ) → least E x ≡ least E y → AreAlike (world_of instances D E) x y
 
-module _ (S : Schema) (B : Database) (satisfies : Satisfies S B) (uses : List TableInstance) (over : AllByRecursion (IsOver S) uses) (own : List Aggregation) where
+module _ (S : Schema) (B : Database) (satisfies : Satisfies S B) (instances : List TableInstance) (over : AllByRecursion (IsOver S) instances) (own : List Aggregation) where
   abbrev D : Tables
   D = tables_of S B
 
   abbrev V : Log → Classes
-  V E = world_of uses D E
+  V E = world_of instances D E
 
   -- all that is known is true
-  known-true : (E : Log) → Holds uses own D E → IsTrueOf (knowledge uses E) (class_rows uses D (entries E))
+  known-true : (E : Log) → Holds instances own D E → IsTrueOf (knowledge instances E) (class_rows instances D (entries E))
   known-true E holds = record {
-    fits = classes_are_fitting uses own D (entries E) holds.formed;
+    fits = classes_are_fitting instances own D (entries E) holds.formed;
     same = λ g h is. holds.same g h (eqb-true (least E g) (least E h) is);
-    facts = λ g. facts-true uses own D (length E) (V E) g (are_same E g) (λ h is. holds.same g h (eqb-true (least E g) (least E h) is)) E holds.lines;
+    facts = λ g. facts-true instances own D (length E) (V E) g (are_same E g) (λ h is. holds.same g h (eqb-true (least E g) (least E h) is)) E holds.lines;
   }
 
   agree : (l : Line) (E : Log) → AgreeBelow (length E) (V E) (V (l ∷ E))
-  agree l E g lt = (sym (columns-stay uses l E g lt), same_bag-equal _ _ (λ e. sym (rows-stay uses D l E g e lt)))
+  agree l E g lt = (sym (columns-stay instances l E g lt), same_bag-equal _ _ (λ e. sym (rows-stay instances D l E g e lt)))
 
-  same-stay : (l : Line) (E : Log) → Holds uses own D E → (x y : ℕ) → least E x ≡ least E y → AreAlike (V (l ∷ E)) x y
+  same-stay : (l : Line) (E : Log) → Holds instances own D E → (x y : ℕ) → least E x ≡ least E y → AreAlike (V (l ∷ E)) x y
   same-stay l E holds x y is = elim (same-below E holds.low x y is) [
     | inl one ↦ subst (AreAlike (V (l ∷ E)) x) one (refl, λ e f. refl)
     | inr both ↦ lift x y both.0 both.1 (holds.same x y is)
@@ -89,15 +89,15 @@ module _ (S : Schema) (B : Database) (satisfies : Satisfies S B) (uses : List Ta
 
   -- ---- steps
 
-  module _ (E : Log) (holds : Holds uses own D E) where
+  module _ (E : Log) (holds : Holds instances own D E) where
     abbrev K : Knowledge
-    K = knowledge uses E
+    K = knowledge instances E
 
     abbrev W : World
-    W = world uses own D E
+    W = world instances own D E
 
     is-line : (i : ℕ) (l : matches.Line) → member E i ≡ Some l → IsLine K W l
-    is-line i l at = let m = member-true uses own D (length E) (V E) E holds.lines i l at in record { formed = m.formed; columns = m.columns; rows = m.rows }
+    is-line i l at = let m = member-true instances own D (length E) (V E) E holds.lines i l at in record { formed = m.formed; columns = m.columns; rows = m.rows }
 
     all-lines : (numbers : List ℕ) (lines : List matches.Line) → members E numbers ≡ Some lines → AllByRecursion (IsLine K W) lines
     all-lines [] lines is = subst (AllByRecursion (IsLine K W)) (let e : [] ≡ lines = cc in e) tt
@@ -110,10 +110,10 @@ module _ (S : Schema) (B : Database) (satisfies : Satisfies S B) (uses : List Ta
         by (Some l) (Some others) at later is = subst (AllByRecursion (IsLine K W)) (let e : (l ∷ others) ≡ lines = cc in e) (is-line i l at, later others refl)
 
     -- a step from a class gives what has the class's bag
-    step-true : (g : ℕ) (s : Step) (shape : Shape) → IsGiven uses own E g s shape → SameBag ((V E).rows g) (meant (V E) shape).rows
+    step-true : (g : ℕ) (s : Step) (shape : Shape) → IsGiven instances own E g s shape → SameBag ((V E).rows g) (meant (V E) shape).rows
     step-true g s shape is = by (members E s.uses) refl is.applied
       where
-        by : (o : Option (List matches.Line)) → members E s.uses ≡ o → spec.matched_at (knowledge uses E) E g s o ≡ Some is.matched → SameBag ((V E).rows g) (meant (V E) shape).rows
+        by : (o : Option (List matches.Line)) → members E s.uses ≡ o → spec.matched_at (knowledge instances E) E g s o ≡ Some is.matched → SameBag ((V E).rows g) (meant (V E) shape).rows
         by None there at = cc
         by (Some []) there at = cc
         by (Some (top ∷ others)) there at = begins (are_same E top.class g) refl at
@@ -129,7 +129,7 @@ module _ (S : Schema) (B : Database) (satisfies : Satisfies S B) (uses : List Ta
                 let alike = holds.same top.class g (eqb-true (least E top.class) (least E g) same) in
                 same_bag-trans _ _ _ (same_bag-turned _ _ alike.1) (same_bag-trans _ _ _ lines.0.rows sound)
 
-    lines-mean : (i : ℕ) (l : matches.Line) → member E i ≡ Some l → (columns_of uses (V E).columns l.expr ≡ (V E).columns l.class) × SameBag ((V E).rows l.class) (means uses D (V E) l.expr)
+    lines-mean : (i : ℕ) (l : matches.Line) → member E i ≡ Some l → (columns_of instances (V E).columns l.expr ≡ (V E).columns l.class) × SameBag ((V E).rows l.class) (means instances D (V E) l.expr)
     lines-mean i l at = let is = is-line i l at in (is.columns, is.rows)
 
     -- the lines behind what is spelt are all used up
@@ -137,30 +137,30 @@ module _ (S : Schema) (B : Database) (satisfies : Satisfies S B) (uses : List Ta
     whole p None is = cc
     whole p (Some q) is = (q, refl, (and_parts _ _ is).1)
 
-    adds-true : (g : ℕ) (s : Step) (x : Expr) → StandsAdds uses own E g s x → SameBag ((V E).rows g) (means uses D (V E) x)
+    adds-true : (g : ℕ) (s : Step) (x : Expr) → StandsAdds instances own E g s x → SameBag ((V E).rows g) (means instances D (V E) x)
     adds-true g s x is =
         let spelt = whole _ _ is.spelt in
         let y : Expr = spelt.0.0 in
         let it : y ≡ x = equal_expr y x spelt.2 in
-        let says = (shape-spells uses own D (V E) (member E) lines-mean is.shape).expr s.makes spelt.0.1 y spelt.1 in
-        same_bag-trans _ _ _ (step-true g s is.shape is.given_) (subst (λ z. SameBag (meant (V E) is.shape).rows (means uses D (V E) z)) it says.1)
+        let says = (shape-spells instances own D (V E) (member E) lines-mean is.shape).expr s.makes spelt.0.1 y spelt.1 in
+        same_bag-trans _ _ _ (step-true g s is.shape is.given_) (subst (λ z. SameBag (meant (V E) is.shape).rows (means instances D (V E) z)) it says.1)
 
-    unites-true : (g h : ℕ) (s : Step) → StandsUnites uses own E g h s → AreAlike (V E) g h
+    unites-true : (g h : ℕ) (s : Step) → StandsUnites instances own E g h s → AreAlike (V E) g h
     unites-true g h s is =
         let spelt = whole _ _ is.spelt in
         let k : ℕ = spelt.0.0 in
-        let says = (shape-spells uses own D (V E) (member E) lines-mean is.shape).class s.makes spelt.0.1 k spelt.1 in
+        let says = (shape-spells instances own D (V E) (member E) lines-mean is.shape).class s.makes spelt.0.1 k spelt.1 in
         let alike = holds.same h k (eqb-true (least E h) (least E k) spelt.2) in
         (is.columns, same_bag-trans _ _ _ (step-true g s is.shape is.given_) (same_bag-trans _ _ _ says.1 (same_bag-turned _ _ alike.1)))
 
-    gives-true : (g m : ℕ) (f : Fact) → StandsGives uses own E g m f → IsFact uses own D (length E) (V E) g f
+    gives-true : (g m : ℕ) (f : Fact) → StandsGives instances own E g m f → IsFact instances own D (length E) (V E) g f
     gives-true g m f is =
         let line = is-line m is.line is.there in
         let alike = holds.same is.line.class g (eqb-true (least E is.line.class) (least E g) is.same) in
         record {
           below = founded E g is.class;
           within = is.within_;
-          holds = given_facts_hold S B satisfies uses over own K (class_rows uses D (entries E)) (known-true E holds) g is.line.expr line.formed (line.columns ∙ alike.0)
+          holds = given_facts_hold S B satisfies instances over own K (class_rows instances D (entries E)) (known-true E holds) g is.line.expr line.formed (line.columns ∙ alike.0)
               (same_bag-trans _ _ _ (same_bag-turned _ _ alike.1) line.rows) f is.within_ is.gives_;
         }
 
@@ -170,22 +170,22 @@ module _ (S : Schema) (B : Database) (satisfies : Satisfies S B) (uses : List Ta
   count E = length-map E entry
 
   -- a line that founds no class has an entry that is well formed
-  idle-line : (E : Log) (g : ℕ) → g < length E → AreFormed uses own (entries E) → AreFormed uses own (Keep [] 0 ∷ entries E)
+  idle-line : (E : Log) (g : ℕ) → g < length E → AreFormed instances own (entries E) → AreFormed instances own (Keep [] 0 ∷ entries E)
   idle-line E g lt formed =
       let pass : nat_lt 0 (length (entries E)) ≡ true = lt-ltb 0 (length (entries E)) (omega (arith, lt, count E)) in
       (rw pass refl, refl, formed)
 
-  idle : (E : Log) (g : ℕ) → founds E g ≡ true → AreFormed uses own (entries E) → AreFormed uses own (Keep [] 0 ∷ entries E)
+  idle : (E : Log) (g : ℕ) → founds E g ≡ true → AreFormed instances own (entries E) → AreFormed instances own (Keep [] 0 ∷ entries E)
   idle E g is = idle-line E g (founded E g is)
 
   low-names : (E : Log) (x : Expr) → classes_pass (founds E) x ≡ true → classes_pass (λ g. nat_lt g (length E)) x ≡ true
   low-names E x known = below E x known
 
   -- what stays true
-  stay : (l : Line) (E : Log) → Holds uses own D E → AreTrue uses own D (length (l ∷ E)) (V (l ∷ E)) E
-  stay l E holds = all-stay uses own D (length E) (V E) (V (l ∷ E)) (agree l E) E holds.lines
+  stay : (l : Line) (E : Log) → Holds instances own D E → AreTrue instances own D (length (l ∷ E)) (V (l ∷ E)) E
+  stay l E holds = all-stay instances own D (length E) (V E) (V (l ∷ E)) (agree l E) E holds.lines
 
-  founds-holds : (x : Expr) (E : Log) → Holds uses own D E → StandsFounds uses own E x → Holds uses own D (Founds x ∷ E)
+  founds-holds : (x : Expr) (E : Log) → Holds instances own D E → StandsFounds instances own E x → Holds instances own D (Founds x ∷ E)
   founds-holds x E holds is =
       let l : Line = Founds x in
       let n : ℕ = length E in
@@ -199,9 +199,9 @@ module _ (S : Schema) (B : Database) (satisfies : Satisfies S B) (uses : List Ta
           record {
             below = omega arith;
             known = wider n x known;
-            formed = sym (formed-agree uses own D (V E) (V (l ∷ E)) (λ g. nat_lt g n) agrees x known) ∙ is.formed;
-            columns = sym (columns-agree uses own D (V E) (V (l ∷ E)) (λ g. nat_lt g n) agrees x known) ∙ sym (rw top refl);
-            rows = same_bag-trans _ _ _ (same_bag-equal _ _ (λ e. rw top refl)) (means-agree uses own D (V E) (V (l ∷ E)) (λ g. nat_lt g n) agrees x known);
+            formed = sym (formed-agree instances own D (V E) (V (l ∷ E)) (λ g. nat_lt g n) agrees x known) ∙ is.formed;
+            columns = sym (columns-agree instances own D (V E) (V (l ∷ E)) (λ g. nat_lt g n) agrees x known) ∙ sym (rw top refl);
+            rows = same_bag-trans _ _ _ (same_bag-equal _ _ (λ e. rw top refl)) (means-agree instances own D (V E) (V (l ∷ E)) (λ g. nat_lt g n) agrees x known);
           },
           stay l E holds,
         );
@@ -211,10 +211,10 @@ module _ (S : Schema) (B : Database) (satisfies : Satisfies S B) (uses : List Ta
       wider : (n : ℕ) (x : Expr) → classes_pass (λ g. nat_lt g n) x ≡ true → classes_pass (λ g. nat_lt g (suc n)) x ≡ true
       wider n x pass = classes-wider (λ g. nat_lt g n) (λ g. nat_lt g (suc n)) (λ g lt. lt-ltb g (suc n) (let less : g < n = ltb-true g n lt in omega (arith, less))) x pass
 
-  adds-holds : (g : ℕ) (s : Step) (x : Expr) (E : Log) → Holds uses own D E → StandsAdds uses own E g s x → Holds uses own D (Adds g s x ∷ E)
+  adds-holds : (g : ℕ) (s : Step) (x : Expr) (E : Log) → Holds instances own D E → StandsAdds instances own E g s x → Holds instances own D (Adds g s x ∷ E)
   adds-holds g s x E holds is =
       let l : Line = Adds g s x in
-      let here : IsMember uses own D (length E) (V E) (record { class = g; expr = x }) = record {
+      let here : IsMember instances own D (length E) (V E) (record { class = g; expr = x }) = record {
         below = founded E g is.class;
         known = low-names E x is.known;
         formed = is.formed;
@@ -224,11 +224,11 @@ module _ (S : Schema) (B : Database) (satisfies : Satisfies S B) (uses : List Ta
       record {
         formed = idle E g is.class holds.formed;
         low = holds.low;
-        lines = (member-stays uses own D (length E) (V E) (V (l ∷ E)) (agree l E) _ here, stay l E holds);
+        lines = (member-stays instances own D (length E) (V E) (V (l ∷ E)) (agree l E) _ here, stay l E holds);
         same = same-stay l E holds;
       }
 
-  unites-holds : (g h : ℕ) (s : Step) (E : Log) → Holds uses own D E → StandsUnites uses own E g h s → Holds uses own D (Unites g h s ∷ E)
+  unites-holds : (g h : ℕ) (s : Step) (E : Log) → Holds instances own D E → StandsUnites instances own E g h s → Holds instances own D (Unites g h s ∷ E)
   unites-holds g h s E holds is =
       let l : Line = Unites g h s in
       let first : g < length E = founded E g is.first in
@@ -246,22 +246,22 @@ module _ (S : Schema) (B : Database) (satisfies : Satisfies S B) (uses : List Ta
         );
       }
 
-  gives-holds : (g m : ℕ) (f : Fact) (E : Log) → Holds uses own D E → StandsGives uses own E g m f → Holds uses own D (Gives g m f ∷ E)
+  gives-holds : (g m : ℕ) (f : Fact) (E : Log) → Holds instances own D E → StandsGives instances own E g m f → Holds instances own D (Gives g m f ∷ E)
   gives-holds g m f E holds is =
       let l : Line = Gives g m f in
       record {
         formed = idle E g is.class holds.formed;
         low = holds.low;
-        lines = (fact-stays uses own D (length E) (V E) (V (l ∷ E)) (agree l E) g f (gives-true E holds g m f is), stay l E holds);
+        lines = (fact-stays instances own D (length E) (V E) (V (l ∷ E)) (agree l E) g f (gives-true E holds g m f is), stay l E holds);
         same = same-stay l E holds;
       }
 
-  alike-holds : (i j : ℕ) (E : Log) → Holds uses own D E → StandsAlike uses own E i j → Holds uses own D (Alike i j ∷ E)
+  alike-holds : (i j : ℕ) (E : Log) → Holds instances own D E → StandsAlike instances own E i j → Holds instances own D (Alike i j ∷ E)
   alike-holds i j E holds is =
       let l : Line = Alike i j in
-      let first = member-true uses own D (length E) (V E) E holds.lines i is.first is.first_at in
-      let second = member-true uses own D (length E) (V E) E holds.lines j is.second is.second_at in
-      let same = alike_is_same uses D (V E) (least E) holds.same is.first.expr is.second.expr is.alike in
+      let first = member-true instances own D (length E) (V E) E holds.lines i is.first is.first_at in
+      let second = member-true instances own D (length E) (V E) E holds.lines j is.second is.second_at in
+      let same = alike_is_same instances D (V E) (least E) holds.same is.first.expr is.second.expr is.alike in
       let alike : AreAlike (V E) is.first.class is.second.class = (
         sym first.columns ∙ same.0 ∙ second.columns,
         same_bag-trans _ _ _ first.rows (same_bag-trans _ _ _ same.1 (same_bag-turned _ _ second.rows)),
@@ -281,15 +281,15 @@ module _ (S : Schema) (B : Database) (satisfies : Satisfies S B) (uses : List Ta
             )));
       }
 
-  log-holds : (E : Log) → Replays uses own E → Holds uses own D E
+  log-holds : (E : Log) → Replays instances own E → Holds instances own D E
   log-holds [] replays = record { formed = tt; low = tt; lines = tt; same = λ x y is. subst (AreAlike (V []) x) is (refl, λ e f. refl) }
-  log-holds (Founds x ∷ E) replays = founds-holds x E (log-holds E replays.1) (founds-stands uses own E x (Founds x) replays.0)
-  log-holds (Adds g s x ∷ E) replays = adds-holds g s x E (log-holds E replays.1) (adds-stands uses own E g s x (Adds g s x) replays.0)
-  log-holds (Unites g h s ∷ E) replays = unites-holds g h s E (log-holds E replays.1) (unites-stands uses own E g h s (Unites g h s) replays.0)
-  log-holds (Alike i j ∷ E) replays = alike-holds i j E (log-holds E replays.1) (alike-stands uses own E i j (Alike i j) replays.0)
-  log-holds (Gives g m f ∷ E) replays = gives-holds g m f E (log-holds E replays.1) (gives-stands uses own E g m f (Gives g m f) replays.0)
+  log-holds (Founds x ∷ E) replays = founds-holds x E (log-holds E replays.1) (founds-stands instances own E x (Founds x) replays.0)
+  log-holds (Adds g s x ∷ E) replays = adds-holds g s x E (log-holds E replays.1) (adds-stands instances own E g s x (Adds g s x) replays.0)
+  log-holds (Unites g h s ∷ E) replays = unites-holds g h s E (log-holds E replays.1) (unites-stands instances own E g h s (Unites g h s) replays.0)
+  log-holds (Alike i j ∷ E) replays = alike-holds i j E (log-holds E replays.1) (alike-stands instances own E i j (Alike i j) replays.0)
+  log-holds (Gives g m f ∷ E) replays = gives-holds g m f E (log-holds E replays.1) (gives-stands instances own E g m f (Gives g m f) replays.0)
 
 pub logs_true : LogsAreTrue
-logs_true S B satisfies uses over own E replays =
-    let holds = log-holds S B satisfies uses over own E replays in
-    record { members = λ i l at. is-line S B satisfies uses over own E holds i l at; classes = known-true S B satisfies uses over own E holds }
+logs_true S B satisfies instances over own E replays =
+    let holds = log-holds S B satisfies instances over own E replays in
+    record { members = λ i l at. is-line S B satisfies instances over own E holds i l at; classes = known-true S B satisfies instances over own E holds }

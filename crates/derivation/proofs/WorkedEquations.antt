@@ -110,8 +110,8 @@ module _ (member : ℕ → Option Line) where
 -- ---- lines
 
 -- a line that adds an expression stands where each test of it passes
-module _ (uses : List TableInstance) (own : List Aggregation) (E : Log) (g : ℕ) (s : Step) (x : Expr) (shape : Shape) where
+module _ (instances : List TableInstance) (own : List Aggregation) (E : Log) (g : ℕ) (s : Step) (x : Expr) (shape : Shape) where
   pub adds-stands : (founds E g && cites E s && is_known E x) ≡ true
-      → (is_formed uses own (knowledge uses E).columns x && same_columns (columns_of uses (knowledge uses E).columns x) ((knowledge uses E).columns g)) ≡ true
-      → given (knowledge uses E) E g s ≡ Ok shape → is_expr (member E) shape s.makes x ≡ true → stands uses own E (Adds g s x) ≡ Ok (Adds g s x)
+      → (is_formed instances own (knowledge instances E).columns x && same_columns (columns_of instances (knowledge instances E).columns x) ((knowledge instances E).columns g)) ≡ true
+      → given (knowledge instances E) E g s ≡ Ok shape → is_expr (member E) shape s.makes x ≡ true → stands instances own E (Adds g s x) ≡ Ok (Adds g s x)
   adds-stands named formed is spelt = rw (named, formed, is, spelt) refl

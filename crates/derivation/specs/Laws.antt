@@ -16,19 +16,19 @@ use Rattle.derivation.specs.Replay.{Replays}
 
 -- the rows of each class are those of the line that founds it
 abbrev pub world : List TableInstance → List Aggregation → Tables → Log → World
-world uses own D E = record { uses = uses; own = own; tables = D; rows = class_rows uses D (entries E) }
+world instances own D E = record { instances = instances; own = own; tables = D; rows = class_rows instances D (entries E) }
 
 -- Each expression of the log has the columns and the bag of its class, classes that are the same have the same, and each fact holds
 -- of its class; all of this in every environment.
-pub record IsTrue (uses : List TableInstance) (own : List Aggregation) (D : Tables) (E : Log) : Type 0 where
-  pub members : (i : ℕ) (l : matches.Line) → member E i ≡ Some l → IsLine (knowledge uses E) (world uses own D E) l
-  pub classes : IsTrueOf (knowledge uses E) (class_rows uses D (entries E))
+pub record IsTrue (instances : List TableInstance) (own : List Aggregation) (D : Tables) (E : Log) : Type 0 where
+  pub members : (i : ℕ) (l : matches.Line) → member E i ≡ Some l → IsLine (knowledge instances E) (world instances own D E) l
+  pub classes : IsTrueOf (knowledge instances E) (class_rows instances D (entries E))
 
 -- so it is in every database that satisfies the schema
 abbrev pub LogsAreTrue : Type 0
-LogsAreTrue = (S : Schema) (D : Database) → Satisfies S D → (uses : List TableInstance) → AllByRecursion (IsOver S) uses → (own : List Aggregation)
-    → (E : Log) → Replays uses own E → IsTrue uses own (tables_of S D) E
+LogsAreTrue = (S : Schema) (D : Database) → Satisfies S D → (instances : List TableInstance) → AllByRecursion (IsOver S) instances → (own : List Aggregation)
+    → (E : Log) → Replays instances own E → IsTrue instances own (tables_of S D) E
 
 -- the classes that are the same are those of the least equivalence
 abbrev pub SamenessIsLeast : Type 0
-SamenessIsLeast = (uses : List TableInstance) (own : List Aggregation) (E : Log) → Replays uses own E → (g h : ℕ) → are_same E g h ≡ true ↔ SameBy E g h
+SamenessIsLeast = (instances : List TableInstance) (own : List Aggregation) (E : Log) → Replays instances own E → (g h : ℕ) → are_same E g h ≡ true ↔ SameBy E g h

@@ -116,9 +116,9 @@ facts E k = facts_among (are_same E k) E
 -- ---- all that is known
 
 abbrev pub knowledge : List TableInstance → Log → Knowledge
-knowledge uses E = record {
-  columns = class_columns uses (entries E);
-  free = class_free uses (entries E);
+knowledge instances E = record {
+  columns = class_columns instances (entries E);
+  free = class_free instances (entries E);
   root = least E;
   facts = facts E;
 }

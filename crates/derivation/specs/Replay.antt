@@ -71,8 +71,8 @@ are_alike K (Some k) (Some l) = same_expr (rooted K.root k.expr) (rooted K.root 
 
 -- whether a line gives a fact of the class
 abbrev pub gives_fact : List TableInstance → Knowledge → ℕ → Fact → Option matches.Line → Bool
-gives_fact uses K g f None = false
-gives_fact uses K g f (Some l) = gives uses K g l.expr f
+gives_fact instances K g f None = false
+gives_fact instances K g f (Some l) = gives instances K g l.expr f
 
 abbrev pub unfit : RuleName → Unfit → LineReason
 unfit rule Pattern = OtherForm
@@ -97,14 +97,14 @@ module _ (K : Knowledge) (E : Log) where
   given g s = wanted OtherForm (applied_to g s) >>= λ m. or_unfit s.rule (given_by s.rule m)
 
 -- a line that may stand behind a log of which this is known
-module _ (uses : List TableInstance) (own : List Aggregation) (K : Knowledge) (E : Log) where
+module _ (instances : List TableInstance) (own : List Aggregation) (K : Knowledge) (E : Log) where
   abbrev pub judged : Line → Result Line LineReason
   judged (Founds x) =
       wanted_if UnknownLine (is_known E x) (Founds x)
-      >>= λ l. wanted_if IllFormed (is_formed uses own K.columns x) l
+      >>= λ l. wanted_if IllFormed (is_formed instances own K.columns x) l
   judged (Adds g s x) =
       wanted_if UnknownLine (founds E g && cites E s && is_known E x) (Adds g s x)
-      >>= λ l. wanted_if IllFormed (is_formed uses own K.columns x && same_columns (columns_of uses K.columns x) (K.columns g)) l
+      >>= λ l. wanted_if IllFormed (is_formed instances own K.columns x && same_columns (columns_of instances K.columns x) (K.columns g)) l
       >>= λ l. given K E g s
       >>= λ shape. wanted_if OtherLine (is_expr (member E) shape s.makes x) l
   judged (Unites g h s) =
@@ -119,13 +119,13 @@ module _ (uses : List TableInstance) (own : List Aggregation) (K : Knowledge) (E
       wanted_if UnknownLine (founds E g && is_earlier E m) (Gives g m f)
       >>= λ l. wanted_if IllFormed (is_subset (fact_columns f) (K.columns g)) l
       >>= λ l. wanted_if OtherForm (is_of K g (member E m)) l
-      >>= λ l. wanted_if FailedFact (gives_fact uses K g f (member E m)) l
+      >>= λ l. wanted_if FailedFact (gives_fact instances K g f (member E m)) l
 
 -- a line that may stand behind a log
 abbrev pub stands : List TableInstance → List Aggregation → Log → Line → Result Line LineReason
-stands uses own E = judged uses own (knowledge uses E) E
+stands instances own E = judged instances own (knowledge instances E) E
 
 -- each line of the log may stand where it does
 abbrev pub Replays : List TableInstance → List Aggregation → Log → Type 0
-Replays uses own [] = Unit {0}
-Replays uses own (l ∷ E) = (stands uses own E l ≡ Ok l) × Replays uses own E
+Replays instances own [] = Unit {0}
+Replays instances own (l ∷ E) = (stands instances own E l ≡ Ok l) × Replays instances own E

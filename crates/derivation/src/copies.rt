@@ -12,14 +12,14 @@ fn copy_expr(alloc: Global, expr: &Expr) -> Result<Expr, AllocError>
     ensures { IfOk result (λ x. x ≡ expr.now) }
 {
     match expr {
-        Expr::Get(occurrence) => Ok(Expr::Get(*occurrence)),
+        Expr::Get(instance) => Ok(Expr::Get(*instance)),
         Expr::Select(on, x) => Ok(Expr::Select(on.copy(alloc)?, *x)),
         Expr::Join(on, a, b) => Ok(Expr::Join(on.copy(alloc)?, *a, *b)),
         Expr::LeftJoin(on, a, b) => Ok(Expr::LeftJoin(on.copy(alloc)?, *a, *b)),
         Expr::Semi(on, a, b) => Ok(Expr::Semi(on.copy(alloc)?, *a, *b)),
-        Expr::Anti(sure, maybe, a, b) => {
-            let sure = sure.copy(alloc)?;
-            Ok(Expr::Anti(sure, maybe.copy(alloc)?, *a, *b))
+        Expr::Anti(ordinary, null_aware, a, b) => {
+            let ordinary = ordinary.copy(alloc)?;
+            Ok(Expr::Anti(ordinary, null_aware.copy(alloc)?, *a, *b))
         }
         Expr::Keep(columns, x) => Ok(Expr::Keep(columns.copy(alloc)?, *x)),
         Expr::Distinct(x) => Ok(Expr::Distinct(*x)),

@@ -17,11 +17,11 @@ use Rattle.certificate.specs.Replay.{IsChecked}
 use Rattle.operators.specs.Runnable.{IsRunnable}
 
 -- the rows that a plan produces, read in the query's columns, are its answer
-pub answer_of : (q r : Query) (U V : Certificate) (S : Schema) (tables D : Database) (columns : List ℕ) (uses : List TableInstance) → columns ≡ query_numbers q → uses ≡ q.tables → q ≡ r → U ≡ V
-    → tables ≡ D → map (λ e. map e columns) (output_rows uses (tables_of S tables) U.plan nulls) ≡ answer r (tables_of S D) V.plan
-answer_of q r U V S tables D columns uses shows instances same proof given =
-    ap (λ cs. map (λ e. map e cs) (output_rows uses (tables_of S tables) U.plan nulls)) shows
-    ∙ ap (λ us. map (λ e. map e (query_numbers q)) (output_rows us (tables_of S tables) U.plan nulls)) instances ∙ ap (λ p. answer p (tables_of S tables) U.plan) same
+pub answer_of : (q r : Query) (U V : Certificate) (S : Schema) (tables D : Database) (columns : List ℕ) (instances : List TableInstance) → columns ≡ query_numbers q → instances ≡ q.tables → q ≡ r → U ≡ V
+    → tables ≡ D → map (λ e. map e columns) (output_rows instances (tables_of S tables) U.plan nulls) ≡ answer r (tables_of S D) V.plan
+answer_of q r U V S tables D columns instances shows same_instances same proof given =
+    ap (λ cs. map (λ e. map e cs) (output_rows instances (tables_of S tables) U.plan nulls)) shows
+    ∙ ap (λ us. map (λ e. map e (query_numbers q)) (output_rows us (tables_of S tables) U.plan nulls)) same_instances ∙ ap (λ p. answer p (tables_of S tables) U.plan) same
     ∙ ap (λ (W : Certificate). answer r (tables_of S tables) W.plan) proof ∙ ap (λ ts. answer r (tables_of S ts) V.plan) given
 
 -- in a database of the schema that it was checked with it answers the query
@@ -33,9 +33,9 @@ answers_of S T q V D checked satisfies same =
 -- ---- what it needs to be run
 
 -- the groups of a checked plan aggregate values of tables alone, and its nodes get the orders that they require
-pub runnable_of : (S : Schema) (q r : Query) (U V : Certificate) (uses : List TableInstance) → uses ≡ r.tables → r ≡ q → U ≡ V → IsChecked S q V → IsRunnable uses U.plan
-runnable_of S q r U V uses instances same proof checked =
-    let is : uses ≡ q.tables = instances ∙ ap (λ (x : Query). x.tables) same in
+pub runnable_of : (S : Schema) (q r : Query) (U V : Certificate) (instances : List TableInstance) → instances ≡ r.tables → r ≡ q → U ≡ V → IsChecked S q V → IsRunnable instances U.plan
+runnable_of S q r U V instances same_instances same proof checked =
+    let is : instances ≡ q.tables = same_instances ∙ ap (λ (x : Query). x.tables) same in
     subst (λ us. IsRunnable us U.plan) (sym is)
     (subst (λ (W : Certificate). IsRunnable q.tables W.plan) (sym proof) (record { reads = checked.reads; sorted = checked.sorted }))
 

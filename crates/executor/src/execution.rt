@@ -24,10 +24,10 @@ pub fn find<'t>(
     let query = checked.query();
     let plan = &checked.certificate().plan;
     let columns = query_numbers(alloc, query)?;
-    let uses = query.tables.as_slice();
-    let tables = IndexedTables::for_plan(alloc, database.tables(), uses, plan)?;
+    let instances = query.tables.as_slice();
+    let tables = IndexedTables::for_plan(alloc, database.tables(), instances, plan)?;
     let sources = Sources {
-        uses,
+        instances,
         tables: &tables,
     };
     plan_found(alloc, plan, sources, columns.as_slice())

@@ -54,9 +54,9 @@ pub apart : (numbers : List ℕ) (items : List Item) (others : List ℕ) → all
 apart numbers items others differ = ap are_different (columns-are numbers items) ∙ different-are (aggregate_numbers items) ∙ differ-left (aggregate_numbers items) others differ
 
 -- the query's own aggregates are its own in order too
-among-ordered : (uses : List TableInstance) (own : List Aggregation) (numbers : List ℕ) (items : List Item) → are_different (aggregate_columns (aggregations numbers items)) ≡ true
-    → among_own uses own (by_column (aggregations numbers items)) ≡ true → among_own uses own (aggregations numbers items) ≡ true
-among-ordered uses own numbers items differ among = sym (each-ordered (λ a. list_any (same_aggregation a) own) (aggregations numbers items) differ) ∙ among
+among-ordered : (instances : List TableInstance) (own : List Aggregation) (numbers : List ℕ) (items : List Item) → are_different (aggregate_columns (aggregations numbers items)) ≡ true
+    → among_own instances own (by_column (aggregations numbers items)) ≡ true → among_own instances own (aggregations numbers items) ≡ true
+among-ordered instances own numbers items differ among = sym (each-ordered (λ a. list_any (same_aggregation a) own) (aggregations numbers items) differ) ∙ among
 
 -- an aggregate of the query's own stands in a column of its own
 aggregate-own : (own : List Aggregation) (a : Aggregation) → list_any (same_aggregation a) own ≡ true → list_any (λ b. b.column == a.column) own ≡ true
@@ -115,29 +115,29 @@ kept-all p scope items all = all-rising p (own_numbers scope items) ∙ listed i
     listed [] all = refl
     listed (i ∷ its) all = cond_both (frame.is_block_item i) _ _ (λ ks. list_all p ks ≡ true) (λ is. and_from _ _ (all.0 is) (listed its all.1)) (λ isnt. listed its all.1)
 
-module _ (uses : List TableInstance) (own : List Aggregation) where
+module _ (instances : List TableInstance) (own : List Aggregation) where
   -- ---- WHERE
 
-  where-formed : (o : Option Cond) (inner : Scope) (A : List Expr) → OfFilter (CondFormed uses own) (FromFormed uses own) (BlockFormed uses own) o → AllOwn uses own inner → AreFormed uses own A → 0 < length A
-      → bound_filter (option_map (cond_scope uses) o) inner ≡ true → GroupsOwn uses own (where_lines (option_map (cond_frame uses) o) inner A) → AreFormed uses own (where_lines (option_map (cond_frame uses) o) inner A)
+  where-formed : (o : Option Cond) (inner : Scope) (A : List Expr) → OfFilter (CondFormed instances own) (FromFormed instances own) (BlockFormed instances own) o → AllOwn instances own inner → AreFormed instances own A → 0 < length A
+      → bound_filter (option_map (cond_scope instances) o) inner ≡ true → GroupsOwn instances own (where_lines (option_map (cond_frame instances) o) inner A) → AreFormed instances own (where_lines (option_map (cond_frame instances) o) inner A)
   where-formed None inner A is_formed all formed some bound groups = formed
   where-formed (Some c) inner A is_formed all formed some bound groups =
-      let framed : CondLines = cond_frame uses c inner A in
-      let shape : CondShape uses framed (cond_scope uses c) A = cond-shape uses c inner A in
-      let test : FormedCond uses own framed = is_formed inner A all formed bound groups.1 in
+      let framed : CondLines = cond_frame instances c inner A in
+      let shape : CondShape instances framed (cond_scope instances c) A = cond-shape instances c inner A in
+      let test : FormedCond instances own framed = is_formed inner A all formed bound groups.1 in
       let below : last A < length A = last-below A some in
       let longer : length A ≤ length framed.lines = grows-longer framed.lines A shape.grows in
       let p : ℕ → Bool = λ g. nat_lt g (length framed.lines) in (
         rw (lt-ltb (last A) (length framed.lines) (omega (arith, below, longer)), conjuncts-classes framed.condition p ∙ shape.named p (λ g low lt. lt-ltb _ _ lt)) refl,
-        and_from _ _ (conjuncts-columns framed.condition (is_query_column uses own) ∙ test.named) refl,
+        and_from _ _ (conjuncts-columns framed.condition (is_query_column instances own) ∙ test.named) refl,
         test.lines,
       )
 
   -- ---- behind FROM and WHERE, whose last class has the columns of the FROM
 
-  module _ (numbers : List ℕ) (scope : Scope) (B : List Expr) (some : 0 < length B) (columns : (c : ℕ) → has (class_columns uses B (last B)) c ≡ has numbers c) where
+  module _ (numbers : List ℕ) (scope : Scope) (B : List Expr) (some : 0 < length B) (columns : (c : ℕ) → has (class_columns instances B (last B)) c ≡ has numbers c) where
     abbrev cols : List ℕ
-    cols = class_columns uses B (last B)
+    cols = class_columns instances B (last B)
 
     place-in : (k : ℕ) → nat_lt k (length numbers) ≡ true → has cols (number_at numbers k) ≡ true
     place-in k lt = columns (number_at numbers k) ∙ place-has numbers k (ltb-true _ _ lt)
@@ -155,7 +155,7 @@ module _ (uses : List TableInstance) (own : List Aggregation) where
 
     -- each aggregate reads the columns of the FROM, and is none of them
     aggregates-formed : (keys : List ℕ) (items : List Item) → all_differ (aggregate_numbers items ++ numbers) ≡ true → list_all (bound_group_item (length numbers) keys (numbers ∷ scope)) items ≡ true
-        → among_own uses own (aggregations numbers items) ≡ true → list_all (aggregation_formed own cols) (aggregations numbers items) ≡ true
+        → among_own instances own (aggregations numbers items) ≡ true → list_all (aggregation_formed own cols) (aggregations numbers items) ≡ true
     aggregates-formed keys [] differ bound among = refl
     aggregates-formed keys (item.Column c ∷ items) differ bound among = aggregates-formed keys items differ (and_parts _ _ bound).1 among
     aggregates-formed keys (item.Aggregate n a ∷ items) differ bound among =
@@ -166,8 +166,8 @@ module _ (uses : List TableInstance) (own : List Aggregation) where
         and_from _ _ (all-three _ _ _ listed.0 (reads-in a there.0) (not_from_false _ (columns n ∙ out))) (aggregates-formed keys items new.1 there.1 listed.1)
 
     group-formed : (keys : List ℕ) (items : List Item) → list_all (λ k. nat_lt k (length numbers)) keys ≡ true → all_differ (aggregate_numbers items ++ numbers) ≡ true
-        → list_all (bound_group_item (length numbers) keys (numbers ∷ scope)) items ≡ true → among_own uses own (aggregations numbers items) ≡ true
-        → is_formed uses own (class_columns uses B) (Group (key_columns numbers keys) (by_column (aggregations numbers items)) (last B)) ≡ true
+        → list_all (bound_group_item (length numbers) keys (numbers ∷ scope)) items ≡ true → among_own instances own (aggregations numbers items) ≡ true
+        → is_formed instances own (class_columns instances B) (Group (key_columns numbers keys) (by_column (aggregations numbers items)) (last B)) ≡ true
     group-formed keys items below differ bound among =
         all-three _ _ _ (all-rising (has cols) (map (number_at numbers) keys) ∙ keys-in keys below)
         (different-ordered (aggregations numbers items)) (each-ordered (aggregation_formed own cols) (aggregations numbers items) (apart numbers items numbers differ) ∙ aggregates-formed keys items differ bound among)
@@ -204,80 +204,80 @@ module _ (uses : List TableInstance) (own : List Aggregation) where
 
     -- ---- the last lines
 
-    keep-formed : (items : List Item) (G : List Expr) → 0 < length G → AreFormed uses own G → AllByRecursion (λ i. frame.is_block_item i ≡ true → has (class_columns uses G (last G)) (item_number (numbers ∷ scope) i) ≡ true) items
-        → AreFormed uses own (keep_lines (numbers ∷ scope) items G)
-    keep-formed items G some formed all = (rw (lt-ltb (last G) (length G) (last-below G some)) refl, kept-all (has (class_columns uses G (last G))) (numbers ∷ scope) items all, formed)
+    keep-formed : (items : List Item) (G : List Expr) → 0 < length G → AreFormed instances own G → AllByRecursion (λ i. frame.is_block_item i ≡ true → has (class_columns instances G (last G)) (item_number (numbers ∷ scope) i) ≡ true) items
+        → AreFormed instances own (keep_lines (numbers ∷ scope) items G)
+    keep-formed items G some formed all = (rw (lt-ltb (last G) (length G) (last-below G some)) refl, kept-all (has (class_columns instances G (last G))) (numbers ∷ scope) items all, formed)
 
-    distinct-formed : (twice : Bool) (G : List Expr) → 0 < length G → AreFormed uses own G → AreFormed uses own (distinct_lines twice G)
+    distinct-formed : (twice : Bool) (G : List Expr) → 0 < length G → AreFormed instances own G → AreFormed instances own (distinct_lines twice G)
     distinct-formed false G some formed = formed
     distinct-formed true G some formed = (rw (lt-ltb (last G) (length G) (last-below G some)) refl, refl, formed)
 
-    without-distinct : (twice : Bool) (G : List Expr) → GroupsOwn uses own (distinct_lines twice G) → GroupsOwn uses own G
+    without-distinct : (twice : Bool) (G : List Expr) → GroupsOwn instances own (distinct_lines twice G) → GroupsOwn instances own G
     without-distinct false G groups = groups
     without-distinct true G groups = groups.1
 
     end-formed : (twice is_grouped : Bool) (keys : List ℕ) (items : List Item) → all_differ (aggregate_numbers items ++ numbers) ≡ true → bound_items is_grouped (length numbers) keys items (numbers ∷ scope) ≡ true
-        → AreFormed uses own B → GroupsOwn uses own (distinct_lines twice (keep_lines (numbers ∷ scope) items (group_lines is_grouped numbers keys items B)))
-        → AreFormed uses own (distinct_lines twice (keep_lines (numbers ∷ scope) items (group_lines is_grouped numbers keys items B)))
+        → AreFormed instances own B → GroupsOwn instances own (distinct_lines twice (keep_lines (numbers ∷ scope) items (group_lines is_grouped numbers keys items B)))
+        → AreFormed instances own (distinct_lines twice (keep_lines (numbers ∷ scope) items (group_lines is_grouped numbers keys items B)))
     end-formed twice false keys items differ bound formed groups = distinct-formed twice (keep_lines (numbers ∷ scope) items B) (omega arith) (keep-formed items B some formed (plain-kept items bound))
     end-formed twice true keys items differ bound formed groups =
         let parts = and_parts (list_all (λ k. nat_lt k (length numbers)) keys) _ bound in
         let top : Expr = Group (key_columns numbers keys) (by_column (aggregations numbers items)) (last B) in
-        let among : among_own uses own (aggregations numbers items) ≡ true = among-ordered uses own numbers items (apart numbers items numbers differ) (without-distinct twice (keep_lines (numbers ∷ scope) items (top ∷ B)) groups).1.0 in
-        let kept_columns : AllByRecursion (λ i. frame.is_block_item i ≡ true → has (class_columns uses (top ∷ B) (length B)) (item_number (numbers ∷ scope) i) ≡ true) items =
-        subst (λ cs. AllByRecursion (λ i. frame.is_block_item i ≡ true → has cs (item_number (numbers ∷ scope) i) ≡ true) items) (sym (top-columns uses top B)) (group-kept keys items items (have-numbers items) parts.1) in
+        let among : among_own instances own (aggregations numbers items) ≡ true = among-ordered instances own numbers items (apart numbers items numbers differ) (without-distinct twice (keep_lines (numbers ∷ scope) items (top ∷ B)) groups).1.0 in
+        let kept_columns : AllByRecursion (λ i. frame.is_block_item i ≡ true → has (class_columns instances (top ∷ B) (length B)) (item_number (numbers ∷ scope) i) ≡ true) items =
+        subst (λ cs. AllByRecursion (λ i. frame.is_block_item i ≡ true → has cs (item_number (numbers ∷ scope) i) ≡ true) items) (sym (top-columns instances top B)) (group-kept keys items items (have-numbers items) parts.1) in
         distinct-formed twice (keep_lines (numbers ∷ scope) items (top ∷ B)) (omega arith)
         (keep-formed items (top ∷ B) (omega arith) (rw (lt-ltb (last B) (length B) (last-below B some)) refl, group-formed keys items parts.0 differ parts.1 among, formed) kept_columns)
 
   -- ---- what is shown
 
-  plain-shown : (inner : Scope) → AllOwn uses own inner → (items : List Item) → list_all (bound_item inner) items ≡ true → list_all (is_query_column uses own) (map (item_number inner) items) ≡ true
+  plain-shown : (inner : Scope) → AllOwn instances own inner → (items : List Item) → list_all (bound_item inner) items ≡ true → list_all (is_query_column instances own) (map (item_number inner) items) ≡ true
   plain-shown inner all [] bound = refl
-  plain-shown inner all (item.Column c ∷ items) bound = let parts = and_parts (names inner c) _ bound in and_from _ _ (number-own uses own inner all c parts.0) (plain-shown inner all items parts.1)
+  plain-shown inner all (item.Column c ∷ items) bound = let parts = and_parts (names inner c) _ bound in and_from _ _ (number-own instances own inner all c parts.0) (plain-shown inner all items parts.1)
   plain-shown inner all (item.Aggregate n a ∷ items) bound = absurd (false≢true bound)
 
-  group-shown : (numbers keys : List ℕ) (scope : Scope) → AllOwn uses own (numbers ∷ scope) → list_all (λ k. nat_lt k (length numbers)) keys ≡ true → (items : List Item)
-      → list_all (bound_group_item (length numbers) keys (numbers ∷ scope)) items ≡ true → among_own uses own (aggregations numbers items) ≡ true → list_all (is_query_column uses own) (map (item_number (numbers ∷ scope)) items) ≡ true
+  group-shown : (numbers keys : List ℕ) (scope : Scope) → AllOwn instances own (numbers ∷ scope) → list_all (λ k. nat_lt k (length numbers)) keys ≡ true → (items : List Item)
+      → list_all (bound_group_item (length numbers) keys (numbers ∷ scope)) items ≡ true → among_own instances own (aggregations numbers items) ≡ true → list_all (is_query_column instances own) (map (item_number (numbers ∷ scope)) items) ≡ true
   group-shown numbers keys scope all below [] bound among = refl
   group-shown numbers keys scope all below (item.Column c ∷ items) bound among =
       let parts = and_parts (bound_group_item (length numbers) keys (numbers ∷ scope) (item.Column c)) _ bound in
-      and_from _ _ (number-own uses own (numbers ∷ scope) all c (group-names numbers keys scope c below parts.0)) (group-shown numbers keys scope all below items parts.1 among)
+      and_from _ _ (number-own instances own (numbers ∷ scope) all c (group-names numbers keys scope c below parts.0)) (group-shown numbers keys scope all below items parts.1 among)
   group-shown numbers keys scope all below (item.Aggregate n a ∷ items) bound among =
       let a_own : Aggregation = record { column = n; aggregate = numbered_aggregate numbers a } in
       let listed = and_parts (list_any (same_aggregation a_own) own) _ among in
       and_from _ _ (or_right _ _ (aggregate-own own a_own listed.0)) (group-shown numbers keys scope all below items (and_parts (bound_aggregate (length numbers) a) _ bound).1 listed.1)
 
-  end-shown : (twice is_grouped : Bool) (numbers keys : List ℕ) (scope : Scope) (items : List Item) (B : List Expr) → AllOwn uses own (numbers ∷ scope) → all_differ (aggregate_numbers items ++ numbers) ≡ true → bound_items is_grouped (length numbers) keys items (numbers ∷ scope) ≡ true
-      → GroupsOwn uses own (distinct_lines twice (keep_lines (numbers ∷ scope) items (group_lines is_grouped numbers keys items B))) → list_all (is_query_column uses own) (map (item_number (numbers ∷ scope)) items) ≡ true
+  end-shown : (twice is_grouped : Bool) (numbers keys : List ℕ) (scope : Scope) (items : List Item) (B : List Expr) → AllOwn instances own (numbers ∷ scope) → all_differ (aggregate_numbers items ++ numbers) ≡ true → bound_items is_grouped (length numbers) keys items (numbers ∷ scope) ≡ true
+      → GroupsOwn instances own (distinct_lines twice (keep_lines (numbers ∷ scope) items (group_lines is_grouped numbers keys items B))) → list_all (is_query_column instances own) (map (item_number (numbers ∷ scope)) items) ≡ true
   end-shown twice false numbers keys scope items B all differ bound groups = plain-shown (numbers ∷ scope) all items bound
   end-shown false true numbers keys scope items B all differ bound groups =
       let parts = and_parts (list_all (λ k. nat_lt k (length numbers)) keys) _ bound in
-      group-shown numbers keys scope all parts.0 items parts.1 (among-ordered uses own numbers items (apart numbers items numbers differ) groups.1.0)
+      group-shown numbers keys scope all parts.0 items parts.1 (among-ordered instances own numbers items (apart numbers items numbers differ) groups.1.0)
   end-shown true true numbers keys scope items B all differ bound groups =
       let parts = and_parts (list_all (λ k. nat_lt k (length numbers)) keys) _ bound in
-      group-shown numbers keys scope all parts.0 items parts.1 (among-ordered uses own numbers items (apart numbers items numbers differ) groups.1.1.0)
+      group-shown numbers keys scope all parts.0 items parts.1 (among-ordered instances own numbers items (apart numbers items numbers differ) groups.1.1.0)
 
   -- ---- blocks
 
-  block-as : (f g : BlockFrame) (s t : BlockScope) (scope : Scope) (E : List Expr) → f ≡ g → s ≡ t → (t.bound scope ≡ true → GroupsOwn uses own (g.lines scope E) → FormedBlock uses own g scope E)
-      → s.bound scope ≡ true → GroupsOwn uses own (f.lines scope E) → FormedBlock uses own f scope E
+  block-as : (f g : BlockFrame) (s t : BlockScope) (scope : Scope) (E : List Expr) → f ≡ g → s ≡ t → (t.bound scope ≡ true → GroupsOwn instances own (g.lines scope E) → FormedBlock instances own g scope E)
+      → s.bound scope ≡ true → GroupsOwn instances own (f.lines scope E) → FormedBlock instances own f scope E
   block-as f g s t scope E is as_ h = rw (is, as_) h
 
-  pub formed-Block : (q : Block) → FromFormed uses own q.from → OfFilter (CondFormed uses own) (FromFormed uses own) (BlockFormed uses own) q.filter → BlockFormed uses own q
+  pub formed-Block : (q : Block) → FromFormed instances own q.from → OfFilter (CondFormed instances own) (FromFormed instances own) (BlockFormed instances own) q.filter → BlockFormed instances own q
   formed-Block q from_formed filter_formed scope E all formed =
-      let numbers : List ℕ = (from_frame uses q.from).numbers in
-      let A : List Expr = (from_frame uses q.from).lines scope E in
-      let B : List Expr = where_lines (option_map (cond_frame uses) q.filter) (numbers ∷ scope) A in
+      let numbers : List ℕ = (from_frame instances q.from).numbers in
+      let A : List Expr = (from_frame instances q.from).lines scope E in
+      let B : List Expr = where_lines (option_map (cond_frame instances) q.filter) (numbers ∷ scope) A in
       let G : List Expr = group_lines q.grouped numbers q.keys q.items B in
-      let first : FromShape uses (from_frame uses q.from) (from_scope uses q.from) scope E = from-shape uses q.from scope E in
-      let second : WhereShape uses q.filter (numbers ∷ scope) A = where-shape uses q.filter (numbers ∷ scope) A first.some in
-      let inner : AllOwn uses own (numbers ∷ scope) = (λ c in_. or_left _ _ (first.used c in_), all) in
-      block-as _ _ _ _ scope E (frame-Block uses q) (scope-Block uses q) (λ bound groups.
-      let parts : BoundParts uses q scope = bound-parts uses q scope bound in
+      let first : FromShape instances (from_frame instances q.from) (from_scope instances q.from) scope E = from-shape instances q.from scope E in
+      let second : WhereShape instances q.filter (numbers ∷ scope) A = where-shape instances q.filter (numbers ∷ scope) A first.some in
+      let inner : AllOwn instances own (numbers ∷ scope) = (λ c in_. or_left _ _ (first.used c in_), all) in
+      block-as _ _ _ _ scope E (frame-Block instances q) (scope-Block instances q) (λ bound groups.
+      let parts : BoundParts instances q scope = bound-parts instances q scope bound in
       let differ : all_differ (aggregate_numbers q.items ++ numbers) ≡ true = (and_parts (all_differ (aggregate_numbers q.items ++ numbers)) _ parts.new).0 in
-      let behind : GroupsOwn uses own B = groups-before uses own (distinct_lines q.distinct (keep_lines (numbers ∷ scope) q.items G)) B (end-grows q.distinct q.grouped (numbers ∷ scope) numbers q.keys q.items B B (grows-none B)) groups in
-      let source : AreFormed uses own A = from_formed scope E all formed parts.from (differ-right (aggregate_numbers q.items) numbers differ) (groups-before uses own B A second.grows behind) in
-      let filtered : AreFormed uses own B = where-formed q.filter (numbers ∷ scope) A filter_formed inner source first.some parts.filter behind in
+      let behind : GroupsOwn instances own B = groups-before instances own (distinct_lines q.distinct (keep_lines (numbers ∷ scope) q.items G)) B (end-grows q.distinct q.grouped (numbers ∷ scope) numbers q.keys q.items B B (grows-none B)) groups in
+      let source : AreFormed instances own A = from_formed scope E all formed parts.from (differ-right (aggregate_numbers q.items) numbers differ) (groups-before instances own B A second.grows behind) in
+      let filtered : AreFormed instances own B = where-formed q.filter (numbers ∷ scope) A filter_formed inner source first.some parts.filter behind in
       record {
         lines = end-formed numbers scope B (grows-some B A second.grows first.some) (λ k. ap (λ ns. has ns k) second.columns ∙ first.columns k) q.distinct q.grouped q.keys q.items differ parts.items filtered groups;
         shown = end-shown q.distinct q.grouped numbers q.keys scope q.items B inner differ parts.items groups;

@@ -23,73 +23,73 @@ use Rattle.frame.proofs.FormedParts.{AllOwn, GroupsOwn, groups-before, term-own,
 use Rattle.frame.proofs.FrameEquations.{frame-Compare, frame-IsNull, frame-Not, frame-And, frame-Or, frame-Exists, frame-In}
 use Rattle.frame.proofs.FrameShapes.{shape-all, block-shape}
 
-module _ (uses : List TableInstance) (own : List Aggregation) where
-  cond-as : (f g : CondLines) (s t : CondScope) (scope : Scope) → f ≡ g → s ≡ t → (t.bound scope ≡ true → GroupsOwn uses own g.lines → FormedCond uses own g) → s.bound scope ≡ true → GroupsOwn uses own f.lines → FormedCond uses own f
+module _ (instances : List TableInstance) (own : List Aggregation) where
+  cond-as : (f g : CondLines) (s t : CondScope) (scope : Scope) → f ≡ g → s ≡ t → (t.bound scope ≡ true → GroupsOwn instances own g.lines → FormedCond instances own g) → s.bound scope ≡ true → GroupsOwn instances own f.lines → FormedCond instances own f
   cond-as f g s t scope is as_ h = rw (is, as_) h
 
-  framed-formed : (c : Condition) (lines : List Expr) → AreFormed uses own lines → all_columns c (is_query_column uses own) ≡ true → FormedCond uses own (framed_as c lines)
+  framed-formed : (c : Condition) (lines : List Expr) → AreFormed instances own lines → all_columns c (is_query_column instances own) ≡ true → FormedCond instances own (framed_as c lines)
   framed-formed c lines formed named = record { lines = formed; named = named }
 
-  pub formed-Compare : (op : Comparison) (a b : Term) → CondFormed uses own (cond.Compare op a b)
+  pub formed-Compare : (op : Comparison) (a b : Term) → CondFormed instances own (cond.Compare op a b)
   formed-Compare op a b scope E all formed =
-      cond-as _ _ _ _ scope (ap (λ f. f scope E) (frame-Compare uses op a b)) (scope-Compare uses op a b) (λ bound groups.
+      cond-as _ _ _ _ scope (ap (λ f. f scope E) (frame-Compare instances op a b)) (scope-Compare instances op a b) (λ bound groups.
       let parts = and_parts (bound_term scope a) (bound_term scope b) bound in
-      framed-formed _ E formed (columns-Compare op (numbered scope a) (numbered scope b) (is_query_column uses own) ∙ and_from _ _ (term-own uses own scope all a parts.0) (term-own uses own scope all b parts.1)))
+      framed-formed _ E formed (columns-Compare op (numbered scope a) (numbered scope b) (is_query_column instances own) ∙ and_from _ _ (term-own instances own scope all a parts.0) (term-own instances own scope all b parts.1)))
 
-  pub formed-IsNull : (a : Term) → CondFormed uses own (cond.IsNull a)
+  pub formed-IsNull : (a : Term) → CondFormed instances own (cond.IsNull a)
   formed-IsNull a scope E all formed =
-      cond-as _ _ _ _ scope (ap (λ f. f scope E) (frame-IsNull uses a)) (scope-IsNull uses a) (λ bound groups.
-      framed-formed _ E formed (columns-IsNull (numbered scope a) (is_query_column uses own) ∙ term-own uses own scope all a bound))
+      cond-as _ _ _ _ scope (ap (λ f. f scope E) (frame-IsNull instances a)) (scope-IsNull instances a) (λ bound groups.
+      framed-formed _ E formed (columns-IsNull (numbered scope a) (is_query_column instances own) ∙ term-own instances own scope all a bound))
 
-  pub formed-Not : (c : Cond) → CondFormed uses own c → CondFormed uses own (cond.Not c)
+  pub formed-Not : (c : Cond) → CondFormed instances own c → CondFormed instances own (cond.Not c)
   formed-Not c is_formed scope E all formed =
-      cond-as _ _ _ _ scope (ap (λ f. f scope E) (frame-Not uses c)) (scope-Not uses c) (λ bound groups.
-      let part : FormedCond uses own (cond_frame uses c scope E) = is_formed scope E all formed bound groups in
-      framed-formed _ _ part.lines (columns-Not (cond_frame uses c scope E).condition (is_query_column uses own) ∙ part.named))
+      cond-as _ _ _ _ scope (ap (λ f. f scope E) (frame-Not instances c)) (scope-Not instances c) (λ bound groups.
+      let part : FormedCond instances own (cond_frame instances c scope E) = is_formed scope E all formed bound groups in
+      framed-formed _ _ part.lines (columns-Not (cond_frame instances c scope E).condition (is_query_column instances own) ∙ part.named))
 
-  all-formed : (cs : List Cond) → AllByRecursion (CondFormed uses own) cs → (scope : Scope) (E : List Expr) → AllOwn uses own scope → AreFormed uses own E → list_all (λ s. s.bound scope) (map (cond_scope uses) cs) ≡ true
-      → GroupsOwn uses own (all_frames (map (cond_frame uses) cs) scope E).lines → FormedAll uses own (all_frames (map (cond_frame uses) cs) scope E)
+  all-formed : (cs : List Cond) → AllByRecursion (CondFormed instances own) cs → (scope : Scope) (E : List Expr) → AllOwn instances own scope → AreFormed instances own E → list_all (λ s. s.bound scope) (map (cond_scope instances) cs) ≡ true
+      → GroupsOwn instances own (all_frames (map (cond_frame instances) cs) scope E).lines → FormedAll instances own (all_frames (map (cond_frame instances) cs) scope E)
   all-formed [] are_formed scope E all formed bound groups = record { lines = formed; named = refl }
   all-formed (c ∷ cs) are_formed scope E all formed bound groups =
-      let framed : CondLines = cond_frame uses c scope E in
-      let others : AllLines = all_frames (map (cond_frame uses) cs) scope framed.lines in
-      let parts = and_parts ((cond_scope uses c).bound scope) _ bound in
-      let before : GroupsOwn uses own framed.lines = groups-before uses own others.lines framed.lines (shape-all uses cs scope framed.lines).grows groups in
-      let first : FormedCond uses own framed = are_formed.0 scope E all formed parts.0 before in
-      let rest : FormedAll uses own others = all-formed cs are_formed.1 scope framed.lines all first.lines parts.1 groups in
+      let framed : CondLines = cond_frame instances c scope E in
+      let others : AllLines = all_frames (map (cond_frame instances) cs) scope framed.lines in
+      let parts = and_parts ((cond_scope instances c).bound scope) _ bound in
+      let before : GroupsOwn instances own framed.lines = groups-before instances own others.lines framed.lines (shape-all instances cs scope framed.lines).grows groups in
+      let first : FormedCond instances own framed = are_formed.0 scope E all formed parts.0 before in
+      let rest : FormedAll instances own others = all-formed cs are_formed.1 scope framed.lines all first.lines parts.1 groups in
       record {
         lines = rest.lines;
         named = and_from _ _ first.named rest.named;
       }
 
-  pub formed-And : (cs : List Cond) → AllByRecursion (CondFormed uses own) cs → CondFormed uses own (cond.And cs)
+  pub formed-And : (cs : List Cond) → AllByRecursion (CondFormed instances own) cs → CondFormed instances own (cond.And cs)
   formed-And cs are_formed scope E all formed =
-      cond-as _ _ _ _ scope (ap (λ f. f scope E) (frame-And uses cs)) (scope-And uses cs) (λ bound groups.
-      let parts : FormedAll uses own (all_frames (map (cond_frame uses) cs) scope E) = all-formed cs are_formed scope E all formed bound groups in
-      framed-formed _ _ parts.lines (columns-and_of _ (is_query_column uses own) ∙ parts.named))
+      cond-as _ _ _ _ scope (ap (λ f. f scope E) (frame-And instances cs)) (scope-And instances cs) (λ bound groups.
+      let parts : FormedAll instances own (all_frames (map (cond_frame instances) cs) scope E) = all-formed cs are_formed scope E all formed bound groups in
+      framed-formed _ _ parts.lines (columns-and_of _ (is_query_column instances own) ∙ parts.named))
 
-  pub formed-Or : (cs : List Cond) → AllByRecursion (CondFormed uses own) cs → CondFormed uses own (cond.Or cs)
+  pub formed-Or : (cs : List Cond) → AllByRecursion (CondFormed instances own) cs → CondFormed instances own (cond.Or cs)
   formed-Or cs are_formed scope E all formed =
-      cond-as _ _ _ _ scope (ap (λ f. f scope E) (frame-Or uses cs)) (scope-Or uses cs) (λ bound groups.
-      let parts : FormedAll uses own (all_frames (map (cond_frame uses) cs) scope E) = all-formed cs are_formed scope E all formed bound groups in
-      framed-formed _ _ parts.lines (columns-or_of _ (is_query_column uses own) ∙ parts.named))
+      cond-as _ _ _ _ scope (ap (λ f. f scope E) (frame-Or instances cs)) (scope-Or instances cs) (λ bound groups.
+      let parts : FormedAll instances own (all_frames (map (cond_frame instances) cs) scope E) = all-formed cs are_formed scope E all formed bound groups in
+      framed-formed _ _ parts.lines (columns-or_of _ (is_query_column instances own) ∙ parts.named))
 
-  pub formed-Exists : (q : Block) → BlockFormed uses own q → CondFormed uses own (cond.Exists q)
+  pub formed-Exists : (q : Block) → BlockFormed instances own q → CondFormed instances own (cond.Exists q)
   formed-Exists q is_formed scope E all formed =
-      cond-as _ _ _ _ scope (ap (λ f. f scope E) (frame-Exists uses q)) (scope-Exists uses q) (λ bound groups.
-      let block : FormedBlock uses own (block_frame uses q) scope E = is_formed scope E all formed bound groups in
-      framed-formed _ _ block.lines (columns-Exists (last ((block_frame uses q).lines scope E)) (is_query_column uses own)))
+      cond-as _ _ _ _ scope (ap (λ f. f scope E) (frame-Exists instances q)) (scope-Exists instances q) (λ bound groups.
+      let block : FormedBlock instances own (block_frame instances q) scope E = is_formed scope E all formed bound groups in
+      framed-formed _ _ block.lines (columns-Exists (last ((block_frame instances q).lines scope E)) (is_query_column instances own)))
 
   -- the column of the one item that a block shows
-  first-own : (shown : List ℕ) (k : ℕ) → shown ≡ k ∷ [] → list_all (is_query_column uses own) shown ≡ true → is_query_column uses own (first_shown shown) ≡ true
-  first-own shown k is all = rw is (and_parts (is_query_column uses own k) true (sym (ap (list_all (is_query_column uses own)) is) ∙ all)).0
+  first-own : (shown : List ℕ) (k : ℕ) → shown ≡ k ∷ [] → list_all (is_query_column instances own) shown ≡ true → is_query_column instances own (first_shown shown) ≡ true
+  first-own shown k is all = rw is (and_parts (is_query_column instances own k) true (sym (ap (list_all (is_query_column instances own)) is) ∙ all)).0
 
-  pub formed-In : (a : Term) (q : Block) → BlockFormed uses own q → CondFormed uses own (cond.In a q)
+  pub formed-In : (a : Term) (q : Block) → BlockFormed instances own q → CondFormed instances own (cond.In a q)
   formed-In a q is_formed scope E all formed =
-      cond-as _ _ _ _ scope (ap (λ f. f scope E) (frame-In uses a q)) (scope-In uses a q) (λ bound groups.
+      cond-as _ _ _ _ scope (ap (λ f. f scope E) (frame-In instances a q)) (scope-In instances a q) (λ bound groups.
       let parts = and_parts (bound_term scope a) _ bound in
-      let inner = and_parts (block_scope uses q).single ((block_scope uses q).bound scope) parts.1 in
-      let block : FormedBlock uses own (block_frame uses q) scope E = is_formed scope E all formed inner.1 groups in
-      let one = (block-shape uses q scope E).single inner.0 in
-      framed-formed _ _ block.lines (columns-In (numbered scope a) (last ((block_frame uses q).lines scope E)) (first_shown ((block_frame uses q).shown scope)) (is_query_column uses own)
-      ∙ and_from _ _ (term-own uses own scope all a parts.0) (first-own ((block_frame uses q).shown scope) one.0 one.1 block.shown)))
+      let inner = and_parts (block_scope instances q).single ((block_scope instances q).bound scope) parts.1 in
+      let block : FormedBlock instances own (block_frame instances q) scope E = is_formed scope E all formed inner.1 groups in
+      let one = (block-shape instances q scope E).single inner.0 in
+      framed-formed _ _ block.lines (columns-In (numbered scope a) (last ((block_frame instances q).lines scope E)) (first_shown ((block_frame instances q).shown scope)) (is_query_column instances own)
+      ∙ and_from _ _ (term-own instances own scope all a parts.0) (first-own ((block_frame instances q).shown scope) one.0 one.1 block.shown)))

@@ -26,12 +26,12 @@ use Rattle.frame.proofs.Growth.{Grows}
 pub all-three : (a b c : Bool) → a ≡ true → b ≡ true → c ≡ true → (a && b && c) ≡ true
 all-three a b c e f g = rw (e, f, g) refl
 
-module _ (uses : List TableInstance) (own : List Aggregation) where
+module _ (instances : List TableInstance) (own : List Aggregation) where
   -- ---- what is the query's own
 
   -- the columns are the query's own
   abbrev pub AreOwn : List ℕ → Type 0
-  AreOwn numbers = (c : ℕ) → has numbers c ≡ true → is_query_column uses own c ≡ true
+  AreOwn numbers = (c : ℕ) → has numbers c ≡ true → is_query_column instances own c ≡ true
 
   -- so are those of all rows around
   abbrev pub AllOwn : Scope → Type 0
@@ -58,10 +58,10 @@ module _ (uses : List TableInstance) (own : List Aggregation) where
   level-own (ks ∷ scope) all (suc l) c h = level-own scope all.1 l c h
 
   -- a column that the scope has is the query's own
-  pub number-own : (scope : Scope) → AllOwn scope → (c : Column) → names scope c ≡ true → is_query_column uses own (number scope c) ≡ true
+  pub number-own : (scope : Scope) → AllOwn scope → (c : Column) → names scope c ≡ true → is_query_column instances own (number scope c) ≡ true
   number-own scope all c there = level-own scope all c.level (number scope c) (place-has (slice_index_or scope c.level []) c.place (ltb-true _ _ there))
 
-  pub term-own : (scope : Scope) → AllOwn scope → (a : Term) → bound_term scope a ≡ true → term_passes (is_query_column uses own) (numbered scope a) ≡ true
+  pub term-own : (scope : Scope) → AllOwn scope → (a : Term) → bound_term scope a ≡ true → term_passes (is_query_column instances own) (numbered scope a) ≡ true
   term-own scope all (read.Column c) there = and_from _ _ (number-own scope all c there) refl
   term-own scope all (read.Literal v) there = refl
 
@@ -69,24 +69,24 @@ module _ (uses : List TableInstance) (own : List Aggregation) where
 
   -- of a condition: its lines are well formed, and it names the query's own columns
   pub record FormedCond (f : CondLines) : Type 0 where
-    pub lines : AreFormed uses own f.lines
-    pub named : all_columns f.condition (is_query_column uses own) ≡ true
+    pub lines : AreFormed instances own f.lines
+    pub named : all_columns f.condition (is_query_column instances own) ≡ true
 
   pub record FormedAll (f : AllLines) : Type 0 where
-    pub lines : AreFormed uses own f.lines
-    pub named : names_own uses own f.conditions ≡ true
+    pub lines : AreFormed instances own f.lines
+    pub named : names_own instances own f.conditions ≡ true
 
   -- of a block: it shows the query's own columns
   pub record FormedBlock (f : BlockFrame) (scope : Scope) (E : List Expr) : Type 0 where
-    pub lines : AreFormed uses own (f.lines scope E)
-    pub shown : list_all (is_query_column uses own) (f.shown scope) ≡ true
+    pub lines : AreFormed instances own (f.lines scope E)
+    pub shown : list_all (is_query_column instances own) (f.shown scope) ≡ true
 
   abbrev pub CondFormed : Cond → Type 0
-  CondFormed c = (scope : Scope) (E : List Expr) → AllOwn scope → AreFormed uses own E → (cond_scope uses c).bound scope ≡ true → GroupsOwn (cond_frame uses c scope E).lines → FormedCond (cond_frame uses c scope E)
+  CondFormed c = (scope : Scope) (E : List Expr) → AllOwn scope → AreFormed instances own E → (cond_scope instances c).bound scope ≡ true → GroupsOwn (cond_frame instances c scope E).lines → FormedCond (cond_frame instances c scope E)
 
   abbrev pub FromFormed : From → Type 0
-  FromFormed f = (scope : Scope) (E : List Expr) → AllOwn scope → AreFormed uses own E → (from_scope uses f).bound scope ≡ true → all_differ (from_frame uses f).numbers ≡ true → GroupsOwn ((from_frame uses f).lines scope E)
-      → AreFormed uses own ((from_frame uses f).lines scope E)
+  FromFormed f = (scope : Scope) (E : List Expr) → AllOwn scope → AreFormed instances own E → (from_scope instances f).bound scope ≡ true → all_differ (from_frame instances f).numbers ≡ true → GroupsOwn ((from_frame instances f).lines scope E)
+      → AreFormed instances own ((from_frame instances f).lines scope E)
 
   abbrev pub BlockFormed : Block → Type 0
-  BlockFormed q = (scope : Scope) (E : List Expr) → AllOwn scope → AreFormed uses own E → (block_scope uses q).bound scope ≡ true → GroupsOwn ((block_frame uses q).lines scope E) → FormedBlock (block_frame uses q) scope E
+  BlockFormed q = (scope : Scope) (E : List Expr) → AllOwn scope → AreFormed instances own E → (block_scope instances q).bound scope ≡ true → GroupsOwn ((block_frame instances q).lines scope E) → FormedBlock (block_frame instances q) scope E

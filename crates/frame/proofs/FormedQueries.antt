@@ -36,49 +36,49 @@ use Rattle.algebra.proofs.Sets.{has-rising}
 
 -- ---- blocks
 
-module _ (uses : List TableInstance) (own : List Aggregation) where
-  steps : Steps (CondFormed uses own) (FromFormed uses own) (BlockFormed uses own)
+module _ (instances : List TableInstance) (own : List Aggregation) where
+  steps : Steps (CondFormed instances own) (FromFormed instances own) (BlockFormed instances own)
   steps = record {
-    compare = formed-Compare uses own;
-    is_null = formed-IsNull uses own;
-    not = formed-Not uses own;
-    and = formed-And uses own;
-    or = formed-Or uses own;
-    exists = formed-Exists uses own;
-    in_ = formed-In uses own;
-    table = formed-Table uses own;
-    join = formed-Join uses own;
-    left_join = formed-LeftJoin uses own;
-    comma = formed-Comma uses own;
-    block = formed-Block uses own;
+    compare = formed-Compare instances own;
+    is_null = formed-IsNull instances own;
+    not = formed-Not instances own;
+    and = formed-And instances own;
+    or = formed-Or instances own;
+    exists = formed-Exists instances own;
+    in_ = formed-In instances own;
+    table = formed-Table instances own;
+    join = formed-Join instances own;
+    left_join = formed-LeftJoin instances own;
+    comma = formed-Comma instances own;
+    block = formed-Block instances own;
   }
 
   -- the lines of a bound block are well formed, in a query that has their aggregates
-  pub block-formed : (q : Block) → BlockFormed uses own q
-  block-formed = each-block (CondFormed uses own) (FromFormed uses own) (BlockFormed uses own) steps
+  pub block-formed : (q : Block) → BlockFormed instances own q
+  block-formed = each-block (CondFormed instances own) (FromFormed instances own) (BlockFormed instances own) steps
 
 -- ---- the query's own aggregates
 
 -- aggregates that are among some are among more
-among-more : (uses : List TableInstance) (own more added : List Aggregation) → among_own uses own added ≡ true → among_own uses (more ++ own) added ≡ true
-among-more uses own more [] h = refl
-among-more uses own more (a ∷ added) h =
+among-more : (instances : List TableInstance) (own more added : List Aggregation) → among_own instances own added ≡ true → among_own instances (more ++ own) added ≡ true
+among-more instances own more [] h = refl
+among-more instances own more (a ∷ added) h =
     let parts = and_parts (list_any (same_aggregation a) own) _ h in
-    and_from _ _ (list_any-append (same_aggregation a) more own ∙ or_right _ _ parts.0) (among-more uses own more added parts.1)
+    and_from _ _ (list_any-append (same_aggregation a) more own ∙ or_right _ _ parts.0) (among-more instances own more added parts.1)
 
-among-itself : (uses : List TableInstance) (added own : List Aggregation) → among_own uses (added ++ own) added ≡ true
-among-itself uses [] own = refl
-among-itself uses (a ∷ added) own = and_from _ _ (or_left _ _ (same_aggregation-refl a)) (among-more uses (added ++ own) (a ∷ []) added (among-itself uses added own))
+among-itself : (instances : List TableInstance) (added own : List Aggregation) → among_own instances (added ++ own) added ≡ true
+among-itself instances [] own = refl
+among-itself instances (a ∷ added) own = and_from _ _ (or_left _ _ (same_aggregation-refl a)) (among-more instances (added ++ own) (a ∷ []) added (among-itself instances added own))
 
-groups-more : (uses : List TableInstance) (own more : List Aggregation) (lines : List Expr) → GroupsOwn uses own lines → GroupsOwn uses (more ++ own) lines
-groups-more uses own more [] h = tt
-groups-more uses own more (x ∷ lines) h = (among-more uses own more (group_aggregates x) h.0, groups-more uses own more lines h.1)
+groups-more : (instances : List TableInstance) (own more : List Aggregation) (lines : List Expr) → GroupsOwn instances own lines → GroupsOwn instances (more ++ own) lines
+groups-more instances own more [] h = tt
+groups-more instances own more (x ∷ lines) h = (among-more instances own more (group_aggregates x) h.0, groups-more instances own more lines h.1)
 
 -- the aggregates of lines are among those of all of them
-groups-own : (uses : List TableInstance) (lines : List Expr) → GroupsOwn uses (flat_map group_aggregates lines) lines
-groups-own uses [] = tt
-groups-own uses (x ∷ lines) =
-    (among-itself uses (group_aggregates x) (flat_map group_aggregates lines), groups-more uses (flat_map group_aggregates lines) (group_aggregates x) lines (groups-own uses lines))
+groups-own : (instances : List TableInstance) (lines : List Expr) → GroupsOwn instances (flat_map group_aggregates lines) lines
+groups-own instances [] = tt
+groups-own instances (x ∷ lines) =
+    (among-itself instances (group_aggregates x) (flat_map group_aggregates lines), groups-more instances (flat_map group_aggregates lines) (group_aggregates x) lines (groups-own instances lines))
 
 all-reverse : {X : Type 0} (P : X → Type 0) (xs : List X) → AllByRecursion P xs → AllByRecursion P (reverse xs)
 all-reverse P [] all = tt
@@ -118,27 +118,27 @@ own-all : (scope : Scope) (items : List Item) → AllByRecursion (λ i. frame.is
 own-all scope [] all = refl
 own-all scope (i ∷ items) all = cond-true _ _ _ all.0 ∙ ap (λ ks. item_number scope i ∷ ks) (own-all scope items all.1)
 
-module _ (uses : List TableInstance) where
+module _ (instances : List TableInstance) where
   -- a block's last class has the columns that it keeps
   end-columns : (twice : Bool) (scope : Scope) (items : List Item) (G : List Expr)
-      → class_columns uses (distinct_lines twice (keep_lines scope items G)) (last (distinct_lines twice (keep_lines scope items G))) ≡ kept scope items
-  end-columns false scope items G = top-columns uses (Keep (kept scope items) (last G)) G
-  end-columns true scope items G = top-columns uses (Distinct (length G)) (keep_lines scope items G) ∙ top-columns uses (Keep (kept scope items) (last G)) G
+      → class_columns instances (distinct_lines twice (keep_lines scope items G)) (last (distinct_lines twice (keep_lines scope items G))) ≡ kept scope items
+  end-columns false scope items G = top-columns instances (Keep (kept scope items) (last G)) G
+  end-columns true scope items G = top-columns instances (Distinct (length G)) (keep_lines scope items G) ∙ top-columns instances (Keep (kept scope items) (last G)) G
 
   shown-in : (twice : Bool) (scope : Scope) (items : List Item) (G : List Expr) → AllByRecursion (λ i. frame.is_block_item i ≡ true) items
-      → is_subset (map (item_number scope) items) (class_columns uses (distinct_lines twice (keep_lines scope items G)) (last (distinct_lines twice (keep_lines scope items G)))) ≡ true
+      → is_subset (map (item_number scope) items) (class_columns instances (distinct_lines twice (keep_lines scope items G)) (last (distinct_lines twice (keep_lines scope items G)))) ≡ true
   shown-in twice scope items G all =
       let ns : List ℕ = map (item_number scope) items in
       ap (is_subset ns) (end-columns twice scope items G ∙ ap rising (own-all scope items all)) ∙ all-has (has (rising ns)) ns (λ c in_. has-rising c ns ∙ in_)
 
   -- all that a query's block shows is among the columns of its last class
-  block-shown : (q : Block) → (block_scope uses q).bound [] ≡ true → is_subset ((block_frame uses q).shown []) (class_columns uses ((block_frame uses q).lines [] []) (last ((block_frame uses q).lines [] []))) ≡ true
+  block-shown : (q : Block) → (block_scope instances q).bound [] ≡ true → is_subset ((block_frame instances q).shown []) (class_columns instances ((block_frame instances q).lines [] []) (last ((block_frame instances q).lines [] []))) ≡ true
   block-shown q bound =
-      let numbers : List ℕ = (from_frame uses q.from).numbers in
-      let A : List Expr = (from_frame uses q.from).lines [] [] in
-      let B : List Expr = where_lines (option_map (cond_frame uses) q.filter) (numbers ∷ []) A in
-      let parts : BoundParts uses q [] = bound-parts uses q [] (sym (ap (λ s. s.bound []) (scope-Block uses q)) ∙ bound) in
-      rw (frame-Block uses q) (shown-in q.distinct (numbers ∷ []) q.items (group_lines q.grouped numbers q.keys q.items B) (items-own q.grouped numbers q.keys q.items parts.items))
+      let numbers : List ℕ = (from_frame instances q.from).numbers in
+      let A : List Expr = (from_frame instances q.from).lines [] [] in
+      let B : List Expr = where_lines (option_map (cond_frame instances) q.filter) (numbers ∷ []) A in
+      let parts : BoundParts instances q [] = bound-parts instances q [] (sym (ap (λ s. s.bound []) (scope-Block instances q)) ∙ bound) in
+      rw (frame-Block instances q) (shown-in q.distinct (numbers ∷ []) q.items (group_lines q.grouped numbers q.keys q.items B) (items-own q.grouped numbers q.keys q.items parts.items))
 
 -- ---- queries
 
@@ -146,19 +146,19 @@ module _ (uses : List TableInstance) where
 pub frames_formed : FramesAreFormed
 unfolding query_frame query_numbers
 frames_formed q bound =
-    let uses : List TableInstance = q.tables in
+    let instances : List TableInstance = q.tables in
     let own : List Aggregation = own_aggregates q in
-    let lines : List Expr = (block_frame uses q.block).lines [] [] in
+    let lines : List Expr = (block_frame instances q.block).lines [] [] in
     let turned : reverse (reverse lines) ≡ lines = reverse-reverse lines in
     let long : length (reverse lines) ≡ length lines = length-reverse lines in
     let last_is : length (reverse lines) - 1 ≡ last lines = ap (λ n. n - 1) long ∙ sym (last-is lines) in
-    let groups : GroupsOwn uses own lines = subst (GroupsOwn uses own) turned (all-reverse _ (reverse lines) (groups-own uses (reverse lines))) in
-    let formed : FormedBlock uses own (block_frame uses q.block) [] [] = block-formed uses own q.block [] [] tt tt bound groups in
-    let adds : 0 < length lines = (block-shape uses q.block [] []).adds in
+    let groups : GroupsOwn instances own lines = subst (GroupsOwn instances own) turned (all-reverse _ (reverse lines) (groups-own instances (reverse lines))) in
+    let formed : FormedBlock instances own (block_frame instances q.block) [] [] = block-formed instances own q.block [] [] tt tt bound groups in
+    let adds : 0 < length lines = (block-shape instances q.block [] []).adds in
     record {
-      lines = subst (AreFormed uses own) (sym turned) formed.lines;
-      shown = ap (λ L. is_subset ((block_frame uses q.block).shown []) (class_columns uses L (length (reverse lines) - 1))) turned ∙ ap (λ n. is_subset ((block_frame uses q.block).shown []) (class_columns uses lines n)) last_is
-          ∙ block-shown uses q.block bound;
+      lines = subst (AreFormed instances own) (sym turned) formed.lines;
+      shown = ap (λ L. is_subset ((block_frame instances q.block).shown []) (class_columns instances L (length (reverse lines) - 1))) turned ∙ ap (λ n. is_subset ((block_frame instances q.block).shown []) (class_columns instances lines n)) last_is
+          ∙ block-shown instances q.block bound;
       some = omega (arith, long, adds);
-      apart = flat-apart uses (reverse lines) (all-reverse _ lines (lines-apart uses q.block [] [] tt bound));
+      apart = flat-apart instances (reverse lines) (all-reverse _ lines (lines-apart instances q.block [] [] tt bound));
     }

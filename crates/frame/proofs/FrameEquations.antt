@@ -2,7 +2,7 @@
 use Rattle.std.proofs.Common.{◌≡◌, refl, ap, sym, ◌∙◌, List, map, Option, Some, None, option_map}
 use Rattle.values.specs.declared.truth.Comparison.{Comparison}
 use Rattle.query.specs.declared.query.Term.{Term}
-use Rattle.query.specs.declared.query.Occurrence.{Occurrence}
+use Rattle.query.specs.declared.query.TableReference.{TableReference}
 use Rattle.query.specs.declared.query.TableInstance.{TableInstance}
 use Rattle.query.specs.declared.query.Cond.{Cond, roll-Cond}
 use Rattle.query.specs.declared.query.Cond.TheVariants as cond
@@ -13,66 +13,66 @@ use Rattle.query.specs.declared.query.From.TheVariants as from
 use Rattle.query.specs.declared.query.Block.{Block, out-Block}
 use Rattle.frame.specs.Frames.{CondFrame, FromFrame, BlockFrame, cond_frame, from_frame, block_frame, cond_frame_layer, from_frame_layer, block_frame_layer}
 
-module _ (uses : List TableInstance) where
-  cond_roll : (x : Cond-F Cond From Block) → cond_frame uses (roll-Cond x) ≡ cond_frame_layer (map-Cond Cond From Block CondFrame FromFrame BlockFrame (cond_frame uses) (from_frame uses) (block_frame uses) x)
+module _ (instances : List TableInstance) where
+  cond_roll : (x : Cond-F Cond From Block) → cond_frame instances (roll-Cond x) ≡ cond_frame_layer (map-Cond Cond From Block CondFrame FromFrame BlockFrame (cond_frame instances) (from_frame instances) (block_frame instances) x)
   unfolding cond_frame from_frame block_frame
-  cond_roll x = fold-roll-Cond CondFrame FromFrame BlockFrame cond_frame_layer (from_frame_layer uses) block_frame_layer x
+  cond_roll x = fold-roll-Cond CondFrame FromFrame BlockFrame cond_frame_layer (from_frame_layer instances) block_frame_layer x
 
-  from_roll : (x : From-F Cond From Block) → from_frame uses (roll-From x) ≡ from_frame_layer uses (map-From Cond From Block CondFrame FromFrame BlockFrame (cond_frame uses) (from_frame uses) (block_frame uses) x)
+  from_roll : (x : From-F Cond From Block) → from_frame instances (roll-From x) ≡ from_frame_layer instances (map-From Cond From Block CondFrame FromFrame BlockFrame (cond_frame instances) (from_frame instances) (block_frame instances) x)
   unfolding cond_frame from_frame block_frame
-  from_roll x = fold-roll-From CondFrame FromFrame BlockFrame cond_frame_layer (from_frame_layer uses) block_frame_layer x
+  from_roll x = fold-roll-From CondFrame FromFrame BlockFrame cond_frame_layer (from_frame_layer instances) block_frame_layer x
 
-  block_roll : (q : Block) → block_frame uses q ≡ block_frame_layer (map-Block Cond From Block CondFrame FromFrame BlockFrame (cond_frame uses) (from_frame uses) (block_frame uses) (out-Block q))
+  block_roll : (q : Block) → block_frame instances q ≡ block_frame_layer (map-Block Cond From Block CondFrame FromFrame BlockFrame (cond_frame instances) (from_frame instances) (block_frame instances) (out-Block q))
   unfolding cond_frame from_frame block_frame
-  block_roll q = fold_out-Block CondFrame FromFrame BlockFrame cond_frame_layer (from_frame_layer uses) block_frame_layer q
+  block_roll q = fold_out-Block CondFrame FromFrame BlockFrame cond_frame_layer (from_frame_layer instances) block_frame_layer q
 
-  cond_at : (x : Cond-F Cond From Block) (c : Cond) → roll-Cond x ≡ c → cond_frame uses c ≡ cond_frame_layer (map-Cond Cond From Block CondFrame FromFrame BlockFrame (cond_frame uses) (from_frame uses) (block_frame uses) x)
-  cond_at x c is = ap (cond_frame uses) (sym is) ∙ cond_roll x
+  cond_at : (x : Cond-F Cond From Block) (c : Cond) → roll-Cond x ≡ c → cond_frame instances c ≡ cond_frame_layer (map-Cond Cond From Block CondFrame FromFrame BlockFrame (cond_frame instances) (from_frame instances) (block_frame instances) x)
+  cond_at x c is = ap (cond_frame instances) (sym is) ∙ cond_roll x
 
-  from_at : (x : From-F Cond From Block) (f : From) → roll-From x ≡ f → from_frame uses f ≡ from_frame_layer uses (map-From Cond From Block CondFrame FromFrame BlockFrame (cond_frame uses) (from_frame uses) (block_frame uses) x)
-  from_at x f is = ap (from_frame uses) (sym is) ∙ from_roll x
+  from_at : (x : From-F Cond From Block) (f : From) → roll-From x ≡ f → from_frame instances f ≡ from_frame_layer instances (map-From Cond From Block CondFrame FromFrame BlockFrame (cond_frame instances) (from_frame instances) (block_frame instances) x)
+  from_at x f is = ap (from_frame instances) (sym is) ∙ from_roll x
 
-  pub frame-Compare : (op : Comparison) (a b : Term) → cond_frame uses (cond.Compare op a b) ≡ cond_frame_layer (Cond-F.Compare op a b)
+  pub frame-Compare : (op : Comparison) (a b : Term) → cond_frame instances (cond.Compare op a b) ≡ cond_frame_layer (Cond-F.Compare op a b)
   frame-Compare op a b = cond_at (Cond-F.Compare op a b) _ (cond.rolls-Compare op a b)
 
-  pub frame-IsNull : (a : Term) → cond_frame uses (cond.IsNull a) ≡ cond_frame_layer (Cond-F.IsNull a)
+  pub frame-IsNull : (a : Term) → cond_frame instances (cond.IsNull a) ≡ cond_frame_layer (Cond-F.IsNull a)
   frame-IsNull a = cond_at (Cond-F.IsNull a) _ (cond.rolls-IsNull a)
 
-  pub frame-Not : (c : Cond) → cond_frame uses (cond.Not c) ≡ cond_frame_layer (Cond-F.Not (cond_frame uses c))
+  pub frame-Not : (c : Cond) → cond_frame instances (cond.Not c) ≡ cond_frame_layer (Cond-F.Not (cond_frame instances c))
   frame-Not c = cond_at (Cond-F.Not c) _ (cond.rolls-Not c)
 
-  pub frame-And : (cs : List Cond) → cond_frame uses (cond.And cs) ≡ cond_frame_layer (Cond-F.And (map (cond_frame uses) cs))
+  pub frame-And : (cs : List Cond) → cond_frame instances (cond.And cs) ≡ cond_frame_layer (Cond-F.And (map (cond_frame instances) cs))
   frame-And cs = cond_at (Cond-F.And cs) _ (cond.rolls-And cs)
 
-  pub frame-Or : (cs : List Cond) → cond_frame uses (cond.Or cs) ≡ cond_frame_layer (Cond-F.Or (map (cond_frame uses) cs))
+  pub frame-Or : (cs : List Cond) → cond_frame instances (cond.Or cs) ≡ cond_frame_layer (Cond-F.Or (map (cond_frame instances) cs))
   frame-Or cs = cond_at (Cond-F.Or cs) _ (cond.rolls-Or cs)
 
-  pub frame-Exists : (q : Block) → cond_frame uses (cond.Exists q) ≡ cond_frame_layer (Cond-F.Exists (block_frame uses q))
+  pub frame-Exists : (q : Block) → cond_frame instances (cond.Exists q) ≡ cond_frame_layer (Cond-F.Exists (block_frame instances q))
   frame-Exists q = cond_at (Cond-F.Exists q) _ (cond.rolls-Exists q)
 
-  pub frame-In : (a : Term) (q : Block) → cond_frame uses (cond.In a q) ≡ cond_frame_layer (Cond-F.In a (block_frame uses q))
+  pub frame-In : (a : Term) (q : Block) → cond_frame instances (cond.In a q) ≡ cond_frame_layer (Cond-F.In a (block_frame instances q))
   frame-In a q = cond_at (Cond-F.In a q) _ (cond.rolls-In a q)
 
-  pub frame-Table : (o : Occurrence) → from_frame uses (from.Table o) ≡ from_frame_layer uses (From-F.Table o)
+  pub frame-Table : (o : TableReference) → from_frame instances (from.Table o) ≡ from_frame_layer instances (From-F.Table o)
   frame-Table o = from_at (From-F.Table o) _ (from.rolls-Table o)
 
-  pub frame-Join : (f : From) (o : Occurrence) (on : Cond) → from_frame uses (from.Join f o on) ≡ from_frame_layer uses (From-F.Join (from_frame uses f) o (cond_frame uses on))
+  pub frame-Join : (f : From) (o : TableReference) (on : Cond) → from_frame instances (from.Join f o on) ≡ from_frame_layer instances (From-F.Join (from_frame instances f) o (cond_frame instances on))
   frame-Join f o on = from_at (From-F.Join f o on) _ (from.rolls-Join f o on)
 
-  pub frame-LeftJoin : (f : From) (o : Occurrence) (on : Cond) → from_frame uses (from.LeftJoin f o on) ≡ from_frame_layer uses (From-F.LeftJoin (from_frame uses f) o (cond_frame uses on))
+  pub frame-LeftJoin : (f : From) (o : TableReference) (on : Cond) → from_frame instances (from.LeftJoin f o on) ≡ from_frame_layer instances (From-F.LeftJoin (from_frame instances f) o (cond_frame instances on))
   frame-LeftJoin f o on = from_at (From-F.LeftJoin f o on) _ (from.rolls-LeftJoin f o on)
 
-  pub frame-Comma : (f g : From) → from_frame uses (from.Comma f g) ≡ from_frame_layer uses (From-F.Comma (from_frame uses f) (from_frame uses g))
+  pub frame-Comma : (f g : From) → from_frame instances (from.Comma f g) ≡ from_frame_layer instances (From-F.Comma (from_frame instances f) (from_frame instances g))
   frame-Comma f g = from_at (From-F.Comma f g) _ (from.rolls-Comma f g)
 
   -- the layer of a block with the frames of its parts
   abbrev pub framed : Block → Block-F CondFrame FromFrame BlockFrame
-  framed q = record { from = from_frame uses q.from; filter = option_map (cond_frame uses) q.filter; grouped = q.grouped; keys = q.keys; items = q.items; distinct = q.distinct }
+  framed q = record { from = from_frame instances q.from; filter = option_map (cond_frame instances) q.filter; grouped = q.grouped; keys = q.keys; items = q.items; distinct = q.distinct }
 
-  framed-is : (x : Block-F Cond From Block) (w : Option Cond) → block_frame_layer (map-Block Cond From Block CondFrame FromFrame BlockFrame (cond_frame uses) (from_frame uses) (block_frame uses) (record x { filter = w }))
-      ≡ block_frame_layer (record { from = from_frame uses x.from; filter = option_map (cond_frame uses) w; grouped = x.grouped; keys = x.keys; items = x.items; distinct = x.distinct })
+  framed-is : (x : Block-F Cond From Block) (w : Option Cond) → block_frame_layer (map-Block Cond From Block CondFrame FromFrame BlockFrame (cond_frame instances) (from_frame instances) (block_frame instances) (record x { filter = w }))
+      ≡ block_frame_layer (record { from = from_frame instances x.from; filter = option_map (cond_frame instances) w; grouped = x.grouped; keys = x.keys; items = x.items; distinct = x.distinct })
   framed-is x None = refl
   framed-is x (Some c) = refl
 
-  pub frame-Block : (q : Block) → block_frame uses q ≡ block_frame_layer (framed q)
+  pub frame-Block : (q : Block) → block_frame instances q ≡ block_frame_layer (framed q)
   frame-Block q = block_roll q ∙ framed-is (out-Block q) (out-Block q).filter

@@ -16,26 +16,26 @@ use Rattle.frame.proofs.FrameRight.{CondMeans, FromMeans, BlockMeans, last_rows}
 use Rattle.frame.proofs.Growth.{last-is}
 use Rattle.frame.proofs.Induction.{Steps, each-block}
 
-module _ (uses : List TableInstance) (D : Tables) (fits : IsFitting D) (over : AreOver D uses) where
-  steps : Steps (CondMeans uses D) (FromMeans uses D) (BlockMeans uses D)
+module _ (instances : List TableInstance) (D : Tables) (fits : IsFitting D) (over : AreOver D instances) where
+  steps : Steps (CondMeans instances D) (FromMeans instances D) (BlockMeans instances D)
   steps = record {
-    compare = means-Compare uses D;
-    is_null = means-IsNull uses D;
-    not = means-Not uses D;
-    and = means-And uses D;
-    or = means-Or uses D;
-    exists = means-Exists uses D;
-    in_ = means-In uses D;
-    table = means-Table uses D fits over;
-    join = means-Join uses D fits over;
-    left_join = means-LeftJoin uses D fits over;
-    comma = means-Comma uses D fits over;
-    block = means-Block uses D fits;
+    compare = means-Compare instances D;
+    is_null = means-IsNull instances D;
+    not = means-Not instances D;
+    and = means-And instances D;
+    or = means-Or instances D;
+    exists = means-Exists instances D;
+    in_ = means-In instances D;
+    table = means-Table instances D fits over;
+    join = means-Join instances D fits over;
+    left_join = means-LeftJoin instances D fits over;
+    comma = means-Comma instances D fits over;
+    block = means-Block instances D fits;
   }
 
   -- a block's frame means the block
-  pub means-block : (q : Block) → BlockMeans uses D q
-  means-block = each-block (CondMeans uses D) (FromMeans uses D) (BlockMeans uses D) steps
+  pub means-block : (q : Block) → BlockMeans instances D q
+  means-block = each-block (CondMeans instances D) (FromMeans instances D) (BlockMeans instances D) steps
 
 -- the frame of a bound query means it
 pub frame_means : (q : Query) → is_bound q ≡ true → FrameMeans q (query_frame q)

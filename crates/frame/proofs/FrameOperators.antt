@@ -38,63 +38,63 @@ group-keeps : (g : Bool) (numbers keys : List ℕ) (items : List Item) (E : List
 group-keeps true numbers keys items E h = h
 group-keeps false numbers keys items E h = h
 
-module _ (uses : List TableInstance) where
+module _ (instances : List TableInstance) where
   abbrev CondPart : Type 0
-  CondPart = (c : Cond) × CondKeeps (cond_frame uses c)
+  CondPart = (c : Cond) × CondKeeps (cond_frame instances c)
 
   abbrev FromPart : Type 0
-  FromPart = (f : From) × LinesKeep (from_frame uses f).lines
+  FromPart = (f : From) × LinesKeep (from_frame instances f).lines
 
   abbrev BlockPart : Type 0
-  BlockPart = (q : Block) × LinesKeep (block_frame uses q).lines
+  BlockPart = (q : Block) × LinesKeep (block_frame instances q).lines
 
   abbrev conds_of : List CondPart → List Cond
   conds_of cs = map (λ c. c.0) cs
 
-  all-keep : (cs : List CondPart) (scope : Scope) (E : List Expr) → AreFramed E → AreFramed (all_frames (map (cond_frame uses) (conds_of cs)) scope E).lines
+  all-keep : (cs : List CondPart) (scope : Scope) (E : List Expr) → AreFramed E → AreFramed (all_frames (map (cond_frame instances) (conds_of cs)) scope E).lines
   all-keep [] scope E h = h
-  all-keep (c ∷ cs) scope E h = all-keep cs scope (cond_frame uses c.0 scope E).lines (c.1 scope E h)
+  all-keep (c ∷ cs) scope E h = all-keep cs scope (cond_frame instances c.0 scope E).lines (c.1 scope E h)
 
   abbrev FilterKeeps : Option Cond → Type 0
   FilterKeeps None = Unit {0}
-  FilterKeeps (Some c) = CondKeeps (cond_frame uses c)
+  FilterKeeps (Some c) = CondKeeps (cond_frame instances c)
 
-  filter-keeps : (o : Option Cond) → FilterKeeps o → LinesKeep (where_lines (option_map (cond_frame uses) o))
+  filter-keeps : (o : Option Cond) → FilterKeeps o → LinesKeep (where_lines (option_map (cond_frame instances) o))
   filter-keeps None k scope E h = h
   filter-keeps (Some c) k scope E h = k scope E h
 
   -- ---- each form
 
-  cond-keeps : (y : Cond-F CondPart FromPart BlockPart) → CondKeeps (cond_frame uses (roll-Cond (map-Cond _ _ _ Cond From Block (λ c. c.0) (λ f. f.0) (λ q. q.0) y)))
-  cond-keeps (Cond-F.Compare op a b) = subst (λ c. CondKeeps (cond_frame uses c)) (sym (cond.rolls-Compare op a b)) (subst CondKeeps (sym (frame-Compare uses op a b)) (λ scope E h. h))
-  cond-keeps (Cond-F.IsNull a) = subst (λ c. CondKeeps (cond_frame uses c)) (sym (cond.rolls-IsNull a)) (subst CondKeeps (sym (frame-IsNull uses a)) (λ scope E h. h))
-  cond-keeps (Cond-F.Not c) = subst (λ c. CondKeeps (cond_frame uses c)) (sym (cond.rolls-Not c.0)) (subst CondKeeps (sym (frame-Not uses c.0)) (λ scope E h. c.1 scope E h))
-  cond-keeps (Cond-F.And cs) = subst (λ c. CondKeeps (cond_frame uses c)) (sym (cond.rolls-And (conds_of cs))) (subst CondKeeps (sym (frame-And uses (conds_of cs))) (all-keep cs))
-  cond-keeps (Cond-F.Or cs) = subst (λ c. CondKeeps (cond_frame uses c)) (sym (cond.rolls-Or (conds_of cs))) (subst CondKeeps (sym (frame-Or uses (conds_of cs))) (all-keep cs))
-  cond-keeps (Cond-F.Exists q) = subst (λ c. CondKeeps (cond_frame uses c)) (sym (cond.rolls-Exists q.0)) (subst CondKeeps (sym (frame-Exists uses q.0)) (λ scope E h. q.1 scope E h))
-  cond-keeps (Cond-F.In a q) = subst (λ c. CondKeeps (cond_frame uses c)) (sym (cond.rolls-In a q.0)) (subst CondKeeps (sym (frame-In uses a q.0)) (λ scope E h. q.1 scope E h))
+  cond-keeps : (y : Cond-F CondPart FromPart BlockPart) → CondKeeps (cond_frame instances (roll-Cond (map-Cond _ _ _ Cond From Block (λ c. c.0) (λ f. f.0) (λ q. q.0) y)))
+  cond-keeps (Cond-F.Compare op a b) = subst (λ c. CondKeeps (cond_frame instances c)) (sym (cond.rolls-Compare op a b)) (subst CondKeeps (sym (frame-Compare instances op a b)) (λ scope E h. h))
+  cond-keeps (Cond-F.IsNull a) = subst (λ c. CondKeeps (cond_frame instances c)) (sym (cond.rolls-IsNull a)) (subst CondKeeps (sym (frame-IsNull instances a)) (λ scope E h. h))
+  cond-keeps (Cond-F.Not c) = subst (λ c. CondKeeps (cond_frame instances c)) (sym (cond.rolls-Not c.0)) (subst CondKeeps (sym (frame-Not instances c.0)) (λ scope E h. c.1 scope E h))
+  cond-keeps (Cond-F.And cs) = subst (λ c. CondKeeps (cond_frame instances c)) (sym (cond.rolls-And (conds_of cs))) (subst CondKeeps (sym (frame-And instances (conds_of cs))) (all-keep cs))
+  cond-keeps (Cond-F.Or cs) = subst (λ c. CondKeeps (cond_frame instances c)) (sym (cond.rolls-Or (conds_of cs))) (subst CondKeeps (sym (frame-Or instances (conds_of cs))) (all-keep cs))
+  cond-keeps (Cond-F.Exists q) = subst (λ c. CondKeeps (cond_frame instances c)) (sym (cond.rolls-Exists q.0)) (subst CondKeeps (sym (frame-Exists instances q.0)) (λ scope E h. q.1 scope E h))
+  cond-keeps (Cond-F.In a q) = subst (λ c. CondKeeps (cond_frame instances c)) (sym (cond.rolls-In a q.0)) (subst CondKeeps (sym (frame-In instances a q.0)) (λ scope E h. q.1 scope E h))
 
-  from-keeps : (y : From-F CondPart FromPart BlockPart) → LinesKeep (from_frame uses (roll-From (map-From _ _ _ Cond From Block (λ c. c.0) (λ f. f.0) (λ q. q.0) y))).lines
-  from-keeps (From-F.Table o) = subst (λ f. LinesKeep (from_frame uses f).lines) (sym (from.rolls-Table o)) (subst (λ f. LinesKeep f.lines) (sym (frame-Table uses o)) (λ scope E h. h))
-  from-keeps (From-F.Join f o on) = subst (λ f. LinesKeep (from_frame uses f).lines) (sym (from.rolls-Join f.0 o on.0)) (subst (λ f. LinesKeep f.lines) (sym (frame-Join uses f.0 o on.0)) (λ scope E h. on.1 _ _ (f.1 scope E h)))
-  from-keeps (From-F.LeftJoin f o on) = subst (λ f. LinesKeep (from_frame uses f).lines) (sym (from.rolls-LeftJoin f.0 o on.0)) (subst (λ f. LinesKeep f.lines) (sym (frame-LeftJoin uses f.0 o on.0)) (λ scope E h. on.1 _ _ (f.1 scope E h)))
-  from-keeps (From-F.Comma f g) = subst (λ f. LinesKeep (from_frame uses f).lines) (sym (from.rolls-Comma f.0 g.0)) (subst (λ f. LinesKeep f.lines) (sym (frame-Comma uses f.0 g.0)) (λ scope E h. g.1 scope _ (f.1 scope E h)))
+  from-keeps : (y : From-F CondPart FromPart BlockPart) → LinesKeep (from_frame instances (roll-From (map-From _ _ _ Cond From Block (λ c. c.0) (λ f. f.0) (λ q. q.0) y))).lines
+  from-keeps (From-F.Table o) = subst (λ f. LinesKeep (from_frame instances f).lines) (sym (from.rolls-Table o)) (subst (λ f. LinesKeep f.lines) (sym (frame-Table instances o)) (λ scope E h. h))
+  from-keeps (From-F.Join f o on) = subst (λ f. LinesKeep (from_frame instances f).lines) (sym (from.rolls-Join f.0 o on.0)) (subst (λ f. LinesKeep f.lines) (sym (frame-Join instances f.0 o on.0)) (λ scope E h. on.1 _ _ (f.1 scope E h)))
+  from-keeps (From-F.LeftJoin f o on) = subst (λ f. LinesKeep (from_frame instances f).lines) (sym (from.rolls-LeftJoin f.0 o on.0)) (subst (λ f. LinesKeep f.lines) (sym (frame-LeftJoin instances f.0 o on.0)) (λ scope E h. on.1 _ _ (f.1 scope E h)))
+  from-keeps (From-F.Comma f g) = subst (λ f. LinesKeep (from_frame instances f).lines) (sym (from.rolls-Comma f.0 g.0)) (subst (λ f. LinesKeep f.lines) (sym (frame-Comma instances f.0 g.0)) (λ scope E h. g.1 scope _ (f.1 scope E h)))
 
-  one-keeps : (q : Block) → LinesKeep (from_frame uses q.from).lines → FilterKeeps q.filter → LinesKeep (block_frame uses q).lines
-  one-keeps q from_ filter_ = subst (λ b. LinesKeep b.lines) (sym (frame-Block uses q)) (λ scope E h.
+  one-keeps : (q : Block) → LinesKeep (from_frame instances q.from).lines → FilterKeeps q.filter → LinesKeep (block_frame instances q).lines
+  one-keeps q from_ filter_ = subst (λ b. LinesKeep b.lines) (sym (frame-Block instances q)) (λ scope E h.
       distinct-keeps q.distinct _ (group-keeps q.grouped _ q.keys q.items _ (filter-keeps q.filter filter_ _ _ (from_ scope E h))))
 
   abbrev plain_block : Block-F CondPart FromPart BlockPart → Block-F Cond From Block
   plain_block = map-Block _ _ _ Cond From Block (λ c. c.0) (λ f. f.0) (λ q. q.0)
 
-  block-keeps : (y : Block-F CondPart FromPart BlockPart) (w : Option CondPart) → LinesKeep (block_frame uses (roll-Block (plain_block (record y { filter = w })))).lines
+  block-keeps : (y : Block-F CondPart FromPart BlockPart) (w : Option CondPart) → LinesKeep (block_frame instances (roll-Block (plain_block (record y { filter = w })))).lines
   block-keeps y None = one-keeps (roll-Block (plain_block (record y { filter = None }))) y.from.1 tt
   block-keeps y (Some c) = one-keeps (roll-Block (plain_block (record y { filter = Some c }))) y.from.1 c.1
 
-  blocks-keep : (q : Block) → LinesKeep (block_frame uses q).lines
-  blocks-keep = ind-Block (λ c. CondKeeps (cond_frame uses c)) (λ f. LinesKeep (from_frame uses f).lines) (λ q. LinesKeep (block_frame uses q).lines)
-      (λ x y is. subst (λ z. CondKeeps (cond_frame uses (roll-Cond z))) is (cond-keeps y)) (λ x y is. subst (λ z. LinesKeep (from_frame uses (roll-From z)).lines) is (from-keeps y))
-      (λ x y is. subst (λ z. LinesKeep (block_frame uses (roll-Block z)).lines) is (block-keeps y y.filter))
+  blocks-keep : (q : Block) → LinesKeep (block_frame instances q).lines
+  blocks-keep = ind-Block (λ c. CondKeeps (cond_frame instances c)) (λ f. LinesKeep (from_frame instances f).lines) (λ q. LinesKeep (block_frame instances q).lines)
+      (λ x y is. subst (λ z. CondKeeps (cond_frame instances (roll-Cond z))) is (cond-keeps y)) (λ x y is. subst (λ z. LinesKeep (from_frame instances (roll-From z)).lines) is (from-keeps y))
+      (λ x y is. subst (λ z. LinesKeep (block_frame instances (roll-Block z)).lines) is (block-keeps y y.filter))
 
 all-reverse : (lines : List Expr) → AreFramed lines → AreFramed (reverse lines)
 all-reverse [] h = refl

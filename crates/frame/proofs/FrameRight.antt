@@ -19,19 +19,19 @@ use Rattle.frame.specs.Frames.{CondLines, AllLines, FromFrame, BlockFrame, cond_
 use Rattle.frame.proofs.Growth.{Grows}
 use Rattle.algebra.proofs.Puts.{put, Agrees, IsNew}
 
-module _ (uses : List TableInstance) (D : Tables) where
+module _ (instances : List TableInstance) (D : Tables) where
   -- the rows of the lines' last class
   abbrev pub last_rows : List Expr → Env → List Env
-  last_rows lines e = class_rows uses D lines (last lines) e
+  last_rows lines e = class_rows instances D lines (last lines) e
 
   -- what a condition became is at an environment what the condition is of the rows that it agrees with
   pub record CondRight (f : CondLines) (s : CondScope) (m : List Row → Truth) (scope : Scope) : Type 0 where
-    pub truth : (F : List Expr) (ρ : List Row) (e : Env) → Grows F f.lines → s.bound scope ≡ true → Agrees scope ρ e → Rattle.algebra.specs.Conditions.truth f.condition (class_rows uses D F) e ≡ m ρ
+    pub truth : (F : List Expr) (ρ : List Row) (e : Env) → Grows F f.lines → s.bound scope ≡ true → Agrees scope ρ e → Rattle.algebra.specs.Conditions.truth f.condition (class_rows instances D F) e ≡ m ρ
 
   -- the same of a list of conditions
   pub record AllRight (f : AllLines) (cs : List Cond) (scope : Scope) : Type 0 where
-    pub truths : (F : List Expr) (ρ : List Row) (e : Env) → Grows F f.lines → list_all (λ s. s.bound scope) (map (cond_scope uses) cs) ≡ true → Agrees scope ρ e
-        → map (λ c. Rattle.algebra.specs.Conditions.truth c (class_rows uses D F) e) f.conditions ≡ map (λ c. query.truth c D ρ) cs
+    pub truths : (F : List Expr) (ρ : List Row) (e : Env) → Grows F f.lines → list_all (λ s. s.bound scope) (map (cond_scope instances) cs) ≡ true → Agrees scope ρ e
+        → map (λ c. Rattle.algebra.specs.Conditions.truth c (class_rows instances D F) e) f.conditions ≡ map (λ c. query.truth c D ρ) cs
 
   -- the last class of a FROM's lines has its rows, put into its columns
   pub record FromRight (f : FromFrame) (s : FromScope) (m : List Row → List Row) (w : ℕ) (scope : Scope) (E : List Expr) : Type 0 where
@@ -43,13 +43,13 @@ module _ (uses : List TableInstance) (D : Tables) where
   BlockRight f s m scope E = (ρ : List Row) (e : Env) → s.bound scope ≡ true → Agrees scope ρ e → map (λ r. map r (f.shown scope)) (last_rows (f.lines scope E) e) ≡ m ρ
 
   abbrev pub CondMeans : Cond → Type 0
-  CondMeans c = (scope : Scope) (E : List Expr) → CondRight (cond_frame uses c scope E) (cond_scope uses c) (λ ρ. query.truth c D ρ) scope
+  CondMeans c = (scope : Scope) (E : List Expr) → CondRight (cond_frame instances c scope E) (cond_scope instances c) (λ ρ. query.truth c D ρ) scope
 
   abbrev pub FromMeans : From → Type 0
-  FromMeans f = (scope : Scope) (E : List Expr) → FromRight (from_frame uses f) (from_scope uses f) (λ ρ. query.source f D ρ) (from_width f D) scope E
+  FromMeans f = (scope : Scope) (E : List Expr) → FromRight (from_frame instances f) (from_scope instances f) (λ ρ. query.source f D ρ) (from_width f D) scope E
 
   abbrev pub BlockMeans : Block → Type 0
-  BlockMeans q = (scope : Scope) (E : List Expr) → BlockRight (block_frame uses q) (block_scope uses q) (λ ρ. query.rows q D ρ) scope E
+  BlockMeans q = (scope : Scope) (E : List Expr) → BlockRight (block_frame instances q) (block_scope instances q) (λ ρ. query.rows q D ρ) scope E
 
   -- the meaning may be said in other words
   pub cond-right : (f g : CondLines) (s t : CondScope) (m n : List Row → Truth) (scope : Scope) → f ≡ g → s ≡ t → ((ρ : List Row) → m ρ ≡ n ρ) → CondRight g t n scope → CondRight f s m scope

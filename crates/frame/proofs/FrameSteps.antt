@@ -2,7 +2,7 @@
 use Rattle.std.proofs.Common.{◌≡◌, refl, ap, ◌∙◌, ℕ, List, [], ◌∷◌, ◌++◌, length, map, reverse, option_map, Result, Ok, Err, IfOk, OnOk}
 use Rattle.values.specs.declared.truth.Comparison.{Comparison}
 use Rattle.query.specs.declared.query.Term as named
-use Rattle.query.specs.declared.query.Occurrence.{Occurrence}
+use Rattle.query.specs.declared.query.TableReference.{TableReference}
 use Rattle.query.specs.declared.query.TableInstance.{TableInstance}
 use Rattle.query.specs.declared.query.Cond.{Cond}
 use Rattle.query.specs.declared.query.Cond.TheVariants as cond
@@ -11,7 +11,7 @@ use Rattle.query.specs.declared.query.From.TheVariants as from
 use Rattle.query.specs.declared.query.Block.{Block, out-Block}
 use Rattle.query.specs.declared.query.Item.{Item}
 use Rattle.query.specs.declared.query.Query.{Query}
-use Rattle.query.specs.Bound.{Scope, use_numbers}
+use Rattle.query.specs.Bound.{Scope, instance_numbers}
 use Rattle.algebra.specs.declared.condition.Term.{Term}
 use Rattle.algebra.specs.declared.condition.Condition.{Condition}
 use Rattle.algebra.specs.declared.condition.Condition.TheVariants.{Compare, IsNull, Not, Exists, In}
@@ -38,44 +38,44 @@ when_made : {E : Type 0} (r : Result Condition E) (x : Condition) (lines : List 
 when_made (Ok y) x lines framed is same = record { condition = is ∙ same.condition; lines = same.lines }
 when_made (Err e) x lines framed is same = record { condition = tt; lines = tt }
 
-module _ (uses : List TableInstance) (scope : Scope) (lines : List Expr) (c : Cond) where
-  pub compare_is : (op : Comparison) (a b : named.Term) (left right : Term) → c ≡ cond.Compare op a b → left ≡ numbered scope a → right ≡ numbered scope b → IsFramed (Compare op left right) lines (cond_frame uses c scope lines)
-  compare_is op a b left right is l r = reported _ (Compare op (numbered scope a) (numbered scope b)) _ lines _ (ap (λ d. cond_frame uses d scope lines) is ∙ ap (λ m. m scope lines) (frame-Compare uses op a b)) (rw (l, r) refl) refl
+module _ (instances : List TableInstance) (scope : Scope) (lines : List Expr) (c : Cond) where
+  pub compare_is : (op : Comparison) (a b : named.Term) (left right : Term) → c ≡ cond.Compare op a b → left ≡ numbered scope a → right ≡ numbered scope b → IsFramed (Compare op left right) lines (cond_frame instances c scope lines)
+  compare_is op a b left right is l r = reported _ (Compare op (numbered scope a) (numbered scope b)) _ lines _ (ap (λ d. cond_frame instances d scope lines) is ∙ ap (λ m. m scope lines) (frame-Compare instances op a b)) (rw (l, r) refl) refl
 
-  pub null_is : (a : named.Term) (tested : Term) → c ≡ cond.IsNull a → tested ≡ numbered scope a → IsFramed (IsNull tested) lines (cond_frame uses c scope lines)
-  null_is a tested is t = reported _ (IsNull (numbered scope a)) _ lines _ (ap (λ d. cond_frame uses d scope lines) is ∙ ap (λ m. m scope lines) (frame-IsNull uses a)) (rw t refl) refl
+  pub null_is : (a : named.Term) (tested : Term) → c ≡ cond.IsNull a → tested ≡ numbered scope a → IsFramed (IsNull tested) lines (cond_frame instances c scope lines)
+  null_is a tested is t = reported _ (IsNull (numbered scope a)) _ lines _ (ap (λ d. cond_frame instances d scope lines) is ∙ ap (λ m. m scope lines) (frame-IsNull instances a)) (rw t refl) refl
 
-  pub not_is : (part lent : Cond) (x y : Condition) (more : List Expr) → c ≡ cond.Not part → lent ≡ part → x ≡ (cond_frame uses lent scope lines).condition → more ≡ (cond_frame uses lent scope lines).lines → y ≡ x
-      → IsFramed (Not y) more (cond_frame uses c scope lines)
+  pub not_is : (part lent : Cond) (x y : Condition) (more : List Expr) → c ≡ cond.Not part → lent ≡ part → x ≡ (cond_frame instances lent scope lines).condition → more ≡ (cond_frame instances lent scope lines).lines → y ≡ x
+      → IsFramed (Not y) more (cond_frame instances c scope lines)
   not_is part lent x y more is at framed behind same =
-      reported _ (Not (cond_frame uses lent scope lines).condition) _ (cond_frame uses lent scope lines).lines (cond_frame uses c scope lines)
-      (rw at (ap (λ d. cond_frame uses d scope lines) is ∙ ap (λ m. m scope lines) (frame-Not uses part))) (ap Not (same ∙ framed)) behind
+      reported _ (Not (cond_frame instances lent scope lines).condition) _ (cond_frame instances lent scope lines).lines (cond_frame instances c scope lines)
+      (rw at (ap (λ d. cond_frame instances d scope lines) is ∙ ap (λ m. m scope lines) (frame-Not instances part))) (ap Not (same ∙ framed)) behind
 
-  pub and_is : (parts lent : List Cond) {E : Type 0} (r : Result Condition E) (xs : List Condition) (more : List Expr) → c ≡ cond.And parts → lent ≡ parts → xs ≡ (all_frames (map (cond_frame uses) lent) scope lines).conditions
-      → more ≡ (all_frames (map (cond_frame uses) lent) scope lines).lines → IfOk r (λ x. x ≡ and_of xs) → IsMade r more (cond_frame uses c scope lines)
+  pub and_is : (parts lent : List Cond) {E : Type 0} (r : Result Condition E) (xs : List Condition) (more : List Expr) → c ≡ cond.And parts → lent ≡ parts → xs ≡ (all_frames (map (cond_frame instances) lent) scope lines).conditions
+      → more ≡ (all_frames (map (cond_frame instances) lent) scope lines).lines → IfOk r (λ x. x ≡ and_of xs) → IsMade r more (cond_frame instances c scope lines)
   and_is parts lent r xs more is at framed behind made =
-      let all : AllLines = all_frames (map (cond_frame uses) lent) scope lines in
-      when_made r (and_of xs) more _ made (reported (and_of xs) (and_of all.conditions) _ all.lines (cond_frame uses c scope lines)
-      (rw at (ap (λ d. cond_frame uses d scope lines) is ∙ ap (λ m. m scope lines) (frame-And uses parts))) (ap and_of framed) behind)
+      let all : AllLines = all_frames (map (cond_frame instances) lent) scope lines in
+      when_made r (and_of xs) more _ made (reported (and_of xs) (and_of all.conditions) _ all.lines (cond_frame instances c scope lines)
+      (rw at (ap (λ d. cond_frame instances d scope lines) is ∙ ap (λ m. m scope lines) (frame-And instances parts))) (ap and_of framed) behind)
 
-  pub or_is : (parts lent : List Cond) {E : Type 0} (r : Result Condition E) (xs : List Condition) (more : List Expr) → c ≡ cond.Or parts → lent ≡ parts → xs ≡ (all_frames (map (cond_frame uses) lent) scope lines).conditions
-      → more ≡ (all_frames (map (cond_frame uses) lent) scope lines).lines → IfOk r (λ x. x ≡ or_of xs) → IsMade r more (cond_frame uses c scope lines)
+  pub or_is : (parts lent : List Cond) {E : Type 0} (r : Result Condition E) (xs : List Condition) (more : List Expr) → c ≡ cond.Or parts → lent ≡ parts → xs ≡ (all_frames (map (cond_frame instances) lent) scope lines).conditions
+      → more ≡ (all_frames (map (cond_frame instances) lent) scope lines).lines → IfOk r (λ x. x ≡ or_of xs) → IsMade r more (cond_frame instances c scope lines)
   or_is parts lent r xs more is at framed behind made =
-      let all : AllLines = all_frames (map (cond_frame uses) lent) scope lines in
-      when_made r (or_of xs) more _ made (reported (or_of xs) (or_of all.conditions) _ all.lines (cond_frame uses c scope lines)
-      (rw at (ap (λ d. cond_frame uses d scope lines) is ∙ ap (λ m. m scope lines) (frame-Or uses parts))) (ap or_of framed) behind)
+      let all : AllLines = all_frames (map (cond_frame instances) lent) scope lines in
+      when_made r (or_of xs) more _ made (reported (or_of xs) (or_of all.conditions) _ all.lines (cond_frame instances c scope lines)
+      (rw at (ap (λ d. cond_frame instances d scope lines) is ∙ ap (λ m. m scope lines) (frame-Or instances parts))) (ap or_of framed) behind)
 
-  pub exists_is : (q lent : Block) (more : List Expr) (n : ℕ) → c ≡ cond.Exists q → lent ≡ q → more ≡ (block_frame uses lent).lines scope lines → n ≡ last more → IsFramed (Exists n) more (cond_frame uses c scope lines)
+  pub exists_is : (q lent : Block) (more : List Expr) (n : ℕ) → c ≡ cond.Exists q → lent ≡ q → more ≡ (block_frame instances lent).lines scope lines → n ≡ last more → IsFramed (Exists n) more (cond_frame instances c scope lines)
   exists_is q lent more n is at behind n_is =
-      let all : List Expr = (block_frame uses lent).lines scope lines in
-      reported _ (Exists (last all)) _ all (cond_frame uses c scope lines) (rw at (ap (λ d. cond_frame uses d scope lines) is ∙ ap (λ m. m scope lines) (frame-Exists uses q))) (ap Exists (n_is ∙ ap last behind)) behind
+      let all : List Expr = (block_frame instances lent).lines scope lines in
+      reported _ (Exists (last all)) _ all (cond_frame instances c scope lines) (rw at (ap (λ d. cond_frame instances d scope lines) is ∙ ap (λ m. m scope lines) (frame-Exists instances q))) (ap Exists (n_is ∙ ap last behind)) behind
 
-  pub in_is : (a : named.Term) (q lent : Block) (more : List Expr) (left : Term) (n k : ℕ) → c ≡ cond.In a q → lent ≡ q → more ≡ (block_frame uses lent).lines scope lines → left ≡ numbered scope a → n ≡ last more
-      → k ≡ first_shown ((block_frame uses lent).shown scope) → IsFramed (In left n k) more (cond_frame uses c scope lines)
+  pub in_is : (a : named.Term) (q lent : Block) (more : List Expr) (left : Term) (n k : ℕ) → c ≡ cond.In a q → lent ≡ q → more ≡ (block_frame instances lent).lines scope lines → left ≡ numbered scope a → n ≡ last more
+      → k ≡ first_shown ((block_frame instances lent).shown scope) → IsFramed (In left n k) more (cond_frame instances c scope lines)
   in_is a q lent more left n k is at behind l n_is k_is =
-      let all : List Expr = (block_frame uses lent).lines scope lines in
-      let shown : ℕ = first_shown ((block_frame uses lent).shown scope) in
-      reported _ (In (numbered scope a) (last all) shown) _ all (cond_frame uses c scope lines) (rw at (ap (λ d. cond_frame uses d scope lines) is ∙ ap (λ m. m scope lines) (frame-In uses a q)))
+      let all : List Expr = (block_frame instances lent).lines scope lines in
+      let shown : ℕ = first_shown ((block_frame instances lent).shown scope) in
+      reported _ (In (numbered scope a) (last all) shown) _ all (cond_frame instances c scope lines) (rw at (ap (λ d. cond_frame instances d scope lines) is ∙ ap (λ m. m scope lines) (frame-In instances a q)))
       (ap (λ t. In t n k) l ∙ ap (λ m. In (numbered scope a) m k) (n_is ∙ ap last behind) ∙ ap (In (numbered scope a) (last all)) k_is) behind
 
 -- ---- FROM
@@ -84,55 +84,55 @@ module _ (uses : List TableInstance) (scope : Scope) (lines : List Expr) (c : Co
 abbrev pub IsSourced : List ℕ → List Expr → Scope → List Expr → FromFrame → Type 0
 IsSourced numbers more scope lines framed = record { numbers : numbers ≡ framed.numbers; lines : more ≡ framed.lines scope lines }
 
-module _ (uses : List TableInstance) (scope : Scope) (lines : List Expr) (f : From) where
-  pub table_is : (o : Occurrence) (numbers : List ℕ) (more : List Expr) → f ≡ from.Table o → numbers ≡ use_numbers uses o → more ≡ Get o.number ∷ lines → IsSourced numbers more scope lines (from_frame uses f)
-  table_is o numbers more is n l = rw (is, frame-Table uses o) (record { numbers = n; lines = l })
+module _ (instances : List TableInstance) (scope : Scope) (lines : List Expr) (f : From) where
+  pub table_is : (o : TableReference) (numbers : List ℕ) (more : List Expr) → f ≡ from.Table o → numbers ≡ instance_numbers instances o → more ≡ Get o.number ∷ lines → IsSourced numbers more scope lines (from_frame instances f)
+  table_is o numbers more is n l = rw (is, frame-Table instances o) (record { numbers = n; lines = l })
 
   pub comma_is : (left lent_left right lent_right : From) (numbers more lent all : List ℕ) (behind_left behind ended : List Expr) (none : List Condition) (a b : ℕ) → f ≡ from.Comma left right → lent_left ≡ left
-      → lent_right ≡ right → numbers ≡ (from_frame uses lent_left).numbers → behind_left ≡ (from_frame uses lent_left).lines scope lines → more ≡ (from_frame uses lent_right).numbers
-      → behind ≡ (from_frame uses lent_right).lines scope behind_left → lent ≡ more → all ≡ numbers ++ lent → a ≡ last behind_left → b ≡ last behind → none ≡ [] → ended ≡ Join none a b ∷ behind
-      → IsSourced all ended scope lines (from_frame uses f)
+      → lent_right ≡ right → numbers ≡ (from_frame instances lent_left).numbers → behind_left ≡ (from_frame instances lent_left).lines scope lines → more ≡ (from_frame instances lent_right).numbers
+      → behind ≡ (from_frame instances lent_right).lines scope behind_left → lent ≡ more → all ≡ numbers ++ lent → a ≡ last behind_left → b ≡ last behind → none ≡ [] → ended ≡ Join none a b ∷ behind
+      → IsSourced all ended scope lines (from_frame instances f)
   comma_is left lent_left right lent_right numbers more lent all behind_left behind ended none a b is at_left at_right n l m r lent_is all_is a_is b_is none_is ended_is =
-      rw (is, frame-Comma uses left right, ← at_left, ← at_right) (record {
+      rw (is, frame-Comma instances left right, ← at_left, ← at_right) (record {
         numbers = rw (all_is, lent_is, n, m) refl;
         lines = rw (ended_is, none_is, a_is, b_is, r, l) refl;
       })
 
   -- a join, by its left side, its table and its ON
-  module _ (left lent : From) (o : Occurrence) (on lent_on : Cond) (at : lent ≡ left) (at_on : lent_on ≡ on) (numbers all : List ℕ) (behind_left behind : List Expr) (conjuncts : List Condition) (a b : ℕ) where
-    sides_are : (join : List Condition → ℕ → ℕ → Expr) → numbers ≡ (from_frame uses lent).numbers → behind_left ≡ (from_frame uses lent).lines scope lines → all ≡ numbers ++ use_numbers uses o
-        → conjuncts ≡ conjuncts_of (on_lines uses numbers o lent_on scope behind_left) → a ≡ last behind_left → b ≡ length behind_left → behind ≡ (on_lines uses numbers o lent_on scope behind_left).lines
-        → IsSourced all (join conjuncts a b ∷ behind) scope lines (join_frame join uses (from_frame uses left) o (cond_frame uses on))
+  module _ (left lent : From) (o : TableReference) (on lent_on : Cond) (at : lent ≡ left) (at_on : lent_on ≡ on) (numbers all : List ℕ) (behind_left behind : List Expr) (conjuncts : List Condition) (a b : ℕ) where
+    sides_are : (join : List Condition → ℕ → ℕ → Expr) → numbers ≡ (from_frame instances lent).numbers → behind_left ≡ (from_frame instances lent).lines scope lines → all ≡ numbers ++ instance_numbers instances o
+        → conjuncts ≡ conjuncts_of (on_lines instances numbers o lent_on scope behind_left) → a ≡ last behind_left → b ≡ length behind_left → behind ≡ (on_lines instances numbers o lent_on scope behind_left).lines
+        → IsSourced all (join conjuncts a b ∷ behind) scope lines (join_frame join instances (from_frame instances left) o (cond_frame instances on))
     sides_are join n l all_is c_is a_is b_is r = rw (← at, ← at_on) (record {
       numbers = rw (all_is, n) refl;
       lines = rw (c_is, a_is, b_is, r, l, n) refl;
     })
 
-    pub join_is : f ≡ from.Join left o on → numbers ≡ (from_frame uses lent).numbers → behind_left ≡ (from_frame uses lent).lines scope lines → all ≡ numbers ++ use_numbers uses o
-        → conjuncts ≡ conjuncts_of (on_lines uses numbers o lent_on scope behind_left) → a ≡ last behind_left → b ≡ length behind_left → behind ≡ (on_lines uses numbers o lent_on scope behind_left).lines
-        → IsSourced all (Join conjuncts a b ∷ behind) scope lines (from_frame uses f)
-    join_is is n l all_is c_is a_is b_is r = rw (is, frame-Join uses left o on) (sides_are Join n l all_is c_is a_is b_is r)
+    pub join_is : f ≡ from.Join left o on → numbers ≡ (from_frame instances lent).numbers → behind_left ≡ (from_frame instances lent).lines scope lines → all ≡ numbers ++ instance_numbers instances o
+        → conjuncts ≡ conjuncts_of (on_lines instances numbers o lent_on scope behind_left) → a ≡ last behind_left → b ≡ length behind_left → behind ≡ (on_lines instances numbers o lent_on scope behind_left).lines
+        → IsSourced all (Join conjuncts a b ∷ behind) scope lines (from_frame instances f)
+    join_is is n l all_is c_is a_is b_is r = rw (is, frame-Join instances left o on) (sides_are Join n l all_is c_is a_is b_is r)
 
-    pub left_join_is : f ≡ from.LeftJoin left o on → numbers ≡ (from_frame uses lent).numbers → behind_left ≡ (from_frame uses lent).lines scope lines → all ≡ numbers ++ use_numbers uses o
-        → conjuncts ≡ conjuncts_of (on_lines uses numbers o lent_on scope behind_left) → a ≡ last behind_left → b ≡ length behind_left → behind ≡ (on_lines uses numbers o lent_on scope behind_left).lines
-        → IsSourced all (LeftJoin conjuncts a b ∷ behind) scope lines (from_frame uses f)
-    left_join_is is n l all_is c_is a_is b_is r = rw (is, frame-LeftJoin uses left o on) (sides_are LeftJoin n l all_is c_is a_is b_is r)
+    pub left_join_is : f ≡ from.LeftJoin left o on → numbers ≡ (from_frame instances lent).numbers → behind_left ≡ (from_frame instances lent).lines scope lines → all ≡ numbers ++ instance_numbers instances o
+        → conjuncts ≡ conjuncts_of (on_lines instances numbers o lent_on scope behind_left) → a ≡ last behind_left → b ≡ length behind_left → behind ≡ (on_lines instances numbers o lent_on scope behind_left).lines
+        → IsSourced all (LeftJoin conjuncts a b ∷ behind) scope lines (from_frame instances f)
+    left_join_is is n l all_is c_is a_is b_is r = rw (is, frame-LeftJoin instances left o on) (sides_are LeftJoin n l all_is c_is a_is b_is r)
 
 -- ---- blocks
 
-module _ (uses : List TableInstance) (scope : Scope) (lines : List Expr) (q : Block) where
-  pub first_shown_is : (numbers lent : List ℕ) (items : List Item) (k : ℕ) → numbers ≡ (from_frame uses (out-Block q).from).numbers → lent ≡ numbers → items ≡ (out-Block q).items
-      → k ≡ first_shown (map (item_number (lent ∷ scope)) items) → k ≡ first_shown ((block_frame uses q).shown scope)
-  first_shown_is numbers lent items k n at items_are is = is ∙ rw (items_are, at, n, frame-Block uses q) refl
+module _ (instances : List TableInstance) (scope : Scope) (lines : List Expr) (q : Block) where
+  pub first_shown_is : (numbers lent : List ℕ) (items : List Item) (k : ℕ) → numbers ≡ (from_frame instances (out-Block q).from).numbers → lent ≡ numbers → items ≡ (out-Block q).items
+      → k ≡ first_shown (map (item_number (lent ∷ scope)) items) → k ≡ first_shown ((block_frame instances q).shown scope)
+  first_shown_is numbers lent items k n at items_are is = is ∙ rw (items_are, at, n, frame-Block instances q) refl
 
-  pub block_lines_are : (numbers lent grouped : List ℕ) (sourced filtered added ended : List Expr) → numbers ≡ (from_frame uses (out-Block q).from).numbers → lent ≡ numbers → grouped ≡ numbers
-      → sourced ≡ (from_frame uses (out-Block q).from).lines scope lines → filtered ≡ where_lines (option_map (cond_frame uses) (out-Block q).filter) (lent ∷ scope) sourced
+  pub block_lines_are : (numbers lent grouped : List ℕ) (sourced filtered added ended : List Expr) → numbers ≡ (from_frame instances (out-Block q).from).numbers → lent ≡ numbers → grouped ≡ numbers
+      → sourced ≡ (from_frame instances (out-Block q).from).lines scope lines → filtered ≡ where_lines (option_map (cond_frame instances) (out-Block q).filter) (lent ∷ scope) sourced
       → added ≡ group_lines (out-Block q).grouped grouped (out-Block q).keys (out-Block q).items filtered
-      → ended ≡ distinct_lines (out-Block q).distinct (keep_lines (lent ∷ scope) (out-Block q).items added) → ended ≡ (block_frame uses q).lines scope lines
-  block_lines_are numbers lent grouped sourced filtered added ended n at by s f a e = rw (e, a, f, s, by, at, n, frame-Block uses q) refl
+      → ended ≡ distinct_lines (out-Block q).distinct (keep_lines (lent ∷ scope) (out-Block q).items added) → ended ≡ (block_frame instances q).lines scope lines
+  block_lines_are numbers lent grouped sourced filtered added ended n at by s f a e = rw (e, a, f, s, by, at, n, frame-Block instances q) refl
 
 -- ---- queries
 
-pub query_is : (q : Query) (uses : List TableInstance) (none lines all : List Expr) → uses ≡ q.tables → none ≡ [] → lines ≡ (block_frame uses q.block).lines [] none → all ≡ reverse lines → all ≡ query_frame q
+pub query_is : (q : Query) (instances : List TableInstance) (none lines all : List Expr) → instances ≡ q.tables → none ≡ [] → lines ≡ (block_frame instances q.block).lines [] none → all ≡ reverse lines → all ≡ query_frame q
 unfolding query_frame
-query_is q uses none lines all at empty is turned = rw (turned, is, empty, at) refl
+query_is q instances none lines all at empty is turned = rw (turned, is, empty, at) refl

@@ -40,24 +40,24 @@ pub last-is : (E : List Expr) → last E ≡ length E - 1
 last-is [] = omega arith
 last-is (x ∷ E) = omega arith
 
-module _ (uses : List TableInstance) where
-  later-columns : (M E : List Expr) (g : ℕ) → g < length E → class_columns uses (M ++ E) g ≡ class_columns uses E g
+module _ (instances : List TableInstance) where
+  later-columns : (M E : List Expr) (g : ℕ) → g < length E → class_columns instances (M ++ E) g ≡ class_columns instances E g
   later-columns [] E g lt = refl
   later-columns (x ∷ M) E g lt = rw (ne_eqb g (length (M ++ E)) (λ is. absurd (omega (arith, is, lt, length-append M E)))) (later-columns M E g lt)
 
-  pub kept-columns : (F E : List Expr) (g : ℕ) → Grows F E → g < length E → class_columns uses F g ≡ class_columns uses E g
-  kept-columns F E g grows lt = ap (λ Z. class_columns uses Z g) grows.1 ∙ later-columns grows.0 E g lt
+  pub kept-columns : (F E : List Expr) (g : ℕ) → Grows F E → g < length E → class_columns instances F g ≡ class_columns instances E g
+  kept-columns F E g grows lt = ap (λ Z. class_columns instances Z g) grows.1 ∙ later-columns grows.0 E g lt
 
-  pub top-columns : (x : Expr) (E : List Expr) → class_columns uses (x ∷ E) (length E) ≡ columns_of uses (class_columns uses E) x
+  pub top-columns : (x : Expr) (E : List Expr) → class_columns instances (x ∷ E) (length E) ≡ columns_of instances (class_columns instances E) x
   top-columns x E = rw (eq-eqb (length E) (length E) refl) refl
 
   module _ (D : Tables) where
-    later-rows : (M E : List Expr) (g : ℕ) (e : Env) → g < length E → class_rows uses D (M ++ E) g e ≡ class_rows uses D E g e
+    later-rows : (M E : List Expr) (g : ℕ) (e : Env) → g < length E → class_rows instances D (M ++ E) g e ≡ class_rows instances D E g e
     later-rows [] E g e lt = refl
     later-rows (x ∷ M) E g e lt = rw (ne_eqb g (length (M ++ E)) (λ is. absurd (omega (arith, is, lt, length-append M E)))) (later-rows M E g e lt)
 
-    pub kept-rows : (F E : List Expr) (g : ℕ) (e : Env) → Grows F E → g < length E → class_rows uses D F g e ≡ class_rows uses D E g e
-    kept-rows F E g e grows lt = ap (λ Z. class_rows uses D Z g e) grows.1 ∙ later-rows grows.0 E g e lt
+    pub kept-rows : (F E : List Expr) (g : ℕ) (e : Env) → Grows F E → g < length E → class_rows instances D F g e ≡ class_rows instances D E g e
+    kept-rows F E g e grows lt = ap (λ Z. class_rows instances D Z g e) grows.1 ∙ later-rows grows.0 E g e lt
 
-    pub top-rows : (x : Expr) (E : List Expr) (e : Env) → class_rows uses D (x ∷ E) (length E) e ≡ means uses D (classes uses D E) x e
+    pub top-rows : (x : Expr) (E : List Expr) (e : Env) → class_rows instances D (x ∷ E) (length E) e ≡ means instances D (classes instances D E) x e
     top-rows x E e = rw (eq-eqb (length E) (length E) refl) refl

@@ -3,7 +3,7 @@ use Rattle.std.proofs.Common.{sym, subst, List, [], ◌∷◌, map, Option, Some
 use Rattle.std.specs.List.{AllByRecursion}
 use Rattle.values.specs.declared.truth.Comparison.{Comparison}
 use Rattle.query.specs.declared.query.Term.{Term}
-use Rattle.query.specs.declared.query.Occurrence.{Occurrence}
+use Rattle.query.specs.declared.query.TableReference.{TableReference}
 use Rattle.query.specs.declared.query.Cond.{Cond, roll-Cond}
 use Rattle.query.specs.declared.query.Cond.TheVariants as cond
 use Rattle.query.specs.declared.query.Cond.TheOpen.{Cond-F, From-F, Block-F}
@@ -26,9 +26,9 @@ module _ (C : Cond → Type 0) (F : From → Type 0) (B : Block → Type 0) wher
     pub or : (cs : List Cond) → AllByRecursion C cs → C (cond.Or cs)
     pub exists : (q : Block) → B q → C (cond.Exists q)
     pub in_ : (a : Term) (q : Block) → B q → C (cond.In a q)
-    pub table : (o : Occurrence) → F (from.Table o)
-    pub join : (f : From) (o : Occurrence) (on : Cond) → F f → C on → F (from.Join f o on)
-    pub left_join : (f : From) (o : Occurrence) (on : Cond) → F f → C on → F (from.LeftJoin f o on)
+    pub table : (o : TableReference) → F (from.Table o)
+    pub join : (f : From) (o : TableReference) (on : Cond) → F f → C on → F (from.Join f o on)
+    pub left_join : (f : From) (o : TableReference) (on : Cond) → F f → C on → F (from.LeftJoin f o on)
     pub comma : (f g : From) → F f → F g → F (from.Comma f g)
     pub block : (q : Block) → F q.from → OfFilter q.filter → B q
 

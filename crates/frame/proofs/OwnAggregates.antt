@@ -7,11 +7,11 @@ use Rattle.query.specs.declared.query.Aggregate.TheVariants as by
 use Rattle.query.specs.declared.query.Item.{Item}
 use Rattle.query.specs.declared.query.Item.TheVariants as item
 use Rattle.query.specs.declared.query.TableInstance.{TableInstance}
-use Rattle.query.specs.declared.query.Occurrence.{Occurrence}
+use Rattle.query.specs.declared.query.TableReference.{TableReference}
 use Rattle.query.specs.declared.query.Cond.{Cond}
 use Rattle.query.specs.declared.query.From.{From}
 use Rattle.query.specs.declared.query.Block.{Block}
-use Rattle.query.specs.Bound.{Scope, CondScope, FromScope, BlockScope, cond_scope, from_scope, block_scope, join_scope, bound_term, bound_aggregate, bound_group_item, bound_items, bound_filter, aggregate_numbers, all_differ, none_of_tables, is_of_tables, use_numbers}
+use Rattle.query.specs.Bound.{Scope, CondScope, FromScope, BlockScope, cond_scope, from_scope, block_scope, join_scope, bound_term, bound_aggregate, bound_group_item, bound_items, bound_filter, aggregate_numbers, all_differ, none_of_tables, is_of_tables, instance_numbers}
 use Rattle.query.proofs.ScopeEquations.{scope-Compare, scope-IsNull, scope-Not, scope-And, scope-Or, scope-Exists, scope-In, scope-Table, scope-Join, scope-LeftJoin, scope-Comma, scope-Block}
 use Rattle.algebra.specs.declared.condition.Condition.{Condition}
 use Rattle.algebra.specs.declared.expr.Aggregation.{Aggregation}
@@ -30,22 +30,22 @@ use Rattle.frame.proofs.FrameGroups.{place-has}
 use Rattle.frame.proofs.FrameShapes.{FromShape, BoundParts, JoinParts, from-shape, bound-parts, join-parts}
 use Rattle.frame.proofs.Induction.{Steps, OfFilter, each-block}
 
-module _ (uses : List TableInstance) where
+module _ (instances : List TableInstance) where
   abbrev T : ColumnSet
-  T = is_table_column uses
+  T = is_table_column instances
 
   -- the aggregates of the lines' groups are apart
   abbrev pub LinesApart : List Expr → Type 0
   LinesApart lines = AllByRecursion (λ x. are_apart T (group_aggregates x) ≡ true) lines
 
   abbrev CondApart : Cond → Type 0
-  CondApart c = (scope : Scope) (E : List Expr) → LinesApart E → (cond_scope uses c).bound scope ≡ true → LinesApart (cond_frame uses c scope E).lines
+  CondApart c = (scope : Scope) (E : List Expr) → LinesApart E → (cond_scope instances c).bound scope ≡ true → LinesApart (cond_frame instances c scope E).lines
 
   abbrev FromApart : From → Type 0
-  FromApart f = (scope : Scope) (E : List Expr) → LinesApart E → (from_scope uses f).bound scope ≡ true → LinesApart ((from_frame uses f).lines scope E)
+  FromApart f = (scope : Scope) (E : List Expr) → LinesApart E → (from_scope instances f).bound scope ≡ true → LinesApart ((from_frame instances f).lines scope E)
 
   abbrev BlockApart : Block → Type 0
-  BlockApart q = (scope : Scope) (E : List Expr) → LinesApart E → (block_scope uses q).bound scope ≡ true → LinesApart ((block_frame uses q).lines scope E)
+  BlockApart q = (scope : Scope) (E : List Expr) → LinesApart E → (block_scope instances q).bound scope ≡ true → LinesApart ((block_frame instances q).lines scope E)
 
   cond-as : (f g : CondLines) (s t : CondScope) (scope : Scope) → f ≡ g → s ≡ t → (t.bound scope ≡ true → LinesApart g.lines) → s.bound scope ≡ true → LinesApart f.lines
   cond-as f g s t scope is as_ h = rw (is, as_) h
@@ -56,25 +56,25 @@ module _ (uses : List TableInstance) where
   block-as : (f g : BlockFrame) (s t : BlockScope) (scope : Scope) (E : List Expr) → f ≡ g → s ≡ t → (t.bound scope ≡ true → LinesApart (g.lines scope E)) → s.bound scope ≡ true → LinesApart (f.lines scope E)
   block-as f g s t scope E is as_ h = rw (is, as_) h
 
-  all-apart : (cs : List Cond) → AllByRecursion CondApart cs → (scope : Scope) (E : List Expr) → LinesApart E → list_all (λ s. s.bound scope) (map (cond_scope uses) cs) ≡ true → LinesApart (all_frames (map (cond_frame uses) cs) scope E).lines
+  all-apart : (cs : List Cond) → AllByRecursion CondApart cs → (scope : Scope) (E : List Expr) → LinesApart E → list_all (λ s. s.bound scope) (map (cond_scope instances) cs) ≡ true → LinesApart (all_frames (map (cond_frame instances) cs) scope E).lines
   all-apart [] each scope E all bound = all
   all-apart (c ∷ cs) each scope E all bound =
-      let parts = and_parts ((cond_scope uses c).bound scope) _ bound in
-      all-apart cs each.1 scope (cond_frame uses c scope E).lines (each.0 scope E all parts.0) parts.1
+      let parts = and_parts ((cond_scope instances c).bound scope) _ bound in
+      all-apart cs each.1 scope (cond_frame instances c scope E).lines (each.0 scope E all parts.0) parts.1
 
   -- a join of either kind
-  joined : (join : List Condition → ℕ → ℕ → Expr) → ((C : List Condition) (a b : ℕ) → group_aggregates (join C a b) ≡ []) → (f : From) (o : Occurrence) (on : Cond) → FromApart f → CondApart on → (scope : Scope) (E : List Expr) → LinesApart E
-      → (join_scope uses (from_scope uses f) o (cond_scope uses on)).bound scope ≡ true → LinesApart ((join_frame join uses (from_frame uses f) o (cond_frame uses on)).lines scope E)
+  joined : (join : List Condition → ℕ → ℕ → Expr) → ((C : List Condition) (a b : ℕ) → group_aggregates (join C a b) ≡ []) → (f : From) (o : TableReference) (on : Cond) → FromApart f → CondApart on → (scope : Scope) (E : List Expr) → LinesApart E
+      → (join_scope instances (from_scope instances f) o (cond_scope instances on)).bound scope ≡ true → LinesApart ((join_frame join instances (from_frame instances f) o (cond_frame instances on)).lines scope E)
   joined join none f o on left test scope E all bound =
-      let parts : JoinParts uses f o on scope = join-parts uses f o on scope bound in
-      let A : List Expr = (from_frame uses f).lines scope E in (
+      let parts : JoinParts instances f o on scope = join-parts instances f o on scope bound in
+      let A : List Expr = (from_frame instances f).lines scope E in (
         ap (are_apart T) (none _ _ _),
-        test (((from_frame uses f).numbers ++ use_numbers uses o) ∷ scope) (Get o.number ∷ A) (refl, left scope E all parts.left) parts.test,
+        test (((from_frame instances f).numbers ++ instance_numbers instances o) ∷ scope) (Get o.number ∷ A) (refl, left scope E all parts.left) parts.test,
       )
 
   -- ---- blocks
 
-  where-apart : (o : Option Cond) → OfFilter CondApart FromApart BlockApart o → (inner : Scope) (A : List Expr) → LinesApart A → bound_filter (option_map (cond_scope uses) o) inner ≡ true → LinesApart (where_lines (option_map (cond_frame uses) o) inner A)
+  where-apart : (o : Option Cond) → OfFilter CondApart FromApart BlockApart o → (inner : Scope) (A : List Expr) → LinesApart A → bound_filter (option_map (cond_scope instances) o) inner ≡ true → LinesApart (where_lines (option_map (cond_frame instances) o) inner A)
   where-apart None test inner A all bound = all
   where-apart (Some c) test inner A all bound = (refl, test inner A all bound)
 
@@ -86,20 +86,20 @@ module _ (uses : List TableInstance) where
     reads-tables (by.Min k) there = and_from _ _ (used _ (place-has numbers k (ltb-true _ _ there))) refl
     reads-tables (by.Max k) there = and_from _ _ (used _ (place-has numbers k (ltb-true _ _ there))) refl
 
-    items-apart : (keys : List ℕ) (scope : Scope) (items : List Item) → list_all (bound_group_item (length numbers) keys (numbers ∷ scope)) items ≡ true → none_of_tables uses (aggregate_numbers items) ≡ true → are_apart T (aggregations numbers items) ≡ true
+    items-apart : (keys : List ℕ) (scope : Scope) (items : List Item) → list_all (bound_group_item (length numbers) keys (numbers ∷ scope)) items ≡ true → none_of_tables instances (aggregate_numbers items) ≡ true → are_apart T (aggregations numbers items) ≡ true
     items-apart keys scope [] bound others = refl
     items-apart keys scope (item.Column c ∷ items) bound others = items-apart keys scope items (and_parts (bound_group_item (length numbers) keys (numbers ∷ scope) (item.Column c)) _ bound).1 others
     items-apart keys scope (item.Aggregate n a ∷ items) bound others =
         let parts = and_parts (bound_aggregate (length numbers) a) _ bound in
-        let apart = and_parts (not (is_of_tables uses n)) _ others in
+        let apart = and_parts (not (is_of_tables instances n)) _ others in
         and_from _ _ (and_from _ _ (reads-tables a parts.0) apart.0) (items-apart keys scope items parts.1 apart.1)
 
-    group-apart : (keys : List ℕ) (scope : Scope) (items : List Item) → all_differ (aggregate_numbers items ++ numbers) ≡ true → none_of_tables uses (aggregate_numbers items) ≡ true
+    group-apart : (keys : List ℕ) (scope : Scope) (items : List Item) → all_differ (aggregate_numbers items ++ numbers) ≡ true → none_of_tables instances (aggregate_numbers items) ≡ true
         → bound_items true (length numbers) keys items (numbers ∷ scope) ≡ true → are_apart T (by_column (aggregations numbers items)) ≡ true
     group-apart keys scope items differ others bound =
         each-ordered (is_apart T) (aggregations numbers items) (apart numbers items numbers differ) ∙ items-apart keys scope items (and_parts (list_all (λ k. nat_lt k (length numbers)) keys) _ bound).1 others
 
-    end-apart : (twice is_grouped : Bool) (keys : List ℕ) (scope : Scope) (items : List Item) (B : List Expr) → all_differ (aggregate_numbers items ++ numbers) ≡ true → none_of_tables uses (aggregate_numbers items) ≡ true
+    end-apart : (twice is_grouped : Bool) (keys : List ℕ) (scope : Scope) (items : List Item) (B : List Expr) → all_differ (aggregate_numbers items ++ numbers) ≡ true → none_of_tables instances (aggregate_numbers items) ≡ true
         → bound_items is_grouped (length numbers) keys items (numbers ∷ scope) ≡ true → LinesApart B → LinesApart (distinct_lines twice (keep_lines (numbers ∷ scope) items (group_lines is_grouped numbers keys items B)))
     end-apart false false keys scope items B differ others bound all = (refl, all)
     end-apart true false keys scope items B differ others bound all = (refl, (refl, all))
@@ -108,26 +108,26 @@ module _ (uses : List TableInstance) where
 
   steps : Steps CondApart FromApart BlockApart
   steps = record {
-    compare = λ op a b scope E all. cond-as _ _ _ _ scope (ap (λ f. f scope E) (frame-Compare uses op a b)) (scope-Compare uses op a b) (λ bound. all);
-    is_null = λ a scope E all. cond-as _ _ _ _ scope (ap (λ f. f scope E) (frame-IsNull uses a)) (scope-IsNull uses a) (λ bound. all);
-    not = λ c test scope E all. cond-as _ _ _ _ scope (ap (λ f. f scope E) (frame-Not uses c)) (scope-Not uses c) (λ bound. test scope E all bound);
-    and = λ cs each scope E all. cond-as _ _ _ _ scope (ap (λ f. f scope E) (frame-And uses cs)) (scope-And uses cs) (λ bound. all-apart cs each scope E all bound);
-    or = λ cs each scope E all. cond-as _ _ _ _ scope (ap (λ f. f scope E) (frame-Or uses cs)) (scope-Or uses cs) (λ bound. all-apart cs each scope E all bound);
-    exists = λ q test scope E all. cond-as _ _ _ _ scope (ap (λ f. f scope E) (frame-Exists uses q)) (scope-Exists uses q) (λ bound. test scope E all bound);
-    in_ = λ a q test scope E all. cond-as _ _ _ _ scope (ap (λ f. f scope E) (frame-In uses a q)) (scope-In uses a q) (λ bound.
-        test scope E all (and_parts (block_scope uses q).single _ (and_parts (bound_term scope a) _ bound).1).1);
-    table = λ o scope E all. from-as _ _ _ _ scope E (frame-Table uses o) (scope-Table uses o) (λ bound. (refl, all));
-    join = λ f o on left test scope E all. from-as _ _ _ _ scope E (frame-Join uses f o on) (scope-Join uses f o on) (joined Join (λ C a b. refl) f o on left test scope E all);
-    left_join = λ f o on left test scope E all. from-as _ _ _ _ scope E (frame-LeftJoin uses f o on) (scope-LeftJoin uses f o on) (joined LeftJoin (λ C a b. refl) f o on left test scope E all);
-    comma = λ f g left right scope E all. from-as _ _ _ _ scope E (frame-Comma uses f g) (scope-Comma uses f g) (λ bound.
-        let parts = and_parts ((from_scope uses f).bound scope) _ bound in
-        (refl, right scope ((from_frame uses f).lines scope E) (left scope E all parts.0) parts.1));
-    block = λ q from filter scope E all. block-as _ _ _ _ scope E (frame-Block uses q) (scope-Block uses q) (λ bound.
-        let numbers : List ℕ = (from_frame uses q.from).numbers in
-        let A : List Expr = (from_frame uses q.from).lines scope E in
-        let shape : FromShape uses (from_frame uses q.from) (from_scope uses q.from) scope E = from-shape uses q.from scope E in
-        let parts : BoundParts uses q scope = bound-parts uses q scope bound in
-        end-apart numbers shape.used q.distinct q.grouped q.keys scope q.items (where_lines (option_map (cond_frame uses) q.filter) (numbers ∷ scope) A) (and_parts _ _ parts.new).0 parts.apart parts.items
+    compare = λ op a b scope E all. cond-as _ _ _ _ scope (ap (λ f. f scope E) (frame-Compare instances op a b)) (scope-Compare instances op a b) (λ bound. all);
+    is_null = λ a scope E all. cond-as _ _ _ _ scope (ap (λ f. f scope E) (frame-IsNull instances a)) (scope-IsNull instances a) (λ bound. all);
+    not = λ c test scope E all. cond-as _ _ _ _ scope (ap (λ f. f scope E) (frame-Not instances c)) (scope-Not instances c) (λ bound. test scope E all bound);
+    and = λ cs each scope E all. cond-as _ _ _ _ scope (ap (λ f. f scope E) (frame-And instances cs)) (scope-And instances cs) (λ bound. all-apart cs each scope E all bound);
+    or = λ cs each scope E all. cond-as _ _ _ _ scope (ap (λ f. f scope E) (frame-Or instances cs)) (scope-Or instances cs) (λ bound. all-apart cs each scope E all bound);
+    exists = λ q test scope E all. cond-as _ _ _ _ scope (ap (λ f. f scope E) (frame-Exists instances q)) (scope-Exists instances q) (λ bound. test scope E all bound);
+    in_ = λ a q test scope E all. cond-as _ _ _ _ scope (ap (λ f. f scope E) (frame-In instances a q)) (scope-In instances a q) (λ bound.
+        test scope E all (and_parts (block_scope instances q).single _ (and_parts (bound_term scope a) _ bound).1).1);
+    table = λ o scope E all. from-as _ _ _ _ scope E (frame-Table instances o) (scope-Table instances o) (λ bound. (refl, all));
+    join = λ f o on left test scope E all. from-as _ _ _ _ scope E (frame-Join instances f o on) (scope-Join instances f o on) (joined Join (λ C a b. refl) f o on left test scope E all);
+    left_join = λ f o on left test scope E all. from-as _ _ _ _ scope E (frame-LeftJoin instances f o on) (scope-LeftJoin instances f o on) (joined LeftJoin (λ C a b. refl) f o on left test scope E all);
+    comma = λ f g left right scope E all. from-as _ _ _ _ scope E (frame-Comma instances f g) (scope-Comma instances f g) (λ bound.
+        let parts = and_parts ((from_scope instances f).bound scope) _ bound in
+        (refl, right scope ((from_frame instances f).lines scope E) (left scope E all parts.0) parts.1));
+    block = λ q from filter scope E all. block-as _ _ _ _ scope E (frame-Block instances q) (scope-Block instances q) (λ bound.
+        let numbers : List ℕ = (from_frame instances q.from).numbers in
+        let A : List Expr = (from_frame instances q.from).lines scope E in
+        let shape : FromShape instances (from_frame instances q.from) (from_scope instances q.from) scope E = from-shape instances q.from scope E in
+        let parts : BoundParts instances q scope = bound-parts instances q scope bound in
+        end-apart numbers shape.used q.distinct q.grouped q.keys scope q.items (where_lines (option_map (cond_frame instances) q.filter) (numbers ∷ scope) A) (and_parts _ _ parts.new).0 parts.apart parts.items
         (where-apart q.filter filter (numbers ∷ scope) A (from scope E all parts.from) parts.filter));
   }
 

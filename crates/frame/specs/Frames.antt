@@ -9,7 +9,7 @@ use Rattle.query.specs.declared.query.Aggregate.{Aggregate}
 use Rattle.query.specs.declared.query.Aggregate.TheVariants as by
 use Rattle.query.specs.declared.query.Item.{Item}
 use Rattle.query.specs.declared.query.Item.TheVariants as item
-use Rattle.query.specs.declared.query.Occurrence.{Occurrence}
+use Rattle.query.specs.declared.query.TableReference.{TableReference}
 use Rattle.query.specs.declared.query.TableInstance.{TableInstance}
 use Rattle.query.specs.declared.query.Cond.{Cond}
 use Rattle.query.specs.declared.query.From.{From}
@@ -19,7 +19,7 @@ use Rattle.query.specs.declared.query.Cond.TheOpen.{Cond-F, From-F, Block-F}
 use Rattle.query.specs.declared.query.Cond.TheFolds.{fold-Cond, fold-From, fold-Block}
 use Rattle.query.specs.Rows.{Tables, IsFitting, count}
 use Rattle.query.specs.Meaning.{often}
-use Rattle.query.specs.Bound.{is_bound, Scope, number, number_at, use_numbers}
+use Rattle.query.specs.Bound.{is_bound, Scope, number, number_at, instance_numbers}
 use Rattle.algebra.specs.declared.condition.Term.{Term}
 use Rattle.algebra.specs.declared.condition.Term.TheVariants as term
 use Rattle.algebra.specs.declared.condition.Condition.{Condition}
@@ -101,7 +101,7 @@ abbrev pub conjuncts_of : CondLines → List Condition
 conjuncts_of framed = conjuncts (framed.condition ∷ [])
 
 -- the table of a join and the join; a bound ON has no subquery, so it stands directly behind its table
-abbrev pub join_lines : (List Condition → ℕ → ℕ → Expr) → Occurrence → CondFrame → Scope → List Expr → List Expr
+abbrev pub join_lines : (List Condition → ℕ → ℕ → Expr) → TableReference → CondFrame → Scope → List Expr → List Expr
 join_lines join o on scope left =
     let lines = Get o.number ∷ left in
     let framed = on scope lines in
@@ -111,16 +111,16 @@ join_lines join o on scope left =
 abbrev pub comma_lines : List Expr → List Expr → List Expr
 comma_lines left lines = Join [] (last left) (last lines) ∷ lines
 
-abbrev pub join_frame : (List Condition → ℕ → ℕ → Expr) → List TableInstance → FromFrame → Occurrence → CondFrame → FromFrame
-join_frame join uses f o on =
-    let numbers = f.numbers ++ use_numbers uses o in
+abbrev pub join_frame : (List Condition → ℕ → ℕ → Expr) → List TableInstance → FromFrame → TableReference → CondFrame → FromFrame
+join_frame join instances f o on =
+    let numbers = f.numbers ++ instance_numbers instances o in
     record { numbers = numbers; lines = λ scope lines. join_lines join o on (numbers ∷ scope) (f.lines scope lines) }
 
 abbrev pub from_frame_layer : List TableInstance → From-F CondFrame FromFrame BlockFrame → FromFrame
-from_frame_layer uses (From-F.Table o) = record { numbers = use_numbers uses o; lines = λ scope lines. Get o.number ∷ lines }
-from_frame_layer uses (From-F.Join f o on) = join_frame Join uses f o on
-from_frame_layer uses (From-F.LeftJoin f o on) = join_frame LeftJoin uses f o on
-from_frame_layer uses (From-F.Comma f g) = record {
+from_frame_layer instances (From-F.Table o) = record { numbers = instance_numbers instances o; lines = λ scope lines. Get o.number ∷ lines }
+from_frame_layer instances (From-F.Join f o on) = join_frame Join instances f o on
+from_frame_layer instances (From-F.LeftJoin f o on) = join_frame LeftJoin instances f o on
+from_frame_layer instances (From-F.Comma f g) = record {
   numbers = f.numbers ++ g.numbers;
   lines = λ scope lines. let left = f.lines scope lines in comma_lines left (g.lines scope left);
 }
@@ -193,17 +193,17 @@ block_frame_layer q =
 -- ---- the whole
 
 unfoldable pub cond_frame : List TableInstance → Cond → CondFrame
-cond_frame uses = fold-Cond CondFrame FromFrame BlockFrame cond_frame_layer (from_frame_layer uses) block_frame_layer
+cond_frame instances = fold-Cond CondFrame FromFrame BlockFrame cond_frame_layer (from_frame_layer instances) block_frame_layer
 
 unfoldable pub from_frame : List TableInstance → From → FromFrame
-from_frame uses = fold-From CondFrame FromFrame BlockFrame cond_frame_layer (from_frame_layer uses) block_frame_layer
+from_frame instances = fold-From CondFrame FromFrame BlockFrame cond_frame_layer (from_frame_layer instances) block_frame_layer
 
 -- what the ON of a join becomes behind the lines of its left side and its table
-abbrev pub on_lines : List TableInstance → List ℕ → Occurrence → Cond → Scope → List Expr → CondLines
-on_lines uses numbers o on scope left = cond_frame uses on ((numbers ++ use_numbers uses o) ∷ scope) (Get o.number ∷ left)
+abbrev pub on_lines : List TableInstance → List ℕ → TableReference → Cond → Scope → List Expr → CondLines
+on_lines instances numbers o on scope left = cond_frame instances on ((numbers ++ instance_numbers instances o) ∷ scope) (Get o.number ∷ left)
 
 unfoldable pub block_frame : List TableInstance → Block → BlockFrame
-block_frame uses = fold-Block CondFrame FromFrame BlockFrame cond_frame_layer (from_frame_layer uses) block_frame_layer
+block_frame instances = fold-Block CondFrame FromFrame BlockFrame cond_frame_layer (from_frame_layer instances) block_frame_layer
 
 -- the frame of a query
 unfoldable pub query_frame : Query → List Expr
@@ -223,7 +223,7 @@ is_framed x = true
 
 -- each table instance has as many columns as its table
 abbrev pub AreOver : Tables → List TableInstance → Type 0
-AreOver D uses = AllByRecursion (λ t. length t.entry.columns ≡ D.width t.table) uses
+AreOver D instances = AllByRecursion (λ t. length t.entry.columns ≡ D.width t.table) instances
 
 -- the query's columns of rows
 abbrev pub query_shown : Query → List Env → List Row

@@ -2,14 +2,14 @@
 
 ghost use Rattle.std.specs.Prelude.{◌≡◌, ◌++◌, true, length, map, option_map, IfOk, OnOk};
 ghost use Rattle.query.specs.declared.query.Block.{out-Block};
-ghost use Rattle.query.specs.Bound.{is_bound, use_numbers};
+ghost use Rattle.query.specs.Bound.{is_bound, instance_numbers};
 ghost use Rattle.frame.specs.Frames as spec;
 ghost use Rattle.frame.specs.Lent.{scope_of};
 
 use crate::lines::Lines;
-use crate::scope::{Scope, number_at, use_numbers};
+use crate::scope::{Scope, instance_numbers, number_at};
 use algebra::{Aggregation, Aggregations, ClassId, Columns, Condition, Conjuncts, Expr, Term};
-use query::{Aggregate, Block, ColumnId, Cond, From, Item, Occurrence, Query, TableInstance};
+use query::{Aggregate, Block, ColumnId, Cond, From, Item, Query, TableInstance, TableReference};
 use std::alloc::{AllocError, Global};
 use values::{Boxed, Items};
 
@@ -114,13 +114,13 @@ fn first_number(scope: &Scope<'_>, items: &[Item]) -> ColumnId
 #[cycle(frames)]
 fn condition(
     alloc: Global,
-    uses: &[TableInstance],
+    instances: &[TableInstance],
     cond: &Cond,
     scope: &Scope<'_>,
     lines: &mut Lines,
 ) -> Result<Condition, AllocError>
-    ensures condition { IfOk result (λ c. c ≡ (spec.cond_frame uses.now cond.now (scope_of scope.now) lines.old).condition) }
-    ensures lines { OnOk result (lines.new ≡ (spec.cond_frame uses.now cond.now (scope_of scope.now) lines.old).lines) }
+    ensures condition { IfOk result (λ c. c ≡ (spec.cond_frame instances.now cond.now (scope_of scope.now) lines.old).condition) }
+    ensures lines { OnOk result (lines.new ≡ (spec.cond_frame instances.now cond.now (scope_of scope.now) lines.old).lines) }
 {
     match cond {
         Cond::Compare(comparison, a, b) => {
@@ -130,24 +130,24 @@ fn condition(
         }
         Cond::IsNull(a) => Ok(Condition::IsNull(numbered(alloc, a, scope)?)),
         Cond::Not(part) => {
-            let part = condition(alloc, uses, part.get(), scope, lines)?;
+            let part = condition(alloc, instances, part.get(), scope, lines)?;
             Ok(Condition::Not(Boxed::new(alloc, part)?))
         }
         Cond::And(parts) => {
-            let parts = conditions(alloc, uses, parts.as_slice(), scope, lines)?;
+            let parts = conditions(alloc, instances, parts.as_slice(), scope, lines)?;
             Condition::and(alloc, parts)
         }
         Cond::Or(parts) => {
-            let parts = conditions(alloc, uses, parts.as_slice(), scope, lines)?;
+            let parts = conditions(alloc, instances, parts.as_slice(), scope, lines)?;
             Condition::or(alloc, parts)
         }
         Cond::Exists(block) => {
-            add_block(alloc, uses, block.get(), scope, lines)?;
+            add_block(alloc, instances, block.get(), scope, lines)?;
             Ok(Condition::Exists(lines.last()))
         }
         Cond::In(a, block) => {
             let term = numbered(alloc, a, scope)?;
-            let shown = add_block(alloc, uses, block.get(), scope, lines)?;
+            let shown = add_block(alloc, instances, block.get(), scope, lines)?;
             Ok(Condition::In(term, lines.last(), shown))
         }
     }
@@ -157,17 +157,17 @@ fn condition(
 #[cycle(frames)]
 fn conditions(
     alloc: Global,
-    uses: &[TableInstance],
+    instances: &[TableInstance],
     conds: &[Cond],
     scope: &Scope<'_>,
     lines: &mut Lines,
 ) -> Result<Items<Condition>, AllocError>
-    ensures conditions { IfOk result (λ cs. cs ≡ (spec.all_frames (map (spec.cond_frame uses.now) conds.now) (scope_of scope.now) lines.old).conditions) }
-    ensures lines { OnOk result (lines.new ≡ (spec.all_frames (map (spec.cond_frame uses.now) conds.now) (scope_of scope.now) lines.old).lines) }
+    ensures conditions { IfOk result (λ cs. cs ≡ (spec.all_frames (map (spec.cond_frame instances.now) conds.now) (scope_of scope.now) lines.old).conditions) }
+    ensures lines { OnOk result (lines.new ≡ (spec.all_frames (map (spec.cond_frame instances.now) conds.now) (scope_of scope.now) lines.old).lines) }
 {
     let mut framed = Items::new(alloc);
     for cond in conds {
-        framed.push(condition(alloc, uses, cond, scope, lines)?)?;
+        framed.push(condition(alloc, instances, cond, scope, lines)?)?;
     }
     Ok(framed)
 }
@@ -176,15 +176,15 @@ fn conditions(
 #[cycle(frames)]
 fn conjuncts(
     alloc: Global,
-    uses: &[TableInstance],
+    instances: &[TableInstance],
     cond: &Cond,
     scope: &Scope<'_>,
     lines: &mut Lines,
 ) -> Result<Conjuncts, AllocError>
-    ensures conjuncts { IfOk result (λ c. c ≡ spec.conjuncts_of (spec.cond_frame uses.now cond.now (scope_of scope.now) lines.old)) }
-    ensures lines { OnOk result (lines.new ≡ (spec.cond_frame uses.now cond.now (scope_of scope.now) lines.old).lines) }
+    ensures conjuncts { IfOk result (λ c. c ≡ spec.conjuncts_of (spec.cond_frame instances.now cond.now (scope_of scope.now) lines.old)) }
+    ensures lines { OnOk result (lines.new ≡ (spec.cond_frame instances.now cond.now (scope_of scope.now) lines.old).lines) }
 {
-    let framed = condition(alloc, uses, cond, scope, lines)?;
+    let framed = condition(alloc, instances, cond, scope, lines)?;
     Conjuncts::of(alloc, &[framed])
 }
 
@@ -202,26 +202,26 @@ struct JoinSides {
 #[cycle(frames)]
 fn join_sides(
     alloc: Global,
-    uses: &[TableInstance],
+    instances: &[TableInstance],
     left_numbers: Vec<ColumnId>,
-    occurrence: Occurrence,
+    reference: TableReference,
     on: &Cond,
     outer: &Scope<'_>,
     lines: &mut Lines,
 ) -> Result<JoinSides, AllocError>
-    ensures numbers { IfOk result (λ s. s.numbers.items ≡ left_numbers.items ++ use_numbers uses.now occurrence) }
-    ensures on { IfOk result (λ s. s.on ≡ spec.conjuncts_of (spec.on_lines uses.now left_numbers.items occurrence on.now (scope_of outer.now) lines.old)) }
+    ensures numbers { IfOk result (λ s. s.numbers.items ≡ left_numbers.items ++ instance_numbers instances.now reference) }
+    ensures on { IfOk result (λ s. s.on ≡ spec.conjuncts_of (spec.on_lines instances.now left_numbers.items reference on.now (scope_of outer.now) lines.old)) }
     ensures classes { IfOk result (λ s. (s.left ≡ spec.last lines.old) × (s.right ≡ length lines.old)) }
-    ensures lines { OnOk result (lines.new ≡ (spec.on_lines uses.now left_numbers.items occurrence on.now (scope_of outer.now) lines.old).lines) }
+    ensures lines { OnOk result (lines.new ≡ (spec.on_lines instances.now left_numbers.items reference on.now (scope_of outer.now) lines.old).lines) }
 {
     let mut numbers = left_numbers;
-    let more = use_numbers(alloc, uses, occurrence)?;
+    let more = instance_numbers(alloc, instances, reference)?;
     numbers.extend_from_slice(more.as_slice())?;
     let left = lines.last();
-    lines.push(Expr::Get(occurrence.number))?;
+    lines.push(Expr::Get(reference.number))?;
     let right = lines.last();
     let scope = Scope::Inner(numbers.as_slice(), &*outer);
-    let on = conjuncts(alloc, uses, on, &scope, lines)?;
+    let on = conjuncts(alloc, instances, on, &scope, lines)?;
     Ok(JoinSides {
         numbers,
         on,
@@ -234,36 +234,52 @@ fn join_sides(
 #[cycle(frames)]
 fn add_from(
     alloc: Global,
-    uses: &[TableInstance],
+    instances: &[TableInstance],
     from: &From,
     outer: &Scope<'_>,
     lines: &mut Lines,
 ) -> Result<Vec<ColumnId>, AllocError>
-    ensures numbers { IfOk result (λ numbers. numbers.items ≡ (spec.from_frame uses.now from.now).numbers) }
-    ensures lines { OnOk result (lines.new ≡ (spec.from_frame uses.now from.now).lines (scope_of outer.now) lines.old) }
+    ensures numbers { IfOk result (λ numbers. numbers.items ≡ (spec.from_frame instances.now from.now).numbers) }
+    ensures lines { OnOk result (lines.new ≡ (spec.from_frame instances.now from.now).lines (scope_of outer.now) lines.old) }
 {
     match from {
-        From::Table(occurrence) => {
-            let numbers = use_numbers(alloc, uses, *occurrence)?;
-            lines.push(Expr::Get(occurrence.number))?;
+        From::Table(reference) => {
+            let numbers = instance_numbers(alloc, instances, *reference)?;
+            lines.push(Expr::Get(reference.number))?;
             Ok(numbers)
         }
-        From::Join(left, occurrence, on) => {
-            let numbers = add_from(alloc, uses, left.get(), outer, lines)?;
-            let sides = join_sides(alloc, uses, numbers, *occurrence, on.get(), outer, lines)?;
+        From::Join(left, reference, on) => {
+            let numbers = add_from(alloc, instances, left.get(), outer, lines)?;
+            let sides = join_sides(
+                alloc,
+                instances,
+                numbers,
+                *reference,
+                on.get(),
+                outer,
+                lines,
+            )?;
             lines.push(Expr::Join(sides.on, sides.left, sides.right))?;
             Ok(sides.numbers)
         }
-        From::LeftJoin(left, occurrence, on) => {
-            let numbers = add_from(alloc, uses, left.get(), outer, lines)?;
-            let sides = join_sides(alloc, uses, numbers, *occurrence, on.get(), outer, lines)?;
+        From::LeftJoin(left, reference, on) => {
+            let numbers = add_from(alloc, instances, left.get(), outer, lines)?;
+            let sides = join_sides(
+                alloc,
+                instances,
+                numbers,
+                *reference,
+                on.get(),
+                outer,
+                lines,
+            )?;
             lines.push(Expr::LeftJoin(sides.on, sides.left, sides.right))?;
             Ok(sides.numbers)
         }
         From::Comma(left, right) => {
-            let mut numbers = add_from(alloc, uses, left.get(), outer, lines)?;
+            let mut numbers = add_from(alloc, instances, left.get(), outer, lines)?;
             let left_class = lines.last();
-            let more = add_from(alloc, uses, right.get(), outer, lines)?;
+            let more = add_from(alloc, instances, right.get(), outer, lines)?;
             numbers.extend_from_slice(more.as_slice())?;
             let right_class = lines.last();
             lines.push(Expr::Join(Conjuncts::none(alloc), left_class, right_class))?;
@@ -276,18 +292,18 @@ fn add_from(
 #[cycle(frames)]
 fn add_filter(
     alloc: Global,
-    uses: &[TableInstance],
+    instances: &[TableInstance],
     filter: &Option<Boxed<Cond>>,
     scope: &Scope<'_>,
     lines: &mut Lines,
 ) -> Result<(), AllocError>
-    ensures { OnOk result (lines.new ≡ spec.where_lines (option_map (spec.cond_frame uses.now) filter.now) (scope_of scope.now) lines.old) }
+    ensures { OnOk result (lines.new ≡ spec.where_lines (option_map (spec.cond_frame instances.now) filter.now) (scope_of scope.now) lines.old) }
 {
     let Some(cond) = filter else {
         return Ok(());
     };
     let input = lines.last();
-    let conjuncts = conjuncts(alloc, uses, cond.get(), scope, lines)?;
+    let conjuncts = conjuncts(alloc, instances, cond.get(), scope, lines)?;
     lines.push(Expr::Select(conjuncts, input))
 }
 
@@ -333,17 +349,17 @@ fn add_end(
 #[cycle(frames)]
 fn add_block(
     alloc: Global,
-    uses: &[TableInstance],
+    instances: &[TableInstance],
     block: &Block,
     outer: &Scope<'_>,
     lines: &mut Lines,
 ) -> Result<ColumnId, AllocError>
-    ensures shown { IfOk result (λ number. number ≡ spec.first_shown ((spec.block_frame uses.now block.now).shown (scope_of outer.now))) }
-    ensures lines { OnOk result (lines.new ≡ (spec.block_frame uses.now block.now).lines (scope_of outer.now) lines.old) }
+    ensures shown { IfOk result (λ number. number ≡ spec.first_shown ((spec.block_frame instances.now block.now).shown (scope_of outer.now))) }
+    ensures lines { OnOk result (lines.new ≡ (spec.block_frame instances.now block.now).lines (scope_of outer.now) lines.old) }
 {
-    let numbers = add_from(alloc, uses, &block.from, outer, lines)?;
+    let numbers = add_from(alloc, instances, &block.from, outer, lines)?;
     let scope = Scope::Inner(numbers.as_slice(), &*outer);
-    add_filter(alloc, uses, &block.filter, &scope, lines)?;
+    add_filter(alloc, instances, &block.filter, &scope, lines)?;
     add_group(alloc, numbers.as_slice(), block, lines)?;
     add_end(alloc, &scope, block, lines)?;
     Ok(first_number(&scope, block.items.as_slice()))

@@ -5,7 +5,7 @@ ghost use Rattle.frame.specs.Frames as spec;
 ghost use Rattle.frame.specs.Lent.{scope_of};
 
 use crate::frames::item_number;
-use crate::scope::{Scope, use_numbers};
+use crate::scope::{Scope, instance_numbers};
 use query::{ColumnId, From, Item, Query, TableInstance};
 use std::alloc::{AllocError, Global};
 
@@ -19,24 +19,24 @@ fn append(mut left: Vec<ColumnId>, right: Vec<ColumnId>) -> Result<Vec<ColumnId>
 /// The column numbers of a FROM's rows.
 fn from_numbers(
     alloc: Global,
-    uses: &[TableInstance],
+    instances: &[TableInstance],
     from: &From,
 ) -> Result<Vec<ColumnId>, AllocError>
-    ensures { IfOk result (λ numbers. numbers.items ≡ (spec.from_frame uses.now from.now).numbers) }
+    ensures { IfOk result (λ numbers. numbers.items ≡ (spec.from_frame instances.now from.now).numbers) }
 {
     match from {
-        From::Table(occurrence) => use_numbers(alloc, uses, *occurrence),
-        From::Join(left, occurrence, _) => {
-            let numbers = from_numbers(alloc, uses, left.get())?;
-            append(numbers, use_numbers(alloc, uses, *occurrence)?)
+        From::Table(reference) => instance_numbers(alloc, instances, *reference),
+        From::Join(left, reference, _) => {
+            let numbers = from_numbers(alloc, instances, left.get())?;
+            append(numbers, instance_numbers(alloc, instances, *reference)?)
         }
-        From::LeftJoin(left, occurrence, _) => {
-            let numbers = from_numbers(alloc, uses, left.get())?;
-            append(numbers, use_numbers(alloc, uses, *occurrence)?)
+        From::LeftJoin(left, reference, _) => {
+            let numbers = from_numbers(alloc, instances, left.get())?;
+            append(numbers, instance_numbers(alloc, instances, *reference)?)
         }
         From::Comma(left, right) => {
-            let numbers = from_numbers(alloc, uses, left.get())?;
-            append(numbers, from_numbers(alloc, uses, right.get())?)
+            let numbers = from_numbers(alloc, instances, left.get())?;
+            append(numbers, from_numbers(alloc, instances, right.get())?)
         }
     }
 }

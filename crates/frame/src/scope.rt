@@ -5,7 +5,7 @@ ghost use Rattle.query.specs.Bound as bound;
 ghost use Rattle.frame.specs.Lent.{scope_of};
 
 use query::ids::id_behind;
-use query::{Column, ColumnId, Occurrence, TableInstance};
+use query::{Column, ColumnId, TableInstance, TableReference};
 use std::alloc::{AllocError, Global};
 
 /// The numbers of the innermost row's columns, and the scope around them.
@@ -26,15 +26,15 @@ pub fn number_at(numbers: &[ColumnId], place: usize) -> ColumnId
 }
 
 /// The numbers of a table instance's columns.
-pub fn use_numbers(
+pub fn instance_numbers(
     alloc: Global,
-    uses: &[TableInstance],
-    occurrence: Occurrence,
+    instances: &[TableInstance],
+    reference: TableReference,
 ) -> Result<Vec<ColumnId>, AllocError>
-    ensures { IfOk result (λ numbers. numbers.items ≡ bound.use_numbers uses.now occurrence) }
+    ensures { IfOk result (λ numbers. numbers.items ≡ bound.instance_numbers instances.now reference) }
 {
     let mut numbers = Vec::new(alloc);
-    let Some(table) = uses.get(occurrence.number as usize) else {
+    let Some(table) = instances.get(reference.number as usize) else {
         return Ok(numbers);
     };
     for place in 0..table.entry.columns.len() {

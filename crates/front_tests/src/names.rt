@@ -259,7 +259,7 @@ impl QueryReporting for Numbers {
     }
 }
 
-/// Occurrences, columns and aggregates are numbered in the order of the text.
+/// Instances, columns and aggregates are numbered in the order of the text.
 #[test]
 fn parts_are_numbered(rt: HostRuntime) {
     const CASES: &str =

@@ -35,7 +35,7 @@ filter_none p (x ∷ xs) (suc a) b le first last =
 
 -- what passes goes with b in another test
 pub missed : {X : Type 0} (p q : X → Bool) (b : Bool) (xs : List X) (low high : ℕ) → ((x : X) → p x ≡ true → q x ≡ b) → AllWithin (λ x. q x ≡ not b) xs low high → AllWithin (λ x. p x ≡ false) xs low high
-missed p q b xs low high sure all k d le lt = by (p (get_or xs k d)) b (sure (get_or xs k d)) (all k d le lt)
+missed p q b xs low high ordinary all k d le lt = by (p (get_or xs k d)) b (ordinary (get_or xs k d)) (all k d le lt)
   where
     by : (r b : Bool) → (r ≡ true → q (get_or xs k d) ≡ b) → q (get_or xs k d) ≡ not b → r ≡ false
     by true true h other = cc (h refl)

@@ -174,8 +174,8 @@ row_within r e n c off = rw off refl
 
 pub bounded_next : (own : List ℕ) (conditions : List Condition) (e : Env) (columns : List ℕ) (key : List KeyCell) (c : ℕ) (bound : Option Bound) → length key < length columns → c ≡ get_or columns (length key) c
     → IfSome bound (λ b. IsSure own conditions e (λ f. is_bounded b (f c) ≡ true)) → IsSure own conditions e (λ f. IsBounded f columns (map key_value key) bound)
-bounded_next own conditions e columns key c None low at sure f within passes = tt
-bounded_next own conditions e columns key c (Some b) low at sure f within passes =
+bounded_next own conditions e columns key c None low at ordinary f within passes = tt
+bounded_next own conditions e columns key c (Some b) low at ordinary f within passes =
     let long : length (map key_value key) ≡ length key = length-map key key_value in
     let here : length (map key_value key) < length columns = omega (arith, long, low) in
-    (here, ap (is_bounded b) (next_at f columns (map key_value key) c here (rw long at)) ∙ sure f within passes)
+    (here, ap (is_bounded b) (next_at f columns (map key_value key) c here (rw long at)) ∙ ordinary f within passes)

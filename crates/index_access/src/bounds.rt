@@ -130,7 +130,7 @@ pub fn bound_in<'c, 't>(
     env: &Env<'_, 't>,
 ) -> Option<Bound<'c, 't>>
     ensures side { IfSome result (λ bound. spec.bounds side bound.comparison ≡ true) }
-    ensures sure { IfSome result (λ bound. IsSure own.now conditions.entry.now (env_of env.now) (λ f. is_bounded bound (f column) ≡ true)) }
+    ensures ordinary { IfSome result (λ bound. IsSure own.now conditions.entry.now (env_of env.now) (λ f. is_bounded bound (f column) ≡ true)) }
 {
     for condition in conditions {
         if let Some(bound) = bound_of(condition, column, own, env) {

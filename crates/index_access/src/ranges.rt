@@ -131,7 +131,7 @@ fn next_bound<'c, 't>(
     env: &Env<'_, 't>,
 ) -> Option<Bound<'c, 't>>
     ensures side { IfSome result (λ bound. spec.bounds side bound.comparison ≡ true) }
-    ensures sure { IsSure own.now conditions.entry.now (env_of env.now) (λ f. IsBounded f columns.now (map key_value key.now) result) }
+    ensures ordinary { IsSure own.now conditions.entry.now (env_of env.now) (λ f. IsBounded f columns.now (map key_value key.now) result) }
 {
     match columns.get(key.len()) {
         Some(column) => bound_in(side, conditions, *column, own, env),

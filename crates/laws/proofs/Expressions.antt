@@ -12,7 +12,7 @@ use Rattle.algebra.specs.Columns.{ColumnSet, has, is_subset, rising}
 use Rattle.algebra.specs.Bags.{Test, Bag, lay, has_match, join, left_join, group}
 use Rattle.algebra.specs.Conditions.{holds, allows}
 use Rattle.algebra.specs.Classes.{classes}
-use Rattle.algebra.specs.Expressions.{Classes, children, conditions, means, columns_of, free_of, mentioned, is_formed, aggregate_columns, aggregation_formed, are_different, use_columns, use_row, get_rows, get_columns, with_aggregates}
+use Rattle.algebra.specs.Expressions.{Classes, children, conditions, means, columns_of, free_of, mentioned, is_formed, aggregate_columns, aggregation_formed, are_different, instance_columns, instance_row, get_rows, get_columns, with_aggregates}
 use Rattle.algebra.proofs.Puts.{among-append}
 use Rattle.algebra.proofs.Sets.{has-rising}
 use Rattle.laws.specs.Fitting.{Fits, AreFitting, ClassesFit}
@@ -26,8 +26,8 @@ use Rattle.laws.proofs.Overlays.{lay-over, in_subset, mapped, more_free}
 pub get-fits : (t : Option TableInstance) (D : Tables) (F : ColumnSet) → Fits (has (get_columns t)) F (get_rows t D)
 get-fits None D F e d on = refl
 get-fits (Some t) D F e d on =
-    mapped (λ row. use_row t row d) (λ r. lay (has (use_columns t)) r d) (λ row. use_row t row e)
-    (λ row. sym (lay-over (has (use_columns t)) (λ c. value_at (c - t.first_column) row) e d)) (D.rows t.table)
+    mapped (λ row. instance_row t row d) (λ r. lay (has (instance_columns t)) r d) (λ row. instance_row t row e)
+    (λ row. sym (lay-over (has (instance_columns t)) (λ c. value_at (c - t.first_column) row) e d)) (D.rows t.table)
 
 -- ---- expressions
 
@@ -37,7 +37,7 @@ with-columns K L F x same fits = subst (λ K. Fits K F x) (λ i c. sym (same c) 
 pub has-both : (K L : List ℕ) (c : ℕ) → has (rising (K ++ L)) c ≡ (has K c || has L c)
 has-both K L c = has-rising c (K ++ L) ∙ among-append c K L
 
-module _ (uses : List TableInstance) (own : List Aggregation) (D : Tables) (W : Classes) (fits : AreFitting W) where
+module _ (instances : List TableInstance) (own : List Aggregation) (D : Tables) (W : Classes) (fits : AreFitting W) where
   -- the columns of an expression's classes
   abbrev inner : Expr → ColumnSet
   inner x c = list_any (λ g. has (W.columns g) c) (children x)
@@ -87,8 +87,8 @@ module _ (uses : List TableInstance) (own : List Aggregation) (D : Tables) (W : 
     matched-fits t e d on =
         matched-rows left right free p (W.rows a) (W.rows b) agrees (first-fits x a (b ∷ []) are) (second-fits x a b [] are) e d on t
 
-  pub expression-fits : (x : Expr) → is_formed uses own W.columns x ≡ true → Fits (has (columns_of uses W.columns x)) (free_of W.columns W.free x) (means uses D W x)
-  expression-fits (Get o) formed = get-fits (slice_get uses o) D (free_of W.columns W.free (Get o))
+  pub expression-fits : (x : Expr) → is_formed instances own W.columns x ≡ true → Fits (has (columns_of instances W.columns x)) (free_of W.columns W.free x) (means instances D W x)
+  expression-fits (Get o) formed = get-fits (slice_get instances o) D (free_of W.columns W.free (Get o))
   expression-fits (Select C a) formed =
       select-fits (has (W.columns a)) (free_of W.columns W.free (Select C a)) (holds W.rows C) (W.rows a)
       (test-agrees (Select C a) (has (W.columns a)) (holds W.rows C) (λ c. or-false (has (W.columns a) c)) (holds-reads W fits C)) (first-fits (Select C a) a [] refl)
@@ -109,14 +109,14 @@ module _ (uses : List TableInstance) (own : List Aggregation) (D : Tables) (W : 
 -- ---- classes
 
 pub classes_are_fitting : ClassesFit
-classes_are_fitting uses own D [] formed g = λ e d on. refl
-classes_are_fitting uses own D (x ∷ E) formed g =
-    by (g == length E) (expression-fits uses own D W (classes_are_fitting uses own D E formed.2) x formed.1) (classes_are_fitting uses own D E formed.2 g)
+classes_are_fitting instances own D [] formed g = λ e d on. refl
+classes_are_fitting instances own D (x ∷ E) formed g =
+    by (g == length E) (expression-fits instances own D W (classes_are_fitting instances own D E formed.2) x formed.1) (classes_are_fitting instances own D E formed.2 g)
   where
     W : Classes
-    W = classes uses D E
+    W = classes instances D E
 
-    by : (b : Bool) → Fits (has (columns_of uses W.columns x)) (free_of W.columns W.free x) (means uses D W x) → Fits (has (W.columns g)) (W.free g) (W.rows g)
-        → Fits (has (if b then columns_of uses W.columns x else W.columns g)) (λ c. if b then free_of W.columns W.free x c else W.free g c) (λ e. if b then means uses D W x e else W.rows g e)
+    by : (b : Bool) → Fits (has (columns_of instances W.columns x)) (free_of W.columns W.free x) (means instances D W x) → Fits (has (W.columns g)) (W.free g) (W.rows g)
+        → Fits (has (if b then columns_of instances W.columns x else W.columns g)) (λ c. if b then free_of W.columns W.free x c else W.free g c) (λ e. if b then means instances D W x e else W.rows g e)
     by true new old = new
     by false new old = old

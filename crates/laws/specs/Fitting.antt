@@ -31,4 +31,4 @@ ConditionsReadMentions = (W : Classes) → AreFitting W → (c : Condition) (r s
 
 -- the classes of well-formed expressions are such
 abbrev pub ClassesFit : Type 0
-ClassesFit = (uses : List TableInstance) (own : List Aggregation) (D : Tables) (E : List Expr) → AreFormed uses own E → AreFitting (classes uses D E)
+ClassesFit = (instances : List TableInstance) (own : List Aggregation) (D : Tables) (E : List Expr) → AreFormed instances own E → AreFitting (classes instances D E)

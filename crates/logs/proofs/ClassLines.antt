@@ -135,7 +135,7 @@ line-times E c n = ap (λ k. k + once_if (founds E c && (c == n))) (adding-times
 
 -- ---- the classes of a set
 
-module _ (uses : List TableInstance) (own : List Aggregation) (E : Log) (k : Known) (replays : Replays uses own E) (is : IsKnown uses E k) (g : ℕ) (classes : List ℕ)
+module _ (instances : List TableInstance) (own : List Aggregation) (E : Log) (k : Known) (replays : Replays instances own E) (is : IsKnown instances E k) (g : ℕ) (classes : List ℕ)
     (set : (c : ℕ) → times c classes ≡ (if nat_lt c (length k.sets.sets.items) && (root_of k.sets c == root_of k.sets g) then 1 else 0)) where
   count : length k.sets.sets.items ≡ length E
   count = sym is.step.columns ∙ is.count
@@ -150,7 +150,7 @@ module _ (uses : List TableInstance) (own : List Aggregation) (E : Log) (k : Kno
       by None at = ap (λ o. sum_by (once_of o) classes) at ∙ sum-none classes ∙ sym (ap (λ o. once_if (is_of E g o)) at)
       by (Some l) at =
           ap (λ o. sum_by (once_of o) classes) at ∙ set l.class
-          ∙ ap (λ b. if b && (root_of k.sets l.class == root_of k.sets g) then 1 else 0) (lt-ltb l.class (length k.sets.sets.items) (let lt = class-below uses own E replays n l at in let same = count in omega (arith, lt, same)))
+          ∙ ap (λ b. if b && (root_of k.sets l.class == root_of k.sets g) then 1 else 0) (lt-ltb l.class (length k.sets.sets.items) (let lt = class-below instances own E replays n l at in let same = count in omega (arith, lt, same)))
           ∙ ap (λ r. if r == root_of k.sets g then 1 else 0) (roots-are l.class) ∙ ap (λ r. if least E l.class == r then 1 else 0) (roots-are g)
           ∙ sym (ap (λ o. once_if (is_of E g o)) at)
 

@@ -15,9 +15,9 @@ use Rattle.derivation.proofs.Lookups.{founded, member-within}
 use Rattle.derivation.proofs.Standing.{founds-stands, adds-stands, unites-stands, alike-stands, gives-stands}
 use Rattle.logs.specs.Knowledge.{IsClosed}
 
-module _ (uses : List TableInstance) (own : List Aggregation) where
+module _ (instances : List TableInstance) (own : List Aggregation) where
   -- an expression that names no class
-  no-free : (x : Expr) (c : ℕ) → classes_pass (founds []) x ≡ true → free_of (class_columns uses []) (class_free uses []) x c ≡ false
+  no-free : (x : Expr) (c : ℕ) → classes_pass (founds []) x ≡ true → free_of (class_columns instances []) (class_free instances []) x c ≡ false
   no-free (Get o) c pass = refl
   no-free (Select C a) c pass = cc
   no-free (Join C a b) c pass = cc
@@ -29,17 +29,17 @@ module _ (uses : List TableInstance) (own : List Aggregation) where
   no-free (Group K G a) c pass = cc
 
   -- behind a line
-  later : (l k : Line) (E : Log) (c : ℕ) → class_free uses (entries (l ∷ k ∷ E)) 0 c ≡ class_free uses (entries (k ∷ E)) 0 c
+  later : (l k : Line) (E : Log) (c : ℕ) → class_free instances (entries (l ∷ k ∷ E)) 0 c ≡ class_free instances (entries (k ∷ E)) 0 c
   later l k E c = rw (ne_eqb 0 (length (entries (k ∷ E))) (λ e. omega (arith, e))) refl
 
-  pub closed : (E : Log) → Replays uses own E → IsClosed uses E
+  pub closed : (E : Log) → Replays instances own E → IsClosed instances E
   closed [] replays c = refl
   closed (l ∷ k ∷ E) replays c = later l k E c ∙ closed (k ∷ E) replays.1 c
-  closed (Founds x ∷ []) replays c = no-free x c (founds-stands uses own [] x (Founds x) replays.0).known
-  closed (Adds g s x ∷ []) replays c = let no : g < 0 = founded [] g (adds-stands uses own [] g s x (Adds g s x) replays.0).class in absurd (omega (arith, no))
-  closed (Unites g h s ∷ []) replays c = let no : g < 0 = founded [] g (unites-stands uses own [] g h s (Unites g h s) replays.0).first in absurd (omega (arith, no))
+  closed (Founds x ∷ []) replays c = no-free x c (founds-stands instances own [] x (Founds x) replays.0).known
+  closed (Adds g s x ∷ []) replays c = let no : g < 0 = founded [] g (adds-stands instances own [] g s x (Adds g s x) replays.0).class in absurd (omega (arith, no))
+  closed (Unites g h s ∷ []) replays c = let no : g < 0 = founded [] g (unites-stands instances own [] g h s (Unites g h s) replays.0).first in absurd (omega (arith, no))
   closed (Alike i j ∷ []) replays c =
-      let is = alike-stands uses own [] i j (Alike i j) replays.0 in
+      let is = alike-stands instances own [] i j (Alike i j) replays.0 in
       let no : i < 0 = member-within [] i is.first is.first_at in
       absurd (omega (arith, no))
-  closed (Gives g m f ∷ []) replays c = let no : g < 0 = founded [] g (gives-stands uses own [] g m f (Gives g m f) replays.0).class in absurd (omega (arith, no))
+  closed (Gives g m f ∷ []) replays c = let no : g < 0 = founded [] g (gives-stands instances own [] g m f (Gives g m f) replays.0).class in absurd (omega (arith, no))

@@ -15,19 +15,19 @@ use Rattle.derivation.proofs.Lookups.{below, founded, member-within}
 use Rattle.derivation.proofs.Standing.{founds-stands, adds-stands, unites-stands, alike-stands, gives-stands}
 use Rattle.logs.specs.Knowledge.{NamesEarlier}
 
-module _ (uses : List TableInstance) (own : List Aggregation) where
+module _ (instances : List TableInstance) (own : List Aggregation) where
   -- the class of a line's own expression
-  last-class : (E : Log) (k : Line) → stands uses own E k ≡ Ok k → (i : ℕ) (l : matches.Line) → i ≡ length E → as_member i (Some k) ≡ Some l → l.class < suc (length E)
+  last-class : (E : Log) (k : Line) → stands instances own E k ≡ Ok k → (i : ℕ) (l : matches.Line) → i ≡ length E → as_member i (Some k) ≡ Some l → l.class < suc (length E)
   last-class E (Founds x) stands i l is at = let e : i ≡ l.class = cc in omega (arith, e, is)
   last-class E (Adds g s x) stands i l is at =
       let e : g ≡ l.class = cc in
-      let lt = founded E g (adds-stands uses own E g s x (Adds g s x) stands).class in
+      let lt = founded E g (adds-stands instances own E g s x (Adds g s x) stands).class in
       omega (arith, e, lt)
   last-class E (Unites g h s) stands i l is at = cc
   last-class E (Alike a b) stands i l is at = cc
   last-class E (Gives g m f) stands i l is at = cc
 
-  pub class-below : (E : Log) → Replays uses own E → (i : ℕ) (l : matches.Line) → member E i ≡ Some l → l.class < length E
+  pub class-below : (E : Log) → Replays instances own E → (i : ℕ) (l : matches.Line) → member E i ≡ Some l → l.class < length E
   class-below [] replays i l is = cc
   class-below (k ∷ E) replays i l is = by (i == length E) refl (class-below E replays.1 i l) is
     where
@@ -35,19 +35,19 @@ module _ (uses : List TableInstance) (own : List Aggregation) where
       by true here earlier at = last-class E k replays.0 i l (eqb-true i (length E) here) at
       by false here earlier at = let lt = earlier at in omega (arith, lt)
 
-  pub names-earlier : (E : Log) → Replays uses own E → (l : Line) → stands uses own E l ≡ Ok l → NamesEarlier E l
-  names-earlier E replays (Founds x) is = below E x (founds-stands uses own E x (Founds x) is).known
-  names-earlier E replays (Adds g s x) is = founded E g (adds-stands uses own E g s x (Adds g s x) is).class
+  pub names-earlier : (E : Log) → Replays instances own E → (l : Line) → stands instances own E l ≡ Ok l → NamesEarlier E l
+  names-earlier E replays (Founds x) is = below E x (founds-stands instances own E x (Founds x) is).known
+  names-earlier E replays (Adds g s x) is = founded E g (adds-stands instances own E g s x (Adds g s x) is).class
   names-earlier E replays (Unites g h s) is =
-      let it = unites-stands uses own E g h s (Unites g h s) is in
+      let it = unites-stands instances own E g h s (Unites g h s) is in
       (founded E g it.first, founded E h it.second)
   names-earlier E replays (Alike i j) is =
-      let it = alike-stands uses own E i j (Alike i j) is in (
+      let it = alike-stands instances own E i j (Alike i j) is in (
         member-within E i it.first it.first_at,
         subst (λ c. c < length E) (sym (ap (or_class i) it.first_at)) (class-below E replays i it.first it.first_at),
         subst (λ c. c < length E) (sym (ap (or_class j) it.second_at)) (class-below E replays j it.second it.second_at),
       )
-  names-earlier E replays (Gives g m f) is = founded E g (gives-stands uses own E g m f (Gives g m f) is).class
+  names-earlier E replays (Gives g m f) is = founded E g (gives-stands instances own E g m f (Gives g m f) is).class
 
 -- those that an expression names
 pub named_below : (lines : List Line) (count : ℕ) (x : Expr) → count ≡ length lines → classes_pass (founds (reverse lines)) x ≡ true → classes_pass (λ g. nat_lt g count) x ≡ true

@@ -25,12 +25,12 @@ one-knowledge : {c d : ℕ → List ℕ} {f h : ℕ → ColumnSet} {r q : ℕ �
     → (let first : Knowledge = record { columns = c; free = f; root = r; facts = F } in first) ≡ (let second : Knowledge = record { columns = d; free = h; root = q; facts = G } in second)
 one-knowledge a b e i = rw (a, b, e, i) refl
 
-module _ (uses : List TableInstance) (E : Log) (k l : Known) (line : Line) (is : IsKnown uses E k) where
+module _ (instances : List TableInstance) (E : Log) (k l : Known) (line : Line) (is : IsKnown instances E k) where
   abbrev cols : ℕ → List ℕ
-  cols = class_columns uses (entries E)
+  cols = class_columns instances (entries E)
 
   abbrev free : ℕ → ColumnSet
-  free = class_free uses (entries E)
+  free = class_free instances (entries E)
 
   count : length k.columns.items ≡ length (entries E)
   count = is.count ∙ sym (length-map E entry)
@@ -47,14 +47,14 @@ module _ (uses : List TableInstance) (E : Log) (k l : Known) (line : Line) (is :
   facts-are : (g : ℕ) → facts_of k.sets g ≡ facts E g
   facts-are g = ap (λ K. K.facts g) is.known
 
-  module _ (K : List ℕ) (F : ColumnSet) (also : HasClass k K F l) (own-columns : K ≡ columns_of uses cols (entry line)) (own-free : (c : ℕ) → F c ≡ free_of cols free (entry line) c) where
-    columns-more : (g : ℕ) → columns_at l.columns.items g ≡ class_columns uses (entries (line ∷ E)) g
+  module _ (K : List ℕ) (F : ColumnSet) (also : HasClass k K F l) (own-columns : K ≡ columns_of instances cols (entry line)) (own-free : (c : ℕ) → F c ≡ free_of cols free (entry line) c) where
+    columns-more : (g : ℕ) → columns_at l.columns.items g ≡ class_columns instances (entries (line ∷ E)) g
     columns-more g =
         also.columns_ g ∙ ap (λ n. if g == n then K else columns_at k.columns.items g) count
         ∙ ap (λ x. if g == length (entries E) then x else columns_at k.columns.items g) own-columns
-        ∙ ap (λ f. if g == length (entries E) then columns_of uses cols (entry line) else f g) columns-are
+        ∙ ap (λ f. if g == length (entries E) then columns_of instances cols (entry line) else f g) columns-are
 
-    free-more : (g c : ℕ) → has (columns_at l.free.items g) c ≡ class_free uses (entries (line ∷ E)) g c
+    free-more : (g c : ℕ) → has (columns_at l.free.items g) c ≡ class_free instances (entries (line ∷ E)) g c
     free-more g c =
         also.free_ g c ∙ ap (λ n. if g == n then F c else has (columns_at k.free.items g) c) count
         ∙ ap (λ x. if g == length (entries E) then x else has (columns_at k.free.items g) c) (own-free c)
@@ -63,18 +63,18 @@ module _ (uses : List TableInstance) (E : Log) (k l : Known) (line : Line) (is :
     more-count : length l.columns.items ≡ length (line ∷ E)
     more-count = also.count ∙ ap (λ n. n + 1) is.count ∙ omega arith
 
-    noted : AreInStep l → ((g : ℕ) → root_of l.sets g ≡ least (line ∷ E) g) → ((g : ℕ) → facts_of l.sets g ≡ facts (line ∷ E) g) → IsKnown uses (line ∷ E) l
+    noted : AreInStep l → ((g : ℕ) → root_of l.sets g ≡ least (line ∷ E) g) → ((g : ℕ) → facts_of l.sets g ≡ facts (line ∷ E) g) → IsKnown instances (line ∷ E) l
     noted step roots facts_ = record { step = step; count = more-count; known = one-knowledge (λ i g. columns-more g i) (λ i g c. free-more g c i) (λ i g. roots g i) (λ i g. facts_ g i) }
 
     -- where no sets become one
     pub noted-plain : AreInStep l → ((g : ℕ) → root_of l.sets g ≡ root_of k.sets g) → ((g : ℕ) → facts_of l.sets g ≡ facts_of k.sets g)
-        → ((g : ℕ) → least E g ≡ least (line ∷ E) g) → ((g : ℕ) → facts E g ≡ facts (line ∷ E) g) → IsKnown uses (line ∷ E) l
+        → ((g : ℕ) → least E g ≡ least (line ∷ E) g) → ((g : ℕ) → facts E g ≡ facts (line ∷ E) g) → IsKnown instances (line ∷ E) l
     noted-plain step roots facts_ leasts more = noted step (λ g. roots g ∙ roots-are g ∙ leasts g) (λ g. facts_ g ∙ facts-are g ∙ more g)
 
     -- where a fact is learnt
     pub noted-learnt : (h : ℕ) (f : Fact) → AreInStep l → ((g : ℕ) → root_of l.sets g ≡ root_of k.sets g)
         → ((g : ℕ) → facts_of l.sets g ≡ (if root_of k.sets g == root_of k.sets h then with_fact (facts_of k.sets g) f else facts_of k.sets g))
-        → ((g : ℕ) → least (line ∷ E) g ≡ least E g) → ((g : ℕ) → facts (line ∷ E) g ≡ (if least E g == least E h then with_fact (facts E g) f else facts E g)) → IsKnown uses (line ∷ E) l
+        → ((g : ℕ) → least (line ∷ E) g ≡ least E g) → ((g : ℕ) → facts (line ∷ E) g ≡ (if least E g == least E h then with_fact (facts E g) f else facts E g)) → IsKnown instances (line ∷ E) l
     noted-learnt h f step roots learnt leasts facts_ = noted step (λ g. roots g ∙ roots-are g ∙ sym (leasts g)) (λ g.
         learnt g
         ∙ ap (λ n. if n == root_of k.sets h then with_fact (facts_of k.sets g) f else facts_of k.sets g) (roots-are g)
@@ -112,39 +112,39 @@ module _ (uses : List TableInstance) (E : Log) (k l : Known) (line : Line) (is :
           by true in-one = differ (least E a == least E b) refl in-one ∙ sym (among-alike _ _ (λ h. united-test (least E a) (least E b) (least E g) (least E h) true _ in-one refl) E)
           by false in-none = one.others g (test-is g ∙ in-none) ∙ facts-are g ∙ sym (among-alike _ _ (λ h. united-test (least E a) (least E b) (least E g) (least E h) false _ in-none refl) E)
 
-      pub noted-united : AreInStep l → ((g : ℕ) → united (least E a) (least E b) (least E g) ≡ least (line ∷ E) g) → ((same : ℕ → Bool) → facts_among same (line ∷ E) ≡ facts_among same E) → IsKnown uses (line ∷ E) l
+      pub noted-united : AreInStep l → ((g : ℕ) → united (least E a) (least E b) (least E g) ≡ least (line ∷ E) g) → ((same : ℕ → Bool) → facts_among same (line ∷ E) ≡ facts_among same E) → IsKnown instances (line ∷ E) l
       noted-united step roots facts_ = noted step (λ g. united-roots g ∙ roots g) (λ g.
           united-facts g ∙ among-alike _ _ (λ h. ap (λ n. n == united (least E a) (least E b) (least E h)) (roots g) ∙ ap (λ n. least (line ∷ E) g == n) (roots h)) E ∙ sym (facts_ (are_same (line ∷ E) g)))
 
   -- ---- what a line founds, or passes on
 
-  pub founds-columns : (x : Expr) → expr_columns uses k x ≡ columns_of uses cols x
-  founds-columns x = ap (λ f. columns_of uses f x) columns-are
+  pub founds-columns : (x : Expr) → expr_columns instances k x ≡ columns_of instances cols x
+  founds-columns x = ap (λ f. columns_of instances f x) columns-are
 
   pub founds-free : (x : Expr) (c : ℕ) → expr_free k x c ≡ free_of cols free x c
   founds-free x c = ap (λ f. free_of f (λ g. has (columns_at k.free.items g)) x c) columns-are ∙ ap (λ f. free_of cols f x c) free-are
 
   -- a line that founds no class has no free columns
-  pub idle-free : IsClosed uses E → (c : ℕ) → false ≡ free_of cols free (Keep [] 0) c
+  pub idle-free : IsClosed instances E → (c : ℕ) → false ≡ free_of cols free (Keep [] 0) c
   idle-free closed c = sym (ap (λ b. (b || false) || false) (closed c))
 
 -- what is known of lists that are the same
-pub known-alike : (uses : List TableInstance) (E : Log) (k l : Known) → IsKnown uses E k → AreInStep l → l.columns.items ≡ k.columns.items → l.free.items ≡ k.free.items
-    → ((g : ℕ) → root_of l.sets g ≡ root_of k.sets g) → ((g : ℕ) → facts_of l.sets g ≡ facts_of k.sets g) → IsKnown uses E l
-known-alike uses E k l is step columns free roots facts_ = record {
+pub known-alike : (instances : List TableInstance) (E : Log) (k l : Known) → IsKnown instances E k → AreInStep l → l.columns.items ≡ k.columns.items → l.free.items ≡ k.free.items
+    → ((g : ℕ) → root_of l.sets g ≡ root_of k.sets g) → ((g : ℕ) → facts_of l.sets g ≡ facts_of k.sets g) → IsKnown instances E l
+known-alike instances E k l is step columns free roots facts_ = record {
   step = step;
   count = ap length columns ∙ is.count;
   known = one-knowledge (λ i g. columns_at (columns i) g) (λ i g. has (columns_at (free i) g)) (λ i g. roots g i) (λ i g. facts_ g i) ∙ is.known;
 }
 
-pub known-of-alike : (uses : List TableInstance) (E : Log) (k l : Known) → IsKnown uses E k → IsAlike k l → IsKnown uses E l
-known-of-alike uses E k l is alike =
+pub known-of-alike : (instances : List TableInstance) (E : Log) (k l : Known) → IsKnown instances E k → IsAlike k l → IsKnown instances E l
+known-of-alike instances E k l is alike =
     let step : AreInStep l = record {
       sets = alike-sets k.sets l.sets alike.sets is.step.sets;
       columns = ap length alike.columns ∙ is.step.columns ∙ sym (ap length alike.sets.sets);
       free = let own = ap length alike.free in let others = ap length alike.sets.sets in let before = is.step.free in omega (arith, own, others, before);
     } in
-    known-alike uses E k l is step alike.columns alike.free (alike-roots k.sets l.sets alike.sets) (alike-facts k.sets l.sets alike.sets)
+    known-alike instances E k l is step alike.columns alike.free (alike-roots k.sets l.sets alike.sets) (alike-facts k.sets l.sets alike.sets)
 
 pub on-any-err : {A X : Type 0} (r : Result A AllocError) → X → OnErr r X
 on-any-err (Ok a) x = tt

@@ -48,7 +48,7 @@ pub record HasRoom (k : Known) : Type 0 where
 
 -- the columns of an expression over the classes, and its free columns
 abbrev pub expr_columns : List TableInstance → Known → Expr → List ℕ
-expr_columns uses k x = columns_of uses (columns_at k.columns.items) x
+expr_columns instances k x = columns_of instances (columns_at k.columns.items) x
 
 abbrev pub expr_free : Known → Expr → ColumnSet
 expr_free k x = free_of (columns_at k.columns.items) (λ g. has (columns_at k.free.items g)) x
@@ -63,10 +63,10 @@ NamesEarlier E (Gives g m f) = g < length E
 
 -- the first class has no free columns
 abbrev pub IsClosed : List TableInstance → Log → Type 0
-IsClosed uses E = (c : ℕ) → class_free uses (entries E) 0 c ≡ false
+IsClosed instances E = (c : ℕ) → class_free instances (entries E) 0 c ≡ false
 
 -- what is known by the lines of a log
-pub record IsKnown (uses : List TableInstance) (E : Log) (k : Known) : Type 0 where
+pub record IsKnown (instances : List TableInstance) (E : Log) (k : Known) : Type 0 where
   pub step : AreInStep k
   pub count : length k.columns.items ≡ length E
-  pub known : known_by k ≡ knowledge uses E
+  pub known : known_by k ≡ knowledge instances E

@@ -7,9 +7,9 @@ use Rattle.derivation.specs.Logs.{Log}
 
 -- the table instances and the aggregates of a query, and lines over them, the last of them first
 pub record Logged : Type 0 where
-  pub uses : List TableInstance
+  pub instances : List TableInstance
   pub own : List Aggregation
   pub log : Log
 
 abbrev pub with_line : Logged → Line → Logged
-with_line l line = record { uses = l.uses; own = l.own; log = line ∷ l.log }
+with_line l line = record { instances = l.instances; own = l.own; log = line ∷ l.log }

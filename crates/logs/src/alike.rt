@@ -104,9 +104,9 @@ fn rooted(alloc: Global, expr: &Expr, classes: KnownClasses<'_>) -> Result<Expr,
             classes.root(*a),
             classes.root(*b),
         )),
-        Expr::Anti(sure, maybe, a, b) => Ok(Expr::Anti(
-            rooted_conjuncts(alloc, sure, classes)?,
-            rooted_conjuncts(alloc, maybe, classes)?,
+        Expr::Anti(ordinary, null_aware, a, b) => Ok(Expr::Anti(
+            rooted_conjuncts(alloc, ordinary, classes)?,
+            rooted_conjuncts(alloc, null_aware, classes)?,
             classes.root(*a),
             classes.root(*b),
         )),

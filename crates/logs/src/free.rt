@@ -17,9 +17,9 @@ fn mentioned(alloc: Global, expr: &Expr, classes: ClassColumns<'_>) -> Result<Co
     match expr {
         Expr::Select(c, _) | Expr::Join(c, _, _) | Expr::LeftJoin(c, _, _) | Expr::Semi(c, _, _) =>
             { c.mentioned(alloc, classes) }
-        Expr::Anti(sure, maybe, _, _) => sure
+        Expr::Anti(ordinary, null_aware, _, _) => ordinary
             .mentioned(alloc, classes)?
-            .union(alloc, &maybe.mentioned(alloc, classes)?),
+            .union(alloc, &null_aware.mentioned(alloc, classes)?),
         Expr::Get(_) | Expr::Keep(_, _) | Expr::Distinct(_) | Expr::Group(_, _, _) => Ok(
             Columns::from_vec(Vec::new(alloc)),
         ),

@@ -31,7 +31,7 @@ pub type LineFault = Fault<LineReason>;
 /// What a line is judged by: the query's table instances and aggregates, the lines before it, and what is known by them.
 #[derive(Clone, Copy)]
 pub struct Behind<'a> {
-    pub uses: &'a [TableInstance],
+    pub instances: &'a [TableInstance],
     pub own: &'a [Aggregation],
     pub lines: &'a [Line],
     pub classes: KnownClasses<'a>,
@@ -90,20 +90,20 @@ impl<'a> Behind<'a> {
     /// Whether an expression has the columns of a class.
     fn has_columns(self, alloc: Global, expr: &Expr, class: ClassId) -> Result<bool, AllocError>
         requires { classes_pass (λ g. nat_lt g (length self.classes.columns.columns.now)) expr.now ≡ true }
-        ensures { IfOk result (λ same. same ≡ same_columns (columns_of self.entry.uses.now (given_columns self.entry.classes.columns) expr.now) (given_columns self.entry.classes.columns class)) }
+        ensures { IfOk result (λ same. same ≡ same_columns (columns_of self.entry.instances.now (given_columns self.entry.classes.columns) expr.now) (given_columns self.entry.classes.columns class)) }
     {
-        let own = expr.columns(alloc, self.uses, self.classes.columns.columns)?;
+        let own = expr.columns(alloc, self.instances, self.classes.columns.columns)?;
         Ok(own.as_slice() == self.classes.columns.columns_of(class))
     }
 
     fn founds(self, alloc: Global, expr: &Expr) -> Result<(), LineFault>
         requires { IsBehind self }
-        ensures { Gives (λ _. says.Founds expr.now) result (spec.judged self.entry.uses.now self.entry.own.now (known self.entry.classes) (the_log self.entry) (says.Founds expr.now)) }
+        ensures { Gives (λ _. says.Founds expr.now) result (spec.judged self.entry.instances.now self.entry.own.now (known self.entry.classes) (the_log self.entry) (says.Founds expr.now)) }
     {
         if !is_known(alloc, self.lines, expr)? {
             return Err(refused(LineReason::UnknownLine));
         }
-        if !expr.is_formed(self.uses, self.own, self.classes.columns.columns) {
+        if !expr.is_formed(self.instances, self.own, self.classes.columns.columns) {
             return Err(refused(LineReason::IllFormed));
         }
         Ok(())
@@ -111,7 +111,7 @@ impl<'a> Behind<'a> {
 
     fn adds(self, alloc: Global, class: ClassId, step: &Step, expr: &Expr) -> Result<(), LineFault>
         requires { IsBehind self }
-        ensures { Gives (λ _. says.Adds class step.now expr.now) result (spec.judged self.entry.uses.now self.entry.own.now (known self.entry.classes) (the_log self.entry) (says.Adds class step.now expr.now)) }
+        ensures { Gives (λ _. says.Adds class step.now expr.now) result (spec.judged self.entry.instances.now self.entry.own.now (known self.entry.classes) (the_log self.entry) (says.Adds class step.now expr.now)) }
     {
         if !founds(self.lines, class)
             || !cites(self.lines, step)
@@ -119,7 +119,7 @@ impl<'a> Behind<'a> {
         {
             return Err(refused(LineReason::UnknownLine));
         }
-        if !expr.is_formed(self.uses, self.own, self.classes.columns.columns)
+        if !expr.is_formed(self.instances, self.own, self.classes.columns.columns)
             || !self.has_columns(alloc, expr, class)?
         {
             return Err(refused(LineReason::IllFormed));
@@ -139,7 +139,7 @@ impl<'a> Behind<'a> {
         step: &Step,
     ) -> Result<(), LineFault>
         requires { IsBehind self }
-        ensures { Gives (λ _. says.Unites first second step.now) result (spec.judged self.entry.uses.now self.entry.own.now (known self.entry.classes) (the_log self.entry) (says.Unites first second step.now)) }
+        ensures { Gives (λ _. says.Unites first second step.now) result (spec.judged self.entry.instances.now self.entry.own.now (known self.entry.classes) (the_log self.entry) (says.Unites first second step.now)) }
     {
         if !founds(self.lines, first) || !founds(self.lines, second) || !cites(self.lines, step) {
             return Err(refused(LineReason::UnknownLine));
@@ -169,7 +169,7 @@ impl<'a> Behind<'a> {
 
     fn alike(self, alloc: Global, first: LineId, second: LineId) -> Result<(), LineFault>
         requires { IsBehind self }
-        ensures { Gives (λ _. says.Alike first second) result (spec.judged self.entry.uses.now self.entry.own.now (known self.entry.classes) (the_log self.entry) (says.Alike first second)) }
+        ensures { Gives (λ _. says.Alike first second) result (spec.judged self.entry.instances.now self.entry.own.now (known self.entry.classes) (the_log self.entry) (says.Alike first second)) }
     {
         if !is_earlier(self.lines, first) || !is_earlier(self.lines, second) {
             return Err(refused(LineReason::UnknownLine));
@@ -184,7 +184,7 @@ impl<'a> Behind<'a> {
 
     fn gives(self, class: ClassId, line: LineId, fact: &Fact) -> Result<(), LineFault>
         requires { IsBehind self }
-        ensures { Gives (λ _. says.Gives class line fact.now) result (spec.judged self.entry.uses.now self.entry.own.now (known self.entry.classes) (the_log self.entry) (says.Gives class line fact.now)) }
+        ensures { Gives (λ _. says.Gives class line fact.now) result (spec.judged self.entry.instances.now self.entry.own.now (known self.entry.classes) (the_log self.entry) (says.Gives class line fact.now)) }
     {
         if !founds(self.lines, class) || !is_earlier(self.lines, line) {
             return Err(refused(LineReason::UnknownLine));
@@ -198,7 +198,7 @@ impl<'a> Behind<'a> {
         if !self.classes.are_same(found.class, class) {
             return Err(refused(LineReason::OtherForm));
         }
-        if !gives(self.uses, self.classes, class, found.expr, fact) {
+        if !gives(self.instances, self.classes, class, found.expr, fact) {
             return Err(refused(LineReason::FailedFact));
         }
         Ok(())
@@ -219,7 +219,7 @@ impl<'a> Behind<'a> {
     /// Judges whether a line may stand behind the others, by what is known of them.
     pub fn judge(self, alloc: Global, line: &Line) -> Result<(), LineFault>
         requires { IsBehind self }
-        ensures { Gives (λ _. line.now) result (spec.judged self.entry.uses.now self.entry.own.now (known self.entry.classes) (the_log self.entry) line.now) }
+        ensures { Gives (λ _. line.now) result (spec.judged self.entry.instances.now self.entry.own.now (known self.entry.classes) (the_log self.entry) line.now) }
     {
         match line {
             Line::Founds(expr) => self.founds(alloc, expr),

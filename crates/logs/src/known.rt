@@ -70,7 +70,7 @@ fn put_free(
 impl Known {
     /// What is known without lines.
     pub fn new(alloc: Global) -> Known
-        ensures { (uses : List instance.TableInstance) → spec.IsKnown uses [] result }
+        ensures { (instances : List instance.TableInstance) → spec.IsKnown instances [] result }
     {
         Known {
             columns: Vec::new(alloc),
@@ -139,7 +139,7 @@ impl Known {
     fn found(
         &mut self,
         alloc: Global,
-        uses: &[TableInstance],
+        instances: &[TableInstance],
         expr: &Expr,
         class: ClassId,
     ) -> Result<(), AllocError>
@@ -148,12 +148,12 @@ impl Known {
         requires class { class ≡ length self.old.columns.items }
         requires named { classes_pass (λ g. nat_lt g (length self.old.columns.items)) expr.now ≡ true }
         ensures step { spec.AreInStep self.new }
-        ensures class { OnOk result (spec.HasClass self.old (spec.expr_columns uses.now self.old expr.now) (spec.expr_free self.old expr.now) self.new) }
+        ensures class { OnOk result (spec.HasClass self.old (spec.expr_columns instances.now self.old expr.now) (spec.expr_free self.old expr.now) self.new) }
         ensures roots { (g : ℕ) → root_of self.new.sets g ≡ root_of self.old.sets g }
         ensures facts { (g : ℕ) → facts_of self.new.sets g ≡ facts_of self.old.sets g }
         ensures refused { OnErr result (spec.IsAlike self.old self.new) }
     {
-        let columns = expr.columns(alloc, uses, self.columns.as_slice())?;
+        let columns = expr.columns(alloc, instances, self.columns.as_slice())?;
         let free = free_columns(alloc, expr, self.classes().columns)?;
         put_free(alloc, &mut self.free, class, free)?;
         self.put(columns, class);
@@ -212,21 +212,21 @@ impl Known {
     fn add(
         &mut self,
         alloc: Global,
-        uses: &[TableInstance],
+        instances: &[TableInstance],
         lines: &[Line],
         line: &Line,
         class: ClassId,
     ) -> Result<(), AllocError>
-        requires known { spec.IsKnown uses.now (reverse lines.now) self.old }
-        requires closed { spec.IsClosed uses.now (reverse lines.now) }
+        requires known { spec.IsKnown instances.now (reverse lines.now) self.old }
+        requires closed { spec.IsClosed instances.now (reverse lines.now) }
         requires names { spec.NamesEarlier (reverse lines.now) line.now }
         requires room { spec.HasRoom self.old }
         requires class { class ≡ length lines.now }
-        ensures known { OnOk result (spec.IsKnown uses.now (line.now ∷ reverse lines.now) self.new) }
-        ensures refused { OnErr result (spec.IsKnown uses.now (reverse lines.now) self.new) }
+        ensures known { OnOk result (spec.IsKnown instances.now (line.now ∷ reverse lines.now) self.new) }
+        ensures refused { OnErr result (spec.IsKnown instances.now (reverse lines.now) self.new) }
     {
         match line {
-            Line::Founds(expr) => self.found(alloc, uses, expr, class),
+            Line::Founds(expr) => self.found(alloc, instances, expr, class),
             Line::Adds(_, _, _) => {
                 self.put_idle(alloc, class);
                 Ok(())
@@ -245,18 +245,18 @@ impl Known {
     pub fn note(
         &mut self,
         alloc: Global,
-        uses: &[TableInstance],
+        instances: &[TableInstance],
         lines: &[Line],
         line: &Line,
     ) -> Result<(), AllocError>
-        requires known { spec.IsKnown uses.now (reverse lines.now) self.old }
-        requires closed { spec.IsClosed uses.now (reverse lines.now) }
+        requires known { spec.IsKnown instances.now (reverse lines.now) self.old }
+        requires closed { spec.IsClosed instances.now (reverse lines.now) }
         requires names { spec.NamesEarlier (reverse lines.now) line.now }
-        ensures known { OnOk result (spec.IsKnown uses.now (line.now ∷ reverse lines.now) self.new) }
-        ensures refused { OnErr result (spec.IsKnown uses.now (reverse lines.now) self.new) }
+        ensures known { OnOk result (spec.IsKnown instances.now (line.now ∷ reverse lines.now) self.new) }
+        ensures refused { OnErr result (spec.IsKnown instances.now (reverse lines.now) self.new) }
     {
         let class = id_behind(0, lines.len())?;
         self.make_room()?;
-        self.add(alloc, uses, lines, line, class)
+        self.add(alloc, instances, lines, line, class)
     }
 }

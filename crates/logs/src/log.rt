@@ -33,7 +33,7 @@ use std::marker::Model;
 /// Lines over a query's table instances and aggregates, each of which may stand where it does.
 #[derive(Drop)]
 pub struct Log<'q> {
-    uses: &'q [TableInstance],
+    instances: &'q [TableInstance],
     own: &'q [Aggregation],
     lines: Vec<Line>,
     known: Known,
@@ -56,11 +56,11 @@ impl<'q> Model for Log<'q> {
 
     ghost Value = { Logged };
 
-    ghost coded = { code_by (List TableInstance × List Aggregation × Lines) (Prim.hlevel (codes, l.the_row.coded)) (λ l. (l.uses, l.own, l.log)) (λ t. record { uses = t.0; own = t.1; log = t.2 }) (λ _. refl) };
+    ghost coded = { code_by (List TableInstance × List Aggregation × Lines) (Prim.hlevel (codes, l.the_row.coded)) (λ l. (l.instances, l.own, l.log)) (λ t. record { instances = t.0; own = t.1; log = t.2 }) (λ _. refl) };
 
-    ghost view = { λ l. record { uses = l.uses.now; own = l.own.now; log = reverse l.lines.items } };
+    ghost view = { λ l. record { instances = l.instances.now; own = l.own.now; log = reverse l.lines.items } };
 
-    ghost invariant = { λ l. Replays l.uses.now l.own.now (reverse l.lines.items) × IsKnown l.uses.now (reverse l.lines.items) l.known × AreAdditions (reverse l.lines.items) l.additions };
+    ghost invariant = { λ l. Replays l.instances.now l.own.now (reverse l.lines.items) × IsKnown l.instances.now (reverse l.lines.items) l.known × AreAdditions (reverse l.lines.items) l.additions };
 }
 
 /// Makes room for a line that may stand by its verdict, and notes what it says. Where there is no memory, nothing is changed.
@@ -68,21 +68,21 @@ impl<'q> Model for Log<'q> {
 fn note(
     alloc: Global,
     verdict: Result<(), LineFault>,
-    uses: &[TableInstance],
+    instances: &[TableInstance],
     lines: &mut Vec<Line>,
     known: &mut Known,
     additions: &mut Additions,
     line: &Line,
 ) -> Result<(), LineFault>
-    requires closed { IsClosed uses.now (reverse lines.old.items) }
+    requires closed { IsClosed instances.now (reverse lines.old.items) }
     requires names { OnOk verdict (NamesEarlier (reverse lines.old.items) line.now) }
-    requires known { IsKnown uses.now (reverse lines.old.items) known.old }
+    requires known { IsKnown instances.now (reverse lines.old.items) known.old }
     requires additions { AreAdditions (reverse lines.old.items) additions.old }
     ensures verdict { (v : Result Line LineReason) → Gives (λ _. line.now) verdict v → Gives (λ _. line.now) result v }
     ensures lines { lines.new.items ≡ lines.old.items }
     ensures room { OnOk result (vec_len lines.new < vec_capacity lines.new) }
-    ensures known { OnOk result (IsKnown uses.now (line.now ∷ reverse lines.old.items) known.new) }
-    ensures refused { OnErr result (IsKnown uses.now (reverse lines.old.items) known.new) }
+    ensures known { OnOk result (IsKnown instances.now (line.now ∷ reverse lines.old.items) known.new) }
+    ensures refused { OnErr result (IsKnown instances.now (reverse lines.old.items) known.new) }
     ensures added { OnOk result (AreAdditions (line.now ∷ reverse lines.old.items) additions.new) }
     ensures not_added { OnErr result (AreAdditions (reverse lines.old.items) additions.new) }
 {
@@ -90,18 +90,18 @@ fn note(
     let number = id_behind(0, lines.len())?;
     lines.reserve(1)?;
     additions.make_room()?;
-    known.note(alloc, uses, lines.as_slice(), line)?;
+    known.note(alloc, instances, lines.as_slice(), line)?;
     additions.note(line, number);
     Ok(())
 }
 
 impl<'q> Log<'q> {
     /// A log without lines.
-    pub fn new(alloc: Global, uses: &'q [TableInstance], own: &'q [Aggregation]) -> Log<'q>
-        ensures { result ≡ record { uses = uses.now; own = own.now; log = [] } }
+    pub fn new(alloc: Global, instances: &'q [TableInstance], own: &'q [Aggregation]) -> Log<'q>
+        ensures { result ≡ record { instances = instances.now; own = own.now; log = [] } }
     {
         Log {
-            uses,
+            instances,
             own,
             lines: Vec::new(alloc),
             known: Known::new(alloc),
@@ -112,7 +112,7 @@ impl<'q> Log<'q> {
     /// The lines, in their order. Each may stand behind those before it.
     pub fn lines(&self) -> &[Line]
         ensures lines { reverse result.now ≡ self.now.log }
-        ensures replays { Replays self.now.uses self.now.own self.now.log }
+        ensures replays { Replays self.now.instances self.now.own self.now.log }
     {
         self.lines.as_slice()
     }
@@ -126,14 +126,14 @@ impl<'q> Log<'q> {
 
     /// The query's table instances.
     pub fn instances(&self) -> &'q [TableInstance]
-        ensures { result.now ≡ self.now.uses }
+        ensures { result.now ≡ self.now.instances }
     {
-        self.uses
+        self.instances
     }
 
     /// What is known of the classes that the lines found.
     pub fn classes(&self) -> KnownClasses<'_>
-        ensures known { known result ≡ logs.knowledge self.now.uses self.now.log }
+        ensures known { known result ≡ logs.knowledge self.now.instances self.now.log }
         ensures count { length result.columns.columns.now ≡ length self.now.log }
     {
         self.known.classes()
@@ -141,7 +141,7 @@ impl<'q> Log<'q> {
 
     /// Adds a line if it may stand behind the others; else nothing is changed.
     pub fn push(&mut self, alloc: Global, line: Line) -> Result<(), LineFault>
-        ensures verdict { Gives (λ _. line) result (stands self.old.uses self.old.own self.old.log line) }
+        ensures verdict { Gives (λ _. line) result (stands self.old.instances self.old.own self.old.log line) }
         ensures added { OnOk result (self.new ≡ with_line self.old line) }
         ensures refused { OnErr result (self.new ≡ self.old) }
     {
@@ -149,7 +149,7 @@ impl<'q> Log<'q> {
         note(
             alloc,
             verdict,
-            self.uses,
+            self.instances,
             &mut self.lines,
             &mut self.known,
             &mut self.additions,
@@ -161,20 +161,20 @@ impl<'q> Log<'q> {
 
     /// Whether a line may stand behind the others.
     pub fn judge(&self, alloc: Global, line: &Line) -> Result<(), LineFault>
-        ensures { Gives (λ _. line.now) result (stands self.now.uses self.now.own self.now.log line.now) }
+        ensures { Gives (λ _. line.now) result (stands self.now.instances self.now.own self.now.log line.now) }
     {
         self.behind().judge(alloc, line)
     }
 
     /// What a line is judged by.
     fn behind(&self) -> Behind<'_>
-        ensures given { (result.uses.now ≡ self.now.uses) × (result.own.now ≡ self.now.own) }
+        ensures given { (result.instances.now ≡ self.now.instances) × (result.own.now ≡ self.now.own) }
         ensures log { the_log result ≡ self.now.log }
         ensures count { IsBehind result }
-        ensures known { known result.classes ≡ logs.knowledge self.now.uses self.now.log }
+        ensures known { known result.classes ≡ logs.knowledge self.now.instances self.now.log }
     {
         Behind {
-            uses: self.uses,
+            instances: self.instances,
             own: self.own,
             lines: self.lines(),
             classes: self.classes(),

@@ -48,10 +48,10 @@ fn expr_of<'m>(lines: &[Line], shape: Shape, makes: &'m [LineId]) -> Option<(Exp
             let (b, rest) = class_of(lines, b.into_inner(), rest)?;
             Some((Expr::Semi(c, a, b), rest))
         }
-        Shape::Anti(sure, maybe, a, b) => {
+        Shape::Anti(ordinary, null_aware, a, b) => {
             let (a, rest) = class_of(lines, a.into_inner(), makes)?;
             let (b, rest) = class_of(lines, b.into_inner(), rest)?;
-            Some((Expr::Anti(sure, maybe, a, b), rest))
+            Some((Expr::Anti(ordinary, null_aware, a, b), rest))
         }
         Shape::Keep(k, x) => {
             let (x, rest) = class_of(lines, x.into_inner(), makes)?;

@@ -21,21 +21,21 @@ use Rattle.physical.specs.Outputs.{Output, first_columns, second_columns, first,
 use Rattle.relations.specs.declared.relation.Relation.{Relation}
 use Rattle.relations.specs.Relations.{IsOutput, IsInputOutput, AreOutputs, given, rows_of}
 
-module _ (uses : List TableInstance) (D : Tables) where
+module _ (instances : List TableInstance) (D : Tables) where
   -- the columns and the rows of a plan, of its inputs' output
-  pub output-columns : (p : Plan) (node : Node) (inputs : List Plan) → (out-Plan p).node ≡ node → inputs ≡ (out-Plan p).inputs → (plan_output uses D p).columns ≡ node_columns uses node (map (λ x. x.columns) (map (plan_output uses D) inputs))
+  pub output-columns : (p : Plan) (node : Node) (inputs : List Plan) → (out-Plan p).node ≡ node → inputs ≡ (out-Plan p).inputs → (plan_output instances D p).columns ≡ node_columns instances node (map (λ x. x.columns) (map (plan_output instances D) inputs))
   unfolding plan_output
   output-columns p node inputs is given =
-      ap (λ x. x.columns) (fold_out-Plan Output (output_layer uses D) p)
-      ∙ ap (λ n. node_columns uses n (map (λ x. x.columns) (map (plan_output uses D) (out-Plan p).inputs))) is
-      ∙ sym (ap (λ ps. node_columns uses node (map (λ x. x.columns) (map (plan_output uses D) ps))) given)
+      ap (λ x. x.columns) (fold_out-Plan Output (output_layer instances D) p)
+      ∙ ap (λ n. node_columns instances n (map (λ x. x.columns) (map (plan_output instances D) (out-Plan p).inputs))) is
+      ∙ sym (ap (λ ps. node_columns instances node (map (λ x. x.columns) (map (plan_output instances D) ps))) given)
 
-  pub output-rows : (p : Plan) (node : Node) (inputs : List Plan) (e : Env) → (out-Plan p).node ≡ node → inputs ≡ (out-Plan p).inputs → output_rows uses D p e ≡ node_rows uses D node (map (plan_output uses D) inputs) e
+  pub output-rows : (p : Plan) (node : Node) (inputs : List Plan) (e : Env) → (out-Plan p).node ≡ node → inputs ≡ (out-Plan p).inputs → output_rows instances D p e ≡ node_rows instances D node (map (plan_output instances D) inputs) e
   unfolding plan_output
   output-rows p node inputs e is given =
-      ap (λ x. x.rows e) (fold_out-Plan Output (output_layer uses D) p)
-      ∙ ap (λ n. node_rows uses D n (map (plan_output uses D) (out-Plan p).inputs) e) is
-      ∙ sym (ap (λ ps. node_rows uses D node (map (plan_output uses D) ps) e) given)
+      ap (λ x. x.rows e) (fold_out-Plan Output (output_layer instances D) p)
+      ∙ ap (λ n. node_rows instances D n (map (plan_output instances D) (out-Plan p).inputs) e) is
+      ∙ sym (ap (λ ps. node_rows instances D node (map (plan_output instances D) ps) e) given)
 
 -- ---- inputs
 

@@ -43,38 +43,38 @@ rises c keys r e begins up = λ i j earlier below.
     not_gt-first (order (row i c) (row j c)) Equal
     (ascends-numbers (keys_order wanted) row 0 r.rows.count i j (ascends-beginning keys wanted (rows_of r e) begins up) (omega arith) earlier (omega (arith, below)))
 
-module _ (uses : List TableInstance) (D : Tables) (inputs : List Plan) (e : Env) (may : AreRunnable uses inputs) where
+module _ (instances : List TableInstance) (D : Tables) (inputs : List Plan) (e : Env) (may : AreRunnable instances inputs) where
   -- the first input's rows, and the second's, stand in their orders
-  first-stands : (r : Relation) → IsInputOutput (map (plan_output uses D) inputs) 0 e r → Ascends (keys_order (first_order (orders_in uses (supplies uses inputs)))) (rows_of r e)
+  first-stands : (r : Relation) → IsInputOutput (map (plan_output instances D) inputs) 0 e r → Ascends (keys_order (first_order (orders_in instances (supplies instances inputs)))) (rows_of r e)
   first-stands r given =
-      subst (Ascends (keys_order (first_order (orders_in uses (supplies uses inputs))))) (sym (output-first (map (plan_output uses D) inputs) e r given).rows_are) (first-ascends uses D inputs e may.sorted)
+      subst (Ascends (keys_order (first_order (orders_in instances (supplies instances inputs))))) (sym (output-first (map (plan_output instances D) inputs) e r given).rows_are) (first-ascends instances D inputs e may.sorted)
 
-  second-stands : (r : Relation) → IsInputOutput (map (plan_output uses D) inputs) 1 e r → Ascends (keys_order (second_order (orders_in uses (supplies uses inputs)))) (rows_of r e)
+  second-stands : (r : Relation) → IsInputOutput (map (plan_output instances D) inputs) 1 e r → Ascends (keys_order (second_order (orders_in instances (supplies instances inputs)))) (rows_of r e)
   second-stands r given =
-      subst (Ascends (keys_order (second_order (orders_in uses (supplies uses inputs))))) (sym (output-second (map (plan_output uses D) inputs) e r given).rows_are) (second-ascends uses D inputs e may.sorted)
+      subst (Ascends (keys_order (second_order (orders_in instances (supplies instances inputs))))) (sym (output-second (map (plan_output instances D) inputs) e r given).rows_are) (second-ascends instances D inputs e may.sorted)
 
-  pub mergeable : (method : JoinMethod) (j : Matching) (left right : Relation) → IsOperable uses (JoinRows method j) inputs → IsInputOutput (map (plan_output uses D) inputs) 0 e left → IsInputOutput (map (plan_output uses D) inputs) 1 e right
+  pub mergeable : (method : JoinMethod) (j : Matching) (left right : Relation) → IsOperable instances (JoinRows method j) inputs → IsInputOutput (map (plan_output instances D) inputs) 0 e left → IsInputOutput (map (plan_output instances D) inputs) 1 e right
       → AreMergeable method left right e
   mergeable NestedLoop j left right here first second = tt
   mergeable Hash j left right here first second = tt
   mergeable (Merge a b) j left right here first second =
-      let both = and_parts (rises_by a (first_order (orders_in uses (supplies uses inputs)))) _ here.sorted in
+      let both = and_parts (rises_by a (first_order (orders_in instances (supplies instances inputs)))) _ here.sorted in
       (rises a _ left e both.0 (first-stands left first), rises b _ right e both.1 (second-stands right second))
 
   -- ---- sorted groups
 
-  pub group-together : (operator : Operator) (method : GroupMethod) (K : List ℕ) (G : List Aggregation) (r : Relation) → operator ≡ GroupRows method K G → method ≡ Sorted → IsOperable uses operator inputs → IsInputOutput (map (plan_output uses D) inputs) 0 e r
+  pub group-together : (operator : Operator) (method : GroupMethod) (K : List ℕ) (G : List Aggregation) (r : Relation) → operator ≡ GroupRows method K G → method ≡ Sorted → IsOperable instances operator inputs → IsInputOutput (map (plan_output instances D) inputs) 0 e r
       → AreTogether K r
   group-together operator method K G r is sorted here given =
-      let all = supplies uses inputs in
-      let begins : begins_with_all K (first_order (orders_in uses all)) ≡ true =
-      subst (λ (o : Operator). are_sorted o (columns_in uses all) (orders_in uses all) ≡ true) (is ∙ ap (λ m. GroupRows m K G) sorted) here.sorted in
-      stand-together K (first_order (orders_in uses all)) r e begins (first-stands r given)
+      let all = supplies instances inputs in
+      let begins : begins_with_all K (first_order (orders_in instances all)) ≡ true =
+      subst (λ (o : Operator). are_sorted o (columns_in instances all) (orders_in instances all) ≡ true) (is ∙ ap (λ m. GroupRows m K G) sorted) here.sorted in
+      stand-together K (first_order (orders_in instances all)) r e begins (first-stands r given)
 
-  pub distinct-together : (operator : Operator) (method : GroupMethod) (r : Relation) → operator ≡ DistinctRows method → method ≡ Sorted → IsOperable uses operator inputs → IsInputOutput (map (plan_output uses D) inputs) 0 e r → AreTogether r.heading.columns r
+  pub distinct-together : (operator : Operator) (method : GroupMethod) (r : Relation) → operator ≡ DistinctRows method → method ≡ Sorted → IsOperable instances operator inputs → IsInputOutput (map (plan_output instances D) inputs) 0 e r → AreTogether r.heading.columns r
   distinct-together operator method r is sorted here given =
-      let all = supplies uses inputs in
-      let begins : begins_with_all (first_columns (columns_in uses all)) (first_order (orders_in uses all)) ≡ true =
-      subst (λ (o : Operator). are_sorted o (columns_in uses all) (orders_in uses all) ≡ true) (is ∙ ap DistinctRows sorted) here.sorted in
-      let columns : first_columns (columns_in uses all) ≡ r.heading.columns = ap first_columns (supply-columns uses D inputs) ∙ sym (output-first (map (plan_output uses D) inputs) e r given).columns_are in
-      stand-together r.heading.columns (first_order (orders_in uses all)) r e (subst (λ K. begins_with_all K (first_order (orders_in uses all)) ≡ true) columns begins) (first-stands r given)
+      let all = supplies instances inputs in
+      let begins : begins_with_all (first_columns (columns_in instances all)) (first_order (orders_in instances all)) ≡ true =
+      subst (λ (o : Operator). are_sorted o (columns_in instances all) (orders_in instances all) ≡ true) (is ∙ ap DistinctRows sorted) here.sorted in
+      let columns : first_columns (columns_in instances all) ≡ r.heading.columns = ap first_columns (supply-columns instances D inputs) ∙ sym (output-first (map (plan_output instances D) inputs) e r given).columns_are in
+      stand-together r.heading.columns (first_order (orders_in instances all)) r e (subst (λ K. begins_with_all K (first_order (orders_in instances all)) ≡ true) columns begins) (first-stands r given)

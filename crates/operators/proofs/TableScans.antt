@@ -5,7 +5,7 @@ use Rattle.schema.specs.Databases.{Row}
 use Rattle.query.specs.declared.query.TableInstance.{TableInstance}
 use Rattle.algebra.specs.Bags.{Env, nulls}
 use Rattle.algebra.specs.Columns.{is_subset}
-use Rattle.algebra.specs.Expressions.{get_columns, use_columns, use_row}
+use Rattle.algebra.specs.Expressions.{get_columns, instance_columns, instance_row}
 use Rattle.physical.specs.declared.plan.IndexAccess.{IndexAccess}
 use Rattle.physical.specs.Indexes.{columns_of_index, index_columns}
 use Rattle.relations.specs.declared.headings.Heading.{Heading}
@@ -16,7 +16,7 @@ use Rattle.index_access.specs.Cuts.{AreByIndex}
 use Rattle.index_access.proofs.TableIndexes.{index_sorts}
 use Rattle.operators.specs.Sources.{AreTableRows, IsAccessed, IsIndexOf, table_rows}
 
-pub table-row : (t : TableInstance) (h : Heading) (row : Row) (e : Env) → h.columns ≡ use_columns t → h.places.items ≡ map first_at (range_with_len 0 (length t.entry.columns)) → row_env h (row ∷ []) e ≡ use_row t row e
+pub table-row : (t : TableInstance) (h : Heading) (row : Row) (e : Env) → h.columns ≡ instance_columns t → h.places.items ≡ map first_at (range_with_len 0 (length t.entry.columns)) → row_env h (row ∷ []) e ≡ instance_row t row e
 table-row t h row e columns places = ap (λ (fs : List Env). get_or fs 0 nulls) (table-rows t h (row ∷ []) e columns places)
 
 sorts-of : (instance : Option TableInstance) (tables : List (List Row)) (index : ℕ) (numbers : List ℕ) (e : Env) (count : ℕ) (row : ℕ → Env) → AreTableRows instance tables e count row
@@ -27,6 +27,6 @@ sorts-of (Some t) tables index numbers e count row rows own sorted =
     (index_sorts t (table_rows tables t.table) e row rows.1 (get_or t.entry.indexes index []) numbers own sorted)
 
 -- an index that is accessed sorts the rows of the table instance
-pub accessed_sorts : (uses : List TableInstance) (tables : List (List Row)) (a : IndexAccess) (numbers : List ℕ) (e : Env) (count : ℕ) (row : ℕ → Env) → AreTableRows (slice_get uses a.occurrence) tables e count row → IsAccessed uses tables a numbers
-    → AreByIndex row (index_columns uses a) (range_with_len 0 count) numbers
-accessed_sorts uses tables a numbers e count row rows accessed = sorts-of (slice_get uses a.occurrence) tables a.index numbers e count row rows accessed.own accessed.index
+pub accessed_sorts : (instances : List TableInstance) (tables : List (List Row)) (a : IndexAccess) (numbers : List ℕ) (e : Env) (count : ℕ) (row : ℕ → Env) → AreTableRows (slice_get instances a.instance) tables e count row → IsAccessed instances tables a numbers
+    → AreByIndex row (index_columns instances a) (range_with_len 0 count) numbers
+accessed_sorts instances tables a numbers e count row rows accessed = sorts-of (slice_get instances a.instance) tables a.index numbers e count row rows accessed.own accessed.index

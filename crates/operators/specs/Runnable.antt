@@ -7,16 +7,16 @@ use Rattle.physical.specs.Origins.{all_read, operator_reads, plan_origin}
 use Rattle.physical.specs.RequiredOrders.{all_sorted, are_sorted, plan_supply}
 
 -- the groups of a plan aggregate values of tables alone, and its nodes get the orders that they require
-pub record IsRunnable (uses : List TableInstance) (plan : Plan) : Type 0 where
-  pub reads : (plan_origin uses plan).reads ≡ true
-  pub sorted : (plan_supply uses plan).sorted ≡ true
+pub record IsRunnable (instances : List TableInstance) (plan : Plan) : Type 0 where
+  pub reads : (plan_origin instances plan).reads ≡ true
+  pub sorted : (plan_supply instances plan).sorted ≡ true
 
 -- so it is of all inputs
-pub record AreRunnable (uses : List TableInstance) (inputs : List Plan) : Type 0 where
-  pub reads : all_read (map (plan_origin uses) inputs) ≡ true
-  pub sorted : all_sorted (map (plan_supply uses) inputs) ≡ true
+pub record AreRunnable (instances : List TableInstance) (inputs : List Plan) : Type 0 where
+  pub reads : all_read (map (plan_origin instances) inputs) ≡ true
+  pub sorted : all_sorted (map (plan_supply instances) inputs) ≡ true
 
 -- an operator aggregates values of tables alone, and gets the orders that it requires
-pub record IsOperable (uses : List TableInstance) (operator : Operator) (inputs : List Plan) : Type 0 where
-  pub reads : operator_reads uses operator (map (plan_origin uses) inputs) ≡ true
-  pub sorted : are_sorted operator (map (λ x. x.columns) (map (plan_supply uses) inputs)) (map (λ x. x.order) (map (plan_supply uses) inputs)) ≡ true
+pub record IsOperable (instances : List TableInstance) (operator : Operator) (inputs : List Plan) : Type 0 where
+  pub reads : operator_reads instances operator (map (plan_origin instances) inputs) ≡ true
+  pub sorted : are_sorted operator (map (λ x. x.columns) (map (plan_supply instances) inputs)) (map (λ x. x.order) (map (plan_supply instances) inputs)) ≡ true

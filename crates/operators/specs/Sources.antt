@@ -5,7 +5,7 @@ use Rattle.store.specs.Indexes.{IsIndex}
 use Rattle.query.specs.declared.query.TableInstance.{TableInstance}
 use Rattle.algebra.specs.Bags.{Env}
 use Rattle.algebra.specs.Columns.{is_subset}
-use Rattle.algebra.specs.Expressions.{use_row}
+use Rattle.algebra.specs.Expressions.{instance_row}
 use Rattle.physical.specs.declared.plan.IndexAccess.{IndexAccess}
 use Rattle.physical.specs.Indexes.{accessed_columns, index_columns}
 use Rattle.operators.specs.declared.sources.SortedIndex.{SortedIndex}
@@ -23,11 +23,11 @@ IsIndexOf None tables index numbers = ⊥
 IsIndexOf (Some t) tables index numbers = IsIndex (table_rows tables t.table) (slice_index_or t.entry.indexes index []) numbers
 
 -- the index is by columns of the table instance, and these are its numbers
-pub record IsAccessed (uses : List TableInstance) (tables : List (List Row)) (a : IndexAccess) (numbers : List ℕ) : Type 0 where
-  pub own : is_subset (index_columns uses a) (accessed_columns uses a) ≡ true
-  pub index : IsIndexOf (slice_get uses a.occurrence) tables a.index numbers
+pub record IsAccessed (instances : List TableInstance) (tables : List (List Row)) (a : IndexAccess) (numbers : List ℕ) : Type 0 where
+  pub own : is_subset (index_columns instances a) (accessed_columns instances a) ≡ true
+  pub index : IsIndexOf (slice_get instances a.instance) tables a.index numbers
 
 -- so many rows with numbers are those with their numbers of the table of a table instance
 abbrev pub AreTableRows : Option TableInstance → List (List Row) → Env → ℕ → (ℕ → Env) → Type 0
 AreTableRows None tables e count row = Unit {0}
-AreTableRows (Some t) tables e count row = (count ≡ length (table_rows tables t.table)) × ((n : ℕ) → row n ≡ use_row t (slice_index_or (table_rows tables t.table) n []) e)
+AreTableRows (Some t) tables e count row = (count ≡ length (table_rows tables t.table)) × ((n : ℕ) → row n ≡ instance_row t (slice_index_or (table_rows tables t.table) n []) e)

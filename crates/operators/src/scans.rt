@@ -14,7 +14,7 @@ ghost use Rattle.operators.specs.Sources.{AreTableRows};
 
 use algebra::{Columns, Condition};
 use joins::push_if;
-use query::{ColumnId, OccurrenceId, TableInstance};
+use query::{ColumnId, InstanceId, TableInstance};
 use relations::resolved::{passes_all, resolve};
 use relations::{Env, Heading, Part, Relation, Rows, row_cell};
 use std::alloc::{AllocError, Global};
@@ -34,19 +34,19 @@ fn table_part<'t>(alloc: Global, tables: &'t [Table], number: usize) -> Part<'t>
 /// All rows of a table instance.
 pub fn scanned<'t>(
     alloc: Global,
-    uses: &[TableInstance],
+    instances: &[TableInstance],
     tables: &'t [Table],
-    occurrence: OccurrenceId,
+    instance: InstanceId,
 ) -> Result<Relation<'t>, AllocError>
-    ensures rows { (S : Schema) (e : bags.Env) → IfOk result (IsOutput (get_columns (slice_get uses.now occurrence)) (get_rows (slice_get uses.now occurrence) (tables_of S tables.entry.now) e) e) }
-    ensures numbered { (e : bags.Env) → IfOk result (λ r. AreTableRows (slice_get uses.now occurrence) tables.entry.now e r.rows.count (numbered_env r e)) }
+    ensures rows { (S : Schema) (e : bags.Env) → IfOk result (IsOutput (get_columns (slice_get instances.now instance)) (get_rows (slice_get instances.now instance) (tables_of S tables.entry.now) e) e) }
+    ensures numbered { (e : bags.Env) → IfOk result (λ r. AreTableRows (slice_get instances.now instance) tables.entry.now e r.rows.count (numbered_env r e)) }
 {
-    let Some(table_use) = uses.get(occurrence as usize) else {
+    let Some(table_instance) = instances.get(instance as usize) else {
         return Relation::none(alloc);
     };
-    let columns = Columns::of_occurrence(alloc, uses, occurrence)?;
+    let columns = Columns::of_instance(alloc, instances, instance)?;
     let heading = Heading::of_table(alloc, columns)?;
-    let rows = Rows::of_part(alloc, table_part(alloc, tables, table_use.table))?;
+    let rows = Rows::of_part(alloc, table_part(alloc, tables, table_instance.table))?;
     Ok(Relation { heading, rows })
 }
 

@@ -55,7 +55,7 @@ impl<'t> Model for IndexedTables<'t> {
 /// The table instances of a query, and the tables.
 #[derive(Clone, Copy)]
 pub struct Sources<'q, 't> {
-    pub uses: &'q [TableInstance],
+    pub instances: &'q [TableInstance],
     pub tables: &'q IndexedTables<'t>,
 }
 
@@ -77,14 +77,14 @@ fn push_accesses(plan: &Plan, accesses: &mut Vec<IndexAccess>) -> Result<(), All
 /// The index that is accessed, sorted; none where it is among these, or its table has no such index.
 fn missing_index(
     alloc: Global,
-    uses: &[TableInstance],
+    instances: &[TableInstance],
     tables: &[Table],
     indexes: &[SortedIndex],
     access: IndexAccess,
 ) -> Result<Option<SortedIndex>, AllocError>
     ensures { IfOk result (λ index. IfSome index (IsSortedIndex tables.now)) }
 {
-    let Some(instance) = uses.get(access.occurrence as usize) else {
+    let Some(instance) = instances.get(access.instance as usize) else {
         return Ok(None);
     };
     let Some(places) = instance.entry.indexes.as_slice().get(access.index as usize) else {
@@ -113,7 +113,7 @@ impl<'t> IndexedTables<'t> {
     pub fn for_plan(
         alloc: Global,
         tables: &'t [Table],
-        uses: &[TableInstance],
+        instances: &[TableInstance],
         plan: &Plan,
     ) -> Result<IndexedTables<'t>, AllocError>
         ensures { IfOk result (λ t. t ≡ tables.entry.now) }
@@ -122,7 +122,13 @@ impl<'t> IndexedTables<'t> {
         push_accesses(plan, &mut accesses)?;
         let mut indexes = Vec::new(alloc);
         for access in accesses.as_slice() {
-            if let Some(index) = missing_index(alloc, uses, tables, indexes.as_slice(), *access)? {
+            if let Some(index) = missing_index(
+                alloc,
+                instances,
+                tables,
+                indexes.as_slice(),
+                *access,
+            )? {
                 indexes.push(index)?;
             }
         }
@@ -155,12 +161,12 @@ impl<'q> Sources<'q, '_> {
         alloc: Global,
         access: IndexAccess,
     ) -> Result<Option<&'q [u32]>, AllocError>
-        ensures { IfOk result (λ numbers. IfSome numbers (λ n. IsAccessed self.entry.uses.now self.entry.tables.now access n.now)) }
+        ensures { IfOk result (λ numbers. IfSome numbers (λ n. IsAccessed self.entry.instances.now self.entry.tables.now access n.now)) }
     {
-        if !has_index(alloc, self.uses, access)? {
+        if !has_index(alloc, self.instances, access)? {
             return Ok(None);
         }
-        let Some(instance) = self.uses.get(access.occurrence as usize) else {
+        let Some(instance) = self.instances.get(access.instance as usize) else {
             return Ok(None);
         };
         let Some(places) = instance.entry.indexes.as_slice().get(access.index as usize) else {

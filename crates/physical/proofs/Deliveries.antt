@@ -169,18 +169,18 @@ pub record Delivers (s : Shape) (order : List OrderKey) (p : Output) : Type 0 wh
   pub columns : s.columns ≡ p.columns
   pub ordered : s.stands ≡ true → AreInOrder s.columns order p.rows
 
-module _ (uses : List TableInstance) (D : Tables) where
+module _ (instances : List TableInstance) (D : Tables) where
   abbrev P : Plan → Type 0
-  P plan = Delivers (plan_shape uses plan) (plan_order uses plan) (plan_output uses D plan)
+  P plan = Delivers (plan_shape instances plan) (plan_order instances plan) (plan_output instances D plan)
 
   abbrev Part : Type 0
   Part = (plan : Plan) × P plan
 
   abbrev shapes_of : List Part → List Shape
-  shapes_of parts = map (plan_shape uses) (map (λ p. p.0) parts)
+  shapes_of parts = map (plan_shape instances) (map (λ p. p.0) parts)
 
   abbrev orders_of : List Part → List (List OrderKey)
-  orders_of parts = map (plan_order uses) (map (λ p. p.0) parts)
+  orders_of parts = map (plan_order instances) (map (λ p. p.0) parts)
 
   abbrev columns_of : List Part → List (List ℕ)
   columns_of parts = map (λ (x : Shape). x.columns) (shapes_of parts)
@@ -189,7 +189,7 @@ module _ (uses : List TableInstance) (D : Tables) where
   all_stand parts = list_all (λ (x : Shape). x.stands) (shapes_of parts)
 
   abbrev outputs_of : List Part → List Output
-  outputs_of parts = map (plan_output uses D) (map (λ p. p.0) parts)
+  outputs_of parts = map (plan_output instances D) (map (λ p. p.0) parts)
 
   columns-same : (parts : List Part) → columns_of parts ≡ map (λ (x : Output). x.columns) (outputs_of parts)
   columns-same [] = refl
@@ -234,7 +234,7 @@ module _ (uses : List TableInstance) (D : Tables) where
       (sym (columns-same parts)) (λ apart. join-in-order j right (first (rest (outputs_of parts))) parts apart all) stands
 
   group-in-order : (K : List ℕ) (G : List Aggregation) (parts : List Part) → are_disjoint K (aggregate_columns G) ≡ true → all_stand parts ≡ true
-      → AreInOrder (rising (K ++ aggregate_columns G)) (front (has K) (first_order (orders_of parts))) (operator_rows uses D (GroupRows Sorted K G) (outputs_of parts))
+      → AreInOrder (rising (K ++ aggregate_columns G)) (front (has K) (first_order (orders_of parts))) (operator_rows instances D (GroupRows Sorted K G) (outputs_of parts))
   group-in-order K G parts apart all =
       let keys : List OrderKey = first_order (orders_of parts) in
       record {
@@ -242,7 +242,7 @@ module _ (uses : List TableInstance) (D : Tables) where
         ascends = λ e. ascends-group K G keys (first (outputs_of parts)) e apart ((first-in-order parts all).ascends e);
       }
 
-  distinct-in-order : (method : GroupMethod) (parts : List Part) → all_stand parts ≡ true → AreInOrder (first_columns (columns_of parts)) (first_order (orders_of parts)) (operator_rows uses D (DistinctRows method) (outputs_of parts))
+  distinct-in-order : (method : GroupMethod) (parts : List Part) → all_stand parts ≡ true → AreInOrder (first_columns (columns_of parts)) (first_order (orders_of parts)) (operator_rows instances D (DistinctRows method) (outputs_of parts))
   distinct-in-order method parts all =
       let K : List ℕ = first_columns (map (λ (x : Output). x.columns) (outputs_of parts)) in
       let keys : List OrderKey = first_order (orders_of parts) in
@@ -250,14 +250,14 @@ module _ (uses : List TableInstance) (D : Tables) where
       let among : are_columns K keys ≡ true = subst (λ Ks. are_columns (first_columns Ks) keys ≡ true) (columns-same parts) input.among in
       record {
         among = input.among;
-        ascends = λ e. subst (λ keys. Ascends (keys_order keys) (operator_rows uses D (DistinctRows method) (outputs_of parts) e)) (front-all (has K) keys among)
+        ascends = λ e. subst (λ keys. Ascends (keys_order keys) (operator_rows instances D (DistinctRows method) (outputs_of parts) e)) (front-all (has K) keys among)
             (ascends-projection (has K) keys e (distinct_on K (first (outputs_of parts) e)) (ascends-distinct_on (keys_order keys) K (first (outputs_of parts) e) (input.ascends e)));
       }
 
-  in-order : (operator : Operator) (parts : List Part) → operator_stands uses operator (columns_of parts) ≡ true → all_stand parts ≡ true
-      → AreInOrder (operator_columns uses operator (columns_of parts)) (operator_order uses operator (orders_of parts)) (operator_rows uses D operator (outputs_of parts))
+  in-order : (operator : Operator) (parts : List Part) → operator_stands instances operator (columns_of parts) ≡ true → all_stand parts ≡ true
+      → AreInOrder (operator_columns instances operator (columns_of parts)) (operator_order instances operator (orders_of parts)) (operator_rows instances D operator (outputs_of parts))
   in-order (Scan o) parts stands all = record { among = refl; ascends = λ e. ascends-any (keys_order []) (λ a b. refl) _ }
-  in-order (IndexScan a C) parts stands all = record { among = stands; ascends = λ e. ascends-sorted (keys_order (index_order uses a)) (keys_total (index_order uses a)) (select (holds no_classes C) (accessed_rows uses D a) e) }
+  in-order (IndexScan a C) parts stands all = record { among = stands; ascends = λ e. ascends-sorted (keys_order (index_order instances a)) (keys_total (index_order instances a)) (select (holds no_classes C) (accessed_rows instances D a) e) }
   in-order (Filter C) parts stands all =
       let input = first-in-order parts all in
       record { among = input.among; ascends = λ e. ascends-filter _ (holds no_classes C) _ (input.ascends e) }
@@ -269,13 +269,13 @@ module _ (uses : List TableInstance) (D : Tables) where
     ascends = λ e. ascends-projection (has K) _ e _ ((first-in-order parts all).ascends e);
   }
   in-order (JoinRows method j) parts stands all = inputs-in-order j parts stands all
-  in-order (IndexJoin a j) parts stands all = join-in-order j (accessed_columns uses a) (accessed_rows uses D a) parts stands all
+  in-order (IndexJoin a j) parts stands all = join-in-order j (accessed_columns instances a) (accessed_rows instances D a) parts stands all
   in-order (GroupRows Sorted K G) parts stands all = group-in-order K G parts stands all
   in-order (GroupRows Hash K G) parts stands all = record { among = refl; ascends = λ e. ascends-any (keys_order []) (λ a b. refl) _ }
   in-order (DistinctRows method) parts stands all = distinct-in-order method parts all
 
-  layer : (node : Node) (parts : List Part) → node_stands uses node (columns_of parts) ≡ true → all_stand parts ≡ true
-      → AreInOrder (node_columns uses node (columns_of parts)) (node_order uses node (orders_of parts)) (node_rows uses D node (outputs_of parts))
+  layer : (node : Node) (parts : List Part) → node_stands instances node (columns_of parts) ≡ true → all_stand parts ≡ true
+      → AreInOrder (node_columns instances node (columns_of parts)) (node_order instances node (orders_of parts)) (node_rows instances D node (outputs_of parts))
   layer (Implements line operator) parts stands all = in-order operator parts stands all
   layer (Sort keys) parts stands all = record { among = stands; ascends = λ e. ascends-sorted (keys_order keys) (keys_total keys) (first (outputs_of parts) e) }
 
@@ -284,11 +284,11 @@ module _ (uses : List TableInstance) (D : Tables) where
   step y =
       let z : Plan-F Plan = map-Plan Part Plan (λ p. p.0) y in
       let plan : Plan = roll-Plan z in
-      subst (λ s. Delivers s (plan_order uses plan) (plan_output uses D plan)) (sym (fold-roll-Plan Shape (shape_layer uses) z))
-      (subst (λ o. Delivers (shape_layer uses (map-Plan Plan Shape (plan_shape uses) z)) o (plan_output uses D plan)) (sym (fold-roll-Plan (List OrderKey) (order_layer uses) z))
-      (subst (λ p. Delivers (shape_layer uses (map-Plan Plan Shape (plan_shape uses) z)) (order_layer uses (map-Plan Plan (List OrderKey) (plan_order uses) z)) p) (sym (fold-roll-Plan Output (output_layer uses D) z))
+      subst (λ s. Delivers s (plan_order instances plan) (plan_output instances D plan)) (sym (fold-roll-Plan Shape (shape_layer instances) z))
+      (subst (λ o. Delivers (shape_layer instances (map-Plan Plan Shape (plan_shape instances) z)) o (plan_output instances D plan)) (sym (fold-roll-Plan (List OrderKey) (order_layer instances) z))
+      (subst (λ p. Delivers (shape_layer instances (map-Plan Plan Shape (plan_shape instances) z)) (order_layer instances (map-Plan Plan (List OrderKey) (plan_order instances) z)) p) (sym (fold-roll-Plan Output (output_layer instances D) z))
       (record {
-        columns = ap (node_columns uses y.node) (columns-same y.inputs);
+        columns = ap (node_columns instances y.node) (columns-same y.inputs);
         ordered = λ stands. let both = and_parts _ _ stands in layer y.node y.inputs both.0 both.1;
       })))
 
@@ -296,4 +296,4 @@ module _ (uses : List TableInstance) (D : Tables) where
   delivers = ind-Plan P (λ x y is. subst (λ z. P (roll-Plan z)) is (step y))
 
 pub plans_deliver : PlansDeliver
-plans_deliver uses D plan e stands = ordered (plan_order uses plan) (output_rows uses D plan e) (((delivers uses D plan).ordered stands).ascends e)
+plans_deliver instances D plan e stands = ordered (plan_order instances plan) (output_rows instances D plan e) (((delivers instances D plan).ordered stands).ascends e)

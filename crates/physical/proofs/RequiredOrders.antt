@@ -42,12 +42,12 @@ ascends-beginning order wanted rows is up =
 
 -- ---- what is supplied
 
-module _ (uses : List TableInstance) where
+module _ (instances : List TableInstance) where
   -- the supply of a plan says its columns and its order, and that its rows stand in it
   pub record IsSupply (p : Plan) : Type 0 where
-    pub columns : (plan_supply uses p).columns ≡ (plan_shape uses p).columns
-    pub order : (plan_supply uses p).order ≡ plan_order uses p
-    pub stands : (plan_supply uses p).sorted ≡ true → (plan_shape uses p).stands ≡ true
+    pub columns : (plan_supply instances p).columns ≡ (plan_shape instances p).columns
+    pub order : (plan_supply instances p).order ≡ plan_order instances p
+    pub stands : (plan_supply instances p).sorted ≡ true → (plan_shape instances p).stands ≡ true
 
   abbrev Part : Type 0
   Part = (p : Plan) × IsSupply p
@@ -55,15 +55,15 @@ module _ (uses : List TableInstance) where
   abbrev plans : List Part → List Plan
   plans parts = map (λ p. p.0) parts
 
-  columns-same : (parts : List Part) → map (λ (x : Supply). x.columns) (map (plan_supply uses) (plans parts)) ≡ map (λ (x : Shape). x.columns) (map (plan_shape uses) (plans parts))
+  columns-same : (parts : List Part) → map (λ (x : Supply). x.columns) (map (plan_supply instances) (plans parts)) ≡ map (λ (x : Shape). x.columns) (map (plan_shape instances) (plans parts))
   columns-same [] = refl
   columns-same (p ∷ parts) = two (λ K Ks. K ∷ Ks) p.1.columns (columns-same parts)
 
-  orders-same : (parts : List Part) → map (λ (x : Supply). x.order) (map (plan_supply uses) (plans parts)) ≡ map (plan_order uses) (plans parts)
+  orders-same : (parts : List Part) → map (λ (x : Supply). x.order) (map (plan_supply instances) (plans parts)) ≡ map (plan_order instances) (plans parts)
   orders-same [] = refl
   orders-same (p ∷ parts) = two (λ k ks. k ∷ ks) p.1.order (orders-same parts)
 
-  all-stand : (parts : List Part) → all_sorted (map (plan_supply uses) (plans parts)) ≡ true → list_all (λ (x : Shape). x.stands) (map (plan_shape uses) (plans parts)) ≡ true
+  all-stand : (parts : List Part) → all_sorted (map (plan_supply instances) (plans parts)) ≡ true → list_all (λ (x : Shape). x.stands) (map (plan_shape instances) (plans parts)) ≡ true
   all-stand [] all = refl
   all-stand (p ∷ parts) all = let both = and_parts _ _ all in and_from _ _ (p.1.stands both.0) (all-stand parts both.1)
 
@@ -71,26 +71,26 @@ module _ (uses : List TableInstance) where
   unfolding plan_supply plan_shape plan_order
   step y =
       let z : Plan-F Plan = map-Plan Part Plan (λ p. p.0) y in
-      let supply = fold-roll-Plan Supply (supply_layer uses) z in
-      let shape = fold-roll-Plan Shape (shape_layer uses) z in
+      let supply = fold-roll-Plan Supply (supply_layer instances) z in
+      let shape = fold-roll-Plan Shape (shape_layer instances) z in
       record {
-        columns = ap (λ (x : Supply). x.columns) supply ∙ ap (node_columns uses y.node) (columns-same y.inputs) ∙ sym (ap (λ (x : Shape). x.columns) shape);
-        order = ap (λ (x : Supply). x.order) supply ∙ ap (node_order uses y.node) (orders-same y.inputs) ∙ sym (fold-roll-Plan (List OrderKey) (order_layer uses) z);
+        columns = ap (λ (x : Supply). x.columns) supply ∙ ap (node_columns instances y.node) (columns-same y.inputs) ∙ sym (ap (λ (x : Shape). x.columns) shape);
+        order = ap (λ (x : Supply). x.order) supply ∙ ap (node_order instances y.node) (orders-same y.inputs) ∙ sym (fold-roll-Plan (List OrderKey) (order_layer instances) z);
         stands = λ sorted.
             let both = and_parts _ _ (sym (ap (λ (x : Supply). x.sorted) supply) ∙ sorted) in
             ap (λ (x : Shape). x.stands) shape
-            ∙ and_from _ _ (subst (λ Ks. node_stands uses y.node Ks ≡ true) (columns-same y.inputs) both.0) (all-stand y.inputs (and_parts _ _ both.1).1);
+            ∙ and_from _ _ (subst (λ Ks. node_stands instances y.node Ks ≡ true) (columns-same y.inputs) both.0) (all-stand y.inputs (and_parts _ _ both.1).1);
       }
 
   pub supplied : (p : Plan) → IsSupply p
   supplied = ind-Plan IsSupply (λ x y is. subst (λ z. IsSupply (roll-Plan z)) is (step y))
 
   -- the rows of a plan whose nodes get what they require stand in the order that it delivers
-  pub supplied-ascends : (D : Tables) (p : Plan) (e : Env) → (plan_supply uses p).sorted ≡ true → Ascends (keys_order (plan_order uses p)) (output_rows uses D p e)
-  supplied-ascends D p e sorted = ((delivers uses D p).ordered ((supplied p).stands sorted)).ascends e
+  pub supplied-ascends : (D : Tables) (p : Plan) (e : Env) → (plan_supply instances p).sorted ≡ true → Ascends (keys_order (plan_order instances p)) (output_rows instances D p e)
+  supplied-ascends D p e sorted = ((delivers instances D p).ordered ((supplied p).stands sorted)).ascends e
 
   abbrev pub supplies : List Plan → List Supply
-  supplies inputs = map (plan_supply uses) inputs
+  supplies inputs = map (plan_supply instances) inputs
 
   abbrev pub orders_in : List Supply → List (List OrderKey)
   orders_in inputs = map (λ x. x.order) inputs
@@ -99,33 +99,33 @@ module _ (uses : List TableInstance) where
   columns_in inputs = map (λ x. x.columns) inputs
 
   -- a plan's root gets what it requires, and so do its inputs
-  pub supply-parts : (p : Plan) (node : Node) (inputs : List Plan) → (out-Plan p).node ≡ node → inputs ≡ (out-Plan p).inputs → (plan_supply uses p).sorted ≡ true
+  pub supply-parts : (p : Plan) (node : Node) (inputs : List Plan) → (out-Plan p).node ≡ node → inputs ≡ (out-Plan p).inputs → (plan_supply instances p).sorted ≡ true
       → (inputs_sorted node (columns_in (supplies inputs)) (orders_in (supplies inputs)) ≡ true) × (all_sorted (supplies inputs) ≡ true)
   unfolding plan_supply
   supply-parts p node inputs is given sorted =
-      let here = sym (ap (λ (x : Supply). x.sorted) (fold_out-Plan Supply (supply_layer uses) p)) ∙ sorted in
-      let parts = and_parts _ _ (and_parts (node_stands uses (out-Plan p).node (columns_in (supplies (out-Plan p).inputs))) _ here).1 in (
+      let here = sym (ap (λ (x : Supply). x.sorted) (fold_out-Plan Supply (supply_layer instances) p)) ∙ sorted in
+      let parts = and_parts _ _ (and_parts (node_stands instances (out-Plan p).node (columns_in (supplies (out-Plan p).inputs))) _ here).1 in (
         subst (λ ps. inputs_sorted node (columns_in (supplies ps)) (orders_in (supplies ps)) ≡ true) (sym given)
             (subst (λ (n : Node). inputs_sorted n (columns_in (supplies (out-Plan p).inputs)) (orders_in (supplies (out-Plan p).inputs)) ≡ true) is parts.0),
         subst (λ ps. all_sorted (supplies ps) ≡ true) (sym given) parts.1,
       )
 
   -- the supplies of plans say their orders and columns
-  pub supply-orders : (inputs : List Plan) → orders_in (supplies inputs) ≡ map (plan_order uses) inputs
+  pub supply-orders : (inputs : List Plan) → orders_in (supplies inputs) ≡ map (plan_order instances) inputs
   supply-orders [] = refl
   supply-orders (p ∷ inputs) = two (λ k ks. k ∷ ks) (supplied p).order (supply-orders inputs)
 
-  pub supply-columns : (D : Tables) (inputs : List Plan) → columns_in (supplies inputs) ≡ map (λ (x : Output). x.columns) (map (plan_output uses D) inputs)
+  pub supply-columns : (D : Tables) (inputs : List Plan) → columns_in (supplies inputs) ≡ map (λ (x : Output). x.columns) (map (plan_output instances D) inputs)
   supply-columns D [] = refl
-  supply-columns D (p ∷ inputs) = two (λ K Ks. K ∷ Ks) ((supplied p).columns ∙ (delivers uses D p).columns) (supply-columns D inputs)
+  supply-columns D (p ∷ inputs) = two (λ K Ks. K ∷ Ks) ((supplied p).columns ∙ (delivers instances D p).columns) (supply-columns D inputs)
 
   -- the rows of the first of some inputs stand in its order
-  pub first-ascends : (D : Tables) (inputs : List Plan) (e : Env) → all_sorted (supplies inputs) ≡ true → Ascends (keys_order (first_order (orders_in (supplies inputs)))) (first (map (plan_output uses D) inputs) e)
+  pub first-ascends : (D : Tables) (inputs : List Plan) (e : Env) → all_sorted (supplies inputs) ≡ true → Ascends (keys_order (first_order (orders_in (supplies inputs)))) (first (map (plan_output instances D) inputs) e)
   first-ascends D [] e sorted = tt
   first-ascends D (p ∷ inputs) e sorted =
-      subst (λ keys. Ascends (keys_order keys) (output_rows uses D p e)) (sym (supplied p).order) (supplied-ascends D p e (and_parts _ _ sorted).0)
+      subst (λ keys. Ascends (keys_order keys) (output_rows instances D p e)) (sym (supplied p).order) (supplied-ascends D p e (and_parts _ _ sorted).0)
 
   -- and those of the second in that one's
-  pub second-ascends : (D : Tables) (inputs : List Plan) (e : Env) → all_sorted (supplies inputs) ≡ true → Ascends (keys_order (second_order (orders_in (supplies inputs)))) (first (rest (map (plan_output uses D) inputs)) e)
+  pub second-ascends : (D : Tables) (inputs : List Plan) (e : Env) → all_sorted (supplies inputs) ≡ true → Ascends (keys_order (second_order (orders_in (supplies inputs)))) (first (rest (map (plan_output instances D) inputs)) e)
   second-ascends D [] e sorted = tt
   second-ascends D (p ∷ inputs) e sorted = first-ascends D inputs e (and_parts _ _ sorted).1

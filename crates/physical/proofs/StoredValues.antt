@@ -17,7 +17,7 @@ use Rattle.query.proofs.ShortTables.{short-value}
 use Rattle.algebra.specs.declared.expr.Aggregation.{Aggregation}
 use Rattle.algebra.specs.Columns.{ColumnSet, has, is_subset, rising}
 use Rattle.algebra.specs.Bags.{Env, Bag, Test, lay, nulls, matches, same_on, distinct_on, group}
-use Rattle.algebra.specs.Expressions.{use_columns, use_row, get_rows, get_columns, aggregate_reads, aggregate_columns, with_aggregates}
+use Rattle.algebra.specs.Expressions.{instance_columns, instance_row, get_rows, get_columns, aggregate_reads, aggregate_columns, with_aggregates}
 use Rattle.algebra.specs.TableColumns.{is_table_column, is_apart, are_apart}
 use Rattle.algebra.proofs.Lists.{two}
 use Rattle.algebra.proofs.Puts.{among-append}
@@ -114,12 +114,12 @@ module _ (stored : ColumnSet) where
   join-short K L (Semi C) a b e left right = all_filter _ _ _ left
   join-short K L (Anti S M) a b e left right = all_filter _ _ _ left
 
-  use-short : (t : TableInstance) (row : Row) (e : Env) → AllByRecursion IsShort row → IsShortIn (use_columns t) (use_row t row e)
-  use-short t row e short = laid-own (use_columns t) (λ c. value_at (c - t.first_column) row) e (λ c in_ is. short-value (c - t.first_column) row short)
+  use-short : (t : TableInstance) (row : Row) (e : Env) → AllByRecursion IsShort row → IsShortIn (instance_columns t) (instance_row t row e)
+  use-short t row e short = laid-own (instance_columns t) (λ c. value_at (c - t.first_column) row) e (λ c in_ is. short-value (c - t.first_column) row short)
 
   scan-short : (o : Option TableInstance) (D : Tables) (e : Env) → AreShortTables D → AreShortIn (get_columns o) (get_rows o D e)
   scan-short None D e short = tt
-  scan-short (Some t) D e short = all_map (AllByRecursion IsShort) (IsShortIn (use_columns t)) (λ row. use_row t row e) (λ row h. use-short t row e h) (D.rows t.table) (short t.table)
+  scan-short (Some t) D e short = all_map (AllByRecursion IsShort) (IsShortIn (instance_columns t)) (λ row. instance_row t row e) (λ row h. use-short t row e h) (D.rows t.table) (short t.table)
 
   subset-has : (K L : List ℕ) (c : ℕ) → is_subset K L ≡ true → has K c ≡ true → has L c ≡ true
   subset-has [] L c all in_ = cc
@@ -176,25 +176,25 @@ module _ (stored : ColumnSet) where
 -- ---- plans
 
 -- an origin is that of an output: values of tables have 64 bits
-pub record IsOriginOf (uses : List TableInstance) (o : Origin) (p : Output) : Type 0 where
+pub record IsOriginOf (instances : List TableInstance) (o : Origin) (p : Output) : Type 0 where
   pub columns : o.columns ≡ p.columns
-  pub short : o.reads ≡ true → (e : Env) → AreShortIn (is_table_column uses) p.columns (p.rows e)
+  pub short : o.reads ≡ true → (e : Env) → AreShortIn (is_table_column instances) p.columns (p.rows e)
 
-module _ (uses : List TableInstance) (D : Tables) (tables : AreShortTables D) where
+module _ (instances : List TableInstance) (D : Tables) (tables : AreShortTables D) where
   abbrev T : ColumnSet
-  T = is_table_column uses
+  T = is_table_column instances
 
   abbrev P : Plan → Type 0
-  P plan = IsOriginOf uses (plan_origin uses plan) (plan_output uses D plan)
+  P plan = IsOriginOf instances (plan_origin instances plan) (plan_output instances D plan)
 
   abbrev Part : Type 0
   Part = (plan : Plan) × P plan
 
   abbrev origins_of : List Part → List Origin
-  origins_of parts = map (plan_origin uses) (map (λ p. p.0) parts)
+  origins_of parts = map (plan_origin instances) (map (λ p. p.0) parts)
 
   abbrev outputs_of : List Part → List Output
-  outputs_of parts = map (plan_output uses D) (map (λ p. p.0) parts)
+  outputs_of parts = map (plan_output instances D) (map (λ p. p.0) parts)
 
   abbrev columns_of : List Part → List (List ℕ)
   columns_of parts = map (λ (x : Output). x.columns) (outputs_of parts)
@@ -215,17 +215,17 @@ module _ (uses : List TableInstance) (D : Tables) (tables : AreShortTables D) wh
   first-within : (parts : List Part) (K : List ℕ) → is_subset K (first_columns (columns_of_all (origins_of parts))) ≡ true → is_subset K (first_columns (columns_of parts)) ≡ true
   first-within parts K within_ = ap (λ Ks. is_subset K (first_columns Ks)) (sym (columns-same parts)) ∙ within_
 
-  operator-short : (operator : Operator) (parts : List Part) → operator_reads uses operator (origins_of parts) ≡ true → all_read (origins_of parts) ≡ true → (e : Env)
-      → AreShortIn T (operator_columns uses operator (columns_of parts)) (operator_rows uses D operator (outputs_of parts) e)
-  operator-short (Scan o) parts here reads e = scan-short T (slice_get uses o) D e tables
-  operator-short (IndexScan a C) parts here reads e = sorted-short T _ (keys_order (index_order uses a)) _ (all_filter _ _ _ (scan-short T (slice_get uses a.occurrence) D e tables))
+  operator-short : (operator : Operator) (parts : List Part) → operator_reads instances operator (origins_of parts) ≡ true → all_read (origins_of parts) ≡ true → (e : Env)
+      → AreShortIn T (operator_columns instances operator (columns_of parts)) (operator_rows instances D operator (outputs_of parts) e)
+  operator-short (Scan o) parts here reads e = scan-short T (slice_get instances o) D e tables
+  operator-short (IndexScan a C) parts here reads e = sorted-short T _ (keys_order (index_order instances a)) _ (all_filter _ _ _ (scan-short T (slice_get instances a.instance) D e tables))
   operator-short (Filter C) parts here reads e = all_filter _ _ _ (first-short parts reads e)
   operator-short (FilterSubqueries C) parts here reads e = all_filter _ _ _ (first-short parts reads e)
   operator-short (Projection K) parts here reads e = narrower T K (first_columns (columns_of parts)) (first (outputs_of parts) e) (first-within parts K here) (first-short parts reads e) e
   operator-short (JoinRows method j) parts here reads e =
       join-short T (first_columns (columns_of parts)) (second_columns (columns_of parts)) j (first (outputs_of parts)) (first (rest (outputs_of parts))) e (first-short parts reads e) (second-short parts reads e)
   operator-short (IndexJoin a j) parts here reads e =
-      join-short T (first_columns (columns_of parts)) (accessed_columns uses a) j (first (outputs_of parts)) (accessed_rows uses D a) e (first-short parts reads e) (scan-short T (slice_get uses a.occurrence) D e tables)
+      join-short T (first_columns (columns_of parts)) (accessed_columns instances a) j (first (outputs_of parts)) (accessed_rows instances D a) e (first-short parts reads e) (scan-short T (slice_get instances a.instance) D e tables)
   operator-short (GroupRows method K G) parts here reads e =
       let both = and_parts (is_subset K (first_columns (columns_of_all (origins_of parts)))) _ here in
       group-short T K (first_columns (columns_of parts)) G (first (outputs_of parts)) e (first-within parts K both.0) (and_parts _ _ both.1).1 (first-short parts reads e)
@@ -233,7 +233,7 @@ module _ (uses : List TableInstance) (D : Tables) (tables : AreShortTables D) wh
       let K : List ℕ = first_columns (columns_of parts) in
       all_map (IsShortIn T K) (IsShortIn T K) (λ r. lay (has K) r e) (λ r h. laid-own T K r e h) _ (distinct-short T K K (first (outputs_of parts) e) (first-short parts reads e))
 
-  node-short : (node : Node) (parts : List Part) → node_reads uses node (origins_of parts) ≡ true → all_read (origins_of parts) ≡ true → (e : Env) → AreShortIn T (node_columns uses node (columns_of parts)) (node_rows uses D node (outputs_of parts) e)
+  node-short : (node : Node) (parts : List Part) → node_reads instances node (origins_of parts) ≡ true → all_read (origins_of parts) ≡ true → (e : Env) → AreShortIn T (node_columns instances node (columns_of parts)) (node_rows instances D node (outputs_of parts) e)
   node-short (Implements line operator) parts here reads e = operator-short operator parts here reads e
   node-short (Sort keys) parts here reads e = sorted-short T _ (keys_order keys) _ (first-short parts reads e)
 
@@ -241,11 +241,11 @@ module _ (uses : List TableInstance) (D : Tables) (tables : AreShortTables D) wh
   unfolding plan_origin plan_output
   step y =
       let z : Plan-F Plan = map-Plan Part Plan (λ p. p.0) y in
-      subst (λ o. IsOriginOf uses o (plan_output uses D (roll-Plan z))) (sym (fold-roll-Plan Origin (origin_layer uses) z))
-      (subst (λ p. IsOriginOf uses (origin_layer uses (map-Plan Plan Origin (plan_origin uses) z)) p) (sym (fold-roll-Plan Output (output_layer uses D) z))
+      subst (λ o. IsOriginOf instances o (plan_output instances D (roll-Plan z))) (sym (fold-roll-Plan Origin (origin_layer instances) z))
+      (subst (λ p. IsOriginOf instances (origin_layer instances (map-Plan Plan Origin (plan_origin instances) z)) p) (sym (fold-roll-Plan Output (output_layer instances D) z))
       (record {
-        columns = ap (node_columns uses y.node) (columns-same y.inputs);
-        short = λ is. let both = and_parts (node_reads uses y.node (origins_of y.inputs)) _ is in node-short y.node y.inputs both.0 both.1;
+        columns = ap (node_columns instances y.node) (columns-same y.inputs);
+        short = λ is. let both = and_parts (node_reads instances y.node (origins_of y.inputs)) _ is in node-short y.node y.inputs both.0 both.1;
       }))
 
   pub origin-is : (plan : Plan) → P plan
@@ -275,10 +275,10 @@ module _ (uses : List TableInstance) (D : Tables) (tables : AreShortTables D) wh
       go (r ∷ rows) all = (row-readable K r all.0 G among apart, go rows all.1)
 
   -- a group whose plan says so may read its input's rows
-  pub group-readable : (method : GroupMethod) (K : List ℕ) (G : List Aggregation) (inputs : List Plan) → operator_reads uses (GroupRows method K G) (map (plan_origin uses) inputs) ≡ true → all_read (map (plan_origin uses) inputs) ≡ true
-      → (e : Env) → AreReadable G (first (map (plan_output uses D) inputs) e)
+  pub group-readable : (method : GroupMethod) (K : List ℕ) (G : List Aggregation) (inputs : List Plan) → operator_reads instances (GroupRows method K G) (map (plan_origin instances) inputs) ≡ true → all_read (map (plan_origin instances) inputs) ≡ true
+      → (e : Env) → AreReadable G (first (map (plan_output instances D) inputs) e)
   group-readable method K G [] here reads e = tt
   group-readable method K G (p ∷ inputs) here reads e =
-      let parts = and_parts (read_among (plan_origin uses p).columns G) _ (and_parts (is_subset K (plan_origin uses p).columns) _ here).1 in
+      let parts = and_parts (read_among (plan_origin instances p).columns G) _ (and_parts (is_subset K (plan_origin instances p).columns) _ here).1 in
       let is = origin-is p in
-      rows-readable (plan_output uses D p).columns G (ap (λ L. read_among L G) (sym is.columns) ∙ parts.0) parts.1 ((plan_output uses D p).rows e) (is.short (and_parts (plan_origin uses p).reads _ reads).0 e)
+      rows-readable (plan_output instances D p).columns G (ap (λ L. read_among L G) (sym is.columns) ∙ parts.0) parts.1 ((plan_output instances D p).rows e) (is.short (and_parts (plan_origin instances p).reads _ reads).0 e)

@@ -11,7 +11,7 @@ abbrev pub order_of : Delivered → List OrderKey
 order_of d = (out-Delivered d).order
 
 abbrev pub each_layer : List TableInstance → Plan-F Delivered → Delivered
-each_layer uses p = roll-Delivered (record { order = node_order uses p.node (map order_of p.inputs); inputs = p.inputs })
+each_layer instances p = roll-Delivered (record { order = node_order instances p.node (map order_of p.inputs); inputs = p.inputs })
 
 unfoldable pub each_order : List TableInstance → Plan → Delivered
-each_order uses = fold-Plan Delivered (each_layer uses)
+each_order instances = fold-Plan Delivered (each_layer instances)

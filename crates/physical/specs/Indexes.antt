@@ -19,10 +19,10 @@ use Rattle.physical.specs.declared.plan.OrderKey.{OrderKey}
 
 -- the columns of the table instance that is read, and its rows
 abbrev pub accessed_columns : List TableInstance → IndexAccess → List ℕ
-accessed_columns uses a = get_columns (slice_get uses a.occurrence)
+accessed_columns instances a = get_columns (slice_get instances a.instance)
 
 abbrev pub accessed_rows : List TableInstance → Tables → IndexAccess → Bag
-accessed_rows uses D a = get_rows (slice_get uses a.occurrence) D
+accessed_rows instances D a = get_rows (slice_get instances a.instance) D
 
 -- the columns of an index of a table instance, whose table has them at these places
 abbrev pub numbered_from : ℕ → List ℕ → List ℕ
@@ -34,7 +34,7 @@ columns_of_index None i = []
 columns_of_index (Some t) i = numbered_from t.first_column (slice_index_or t.entry.indexes i [])
 
 abbrev pub index_columns : List TableInstance → IndexAccess → List ℕ
-index_columns uses a = columns_of_index (slice_get uses a.occurrence) a.index
+index_columns instances a = columns_of_index (slice_get instances a.instance) a.index
 
 -- rising by each of the columns in turn
 abbrev pub rising_keys : List ℕ → List OrderKey
@@ -42,7 +42,7 @@ rising_keys columns = map (λ c. record { column = c; descending = false }) colu
 
 -- the order of the index
 abbrev pub index_order : List TableInstance → IndexAccess → List OrderKey
-index_order uses a = rising_keys (index_columns uses a)
+index_order instances a = rising_keys (index_columns instances a)
 
 -- whether the table has an index with the number
 abbrev pub numbers_index : Option TableInstance → ℕ → Bool
@@ -51,7 +51,7 @@ numbers_index (Some t) i = nat_lt i (length t.entry.indexes)
 
 -- whether its table has the index, by columns of the table instance
 abbrev pub has_index : List TableInstance → IndexAccess → Bool
-has_index uses a = numbers_index (slice_get uses a.occurrence) a.index && is_subset (index_columns uses a) (accessed_columns uses a)
+has_index instances a = numbers_index (slice_get instances a.instance) a.index && is_subset (index_columns instances a) (accessed_columns instances a)
 
 -- ---- what an index is probed with
 
@@ -102,4 +102,4 @@ sure_conditions (Anti S M) = S
 
 -- whether a join is able to find the matches of a left row by the index: its table has it, and each match equates its columns
 abbrev pub finds_by_index : List TableInstance → IndexAccess → Matching → Bool
-finds_by_index uses a j = has_index uses a && are_probed (has (accessed_columns uses a)) (sure_conditions j) (index_columns uses a)
+finds_by_index instances a j = has_index instances a && are_probed (has (accessed_columns instances a)) (sure_conditions j) (index_columns instances a)

@@ -43,26 +43,26 @@ first_order (order ∷ inputs) = order
 
 -- the order that an operator delivers, given those that its inputs do
 abbrev pub operator_order : List TableInstance → Operator → List (List OrderKey) → List OrderKey
-operator_order uses (Scan o) inputs = []
-operator_order uses (IndexScan a C) inputs = index_order uses a
-operator_order uses (Filter C) inputs = first_order inputs
-operator_order uses (FilterSubqueries C) inputs = first_order inputs
-operator_order uses (Projection K) inputs = front (has K) (first_order inputs)
-operator_order uses (JoinRows method j) inputs = first_order inputs
-operator_order uses (IndexJoin a j) inputs = first_order inputs
-operator_order uses (GroupRows Hash K G) inputs = []
-operator_order uses (GroupRows Sorted K G) inputs = front (has K) (first_order inputs)
-operator_order uses (DistinctRows method) inputs = first_order inputs
+operator_order instances (Scan o) inputs = []
+operator_order instances (IndexScan a C) inputs = index_order instances a
+operator_order instances (Filter C) inputs = first_order inputs
+operator_order instances (FilterSubqueries C) inputs = first_order inputs
+operator_order instances (Projection K) inputs = front (has K) (first_order inputs)
+operator_order instances (JoinRows method j) inputs = first_order inputs
+operator_order instances (IndexJoin a j) inputs = first_order inputs
+operator_order instances (GroupRows Hash K G) inputs = []
+operator_order instances (GroupRows Sorted K G) inputs = front (has K) (first_order inputs)
+operator_order instances (DistinctRows method) inputs = first_order inputs
 
 abbrev pub node_order : List TableInstance → Node → List (List OrderKey) → List OrderKey
-node_order uses (Implements line operator) inputs = operator_order uses operator inputs
-node_order uses (Sort keys) inputs = keys
+node_order instances (Implements line operator) inputs = operator_order instances operator inputs
+node_order instances (Sort keys) inputs = keys
 
 abbrev pub order_layer : List TableInstance → Plan-F (List OrderKey) → List OrderKey
-order_layer uses p = node_order uses p.node p.inputs
+order_layer instances p = node_order instances p.node p.inputs
 
 unfoldable pub plan_order : List TableInstance → Plan → List OrderKey
-plan_order uses = fold-Plan (List OrderKey) (order_layer uses)
+plan_order instances = fold-Plan (List OrderKey) (order_layer instances)
 
 -- ---- whether rows stand in it
 
@@ -78,15 +78,15 @@ join_stands j left right = true
 
 -- no join hides a column of its left side, no aggregate a key, and a sort or an index is by columns of what it sorts
 abbrev pub operator_stands : List TableInstance → Operator → List (List ℕ) → Bool
-operator_stands uses (IndexScan a C) inputs = are_columns (accessed_columns uses a) (index_order uses a)
-operator_stands uses (JoinRows method j) inputs = join_stands j (first_columns inputs) (second_columns inputs)
-operator_stands uses (IndexJoin a j) inputs = join_stands j (first_columns inputs) (accessed_columns uses a)
-operator_stands uses (GroupRows method K G) inputs = are_disjoint K (aggregate_columns G)
-operator_stands uses operator inputs = true
+operator_stands instances (IndexScan a C) inputs = are_columns (accessed_columns instances a) (index_order instances a)
+operator_stands instances (JoinRows method j) inputs = join_stands j (first_columns inputs) (second_columns inputs)
+operator_stands instances (IndexJoin a j) inputs = join_stands j (first_columns inputs) (accessed_columns instances a)
+operator_stands instances (GroupRows method K G) inputs = are_disjoint K (aggregate_columns G)
+operator_stands instances operator inputs = true
 
 abbrev pub node_stands : List TableInstance → Node → List (List ℕ) → Bool
-node_stands uses (Implements line operator) inputs = operator_stands uses operator inputs
-node_stands uses (Sort keys) inputs = are_columns (first_columns inputs) keys
+node_stands instances (Implements line operator) inputs = operator_stands instances operator inputs
+node_stands instances (Sort keys) inputs = are_columns (first_columns inputs) keys
 
 -- the columns of a plan's rows, and whether this is so of all its nodes
 pub record Shape : Type 0 where
@@ -94,13 +94,13 @@ pub record Shape : Type 0 where
   pub stands : Bool
 
 abbrev pub shape_layer : List TableInstance → Plan-F Shape → Shape
-shape_layer uses p =
+shape_layer instances p =
     let columns = map (λ x. x.columns) p.inputs in
-    record { columns = node_columns uses p.node columns; stands = node_stands uses p.node columns && list_all (λ x. x.stands) p.inputs }
+    record { columns = node_columns instances p.node columns; stands = node_stands instances p.node columns && list_all (λ x. x.stands) p.inputs }
 
 unfoldable pub plan_shape : List TableInstance → Plan → Shape
-plan_shape uses = fold-Plan Shape (shape_layer uses)
+plan_shape instances = fold-Plan Shape (shape_layer instances)
 
 -- the rows of each plan of which this is so stand in the order that it delivers, in every database and environment
 abbrev pub PlansDeliver : Type 0
-PlansDeliver = (uses : List TableInstance) (D : Tables) (plan : Plan) (e : Env) → (plan_shape uses plan).stands ≡ true → IsOrdered (plan_order uses plan) (output_rows uses D plan e)
+PlansDeliver = (instances : List TableInstance) (D : Tables) (plan : Plan) (e : Env) → (plan_shape instances plan).stands ≡ true → IsOrdered (plan_order instances plan) (output_rows instances D plan e)

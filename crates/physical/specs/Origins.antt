@@ -33,27 +33,27 @@ read_among columns added = list_all (λ a. is_subset (aggregate_reads a.aggregat
 
 -- what an operator takes over by name is a column of its input, and its aggregates are apart from the tables' columns
 abbrev pub operator_reads : List TableInstance → Operator → List Origin → Bool
-operator_reads uses (Projection K) inputs = is_subset K (first_columns (columns_of_all inputs))
-operator_reads uses (GroupRows method K G) inputs =
-    is_subset K (first_columns (columns_of_all inputs)) && (read_among (first_columns (columns_of_all inputs)) G && are_apart (is_table_column uses) G)
-operator_reads uses operator inputs = true
+operator_reads instances (Projection K) inputs = is_subset K (first_columns (columns_of_all inputs))
+operator_reads instances (GroupRows method K G) inputs =
+    is_subset K (first_columns (columns_of_all inputs)) && (read_among (first_columns (columns_of_all inputs)) G && are_apart (is_table_column instances) G)
+operator_reads instances operator inputs = true
 
 abbrev pub node_reads : List TableInstance → Node → List Origin → Bool
-node_reads uses (Implements line operator) inputs = operator_reads uses operator inputs
-node_reads uses (Sort keys) inputs = true
+node_reads instances (Implements line operator) inputs = operator_reads instances operator inputs
+node_reads instances (Sort keys) inputs = true
 
 -- so it is of all inputs
 abbrev pub all_read : List Origin → Bool
 all_read inputs = list_all (λ x. x.reads) inputs
 
 abbrev pub origin_layer : List TableInstance → Plan-F Origin → Origin
-origin_layer uses p = record {
-  columns = node_columns uses p.node (columns_of_all p.inputs);
-  reads = node_reads uses p.node p.inputs && all_read p.inputs;
+origin_layer instances p = record {
+  columns = node_columns instances p.node (columns_of_all p.inputs);
+  reads = node_reads instances p.node p.inputs && all_read p.inputs;
 }
 
 unfoldable pub plan_origin : List TableInstance → Plan → Origin
-plan_origin uses = fold-Plan Origin (origin_layer uses)
+plan_origin instances = fold-Plan Origin (origin_layer instances)
 
 -- the aggregates may read the rows: a SUM reads no number past 64 bits
 abbrev pub AreReadable : List Aggregation → List Env → Type 0

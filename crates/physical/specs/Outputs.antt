@@ -39,19 +39,19 @@ join_columns (Anti S M) left right = left
 
 -- the columns of an operator's rows, given those of its inputs
 abbrev pub operator_columns : List TableInstance → Operator → List (List ℕ) → List ℕ
-operator_columns uses (Scan o) inputs = get_columns (slice_get uses o)
-operator_columns uses (IndexScan a C) inputs = accessed_columns uses a
-operator_columns uses (Filter C) inputs = first_columns inputs
-operator_columns uses (FilterSubqueries C) inputs = first_columns inputs
-operator_columns uses (Projection K) inputs = K
-operator_columns uses (JoinRows method j) inputs = join_columns j (first_columns inputs) (second_columns inputs)
-operator_columns uses (IndexJoin a j) inputs = join_columns j (first_columns inputs) (accessed_columns uses a)
-operator_columns uses (GroupRows method K G) inputs = rising (K ++ aggregate_columns G)
-operator_columns uses (DistinctRows method) inputs = first_columns inputs
+operator_columns instances (Scan o) inputs = get_columns (slice_get instances o)
+operator_columns instances (IndexScan a C) inputs = accessed_columns instances a
+operator_columns instances (Filter C) inputs = first_columns inputs
+operator_columns instances (FilterSubqueries C) inputs = first_columns inputs
+operator_columns instances (Projection K) inputs = K
+operator_columns instances (JoinRows method j) inputs = join_columns j (first_columns inputs) (second_columns inputs)
+operator_columns instances (IndexJoin a j) inputs = join_columns j (first_columns inputs) (accessed_columns instances a)
+operator_columns instances (GroupRows method K G) inputs = rising (K ++ aggregate_columns G)
+operator_columns instances (DistinctRows method) inputs = first_columns inputs
 
 abbrev pub node_columns : List TableInstance → Node → List (List ℕ) → List ℕ
-node_columns uses (Implements line operator) inputs = operator_columns uses operator inputs
-node_columns uses (Sort keys) inputs = first_columns inputs
+node_columns instances (Implements line operator) inputs = operator_columns instances operator inputs
+node_columns instances (Sort keys) inputs = first_columns inputs
 
 -- ---- rows
 
@@ -98,26 +98,26 @@ join_rows (Anti S M) right a b = anti (is_match (Anti S M)) (has right) a b
 
 -- the rows that an operator produces, given its inputs' output
 abbrev pub operator_rows : List TableInstance → Tables → Operator → List Output → Bag
-operator_rows uses D (Scan o) inputs = get_rows (slice_get uses o) D
-operator_rows uses D (IndexScan a C) inputs = λ e. sorted (keys_order (index_order uses a)) (select (holds no_classes C) (accessed_rows uses D a) e)
-operator_rows uses D (Filter C) inputs = select (holds no_classes C) (first inputs)
-operator_rows uses D (FilterSubqueries C) inputs = select (holds (subquery_rows (classes_in C) (rest inputs)) C) (first inputs)
-operator_rows uses D (Projection K) inputs = keep (has K) (first inputs)
-operator_rows uses D (JoinRows method j) inputs = join_rows j (second_columns (map (λ x. x.columns) inputs)) (first inputs) (first (rest inputs))
-operator_rows uses D (IndexJoin a j) inputs = join_rows j (accessed_columns uses a) (first inputs) (accessed_rows uses D a)
-operator_rows uses D (GroupRows method K G) inputs = group K (with_aggregates G) (first inputs)
-operator_rows uses D (DistinctRows method) inputs = distinct (first_columns (map (λ x. x.columns) inputs)) (first inputs)
+operator_rows instances D (Scan o) inputs = get_rows (slice_get instances o) D
+operator_rows instances D (IndexScan a C) inputs = λ e. sorted (keys_order (index_order instances a)) (select (holds no_classes C) (accessed_rows instances D a) e)
+operator_rows instances D (Filter C) inputs = select (holds no_classes C) (first inputs)
+operator_rows instances D (FilterSubqueries C) inputs = select (holds (subquery_rows (classes_in C) (rest inputs)) C) (first inputs)
+operator_rows instances D (Projection K) inputs = keep (has K) (first inputs)
+operator_rows instances D (JoinRows method j) inputs = join_rows j (second_columns (map (λ x. x.columns) inputs)) (first inputs) (first (rest inputs))
+operator_rows instances D (IndexJoin a j) inputs = join_rows j (accessed_columns instances a) (first inputs) (accessed_rows instances D a)
+operator_rows instances D (GroupRows method K G) inputs = group K (with_aggregates G) (first inputs)
+operator_rows instances D (DistinctRows method) inputs = distinct (first_columns (map (λ x. x.columns) inputs)) (first inputs)
 
 abbrev pub node_rows : List TableInstance → Tables → Node → List Output → Bag
-node_rows uses D (Implements line operator) inputs = operator_rows uses D operator inputs
-node_rows uses D (Sort keys) inputs = λ e. sorted (keys_order keys) (first inputs e)
+node_rows instances D (Implements line operator) inputs = operator_rows instances D operator inputs
+node_rows instances D (Sort keys) inputs = λ e. sorted (keys_order keys) (first inputs e)
 
 abbrev pub output_layer : List TableInstance → Tables → Plan-F Output → Output
-output_layer uses D p = record { columns = node_columns uses p.node (map (λ x. x.columns) p.inputs); rows = node_rows uses D p.node p.inputs }
+output_layer instances D p = record { columns = node_columns instances p.node (map (λ x. x.columns) p.inputs); rows = node_rows instances D p.node p.inputs }
 
 unfoldable pub plan_output : List TableInstance → Tables → Plan → Output
-plan_output uses D = fold-Plan Output (output_layer uses D)
+plan_output instances D = fold-Plan Output (output_layer instances D)
 
 -- the rows that a plan produces in each environment
 abbrev pub output_rows : List TableInstance → Tables → Plan → Bag
-output_rows uses D plan = (plan_output uses D plan).rows
+output_rows instances D plan = (plan_output instances D plan).rows

@@ -68,14 +68,14 @@ abbrev pub all_sorted : List Supply → Bool
 all_sorted inputs = list_all (λ x. x.sorted) inputs
 
 abbrev pub supply_layer : List TableInstance → Plan-F Supply → Supply
-supply_layer uses p =
+supply_layer instances p =
     let columns = map (λ x. x.columns) p.inputs in
     let orders = map (λ x. x.order) p.inputs in
     record {
-      columns = node_columns uses p.node columns;
-      order = node_order uses p.node orders;
-      sorted = node_stands uses p.node columns && (inputs_sorted p.node columns orders && all_sorted p.inputs);
+      columns = node_columns instances p.node columns;
+      order = node_order instances p.node orders;
+      sorted = node_stands instances p.node columns && (inputs_sorted p.node columns orders && all_sorted p.inputs);
     }
 
 unfoldable pub plan_supply : List TableInstance → Plan → Supply
-plan_supply uses = fold-Plan Supply (supply_layer uses)
+plan_supply instances = fold-Plan Supply (supply_layer instances)

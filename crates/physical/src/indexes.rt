@@ -29,12 +29,12 @@ fn numbered_from(
 /// The columns of the index, by which it is sorted; none where its table has no such index.
 pub fn index_columns(
     alloc: Global,
-    uses: &[TableInstance],
+    instances: &[TableInstance],
     access: IndexAccess,
 ) -> Result<Vec<ColumnId>, AllocError>
-    ensures { IfOk result (λ columns. columns.items ≡ spec.index_columns uses.now access) }
+    ensures { IfOk result (λ columns. columns.items ≡ spec.index_columns instances.now access) }
 {
-    let Some(instance) = uses.get(access.occurrence as usize) else {
+    let Some(instance) = instances.get(access.instance as usize) else {
         return Ok(Vec::new(alloc));
     };
     let Some(places) = instance.entry.indexes.as_slice().get(access.index as usize) else {
@@ -46,12 +46,12 @@ pub fn index_columns(
 /// The order of the index.
 pub fn index_order(
     alloc: Global,
-    uses: &[TableInstance],
+    instances: &[TableInstance],
     access: IndexAccess,
 ) -> Result<Vec<OrderKey>, AllocError>
-    ensures { IfOk result (λ order. order.items ≡ spec.index_order uses.now access) }
+    ensures { IfOk result (λ order. order.items ≡ spec.index_order instances.now access) }
 {
-    let columns = index_columns(alloc, uses, access)?;
+    let columns = index_columns(alloc, instances, access)?;
     let mut order = Vec::with_capacity(alloc, columns.len())?;
     for column in columns.as_slice() {
         order.push(OrderKey {
@@ -81,16 +81,19 @@ fn are_among(columns: &[ColumnId], own: &Columns) -> bool
 /// Whether the instance's table has the index, by columns of its own.
 pub fn has_index(
     alloc: Global,
-    uses: &[TableInstance],
+    instances: &[TableInstance],
     access: IndexAccess,
 ) -> Result<bool, AllocError>
-    ensures { IfOk result (λ r. r ≡ spec.has_index uses.now access) }
+    ensures { IfOk result (λ r. r ≡ spec.has_index instances.now access) }
 {
-    if !numbers_index(uses.get(access.occurrence as usize), access.index as usize) {
+    if !numbers_index(
+        instances.get(access.instance as usize),
+        access.index as usize,
+    ) {
         return Ok(false);
     }
-    let own = Columns::of_occurrence(alloc, uses, access.occurrence)?;
-    let columns = index_columns(alloc, uses, access)?;
+    let own = Columns::of_instance(alloc, instances, access.instance)?;
+    let columns = index_columns(alloc, instances, access)?;
     Ok(are_among(columns.as_slice(), &own))
 }
 
@@ -179,17 +182,17 @@ fn are_probed(own: &Columns, conditions: &[Condition], columns: &[ColumnId]) -> 
 /// Whether a join is able to find the matches of a left row by the index.
 pub fn finds_by_index(
     alloc: Global,
-    uses: &[TableInstance],
+    instances: &[TableInstance],
     access: IndexAccess,
     matching: &Matching,
 ) -> Result<bool, AllocError>
-    ensures { IfOk result (λ r. r ≡ spec.finds_by_index uses.now access matching.now) }
+    ensures { IfOk result (λ r. r ≡ spec.finds_by_index instances.now access matching.now) }
 {
-    if !has_index(alloc, uses, access)? {
+    if !has_index(alloc, instances, access)? {
         return Ok(false);
     }
-    let own = Columns::of_occurrence(alloc, uses, access.occurrence)?;
-    let columns = index_columns(alloc, uses, access)?;
+    let own = Columns::of_instance(alloc, instances, access.instance)?;
+    let columns = index_columns(alloc, instances, access)?;
     let conditions = matching.sure_conditions();
     Ok(are_probed(&own, conditions, columns.as_slice()))
 }
@@ -203,7 +206,7 @@ impl Matching {
             Matching::Inner(conjuncts) | Matching::Left(conjuncts) | Matching::Semi(conjuncts) => {
                 conjuncts.as_slice()
             }
-            Matching::Anti(sure, _) => sure.as_slice(),
+            Matching::Anti(ordinary, _) => ordinary.as_slice(),
         }
     }
 }

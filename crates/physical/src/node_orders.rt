@@ -32,15 +32,15 @@ fn first_order(alloc: Global, inputs: &[Delivered]) -> Result<Vec<OrderKey>, All
 /// The order that an operator delivers.
 fn operator_order(
     alloc: Global,
-    uses: &[TableInstance],
+    instances: &[TableInstance],
     operator: &Operator,
     inputs: &[Delivered],
 ) -> Result<Vec<OrderKey>, AllocError>
-    ensures { IfOk result (λ order. order.items ≡ orders.operator_order uses.now operator.now (map spec.order_of inputs.now)) }
+    ensures { IfOk result (λ order. order.items ≡ orders.operator_order instances.now operator.now (map spec.order_of inputs.now)) }
 {
     match operator {
         Operator::Scan { .. } => Ok(Vec::new(alloc)),
-        Operator::IndexScan { access, .. } => index_order(alloc, uses, *access),
+        Operator::IndexScan { access, .. } => index_order(alloc, instances, *access),
         Operator::Filter { .. } => first_order(alloc, inputs),
         Operator::FilterSubqueries { .. } => first_order(alloc, inputs),
         Operator::Projection { columns } => {
@@ -63,15 +63,15 @@ fn operator_order(
 /// The order that a node delivers.
 fn node_order(
     alloc: Global,
-    uses: &[TableInstance],
+    instances: &[TableInstance],
     node: &Node,
     inputs: &[Delivered],
 ) -> Result<Items<OrderKey>, AllocError>
-    ensures { IfOk result (λ order. order ≡ orders.node_order uses.now node.now (map spec.order_of inputs.now)) }
+    ensures { IfOk result (λ order. order ≡ orders.node_order instances.now node.now (map spec.order_of inputs.now)) }
 {
     match node {
         Node::Implements { operator, .. } => {
-            let order = operator_order(alloc, uses, operator, inputs)?;
+            let order = operator_order(alloc, instances, operator, inputs)?;
             Ok(Items::from_vec(order))
         }
         Node::Sort { keys } => Items::from_slice(alloc, keys.as_slice()),
@@ -81,15 +81,15 @@ fn node_order(
 /// The orders that a plan's nodes deliver.
 pub fn each_order(
     alloc: Global,
-    uses: &[TableInstance],
+    instances: &[TableInstance],
     plan: &Plan,
 ) -> Result<Delivered, AllocError>
-    ensures { IfOk result (λ delivered. delivered ≡ spec.each_order uses.now plan.now) }
+    ensures { IfOk result (λ delivered. delivered ≡ spec.each_order instances.now plan.now) }
 {
     let mut inputs = Items::new(alloc);
     for input in plan.inputs.as_slice() {
-        inputs.push(each_order(alloc, uses, input)?)?;
+        inputs.push(each_order(alloc, instances, input)?)?;
     }
-    let order = node_order(alloc, uses, &plan.node, inputs.as_slice())?;
+    let order = node_order(alloc, instances, &plan.node, inputs.as_slice())?;
     Ok(Delivered { order, inputs })
 }

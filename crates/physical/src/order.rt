@@ -32,14 +32,14 @@ pub fn front(
 #[cycle(orders)]
 pub fn delivers(
     alloc: Global,
-    uses: &[TableInstance],
+    instances: &[TableInstance],
     plan: &Plan,
 ) -> Result<Vec<OrderKey>, AllocError>
-    ensures { IfOk result (λ order. order.items ≡ spec.plan_order uses.now plan.now) }
+    ensures { IfOk result (λ order. order.items ≡ spec.plan_order instances.now plan.now) }
 {
     let inputs = plan.inputs.as_slice();
     match &plan.node {
-        Node::Implements { operator, .. } => operator_order(alloc, uses, operator, inputs),
+        Node::Implements { operator, .. } => operator_order(alloc, instances, operator, inputs),
         Node::Sort { keys } => {
             let mut order = Vec::new(alloc);
             order.extend_from_slice(keys.as_slice())?;
@@ -52,31 +52,31 @@ pub fn delivers(
 #[cycle(orders)]
 fn operator_order(
     alloc: Global,
-    uses: &[TableInstance],
+    instances: &[TableInstance],
     operator: &Operator,
     inputs: &[Plan],
 ) -> Result<Vec<OrderKey>, AllocError>
-    ensures { IfOk result (λ order. order.items ≡ spec.operator_order uses.now operator.now (map (spec.plan_order uses.now) inputs.now)) }
+    ensures { IfOk result (λ order. order.items ≡ spec.operator_order instances.now operator.now (map (spec.plan_order instances.now) inputs.now)) }
 {
     match operator {
         Operator::Scan { .. } => Ok(Vec::new(alloc)),
-        Operator::IndexScan { access, .. } => index_order(alloc, uses, *access),
-        Operator::Filter { .. } => first_order(alloc, uses, inputs),
-        Operator::FilterSubqueries { .. } => first_order(alloc, uses, inputs),
+        Operator::IndexScan { access, .. } => index_order(alloc, instances, *access),
+        Operator::Filter { .. } => first_order(alloc, instances, inputs),
+        Operator::FilterSubqueries { .. } => first_order(alloc, instances, inputs),
         Operator::Projection { columns } => {
-            let order = first_order(alloc, uses, inputs)?;
+            let order = first_order(alloc, instances, inputs)?;
             front(alloc, order.as_slice(), columns)
         }
-        Operator::JoinRows { .. } => first_order(alloc, uses, inputs),
-        Operator::IndexJoin { .. } => first_order(alloc, uses, inputs),
+        Operator::JoinRows { .. } => first_order(alloc, instances, inputs),
+        Operator::IndexJoin { .. } => first_order(alloc, instances, inputs),
         Operator::GroupRows { method, keys, .. } => match method {
             GroupMethod::Hash => Ok(Vec::new(alloc)),
             GroupMethod::Sorted => {
-                let order = first_order(alloc, uses, inputs)?;
+                let order = first_order(alloc, instances, inputs)?;
                 front(alloc, order.as_slice(), keys)
             }
         },
-        Operator::DistinctRows { .. } => first_order(alloc, uses, inputs),
+        Operator::DistinctRows { .. } => first_order(alloc, instances, inputs),
     }
 }
 
@@ -84,13 +84,13 @@ fn operator_order(
 #[cycle(orders)]
 fn first_order(
     alloc: Global,
-    uses: &[TableInstance],
+    instances: &[TableInstance],
     inputs: &[Plan],
 ) -> Result<Vec<OrderKey>, AllocError>
-    ensures { IfOk result (λ order. order.items ≡ spec.first_order (map (spec.plan_order uses.now) inputs.now)) }
+    ensures { IfOk result (λ order. order.items ≡ spec.first_order (map (spec.plan_order instances.now) inputs.now)) }
 {
     match inputs.first() {
-        Some(plan) => delivers(alloc, uses, plan),
+        Some(plan) => delivers(alloc, instances, plan),
         None => Ok(Vec::new(alloc)),
     }
 }

@@ -1,7 +1,7 @@
 //! What a plan is.
 
 use algebra::{Aggregations, Columns, Conjuncts, LineId};
-use query::{ColumnId, OccurrenceId};
+use query::{ColumnId, InstanceId};
 use values::Items;
 
 /// Which rows a join gives. A left row *matches* the right rows with which it makes all conjuncts true.
@@ -13,7 +13,7 @@ pub enum Matching {
     Left(Conjuncts),
     /// The left rows that match some.
     Semi(Conjuncts),
-    /// The left rows for which no right row makes all of the first true and none of the second false: `Anti(sure, maybe)`.
+    /// The left rows for which no right row makes all of the first true and none of the second false: `Anti(ordinary, null_aware)`.
     Anti(Conjuncts, Conjuncts),
 }
 
@@ -48,7 +48,7 @@ pub struct OrderKey {
 pub struct IndexAccess {
     /// The line of the instance's Get.
     pub line: LineId,
-    pub occurrence: OccurrenceId,
+    pub instance: InstanceId,
     /// The index's number in the table's entry.
     pub index: u32,
 }
@@ -58,7 +58,7 @@ pub struct IndexAccess {
 pub enum Operator {
     /// The rows of a table instance, in the order of the table.
     Scan {
-        occurrence: OccurrenceId,
+        instance: InstanceId,
     },
     /// The rows of a table instance that make all conjuncts true, which have no subquery, in the order of the index, those
     /// that tie in the order of the table.

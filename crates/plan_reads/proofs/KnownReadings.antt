@@ -115,16 +115,16 @@ classes-fit (g ∷ classes) (x ∷ all) (r ∷ readings) are h =
 
 -- ---- tables
 
-pub table-reads : (uses : List TableInstance) (o : ℕ) (D : Tables) (columns free : List ℕ) → columns ≡ get_columns (slice_get uses o) → IsReading (get_columns (slice_get uses o)) (get_rows (slice_get uses o) D) (record { columns = columns; free = free })
-table-reads uses o D columns free are = record { columns_are = are; rows_fit = get-fits (slice_get uses o) D (has free) }
+pub table-reads : (instances : List TableInstance) (o : ℕ) (D : Tables) (columns free : List ℕ) → columns ≡ get_columns (slice_get instances o) → IsReading (get_columns (slice_get instances o)) (get_rows (slice_get instances o) D) (record { columns = columns; free = free })
+table-reads instances o D columns free are = record { columns_are = are; rows_fit = get-fits (slice_get instances o) D (has free) }
 
 -- ---- plans, by their root's node
 
 abbrev pub node_output : List TableInstance → Tables → Node → List Output → Output
-node_output uses D node all = record { columns = node_columns uses node (map (λ x. x.columns) all); rows = node_rows uses D node all }
+node_output instances D node all = record { columns = node_columns instances node (map (λ x. x.columns) all); rows = node_rows instances D node all }
 
-pub plan-reads : (uses : List TableInstance) (D : Tables) (p : Plan) (node : Node) (inputs : List Plan) (r : Reading) → (out-Plan p).node ≡ node → inputs ≡ (out-Plan p).inputs
-    → IsReading (node_columns uses node (map (λ x. x.columns) (map (plan_output uses D) inputs))) (node_rows uses D node (map (plan_output uses D) inputs)) r → IsReading (plan_output uses D p).columns (output_rows uses D p) r
+pub plan-reads : (instances : List TableInstance) (D : Tables) (p : Plan) (node : Node) (inputs : List Plan) (r : Reading) → (out-Plan p).node ≡ node → inputs ≡ (out-Plan p).inputs
+    → IsReading (node_columns instances node (map (λ x. x.columns) (map (plan_output instances D) inputs))) (node_rows instances D node (map (plan_output instances D) inputs)) r → IsReading (plan_output instances D p).columns (output_rows instances D p) r
 unfolding plan_output
-plan-reads uses D p node inputs r is given =
-    subst (λ (x : Output). IsReading x.columns x.rows r) (two (node_output uses D) (sym is) (ap (map (plan_output uses D)) given) ∙ sym (fold_out-Plan Output (output_layer uses D) p))
+plan-reads instances D p node inputs r is given =
+    subst (λ (x : Output). IsReading x.columns x.rows r) (two (node_output instances D) (sym is) (ap (map (plan_output instances D)) given) ∙ sym (fold_out-Plan Output (output_layer instances D) p))

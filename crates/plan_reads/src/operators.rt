@@ -128,9 +128,9 @@ fn matching_columns(alloc: Global, matching: &Matching) -> Result<Vec<ColumnId>,
         Matching::Inner(conjuncts) | Matching::Left(conjuncts) | Matching::Semi(conjuncts) => {
             add_all_mentioned(conjuncts.as_slice(), Subqueries::none(), &mut read)?;
         }
-        Matching::Anti(sure, maybe) => {
-            add_all_mentioned(sure.as_slice(), Subqueries::none(), &mut read)?;
-            add_all_mentioned(maybe.as_slice(), Subqueries::none(), &mut read)?;
+        Matching::Anti(ordinary, null_aware) => {
+            add_all_mentioned(ordinary.as_slice(), Subqueries::none(), &mut read)?;
+            add_all_mentioned(null_aware.as_slice(), Subqueries::none(), &mut read)?;
         }
     }
     Ok(read)

@@ -25,33 +25,37 @@ use std::alloc::{AllocError, Global};
 /// environment.
 pub fn free_columns(
     alloc: Global,
-    uses: &[TableInstance],
+    instances: &[TableInstance],
     plan: &Plan,
 ) -> Result<Columns, AllocError>
-    ensures { (D : Tables) → IfOk result (λ free. Fits (has (plan_output uses.now D plan.now).columns) (has free) (output_rows uses.now D plan.now)) }
+    ensures { (D : Tables) → IfOk result (λ free. Fits (has (plan_output instances.now D plan.now).columns) (has free) (output_rows instances.now D plan.now)) }
 {
-    Ok(plan_reading(alloc, uses, plan)?.free)
+    Ok(plan_reading(alloc, instances, plan)?.free)
 }
 
 #[cycle(readings)]
-fn plan_reading(alloc: Global, uses: &[TableInstance], plan: &Plan) -> Result<Reading, AllocError>
-    ensures { (D : Tables) → IfOk result (IsReading (plan_output uses.now D plan.now).columns (output_rows uses.now D plan.now)) }
+fn plan_reading(
+    alloc: Global,
+    instances: &[TableInstance],
+    plan: &Plan,
+) -> Result<Reading, AllocError>
+    ensures { (D : Tables) → IfOk result (IsReading (plan_output instances.now D plan.now).columns (output_rows instances.now D plan.now)) }
 {
-    let inputs = plan_readings(alloc, uses, plan.inputs.as_slice())?;
-    node_reading(alloc, uses, &plan.node, inputs.as_slice())
+    let inputs = plan_readings(alloc, instances, plan.inputs.as_slice())?;
+    node_reading(alloc, instances, &plan.node, inputs.as_slice())
 }
 
 #[cycle(readings)]
 fn plan_readings(
     alloc: Global,
-    uses: &[TableInstance],
+    instances: &[TableInstance],
     plans: &[Plan],
 ) -> Result<Vec<Reading>, AllocError>
-    ensures { (D : Tables) → IfOk result (λ readings. AreReadings (map (plan_output uses.now D) plans.now) readings.items) }
+    ensures { (D : Tables) → IfOk result (λ readings. AreReadings (map (plan_output instances.now D) plans.now) readings.items) }
 {
     let mut readings = Vec::with_capacity(alloc, plans.len())?;
     for plan in plans {
-        readings.push(plan_reading(alloc, uses, plan)?)?;
+        readings.push(plan_reading(alloc, instances, plan)?)?;
     }
     Ok(readings)
 }
@@ -59,14 +63,14 @@ fn plan_readings(
 /// What a node's rows read, given what those of its inputs do.
 fn node_reading(
     alloc: Global,
-    uses: &[TableInstance],
+    instances: &[TableInstance],
     node: &Node,
     inputs: &[Reading],
 ) -> Result<Reading, AllocError>
-    ensures { (D : Tables) (all : List Output) → AreReadings all inputs.now → IfOk result (IsReading (node_columns uses.now node.now (map (λ x. x.columns) all)) (node_rows uses.now D node.now all)) }
+    ensures { (D : Tables) (all : List Output) → AreReadings all inputs.now → IfOk result (IsReading (node_columns instances.now node.now (map (λ x. x.columns) all)) (node_rows instances.now D node.now all)) }
 {
     match node {
-        Node::Implements { operator, .. } => operator_reading(alloc, uses, operator, inputs),
+        Node::Implements { operator, .. } => operator_reading(alloc, instances, operator, inputs),
         Node::Sort { keys } => {
             let input = input_reading(alloc, inputs, 0)?;
             sorted(alloc, input, keys.as_slice())
@@ -76,17 +80,17 @@ fn node_reading(
 
 fn operator_reading(
     alloc: Global,
-    uses: &[TableInstance],
+    instances: &[TableInstance],
     operator: &Operator,
     inputs: &[Reading],
 ) -> Result<Reading, AllocError>
-    ensures { (D : Tables) (all : List Output) → AreReadings all inputs.now → IfOk result (IsReading (operator_columns uses.now operator.now (map (λ x. x.columns) all)) (operator_rows uses.now D operator.now all)) }
+    ensures { (D : Tables) (all : List Output) → AreReadings all inputs.now → IfOk result (IsReading (operator_columns instances.now operator.now (map (λ x. x.columns) all)) (operator_rows instances.now D operator.now all)) }
 {
     let input = input_reading(alloc, inputs, 0)?;
     match operator {
-        Operator::Scan { occurrence } => Reading::of_occurrence(alloc, uses, *occurrence),
+        Operator::Scan { instance } => Reading::of_instance(alloc, instances, *instance),
         Operator::IndexScan { access, conjuncts } => {
-            index_scanned(alloc, uses, *access, conjuncts)
+            index_scanned(alloc, instances, *access, conjuncts)
         }
         Operator::Filter { conjuncts } => { filtered(alloc, input, conjuncts.as_slice()) }
         Operator::FilterSubqueries { conjuncts } => {
@@ -98,7 +102,7 @@ fn operator_reading(
             joined(alloc, &input, &right, matching)
         }
         Operator::IndexJoin { access, matching } => {
-            let right = Reading::of_occurrence(alloc, uses, access.occurrence)?;
+            let right = Reading::of_instance(alloc, instances, access.instance)?;
             joined(alloc, &input, &right, matching)
         }
         Operator::GroupRows { keys, added, .. } => grouped(alloc, input, keys, added.as_slice()),
@@ -109,15 +113,15 @@ fn operator_reading(
 /// The rows of a table instance at which all conjuncts are true, in the order of an index.
 fn index_scanned(
     alloc: Global,
-    uses: &[TableInstance],
+    instances: &[TableInstance],
     access: IndexAccess,
     conjuncts: &Conjuncts,
 ) -> Result<Reading, AllocError>
-    ensures { (D : Tables) → IfOk result (IsReading (accessed_columns uses.now access) (λ e. sorts.sorted (sorts.keys_order (spec.index_order uses.now access)) (select (holds no_classes conjuncts.now) (accessed_rows uses.now D access) e))) }
+    ensures { (D : Tables) → IfOk result (IsReading (accessed_columns instances.now access) (λ e. sorts.sorted (sorts.keys_order (spec.index_order instances.now access)) (select (holds no_classes conjuncts.now) (accessed_rows instances.now D access) e))) }
 {
-    let table = Reading::of_occurrence(alloc, uses, access.occurrence)?;
+    let table = Reading::of_instance(alloc, instances, access.instance)?;
     let kept = filtered(alloc, table, conjuncts.as_slice())?;
-    let order = index_order(alloc, uses, access)?;
+    let order = index_order(alloc, instances, access)?;
     sorted(alloc, kept, order.as_slice())
 }
 

@@ -7,7 +7,7 @@ ghost use Rattle.physical.specs.Indexes.{accessed_columns, accessed_rows};
 ghost use Rattle.plan_reads.specs.Readings.{IsReading, also_reading, beside, input_at, no_reading};
 
 use algebra::Columns;
-use query::{ColumnId, OccurrenceId, TableInstance};
+use query::{ColumnId, InstanceId, TableInstance};
 use std::alloc::{AllocError, Global};
 
 /// Rows have these columns, and depend on the environment in the free columns alone.
@@ -29,15 +29,15 @@ impl Reading {
     }
 
     /// The rows of a table instance.
-    pub fn of_occurrence(
+    pub fn of_instance(
         alloc: Global,
-        uses: &[TableInstance],
-        occurrence: OccurrenceId,
+        instances: &[TableInstance],
+        instance: InstanceId,
     ) -> Result<Reading, AllocError>
-        ensures { (D : Tables) → IfOk result (IsReading (get_columns (slice_get uses.now occurrence)) (get_rows (slice_get uses.now occurrence) D)) }
+        ensures { (D : Tables) → IfOk result (IsReading (get_columns (slice_get instances.now instance)) (get_rows (slice_get instances.now instance) D)) }
     {
         Ok(Reading {
-            columns: Columns::of_occurrence(alloc, uses, occurrence)?,
+            columns: Columns::of_instance(alloc, instances, instance)?,
             free: Columns::from_vec(Vec::new(alloc)),
         })
     }

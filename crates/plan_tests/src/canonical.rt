@@ -72,7 +72,7 @@ fn push_join_method(reported: &mut String, method: JoinMethod) -> Result<(), All
 /// An index of a table instance.
 fn push_access(reported: &mut String, access: IndexAccess) -> Result<(), AllocError> {
     push_number(reported, "by index ", access.index as usize)?;
-    push_number(reported, " of ", access.occurrence as usize)?;
+    push_number(reported, " of ", access.instance as usize)?;
     reported.push_str(" ")
 }
 
@@ -95,7 +95,7 @@ fn push_join(
         Matching::Inner(conjuncts) => push_filter(reported, lines, "inner join ", line, conjuncts),
         Matching::Left(conjuncts) => push_filter(reported, lines, "left join ", line, conjuncts),
         Matching::Semi(conjuncts) => push_filter(reported, lines, "semijoin ", line, conjuncts),
-        Matching::Anti(sure, _) => push_filter(reported, lines, "antijoin ", line, sure),
+        Matching::Anti(ordinary, _) => push_filter(reported, lines, "antijoin ", line, ordinary),
     }
 }
 
@@ -106,9 +106,9 @@ fn push_operator(
     operator: &Operator,
 ) -> Result<(), AllocError> {
     match operator {
-        Operator::Scan { occurrence } => {
+        Operator::Scan { instance } => {
             push_number(reported, "scan ", line as usize)?;
-            push_number(reported, " of ", *occurrence as usize)
+            push_number(reported, " of ", *instance as usize)
         }
         Operator::IndexScan { access, conjuncts } => {
             push_access(reported, *access)?;

@@ -74,18 +74,18 @@ fn conjuncts_of<'a>(alloc: Global, text: &'a str) -> Result<(Conjuncts, &'a str)
 }
 
 fn joined(alloc: Global, name: &str, words: &str) -> Result<Expr, AllocError> {
-    let (sure, words) = conjuncts_of(alloc, words)?;
+    let (ordinary, words) = conjuncts_of(alloc, words)?;
     if name == "anti" {
-        let (maybe, words) = conjuncts_of(alloc, words)?;
+        let (null_aware, words) = conjuncts_of(alloc, words)?;
         let (left, right) = cut(words, " ");
-        return Ok(Expr::Anti(sure, maybe, id(left), id(right)));
+        return Ok(Expr::Anti(ordinary, null_aware, id(left), id(right)));
     }
     let (left, right) = cut(words, " ");
     Ok(match name {
-        "semi" => Expr::Semi(sure, id(left), id(right)),
-        "left" => Expr::LeftJoin(sure, id(left), id(right)),
-        "select" => Expr::Select(sure, id(left)),
-        _ => Expr::Join(sure, id(left), id(right)),
+        "semi" => Expr::Semi(ordinary, id(left), id(right)),
+        "left" => Expr::LeftJoin(ordinary, id(left), id(right)),
+        "select" => Expr::Select(ordinary, id(left)),
+        _ => Expr::Join(ordinary, id(left), id(right)),
     })
 }
 

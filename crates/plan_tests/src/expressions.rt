@@ -7,7 +7,7 @@ use crate::tables::TABLES;
 use crate::texts::{push_aggregates, push_columns};
 use algebra::{Aggregation, Aggregations, Columns, Condition, Conjuncts, Expr, Term};
 use fixtures::{QueryReporting, Reporting, differences, push_number, query_differences};
-use query::{Aggregate, BoundQuery, ColumnId, OccurrenceId, TableInstance};
+use query::{Aggregate, BoundQuery, ColumnId, InstanceId, TableInstance};
 use std::alloc::{AllocError, Global};
 use store::Database;
 use values::{Comparison, Literal};
@@ -65,23 +65,23 @@ fn push_ordered(alloc: Global, reported: &mut String) -> Result<(), AllocError> 
     push_aggregates(reported, added.as_slice())
 }
 
-/// The columns of an occurrence.
-fn push_occurrence(
+/// The columns of an instance.
+fn push_instance(
     alloc: Global,
     reported: &mut String,
-    uses: &[TableInstance],
-    occurrence: OccurrenceId,
+    instances: &[TableInstance],
+    instance: InstanceId,
 ) -> Result<(), AllocError> {
-    let own = Columns::of_occurrence(alloc, uses, occurrence)?;
+    let own = Columns::of_instance(alloc, instances, instance)?;
     push_columns(reported, own.as_slice())
 }
 
 /// The columns of the classes of `get 0` and of a `keep 2`.
-fn classes(alloc: Global, uses: &[TableInstance]) -> Result<Vec<Columns>, AllocError>
+fn classes(alloc: Global, instances: &[TableInstance]) -> Result<Vec<Columns>, AllocError>
     ensures { IfOk result (λ v. length v.items ≡ 2) }
 {
     let mut classes = Vec::new(alloc);
-    let first = Expr::Get(0).columns(alloc, uses, &[])?;
+    let first = Expr::Get(0).columns(alloc, instances, &[])?;
     classes.push(first)?;
     let second = columns_of(alloc, "2 2")?;
     classes.push(second)?;
@@ -89,9 +89,9 @@ fn classes(alloc: Global, uses: &[TableInstance]) -> Result<Vec<Columns>, AllocE
 }
 
 /// Whether it is well formed over these classes, in a query with the sum.
-fn is_formed(alloc: Global, uses: &[TableInstance], expr: &Expr) -> Result<bool, AllocError> {
-    let classes = classes(alloc, uses)?;
-    Ok(expr.names_below(2) && expr.is_formed(uses, &[SUM_OF_BOSSES], classes.as_slice()))
+fn is_formed(alloc: Global, instances: &[TableInstance], expr: &Expr) -> Result<bool, AllocError> {
+    let classes = classes(alloc, instances)?;
+    Ok(expr.names_below(2) && expr.is_formed(instances, &[SUM_OF_BOSSES], classes.as_slice()))
 }
 
 /// `keep CLASS: COLUMNS`, or `join CLASS`: a join of the first class with that one, whose condition reads the sum.
@@ -123,7 +123,7 @@ fn push_parts(alloc: Global, reported: &mut String, expr: &Expr) -> Result<(), A
     push_columns(reported, expr.inputs(alloc)?.as_slice())
 }
 
-/// Reports the columns of an occurrence or of groups, the parts of an expression, or whether it is well formed.
+/// Reports the columns of an instance or of groups, the parts of an expression, or whether it is well formed.
 struct Expressions;
 
 impl QueryReporting for Expressions {
@@ -136,9 +136,9 @@ impl QueryReporting for Expressions {
         reported: &mut String,
     ) -> Result<(), AllocError> {
         let query = query.query();
-        let uses = query.tables.as_slice();
-        if let Some(occurrence) = more.strip_prefix("columns ") {
-            return push_occurrence(alloc, reported, uses, id(occurrence));
+        let instances = query.tables.as_slice();
+        if let Some(instance) = more.strip_prefix("columns ") {
+            return push_instance(alloc, reported, instances, id(instance));
         }
         if more == "aggregates" {
             return push_ordered(alloc, reported);
@@ -150,7 +150,7 @@ impl QueryReporting for Expressions {
             return push_parts(alloc, reported, &expr_of(alloc, text)?);
         }
         let expr = expr_of(alloc, more)?;
-        reported.push_str(if is_formed(alloc, uses, &expr)? {
+        reported.push_str(if is_formed(alloc, instances, &expr)? {
             "formed"
         } else {
             "not formed"

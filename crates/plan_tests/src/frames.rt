@@ -37,15 +37,15 @@ fn aggregates(line: &Expr) -> &[Aggregation] {
 /// Whether a line is well formed after classes with these columns, which its own are added to.
 fn is_formed(
     alloc: Global,
-    uses: &[TableInstance],
+    instances: &[TableInstance],
     classes: &mut Vec<Columns>,
     line: &Expr,
 ) -> Result<bool, AllocError> {
     if !line.names_below(classes.len()) {
         return Ok(false);
     }
-    let formed = line.is_formed(uses, aggregates(line), classes.as_slice());
-    let columns = line.columns(alloc, uses, classes.as_slice())?;
+    let formed = line.is_formed(instances, aggregates(line), classes.as_slice());
+    let columns = line.columns(alloc, instances, classes.as_slice())?;
     classes.push(columns)?;
     Ok(formed)
 }

@@ -57,7 +57,7 @@ impl QueryReporting for Orders {
 
 #[test]
 fn plans_deliver_orders(rt: HostRuntime) {
-    // The third line joins the two occurrences, whose columns are 0 and 1, and 2 and 3; the first one has no conjuncts.
+    // The third line joins the two instances, whose columns are 0 and 1, and 2 and 3; the first one has no conjuncts.
     const CASES: &str = "SELECT x.boss, x.id FROM dept x, dept y => scan 0 0 => order
 SELECT x.boss, x.id FROM dept x, dept y => scan 0 0 | sort: 1d 0 | filter 0 => order 1d 0
 SELECT x.boss, x.id FROM dept x, dept y => scan 0 0 | sort: 1d 0 | cut 0: 1 => order 1d

@@ -139,10 +139,10 @@ fn join_of(
 /// The line of a Get, its table instance and an index.
 fn access_of(words: Words<'_>) -> IndexAccess {
     let (line, rest) = cut(words.columns.trim(), " ");
-    let (occurrence, index) = cut(rest, " ");
+    let (instance, index) = cut(rest, " ");
     IndexAccess {
         line: id(line),
-        occurrence: id(occurrence),
+        instance: id(instance),
         index: id(index),
     }
 }
@@ -210,7 +210,7 @@ fn operator_of(alloc: Global, lines: &[Expr], words: Words<'_>) -> Result<Operat
             method: GroupMethod::Sorted,
         }),
         _ => Ok(Operator::Scan {
-            occurrence: words.more,
+            instance: words.more,
         }),
     }
 }

@@ -59,7 +59,7 @@ pub fn push_keys(reported: &mut String, keys: &[OrderKey]) -> Result<(), AllocEr
 
 pub fn push_line(alloc: Global, reported: &mut String, line: &Expr) -> Result<(), AllocError> {
     match line {
-        Expr::Get(occurrence) => push_number(reported, "get ", *occurrence as usize),
+        Expr::Get(instance) => push_number(reported, "get ", *instance as usize),
         Expr::Select(conjuncts, input) => {
             push_number(reported, "select ", *input as usize)?;
             push_conjuncts(alloc, reported, conjuncts)

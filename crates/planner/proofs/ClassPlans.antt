@@ -64,14 +64,14 @@ module _ (lines : List Expr) where
   all-basic (h ∷ classes) [] all = absurd all
   all-basic (h ∷ classes) (x ∷ plans) all = and_from _ _ all.0.basic (all-basic classes plans all.1)
 
-  all-fit : (uses : List TableInstance) (cols : ℕ → List ℕ) (classes : List ℕ) (plans : List Plan) → ArePlansOf classes plans → (n : ℕ) → (m : ℕ) × (inputs_fit (map (plan_fits uses (log_of lines) cols) plans) classes n ≡ Ok m)
-  all-fit uses cols [] [] all n = (n, refl)
-  all-fit uses cols [] (x ∷ plans) all n = absurd all
-  all-fit uses cols (h ∷ classes) [] all n = absurd all
-  all-fit uses cols (h ∷ classes) (x ∷ plans) all n =
-      let first = all.0.fits uses cols n in
-      let rest = all-fit uses cols classes plans all.1 first.0 in
-      (rest.0, ap (λ r. r >>= (λ m. inputs_fit (map (plan_fits uses (log_of lines) cols) plans) classes m)) first.1 ∙ rest.1)
+  all-fit : (instances : List TableInstance) (cols : ℕ → List ℕ) (classes : List ℕ) (plans : List Plan) → ArePlansOf classes plans → (n : ℕ) → (m : ℕ) × (inputs_fit (map (plan_fits instances (log_of lines) cols) plans) classes n ≡ Ok m)
+  all-fit instances cols [] [] all n = (n, refl)
+  all-fit instances cols [] (x ∷ plans) all n = absurd all
+  all-fit instances cols (h ∷ classes) [] all n = absurd all
+  all-fit instances cols (h ∷ classes) (x ∷ plans) all n =
+      let first = all.0.fits instances cols n in
+      let rest = all-fit instances cols classes plans all.1 first.0 in
+      (rest.0, ap (λ r. r >>= (λ m. inputs_fit (map (plan_fits instances (log_of lines) cols) plans) classes m)) first.1 ∙ rest.1)
 
   -- the classes that the conditions of a line name are founded by earlier lines
   founded-earlier : (g : ℕ) (C D : List Condition) → g < length lines → same_conditions C D ≡ true → subqueries_pass (λ h. nat_lt h g) D ≡ true → are_founded (log_of lines) C ≡ true
@@ -103,19 +103,19 @@ module _ (lines : List Expr) where
   basic-names cols g operator x lt basic is pass = cc
 
   -- a basic operator reads nothing by an index, and needs all classes that its expression names
-  pub record IsBasicAt (uses : List TableInstance) (g : ℕ) (operator : Operator) (x : Expr) : Type 0 where
-    pub indexed : index_fits uses (log_of lines) g operator x ≡ true
+  pub record IsBasicAt (instances : List TableInstance) (g : ℕ) (operator : Operator) (x : Expr) : Type 0 where
+    pub indexed : index_fits instances (log_of lines) g operator x ≡ true
     pub needs : needed_classes operator x ≡ input_classes x
 
-  pub basic-at : (uses : List TableInstance) (g : ℕ) (operator : Operator) (x : Expr) → is_basic operator ≡ true → IsBasicAt uses g operator x
-  basic-at uses g (IndexScan a C) x is = cc
-  basic-at uses g (IndexJoin a j) x is = cc
-  basic-at uses g operator x is = record { indexed = refl; needs = refl }
+  pub basic-at : (instances : List TableInstance) (g : ℕ) (operator : Operator) (x : Expr) → is_basic operator ≡ true → IsBasicAt instances g operator x
+  basic-at instances g (IndexScan a C) x is = cc
+  basic-at instances g (IndexJoin a j) x is = cc
+  basic-at instances g operator x is = record { indexed = refl; needs = refl }
 
-  node-fits : (uses : List TableInstance) (cols : ℕ → List ℕ) (g : ℕ) (x : Expr) (operator : Operator) (n : ℕ) → NameEarlier lines → slice_get lines g ≡ Some x → is_basic operator ≡ true → implements cols operator x ≡ true
-      → node_fits uses (log_of lines) cols (Implements g operator) (length (input_classes x)) g n ≡ Ok (input_classes x)
-  node-fits uses cols g x operator n earlier at basic is =
-      let plain = basic-at uses g operator x basic in
+  node-fits : (instances : List TableInstance) (cols : ℕ → List ℕ) (g : ℕ) (x : Expr) (operator : Operator) (n : ℕ) → NameEarlier lines → slice_get lines g ≡ Some x → is_basic operator ≡ true → implements cols operator x ≡ true
+      → node_fits instances (log_of lines) cols (Implements g operator) (length (input_classes x)) g n ≡ Ok (input_classes x)
+  node-fits instances cols g x operator n earlier at basic is =
+      let plain = basic-at instances g operator x basic in
       let names = basic-names cols g operator x (slice_get_within lines g x at) basic is (and_parts _ _ (earlier g x at).0).1 in
       let there = lt-ltb g (length (log_of lines)) (subst (λ n. g < n) (sym (length-log lines)) (slice_get_within lines g x at)) in
       rw (there, names, member-log lines g x at, same-itself lines g, is, plain.indexed, plain.needs, eq-eqb (length (input_classes x)) (length (input_classes x)) refl) refl
@@ -145,11 +145,11 @@ module _ (lines : List Expr) where
       → IsPlanOf lines g (over (Implements g operator) inputs)
   plan_of_class g x operator inputs earlier at is all = record {
     basic = over-basic (Implements g operator) inputs is.basic (all-basic (input_classes x) inputs all);
-    fits = λ uses cols n.
-        let rest = all-fit uses cols (input_classes x) inputs all (n + 1) in (
+    fits = λ instances cols n.
+        let rest = all-fit instances cols (input_classes x) inputs all (n + 1) in (
           rest.0,
-          plan_fits_out uses (log_of lines) cols (over (Implements g operator) inputs) true g n
-              ∙ rw (out-roll-Plan (record { node = Implements g operator; inputs = inputs }), as-many (input_classes x) inputs all, node-fits uses cols g x operator n earlier at is.basic (is.implemented cols), basic-sorted operator is.basic (map cols (input_classes x)) (map (plan_order uses) inputs)) rest.1,
+          plan_fits_out instances (log_of lines) cols (over (Implements g operator) inputs) true g n
+              ∙ rw (out-roll-Plan (record { node = Implements g operator; inputs = inputs }), as-many (input_classes x) inputs all, node-fits instances cols g x operator n earlier at is.basic (is.implemented cols), basic-sorted operator is.basic (map cols (input_classes x)) (map (plan_order instances) inputs)) rest.1,
         );
   }
 

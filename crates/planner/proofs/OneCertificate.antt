@@ -93,14 +93,14 @@ operator-there (Sort keys) basic = cc
 
 -- ---- one plan without a sort is of a class
 
-module _ (uses : List TableInstance) (lines : List Expr) where
+module _ (instances : List TableInstance) (lines : List Expr) where
   -- the plan is of the class, in whatever columns, order and numbers
   record Fits (g : ℕ) (p : Plan) : Type 0 where
     cols : ℕ → List ℕ
     ordered : Bool
     number : ℕ
     after : ℕ
-    fits : plan_fits uses (log_of lines) cols p ordered g number ≡ Ok after
+    fits : plan_fits instances (log_of lines) cols p ordered g number ≡ Ok after
 
   abbrev AllFit : List ℕ → List Plan → Type 0
   AllFit [] [] = Unit {0}
@@ -108,12 +108,12 @@ module _ (uses : List TableInstance) (lines : List Expr) where
   AllFit (g ∷ classes) [] = ⊥
   AllFit (g ∷ classes) (p ∷ plans) = Fits g p × AllFit classes plans
 
-  all-fit : (cols : ℕ → List ℕ) (classes : List ℕ) (plans : List Plan) (n m : ℕ) → length plans ≡ length classes → inputs_fit (map (plan_fits uses (log_of lines) cols) plans) classes n ≡ Ok m → AllFit classes plans
+  all-fit : (cols : ℕ → List ℕ) (classes : List ℕ) (plans : List Plan) (n m : ℕ) → length plans ≡ length classes → inputs_fit (map (plan_fits instances (log_of lines) cols) plans) classes n ≡ Ok m → AllFit classes plans
   all-fit cols [] [] n m count fits = tt
   all-fit cols [] (p ∷ plans) n m count fits = absurd (omega (arith, count))
   all-fit cols (g ∷ classes) [] n m count fits = absurd (omega (arith, count))
   all-fit cols (g ∷ classes) (p ∷ plans) n m count fits =
-      let steps = both_ok (plan_fits uses (log_of lines) cols p true g n) (λ m. inputs_fit (map (plan_fits uses (log_of lines) cols) plans) classes m) m fits in
+      let steps = both_ok (plan_fits instances (log_of lines) cols p true g n) (λ m. inputs_fit (map (plan_fits instances (log_of lines) cols) plans) classes m) m fits in
       (record { cols = cols; ordered = true; number = n; after = steps.0; fits = steps.1 }, all-fit cols classes plans steps.0 m (omega (arith, count)) steps.2)
 
   -- the operator that implements the expression of its class, over plans of the classes that it names
@@ -125,21 +125,21 @@ module _ (uses : List TableInstance) (lines : List Expr) where
 
   -- what is left of a plan that fits behind its node
   abbrev rest : (ℕ → List ℕ) → Plan → Bool → ℕ → List ℕ → Result ℕ CheckRefusal
-  rest cols p = after_node cols (out-Plan p).node (map (plan_order uses) (out-Plan p).inputs) (map (plan_fits uses (log_of lines) cols) (out-Plan p).inputs)
+  rest cols p = after_node cols (out-Plan p).node (map (plan_order instances) (out-Plan p).inputs) (map (plan_fits instances (log_of lines) cols) (out-Plan p).inputs)
 
   inputs-are : (cols : ℕ → List ℕ) (p : Plan) (ordered : Bool) (n m : ℕ) (needed : List ℕ) → length (out-Plan p).inputs ≡ length needed → rest cols p ordered n needed ≡ Ok m → AllFit needed (out-Plan p).inputs
   inputs-are cols p ordered n m needed count e =
-      all-fit cols needed (out-Plan p).inputs (n + 1) m count (after-is cols (out-Plan p).node (map (plan_order uses) (out-Plan p).inputs) (map (plan_fits uses (log_of lines) cols) (out-Plan p).inputs) ordered n m needed e).inputs
+      all-fit cols needed (out-Plan p).inputs (n + 1) m count (after-is cols (out-Plan p).node (map (plan_order instances) (out-Plan p).inputs) (map (plan_fits instances (log_of lines) cols) (out-Plan p).inputs) ordered n m needed e).inputs
 
   node-is : (p : Plan) (g : ℕ) → is_basic_node (out-Plan p).node ≡ true → Fits g p → FitsNode g (out-Plan p).node (out-Plan p).inputs
   node-is p g basic f =
       let node : Node = (out-Plan p).node in
       let k : ℕ = length (out-Plan p).inputs in
       let n : ℕ = f.number in
-      let steps = both_ok (node_fits uses (log_of lines) f.cols node k g n) (rest f.cols p f.ordered n) f.after (sym (plan_fits_out uses (log_of lines) f.cols p f.ordered g n) ∙ f.fits) in
+      let steps = both_ok (node_fits instances (log_of lines) f.cols node k g n) (rest f.cols p f.ordered n) f.after (sym (plan_fits_out instances (log_of lines) f.cols p f.ordered g n) ∙ f.fits) in
       let there = operator-there node basic in
-      let fits : operator_fits uses (log_of lines) f.cols there.line there.operator k g n ≡ Ok steps.0 = sym (ap (λ node. node_fits uses (log_of lines) f.cols node k g n) there.is) ∙ steps.1 in
-      let found = operator-is uses (log_of lines) f.cols there.line there.operator k g n steps.0 fits in
+      let fits : operator_fits instances (log_of lines) f.cols there.line there.operator k g n ≡ Ok steps.0 = sym (ap (λ node. node_fits instances (log_of lines) f.cols node k g n) there.is) ∙ steps.1 in
+      let found = operator-is instances (log_of lines) f.cols there.line there.operator k g n steps.0 fits in
       let l : matches.Line = found.member_of in
       let own = member-from lines there.line l found.at in
       let here : there.line ≡ g = sym own.0 ∙ same-one lines l.class g found.same in
@@ -147,7 +147,7 @@ module _ (uses : List TableInstance) (lines : List Expr) where
         expr = l.expr;
         at = ap (slice_get lines) (sym here) ∙ own.1;
         is = there.is ∙ two here (one-operator f.cols there.operator l.expr there.basic found.implemented);
-        all = subst (λ L. AllFit L (out-Plan p).inputs) (sym found.needs ∙ (basic-at lines uses g there.operator l.expr there.basic).needs) (inputs-are f.cols p f.ordered n f.after steps.0 found.count steps.2);
+        all = subst (λ L. AllFit L (out-Plan p).inputs) (sym found.needs ∙ (basic-at lines instances g there.operator l.expr there.basic).needs) (inputs-are f.cols p f.ordered n f.after steps.0 found.count steps.2);
       }
     where
       two : {l m : ℕ} {a b : Operator} → l ≡ m → a ≡ b → Implements l a ≡ Implements m b
@@ -207,14 +207,14 @@ module _ (uses : List TableInstance) (lines : List Expr) where
   below-fits (k ∷ keys) p g f =
       let n : ℕ = f.number in
       let z : Plan-F Plan = record { node = Sort (k ∷ keys); inputs = p ∷ [] } in
-      let next : Plan-F Plan → List ℕ → Result ℕ CheckRefusal = λ w. after_node f.cols w.node (map (plan_order uses) w.inputs) (map (plan_fits uses (log_of lines) f.cols) w.inputs) f.ordered n in
+      let next : Plan-F Plan → List ℕ → Result ℕ CheckRefusal = λ w. after_node f.cols w.node (map (plan_order instances) w.inputs) (map (plan_fits instances (log_of lines) f.cols) w.inputs) f.ordered n in
       let e : (sort_fits f.cols (k ∷ keys) 1 g n >>= next z) ≡ Ok f.after
-      = sym (ap (λ w. node_fits uses (log_of lines) f.cols w.node (length w.inputs) g n >>= next w) (out-roll-Plan z)) ∙ sym (plan_fits_out uses (log_of lines) f.cols (top (k ∷ keys) p) f.ordered g n) ∙ f.fits in
+      = sym (ap (λ w. node_fits instances (log_of lines) f.cols w.node (length w.inputs) g n >>= next w) (out-roll-Plan z)) ∙ sym (plan_fits_out instances (log_of lines) f.cols (top (k ∷ keys) p) f.ordered g n) ∙ f.fits in
       let steps = both_ok (sort_fits f.cols (k ∷ keys) 1 g n) (next z) f.after e in
       let sorted = both_ok (wanted_if (refusal n IllFormed) (list_all (λ k. has (f.cols g) k.column) (k ∷ keys)) (g ∷ [])) (λ classes. wanted_if (refusal n OtherOperator) (1 == 1) classes) steps.0 steps.1 in
       let needs : g ∷ [] ≡ steps.0 = (wanted_if_ok (refusal n IllFormed) _ (g ∷ []) sorted.0 sorted.1).1 ∙ (wanted_if_ok (refusal n OtherOperator) (1 == 1) sorted.0 steps.0 sorted.2).1 in
-      let inputs = (after-is f.cols z.node (map (plan_order uses) z.inputs) (map (plan_fits uses (log_of lines) f.cols) z.inputs) f.ordered n f.after steps.0 steps.2).inputs in
-      let last = both_ok (plan_fits uses (log_of lines) f.cols p true g (n + 1)) (λ m. inputs_fit [] [] m) f.after (ap (λ classes. inputs_fit (plan_fits uses (log_of lines) f.cols p ∷ []) classes (n + 1)) needs ∙ inputs) in
+      let inputs = (after-is f.cols z.node (map (plan_order instances) z.inputs) (map (plan_fits instances (log_of lines) f.cols) z.inputs) f.ordered n f.after steps.0 steps.2).inputs in
+      let last = both_ok (plan_fits instances (log_of lines) f.cols p true g (n + 1)) (λ m. inputs_fit [] [] m) f.after (ap (λ classes. inputs_fit (plan_fits instances (log_of lines) f.cols p ∷ []) classes (n + 1)) needs ∙ inputs) in
       record { cols = f.cols; ordered = true; number = n + 1; after = last.0; fits = last.1 }
 
 -- ---- one certificate

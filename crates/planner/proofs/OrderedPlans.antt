@@ -45,9 +45,9 @@ unfolding same_order
 same-order keys = sym (tested (coded_list order_key.the_row.coded) true keys keys (λ _. refl, λ _. refl))
 
 -- a sort delivers its keys
-sort_delivers : (uses : List TableInstance) (k : OrderKey) (keys : List OrderKey) (plan : Plan) → plan_order uses (top (k ∷ keys) plan) ≡ k ∷ keys
+sort_delivers : (instances : List TableInstance) (k : OrderKey) (keys : List OrderKey) (plan : Plan) → plan_order instances (top (k ∷ keys) plan) ≡ k ∷ keys
 unfolding plan_order
-sort_delivers uses k keys plan = fold-roll-Plan (List OrderKey) (order_layer uses) (record { node = Sort (k ∷ keys); inputs = plan ∷ [] })
+sort_delivers instances k keys plan = fold-roll-Plan (List OrderKey) (order_layer instances) (record { node = Sort (k ∷ keys); inputs = plan ∷ [] })
 
 -- no keys are delivered by any plan
 pub top_delivered : (q : Query) (plan : Plan) → is_delivered q (top (query_order q) plan) ≡ true
@@ -58,12 +58,12 @@ top_delivered q plan = by (query_order q)
     by (k ∷ keys) = rw (sort_delivers q.tables k keys plan, take-length (k ∷ keys)) (same-order (k ∷ keys))
 
 -- the sort is of the class of the plan below
-pub top_fits : (uses : List TableInstance) (lines : List Expr) (cols : ℕ → List ℕ) (keys : List OrderKey) (plan : Plan) (g n : ℕ) → IsPlanOf lines g plan → AreColumns (cols g) keys
-    → (m : ℕ) × (plan_fits uses (log_of lines) cols (top keys plan) true g n ≡ Ok m)
-top_fits uses lines cols [] plan g n is columns = is.fits uses cols n
-top_fits uses lines cols (k ∷ keys) plan g n is columns =
-    let input = is.fits uses cols (n + 1) in
-    (input.0, plan_fits_out uses (log_of lines) cols (top (k ∷ keys) plan) true g n ∙ rw (out-roll-Plan (record { node = Sort (k ∷ keys); inputs = plan ∷ [] }), columns, input.1) refl)
+pub top_fits : (instances : List TableInstance) (lines : List Expr) (cols : ℕ → List ℕ) (keys : List OrderKey) (plan : Plan) (g n : ℕ) → IsPlanOf lines g plan → AreColumns (cols g) keys
+    → (m : ℕ) × (plan_fits instances (log_of lines) cols (top keys plan) true g n ≡ Ok m)
+top_fits instances lines cols [] plan g n is columns = is.fits instances cols n
+top_fits instances lines cols (k ∷ keys) plan g n is columns =
+    let input = is.fits instances cols (n + 1) in
+    (input.0, plan_fits_out instances (log_of lines) cols (top (k ∷ keys) plan) true g n ∙ rw (out-roll-Plan (record { node = Sort (k ∷ keys); inputs = plan ∷ [] }), columns, input.1) refl)
 
 -- the ORDER BY is by columns of the class that shows the items
 pub order_subset : (q : Query) (columns : List ℕ) → is_subset (query_numbers q) columns ≡ true → AreColumns columns (query_order q)

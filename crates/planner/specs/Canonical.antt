@@ -79,4 +79,4 @@ pub record IsBasicOf (x : Expr) (operator : Operator) : Type 0 where
 -- the plan has basic operators alone, and is of the class, whatever the table instances are and at whatever number its nodes begin
 pub record IsPlanOf (lines : List Expr) (g : ℕ) (plan : Plan) : Type 0 where
   pub basic : is_basic_plan plan ≡ true
-  pub fits : (uses : List TableInstance) (cols : ℕ → List ℕ) (n : ℕ) → (m : ℕ) × (plan_fits uses (log_of lines) cols plan true g n ≡ Ok m)
+  pub fits : (instances : List TableInstance) (cols : ℕ → List ℕ) (n : ℕ) → (m : ℕ) × (plan_fits instances (log_of lines) cols plan true g n ≡ Ok m)

@@ -23,9 +23,9 @@ fn operator_of(alloc: Global, expr: &Expr) -> Result<Operator, AllocError>
     ensures { IfOk result (spec.IsBasicOf expr.now) }
 {
     match expr {
-        Expr::Get(occurrence) => {
-            let occurrence = *occurrence;
-            Ok(Operator::Scan { occurrence })
+        Expr::Get(instance) => {
+            let instance = *instance;
+            Ok(Operator::Scan { instance })
         }
         Expr::Select(own, _) => {
             let conjuncts = own.copy(alloc)?;

@@ -258,23 +258,23 @@ module _ (S : Schema) (D : Database) (satisfies : Satisfies S D) where
   by-table (Some t) over (StrongKey L) within is = cc
 
   -- the table instance of a number is over the schema
-  over-at : (uses : List TableInstance) → AllByRecursion (IsOver S) uses → (o : ℕ) (t : TableInstance) → slice_get uses o ≡ Some t → IsOver S t
+  over-at : (instances : List TableInstance) → AllByRecursion (IsOver S) instances → (o : ℕ) (t : TableInstance) → slice_get instances o ≡ Some t → IsOver S t
   over-at [] over o t at = cc
-  over-at (u ∷ uses) over zero t at = let is : u ≡ t = cc in subst (IsOver S) is over.0
-  over-at (u ∷ uses) over (suc o) t at = over-at uses over.1 o t at
+  over-at (u ∷ instances) over zero t at = let is : u ≡ t = cc in subst (IsOver S) is over.0
+  over-at (u ∷ instances) over (suc o) t at = over-at instances over.1 o t at
 
   -- ---- lines
 
-  module _ (uses : List TableInstance) (over : AllByRecursion (IsOver S) uses) (own : List Aggregation) (K : Knowledge) (rows : ℕ → Bag) (true_ : IsTrueOf K rows) where
-    sides : (C : List Condition) (a b : ℕ) → is_formed uses own K.columns (Join C a b) ≡ true → AreApart (has (K.columns a)) (has (K.columns b))
+  module _ (instances : List TableInstance) (over : AllByRecursion (IsOver S) instances) (own : List Aggregation) (K : Knowledge) (rows : ℕ → Bag) (true_ : IsTrueOf K rows) where
+    sides : (C : List Condition) (a b : ℕ) → is_formed instances own K.columns (Join C a b) ≡ true → AreApart (has (K.columns a)) (has (K.columns b))
     sides C a b formed c in_ =
-        let parts = and_parts (names_own uses own C) (sides_formed C (K.columns a) (K.columns b)) formed in
+        let parts = and_parts (names_own instances own C) (sides_formed C (K.columns a) (K.columns b)) formed in
         let apart = and_parts (is_plain C) (are_disjoint (K.columns a) (K.columns b)) parts.1 in
         not-true _ (each_has (λ k. not (has (K.columns b) k)) (K.columns a) apart.1 c in_)
 
-    by-line : (x : Expr) (f : Fact) → is_formed uses own K.columns x ≡ true → is_subset (fact_columns f) (columns_of uses K.columns x) ≡ true → spec.by_line uses K x f ≡ true
-        → FactHolds (means uses (tables_of S D) (with_rows K rows) x) f
-    by-line (Get o) f formed within is = by-table (slice_get uses o) (λ t at. over-at uses over o t at) f within is
+    by-line : (x : Expr) (f : Fact) → is_formed instances own K.columns x ≡ true → is_subset (fact_columns f) (columns_of instances K.columns x) ≡ true → spec.by_line instances K x f ≡ true
+        → FactHolds (means instances (tables_of S D) (with_rows K rows) x) f
+    by-line (Get o) f formed within is = by-table (slice_get instances o) (λ t at. over-at instances over o t at) f within is
     by-line (Select C x) f formed within is = by-select K rows true_ C x f is
     by-line (Join C a b) f formed within is = by-join K rows true_ C a b (sides C a b formed) f is
     by-line (LeftJoin C a b) f formed within is = by-left_join K rows true_ C a b (sides C a b formed) f is
@@ -288,11 +288,11 @@ module _ (S : Schema) (D : Database) (satisfies : Satisfies S D) where
         by-group K rows true_ own G L x f (and_parts (is_subset L (K.columns x)) (are_different (aggregate_columns G)) parts.0).0 parts.1 is
 
 pub given_facts_hold : spec.GivenFactsHold
-given_facts_hold S D satisfies uses over own K rows true_ g x formed columns same f within is =
-    let parts = and_parts (spec.is_short f) (spec.by_others K g f || spec.by_line uses K x f) is in
-    elim (or_cases (spec.by_others K g f) (spec.by_line uses K x f) parts.1) [
+given_facts_hold S D satisfies instances over own K rows true_ g x formed columns same f within is =
+    let parts = and_parts (spec.is_short f) (spec.by_others K g f || spec.by_line instances K x f) is in
+    elim (or_cases (spec.by_others K g f) (spec.by_line instances K x f) parts.1) [
       | inl others ↦ by-others K rows true_ g f others
       | inr line ↦
-          same-holds (means uses (tables_of S D) (with_rows K rows) x) (rows g) (λ e h. sym (same e h)) f
-          (by-line S D satisfies uses over own K rows true_ x f formed (ap (is_subset (fact_columns f)) columns ∙ within) line)
+          same-holds (means instances (tables_of S D) (with_rows K rows) x) (rows g) (λ e h. sym (same e h)) f
+          (by-line S D satisfies instances over own K rows true_ x f formed (ap (is_subset (fact_columns f)) columns ∙ within) line)
     ]

@@ -14,7 +14,7 @@ use Rattle.query.specs.declared.query.TableInstance.{TableInstance}
 use Rattle.query.specs.Rows.{value_at}
 use Rattle.algebra.specs.Columns.{has, is_subset, is_same_set}
 use Rattle.algebra.specs.Bags.{Env, same_on}
-use Rattle.algebra.specs.Expressions.{use_columns, use_row}
+use Rattle.algebra.specs.Expressions.{instance_columns, instance_row}
 use Rattle.algebra.proofs.Sets.{range_has}
 use Rattle.laws.specs.Keys.{count, has_null, IsWeakKey}
 use Rattle.algebra.proofs.MentionedColumns.{all_has}
@@ -50,12 +50,12 @@ not-null-place (c ∷ cs) (suc p) is = let later : p < length cs = ltb-true _ _ 
 
 module _ (t : TableInstance) (e : Env) where
   pub not-null-rows : (rows : List Row) → AllByRecursion (FitsColumns t.entry.columns) rows → (c : ℕ) → nat_le t.first_column c ≡ true → is_not_null_at t.entry.columns (c - t.first_column) ≡ true
-      → count (λ r. is_null (r c)) (map (λ row. use_row t row e) rows) ≡ 0
+      → count (λ r. is_null (r c)) (map (λ row. instance_row t row e) rows) ≡ 0
   not-null-rows [] fits c le is = refl
   not-null-rows (row ∷ rows) fits c le is =
-      let there : has (use_columns t) c ≡ true = range_has t.first_column (length t.entry.columns) c ∙ and_from _ _ le (not-null-place t.entry.columns (c - t.first_column) is) in
-      let later : count (λ r. is_null (r c)) (map (λ row. use_row t row e) rows) ≡ 0 = not-null-rows rows fits.1 c le is in
-      ap (λ b. (if b then 1 else 0) + count (λ r. is_null (r c)) (map (λ row. use_row t row e) rows)) ((rw there refl) ∙ not-null-value t.entry.columns row (c - t.first_column) fits.0 is)
+      let there : has (instance_columns t) c ≡ true = range_has t.first_column (length t.entry.columns) c ∙ and_from _ _ le (not-null-place t.entry.columns (c - t.first_column) is) in
+      let later : count (λ r. is_null (r c)) (map (λ row. instance_row t row e) rows) ≡ 0 = not-null-rows rows fits.1 c le is in
+      ap (λ b. (if b then 1 else 0) + count (λ r. is_null (r c)) (map (λ row. instance_row t row e) rows)) ((rw there refl) ∙ not-null-value t.entry.columns row (c - t.first_column) fits.0 is)
       ∙ omega (arith, later)
 
 -- ---- unique lists
@@ -86,14 +86,14 @@ one-passes p (row ∷ rows) never =
 
 module _ (t : TableInstance) (r e : Env) where
   -- the values of a row that is the same as r in the columns
-  key-values : (places : List ℕ) → is_subset (at_places t places) (use_columns t) ≡ true → (row : Row) → same_on (at_places t places) r (use_row t row e) ≡ true
+  key-values : (places : List ℕ) → is_subset (at_places t places) (instance_columns t) ≡ true → (row : Row) → same_on (at_places t places) r (instance_row t row e) ≡ true
       → values_at places row ≡ map (λ p. r (t.first_column + p)) places
   key-values [] in_ row agree = refl
   key-values (p ∷ places) in_ row agree =
-      let here = and_parts (has (use_columns t) (t.first_column + p)) (is_subset (at_places t places) (use_columns t)) in_ in
-      let parts = and_parts (same (r (t.first_column + p)) (use_row t row e (t.first_column + p))) (same_on (at_places t places) r (use_row t row e)) agree in
+      let here = and_parts (has (instance_columns t) (t.first_column + p)) (is_subset (at_places t places) (instance_columns t)) in_ in
+      let parts = and_parts (same (r (t.first_column + p)) (instance_row t row e (t.first_column + p))) (same_on (at_places t places) r (instance_row t row e)) agree in
       let place : (t.first_column + p) - t.first_column ≡ p = omega arith in
-      let read : use_row t row e (t.first_column + p) ≡ value_at p row = rw here.0 (ap (λ k. value_at k row) place) in
+      let read : instance_row t row e (t.first_column + p) ≡ value_at p row = rw here.0 (ap (λ k. value_at k row) place) in
       cons (sym (same_equal _ _ parts.0 ∙ read)) (key-values places here.1 row parts.1)
     where
       cons : {v w : Value} {vs ws : List Value} → v ≡ w → vs ≡ ws → v ∷ vs ≡ w ∷ ws
@@ -103,28 +103,28 @@ module _ (t : TableInstance) (r e : Env) where
   null-values [] = refl
   null-values (p ∷ places) = ap (λ b. is_null (r (t.first_column + p)) || b) (null-values places)
 
-  counted : (L : List ℕ) (rows : List Row) → count (same_on L r) (map (λ row. use_row t row e) rows) ≡ passing (λ row. same_on L r (use_row t row e)) rows
+  counted : (L : List ℕ) (rows : List Row) → count (same_on L r) (map (λ row. instance_row t row e) rows) ≡ passing (λ row. same_on L r (instance_row t row e)) rows
   counted L [] = refl
-  counted L (row ∷ rows) = ap (λ n. (if same_on L r (use_row t row e) then 1 else 0) + n) (counted L rows)
+  counted L (row ∷ rows) = ap (λ n. (if same_on L r (instance_row t row e) then 1 else 0) + n) (counted L rows)
 
-  unique-once : (rows : List Row) (places : List ℕ) → IsUnique rows places → is_subset (at_places t places) (use_columns t) ≡ true → has_null (at_places t places) r ≡ false
-      → count (same_on (at_places t places) r) (map (λ row. use_row t row e) rows) ≤ 1
+  unique-once : (rows : List Row) (places : List ℕ) → IsUnique rows places → is_subset (at_places t places) (instance_columns t) ≡ true → has_null (at_places t places) r ≡ false
+      → count (same_on (at_places t places) r) (map (λ row. instance_row t row e) rows) ≤ 1
   unique-once rows places unique within full =
-      let values : (row : Row) → same_on (at_places t places) r (use_row t row e) ≡ true → values_at places row ≡ map (λ p. r (t.first_column + p)) places = key-values places within in
-      let one : passing (λ row. same_on (at_places t places) r (use_row t row e)) rows ≤ 1 = one-passes (λ row. same_on (at_places t places) r (use_row t row e)) rows (λ i j before below first second.
+      let values : (row : Row) → same_on (at_places t places) r (instance_row t row e) ≡ true → values_at places row ≡ map (λ p. r (t.first_column + p)) places = key-values places within in
+      let one : passing (λ row. same_on (at_places t places) r (instance_row t row e)) rows ≤ 1 = one-passes (λ row. same_on (at_places t places) r (instance_row t row e)) rows (λ i j before below first second.
       unique i j before below (ap (list_any is_null) (values (slice_index_or rows i []) first) ∙ null-values places ∙ full)
       (values (slice_index_or rows i []) first ∙ sym (values (slice_index_or rows j []) second))) in
       rw (counted (at_places t places) rows) one
 
 -- a key of the columns of a unique list
 pub unique-key : (t : TableInstance) (rows : List Row) (L : List ℕ) (lists : List (List ℕ)) → AllByRecursion (IsUnique rows) lists → list_any (λ places. is_same_set L (at_places t places)) lists ≡ true
-    → is_subset L (use_columns t) ≡ true → IsWeakKey L (λ e. map (λ row. use_row t row e) rows)
+    → is_subset L (instance_columns t) ≡ true → IsWeakKey L (λ e. map (λ row. instance_row t row e) rows)
 unique-key t rows L [] unique none within = cc
 unique-key t rows L (places ∷ lists) unique some within = elim (or_cases (is_same_set L (at_places t places)) (list_any (λ places. is_same_set L (at_places t places)) lists) some) [
   | inl here ↦ λ e r full.
       let sides = and_parts (is_subset L (at_places t places)) (is_subset (at_places t places) L) here in
-      let there : is_subset (at_places t places) (use_columns t) ≡ true = all_has (λ k. has (use_columns t) k) (at_places t places) (λ k in_. in_subset L (use_columns t) within k (in_subset (at_places t places) L sides.1 k in_)) in
-      subst (λ n. n ≤ 1) (sym (count_same _ _ (λ s. same_on-set L (at_places t places) here r s) (map (λ row. use_row t row e) rows)))
+      let there : is_subset (at_places t places) (instance_columns t) ≡ true = all_has (λ k. has (instance_columns t) k) (at_places t places) (λ k in_. in_subset L (instance_columns t) within k (in_subset (at_places t places) L sides.1 k in_)) in
+      subst (λ n. n ≤ 1) (sym (count_same _ _ (λ s. same_on-set L (at_places t places) here r s) (map (λ row. instance_row t row e) rows)))
       (unique-once t r e rows places unique.0 there (sym (null-set L (at_places t places) here r) ∙ full))
   | inr later ↦ unique-key t rows L lists unique.1 later within
 ]

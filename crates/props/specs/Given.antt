@@ -146,15 +146,15 @@ by_group K L G x (WeakKey N) = false
 by_group K L G x (StrongKey N) = is_same_set N L
 
 abbrev pub by_line : List TableInstance → Knowledge → Expr → Fact → Bool
-by_line uses K (Get o) f = by_table (slice_get uses o) f
-by_line uses K (Select C x) f = by_select K C x f
-by_line uses K (Join C a b) f = by_join K C a b f
-by_line uses K (LeftJoin C a b) f = by_left_join K C a b f
-by_line uses K (Semi C a b) f = is_known K a f
-by_line uses K (Anti S M a b) f = is_known K a f
-by_line uses K (Keep L x) f = is_known K x f && is_subset (fact_columns f) L
-by_line uses K (Distinct x) f = by_distinct K x f
-by_line uses K (Group L G x) f = by_group K L G x f
+by_line instances K (Get o) f = by_table (slice_get instances o) f
+by_line instances K (Select C x) f = by_select K C x f
+by_line instances K (Join C a b) f = by_join K C a b f
+by_line instances K (LeftJoin C a b) f = by_left_join K C a b f
+by_line instances K (Semi C a b) f = is_known K a f
+by_line instances K (Anti S M a b) f = is_known K a f
+by_line instances K (Keep L x) f = is_known K x f && is_subset (fact_columns f) L
+by_line instances K (Distinct x) f = by_distinct K x f
+by_line instances K (Group L G x) f = by_group K L G x f
 
 -- ---- by other facts of the class
 
@@ -169,13 +169,13 @@ is_short f = nat_le (length (fact_columns f)) 4
 
 -- whether a line of a class gives a fact of it
 abbrev pub gives : List TableInstance → Knowledge → ℕ → Expr → Fact → Bool
-gives uses K g x f = is_short f && (by_others K g f || by_line uses K x f)
+gives instances K g x f = is_short f && (by_others K g f || by_line instances K x f)
 
 -- ---- soundness
 
 -- In a database that satisfies the schema, where what is known is true, a fact that a line gives of its class holds of the class.
 abbrev pub GivenFactsHold : Type 0
-GivenFactsHold = (S : Schema) (D : Database) → Satisfies S D → (uses : List TableInstance) → AllByRecursion (IsOver S) uses → (own : List Aggregation)
-    → (K : Knowledge) (rows : ℕ → Bag) → IsTrueOf K rows → (g : ℕ) (x : Expr) → is_formed uses own K.columns x ≡ true
-    → columns_of uses K.columns x ≡ K.columns g → SameBag (rows g) (means uses (tables_of S D) (with_rows K rows) x)
-    → (f : Fact) → is_subset (fact_columns f) (K.columns g) ≡ true → gives uses K g x f ≡ true → FactHolds (rows g) f
+GivenFactsHold = (S : Schema) (D : Database) → Satisfies S D → (instances : List TableInstance) → AllByRecursion (IsOver S) instances → (own : List Aggregation)
+    → (K : Knowledge) (rows : ℕ → Bag) → IsTrueOf K rows → (g : ℕ) (x : Expr) → is_formed instances own K.columns x ≡ true
+    → columns_of instances K.columns x ≡ K.columns g → SameBag (rows g) (means instances (tables_of S D) (with_rows K rows) x)
+    → (f : Fact) → is_subset (fact_columns f) (K.columns g) ≡ true → gives instances K g x f ≡ true → FactHolds (rows g) f

@@ -13,7 +13,7 @@ use crate::known::KnownClasses;
 use crate::outcomes::{NullColumns, never_true};
 use crate::single::is_single;
 use algebra::{Aggregation, ClassId, Columns, Condition, Expr};
-use query::{Aggregate, ColumnId, OccurrenceId, TableInstance};
+use query::{Aggregate, ColumnId, InstanceId, TableInstance};
 use schema::Column;
 
 // ---- sets of columns
@@ -178,10 +178,10 @@ fn of_table(table: &TableInstance, fact: &Fact) -> bool
     }
 }
 
-fn by_table(uses: &[TableInstance], occurrence: OccurrenceId, fact: &Fact) -> bool
-    ensures { result ≡ spec.by_table (slice_get uses.now occurrence) fact.now }
+fn by_table(instances: &[TableInstance], instance: InstanceId, fact: &Fact) -> bool
+    ensures { result ≡ spec.by_table (slice_get instances.now instance) fact.now }
 {
-    match uses.get(occurrence as usize) {
+    match instances.get(instance as usize) {
         Some(table) => of_table(table, fact),
         None => false,
     }
@@ -354,11 +354,11 @@ fn by_group(
     }
 }
 
-fn by_line(uses: &[TableInstance], classes: KnownClasses<'_>, expr: &Expr, fact: &Fact) -> bool
-    ensures { result ≡ spec.by_line uses.now (known classes.entry) expr.now fact.now }
+fn by_line(instances: &[TableInstance], classes: KnownClasses<'_>, expr: &Expr, fact: &Fact) -> bool
+    ensures { result ≡ spec.by_line instances.now (known classes.entry) expr.now fact.now }
 {
     match expr {
-        Expr::Get(o) => by_table(uses, *o, fact),
+        Expr::Get(o) => by_table(instances, *o, fact),
         Expr::Select(c, x) => by_select(classes, c.as_slice(), *x, fact),
         Expr::Join(c, a, b) => by_join(classes, c.as_slice(), *a, *b, fact),
         Expr::LeftJoin(c, a, b) => by_left_join(classes, c.as_slice(), *a, *b, fact),
@@ -391,15 +391,15 @@ fn by_others(classes: KnownClasses<'_>, class: ClassId, fact: &Fact) -> bool
 
 /// Whether a line of a class gives a fact of it: by the line's operator, or by other facts that are known of the class.
 pub fn gives(
-    uses: &[TableInstance],
+    instances: &[TableInstance],
     classes: KnownClasses<'_>,
     class: ClassId,
     expr: &Expr,
     fact: &Fact,
 ) -> bool
-    ensures { result ≡ spec.gives uses.now (known classes.entry) class expr.now fact.now }
+    ensures { result ≡ spec.gives instances.now (known classes.entry) class expr.now fact.now }
 {
-    fact.is_short() && (by_others(classes, class, fact) || by_line(uses, classes, expr, fact))
+    fact.is_short() && (by_others(classes, class, fact) || by_line(instances, classes, expr, fact))
 }
 
 /// Each fact that a line gives holds of its class, wherever what is known is true and the database satisfies the schema.

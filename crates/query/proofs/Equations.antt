@@ -3,7 +3,7 @@ use Rattle.std.proofs.Common.{◌≡◌, refl, ◌+◌, List, [], ◌∷◌, map
 use Rattle.values.specs.declared.truth.Comparison.{Comparison}
 use Rattle.values.specs.Truth.{negation, truth_of, is_null, compare}
 use Rattle.query.specs.declared.query.Term.{Term}
-use Rattle.query.specs.declared.query.Occurrence.{Occurrence}
+use Rattle.query.specs.declared.query.TableReference.{TableReference}
 use Rattle.query.specs.declared.query.Cond.{Cond, roll-Cond}
 use Rattle.query.specs.declared.query.Cond.TheVariants.{Compare, IsNull, Not, And, Or, Exists, In, rolls-Compare, rolls-IsNull, rolls-Not, rolls-And, rolls-Or, rolls-Exists, rolls-In}
 use Rattle.query.specs.declared.query.Cond.TheOpen.{Cond-F, From-F, Block-F}
@@ -69,25 +69,25 @@ truth-In a q = truth_at (Cond-F.In a q) _ (rolls-In a q)
 
 -- ---- FROMs
 
-pub source-Table : (o : Occurrence) (D : Tables) (e : Env) → source (from.Table o) D e ≡ D.rows o.table
+pub source-Table : (o : TableReference) (D : Tables) (e : Env) → source (from.Table o) D e ≡ D.rows o.table
 source-Table o = source_at (From-F.Table o) _ (rolls-Table o)
 
-pub source-Join : (f : From) (o : Occurrence) (on : Cond) (D : Tables) (e : Env) → source (Join f o on) D e ≡ flat_map (matches (truth on) o.table D e) (source f D e)
+pub source-Join : (f : From) (o : TableReference) (on : Cond) (D : Tables) (e : Env) → source (Join f o on) D e ≡ flat_map (matches (truth on) o.table D e) (source f D e)
 source-Join f o on = source_at (From-F.Join f o on) _ (rolls-Join f o on)
 
-pub source-LeftJoin : (f : From) (o : Occurrence) (on : Cond) (D : Tables) (e : Env) → source (LeftJoin f o on) D e ≡ flat_map (padded (truth on) o.table D e) (source f D e)
+pub source-LeftJoin : (f : From) (o : TableReference) (on : Cond) (D : Tables) (e : Env) → source (LeftJoin f o on) D e ≡ flat_map (padded (truth on) o.table D e) (source f D e)
 source-LeftJoin f o on = source_at (From-F.LeftJoin f o on) _ (rolls-LeftJoin f o on)
 
 pub source-Comma : (f g : From) (D : Tables) (e : Env) → source (Comma f g) D e ≡ flat_map (λ l. pairs_of l (source g D e)) (source f D e)
 source-Comma f g = source_at (From-F.Comma f g) _ (rolls-Comma f g)
 
-pub width-Table : (o : Occurrence) (D : Tables) → from_width (from.Table o) D ≡ D.width o.table
+pub width-Table : (o : TableReference) (D : Tables) → from_width (from.Table o) D ≡ D.width o.table
 width-Table o = width_at (From-F.Table o) _ (rolls-Table o)
 
-pub width-Join : (f : From) (o : Occurrence) (on : Cond) (D : Tables) → from_width (Join f o on) D ≡ from_width f D + D.width o.table
+pub width-Join : (f : From) (o : TableReference) (on : Cond) (D : Tables) → from_width (Join f o on) D ≡ from_width f D + D.width o.table
 width-Join f o on = width_at (From-F.Join f o on) _ (rolls-Join f o on)
 
-pub width-LeftJoin : (f : From) (o : Occurrence) (on : Cond) (D : Tables) → from_width (LeftJoin f o on) D ≡ from_width f D + D.width o.table
+pub width-LeftJoin : (f : From) (o : TableReference) (on : Cond) (D : Tables) → from_width (LeftJoin f o on) D ≡ from_width f D + D.width o.table
 width-LeftJoin f o on = width_at (From-F.LeftJoin f o on) _ (rolls-LeftJoin f o on)
 
 pub width-Comma : (f g : From) (D : Tables) → from_width (Comma f g) D ≡ from_width f D + from_width g D

@@ -4,13 +4,13 @@ use Rattle.query.specs.declared.query.Cond.{Cond}
 use Rattle.query.specs.declared.query.From.{From, roll-From}
 use Rattle.query.specs.declared.query.From.TheVariants.{Table, Join, LeftJoin, Comma, rolls-Table, rolls-Join, rolls-LeftJoin, rolls-Comma}
 use Rattle.query.specs.declared.query.Block.{Block}
-use Rattle.query.specs.declared.query.Occurrence.{Occurrence}
+use Rattle.query.specs.declared.query.TableReference.{TableReference}
 use Rattle.query.specs.declared.query.Cond.TheOpen.{From-F}
 use Rattle.query.specs.declared.query.Cond.TheFolds.{ind-From, map-From}
 
 -- what holds of tables, and of the other FROMs if it holds of those in them, holds of all
-module _ (P : From → Type 0) (table : (o : Occurrence) → P (Table o)) (join : (f : From) (o : Occurrence) (on : Cond) → P f → P (Join f o on))
-    (left_join : (f : From) (o : Occurrence) (on : Cond) → P f → P (LeftJoin f o on)) (comma : (f g : From) → P f → P g → P (Comma f g)) where
+module _ (P : From → Type 0) (table : (o : TableReference) → P (Table o)) (join : (f : From) (o : TableReference) (on : Cond) → P f → P (Join f o on))
+    (left_join : (f : From) (o : TableReference) (on : Cond) → P f → P (LeftJoin f o on)) (comma : (f g : From) → P f → P g → P (Comma f g)) where
   -- a layer with a proof beside each FROM in it
   abbrev Proved : Type 0
   Proved = From-F (Cond × Unit {0}) ((f : From) × P f) (Block × Unit {0})

@@ -9,7 +9,7 @@ pub mod SameCounts
 pub mod ScopeEquations
 pub mod ShortTables
 pub mod Sources
-pub mod TableUses
+pub mod TableInstances
 pub mod Truths
 pub mod Unique
 pub mod Widths

@@ -6,7 +6,7 @@ use Rattle.values.specs.declared.truth.Truth.TheVariants.{False, Unknown, True}
 use Rattle.values.specs.Truth.{truth_of, is_true}
 use Rattle.schema.specs.Databases.{Row}
 use Rattle.query.specs.declared.query.Cond.{Cond}
-use Rattle.query.specs.declared.query.Occurrence.{Occurrence}
+use Rattle.query.specs.declared.query.TableReference.{TableReference}
 use Rattle.query.specs.declared.query.From.{From}
 use Rattle.query.specs.declared.query.From.TheVariants.{LeftJoin}
 use Rattle.query.specs.declared.query.Block.{Block}
@@ -74,7 +74,7 @@ no-match on t D e l = (
     counted : (x : Row) → count x (matches (truth on) t D e l) ≡ (if is_true (truth on D (x ∷ e)) then count x (pairs_of l (D.rows t)) else 0)
     counted x = count-filter (passes (truth on) D e) x (pairs_of l (D.rows t))
 
-pub padded-test : (o : Occurrence) (on : Cond) (D : Tables) (e : Env) (s : Row) → is_padded (truth on) o.table D e s ≡ true ↔ IsPadded truth src often o on D e s
+pub padded-test : (o : TableReference) (on : Cond) (D : Tables) (e : Env) (s : Row) → is_padded (truth on) o.table D e s ≡ true ↔ IsPadded truth src often o on D e s
 padded-test o on D e s = (
   (λ h. let both = and_parts (same_rows (right_part (D.width o.table) s) (nulls (D.width o.table))) _ h in
       record { nulls = same_rows-equal _ _ both.0; unmatched = (no-match on o.table D e (left_part (D.width o.table) s)).0 both.1 }),
@@ -96,7 +96,7 @@ count-kept q D e s = count-filter (passes_filter (option_map truth q.filter) D e
     ∙ ap (λ b. if b then count s (source q.from D e) else 0) (passes-holds q.filter D e s)
 
 -- the join, and in addition a left row without a match
-count-left : (f : From) (o : Occurrence) (on : Cond) (D : Tables) (e : Env) (s : Row) (b : Bool) → IsFitting D → is_padded (truth on) o.table D e s ≡ b
+count-left : (f : From) (o : TableReference) (on : Cond) (D : Tables) (e : Env) (s : Row) (b : Bool) → IsFitting D → is_padded (truth on) o.table D e s ≡ b
     → src (LeftJoin f o on) D e s ≡ number_joined truth src often f o on D e s + src f D e (left_part (D.width o.table) s) * one_if b
 count-left f o on D e s b fits h =
     ap (count s) (source-LeftJoin f o on D e) ∙ count-left_join (truth on) o.table D e s (source f D e)

@@ -9,7 +9,7 @@ use Rattle.query.specs.declared.query.Cond.{Cond, roll-Cond}
 use Rattle.query.specs.declared.query.Cond.TheVariants.{Exists, In, rolls-Compare, rolls-IsNull, rolls-Not, rolls-And, rolls-Or, rolls-Exists, rolls-In}
 use Rattle.query.specs.declared.query.Cond.TheOpen.{Cond-F, From-F, Block-F}
 use Rattle.query.specs.declared.query.Cond.TheFolds.{ind-Cond, ind-From, ind-Block, map-Cond, map-From, map-Block}
-use Rattle.query.specs.declared.query.Occurrence.{Occurrence}
+use Rattle.query.specs.declared.query.TableReference.{TableReference}
 use Rattle.query.specs.declared.query.From.{From, roll-From}
 use Rattle.query.specs.declared.query.From.TheVariants.{LeftJoin, rolls-Table, rolls-Join, rolls-LeftJoin, rolls-Comma}
 use Rattle.query.specs.declared.query.Block.{Block, roll-Block}
@@ -79,18 +79,18 @@ module _ (t : Cond → Tables → Env → Truth) (n : From → Tables → Env �
   abbrev plain_from : ProvedFrom → From-F Cond From Block
   plain_from = map-From _ _ _ Cond From Block (λ c. c.0) (λ f. f.0) (λ q. q.0)
 
-  agrees-joined : (f : From) (i : Occurrence) (on : Cond) → AgreesFrom f → AgreesCond on → (e : Env) (s : Row) → number_joined t n o f i on D e s ≡ number_joined truth src often f i on D e s
+  agrees-joined : (f : From) (i : TableReference) (on : Cond) → AgreesFrom f → AgreesCond on → (e : Env) (s : Row) → number_joined t n o f i on D e s ≡ number_joined truth src often f i on D e s
   agrees-joined f i on h k e s =
       ap (λ v. if is_true v then n f D e (left_part (D.width i.table) s) * count (right_part (D.width i.table) s) (D.rows i.table) else 0) (k (s ∷ e))
       ∙ ap (λ c. if is_true (truth on D (s ∷ e)) then c * count (right_part (D.width i.table) s) (D.rows i.table) else 0) (h e (left_part (D.width i.table) s))
 
-  padded-agrees : (i : Occurrence) (on : Cond) → AgreesCond on → (e : Env) (s : Row) → IsPadded t n o i on D e s ↔ IsPadded truth src often i on D e s
+  padded-agrees : (i : TableReference) (on : Cond) → AgreesCond on → (e : Env) (s : Row) → IsPadded t n o i on D e s ↔ IsPadded truth src often i on D e s
   padded-agrees i on h e s = (
     (λ is. record { nulls = is.nulls; unmatched = λ r c. rw (← h ((left_part (D.width i.table) s ++ r) ∷ e)) (is.unmatched r c) }),
     (λ is. record { nulls = is.nulls; unmatched = λ r c. rw (h ((left_part (D.width i.table) s ++ r) ∷ e)) (is.unmatched r c) }),
   )
 
-  agrees-left : (f : From) (i : Occurrence) (on : Cond) → AgreesFrom f → AgreesCond on → AgreesFrom (LeftJoin f i on)
+  agrees-left : (f : From) (i : TableReference) (on : Cond) → AgreesFrom f → AgreesCond on → AgreesFrom (LeftJoin f i on)
   agrees-left f i on h k e s = elim (cases_Bool (is_padded (truth on) i.table D e s)) [
     | inl is ↦
         let padded = (padded-test i on D e s).0 is in

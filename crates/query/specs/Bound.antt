@@ -10,7 +10,7 @@ use Rattle.query.specs.declared.query.Aggregate.{Aggregate}
 use Rattle.query.specs.declared.query.Aggregate.TheVariants as by
 use Rattle.query.specs.declared.query.Item.{Item}
 use Rattle.query.specs.declared.query.Item.TheVariants as item
-use Rattle.query.specs.declared.query.Occurrence.{Occurrence}
+use Rattle.query.specs.declared.query.TableReference.{TableReference}
 use Rattle.query.specs.declared.query.TableInstance.{TableInstance}
 use Rattle.query.specs.declared.query.Cond.{Cond}
 use Rattle.query.specs.declared.query.From.{From}
@@ -38,12 +38,12 @@ abbrev pub names : Scope → Column → Bool
 names scope c = nat_lt c.place (length (slice_index_or scope c.level []))
 
 -- the column numbers of a table instance, in the order of its rows
-abbrev pub numbers_of_use : Option TableInstance → List ℕ
-numbers_of_use None = []
-numbers_of_use (Some t) = range_with_len t.first_column (length t.entry.columns)
+abbrev pub numbers_of_instance : Option TableInstance → List ℕ
+numbers_of_instance None = []
+numbers_of_instance (Some t) = range_with_len t.first_column (length t.entry.columns)
 
-abbrev pub use_numbers : List TableInstance → Occurrence → List ℕ
-use_numbers uses o = numbers_of_use (slice_get uses o.number)
+abbrev pub instance_numbers : List TableInstance → TableReference → List ℕ
+instance_numbers instances o = numbers_of_instance (slice_get instances o.number)
 
 -- ---- numbers of their own
 
@@ -65,10 +65,10 @@ are_new numbers scope = all_differ numbers && list_all (none_among numbers) scop
 
 -- the number is that of a column of a table instance
 abbrev pub is_of_tables : List TableInstance → ℕ → Bool
-is_of_tables uses k = list_any (λ t. is_among k (numbers_of_use (Some t))) uses
+is_of_tables instances k = list_any (λ t. is_among k (numbers_of_instance (Some t))) instances
 
 abbrev pub none_of_tables : List TableInstance → List ℕ → Bool
-none_of_tables uses numbers = list_all (λ k. not (is_of_tables uses k)) numbers
+none_of_tables instances numbers = list_all (λ k. not (is_of_tables instances k)) numbers
 
 -- ---- what stands in conditions, FROMs and blocks is there
 
@@ -100,25 +100,25 @@ cond_scope_layer (Cond-F.Or cs) = record { plain = list_all (λ c. c.plain) cs; 
 cond_scope_layer (Cond-F.Exists q) = record { plain = false; bound = q.bound }
 cond_scope_layer (Cond-F.In a q) = record { plain = false; bound = λ scope. bound_term scope a && (q.single && q.bound scope) }
 
--- the occurrence is one of the query's, of the same table
-abbrev pub is_use_of : Option TableInstance → Occurrence → Bool
-is_use_of None o = false
-is_use_of (Some t) o = t.table == o.table
+-- the instance is one of the query's, of the same table
+abbrev pub is_named_by : Option TableInstance → TableReference → Bool
+is_named_by None o = false
+is_named_by (Some t) o = t.table == o.table
 
-abbrev pub is_used : List TableInstance → Occurrence → Bool
-is_used uses o = is_use_of (slice_get uses o.number) o
+abbrev pub names_instance : List TableInstance → TableReference → Bool
+names_instance instances o = is_named_by (slice_get instances o.number) o
 
 -- an ON names the columns of both sides, and has no subquery
-abbrev pub join_scope : List TableInstance → FromScope → Occurrence → CondScope → FromScope
-join_scope uses f o on =
-    let numbers = f.numbers ++ use_numbers uses o in
-    record { numbers = numbers; bound = λ scope. f.bound scope && (is_used uses o && (on.plain && on.bound (numbers ∷ scope))) }
+abbrev pub join_scope : List TableInstance → FromScope → TableReference → CondScope → FromScope
+join_scope instances f o on =
+    let numbers = f.numbers ++ instance_numbers instances o in
+    record { numbers = numbers; bound = λ scope. f.bound scope && (names_instance instances o && (on.plain && on.bound (numbers ∷ scope))) }
 
 abbrev pub from_scope_layer : List TableInstance → From-F CondScope FromScope BlockScope → FromScope
-from_scope_layer uses (From-F.Table o) = record { numbers = use_numbers uses o; bound = λ scope. is_used uses o }
-from_scope_layer uses (From-F.Join f o on) = join_scope uses f o on
-from_scope_layer uses (From-F.LeftJoin f o on) = join_scope uses f o on
-from_scope_layer uses (From-F.Comma f g) = record { numbers = f.numbers ++ g.numbers; bound = λ scope. f.bound scope && g.bound scope }
+from_scope_layer instances (From-F.Table o) = record { numbers = instance_numbers instances o; bound = λ scope. names_instance instances o }
+from_scope_layer instances (From-F.Join f o on) = join_scope instances f o on
+from_scope_layer instances (From-F.LeftJoin f o on) = join_scope instances f o on
+from_scope_layer instances (From-F.Comma f g) = record { numbers = f.numbers ++ g.numbers; bound = λ scope. f.bound scope && g.bound scope }
 
 abbrev pub bound_filter : Option CondScope → Scope → Bool
 bound_filter None scope = true
@@ -157,24 +157,24 @@ is_single items = length items == 1
 
 -- the numbers of aggregates are those of no table instance's columns, wherever that stands
 abbrev pub block_scope_layer : List TableInstance → Block-F CondScope FromScope BlockScope → BlockScope
-block_scope_layer uses q =
+block_scope_layer instances q =
     let numbers = q.from.numbers in
     record {
       single = is_single q.items;
       bound = λ scope.
           are_new (aggregate_numbers q.items ++ numbers) scope
-          && (none_of_tables uses (aggregate_numbers q.items)
+          && (none_of_tables instances (aggregate_numbers q.items)
           && (q.from.bound scope && (bound_filter q.filter (numbers ∷ scope) && bound_items q.grouped (length numbers) q.keys q.items (numbers ∷ scope))));
     }
 
 unfoldable pub cond_scope : List TableInstance → Cond → CondScope
-cond_scope uses = fold-Cond CondScope FromScope BlockScope cond_scope_layer (from_scope_layer uses) (block_scope_layer uses)
+cond_scope instances = fold-Cond CondScope FromScope BlockScope cond_scope_layer (from_scope_layer instances) (block_scope_layer instances)
 
 unfoldable pub from_scope : List TableInstance → From → FromScope
-from_scope uses = fold-From CondScope FromScope BlockScope cond_scope_layer (from_scope_layer uses) (block_scope_layer uses)
+from_scope instances = fold-From CondScope FromScope BlockScope cond_scope_layer (from_scope_layer instances) (block_scope_layer instances)
 
 unfoldable pub block_scope : List TableInstance → Block → BlockScope
-block_scope uses = fold-Block CondScope FromScope BlockScope cond_scope_layer (from_scope_layer uses) (block_scope_layer uses)
+block_scope instances = fold-Block CondScope FromScope BlockScope cond_scope_layer (from_scope_layer instances) (block_scope_layer instances)
 
 -- all that the query names is there, and the columns that a condition can name have numbers of their own
 abbrev pub is_bound : Query → Bool

@@ -12,7 +12,7 @@ use Rattle.query.specs.declared.query.Term.{Term}
 use Rattle.query.specs.declared.query.Term.TheVariants as term
 use Rattle.query.specs.declared.query.Cond.{Cond}
 use Rattle.query.specs.declared.query.Cond.TheVariants as cond
-use Rattle.query.specs.declared.query.Occurrence.{Occurrence}
+use Rattle.query.specs.declared.query.TableReference.{TableReference}
 use Rattle.query.specs.declared.query.From.{From}
 use Rattle.query.specs.declared.query.From.TheVariants as from
 use Rattle.query.specs.declared.query.Item.{Item}
@@ -82,12 +82,12 @@ number n = term.Literal (int n)
 abbrev pub show : ℕ → Item
 show place = item.Column (record { level = 0; place = place })
 
--- an occurrence of dept, by its number in the text
-abbrev pub dept : ℕ → Occurrence
+-- an instance of dept, by its number in the text
+abbrev pub dept : ℕ → TableReference
 dept n = record { number = n; table = 0 }
 
--- an occurrence of emp, by its number in the text
-abbrev pub emp : ℕ → Occurrence
+-- an instance of emp, by its number in the text
+abbrev pub emp : ℕ → TableReference
 emp n = record { number = n; table = 1 }
 
 abbrev pub select : List Item → From → Option Cond → Block

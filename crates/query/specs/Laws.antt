@@ -12,7 +12,7 @@ use Rattle.schema.specs.Databases.{Row}
 use Rattle.query.specs.declared.query.Term.{Term}
 use Rattle.query.specs.declared.query.Cond.{Cond}
 use Rattle.query.specs.declared.query.Cond.TheVariants as cond
-use Rattle.query.specs.declared.query.Occurrence.{Occurrence}
+use Rattle.query.specs.declared.query.TableReference.{TableReference}
 use Rattle.query.specs.declared.query.From.{From}
 use Rattle.query.specs.declared.query.From.TheVariants as from
 use Rattle.query.specs.declared.query.Block.{Block}
@@ -44,13 +44,13 @@ module _ (truth : Cond → Tables → Env → Truth) (src : From → Tables → 
   holds_filter (Some c) D e s = holds c D e s
 
   -- how often a pair of a left row and a row of a table comes out of a join
-  abbrev pub number_joined : From → Occurrence → Cond → Tables → Env → Row → ℕ
+  abbrev pub number_joined : From → TableReference → Cond → Tables → Env → Row → ℕ
   number_joined f o on D e s =
       let width = D.width o.table in
       if holds on D e s then src f D e (left_part width s) * count (right_part width s) (D.rows o.table) else 0
 
   -- a left row with Nulls beside it, at which the ON holds with no row of the table
-  pub record IsPadded (o : Occurrence) (on : Cond) (D : Tables) (e : Env) (s : Row) : Type 0 where
+  pub record IsPadded (o : TableReference) (on : Cond) (D : Tables) (e : Env) (s : Row) : Type 0 where
     pub nulls : right_part (D.width o.table) s ≡ Rattle.query.specs.Rows.nulls (D.width o.table)
     pub unmatched : (r : Row) → 0 < count r (D.rows o.table) → truth on D ((left_part (D.width o.table) s ++ r) ∷ e) ≢ True
 
@@ -76,13 +76,13 @@ module _ (truth : Cond → Tables → Env → Truth) (src : From → Tables → 
     pub in_true : (a : Term) (q : Block) → truth (cond.In a q) D e ≡ True ↔ ((r : Row) × Comes q D e r × (equals_row (term_value a e) r ≡ True))
     pub in_false : (a : Term) (q : Block) → truth (cond.In a q) D e ≡ False ↔ ((r : Row) → Comes q D e r → equals_row (term_value a e) r ≡ False)
     -- a table has its rows; a pair comes as often as its parts together, where the ON holds
-    pub table : (o : Occurrence) (s : Row) → src (from.Table o) D e s ≡ count s (D.rows o.table)
-    pub join : (f : From) (o : Occurrence) (on : Cond) (s : Row) → src (from.Join f o on) D e s ≡ number_joined f o on D e s
+    pub table : (o : TableReference) (s : Row) → src (from.Table o) D e s ≡ count s (D.rows o.table)
+    pub join : (f : From) (o : TableReference) (on : Cond) (s : Row) → src (from.Join f o on) D e s ≡ number_joined f o on D e s
     pub comma : (f g : From) (s : Row) → src (from.Comma f g) D e s ≡ src f D e (left_part (from_width g D) s) * src g D e (right_part (from_width g D) s)
     -- a left join is the join, and in addition each left row without a match, as often as it comes
-    pub left_join : (f : From) (o : Occurrence) (on : Cond) (s : Row) → (IsPadded o on D e s → ⊥)
+    pub left_join : (f : From) (o : TableReference) (on : Cond) (s : Row) → (IsPadded o on D e s → ⊥)
         → src (from.LeftJoin f o on) D e s ≡ number_joined f o on D e s
-    pub left_join_padded : (f : From) (o : Occurrence) (on : Cond) (s : Row) → IsPadded o on D e s
+    pub left_join_padded : (f : From) (o : TableReference) (on : Cond) (s : Row) → IsPadded o on D e s
         → src (from.LeftJoin f o on) D e s ≡ number_joined f o on D e s + src f D e (left_part (D.width o.table) s)
     -- a block shows the rows of its FROM at which its WHERE holds, whatever order they are taken in
     pub source_exists : (q : Block) → (L : List Row) × IsSource q D e L

@@ -13,6 +13,6 @@ pub use laws::{
     worked_rows_hold,
 };
 pub use query::{
-    Aggregate, Block, Column, ColumnId, Cond, From, Item, Occurrence, OccurrenceId, Query, SortKey,
-    TableInstance, Term,
+    Aggregate, Block, Column, ColumnId, Cond, From, InstanceId, Item, Query, SortKey,
+    TableInstance, TableReference, Term,
 };

@@ -8,7 +8,7 @@ use values::{Boxed, Comparison, Items, Literal, Text};
 pub type ColumnId = u32;
 
 /// The number of a table instance, from 0 in the order of the text, those in subqueries among them.
-pub type OccurrenceId = u32;
+pub type InstanceId = u32;
 
 /// The column at a place of the row at a level. Level 0 is the innermost row: that of the block's own FROM, and in an ON
 /// the row of the join's two sides. Level 1 is the row of the enclosing block, and so on.
@@ -37,10 +37,10 @@ pub enum Cond {
     In(Term, Boxed<Block>),
 }
 
-/// The place in the text where a table instance stands.
+/// The name by which a FROM refers to a table instance: its number.
 #[derive(Clone, Copy)]
-pub struct Occurrence {
-    pub number: OccurrenceId,
+pub struct TableReference {
+    pub number: InstanceId,
     /// The table's place in the schema.
     pub table: usize,
 }
@@ -48,11 +48,11 @@ pub struct Occurrence {
 #[cycle(block)]
 #[derive(Drop)]
 pub enum From {
-    Table(Occurrence),
+    Table(TableReference),
     /// `FROM .. JOIN table ON condition`
-    Join(Boxed<From>, Occurrence, Boxed<Cond>),
+    Join(Boxed<From>, TableReference, Boxed<Cond>),
     /// `FROM .. LEFT JOIN table ON condition`
-    LeftJoin(Boxed<From>, Occurrence, Boxed<Cond>),
+    LeftJoin(Boxed<From>, TableReference, Boxed<Cond>),
     /// A comma: all before it, and the chain of joins after it, whose ONs see that chain alone.
     Comma(Boxed<From>, Boxed<From>),
 }

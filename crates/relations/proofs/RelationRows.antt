@@ -12,7 +12,7 @@ use Rattle.query.specs.declared.query.TableInstance.{TableInstance}
 use Rattle.query.specs.Rows.{value_at}
 use Rattle.algebra.specs.Columns.{has}
 use Rattle.algebra.specs.Bags.{Env, lay, nulls}
-use Rattle.algebra.specs.Expressions.{use_columns, use_row}
+use Rattle.algebra.specs.Expressions.{instance_columns, instance_row}
 use Rattle.relations.specs.declared.headings.Heading.{Heading}
 use Rattle.relations.specs.declared.headings.Place.{Place}
 use Rattle.relations.specs.Parts.{cell_rows, row_at, value_in}
@@ -23,18 +23,18 @@ use Rattle.relations.proofs.Numbers.{map-each, by-number}
 
 -- ---- the rows of a table under its own heading
 
-table-row : (t : TableInstance) (h : Heading) (row : Row) (e : Env) → h.columns ≡ use_columns t → h.places.items ≡ map first_at (range_with_len 0 (length t.entry.columns)) → row_env h (row ∷ []) e ≡ use_row t row e
+table-row : (t : TableInstance) (h : Heading) (row : Row) (e : Env) → h.columns ≡ instance_columns t → h.places.items ≡ map first_at (range_with_len 0 (length t.entry.columns)) → row_env h (row ∷ []) e ≡ instance_row t row e
 table-row t h row e columns places = λ i c. pointwise c i
   where
-    pointwise : (c : ℕ) → row_env h (row ∷ []) e c ≡ use_row t row e c
-    pointwise c = rw (columns, places) (by (has (use_columns t) c) refl)
+    pointwise : (c : ℕ) → row_env h (row ∷ []) e c ≡ instance_row t row e c
+    pointwise c = rw (columns, places) (by (has (instance_columns t) c) refl)
       where
-        by : (b : Bool) → has (use_columns t) c ≡ b → (if b then value_in (place_in (use_columns t) (map first_at (range_with_len 0 (length t.entry.columns))) c) (row ∷ []) else e c) ≡ (if b then value_at (c - t.first_column) row else e c)
+        by : (b : Bool) → has (instance_columns t) c ≡ b → (if b then value_in (place_in (instance_columns t) (map first_at (range_with_len 0 (length t.entry.columns))) c) (row ∷ []) else e c) ≡ (if b then value_at (c - t.first_column) row else e c)
         by true there = ap (λ o. value_in o (row ∷ [])) (in-run t.first_column (length t.entry.columns) 0 c there) ∙ ap (λ n. value_at n row) (zero-add (c - t.first_column))
         by false absent = refl
 
-pub table-rows : (t : TableInstance) (h : Heading) (table : List Row) (e : Env) → h.columns ≡ use_columns t → h.places.items ≡ map first_at (range_with_len 0 (length t.entry.columns))
-    → map (λ n. row_env h (row_at (table ∷ []) n) e) (range_with_len 0 (length table)) ≡ map (λ row. use_row t row e) table
+pub table-rows : (t : TableInstance) (h : Heading) (table : List Row) (e : Env) → h.columns ≡ instance_columns t → h.places.items ≡ map first_at (range_with_len 0 (length t.entry.columns))
+    → map (λ n. row_env h (row_at (table ∷ []) n) e) (range_with_len 0 (length table)) ≡ map (λ row. instance_row t row e) table
 table-rows t h table e columns places =
     by-number (λ (row : Row). row_env h (row ∷ []) e) table [] ∙ (λ i. map (λ row. table-row t h row e columns places i) table)
 

@@ -13,14 +13,14 @@ use store::Database;
 fn push_given(
     alloc: Global,
     reported: &mut String,
-    uses: &[TableInstance],
+    instances: &[TableInstance],
     text: &str,
 ) -> Result<(), AllocError> {
     let (line, fact) = text.split_once(": ").unwrap_or((text, ""));
     let (class, expr) = line_of(alloc, line)?;
     let fact = fact_of(alloc, fact)?;
     let known = known_classes(alloc)?;
-    let given = gives(uses, known.lent(), class, &expr, &fact);
+    let given = gives(instances, known.lent(), class, &expr, &fact);
     reported.push_str(if given { "given" } else { "not given" })
 }
 

@@ -68,9 +68,9 @@ pub fn push_shape(alloc: Global, reported: &mut String, shape: &Shape) -> Result
             push_input(alloc, reported, a.get())?;
             push_input(alloc, reported, b.get())
         }
-        Shape::Anti(sure, maybe, a, b) => {
-            push_named(alloc, reported, "anti", sure)?;
-            push_conjuncts(alloc, reported, maybe)?;
+        Shape::Anti(ordinary, null_aware, a, b) => {
+            push_named(alloc, reported, "anti", ordinary)?;
+            push_conjuncts(alloc, reported, null_aware)?;
             push_input(alloc, reported, a.get())?;
             push_input(alloc, reported, b.get())
         }

@@ -14,7 +14,7 @@ use Rattle.rules.proofs.ShapeMeanings.{class-is, join-is, has-bag}
 
 turned-sound : OneIsSound (λ K. turned)
 turned-sound K W (Join C a b) s stands is =
-    let parts = and_parts (names_own W.uses W.own C) (sides_formed C (K.columns a) (K.columns b)) stands.formed in
+    let parts = and_parts (names_own W.instances W.own C) (sides_formed C (K.columns a) (K.columns b)) stands.formed in
     let sides = and_parts (is_plain C) (are_disjoint (K.columns a) (K.columns b)) parts.1 in
     given K W _ _ s is (has-bag (with_rows K W.rows) _ _ _ (join-is _ C _ _ _ _ (class-is _ b) (class-is _ a))
     (law.joins_commute (holds W.rows C) (has (K.columns a)) (has (K.columns b)) (K.free a) (K.free b) (W.rows a) (W.rows b) (stands.classes.fits a) (stands.classes.fits b) (disjoint-apart _ _ sides.1)))

@@ -16,7 +16,7 @@ use Rattle.rules.specs.Soundness.{World, IsLine, IsSound}
 
 -- the rows of an expression and of a shape
 abbrev pub rows_of : Knowledge → World → Expr → Bag
-rows_of K W x = means W.uses W.tables (with_rows K W.rows) x
+rows_of K W x = means W.instances W.tables (with_rows K W.rows) x
 
 abbrev pub shape_rows : Knowledge → World → Shape → Bag
 shape_rows K W s = (meant (with_rows K W.rows) s).rows
@@ -30,7 +30,7 @@ given K W x t s is same = subst (λ s. SameBag x (shape_rows K W s)) (let e : t 
 -- an expression over classes
 pub record Stands (K : Knowledge) (W : World) (x : Expr) : Type 0 where
   pub classes : IsTrueOf K W.rows
-  pub formed : is_formed W.uses W.own K.columns x ≡ true
+  pub formed : is_formed W.instances W.own K.columns x ≡ true
 
 abbrev pub OneIsSound : (Knowledge → Expr → Result Shape Unfit) → Type 0
 OneIsSound rewrite = (K : Knowledge) (W : World) (x : Expr) (s : Shape) → Stands K W x → rewrite K x ≡ Ok s → SameBag (rows_of K W x) (shape_rows K W s)
@@ -57,8 +57,8 @@ both l k = (l.expr, k.expr)
 
 -- the second is of the class that the first takes
 pub record IsBelow (K : Knowledge) (W : World) (x y : Expr) : Type 0 where
-  pub formed : is_formed W.uses W.own K.columns y ≡ true
-  pub columns : (g : ℕ) (others : List ℕ) → children x ≡ g ∷ others → K.columns g ≡ columns_of W.uses K.columns y
+  pub formed : is_formed W.instances W.own K.columns y ≡ true
+  pub columns : (g : ℕ) (others : List ℕ) → children x ≡ g ∷ others → K.columns g ≡ columns_of W.instances K.columns y
   pub rows : (g : ℕ) (others : List ℕ) → children x ≡ g ∷ others → SameBag (W.rows g) (rows_of K W y)
 
 abbrev pub TwoAreSound : (Knowledge → Expr → Expr → Result Shape Unfit) → Type 0

@@ -14,16 +14,16 @@ use Rattle.rules.specs.Shapes.{meant}
 
 -- a database, in a query with these table instances and aggregates, and the rows that classes have there
 pub record World : Type 0 where
-  pub uses : List TableInstance
+  pub instances : List TableInstance
   pub own : List Aggregation
   pub tables : Tables
   pub rows : ℕ → Bag
 
 -- a line's expression is well formed, and has the columns and the bag of its class
 pub record IsLine (K : Knowledge) (W : World) (l : Line) : Type 0 where
-  pub formed : is_formed W.uses W.own K.columns l.expr ≡ true
-  pub columns : columns_of W.uses K.columns l.expr ≡ K.columns l.class
-  pub rows : SameBag (W.rows l.class) (means W.uses W.tables (with_rows K W.rows) l.expr)
+  pub formed : is_formed W.instances W.own K.columns l.expr ≡ true
+  pub columns : columns_of W.instances K.columns l.expr ≡ K.columns l.class
+  pub rows : SameBag (W.rows l.class) (means W.instances W.tables (with_rows K W.rows) l.expr)
 
 -- what is matched is true there
 pub record IsMatched (W : World) (m : Matched) : Type 0 where
@@ -34,4 +34,4 @@ pub record IsMatched (W : World) (m : Matched) : Type 0 where
 -- schema is such a world if facts are known that hold in each of these.
 abbrev pub IsSound : (Matched → Result Shape Unfit) → Type 0
 IsSound gives = (m : Matched) (s : Shape) → gives m ≡ Ok s → (W : World) → IsMatched W m → (top : Line) (others : List Line) → m.lines ≡ top ∷ others
-    → SameBag (means W.uses W.tables (with_rows m.classes W.rows) top.expr) (meant (with_rows m.classes W.rows) s).rows
+    → SameBag (means W.instances W.tables (with_rows m.classes W.rows) top.expr) (meant (with_rows m.classes W.rows) s).rows

@@ -25,9 +25,9 @@ impl Rule for SelectBelowSemi {
                 let left = select(alloc, c.copy(alloc)?, Shape::Class(*a))?;
                 Ok(semi(alloc, d.copy(alloc)?, left, Shape::Class(*b))?)
             }
-            (Expr::Select(c, _), Expr::Anti(sure, maybe, a, b)) => {
+            (Expr::Select(c, _), Expr::Anti(ordinary, null_aware, a, b)) => {
                 let left = select(alloc, c.copy(alloc)?, Shape::Class(*a))?;
-                let lists = (sure.copy(alloc)?, maybe.copy(alloc)?);
+                let lists = (ordinary.copy(alloc)?, null_aware.copy(alloc)?);
                 Ok(anti(alloc, lists, left, Shape::Class(*b))?)
             }
             _ => Err(Fault::Refused(Unfit::Pattern)),

@@ -83,7 +83,7 @@ pub(crate) fn anti(
 ) -> Result<Shape, AllocError>
     ensures { IfOk result (λ s. s ≡ shape.Anti lists.0 lists.1 left right) }
 {
-    let (sure, maybe) = lists;
+    let (ordinary, null_aware) = lists;
     let left = Boxed::new(alloc, left)?;
-    Ok(Shape::Anti(sure, maybe, left, Boxed::new(alloc, right)?))
+    Ok(Shape::Anti(ordinary, null_aware, left, Boxed::new(alloc, right)?))
 }

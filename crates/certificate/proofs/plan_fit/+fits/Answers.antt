@@ -7,10 +7,10 @@ use Rattle.certificate.proofs.plan_fit.+fits.Goals as goal
 
 pub plan_fits-inputs_fit-requires : goal.plan_fits-inputs_fit-requires
 plan_fits-inputs_fit-requires t c =
-    let uses = c.args.derived.log.now.uses in (
+    let instances = c.args.derived.log.now.instances in (
       search (rules, views.the_lemmas, folds.the_lemmas),
       (
         search rules,
-        c.as_slice-orders.ensures ∙ inputs_at uses c.args.plan.now c.args.delivered.now c.requires ∙ ap (map (each_order uses)) (sym c.as_slice-inputs.ensures),
+        c.as_slice-orders.ensures ∙ inputs_at instances c.args.plan.now c.args.delivered.now c.requires ∙ ap (map (each_order instances)) (sym c.as_slice-inputs.ensures),
       ),
     )

@@ -6,7 +6,7 @@ use Rattle.checker.proofs.replay.replay.Given as goal
 abbrev pub invariant-loop-line : goal.invariant-loop-line
 invariant-loop-line l = record {
   left : lines_replay l.query [] l.lines ≡ lines_replay l.query l.log.log (drop l.line-index l.lines);
-  uses : l.log.uses ≡ l.query.tables;
+  instances : l.log.instances ≡ l.query.tables;
   own : l.log.own ≡ own_aggregates l.query;
   count : length l.log.log ≡ l.line-index;
 }

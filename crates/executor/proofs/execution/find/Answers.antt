@@ -9,8 +9,8 @@ use Rattle.executor.proofs.execution.find.Goals as goal
 pub returns-clause-rows : goal.returns-clause-rows
 returns-clause-rows c =
     let D = c.args.database.now in
-    let is = answer_of c.query-query.result.now c.args.checked.now.query c.certificate.result.now c.args.checked.now.certificate D.schema c.in_ok-tables.tables D.tables c.as_slice.result.now c.as_slice-uses.result.now
-    (c.as_slice.ensures.value ∙ c.in_ok-columns.ensures) c.as_slice-uses.ensures c.query-query.ensures c.certificate.ensures.certificate (c.in_ok-tables.ensures ∙ c.tables.ensures.tables) in
+    let is = answer_of c.query-query.result.now c.args.checked.now.query c.certificate.result.now c.args.checked.now.certificate D.schema c.in_ok-tables.tables D.tables c.as_slice.result.now c.as_slice-instances.result.now
+    (c.as_slice.ensures.value ∙ c.in_ok-columns.ensures) c.as_slice-instances.ensures c.query-query.ensures c.certificate.ensures.certificate (c.in_ok-tables.ensures ∙ c.tables.ensures.tables) in
     subst (λ (z : List Row). IfOk c.plan_found.result (λ rows. rows ≡ z)) is (c.plan_found.ensures D.schema)
 
 pub returns-clause-answers : goal.returns-clause-answers
@@ -22,7 +22,7 @@ returns-clause-answers c = λ same.
 pub plan_found-requires-clause-runnable : goal.plan_found-requires-clause-runnable
 plan_found-requires-clause-runnable c =
     let checked = c.args.checked.now in
-    runnable_of checked.schema checked.query c.query-query.result.now c.certificate.result.now checked.certificate c.as_slice-uses.result.now c.as_slice-uses.ensures c.query-query.ensures c.certificate.ensures.certificate c.certificate.ensures.checked
+    runnable_of checked.schema checked.query c.query-query.result.now c.certificate.result.now checked.certificate c.as_slice-instances.result.now c.as_slice-instances.ensures c.query-query.ensures c.certificate.ensures.certificate c.certificate.ensures.checked
 
 pub plan_found-requires-clause-short : goal.plan_found-requires-clause-short
 plan_found-requires-clause-short c = short_of c.args.database.now.schema c.in_ok-tables.tables c.args.database.now.tables (c.in_ok-tables.ensures ∙ c.tables.ensures.tables) c.tables.ensures.satisfies

@@ -9,6 +9,6 @@ pub returns : goal.returns
 returns c =
     subst (λ (s : List ℕ). IfOk c.item_numbers.result (λ numbers. numbers.items ≡ s))
     (two (λ (numbers : List ℕ) items. map (item_number (numbers ∷ [])) items)
-    (c.as_slice-2.ensures.value ∙ c.in_ok-numbers.ensures ∙ ap (λ uses. numbers_of uses (out-Block c.args.query.now.block).from) c.as_slice.ensures) c.as_slice-3.ensures
+    (c.as_slice-2.ensures.value ∙ c.in_ok-numbers.ensures ∙ ap (λ instances. numbers_of instances (out-Block c.args.query.now.block).from) c.as_slice.ensures) c.as_slice-3.ensures
     ∙ item-numbers c.args.query.now)
     c.item_numbers.ensures

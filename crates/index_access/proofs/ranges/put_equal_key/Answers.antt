@@ -22,5 +22,5 @@ loop-column-preserved c =
     record {
       long = ap length items ∙ length-append key (b.cell ∷ []) ∙ ap (λ n. n + 1) c.loop-column.invariant.long;
       begins = subst (λ (k : List Value). IsSure c.args.own.now c.args.conditions.now e (λ f. Begins f columns k)) (sym (ap (map key_value) items ∙ map-append key_value key (b.cell ∷ [])))
-          (sure_more c.args.own.now c.args.conditions.now e columns (map key_value key) b (get_or columns i 0) c.loop-column.invariant.begins c.in-Some.ensures.sure c.in-Some.ensures.side low at);
+          (sure_more c.args.own.now c.args.conditions.now e columns (map key_value key) b (get_or columns i 0) c.loop-column.invariant.begins c.in-Some.ensures.ordinary c.in-Some.ensures.side low at);
     }

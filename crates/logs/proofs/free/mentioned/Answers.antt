@@ -15,6 +15,6 @@ returns-in_ok-mentioned-in-Anti-2 c =
     let free = given_free c.args.classes in
     IfOk-weaker c.union-in-Anti-2.result _ _ (λ found is k.
     ap (λ xs. has xs k) is ∙ has-rising k _ ∙ among-append k _ _
-    ∙ ap (λ b. b || has c.in_ok-mentioned-in-Anti-2.field-0 k) (c.in_ok-mentioned-in-Anti.ensures k) ∙ ap (λ b. spec.mentioned cols free c.in-Anti.sure k || b) (c.in_ok-mentioned-in-Anti-2.ensures k)
-    ∙ sym (list_any-append (λ d. mentions d cols free k) c.in-Anti.sure c.in-Anti.maybe)
+    ∙ ap (λ b. b || has c.in_ok-mentioned-in-Anti-2.field-0 k) (c.in_ok-mentioned-in-Anti.ensures k) ∙ ap (λ b. spec.mentioned cols free c.in-Anti.ordinary k || b) (c.in_ok-mentioned-in-Anti-2.ensures k)
+    ∙ sym (list_any-append (λ d. mentions d cols free k) c.in-Anti.ordinary c.in-Anti.null_aware)
     ∙ ap (λ x. spec.mentioned cols free (spec.conditions x) k) (sym c.in-Anti.is)) c.union-in-Anti-2.ensures

@@ -8,7 +8,7 @@ use Rattle.operators.proofs.subqueries.settled_plans.Goals as goal
 
 pub loop-plan-preserved : goal.loop-plan-preserved
 loop-plan-preserved c = λ D.
-    let f = plan_output c.args.uses.now D in
+    let f = plan_output c.args.instances.now D in
     let plan = c.plan-item.result in
     let before = map f (take c.loop-plan.plan-index c.args.plans.now) in
     let next = map_next f c.args.plans.now c.loop-plan.plan-index plan (omega arith) c.plan-item.is in
@@ -17,4 +17,4 @@ loop-plan-preserved c = λ D.
     (settled-more before c.loop-plan.settled.items (f plan) c.in_ok-is_settled.field-0 (c.loop-plan.invariant D) (c.in_ok-is_settled.ensures D)))
 
 pub returns : goal.returns
-returns c = λ D. subst (λ ps. AreSettled (map (plan_output c.args.uses.now D) ps) c.loop-plan.settled.items) (take_all c.loop-plan.plan-index c.args.plans.now (omega arith)) (c.loop-plan.invariant D)
+returns c = λ D. subst (λ ps. AreSettled (map (plan_output c.args.instances.now D) ps) c.loop-plan.settled.items) (take_all c.loop-plan.plan-index c.args.plans.now (omega arith)) (c.loop-plan.invariant D)

@@ -5,4 +5,4 @@ use Rattle.operators.specs.Settled.{AreSettled}
 use Rattle.operators.proofs.subqueries.settled_plans.Given as goal
 
 abbrev pub invariant-loop-plan : goal.invariant-loop-plan
-invariant-loop-plan l = (D : Tables) → AreSettled (map (plan_output l.uses D) (take l.plan-index l.plans)) l.settled.items
+invariant-loop-plan l = (D : Tables) → AreSettled (map (plan_output l.instances D) (take l.plan-index l.plans)) l.settled.items

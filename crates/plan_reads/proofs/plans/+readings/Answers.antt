@@ -8,19 +8,19 @@ use Rattle.plan_reads.proofs.plans.+readings.Goals as goal
 
 pub plan_reading-returns : goal.plan_reading-returns
 plan_reading-returns t c = λ D.
-    let uses = c.args.uses.now in
-    let inputs = map (plan_output uses D) c.as_slice.result.now in
-    if_ok c.node_reading.result (λ r is. plan-reads uses D c.args.plan.now _ c.as_slice.result.now r refl c.as_slice.ensures is)
+    let instances = c.args.instances.now in
+    let inputs = map (plan_output instances D) c.as_slice.result.now in
+    if_ok c.node_reading.result (λ r is. plan-reads instances D c.args.plan.now _ c.as_slice.result.now r refl c.as_slice.ensures is)
     (c.node_reading.ensures D inputs (subst (AreReadings inputs) (sym c.as_slice-2.ensures.value) (c.in_ok-inputs.ensures D)))
 
 pub plan_readings-returns : goal.plan_readings-returns
 plan_readings-returns t c = λ D.
-    let f = plan_output c.args.uses.now D in
+    let f = plan_output c.args.instances.now D in
     subst (λ ps. AreReadings (map f ps) c.loop-plan.readings.items) (take_all c.loop-plan.plan-index c.args.plans.now (omega arith)) (c.loop-plan.invariant D)
 
 pub plan_readings-loop-plan-preserved : goal.plan_readings-loop-plan-preserved
 plan_readings-loop-plan-preserved t c = λ D.
-    let f = plan_output c.args.uses.now D in
+    let f = plan_output c.args.instances.now D in
     let plan = c.plan-item.result in
     let front = map f (take c.loop-plan.plan-index c.args.plans.now) in
     let next = map_next f c.args.plans.now c.loop-plan.plan-index plan (omega arith) c.plan-item.is in

@@ -10,6 +10,6 @@ use Rattle.plan_reads.proofs.plans.node_reading.Goals as goal
 pub returns-in_ok-input-in-Sort : goal.returns-in_ok-input-in-Sort
 returns-in_ok-input-in-Sort c = λ D all are.
     let K = first_columns (map (λ x. x.columns) all) in
-    subst (λ (node : Node). IfOk c.sorted.result (IsReading (node_columns c.args.uses.now node (map (λ x. x.columns) all)) (node_rows c.args.uses.now D node all))) (sym c.in-Sort.is)
+    subst (λ (node : Node). IfOk c.sorted.result (IsReading (node_columns c.args.instances.now node (map (λ x. x.columns) all)) (node_rows c.args.instances.now D node all))) (sym c.in-Sort.is)
     (subst (λ (keys : List OrderKey). IfOk c.sorted.result (IsReading K (λ e. sorted (keys_order keys) (first all e)))) c.as_slice.ensures
     (c.sorted.ensures K (first all) (subst (IsReading K (first all)) (sym c.in_ok-input-in-Sort.ensures) (first-reads all c.args.inputs.now are))))

@@ -1,7 +1,7 @@
 use Rattle.std.proofs.Common.{◌∙◌, ap, sym, is_some}
 use Rattle.binder.specs.Scopes.{is_taken}
 use Rattle.binder.specs.Lent.{placed_of, scope_of}
-use Rattle.binder.proofs.Indexes.{taken-occurrence, is_some-map}
+use Rattle.binder.proofs.Indexes.{taken-instance, is_some-map}
 use Rattle.binder.proofs.scope.Scope.has.Goals as goal
 
 pub returns : goal.returns
@@ -12,5 +12,5 @@ returns c =
     ∙ ap is_some c.get.ensures.value
     ∙ sym (is_some-map placed_of _)
     ∙ ap is_some (c.self.invariant.finds_tables name)
-    ∙ sym (taken-occurrence name 0 (scope_of c.self.inside.index.tables.items))
+    ∙ sym (taken-instance name 0 (scope_of c.self.inside.index.tables.items))
     ∙ ap (is_taken name) c.self.view_is

@@ -7,5 +7,5 @@ use Rattle.logs.proofs.judge.Behind.has_columns.Goals as goal
 pub returns : goal.returns
 returns c =
     let columns = given_columns c.args.self.classes.columns in
-    let is : IsTrue c.eq.result ↔ (columns_of c.args.self.uses.now columns c.args.expr.now ≡ columns c.args.class) = search rules in
+    let is : IsTrue c.eq.result ↔ (columns_of c.args.self.instances.now columns c.args.expr.now ≡ columns c.args.class) = search rules in
     tested_columns _ _ _ is

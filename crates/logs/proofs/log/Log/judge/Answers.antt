@@ -12,6 +12,6 @@ returns c =
     let s : Logged = c.args.self.now in
     let at = c.behind.result in
     let line : Line = c.args.line.now in
-    let is : judged at.uses.now at.own.now (known at.classes) (the_log at) line ≡ stands s.uses s.own s.log line =
+    let is : judged at.instances.now at.own.now (known at.classes) (the_log at) line ≡ stands s.instances s.own s.log line =
     rw (c.behind.ensures.given.0, c.behind.ensures.given.1, c.behind.ensures.log, c.behind.ensures.known) refl in
     subst (λ r. Gives (λ (u : Unit {0}). line) c.judge.result r) is c.judge.ensures

@@ -6,4 +6,4 @@ use Rattle.logs.proofs.log.Log.new.Goals as goal
 
 pub invariant_of-result : goal.invariant_of-result
 invariant_of-result c =
-    subst (λ lines. Replays c.args.uses.now c.args.own.now (reverse lines) × IsKnown c.args.uses.now (reverse lines) c.new-2.result × AreAdditions (reverse lines) c.new-3.result) (sym c.new.ensures.items) (tt, c.new-2.ensures c.args.uses.now, c.new-3.ensures)
+    subst (λ lines. Replays c.args.instances.now c.args.own.now (reverse lines) × IsKnown c.args.instances.now (reverse lines) c.new-2.result × AreAdditions (reverse lines) c.new-3.result) (sym c.new.ensures.items) (tt, c.new-2.ensures c.args.instances.now, c.new-3.ensures)

@@ -15,6 +15,6 @@ get-width (t ∷ tables) zero entry is = let same : t ≡ entry = cc is in ap (�
 get-width (t ∷ tables) (suc k) entry is = get-width tables k entry is
 
 -- in each database of the schema they are as wide as their tables
-pub uses-wide : (S : Schema) (D : Database) (uses : List TableInstance) → AllByRecursion (IsOver S) uses → AllByRecursion (λ t. length t.entry.columns ≡ (tables_of S D).width t.table) uses
-uses-wide S D [] over = tt
-uses-wide S D (t ∷ uses) over = (get-width S.tables t.table t.entry over.0, uses-wide S D uses over.1)
+pub instances-wide : (S : Schema) (D : Database) (instances : List TableInstance) → AllByRecursion (IsOver S) instances → AllByRecursion (λ t. length t.entry.columns ≡ (tables_of S D).width t.table) instances
+instances-wide S D [] over = tt
+instances-wide S D (t ∷ instances) over = (get-width S.tables t.table t.entry over.0, instances-wide S D instances over.1)

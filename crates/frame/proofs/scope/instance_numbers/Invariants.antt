@@ -1,6 +1,6 @@
 use Rattle.std.proofs.Common.{◌≡◌}
 use Rattle.std.specs.List.{range_with_len}
-use Rattle.frame.proofs.scope.use_numbers.Given as goal
+use Rattle.frame.proofs.scope.instance_numbers.Given as goal
 
 abbrev pub invariant-loop-place : goal.invariant-loop-place
 invariant-loop-place l = l.numbers.items ≡ range_with_len l.table.first_column l.place
