@@ -17,13 +17,12 @@ use store::TableInput;
 /// one input each, in the order of the schema.
 ///
 /// The first fault is reported, in the order schema, text, scope, tables, and `out` is then as it was. During the answer
-/// memory or the output may fail, and then a beginning of the answer has been written. No search uses `_limit` yet.
+/// memory or the output may fail, and then a beginning of the answer has been written.
 pub fn query<R: TableInput, W: AnswerOutput>(
     alloc: Global,
     schema: &[u8],
     text: &[u8],
     tables: &mut [R],
-    _limit: u32,
     out: &mut W,
 ) -> Result<(), Refusal>
     requires { HasTables schema.now (length tables.old) }

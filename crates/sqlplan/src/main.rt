@@ -23,9 +23,6 @@ use std::{env, fs, io};
 use stop::Stop;
 use store::CountedInput;
 
-/// How many lines a search may derive, where the user says nothing. No search uses it yet.
-const LIMIT: u32 = 20_000;
-
 /// The bytes of a file.
 fn bytes_of(rt: &HostRuntime, path: &str) -> Result<Vec<u8>, Stop>
     ensures { IfErr result (SaysFile path.now) }
@@ -97,7 +94,7 @@ fn answer_tables(
     let alloc = rt.alloc();
     let mut out = CountedOutput::new(BufWriter::new(alloc, io::writer(rt))?);
     let answered = match way {
-        Way::Plan => query(alloc, bytes, text, tables, LIMIT, &mut out),
+        Way::Plan => query(alloc, bytes, text, tables, &mut out),
         Way::Meaning => evaluate(alloc, bytes, text, tables, &mut out),
     };
     match answered {
