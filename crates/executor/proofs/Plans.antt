@@ -1,5 +1,5 @@
 -- The answer that a plan gives, and that the plan may be run.
-use Rattle.std.proofs.Common.{◌≡◌, ap, sym, subst, ◌∙◌, ℕ, true, List, map}
+use Rattle.std.proofs.Common.{◌≡◌, ap, sym, subst, ◌∙◌, ℕ, List, map}
 use Rattle.schema.specs.declared.schema.Schema.{Schema}
 use Rattle.schema.specs.Databases.{Database, Satisfies}
 use Rattle.query.specs.declared.query.TableInstance.{TableInstance}

@@ -4,7 +4,7 @@ use Rattle.query.specs.Answer.{IsAnswer}
 use Rattle.answer_text.specs.AnswerText.{answer_text, HasFront}
 use Rattle.query.specs.Rows.{tables_in}
 use Rattle.executor.specs.Execution.{accepted_text}
-use Rattle.executor.proofs.Sent.{front_of_nothing, on_err, on_ok}
+use Rattle.answer_text.proofs.Sent.{front_of_nothing, on_err, on_ok}
 use Rattle.executor.proofs.answer.write_answer.Goals as goal
 
 pub returns-in_err-found-clause-front : goal.returns-in_err-found-clause-front
