@@ -1,0 +1,144 @@
+-- What is read is spelt by the bytes.
+use Rattle.std.proofs.Common.{◌≡◌, ℕ, List, [], ◌∷◌, length, Bool, true, false, cond, Some, Result, Ok, Err, IfOk, refl, sym, ap, ◌∙◌, subst, codes, ◌==◌}
+use Rattle.std.specs.Str.{IsUtf8, is_utf8}
+use Rattle.std.proofs.lemmas.Str.{IsUtf8-from_is_utf8}
+use Rattle.std.proofs.lemmas.Bool.{eqb-true}
+use Rattle.serde_json.specs.Data.{Data, Items}
+use Rattle.serde_json.specs.Events.{members_len}
+use Rattle.serde_json.specs.Read as json
+use Rattle.serde_json.specs.Find.{as_array, as_object}
+use Rattle.values.specs.declared.fault.Fault.{Fault}
+use Rattle.values.specs.Faults.{Gives}
+use Rattle.values.specs.Faults as faults
+use Rattle.values.proofs.Results.{both_ok, wanted_ok, wanted_if_ok}
+use Rattle.schema.specs.Names.{Name}
+use Rattle.schema.specs.Each.{Pairs}
+use Rattle.schema.specs.Entries.{list_of}
+use Rattle.schema.specs.Spelling.{HasKeys, HasMember, IsArray}
+use Rattle.schema.specs.declared.schema.Table.{Table}
+use Rattle.schema.specs.declared.schema.Schema.{Schema}
+use Rattle.schema.proofs.Steps.{each_ok, pairs_length}
+use Rattle.statistics.specs.declared.counts.IndexStatistics.{IndexStatistics}
+use Rattle.statistics.specs.declared.counts.TableStatistics.{TableStatistics}
+use Rattle.statistics.specs.declared.counts.Statistics.{Statistics}
+use Rattle.statistics.specs.declared.fault.StatisticsRefusal.{StatisticsRefusal}
+use Rattle.statistics.specs.declared.fault.StatisticsRefusal.TheVariants.{NotJson, Shape}
+use Rattle.statistics.specs.Entries.{wanted, json_in, keys_in, member_in, number_in, items_in, index_in, indexes_in, table_in, named_in, tables_in}
+use Rattle.statistics.specs.Reading.{statistics_of}
+use Rattle.statistics.specs.Spelling.{HasNumber, IsIndexText, IsTableText, AreTablesText, IsStatisticsText}
+
+ok_same : {A R : Type 0} (x y : A) → ◌≡◌ {A = Result A R} (Ok x) (Ok y) → x ≡ y
+ok_same x y e = cc e
+
+pairs_map : {A B : Type 0} {R S : A → B → Type 0} (f : (x : A) (y : B) → R x y → S x y) (xs : List A) (ys : List B) → Pairs R xs ys → Pairs S xs ys
+pairs_map f [] [] h = tt
+pairs_map f [] (y ∷ ys) h = absurd h
+pairs_map f (x ∷ xs) [] h = absurd h
+pairs_map f (x ∷ xs) (y ∷ ys) h = (f x y h.0, pairs_map f xs ys h.1)
+
+keys_spelt : (n : ℕ) (d : Data) (u : Unit {0}) → keys_in n d ≡ Ok u → HasKeys n d
+unfolding keys_in
+keys_spelt n d u e =
+    let (ms, p, q) = both_ok (wanted (as_object d)) _ u e in
+    (ms, wanted_ok Shape (as_object d) ms p, eqb-true (members_len ms) n (wanted_if_ok Shape (members_len ms == n) tt u q).0)
+
+number_spelt : (key : Name) (d : Data) (n : ℕ) → number_in key d ≡ Ok n → HasNumber key n d
+unfolding number_in
+number_spelt key d n e =
+    let (m, p, q) = both_ok (member_in key d) _ n e in
+    (m, wanted_ok Shape _ m p, wanted_ok Shape _ n q)
+
+index_spelt : (d : Data) (i : IndexStatistics) → index_in d ≡ Ok i → IsIndexText d i
+unfolding index_in
+index_spelt d i e =
+    let (members, p0, q0) = both_ok (keys_in 2 d) _ i e in
+    let (keys, p1, q1) = both_ok (number_in (codes "keys") d) _ i q0 in
+    let (pages, p2, q2) = both_ok (number_in (codes "pages") d) _ i q1 in
+    let made : IsIndexText d (record { keys = keys; pages = pages }) = record {
+      members = keys_spelt 2 d members p0;
+      keys = number_spelt (codes "keys") d keys p1;
+      pages = number_spelt (codes "pages") d pages p2;
+    } in
+    subst (IsIndexText d) (ok_same _ i q2) made
+
+items_spelt : (n : ℕ) (d : Data) (ds : List Data) → items_in n d ≡ Ok ds → (items : Items) × (as_array d ≡ Some items) × (list_of items ≡ ds) × (length ds ≡ n)
+unfolding items_in
+items_spelt n d ds e =
+    let (items, p, q) = both_ok (wanted (as_array d)) _ ds e in
+    let r = wanted_if_ok Shape (length (list_of items) == n) (list_of items) ds q in
+    (items, wanted_ok Shape (as_array d) items p, r.1, ap length (sym r.1) ∙ eqb-true (length (list_of items)) n r.0)
+
+indexes_spelt : (n : ℕ) (d : Data) (is : List IndexStatistics) → indexes_in n d ≡ Ok is → HasMember (codes "indexes") (λ m. IsArray IsIndexText m is) d × (length is ≡ n)
+unfolding indexes_in
+indexes_spelt n d is e =
+    let (m, p0, q0) = both_ok (member_in (codes "indexes") d) _ is e in
+    let (ds, p1, q1) = both_ok (items_in n m) _ is q0 in
+    let (items, array, same, size) = items_spelt n m ds p1 in
+    let pairs = each_ok index_in ds is q1 in
+    ((m, wanted_ok Shape _ m p0, (items, array, rw same (pairs_map index_spelt ds is pairs))), sym (pairs_length _ ds is pairs) ∙ size)
+
+table_spelt : (table : Table) (d : Data) (t : TableStatistics) → table_in table d ≡ Ok t → IsTableText table d t
+unfolding table_in
+table_spelt table d t e =
+    let (members, p0, q0) = both_ok (keys_in 3 d) _ t e in
+    let (rows, p1, q1) = both_ok (number_in (codes "rows") d) _ t q0 in
+    let (pages, p2, q2) = both_ok (number_in (codes "pages") d) _ t q1 in
+    let (indexes, p3, q3) = both_ok (indexes_in (length table.indexes) d) _ t q2 in
+    let listed = indexes_spelt (length table.indexes) d indexes p3 in
+    let made : IsTableText table d (record { rows = rows; pages = pages; indexes = indexes }) = record {
+      members = keys_spelt 3 d members p0;
+      rows = number_spelt (codes "rows") d rows p1;
+      pages = number_spelt (codes "pages") d pages p2;
+      indexes = listed.0;
+      each = listed.1;
+    } in
+    subst (IsTableText table d) (ok_same _ t q3) made
+
+named_spelt : (d : Data) (table : Table) (t : TableStatistics) → named_in d table ≡ Ok t → HasMember table.name (λ m. IsTableText table m t) d
+unfolding named_in
+named_spelt d table t e =
+    let (m, p, q) = both_ok (member_in table.name d) _ t e in
+    (m, wanted_ok Shape _ m p, table_spelt table m t q)
+
+tables_spelt : (tables : List Table) (d : Data) (ts : List TableStatistics) → tables_in tables d ≡ Ok ts → HasKeys 1 d × HasMember (codes "tables") (λ m. AreTablesText tables m ts) d
+unfolding tables_in
+tables_spelt tables d ts e =
+    let (one, p0, q0) = both_ok (keys_in 1 d) _ ts e in
+    let (m, p1, q1) = both_ok (member_in (codes "tables") d) _ ts q0 in
+    let (members, p2, q2) = both_ok (keys_in (length tables) m) _ ts q1 in
+    let made : AreTablesText tables m ts = record {
+      members = keys_spelt (length tables) m members p2;
+      each = pairs_map (named_spelt m) tables ts (each_ok (named_in m) tables ts q2);
+    } in
+    (keys_spelt 1 d one p0, (m, wanted_ok Shape _ m p1, made))
+
+by_utf8 : (b : Bool) (bytes : List ℕ) (x : Result Data StatisticsRefusal) (d : Data) → is_utf8 bytes ≡ b → cond b x (Err NotJson) ≡ Ok d → IsUtf8 bytes × (x ≡ Ok d)
+by_utf8 true bytes x d p e = (IsUtf8-from_is_utf8 bytes p, e)
+by_utf8 false bytes x d p e = cc e
+
+json_spelt : (bytes : List ℕ) (d : Data) → json_in bytes ≡ Ok d → IsUtf8 bytes × (json.read bytes ≡ Some d)
+unfolding json_in
+json_spelt bytes d e =
+    let r = by_utf8 (is_utf8 bytes) bytes (faults.wanted NotJson (json.read bytes)) d refl e in
+    (r.0, wanted_ok NotJson (json.read bytes) d r.1)
+
+statistics_spelt : (schema : Schema) (bytes : List ℕ) (s : Statistics) → statistics_of schema bytes ≡ Ok s → IsStatisticsText schema bytes s
+unfolding statistics_of
+statistics_spelt schema bytes s e =
+    let (d, p0, q0) = both_ok (json_in bytes) _ s e in
+    let (tables, p1, q1) = both_ok (tables_in schema.tables d) _ s q0 in
+    let text = json_spelt bytes d p0 in
+    let listed = tables_spelt schema.tables d tables p1 in
+    let made : IsStatisticsText schema bytes (record { tables = tables }) = record {
+      text = text.0;
+      value = d;
+      json = text.1;
+      members = listed.0;
+      tables = listed.1;
+    } in
+    subst (IsStatisticsText schema bytes) (ok_same _ s q1) made
+
+-- so what a call gives that gives what is read is spelt
+pub given_spelt : (schema : Schema) (bytes : List ℕ) (result : Result Statistics (Fault StatisticsRefusal)) → Gives (λ x. x) result (statistics_of schema bytes) → IfOk result (IsStatisticsText schema bytes)
+given_spelt schema bytes (Ok s) h = statistics_spelt schema bytes s h
+given_spelt schema bytes (Err e) h = tt

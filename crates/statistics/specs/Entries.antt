@@ -1,0 +1,94 @@
+-- What bytes spell as JSON: the entries of a schema's tables, or why they have another shape.
+use Rattle.std.specs.Prelude.{ℕ, List, length, Bool, Option, Result, Ok, Err, ◌==◌, if◌then◌else◌, codes, option_and_then}
+use Rattle.std.specs.Str.{is_utf8}
+use Rattle.serde_json.specs.Data.{Data}
+use Rattle.serde_json.specs.Events.{members_len}
+use Rattle.serde_json.specs.Read as json
+use Rattle.serde_json.specs.Find.{get, as_number, as_u64, as_array, as_object}
+use Rattle.values.specs.Faults.{◌>>=◌}
+use Rattle.values.specs.Faults as faults
+use Rattle.schema.specs.Names.{Name}
+use Rattle.schema.specs.Each.{each}
+use Rattle.schema.specs.Entries.{list_of}
+use Rattle.schema.specs.declared.schema.Table.{Table}
+use Rattle.statistics.specs.declared.counts.IndexStatistics.{IndexStatistics}
+use Rattle.statistics.specs.declared.counts.TableStatistics.{TableStatistics}
+use Rattle.statistics.specs.declared.fault.StatisticsRefusal.{StatisticsRefusal}
+use Rattle.statistics.specs.declared.fault.StatisticsRefusal.TheVariants.{NotJson, Shape}
+
+abbrev pub wanted : {A : Type 0} → Option A → Result A StatisticsRefusal
+wanted x = faults.wanted Shape x
+
+abbrev pub wanted_if : {A : Type 0} → Bool → A → Result A StatisticsRefusal
+wanted_if b x = faults.wanted_if Shape b x
+
+-- what the bytes are as JSON
+unfoldable pub json_in : List ℕ → Result Data StatisticsRefusal
+json_in bytes = if is_utf8 bytes then faults.wanted NotJson (json.read bytes) else Err NotJson
+
+-- an object with as many members as this
+unfoldable pub keys_in : ℕ → Data → Result (Unit {0}) StatisticsRefusal
+keys_in n d = do
+  members ← wanted (as_object d)
+  wanted_if (members_len members == n) tt
+
+abbrev pub member_in : Name → Data → Result Data StatisticsRefusal
+member_in name d = wanted (get name d)
+
+-- the whole number that a value is, from 0 to the greatest of 64 bits
+abbrev pub as_whole : Data → Option ℕ
+as_whole d = option_and_then as_u64 (as_number d)
+
+-- the number that a member is
+unfoldable pub number_in : Name → Data → Result ℕ StatisticsRefusal
+number_in name d = do
+  m ← member_in name d
+  wanted (as_whole m)
+
+-- an array's items, as many as this
+unfoldable pub items_in : ℕ → Data → Result (List Data) StatisticsRefusal
+items_in n d = do
+  items ← wanted (as_array d)
+  wanted_if (length (list_of items) == n) (list_of items)
+
+unfoldable pub index_in : Data → Result IndexStatistics StatisticsRefusal
+index_in d = do
+  _ ← keys_in 2 d
+  keys ← number_in (codes "keys") d
+  pages ← number_in (codes "pages") d
+  Ok (record { keys = keys; pages = pages })
+
+abbrev pub each_index : List Data → Result (List IndexStatistics) StatisticsRefusal
+each_index = each index_in
+
+-- as many indexes as this
+unfoldable pub indexes_in : ℕ → Data → Result (List IndexStatistics) StatisticsRefusal
+indexes_in n d = do
+  m ← member_in (codes "indexes") d
+  ds ← items_in n m
+  each_index ds
+
+unfoldable pub table_in : Table → Data → Result TableStatistics StatisticsRefusal
+table_in t d = do
+  _ ← keys_in 3 d
+  rows ← number_in (codes "rows") d
+  pages ← number_in (codes "pages") d
+  indexes ← indexes_in (length t.indexes) d
+  Ok (record { rows = rows; pages = pages; indexes = indexes })
+
+-- the entry that stands at the table's name
+unfoldable pub named_in : Data → Table → Result TableStatistics StatisticsRefusal
+named_in d t = do
+  m ← member_in t.name d
+  table_in t m
+
+abbrev pub each_table : Data → List Table → Result (List TableStatistics) StatisticsRefusal
+each_table d = each (named_in d)
+
+-- the entries of the tables, one of each
+unfoldable pub tables_in : List Table → Data → Result (List TableStatistics) StatisticsRefusal
+tables_in ts d = do
+  _ ← keys_in 1 d
+  m ← member_in (codes "tables") d
+  _ ← keys_in (length ts) m
+  each_table m ts

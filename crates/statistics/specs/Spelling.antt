@@ -1,0 +1,43 @@
+-- When bytes are the JSON of statistics (the shape is this project's profile; JSON is that of RFC 8259).
+use Rattle.std.specs.Prelude.{◌≡◌, ℕ, List, length, Some, codes}
+use Rattle.std.specs.Str.{IsUtf8}
+use Rattle.serde_json.specs.Data.{Data}
+use Rattle.serde_json.specs.Read as json
+use Rattle.schema.specs.Each.{Pairs}
+use Rattle.schema.specs.Spelling.{HasKeys, HasMember, IsArray}
+use Rattle.schema.specs.declared.schema.Table.{Table}
+use Rattle.schema.specs.declared.schema.Schema.{Schema}
+use Rattle.statistics.specs.declared.counts.IndexStatistics.{IndexStatistics}
+use Rattle.statistics.specs.declared.counts.TableStatistics.{TableStatistics}
+use Rattle.statistics.specs.declared.counts.Statistics.{Statistics}
+use Rattle.statistics.specs.Entries.{as_whole}
+
+-- what stands at the key is this whole number, of 64 bits without a sign
+abbrev pub HasNumber : List ℕ → ℕ → Data → Type 0
+HasNumber key n = HasMember key (λ m. as_whole m ≡ Some n)
+
+pub record IsIndexText (d : Data) (i : IndexStatistics) : Type 0 where
+  pub members : HasKeys 2 d
+  pub keys : HasNumber (codes "keys") i.keys d
+  pub pages : HasNumber (codes "pages") i.pages d
+
+-- of this table: with an entry for each of its indexes
+pub record IsTableText (table : Table) (d : Data) (t : TableStatistics) : Type 0 where
+  pub members : HasKeys 3 d
+  pub rows : HasNumber (codes "rows") t.rows d
+  pub pages : HasNumber (codes "pages") t.pages d
+  pub indexes : HasMember (codes "indexes") (λ m. IsArray IsIndexText m t.indexes) d
+  pub each : length t.indexes ≡ length table.indexes
+
+-- an entry for each of the tables, at its name, and no other
+pub record AreTablesText (tables : List Table) (d : Data) (ts : List TableStatistics) : Type 0 where
+  pub members : HasKeys (length tables) d
+  pub each : Pairs (λ table t. HasMember table.name (λ m. IsTableText table m t) d) tables ts
+
+-- the bytes are JSON, which spells these statistics of the schema
+pub record IsStatisticsText (schema : Schema) (bytes : List ℕ) (s : Statistics) : Type 0 where
+  pub text : IsUtf8 bytes
+  pub value : Data
+  pub json : json.read bytes ≡ Some value
+  pub members : HasKeys 1 value
+  pub tables : HasMember (codes "tables") (λ m. AreTablesText schema.tables m s.tables) value

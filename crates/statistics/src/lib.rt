@@ -1,0 +1,10 @@
+//! Statistics of tables: how many rows and pages each has, and how many different keys each of its indexes.
+#![tactic(auto)]
+
+pub mod counts;
+mod entries;
+pub mod fault;
+mod reading;
+
+pub use counts::{IndexStatistics, Statistics, TableStatistics};
+pub use fault::{StatisticsFault, StatisticsRefusal};
