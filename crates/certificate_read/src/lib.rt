@@ -1,0 +1,5 @@
+//! Reading the text of a certificate.
+#![tactic(auto)]
+
+pub mod numbers;
+pub mod part_fault;
