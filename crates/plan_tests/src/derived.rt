@@ -159,15 +159,25 @@ pub fn lines_of(alloc: Global, text: &str) -> Result<Items<Line>, AllocError> {
     Ok(lines)
 }
 
-/// The expression of each line, for plans that are read from words; one that no plan names where the line has none.
+/// The expression of a line in words; one that no plan names where the line has none.
+fn expression_of(alloc: Global, text: &str) -> Result<Expr, AllocError> {
+    let (kind, words) = cut(text, " ");
+    match kind {
+        "A" => {
+            let (_class, more) = cut(words, " ");
+            let (_step, expr) = step_of(alloc, more)?;
+            expr_of(alloc, expr)
+        }
+        "S" | "G" | "L" => Ok(Expr::Distinct(0)),
+        _ => expr_of(alloc, words),
+    }
+}
+
+/// The expression of each line, for plans that are read from words.
 pub fn expressions_of(alloc: Global, text: &str) -> Result<Items<Expr>, AllocError> {
     let mut expressions = Items::new(alloc);
     for line in text.split("; ") {
-        let expr = match line_of(alloc, line)? {
-            Line::Founds(expr) | Line::Adds(_, _, expr) => expr,
-            Line::Unites(_, _, _) | Line::Alike(_, _) | Line::Gives(_, _, _) => Expr::Distinct(0),
-        };
-        expressions.push(expr)?;
+        expressions.push(expression_of(alloc, line)?)?;
     }
     Ok(expressions)
 }
