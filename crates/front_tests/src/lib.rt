@@ -1,4 +1,4 @@
-//! Tests of what comes before a plan: `values`, `schema`, `sql_parse`, `binder`, `store` and `oracle`.
+//! Tests of what comes before a plan: `values`, `schema`, `statistics`, `sql_parse`, `binder`, `store` and `oracle`.
 #![tactic(auto)]
 
 #[cfg(test)]
@@ -17,5 +17,7 @@ mod names;
 mod schemas;
 #[cfg(test)]
 mod statements;
+#[cfg(test)]
+mod statistics;
 #[cfg(test)]
 mod trees;
