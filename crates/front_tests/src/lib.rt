@@ -14,10 +14,10 @@ mod indexes;
 #[cfg(test)]
 mod names;
 #[cfg(test)]
+mod read_counts;
+#[cfg(test)]
 mod schemas;
 #[cfg(test)]
 mod statements;
-#[cfg(test)]
-mod statistics;
 #[cfg(test)]
 mod trees;
