@@ -1,6 +1,7 @@
 //! Statistics of tables: how many rows and pages each has, and how many different keys each of its indexes.
 #![tactic(auto)]
 
+mod counting;
 pub mod counts;
 mod entries;
 pub mod fault;
