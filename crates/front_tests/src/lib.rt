@@ -8,13 +8,13 @@ mod cells;
 #[cfg(test)]
 mod copies;
 #[cfg(test)]
+mod counts;
+#[cfg(test)]
 mod files;
 #[cfg(test)]
 mod indexes;
 #[cfg(test)]
 mod names;
-#[cfg(test)]
-mod read_counts;
 #[cfg(test)]
 mod schemas;
 #[cfg(test)]

@@ -1,12 +1,18 @@
-//! Statistics read from JSON, and the codes of other bytes.
+//! Statistics read from JSON, the codes of other bytes, and statistics of loaded tables.
 
-use fixtures::{COMPANY, Reporting, differences, schema_of, spelt};
+use crate::files::{outcome, push_outcome};
+use fixtures::{
+    COMPANY, DEPT, EMP, Reporting, StepReporting, differences, report_steps, schema_of, spelt,
+};
 use schema::Schema;
 use statistics::{Statistics, TableStatistics};
 use std::alloc::{AllocError, Global};
 use std::fmt::Write;
 use std::process::Abort;
+use store::Database;
 use values::Fault;
+
+// ---- statistics as texts
 
 /// Reports a table's rows and pages, and behind each ` /` an index's keys and pages.
 fn push_table(reported: &mut String, table: &TableStatistics) -> Result<(), AllocError> {
@@ -14,15 +20,19 @@ fn push_table(reported: &mut String, table: &TableStatistics) -> Result<(), Allo
     for index in table.indexes.as_slice() {
         write!(reported, " / {} {}", index.keys, index.pages)?;
     }
-    reported.push_str("; ")
+    Ok(())
 }
 
+/// Reports the tables with ` ; ` between them.
 fn push_statistics(reported: &mut String, statistics: &Statistics) -> Result<(), AllocError> {
-    for table in statistics.tables.as_slice() {
+    for (number, table) in statistics.tables.as_slice().iter().enumerate() {
+        reported.push_str(if number == 0 { "" } else { " ; " })?;
         push_table(reported, table)?;
     }
     Ok(())
 }
+
+// ---- read
 
 /// Adds the statistics that bytes are of a schema, or the code of their refusal.
 fn push_read(
@@ -64,9 +74,9 @@ fn are_read(rt: &impl Abort, alloc: Global, cases: &str, readings: &Readings<'_>
 #[test]
 fn statistics_are_read(rt: HostRuntime) {
     const CASES: &str =
-        r#"{"tables":{"emp":{"rows":4,"pages":1,"indexes":[{"keys":4,"pages":2}]},"dept":{"rows":3,"pages":5,"indexes":[]}}} => 3 5; 4 1 / 4 2; 
-{"tables":{"dept":{"indexes":[],"pages":0,"rows":0},"emp":{"pages":7,"rows":0,"indexes":[{"pages":9,"keys":8}]}}} => 0 0; 0 7 / 8 9; 
-{"tables":{"dept":1,"dept":{"rows":3,"pages":5,"indexes":[]},"emp":{"rows":4,"pages":1,"indexes":[{"keys":4,"pages":2}]}}} => 3 5; 4 1 / 4 2; "#;
+        r#"{"tables":{"emp":{"rows":4,"pages":1,"indexes":[{"keys":4,"pages":2}]},"dept":{"rows":3,"pages":5,"indexes":[]}}} => 3 5 ; 4 1 / 4 2
+{"tables":{"dept":{"indexes":[],"pages":0,"rows":0},"emp":{"pages":7,"rows":0,"indexes":[{"pages":9,"keys":8}]}}} => 0 0 ; 0 7 / 8 9
+{"tables":{"dept":1,"dept":{"rows":3,"pages":5,"indexes":[]},"emp":{"rows":4,"pages":1,"indexes":[{"keys":4,"pages":2}]}}} => 3 5 ; 4 1 / 4 2"#;
     are_read(
         &rt,
         rt.alloc(),
@@ -126,7 +136,7 @@ fn other_tables_are_refused(rt: HostRuntime) {
 #[test]
 fn other_entries_are_refused(rt: HostRuntime) {
     const FRONT: &str = r#"{"tables":{"dept":{"rows":3,"pages":5,"indexes":[]},"emp":{"#;
-    const CASES: &str = r#""rows":4,"pages":1,"indexes":[{"keys":4,"pages":2}] => 3 5; 4 1 / 4 2; 
+    const CASES: &str = r#""rows":4,"pages":1,"indexes":[{"keys":4,"pages":2}] => 3 5 ; 4 1 / 4 2
 "pages":1,"indexes":[{"keys":4,"pages":2}] => N02
 "rows":4,"indexes":[{"keys":4,"pages":2}] => N02
 "rows":4,"pages":1 => N02
@@ -160,8 +170,8 @@ fn other_numbers_are_refused(rt: HostRuntime) {
     const SCHEMA: &str =
         r#"{"tables":[{"name":"t","columns":[{"name":"a","kind":"INT","not_null":true}],"unique":[],"indexes":[]}]}"#;
     const FRONT: &str = r#"{"tables":{"t":{"pages":1,"indexes":[],"rows":"#;
-    const CASES: &str = r#"0 => 0 1; 
-18446744073709551615 => 18446744073709551615 1; 
+    const CASES: &str = r#"0 => 0 1
+18446744073709551615 => 18446744073709551615 1
 18446744073709551616 => N02
 -1 => N02
 -0 => N02
@@ -182,5 +192,81 @@ true => N02
             front: FRONT,
             back: BACK,
         },
+    );
+}
+
+// ---- of loaded tables
+
+fn push_counted(
+    alloc: Global,
+    reported: &mut String,
+    database: &Database<'_>,
+) -> Result<(), AllocError> {
+    let statistics = Statistics::of(alloc, database)?;
+    push_statistics(reported, &statistics)
+}
+
+fn company_counted(alloc: Global) -> Result<String, AllocError> {
+    let mut reported = String::new(alloc);
+    let schema = schema_of(alloc, COMPANY)?;
+    let mut database = Database::new(alloc, &schema)?;
+    for (table, file) in [DEPT, EMP].iter().enumerate() {
+        let loaded = outcome(alloc, &mut database, table, file.as_bytes(), None);
+        push_outcome(&mut reported, loaded)?;
+        reported.push_str(" ")?;
+    }
+    push_counted(alloc, &mut reported, &database)?;
+    Ok(reported)
+}
+
+#[test]
+fn statistics_of_the_company(rt: HostRuntime) {
+    assert_eq!(rt;
+        company_counted(rt.alloc()).as_deref(),
+        Ok("loaded loaded 3 1 ; 4 1 / 4 1")
+    );
+}
+
+/// Reports on files, with ` ; ` between them, how each is loaded in the place of the one before, and the statistics then.
+struct Counted;
+
+impl StepReporting for Counted {
+    fn report(
+        &self,
+        alloc: Global,
+        database: &mut Database<'_>,
+        file: &str,
+        reported: &mut String,
+    ) -> Result<(), AllocError> {
+        let bytes = spelt(alloc, file)?;
+        let loaded = outcome(alloc, database, 0, bytes.as_slice(), None);
+        push_outcome(reported, loaded)?;
+        reported.push_str(" ")?;
+        push_counted(alloc, reported, database)
+    }
+}
+
+impl Reporting for Counted {
+    fn report(&self, alloc: Global, text: &str, reported: &mut String) -> Result<(), AllocError> {
+        const SCHEMA: &str =
+            r#"{"tables":[{"name":"t","columns":[{"name":"a","kind":"INT","not_null":false},{"name":"b","kind":"TEXT","not_null":false}],"unique":[],"indexes":[["a"],["b","a"]]}]}"#;
+        report_steps(alloc, reported, SCHEMA, text, self)
+    }
+}
+
+/// Rows whose keys have a Null at the same places, and else the same values, have one key. An empty text is no Null.
+#[test]
+fn statistics_of_loaded_tables(rt: HostRuntime) {
+    const CASES: &str = r#"a,b~ => loaded 0 0 / 0 0 / 0 0
+a,b~1,x~1,y~\N,x~\N,x~2,\N~ => loaded 5 1 / 3 1 / 4 1
+a,b~1,""~1,\N~1,\N~ => loaded 3 1 / 1 1 / 2 1
+a,b~|50*#,x~| => loaded 50 1 / 50 1 / 50 1
+a,b~|51*#,x~| => loaded 51 2 / 51 1 / 51 1
+a,b~|100*1,x~| => loaded 100 2 / 1 1 / 1 1
+a,b~|101*1,x~| => loaded 101 3 / 1 2 / 1 2
+a,b~1,x~ ; a,b~1,x~2,x~ ; a,b~x,x~ => loaded 1 1 / 1 1 / 1 1 ; loaded 2 1 / 2 1 / 2 1 ; T03 1 in 0 2 1 / 2 1 / 2 1"#;
+    assert_eq!(rt;
+        differences(rt.alloc(), &[CASES], &Counted).as_deref(),
+        Ok("")
     );
 }
