@@ -3,3 +3,4 @@ pub mod Json
 pub mod PairedLists
 pub mod ReadBack
 pub mod Spelled
+pub mod UniqueRows

@@ -3,3 +3,4 @@ pub mod Entries
 pub mod Reading
 pub mod Refusals
 pub mod Spelling
+pub mod UniqueLists

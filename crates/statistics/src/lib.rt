@@ -6,6 +6,7 @@ pub mod counts;
 mod entries;
 pub mod fault;
 mod reading;
+mod unique_lists;
 
 pub use counts::{IndexStatistics, Statistics, TableStatistics};
 pub use fault::{StatisticsFault, StatisticsRefusal};

@@ -8,7 +8,19 @@ use Rattle.schema.specs.Databases.{Row}
 use Rattle.statistics.specs.Counting.{table_counts}
 use Rattle.statistics.specs.declared.counts.TableStatistics.{TableStatistics}
 use Rattle.statistics.proofs.PairedLists.{pairs-more, pairs-all}
+use Rattle.statistics.proofs.UniqueRows.{table_at}
 use Rattle.statistics.proofs.counting.each_table.Goals as goal
+
+pub table_counts-requires : goal.table_counts-requires
+table_counts-requires c =
+    let entries = c.args.entries.now in
+    let tables = c.args.tables.now in
+    let start = c.into_iter-entry-iterator.result in
+    let first : iter_rest (zip_first start) ≡ entries = search rules in
+    let second : iter_rest (zip_second start) ≡ tables = search rules in
+    let seen = c.loop-entry.yielded in
+    let turn = zip_turn entries tables seen start c.loop-entry.entry-iterator c.next.new.self c.next.result first second c.loop-entry.yielded_by _ c.in-Some.is c.next.ensures.steps in
+    table_at entries tables (length seen) c.in-Some.entry.now c.in-Some.rows.now c.requires turn.0 turn.1 (turn.2 c.in-Some.entry.now) (turn.3 c.in-Some.rows.now)
 
 pub loop-entry-preserved : goal.loop-entry-preserved
 loop-entry-preserved c =
