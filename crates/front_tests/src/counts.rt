@@ -228,9 +228,12 @@ fn statistics_of_the_company(rt: HostRuntime) {
 }
 
 /// Reports on files, with ` ; ` between them, how each is loaded in the place of the one before, and the statistics then.
-struct Counted;
+#[derive(Drop)]
+struct Counted<'a> {
+    schema: &'a str,
+}
 
-impl StepReporting for Counted {
+impl StepReporting for Counted<'_> {
     fn report(
         &self,
         alloc: Global,
@@ -246,17 +249,17 @@ impl StepReporting for Counted {
     }
 }
 
-impl Reporting for Counted {
+impl Reporting for Counted<'_> {
     fn report(&self, alloc: Global, text: &str, reported: &mut String) -> Result<(), AllocError> {
-        const SCHEMA: &str =
-            r#"{"tables":[{"name":"t","columns":[{"name":"a","kind":"INT","not_null":false},{"name":"b","kind":"TEXT","not_null":false}],"unique":[],"indexes":[["a"],["b","a"]]}]}"#;
-        report_steps(alloc, reported, SCHEMA, text, self)
+        report_steps(alloc, reported, self.schema, text, self)
     }
 }
 
 /// Rows whose keys have a Null at the same places, and else the same values, have one key. An empty text is no Null.
 #[test]
 fn statistics_of_loaded_tables(rt: HostRuntime) {
+    const SCHEMA: &str =
+        r#"{"tables":[{"name":"t","columns":[{"name":"a","kind":"INT","not_null":false},{"name":"b","kind":"TEXT","not_null":false}],"unique":[],"indexes":[["a"],["b","a"]]}]}"#;
     const CASES: &str = r#"a,b~ => loaded 0 0 / 0 0 / 0 0
 a,b~1,x~1,y~\N,x~\N,x~2,\N~ => loaded 5 1 / 3 1 / 4 1
 a,b~1,""~1,\N~1,\N~ => loaded 3 1 / 1 1 / 2 1
@@ -265,8 +268,17 @@ a,b~|51*#,x~| => loaded 51 2 / 51 1 / 51 1
 a,b~|100*1,x~| => loaded 100 2 / 1 1 / 1 1
 a,b~|101*1,x~| => loaded 101 3 / 1 2 / 1 2
 a,b~1,x~ ; a,b~1,x~2,x~ ; a,b~x,x~ => loaded 1 1 / 1 1 / 1 1 ; loaded 2 1 / 2 1 / 2 1 ; T03 1 in 0 2 1 / 2 1 / 2 1"#;
-    assert_eq!(rt;
-        differences(rt.alloc(), &[CASES], &Counted).as_deref(),
-        Ok("")
-    );
+    let by = Counted { schema: SCHEMA };
+    assert_eq!(rt; differences(rt.alloc(), &[CASES], &by).as_deref(), Ok(""));
+}
+
+/// Rows with a Null may agree on a unique list; on one whose columns are NOT NULL no two do, nor on an index that holds it.
+#[test]
+fn statistics_of_unique_lists(rt: HostRuntime) {
+    const SCHEMA: &str =
+        r#"{"tables":[{"name":"t","columns":[{"name":"a","kind":"INT","not_null":true},{"name":"b","kind":"INT","not_null":false}],"unique":[["b"],["a"]],"indexes":[["b"],["a"],["b","a"]]}]}"#;
+    const CASES: &str = r"a,b~ => loaded 0 0 / 0 0 / 0 0 / 0 0
+a,b~1,\N~2,\N~3,7~ => loaded 3 1 / 2 1 / 3 1 / 3 1";
+    let by = Counted { schema: SCHEMA };
+    assert_eq!(rt; differences(rt.alloc(), &[CASES], &by).as_deref(), Ok(""));
 }
