@@ -1,4 +1,4 @@
-//! Tests of what comes before a plan: `values`, `schema`, `sql_parse`, `binder`, `store` and `oracle`.
+//! Tests of what comes before a plan: `values`, `schema`, `statistics`, `sql_parse`, `binder`, `store` and `oracle`.
 #![tactic(auto)]
 
 #[cfg(test)]
@@ -7,6 +7,8 @@ mod answers;
 mod cells;
 #[cfg(test)]
 mod copies;
+#[cfg(test)]
+mod counts;
 #[cfg(test)]
 mod files;
 #[cfg(test)]

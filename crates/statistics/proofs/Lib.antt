@@ -1,3 +1,6 @@
+pub mod DifferentKeys
 pub mod Json
-pub mod Spelled
+pub mod PairedLists
 pub mod ReadBack
+pub mod Spelled
+pub mod UniqueRows

@@ -1,4 +1,6 @@
+pub mod Counting
 pub mod Entries
 pub mod Reading
 pub mod Refusals
 pub mod Spelling
+pub mod UniqueLists

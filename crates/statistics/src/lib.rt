@@ -1,10 +1,12 @@
 //! Statistics of tables: how many rows and pages each has, and how many different keys each of its indexes.
 #![tactic(auto)]
 
+mod counting;
 pub mod counts;
 mod entries;
 pub mod fault;
 mod reading;
+mod unique_lists;
 
 pub use counts::{IndexStatistics, Statistics, TableStatistics};
 pub use fault::{StatisticsFault, StatisticsRefusal};

@@ -1,0 +1,114 @@
+//! Statistics of a database, by a pass over a table for each of its indexes whose keys may repeat.
+
+ghost use Rattle.std.specs.Prelude.{◌≡◌, map, IfOk};
+ghost use Rattle.schema.specs.Databases.{SatisfiesTable, SatisfyTables};
+ghost use Rattle.statistics.specs.Counting as spec;
+
+use crate::counts::{IndexStatistics, Statistics, TableStatistics};
+use crate::unique_lists::holds_unique_list;
+use std::alloc::{AllocError, Global};
+use std::collections::HashSet;
+use store::{Database, RowCells, RowKey, RowSource, Table};
+use values::Items;
+
+const ROWS_IN_PAGE: u64 = 50;
+
+const ENTRIES_IN_PAGE: u64 = 100;
+
+fn different_keys(alloc: Global, rows: &Table, places: &[usize]) -> Result<u64, AllocError>
+    ensures { IfOk result (λ keys. keys ≡ spec.different_keys rows.now places.now) }
+{
+    let mut keys = HashSet::new(alloc);
+    for row in 0..rows.len() {
+        keys.insert(RowKey::new(RowCells::Stored(rows, row), places))?;
+    }
+    Ok(keys.len() as u64)
+}
+
+/// The same of rows that satisfy their table's entry, with no pass where they can't agree on the index.
+fn index_keys(
+    alloc: Global,
+    rows: &Table,
+    entry: &schema::Table,
+    places: &[usize],
+) -> Result<u64, AllocError>
+    requires { SatisfiesTable entry.now rows.now }
+    ensures { IfOk result (λ keys. keys ≡ spec.different_keys rows.now places.now) }
+{
+    if holds_unique_list(entry, places) {
+        return Ok(rows.len() as u64);
+    }
+    different_keys(alloc, rows, places)
+}
+
+fn index_counts(
+    alloc: Global,
+    rows: &Table,
+    entry: &schema::Table,
+    places: &[usize],
+) -> Result<IndexStatistics, AllocError>
+    requires { SatisfiesTable entry.now rows.now }
+    ensures { IfOk result (λ index. index ≡ spec.index_counts rows.now places.now) }
+{
+    let keys = index_keys(alloc, rows, entry, places)?;
+    let pages = (rows.len() as u64).div_ceil(ENTRIES_IN_PAGE);
+    Ok(IndexStatistics { keys, pages })
+}
+
+fn each_index(
+    alloc: Global,
+    rows: &Table,
+    entry: &schema::Table,
+) -> Result<Items<IndexStatistics>, AllocError>
+    requires { SatisfiesTable entry.now rows.now }
+    ensures { IfOk result (λ counted. counted ≡ map (spec.index_counts rows.now) entry.now.indexes) }
+{
+    let mut counted = Items::new(alloc);
+    for places in entry.indexes.as_slice() {
+        counted.push(index_counts(alloc, rows, entry, places.as_slice())?)?;
+    }
+    Ok(counted)
+}
+
+fn table_counts(
+    alloc: Global,
+    rows: &Table,
+    entry: &schema::Table,
+) -> Result<TableStatistics, AllocError>
+    requires { SatisfiesTable entry.now rows.now }
+    ensures { IfOk result (λ table. table ≡ spec.table_counts rows.now entry.now) }
+{
+    let indexes = each_index(alloc, rows, entry)?;
+    let count = rows.len() as u64;
+    Ok(TableStatistics {
+        rows: count,
+        pages: count.div_ceil(ROWS_IN_PAGE),
+        indexes,
+    })
+}
+
+fn each_table(
+    alloc: Global,
+    entries: &[schema::Table],
+    tables: &[Table],
+) -> Result<Items<TableStatistics>, AllocError>
+    requires { SatisfyTables entries.now tables.now }
+    ensures { IfOk result (λ counted. counted ≡ spec.tables_counts entries.now tables.now) }
+{
+    let mut counted = Items::new(alloc);
+    for (entry, rows) in entries.iter().zip(tables.iter()) {
+        counted.push(table_counts(alloc, rows, entry)?)?;
+    }
+    Ok(counted)
+}
+
+impl Statistics {
+    /// The statistics of the database's tables as they are.
+    pub fn of(alloc: Global, database: &Database<'_>) -> Result<Statistics, AllocError>
+        ensures { IfOk result (λ statistics. statistics ≡ spec.counts_of database.now) }
+    {
+        let entries = database.schema().tables.as_slice();
+        let tables = each_table(alloc, entries, database.tables())?;
+        Ok(Statistics { tables })
+    }
+}
