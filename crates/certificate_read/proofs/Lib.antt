@@ -1,3 +1,4 @@
+pub mod DecimalNumerals
 pub mod NumberLists
 pub mod NumberParts
 pub mod Numerals

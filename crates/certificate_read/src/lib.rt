@@ -1,5 +1,6 @@
 //! Reading the text of a certificate.
 #![tactic(auto)]
 
+pub mod decimal_law;
 pub mod numbers;
 pub mod part_fault;
