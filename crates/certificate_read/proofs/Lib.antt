@@ -1,3 +1,6 @@
+pub mod ColumnLists
+pub mod DecimalNumerals
 pub mod NumberLists
 pub mod NumberParts
+pub mod NumeralOrder
 pub mod Numerals

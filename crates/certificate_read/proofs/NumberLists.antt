@@ -47,7 +47,7 @@ pub number_past : (ts : List Text) (t : Text) (b : Bool) (ns : List ℕ) → IsR
 number_past ts t true ns h k = (ns ++ (k.0 ∷ []), spelled_more ts t ns k.0 h.0 k.1, λ s. k.2 (short_front ns k.0 s).1)
 number_past ts t false ns h k = (h.0 ++ (k.0 ∷ []), spelled_more ts t h.0 k.0 h.1 k.1, λ s. k.2 (short_front h.0 k.0 s).1)
 
-spelled_at : (ns : List ℕ) (i : ℕ) → i < length (map numeral ns) → get_or (map numeral ns) i [] ≡ numeral (get_or ns i 0)
+pub spelled_at : (ns : List ℕ) (i : ℕ) → i < length (map numeral ns) → get_or (map numeral ns) i [] ≡ numeral (get_or ns i 0)
 spelled_at [] i l = absurd (omega arith)
 spelled_at (n ∷ ns) zero l = refl
 spelled_at (n ∷ ns) (suc i) l = spelled_at ns i (omega arith)
@@ -61,7 +61,7 @@ number_none ts i l h ns e = h (get_or ns i 0) (ap (λ ts. get_or ts i []) e ∙ 
 abbrev pub texts : List (Bor Text) → List Text
 texts words = map (λ word. word.now) words
 
-texts_length : (words : List (Bor Text)) → length (texts words) ≡ length words
+pub texts_length : (words : List (Bor Text)) → length (texts words) ≡ length words
 texts_length [] = refl
 texts_length (word ∷ words) = omega (arith, texts_length words)
 
@@ -115,11 +115,11 @@ joined_again n (m ∷ ns) = ap (λ t. numeral n ++ (44 ∷ t)) (joined_again m n
 parts_nonempty : (w : Text) → slice_split (λ b. b == 44) w ≡ [] → ⊥
 parts_nonempty w e = let l = length-slice_split (λ b. b == 44) w in omega (arith, l, ap length e)
 
-list_spelled : (w : Text) (ns : List ℕ) → SpellEach (slice_split (λ b. b == 44) w) ns → SpellsNumbers w ns
+pub list_spelled : (w : Text) (ns : List ℕ) → SpellEach (slice_split (λ b. b == 44) w) ns → SpellsNumbers w ns
 list_spelled w [] e = absurd (parts_nonempty w e)
 list_spelled w (n ∷ ns) e = sym (join_with_byte-slice_split 44 w) ∙ ap (join_with_byte 44) e ∙ joined_again n ns
 
-parts_spelled : (w : Text) (ns : List ℕ) → (w ≡ codes "-" → ⊥) → SpellsNumbers w ns → SpellEach (slice_split (λ b. b == 44) w) ns
+pub parts_spelled : (w : Text) (ns : List ℕ) → (w ≡ codes "-" → ⊥) → SpellsNumbers w ns → SpellEach (slice_split (λ b. b == 44) w) ns
 parts_spelled w [] h e = absurd (h e)
 parts_spelled w (n ∷ ns) h e = ap (slice_split (λ b. b == 44)) e ∙ split_joined n ns
 

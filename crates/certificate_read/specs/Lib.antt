@@ -1,3 +1,4 @@
+pub mod DecimalNumerals
 pub mod Numerals
 pub mod Parts
 pub mod PartTexts

@@ -1,6 +1,7 @@
 -- What reading a part of the text gives.
 use Rattle.std.specs.Prelude.{◌≡◌, ℕ, ◌<◌, ◌^◌, List, map, Result, Ok, Err, Option, Some, None}
 use Rattle.std.specs.List.{AllByRecursion}
+use Rattle.std.specs.List.Sorted.{IsStrictlyIncreasing}
 use Rattle.std.specs.Option.{option_map}
 use Rattle.values.specs.declared.fault.Fault.{Fault}
 use Rattle.values.specs.declared.fault.Fault.TheVariants.{Memory, Refused}
@@ -40,3 +41,9 @@ SpellsNumbers t ns = t ≡ numbers_text ns
 
 abbrev pub AreShort : List ℕ → Type 0
 AreShort ns = AllByRecursion IsShort ns
+
+-- ---- columns
+
+-- a list of columns rises strictly
+abbrev pub SpellsColumns : Text → List ℕ → Type 0
+SpellsColumns t ns = SpellsNumbers t ns × IsStrictlyIncreasing ns

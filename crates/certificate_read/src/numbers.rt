@@ -34,14 +34,14 @@ pub fn number(word: &str) -> Result<Option<u32>, PartReason>
 }
 
 /// The parts of a list.
-fn parts_of(alloc: Global, list: &str) -> Result<Vec<&str>, AllocError>
+pub(crate) fn parts_of(alloc: Global, list: &str) -> Result<Vec<&str>, AllocError>
     ensures { IfOk result (λ parts. map (λ part. part.now) parts.items ≡ slice_split (λ b. b == 44) list.now) }
 {
     list.split(',').collect(alloc)
 }
 
 /// The number that each word is.
-fn each_number(alloc: Global, words: &[&str]) -> Result<Option<Vec<u32>>, PartFault>
+pub(crate) fn each_number(alloc: Global, words: &[&str]) -> Result<Option<Vec<u32>>, PartFault>
     ensures { Reads SpellEach AreShort (map (λ word. word.now) words.now) (λ v. v.items) result }
 {
     let mut numbers = Vec::with_capacity(alloc, words.len())?;
