@@ -1,5 +1,7 @@
 -- Conjuncts are no ANDs, stand in order, and hold where their conditions do.
-use Rattle.std.proofs.Common.{◌≡◌, refl, ap, sym, ◌∙◌, subst, Bool, true, false, ◌&&◌, List, [], ◌∷◌, ◌++◌, map, Ordering, Less, Equal, Greater}
+use Rattle.std.proofs.Common.{◌≡◌, refl, ap, sym, ◌∙◌, subst, ℕ, suc, ◌+◌, ◌<◌, Bool, true, false, ◌&&◌, List, [], ◌∷◌, ◌++◌, length, map, Ordering, Less, Equal, Greater, arith}
+use Rattle.std.specs.Prelude.{slice_index_or}
+use Rattle.std.proofs.lemmas.List.{length-append}
 use Rattle.std.specs.List.{AllByRecursion, list_all, flat_map}
 use Rattle.std.specs.Ordering.{on, nat_cmp, is_lt, ordering_reverse}
 use Rattle.std.specs.Cmp.{IsTotalOrder}
@@ -12,7 +14,7 @@ use Rattle.algebra.specs.declared.condition.Condition.{Condition, roll-Condition
 use Rattle.algebra.specs.declared.condition.Condition.TheOpen.{Condition-F}
 use Rattle.algebra.specs.declared.condition.Condition.TheVariants.{Not, And, rolls-Compare, rolls-IsNull, rolls-Not, rolls-And, rolls-Or, rolls-Exists, rolls-In}
 use Rattle.algebra.specs.ConditionEquality.{same_condition}
-use Rattle.algebra.specs.ConjunctOrder.{condition_text, goes_before, put_in_order, in_order, Flat, flat, flat_layer, parts_of, conjuncts, IsPart, IsInOrder, AreConjuncts}
+use Rattle.algebra.specs.ConjunctOrder.{condition_text, goes_before, put_in_order, in_order, Flat, flat, flat_layer, parts_of, conjuncts, IsPart, IsInOrder, AreConjuncts, TextsRise, AreRising}
 use Rattle.algebra.proofs.Ordered.{in_order-all}
 use Rattle.algebra.proofs.Same.{equal_condition}
 use Rattle.algebra.proofs.Lists.{two}
@@ -86,6 +88,30 @@ module _ (c : Condition) (not : (a b : Condition) (cs : List Condition) → c �
 
   pub one-part : parts_of c ≡ c ∷ []
   one-part = alone-at (out-Condition c) (roll-out-Condition c)
+
+-- each condition has a part
+some-layer : (y : Condition-F ((c : Condition) × (0 < length (parts_of c)))) (c : Condition) → roll-Condition (map-Condition _ Condition (λ p. p.0) y) ≡ c → 0 < length (parts_of c)
+some-layer (Condition-F.And p q ps) c is =
+    let parts : parts_of c ≡ parts_of p.0 ++ flat_map parts_of (q.0 ∷ map (λ p. p.0) ps) = ap parts_of (sym is ∙ rolls-And p.0 q.0 (map (λ p. p.0) ps)) ∙ flat-And p.0 q.0 (map (λ p. p.0) ps) in
+    let first = p.1 in
+    omega (arith, first, ap length parts, length-append (parts_of p.0) (flat_map parts_of (q.0 ∷ map (λ p. p.0) ps)))
+some-layer (Condition-F.Compare op a b) c is = omega (arith, ap (λ f. length f.parts) (flat-at (Condition-F.Compare op a b) c is))
+some-layer (Condition-F.IsNull a) c is = omega (arith, ap (λ f. length f.parts) (flat-at (Condition-F.IsNull a) c is))
+some-layer (Condition-F.Not d) c is = omega (arith, ap (λ f. length f.parts) (flat-at (Condition-F.Not d.0) c is))
+some-layer (Condition-F.Or a b cs) c is = omega (arith, ap (λ f. length f.parts) (flat-at (Condition-F.Or a.0 b.0 (map (λ p. p.0) cs)) c is))
+some-layer (Condition-F.Exists g) c is = omega (arith, ap (λ f. length f.parts) (flat-at (Condition-F.Exists g) c is))
+some-layer (Condition-F.In a g k) c is = omega (arith, ap (λ f. length f.parts) (flat-at (Condition-F.In a g k) c is))
+
+some-part : (c : Condition) → 0 < length (parts_of c)
+some-part = ind-Condition (λ c. 0 < length (parts_of c)) (λ x y is. subst (λ z. 0 < length (parts_of (roll-Condition z))) is (some-layer y _ refl))
+
+-- an AND has two parts at least
+pub and-is-no-part : (a b : Condition) (cs : List Condition) → IsPart (And a b cs) → ⊥
+and-is-no-part a b cs one =
+    let first = some-part a in
+    let second = some-part b in
+    let both : 1 ≡ length (parts_of a) + length (parts_of b ++ flat_map parts_of cs) = sym (ap length one) ∙ ap length (flat-And a b cs) ∙ length-append (parts_of a) (parts_of b ++ flat_map parts_of cs) in
+    absurd (omega (arith, first, second, both, length-append (parts_of b) (flat_map parts_of cs)))
 
 -- ---- order
 
@@ -173,6 +199,34 @@ in_order-each P (c ∷ cs) all = put-each P c (in_order cs) all.0 (in_order-each
 parts-are : (cs : List Condition) → AllByRecursion IsPart (flat_map parts_of cs)
 parts-are [] = tt
 parts-are (c ∷ cs) = all_append IsPart (parts_of c) _ (is-flat c).parts (parts-are cs)
+
+-- ---- lists that rise
+
+before-before : (c d e : Condition) → goes_before c d ≡ true → goes_before d e ≡ true → goes_before c e ≡ true
+before-before c d e first second = before-later c d e first (before-not-behind d e second)
+
+rising-tail : (c : Condition) (C : List Condition) → TextsRise (c ∷ C) → TextsRise C
+rising-tail c C rise k d l =
+    let next : suc k + 1 ≡ suc (k + 1) = omega arith in
+    subst (λ (n : ℕ). goes_before (slice_index_or C k d) (slice_index_or (c ∷ C) n d) ≡ true) next (rise (suc k) d (omega (arith, l)))
+
+-- what goes before the first of some that rise, goes before them all
+before-all : (c : Condition) (ds : List Condition) → TextsRise ds → ((d : Condition) → 0 < length ds → goes_before c (slice_index_or ds 0 d) ≡ true) → AllByRecursion (IsLater c) ds
+before-all c [] rise first = tt
+before-all c (d ∷ ds) rise first =
+    let here : goes_before c d ≡ true = first d (omega arith) in (
+      (before-not-behind c d here, before-not-same c d here),
+      before-all c ds (rising-tail d ds rise) (λ e l. before-before c d (slice_index_or ds 0 e) here (rise 0 e (omega (arith, l)))),
+    )
+
+rising-ordered : (C : List Condition) → TextsRise C → IsInOrder C
+rising-ordered [] rise = tt
+rising-ordered (c ∷ C) rise =
+    let later : TextsRise C = rising-tail c C rise in
+    (before-all c C later (λ e l. rise 0 e (omega (arith, l))), rising-ordered C later)
+
+pub rising_are_conjuncts : (C : List Condition) → AreRising C → AreConjuncts C
+rising_are_conjuncts C rise = record { parts = rise.0; ordered = rising-ordered C rise.1 }
 
 pub no_conjuncts : AreConjuncts []
 no_conjuncts = record { parts = tt; ordered = tt }

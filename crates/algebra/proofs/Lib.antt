@@ -13,6 +13,7 @@ pub mod Ordered
 pub mod Places
 pub mod Plain
 pub mod Puts
+pub mod RisingLists
 pub mod Same
 pub mod SameBags
 pub mod SameConditions

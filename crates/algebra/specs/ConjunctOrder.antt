@@ -1,7 +1,7 @@
 -- Lists of conjuncts: no ANDs, in rising byte order of their texts, each once. The texts are this project's profile: a condition
 -- as certificates spell it.
-use Rattle.std.specs.Prelude.{◌≡◌, ℕ, Bool, false, ◌||◌, if◌then◌else◌, List, [], ◌∷◌, ◌++◌, map, flat_map, codes, decimal}
-use Rattle.std.specs.List.{AllByRecursion, join_by}
+use Rattle.std.specs.Prelude.{◌≡◌, ℕ, Bool, true, false, ◌||◌, if◌then◌else◌, List, [], ◌∷◌, ◌++◌, length, map, flat_map, codes, decimal}
+use Rattle.std.specs.List.{AllByRecursion, AllAdjacentBelow, join_by}
 use Rattle.std.specs.Fmt.{signed_decimal}
 use Rattle.std.specs.Ordering.{nat_cmp, is_lt}
 use Rattle.std.specs.Cmp.Lexicographic.{slice_cmp}
@@ -115,3 +115,11 @@ IsInOrder (c ∷ C) = AllByRecursion (λ d. (goes_before d c ≡ false) × (same
 pub record AreConjuncts (C : List Condition) : Type 0 where
   pub parts : AllByRecursion IsPart C
   pub ordered : IsInOrder C
+
+-- the text of each condition is below that of the next
+abbrev pub TextsRise : List Condition → Type 0
+TextsRise C = AllAdjacentBelow (λ c d. goes_before c d ≡ true) C (length C)
+
+-- conjuncts as a certificate spells them
+abbrev pub AreRising : List Condition → Type 0
+AreRising C = AllByRecursion IsPart C × TextsRise C

@@ -72,6 +72,13 @@ fn in_order(alloc: Global, added: &[Aggregation]) -> Result<Vec<Aggregation>, Al
 }
 
 impl Aggregations {
+    pub(crate) fn from_items(added: Items<Aggregation>) -> Aggregations
+        requires { spec.AreByColumn added }
+        ensures { result ≡ added }
+    {
+        Aggregations { added }
+    }
+
     /// The aggregates of a list in rising order of their columns, the first of each column.
     pub fn of(alloc: Global, added: &[Aggregation]) -> Result<Aggregations, AllocError>
         ensures { IfOk result (λ a. a ≡ spec.by_column added.now) }

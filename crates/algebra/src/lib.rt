@@ -18,6 +18,7 @@ pub mod formed;
 mod mentions;
 mod named_classes;
 mod operator_columns;
+mod rising;
 
 pub use aggregations::Aggregations;
 pub use columns::Columns;

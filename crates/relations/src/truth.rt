@@ -192,15 +192,3 @@ pub fn holds(conditions: &[Condition], subqueries: Subqueries<'_, '_>, env: &Env
     }
     true
 }
-
-/// Whether none of the conditions is false, where no class has a row.
-pub fn allows(conditions: &[Condition], env: &Env<'_, '_>) -> bool
-    ensures { result ≡ spec.allows no_classes conditions.now (env_of env.now) }
-{
-    for condition in conditions {
-        if truth(condition, Subqueries::none(), env).not().is_true() {
-            return false;
-        }
-    }
-    true
-}
