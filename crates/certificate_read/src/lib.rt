@@ -1,7 +1,11 @@
-//! Reading the text of a certificate.
+//! Reading certificates from their text.
 #![tactic(auto)]
 
-pub mod column_lists;
-pub mod decimal_law;
-pub mod numbers;
-pub mod part_fault;
+mod derivation_lines;
+mod line_fault;
+mod nodes;
+mod reading;
+mod text_lines;
+mod words;
+
+pub use reading::read;

@@ -10,4 +10,5 @@ pub mod worked;
 pub mod writing;
 
 pub use fault::{TextFault, TextReason, TextRefusal};
+pub use limits::{MOST_DEEP, MOST_LINES, MOST_NESTED, MOST_NODES};
 pub use writing::write;

@@ -15,14 +15,17 @@ use derivation::Line;
 use physical::{Matching, Node, Operator, Plan};
 use values::Fault;
 
-/// Lines of the derivation.
-const MOST_LINES: usize = 200_000;
+/// The most lines that a derivation may have.
+pub const MOST_LINES: usize = 200_000;
 
-const MOST_NODES: usize = 200_000;
-/// Conditions in one another, with the innermost.
-const MOST_NESTED: usize = 256;
-/// Nodes from the root down.
-const MOST_DEEP: usize = 1_024;
+/// The most nodes that a plan may have.
+pub const MOST_NODES: usize = 200_000;
+
+/// The most conditions that may stand in one another, with the innermost.
+pub const MOST_NESTED: usize = 256;
+
+/// The most nodes that may stand from the root down.
+pub const MOST_DEEP: usize = 1_024;
 
 /// Whether no more conditions stand in one another than there is room for.
 #[cycle(nested)]

@@ -16,8 +16,6 @@ mod numbers;
 #[cfg(test)]
 mod outcomes;
 #[cfg(test)]
-mod read_parts;
-#[cfg(test)]
 mod shapes;
 #[cfg(test)]
 mod words;

@@ -74,7 +74,7 @@ pub(crate) fn semi(
     Ok(Shape::Semi(conjuncts, left, Boxed::new(alloc, right)?))
 }
 
-/// An antijoin, whose first list is sure and whose second one is maybe.
+/// An antijoin, of ordinary and of null-aware conditions.
 pub(crate) fn anti(
     alloc: Global,
     lists: (Conjuncts, Conjuncts),

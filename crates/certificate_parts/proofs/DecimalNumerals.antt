@@ -1,0 +1,10 @@
+-- Numbers as `certificate_text` spells them.
+use Rattle.std.proofs.Common.{◌≡◌, ℕ, zero, suc, ◌<◌, ◌^◌, sym, arith}
+use Rattle.std.proofs.lemmas.Fmt.{decimal_digit, decimal-digits_of}
+use Rattle.std.specs.Fmt.{decimal}
+use Rattle.certificate_parts.specs.Numerals.{numeral}
+
+pub numeral-decimal : (n : ℕ) → n < 2 ^ 64 → numeral n ≡ decimal n
+unfolding numeral
+numeral-decimal zero small = sym (decimal_digit 0 (omega arith))
+numeral-decimal (suc n) small = sym (decimal-digits_of (suc n) (omega arith) small)

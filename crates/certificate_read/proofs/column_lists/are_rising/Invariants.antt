@@ -1,7 +1,0 @@
-use Rattle.certificate_read.proofs.NumberLists.{texts}
-use Rattle.certificate_read.proofs.ColumnLists.{RiseTo}
-use Rattle.certificate_read.proofs.column_lists.are_rising.Given as goal
-
--- each word so far is below the next
-abbrev pub invariant-loop-place : goal.invariant-loop-place
-invariant-loop-place l = RiseTo (texts l.words) l.place

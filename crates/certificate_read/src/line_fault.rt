@@ -1,0 +1,57 @@
+//! Why a line isn't read.
+
+use certificate_parts::part_fault::{PartFault, PartReason};
+use certificate_text::TextReason;
+use std::alloc::{AllocError, AllocFailed};
+use values::Fault;
+
+/// Why a line isn't read.
+#[derive(Clone, Copy, Debug)]
+pub(crate) enum LineFault {
+    Memory,
+    OtherForm,
+    OutOfRange,
+    OverLimit,
+}
+
+impl LineFault {
+    /// As a fault of the text; nothing where memory ran out.
+    pub(crate) fn reason(self) -> Option<TextReason> {
+        match self {
+            LineFault::Memory => None,
+            LineFault::OtherForm => Some(TextReason::OtherForm),
+            LineFault::OutOfRange => Some(TextReason::OutOfRange),
+            LineFault::OverLimit => Some(TextReason::OverLimit),
+        }
+    }
+}
+
+impl From<AllocError> for LineFault {
+    fn from(_error: AllocError) -> LineFault {
+        LineFault::Memory
+    }
+}
+
+impl<T: Drop> From<AllocFailed<T>> for LineFault {
+    fn from(_error: AllocFailed<T>) -> LineFault {
+        LineFault::Memory
+    }
+}
+
+impl From<PartReason> for LineFault {
+    fn from(reason: PartReason) -> LineFault {
+        match reason {
+            PartReason::OtherForm => LineFault::OtherForm,
+            PartReason::OverLimit => LineFault::OverLimit,
+        }
+    }
+}
+
+impl From<PartFault> for LineFault {
+    fn from(fault: PartFault) -> LineFault {
+        match fault {
+            Fault::Memory => LineFault::Memory,
+            Fault::Refused(reason) => LineFault::from(reason),
+        }
+    }
+}
