@@ -16,7 +16,13 @@ struct Rising<'a> {
 
 impl<'a> Rising<'a> {
     /// Reads one more condition, behind which this stands.
-    fn add(&mut self, alloc: Global, part: &'a str, end: &str, room: usize) -> Result<(), PartFault> {
+    fn add(
+        &mut self,
+        alloc: Global,
+        part: &'a str,
+        end: &str,
+        room: usize,
+    ) -> Result<(), PartFault> {
         let mut cursor = Cursor::at(part);
         let condition = cursor.condition(alloc, room)?;
         if cursor.left != end {
