@@ -20,7 +20,7 @@ use Rattle.executor.specs.Execution.{accepted_text}
 use Rattle.pipeline.specs.declared.refusal.Refusal.{Refusal}
 use Rattle.pipeline.specs.declared.refusal.Refusal.TheVariants as refusal
 use Rattle.pipeline.specs.Refusals.{of_check, of_answer}
-use Rattle.pipeline.specs.EndToEnd.{Input, IsPrepared, IsUnprepared, ByPlan, ByMeaning, IsAnswerFault, WithAnswer, WithPlanned, IsRefusedBy, IsBefore, IsDeviceFault, AreQuiet}
+use Rattle.pipeline.specs.EndToEnd.{Input, IsPrepared, IsUnprepared, IsFromFiles, Asks, IsQuery, ByCertificate, ByPlan, ByMeaning, IsAnswerFault, WithAnswer, WithPlanned, IsRefusedBy, IsBefore, IsDeviceFault, AreQuiet}
 
 -- ---- what holds of the fault that a call ends with
 
@@ -38,10 +38,11 @@ only_memory fault.Memory q V fails ok = refl
 only_memory (fault.Refused r) q V fails ok = let e : Ok V ≡ Err r = sym ok ∙ fails in cc
 
 -- what is so of the text that a checked plan gives
-pub by_plan : (d : Stored) (a : Accepted) (P : List ℕ → Type 0) → d.schema ≡ a.schema → IsChecked a.schema a.query a.certificate → P (accepted_text a d) → ByPlan a.schema a.query d.tables P
-by_plan d a P over checked p =
+pub by_certificate : (d : Stored) (a : Accepted) (P : List ℕ → Type 0) → d.schema ≡ a.schema → IsChecked a.schema a.query a.certificate → P (accepted_text a d)
+    → ByCertificate a.certificate a.schema a.query d.tables P
+by_certificate d a P over checked p =
     let same : accepted_text a d ≡ answer_text a.query.names (answer a.query (tables_of a.schema d.tables) a.certificate.plan) = rw over refl in
-    (a.certificate, checked, rw same at p)
+    (checked, rw same at p)
 
 -- what is so of what was checked is so of the schema and the query that it was checked with
 pub of_accepted : (a : Accepted) (S : Schema) (q : Query) (P : Schema → Query → Type 0) → (a.schema ≡ S) × (a.query ≡ q) → P a.schema a.query → P S q
@@ -64,14 +65,14 @@ planned schema text inputs S q d P is ready by = (
     query = q;
     asks = record { is_schema = is; is_query = ready.is_query };
     database = d.tables;
-    reported = ready.reported;
-    satisfies = ready.satisfies;
+    reported = ready.files.reported;
+    satisfies = ready.files.satisfies;
     rows = answer q (tables_of S d.tables) by.0.plan;
-    answers = by.1.answers d.tables ready.satisfies;
+    answers = by.1.0.answers d.tables ready.files.satisfies;
     written_is = refl;
   },
-  record { certificate = by.0; checked = by.1; rows_are = refl },
-  by.2,
+  record { certificate = by.0; checked = by.1.0; rows_are = refl },
+  by.1.1,
 )
 
 pub meant : (schema text : List ℕ) (inputs : List Input) (S : Schema) (q : Query) (d : Stored) (P : List ℕ → Type 0) → schema_of schema ≡ Ok S → IsPrepared S text inputs q d
@@ -83,10 +84,10 @@ meant schema text inputs S q d P is ready by = (
     query = q;
     asks = record { is_schema = is; is_query = ready.is_query };
     database = d.tables;
-    reported = ready.reported;
-    satisfies = ready.satisfies;
+    reported = ready.files.reported;
+    satisfies = ready.files.satisfies;
     rows = by.0;
-    answers = rw (← ready.is_over) by.1;
+    answers = rw (← ready.files.is_over) by.1;
     written_is = refl;
   },
   by.2,
@@ -101,6 +102,7 @@ unprepared_refused schema text S inputs (refusal.Scope r) is h = (S, is, h)
 unprepared_refused schema text S inputs (refusal.Table n r) is h = (S, h.0, record { is_schema = is; is_query = h.1 }, h.2)
 unprepared_refused schema text S inputs (refusal.TableDevice n) is h = (S, h.0, record { is_schema = is; is_query = h.1 }, h.2)
 unprepared_refused schema text S inputs (refusal.Schema r) is h = absurd h
+unprepared_refused schema text S inputs (refusal.Certificate r) is h = absurd h
 unprepared_refused schema text S inputs (refusal.Check r) is h = absurd h
 unprepared_refused schema text S inputs refusal.Output is h = absurd h
 
@@ -112,18 +114,20 @@ unprepared_device text S inputs old new o (refusal.Scope r) h d = (d.0, refl)
 unprepared_device text S inputs old new o (refusal.Table n r) h d = (d.0, refl)
 unprepared_device text S inputs old new o (refusal.TableDevice n) h d = (d.0, refl)
 unprepared_device text S inputs old new o (refusal.Schema r) h d = absurd h
+unprepared_device text S inputs old new o (refusal.Certificate r) h d = absurd h
 unprepared_device text S inputs old new o (refusal.Check r) h d = absurd h
 unprepared_device text S inputs old new o refusal.Output h d = absurd h
 
 pub answer_refused : (schema text : List ℕ) (S : Schema) (q : Query) (d : Stored) (inputs : List Input) (o p : ℕ) (r : Refusal) → schema_of schema ≡ Ok S → IsPrepared S text inputs q d
     → IsAnswerFault o p r → IsRefusedBy schema text inputs r
 answer_refused schema text S q d inputs o p refusal.Memory is ready h = tt
-answer_refused schema text S q d inputs o p refusal.Output is ready h = (S, q, record { is_schema = is; is_query = ready.is_query }, (d.tables, ready.reported))
+answer_refused schema text S q d inputs o p refusal.Output is ready h = (S, q, record { is_schema = is; is_query = ready.is_query }, (d.tables, ready.files.reported))
 answer_refused schema text S q d inputs o p (refusal.Text r) is ready h = absurd h
 answer_refused schema text S q d inputs o p (refusal.Scope r) is ready h = absurd h
 answer_refused schema text S q d inputs o p (refusal.Table n r) is ready h = absurd h
 answer_refused schema text S q d inputs o p (refusal.TableDevice n) is ready h = absurd h
 answer_refused schema text S q d inputs o p (refusal.Schema r) is ready h = absurd h
+answer_refused schema text S q d inputs o p (refusal.Certificate r) is ready h = absurd h
 answer_refused schema text S q d inputs o p (refusal.Check r) is ready h = absurd h
 
 pub answer_device : (old new : List ℕ) (o p : ℕ) (r : Refusal) → AreQuiet old new → IsAnswerFault o p r → IsDeviceFault old new o p r
@@ -134,6 +138,7 @@ answer_device old new o p (refusal.Scope r) quiet h = absurd h
 answer_device old new o p (refusal.Table n r) quiet h = absurd h
 answer_device old new o p (refusal.TableDevice n) quiet h = absurd h
 answer_device old new o p (refusal.Schema r) quiet h = absurd h
+answer_device old new o p (refusal.Certificate r) quiet h = absurd h
 answer_device old new o p (refusal.Check r) quiet h = absurd h
 
 -- a fault of the answer comes after its beginning
@@ -145,4 +150,5 @@ answer_after o p (refusal.Scope r) h before = h
 answer_after o p (refusal.Table n r) h before = h
 answer_after o p (refusal.TableDevice n) h before = h
 answer_after o p (refusal.Schema r) h before = h
+answer_after o p (refusal.Certificate r) h before = h
 answer_after o p (refusal.Check r) h before = h

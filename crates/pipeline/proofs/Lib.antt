@@ -1,3 +1,4 @@
+pub mod Acceptance
 pub mod Answered
 pub mod Loaded
 pub mod Prepared

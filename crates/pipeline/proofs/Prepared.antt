@@ -16,7 +16,7 @@ use Rattle.query.specs.Bound.{IsBoundOver}
 use Rattle.pipeline.specs.declared.refusal.Refusal.{Refusal}
 use Rattle.pipeline.specs.declared.refusal.Refusal.TheVariants as refusal
 use Rattle.pipeline.specs.Refusals.{of_scope}
-use Rattle.pipeline.specs.EndToEnd.{Input, IsQuery, IsNoQuery, TablesReported, IsLoadFault, IsPrepared, IsUnprepared, IsDeviceFault}
+use Rattle.pipeline.specs.EndToEnd.{Input, IsQuery, IsNoQuery, TablesReported, IsLoadFault, IsFromFiles, IsUnprepared, IsDeviceFault}
 
 -- ---- the query
 
@@ -33,6 +33,7 @@ no_query_unprepared text S inputs refusal.Memory h = tt
 no_query_unprepared text S inputs (refusal.Text r) h = h
 no_query_unprepared text S inputs (refusal.Scope r) h = h
 no_query_unprepared text S inputs (refusal.Schema r) h = absurd h
+no_query_unprepared text S inputs (refusal.Certificate r) h = absurd h
 no_query_unprepared text S inputs (refusal.Check r) h = absurd h
 no_query_unprepared text S inputs (refusal.Table n r) h = absurd h
 no_query_unprepared text S inputs (refusal.TableDevice n) h = absurd h
@@ -44,6 +45,7 @@ no_query_quiet text S counts refusal.Memory h = (λ n. refl, refl)
 no_query_quiet text S counts (refusal.Text r) h = (λ n. refl, refl)
 no_query_quiet text S counts (refusal.Scope r) h = (λ n. refl, refl)
 no_query_quiet text S counts (refusal.Schema r) h = absurd h
+no_query_quiet text S counts (refusal.Certificate r) h = absurd h
 no_query_quiet text S counts (refusal.Check r) h = absurd h
 no_query_quiet text S counts (refusal.Table n r) h = absurd h
 no_query_quiet text S counts (refusal.TableDevice n) h = absurd h
@@ -59,12 +61,12 @@ load_unprepared text S q inputs refusal.Output is h = absurd h
 load_unprepared text S q inputs (refusal.Schema r) is h = absurd h
 load_unprepared text S q inputs (refusal.Text r) is h = absurd h
 load_unprepared text S q inputs (refusal.Scope r) is h = absurd h
+load_unprepared text S q inputs (refusal.Certificate r) is h = absurd h
 load_unprepared text S q inputs (refusal.Check r) is h = absurd h
 
--- a query over a database of the schema, whose tables are all read
-pub prepared : (text : List ℕ) (S : Schema) (q : Query) (inputs : List Input) (n : ℕ) (d : Stored) → IsQuery text S q → d.schema ≡ S → n ≡ length S.tables → TablesReported S inputs n d.tables
-    → Satisfies d.schema d.tables → IsPrepared S text inputs q d
-prepared text S q inputs n d is over all reported satisfies = record { is_query = is; is_over = over; reported = rw (← all) reported; satisfies = rw (← over) satisfies }
+-- a database of the schema, whose tables are all read
+pub from_files : (S : Schema) (inputs : List Input) (n : ℕ) (d : Stored) → d.schema ≡ S → n ≡ length S.tables → TablesReported S inputs n d.tables → Satisfies d.schema d.tables → IsFromFiles S inputs d
+from_files S inputs n d over all reported satisfies = record { is_over = over; reported = rw (← all) reported; satisfies = rw (← over) satisfies }
 
 -- a database satisfies its schema
 pub satisfied_by : (S : Schema) (D : Database) (d : Stored) → record { schema = S; tables = D } ≡ d → Satisfies S D → Satisfies d.schema d.tables

@@ -86,12 +86,16 @@ IsNoQuery text S (refusal.Text r) = IsStatementFault text r
 IsNoQuery text S (refusal.Scope r) = IsUnbound text S r
 IsNoQuery text S _ = ⊥
 
--- the query that the text is over the schema, and the rows that the files give
-pub record IsPrepared (S : Schema) (text : List ℕ) (inputs : List Input) (q : Query) (d : Stored) : Type 0 where
-  pub is_query : IsQuery text S q
+-- a database of the schema, which has the rows that the files give
+pub record IsFromFiles (S : Schema) (inputs : List Input) (d : Stored) : Type 0 where
   pub is_over : d.schema ≡ S
   pub reported : TablesReported S inputs (length S.tables) d.tables
   pub satisfies : Satisfies S d.tables
+
+-- the query that the text is over the schema, and that database
+pub record IsPrepared (S : Schema) (text : List ℕ) (inputs : List Input) (q : Query) (d : Stored) : Type 0 where
+  pub is_query : IsQuery text S q
+  pub files : IsFromFiles S inputs d
 
 -- the text is a query, whose tables were not loaded for this cause
 abbrev pub IsNotLoaded : Schema → List ℕ → List Input → Refusal → Type 0
@@ -108,9 +112,13 @@ IsUnprepared S text inputs _ = ⊥
 
 -- ---- the answer
 
--- the text of the rows that the plan of a checked certificate gives over the database is as said
+-- the certificate is checked, and the text of the rows that its plan gives over the database is as said
+abbrev pub ByCertificate : Certificate → Schema → Query → Database → (List ℕ → Type 0) → Type 0
+ByCertificate c S q D P = IsChecked S q c × P (answer_text q.names (answer q (tables_of S D) c.plan))
+
+-- so it is of some certificate
 abbrev pub ByPlan : Schema → Query → Database → (List ℕ → Type 0) → Type 0
-ByPlan S q D P = (c : Certificate) × IsChecked S q c × P (answer_text q.names (answer q (tables_of S D) c.plan))
+ByPlan S q D P = (c : Certificate) × ByCertificate c S q D P
 
 -- the text of rows that are an answer over the database is as said
 abbrev pub ByMeaning : Schema → Query → Database → (List ℕ → Type 0) → Type 0
@@ -154,12 +162,13 @@ WithPlanned schema text inputs P = (written : List ℕ) × (A : IsAnswerText sch
 abbrev pub WithQuery : List ℕ → List ℕ → (Schema → Type 0) → Type 0
 WithQuery schema text P = (S : Schema) × (q : Query) × Asks schema text S q × P S
 
--- the first fault, in the order schema, text, scope, tables, output; no query is refused for its certificate
+-- the first fault, in the order schema, text, scope, tables, output; no query is refused for a certificate
 abbrev pub IsRefusedBy : List ℕ → List ℕ → List Input → Refusal → Type 0
 IsRefusedBy schema text inputs refusal.Memory = Unit {0}
 IsRefusedBy schema text inputs (refusal.Schema r) = schema_of schema ≡ Err r
 IsRefusedBy schema text inputs (refusal.Text r) = (S : Schema) × (schema_of schema ≡ Ok S) × IsStatementFault text r
 IsRefusedBy schema text inputs (refusal.Scope r) = (S : Schema) × (schema_of schema ≡ Ok S) × IsUnbound text S r
+IsRefusedBy schema text inputs (refusal.Certificate r) = ⊥
 IsRefusedBy schema text inputs (refusal.Check r) = ⊥
 IsRefusedBy schema text inputs (refusal.Table n r) = WithQuery schema text (λ S. IsTableRefused S inputs n r)
 IsRefusedBy schema text inputs (refusal.TableDevice n) = WithQuery schema text (λ S. IsReached S inputs n)
@@ -172,6 +181,7 @@ IsBefore refusal.Output = ⊥
 IsBefore (refusal.Schema r) = Unit {0}
 IsBefore (refusal.Text r) = Unit {0}
 IsBefore (refusal.Scope r) = Unit {0}
+IsBefore (refusal.Certificate r) = Unit {0}
 IsBefore (refusal.Check r) = Unit {0}
 IsBefore (refusal.Table n r) = Unit {0}
 IsBefore (refusal.TableDevice n) = Unit {0}
@@ -196,5 +206,6 @@ IsDeviceFault old new out out' refusal.Memory = IsQuiet old new out out'
 IsDeviceFault old new out out' (refusal.Schema r) = IsQuiet old new out out'
 IsDeviceFault old new out out' (refusal.Text r) = IsQuiet old new out out'
 IsDeviceFault old new out out' (refusal.Scope r) = IsQuiet old new out out'
+IsDeviceFault old new out out' (refusal.Certificate r) = IsQuiet old new out out'
 IsDeviceFault old new out out' (refusal.Check r) = IsQuiet old new out out'
 IsDeviceFault old new out out' (refusal.Table n r) = IsQuiet old new out out'

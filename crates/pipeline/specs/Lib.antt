@@ -1,3 +1,4 @@
+pub mod Certified
 pub mod EndToEnd
 pub mod Lines
 pub mod Refusals

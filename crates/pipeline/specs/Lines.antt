@@ -4,10 +4,11 @@ use Rattle.schema.specs.declared.schema.Table as entries
 use Rattle.schema.specs.declared.schema.Schema as schemas
 use Rattle.schema.specs.Refusals as schema
 use Rattle.certificate.specs.Codes as check
+use Rattle.certificate_text.specs.Codes as certificate
 use Rattle.sql_parse.specs.Codes as text
 use Rattle.binder.specs.Codes as scope
 use Rattle.pipeline.specs.declared.refusal.Refusal.{Refusal}
-use Rattle.pipeline.specs.declared.refusal.Refusal.TheVariants.{Memory, Schema, Text, Scope, Check, Table, TableDevice, Output}
+use Rattle.pipeline.specs.declared.refusal.Refusal.TheVariants.{Memory, Schema, Text, Scope, Certificate, Check, Table, TableDevice, Output}
 use Rattle.store.specs.Faults as store
 
 -- the name of a table of a schema; nothing where there is none
@@ -34,6 +35,7 @@ line_of S Memory = codes "memory"
 line_of S (Schema r) = codes "refused " ++ schema.code_of r
 line_of S (Text r) = codes "refused " ++ (text.code_of r.reason ++ (codes " at " ++ decimal r.at))
 line_of S (Scope r) = codes "refused " ++ (scope.code_of r.reason ++ (codes " at " ++ decimal r.at))
+line_of S (Certificate r) = codes "refused " ++ (certificate.code_of r.reason ++ (codes " line " ++ decimal r.line))
 line_of S (Check r) = codes "refused " ++ (check.code_of r.reason ++ (rule_text (check.rule_of r.reason) ++ (codes " line " ++ decimal r.line)))
 line_of S (Table t r) = codes "refused " ++ (store.code_of r.cause ++ (codes " " ++ (table_name S t ++ (codes " row " ++ (decimal r.row ++ earlier_text (store.earlier_of r.cause))))))
 line_of S (TableDevice t) = codes "device T08 " ++ table_name S t

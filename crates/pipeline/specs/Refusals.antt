@@ -4,13 +4,14 @@ use Rattle.values.specs.declared.fault.Fault.{Fault}
 use Rattle.values.specs.declared.fault.Fault.TheVariants as fault
 use Rattle.schema.specs.declared.fault.SchemaRefusal.{SchemaRefusal}
 use Rattle.certificate.specs.declared.certificate.CheckRefusal.{CheckRefusal}
+use Rattle.certificate_text.specs.declared.fault.TextRefusal.{TextRefusal}
 use Rattle.sql_parse.specs.declared.fault.ParseRefusal.{ParseRefusal}
 use Rattle.binder.specs.declared.fault.BindRefusal.{BindRefusal}
 use Rattle.answer_text.specs.declared.output.OutputFailed.{OutputFailed}
 use Rattle.store.specs.declared.fault.TableFault.{TableFault}
 use Rattle.store.specs.declared.fault.TableFault.TheVariants as table
 use Rattle.pipeline.specs.declared.refusal.Refusal.{Refusal}
-use Rattle.pipeline.specs.declared.refusal.Refusal.TheVariants.{Memory, Schema, Text, Scope, Check, Table, TableDevice, Output}
+use Rattle.pipeline.specs.declared.refusal.Refusal.TheVariants.{Memory, Schema, Text, Scope, Certificate, Check, Table, TableDevice, Output}
 
 abbrev pub of_schema : Fault SchemaRefusal → Refusal
 of_schema fault.Memory = Memory
@@ -23,6 +24,10 @@ of_text (fault.Refused r) = Text r
 abbrev pub of_scope : Fault BindRefusal → Refusal
 of_scope fault.Memory = Memory
 of_scope (fault.Refused r) = Scope r
+
+abbrev pub of_certificate : Fault TextRefusal → Refusal
+of_certificate fault.Memory = Memory
+of_certificate (fault.Refused r) = Certificate r
 
 abbrev pub of_check : Fault CheckRefusal → Refusal
 of_check fault.Memory = Memory
@@ -43,6 +48,7 @@ status_of Memory = 3
 status_of (Schema r) = 2
 status_of (Text r) = 2
 status_of (Scope r) = 2
+status_of (Certificate r) = 2
 status_of (Check r) = 2
 status_of (Table t r) = 2
 status_of (TableDevice t) = 3

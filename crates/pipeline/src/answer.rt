@@ -4,7 +4,7 @@ ghost use Rattle.std.specs.Prelude.{◌≡◌, ◌⊎◌, [], OnOk, OnErr, IfErr
 ghost use Rattle.std.specs.Io.KnownBytes.{Appends};
 ghost use Rattle.query.specs.Bound.{IsBoundOver};
 ghost use Rattle.answer_text.specs.AnswerText.{HasFront};
-ghost use Rattle.pipeline.specs.EndToEnd.{ByPlan, ByMeaning, IsAnswerFault};
+ghost use Rattle.pipeline.specs.EndToEnd.{ByCertificate, ByPlan, ByMeaning, IsAnswerFault};
 
 use crate::refusal::Refusal;
 use answer_text::{AnswerOutput, write_rows};
@@ -19,16 +19,16 @@ use store::Database;
 use values::Fault;
 
 /// Writes what a checked plan gives.
-fn answer_by<W: AnswerOutput>(
+pub(crate) fn answer_by<W: AnswerOutput>(
     alloc: Global,
     checked: &Checked<'_>,
     database: &Database<'_>,
     out: &mut W,
 ) -> Result<(), Refusal>
     requires { database.now.schema ≡ checked.now.schema }
-    ensures answered { OnOk result (ByPlan checked.now.schema checked.now.query database.now.tables (Appends (W.contents out.old) (W.contents out.new))) }
+    ensures answered { OnOk result (ByCertificate checked.now.certificate checked.now.schema checked.now.query database.now.tables (Appends (W.contents out.old) (W.contents out.new))) }
     ensures handed { OnOk result (W.held out.new ≡ []) }
-    ensures front { OnErr result ((out.new ≡ out.old) ⊎ ByPlan checked.now.schema checked.now.query database.now.tables (HasFront (W.contents out.old) (W.contents out.new))) }
+    ensures front { OnErr result ((out.new ≡ out.old) ⊎ ByCertificate checked.now.certificate checked.now.schema checked.now.query database.now.tables (HasFront (W.contents out.old) (W.contents out.new))) }
     ensures fails { IfErr result (IsAnswerFault (W.failures out.old) (W.failures out.new)) }
     ensures quiet { OnOk result (W.failures out.new ≡ W.failures out.old) }
 {

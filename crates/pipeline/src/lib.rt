@@ -2,9 +2,11 @@
 #![tactic(auto)]
 
 mod answer;
+mod certified;
 mod commands;
 mod preparation;
 mod refusal;
 
+pub use certified::{check, run};
 pub use commands::{evaluate, query};
 pub use refusal::{Refusal, fault_line};

@@ -1,7 +1,7 @@
 //! What a query is asked of: its bound form, and the loaded tables.
 
 ghost use Rattle.std.specs.Prelude.{◌≡◌, ◌≤◌, length, map, IfOk, IfErr, OnOk};
-ghost use Rattle.pipeline.specs.EndToEnd.{IsQuery, IsNoQuery, TablesReported, IsLoadFault, IsPrepared, IsUnprepared, IsDeviceFault, AreQuiet};
+ghost use Rattle.pipeline.specs.EndToEnd.{IsQuery, IsNoQuery, TablesReported, IsLoadFault, IsFromFiles, IsPrepared, IsUnprepared, IsDeviceFault, AreQuiet};
 
 use crate::refusal::Refusal;
 use binder::bind;
@@ -41,7 +41,11 @@ fn load_all<R: TableInput>(
 }
 
 /// The query that a text is.
-fn bound_query(alloc: Global, schema: &Schema, text: &[u8]) -> Result<BoundQuery, Refusal>
+pub(crate) fn bound_query(
+    alloc: Global,
+    schema: &Schema,
+    text: &[u8],
+) -> Result<BoundQuery, Refusal>
     ensures ok { IfOk result (IsQuery text.now schema.now) }
     ensures fails { IfErr result (IsNoQuery text.now schema.now) }
 {
@@ -50,6 +54,23 @@ fn bound_query(alloc: Global, schema: &Schema, text: &[u8]) -> Result<BoundQuery
         Ok(query) => Ok(query),
         Err(fault) => Err(Refusal::from(fault)),
     }
+}
+
+/// The database of the tables that the inputs give, one each in the order of the schema.
+pub(crate) fn loaded<'s, R: TableInput>(
+    alloc: Global,
+    schema: &'s Schema,
+    tables: &mut [R],
+) -> Result<Database<'s>, Refusal>
+    requires { length tables.old ≡ length schema.now.tables }
+    ensures loaded { IfOk result (IsFromFiles schema.now (map R.remaining tables.old)) }
+    ensures fails { IfErr result (IsLoadFault schema.now (map R.remaining tables.old)) }
+    ensures device { IfErr result (IsDeviceFault (map R.failures tables.old) (map R.failures tables.new) 0 0) }
+    ensures quiet { OnOk result (AreQuiet (map R.failures tables.old) (map R.failures tables.new)) }
+{
+    let mut database = Database::new(alloc, schema)?;
+    load_all(alloc, &mut database, tables)?;
+    Ok(database)
 }
 
 /// Reads the text and loads the tables, one input each in the order of the schema.
@@ -66,7 +87,6 @@ pub(crate) fn prepare<'s, R: TableInput>(
     ensures quiet { OnOk result (AreQuiet (map R.failures tables.old) (map R.failures tables.new)) }
 {
     let query = bound_query(alloc, schema, text)?;
-    let mut database = Database::new(alloc, schema)?;
-    load_all(alloc, &mut database, tables)?;
+    let database = loaded(alloc, schema, tables)?;
     Ok(Prepared { query, database })
 }

@@ -4,12 +4,14 @@ ghost use Rattle.std.specs.Prelude.{◌≡◌, ◌++◌, codes, decimal, string_
 ghost use Rattle.std.specs.Option.{option_copied};
 ghost use Rattle.pipeline.specs.Refusals as spec;
 ghost use Rattle.certificate.specs.Codes as check;
+ghost use Rattle.certificate_text.specs.Codes as certificate;
 ghost use Rattle.pipeline.specs.Lines as lines;
 ghost use Rattle.store.specs.Faults.{code_of, earlier_of};
 
 use answer_text::AnswerFault;
 use binder::{BindFault, BindRefusal};
 use certificate::{CheckFault, CheckRefusal};
+use certificate_text::{TextFault, TextRefusal};
 use schema::{Schema, SchemaFault, SchemaRefusal};
 use sql_parse::{ParseFault, ParseRefusal};
 use std::alloc::{AllocError, AllocFailed, Global};
@@ -29,6 +31,8 @@ pub enum Refusal {
     #[error("scope: {0}")]
     Scope(BindRefusal),
     #[error("certificate: {0}")]
+    Certificate(TextRefusal),
+    #[error("check: {0}")]
     Check(CheckRefusal),
     /// The table by its place in the schema.
     #[error("table {0}: {1}")]
@@ -94,6 +98,19 @@ impl From<BindFault> for Refusal {
         match fault {
             Fault::Memory => Refusal::Memory,
             Fault::Refused(refusal) => Refusal::Scope(refusal),
+        }
+    }
+}
+
+impl From<TextFault> for Refusal {
+    ghost use Rattle.pipeline.specs.Refusals.{of_certificate};
+
+    ghost from_gives = { λ fault e. e ≡ of_certificate fault };
+
+    fn from(fault: TextFault) -> Refusal {
+        match fault {
+            Fault::Memory => Refusal::Memory,
+            Fault::Refused(refusal) => Refusal::Certificate(refusal),
         }
     }
 }
@@ -177,6 +194,15 @@ fn place_line(alloc: Global, code: &str, at: usize) -> Result<String, AllocError
     format!(in alloc; "refused {code} at {at}")
 }
 
+/// The line of a refusal at a line of a certificate's text.
+fn certificate_line(alloc: Global, refusal: TextRefusal) -> Result<String, AllocError>
+    ensures { IfOk result (λ line. string_bytes line ≡ codes "refused " ++ (certificate.code_of refusal.reason ++ (codes " line " ++ decimal refusal.line))) }
+{
+    let code = refusal.reason.code();
+    let line = refusal.line;
+    format!(in alloc; "refused {code} line {line}")
+}
+
 /// The line of a refusal at a line or node of a certificate.
 fn check_line(alloc: Global, refusal: CheckRefusal) -> Result<String, AllocError>
     ensures { IfOk result (λ line. string_bytes line ≡ codes "refused " ++ (check.code_of refusal.reason ++ (lines.rule_text (check.rule_of refusal.reason) ++ (codes " line " ++ decimal refusal.line)))) }
@@ -205,6 +231,7 @@ pub fn fault_line(
         }
         Refusal::Text(refusal) => place_line(alloc, refusal.reason.code(), refusal.at),
         Refusal::Scope(refusal) => place_line(alloc, refusal.reason.code(), refusal.at),
+        Refusal::Certificate(refusal) => certificate_line(alloc, *refusal),
         Refusal::Check(refusal) => check_line(alloc, *refusal),
         Refusal::Table(table, refusal) => table_line(alloc, name_of(schema, *table), *refusal),
         Refusal::TableDevice(table) => {

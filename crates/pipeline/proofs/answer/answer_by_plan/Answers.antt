@@ -1,4 +1,5 @@
-use Rattle.std.proofs.Common.{◌≡◌, ◌⊎◌, OnOk, OnErr}
+use Rattle.std.proofs.Common.{◌≡◌, ◌⊎◌, OnOk, OnErr, inl, inr}
+use Rattle.std.proofs.lemmas.Result.{on_ok_weaker, on_err_weaker}
 use Rattle.std.specs.Io.KnownBytes.{Appends}
 use Rattle.answer_text.specs.AnswerText.{HasFront}
 use Rattle.pipeline.specs.EndToEnd.{ByPlan}
@@ -8,9 +9,12 @@ use Rattle.pipeline.proofs.answer.answer_by_plan.Goals as goal
 pub returns-in-Ok-clause-answered : goal.returns-in-Ok-clause-answered
 returns-in-Ok-clause-answered g c = of_accepted c.in-Ok.checked c.args.schema.now c.args.query.now
     (λ S q. OnOk c.answer_by.result (ByPlan S q c.args.database.now.tables (Appends (g.W.AnswerOutput.contents c.args.out.now) (g.W.AnswerOutput.contents c.answer_by.new.out))))
-    c.in-Ok.ensures.of c.answer_by.ensures.answered
+    c.in-Ok.ensures.of (on_ok_weaker c.answer_by.result (λ h. (c.in-Ok.checked.certificate, h)) c.answer_by.ensures.answered)
 
 pub returns-in-Ok-clause-front : goal.returns-in-Ok-clause-front
 returns-in-Ok-clause-front g c = of_accepted c.in-Ok.checked c.args.schema.now c.args.query.now
     (λ S q. OnErr c.answer_by.result ((c.answer_by.new.out ≡ c.args.out.now) ⊎ ByPlan S q c.args.database.now.tables (HasFront (g.W.AnswerOutput.contents c.args.out.now) (g.W.AnswerOutput.contents c.answer_by.new.out))))
-    c.in-Ok.ensures.of c.answer_by.ensures.front
+    c.in-Ok.ensures.of (on_err_weaker c.answer_by.result (λ h. elim h [
+      | inl same ↦ inl same
+      | inr more ↦ inr (c.in-Ok.checked.certificate, more)
+    ]) c.answer_by.ensures.front)
