@@ -11,33 +11,55 @@ fn place<'a>(alloc: Global, name: &'a str, help: &'a str) -> Arg<'a> {
         .help(help)
 }
 
-/// A command over a schema, the text of a query and a folder of tables.
-fn over_tables<'a>(
-    alloc: Global,
-    name: &'a str,
-    about: &'a str,
-) -> Result<Command<'a>, AllocError> {
+/// A command over a schema and the text of a query.
+fn of_query<'a>(alloc: Global, name: &'a str, about: &'a str) -> Result<Command<'a>, AllocError> {
     Command::new(alloc, name)
         .about(about)
         .arg(place(alloc, "SCHEMA", "the tables and their columns, a JSON file"))?
-        .arg(place(alloc, "QUERY", "the text of the query, a file"))?
-        .arg(place(alloc, "DIR", "the folder with <table>.csv for each table"))
+        .arg(place(alloc, "QUERY", "the text of the query, a file"))
+}
+
+/// The place of a certificate.
+fn certificate(alloc: Global) -> Arg<'static> {
+    place(alloc, "CERT", "the certificate of a plan, a file")
+}
+
+/// The place of a folder of tables.
+fn folder(alloc: Global) -> Arg<'static> {
+    place(alloc, "DIR", "the folder with <table>.csv for each table")
 }
 
 pub fn command<'a>(alloc: Global) -> Result<Command<'a>, AllocError> {
-    let query = over_tables(
+    let query = of_query(
         alloc,
         "query",
         "Answers a query over tables in CSV files, by a plan that was checked",
-    )?;
-    let meaning = over_tables(
+    )?
+    .arg(folder(alloc))?;
+    let meaning = of_query(
         alloc,
         "meaning",
         "Answers a query over tables in CSV files, as its meaning says: slowly, with no plan",
-    )?;
+    )?
+    .arg(folder(alloc))?;
+    let check = of_query(
+        alloc,
+        "check",
+        "Checks that a certificate's plan answers a query, and says accepted where it does",
+    )?
+    .arg(certificate(alloc))?;
+    let run = of_query(
+        alloc,
+        "run",
+        "Answers a query over tables in CSV files, by the plan of a certificate that is accepted",
+    )?
+    .arg(certificate(alloc))?
+    .arg(folder(alloc))?;
     Command::new(alloc, "sqlplan")
         .about("Plans queries, checks the plans, and runs what was checked")
         .subcommand_required(true)
         .subcommand(query)?
-        .subcommand(meaning)
+        .subcommand(meaning)?
+        .subcommand(check)?
+        .subcommand(run)
 }

@@ -3,7 +3,6 @@
 
 ghost use Rattle.std.specs.Prelude.{◌≡◌, Ok, length, vec_len, IfOk, IfErr};
 ghost use Rattle.schema.specs.Reading.{schema_of};
-ghost use Rattle.pipeline.specs.EndToEnd.{HasTables};
 ghost use Rattle.sqlplan.specs.Stops.{SaysFile, SaysTable};
 
 mod command;
@@ -13,11 +12,11 @@ use answer_text::CountedOutput;
 use clap::ArgMatches;
 use clap::error::ErrorKind;
 use command::command;
-use pipeline::{Refusal, evaluate, query};
+use pipeline::{Refusal, check, evaluate, query, run};
 use schema::Schema;
 use std::alloc::Global;
 use std::fs::File;
-use std::io::BufWriter;
+use std::io::{BufWriter, Printer};
 use std::process::ExitCode;
 use std::{env, fs, io};
 use stop::Stop;
@@ -55,96 +54,167 @@ fn open_tables(
     Ok(tables)
 }
 
-/// By what a query is answered.
+/// What is asked of a query, with the paths of the files besides its schema and its text.
 #[derive(Clone, Copy)]
-enum Way {
-    /// A plan that was checked.
-    Plan,
-    /// The slow evaluator.
-    Meaning,
+enum Asked<'a> {
+    /// Its answer by a plan that was checked, over the tables of a folder.
+    Query(&'a str),
+    /// Its answer by the slow evaluator, over the tables of a folder.
+    Meaning(&'a str),
+    /// Whether a certificate is accepted.
+    Check(&'a str),
+    /// Its answer by the plan of a certificate, over the tables of a folder.
+    Run(&'a str, &'a str),
 }
 
-/// Where a query's schema, its text and its tables are.
+impl<'a> Asked<'a> {
+    /// What a command asks.
+    fn of(command: &str, arguments: &'a ArgMatches<'_>) -> Option<Asked<'a>> {
+        match command {
+            "query" => Some(Asked::Query(arguments.get_str("DIR")?)),
+            "meaning" => Some(Asked::Meaning(arguments.get_str("DIR")?)),
+            "check" => Some(Asked::Check(arguments.get_str("CERT")?)),
+            "run" => Some(Asked::Run(arguments.get_str("CERT")?, arguments.get_str("DIR")?)),
+            _ => None,
+        }
+    }
+}
+
+/// What has been read before a command begins.
 #[derive(Clone, Copy)]
-struct Paths<'a> {
-    schema: &'a str,
-    query: &'a str,
-    folder: &'a str,
+struct Given<'a> {
+    /// The bytes of the schema, and the schema that they are.
+    bytes: &'a [u8],
+    schema: &'a Schema,
+    text: &'a [u8],
 }
 
-fn paths_of<'a>(arguments: &'a ArgMatches<'_>) -> Option<Paths<'a>> {
-    Some(Paths {
-        schema: arguments.get_str("SCHEMA")?,
-        query: arguments.get_str("QUERY")?,
-        folder: arguments.get_str("DIR")?,
-    })
-}
-
-/// Answers a query on standard output. The schema is that of the bytes.
-fn answer_tables(
-    rt: &HostRuntime,
-    way: Way,
-    bytes: &[u8],
-    schema: &Schema,
-    text: &[u8],
-    tables: &mut [CountedInput<File>],
-) -> Result<(), Stop>
-    requires { HasTables bytes.now (length tables.old) }
-{
-    let alloc = rt.alloc();
-    let mut out = CountedOutput::new(BufWriter::new(alloc, io::writer(rt))?);
-    let answered = match way {
-        Way::Plan => query(alloc, bytes, text, tables, &mut out),
-        Way::Meaning => evaluate(alloc, bytes, text, tables, &mut out),
-    };
-    match answered {
+/// The end of a command.
+fn ended(alloc: Global, schema: &Schema, outcome: Result<(), Refusal>) -> Result<(), Stop> {
+    match outcome {
         Ok(()) => Ok(()),
         Err(refusal) => Err(Stop::of_refusal(alloc, &refusal, Some(schema))),
     }
 }
 
-/// Opens the files of a query and its tables, and answers it.
-fn answer_files(
+/// Standard output, through a buffer.
+fn output(rt: &HostRuntime) -> Result<CountedOutput<BufWriter<Printer<'_, HostRuntime>>>, Stop> {
+    Ok(CountedOutput::new(BufWriter::new(rt.alloc(), io::writer(rt))?))
+}
+
+/// Answers a query on standard output by a plan that was checked. The schema is that of the bytes.
+fn answer(rt: &HostRuntime, given: Given<'_>, folder: &str) -> Result<(), Stop>
+    requires { schema_of given.bytes.now ≡ Ok given.schema.now }
+{
+    let mut tables = open_tables(rt, given.schema, folder)?;
+    let tables = tables.as_mut_slice();
+    let outcome = query(
+        rt.alloc(),
+        given.bytes,
+        given.text,
+        tables,
+        &mut output(rt)?,
+    );
+    ended(rt.alloc(), given.schema, outcome)
+}
+
+/// The same by the slow evaluator.
+fn answer_by_meaning(rt: &HostRuntime, given: Given<'_>, folder: &str) -> Result<(), Stop>
+    requires { schema_of given.bytes.now ≡ Ok given.schema.now }
+{
+    let mut tables = open_tables(rt, given.schema, folder)?;
+    let tables = tables.as_mut_slice();
+    let outcome = evaluate(
+        rt.alloc(),
+        given.bytes,
+        given.text,
+        tables,
+        &mut output(rt)?,
+    );
+    ended(rt.alloc(), given.schema, outcome)
+}
+
+/// The same by the plan of a certificate.
+fn answer_by_certificate(
     rt: &HostRuntime,
-    way: Way,
+    given: Given<'_>,
+    certificate: &str,
+    folder: &str,
+) -> Result<(), Stop>
+    requires { schema_of given.bytes.now ≡ Ok given.schema.now }
+{
+    let certificate = bytes_of(rt, certificate)?;
+    let mut tables = open_tables(rt, given.schema, folder)?;
+    let outcome = run(
+        rt.alloc(),
+        given.bytes,
+        given.text,
+        certificate.as_slice(),
+        tables.as_mut_slice(),
+        &mut output(rt)?,
+    );
+    ended(rt.alloc(), given.schema, outcome)
+}
+
+/// Says on standard output that a certificate is accepted, where it is.
+fn accept(rt: &HostRuntime, given: Given<'_>, certificate: &str) -> Result<(), Stop> {
+    let certificate = bytes_of(rt, certificate)?;
+    let outcome = check(rt.alloc(), given.bytes, given.text, certificate.as_slice());
+    ended(rt.alloc(), given.schema, outcome)?;
+    match rt.println("accepted") {
+        Ok(()) => Ok(()),
+        Err(_) => Err(Stop::of_refusal(rt.alloc(), &Refusal::Output, None)),
+    }
+}
+
+/// Reads the query's text and does what is asked.
+fn serve(
+    rt: &HostRuntime,
+    asked: Asked<'_>,
     bytes: &[u8],
     schema: &Schema,
-    paths: Paths<'_>,
+    query: &str,
 ) -> Result<(), Stop>
     requires { schema_of bytes.now ≡ Ok schema.now }
 {
-    let text = bytes_of(rt, paths.query)?;
-    let mut tables = open_tables(rt, schema, paths.folder)?;
-    answer_tables(
-        rt,
-        way,
+    let text = bytes_of(rt, query)?;
+    let given = Given {
         bytes,
         schema,
-        text.as_slice(),
-        tables.as_mut_slice(),
-    )
+        text: text.as_slice(),
+    };
+    match asked {
+        Asked::Query(folder) => answer(rt, given, folder),
+        Asked::Meaning(folder) => answer_by_meaning(rt, given, folder),
+        Asked::Check(certificate) => accept(rt, given, certificate),
+        Asked::Run(certificate, folder) => answer_by_certificate(rt, given, certificate, folder),
+    }
 }
 
-/// The commands `query` and `meaning`. The schema is read and tested before any other file is opened.
-fn answer(rt: &HostRuntime, way: Way, arguments: &ArgMatches<'_>) -> Result<(), Stop> {
-    let Some(paths) = paths_of(arguments) else {
+/// A command. The schema is read and tested before any other file is opened.
+fn obey(rt: &HostRuntime, command: &str, arguments: &ArgMatches<'_>) -> Result<(), Stop> {
+    let Some(asked) = Asked::of(command, arguments) else {
         return Err(Stop::Usage);
     };
-    let bytes = bytes_of(rt, paths.schema)?;
+    let (Some(schema), Some(query)) = (arguments.get_str("SCHEMA"), arguments.get_str("QUERY"))
+    else {
+        return Err(Stop::Usage);
+    };
+    let bytes = bytes_of(rt, schema)?;
     match Schema::read(rt.alloc(), bytes.as_slice()) {
-        Ok(schema) => answer_files(rt, way, bytes.as_slice(), &schema, paths),
+        Ok(schema) => serve(rt, asked, bytes.as_slice(), &schema, query),
         Err(fault) => Err(Stop::of_refusal(rt.alloc(), &Refusal::from(fault), None)),
     }
 }
 
-fn run(rt: &HostRuntime) -> Result<(), Stop> {
+/// Reads the command line and does what it says.
+fn start(rt: &HostRuntime) -> Result<(), Stop> {
     let alloc = rt.alloc();
     let words: Vec<String> = env::args(rt)?.collect(alloc)?;
     match command(alloc)?.try_get_matches_from(words.as_slice()) {
         Ok(matches) => match matches.subcommand() {
-            Some(("query", arguments)) => answer(rt, Way::Plan, arguments),
-            Some(("meaning", arguments)) => answer(rt, Way::Meaning, arguments),
-            _ => Err(Stop::Usage),
+            Some((command, arguments)) => obey(rt, command, arguments),
+            None => Err(Stop::Usage),
         },
         Err(error) => {
             if error.kind() == ErrorKind::OutOfMemory {
@@ -157,7 +227,7 @@ fn run(rt: &HostRuntime) -> Result<(), Stop> {
 }
 
 fn main(rt: HostRuntime) -> ExitCode {
-    match run(&rt) {
+    match start(&rt) {
         Ok(()) => ExitCode::SUCCESS,
         Err(stop) => {
             stop.report(&rt);
