@@ -270,7 +270,10 @@ def refusal(data):
         number += 1
         if number == len(lines):
             raise Refused("C04")
-        return Line(lines[number - 1].decode("latin-1"))
+        text = lines[number - 1].decode(errors="replace")
+        if number > 1 and "\ufffd" in text:
+            raise Refused("C02")
+        return Line(text)
 
     def ended(own):
         if own.at < len(own.text):
