@@ -165,11 +165,11 @@ SELECT id FROM dept WHERE name <> 1 => refused B05 at 31";
 
 /// Reports what a command answers over the files of `examples/hr`. The text is spelt.
 #[derive(Drop)]
-struct Answers {
-    way: Way,
+struct Answers<'a> {
+    way: Way<'a>,
 }
 
-impl Reporting for Answers {
+impl Reporting for Answers<'_> {
     fn report(&self, alloc: Global, text: &str, reported: &mut String) -> Result<(), AllocError> {
         let text = spelt(alloc, text)?;
         let files = Files {
@@ -188,7 +188,7 @@ pub const QUERIES: [&str; 9] = [
 ];
 
 /// What a command answers otherwise.
-fn answer_differences(alloc: Global, way: Way) -> Result<String, AllocError> {
+fn answer_differences(alloc: Global, way: Way<'_>) -> Result<String, AllocError> {
     let answers = Answers { way };
     let mut all = differences(alloc, &QUERIES, &answers)?;
     all.push_str(differences(alloc, &[SPELT, REFUSED], &answers)?.as_str())?;

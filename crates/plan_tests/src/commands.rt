@@ -4,7 +4,7 @@ ghost use Rattle.pipeline.specs.EndToEnd.{HasTables};
 
 use answer_text::CountedOutput;
 use fixtures::push_lines;
-use pipeline::{Refusal, evaluate, fault_line, query};
+use pipeline::{Refusal, check, evaluate, fault_line, query, run};
 use schema::Schema;
 use std::alloc::{AllocError, Global};
 use std::io::BufWriter;
@@ -14,9 +14,11 @@ use values::Fault;
 
 /// By what a query is answered.
 #[derive(Clone, Copy)]
-pub enum Way {
+pub enum Way<'a> {
     Plan,
     Meaning,
+    /// The plan of the certificate with this text.
+    Certificate(&'a [u8]),
 }
 
 /// What a command reads.
@@ -31,7 +33,7 @@ pub struct Files<'a> {
 /// Runs a command over the two tables.
 fn answer(
     alloc: Global,
-    way: Way,
+    way: Way<'_>,
     files: Files<'_>,
     out: &mut CountedOutput<BufWriter<Vec<u8>>>,
 ) -> Result<(), Refusal>
@@ -41,6 +43,14 @@ fn answer(
     match way {
         Way::Plan => query(alloc, files.schema, files.text, &mut tables, out),
         Way::Meaning => evaluate(alloc, files.schema, files.text, &mut tables, out),
+        Way::Certificate(certificate) => run(
+            alloc,
+            files.schema,
+            files.text,
+            certificate,
+            &mut tables,
+            out,
+        ),
     }
 }
 
@@ -64,7 +74,7 @@ fn push_outcome(
 fn push_written(
     alloc: Global,
     reported: &mut String,
-    way: Way,
+    way: Way<'_>,
     files: Files<'_>,
     schema: Option<&Schema>,
 ) -> Result<(), AllocError>
@@ -83,7 +93,7 @@ fn push_written(
 pub fn push_answer(
     alloc: Global,
     reported: &mut String,
-    way: Way,
+    way: Way<'_>,
     files: Files<'_>,
 ) -> Result<(), AllocError> {
     match &Schema::read(alloc, files.schema) {
@@ -93,5 +103,18 @@ pub fn push_answer(
         Ok(_) => reported.push_str("not two tables"),
         Err(Fault::Refused(_)) => push_written(alloc, reported, way, files, None),
         Err(Fault::Memory) => Err(AllocError),
+    }
+}
+
+/// Adds that a certificate is accepted, or the line that reports its refusal.
+pub fn push_acceptance(
+    alloc: Global,
+    reported: &mut String,
+    files: Files<'_>,
+    certificate: &[u8],
+) -> Result<(), AllocError> {
+    match check(alloc, files.schema, files.text, certificate) {
+        Ok(()) => reported.push_str("accepted"),
+        Err(refusal) => reported.push_str(fault_line(alloc, &refusal, None)?.as_str()),
     }
 }

@@ -54,7 +54,7 @@ enum Given {
 /// Reports what a command answers with what a text spells in one place, and in the others the files of `examples/hr` and a text.
 #[derive(Drop)]
 struct Replaced<'a> {
-    way: Way,
+    way: Way<'a>,
     given: Given,
     text: &'a str,
 }

@@ -20,6 +20,8 @@ mod frames;
 #[cfg(test)]
 mod free_columns;
 #[cfg(test)]
+mod handed_certificates;
+#[cfg(test)]
 mod hash_joins;
 #[cfg(test)]
 mod orders;
