@@ -1,0 +1,6 @@
+pub mod CheaperInputs
+pub mod Cuts
+pub mod PlanEstimates
+pub mod RowsOfLogs
+pub mod SelectivityForms
+pub mod Shares

@@ -1,0 +1,6 @@
+pub mod Cardinalities
+pub mod Costs
+pub mod Laws
+pub mod Numbers
+pub mod Selectivity
+pub mod Tables
