@@ -4,3 +4,4 @@ pub mod PlanEstimates
 pub mod RowsOfLogs
 pub mod SelectivityForms
 pub mod Shares
+pub mod Worked

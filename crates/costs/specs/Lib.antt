@@ -1,5 +1,6 @@
 pub mod Cardinalities
 pub mod Costs
+pub mod Examples
 pub mod Laws
 pub mod Numbers
 pub mod Selectivity
