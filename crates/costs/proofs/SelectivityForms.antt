@@ -1,5 +1,5 @@
 -- The selectivity of each form of condition: one equation each.
-use Rattle.std.proofs.Common.{◌≡◌, ap, sym, ◌∙◌, ℕ, List, ◌∷◌, map}
+use Rattle.std.proofs.Common.{◌≡◌, ap, sym, ◌∙◌, ℕ, List, ◌∷◌, map, Option}
 use Rattle.values.specs.declared.truth.Comparison.{Comparison}
 use Rattle.query.specs.declared.query.TableInstance.{TableInstance}
 use Rattle.algebra.specs.declared.condition.Term.{Term}
@@ -34,3 +34,9 @@ module _ (S : Statistics) (instances : List TableInstance) where
 
   pub selectivity-In : (a : Term) (g k : ℕ) → selectivity S instances (In a g k) ≡ 500000
   selectivity-In a g k = at (Condition-F.In a g k) _ (rolls-In a g k)
+
+  -- of a comparison, step by step
+  pub compare-at : (d : Condition) (op : Comparison) (a b : Term) (first second keys : Option ℕ) (share result : ℕ) → d ≡ Compare op a b → first ≡ term_keys S instances a → second ≡ term_keys S instances b → keys ≡ greater first second
+      → share ≡ share_of_key keys → result ≡ compared op share → result ≡ selectivity S instances d
+  compare-at d op a b first second keys share result is left right both one all =
+      all ∙ ap (compared op) (one ∙ ap share_of_key (both ∙ ap (λ k. greater k second) left ∙ ap (greater (term_keys S instances a)) right)) ∙ sym (ap (selectivity S instances) is ∙ selectivity-Compare op a b)

@@ -1,18 +1,12 @@
 use Rattle.std.proofs.Common.{ap, sym, ◌∙◌}
-use Rattle.costs.specs.Selectivity.{selectivity, compared, share_of_key, greater, term_keys, others}
-use Rattle.costs.proofs.SelectivityForms.{selectivity-Compare, selectivity-IsNull, selectivity-Not, selectivity-And, selectivity-Or, selectivity-Exists, selectivity-In}
+use Rattle.costs.specs.Selectivity.{selectivity, others}
+use Rattle.costs.proofs.SelectivityForms.{compare-at, selectivity-IsNull, selectivity-Not, selectivity-And, selectivity-Or, selectivity-Exists, selectivity-In}
 use Rattle.costs.proofs.selectivity.+selectivities.Goals as goal
 
 pub selectivity-returns-in-Compare-clause-share : goal.selectivity-returns-in-Compare-clause-share
 selectivity-returns-in-Compare-clause-share t c =
-    let S = c.args.statistics.now in
-    let instances = c.args.instances.now in
-    c.compared.ensures.share
-    ∙ ap (compared c.in-Compare.comparison) c.share_of_key.ensures.share
-    ∙ ap (λ k. compared c.in-Compare.comparison (share_of_key k)) c.greater.ensures
-    ∙ ap (λ k. compared c.in-Compare.comparison (share_of_key (greater k c.term_keys-second.result))) c.term_keys-first.ensures
-    ∙ ap (λ k. compared c.in-Compare.comparison (share_of_key (greater (term_keys S instances c.in-Compare.a) k))) c.term_keys-second.ensures
-    ∙ sym (ap (selectivity S instances) c.in-Compare.is ∙ selectivity-Compare S instances c.in-Compare.comparison c.in-Compare.a c.in-Compare.b)
+    compare-at _ _ _ c.in-Compare.comparison c.in-Compare.a c.in-Compare.b c.term_keys-first.result c.term_keys-second.result c.greater.result c.share_of_key.result c.compared.result c.in-Compare.is c.term_keys-first.ensures c.term_keys-second.ensures
+    c.greater.ensures c.share_of_key.ensures.share c.compared.ensures.share
 
 pub selectivity-returns-in-IsNull-clause-share : goal.selectivity-returns-in-IsNull-clause-share
 selectivity-returns-in-IsNull-clause-share t c = sym (ap (selectivity c.args.statistics.now c.args.instances.now) c.in-IsNull.is ∙ selectivity-IsNull _ _ c.in-IsNull.field-0)
