@@ -23,6 +23,7 @@ use Rattle.algebra.proofs.Lists.{two, map-same, distinct_by, distinct-map, disti
 use Rattle.algebra.proofs.Puts.{lay-lay}
 use Rattle.algebra.proofs.Ordered.{and-turn, and-twice}
 use Rattle.algebra.proofs.UniqueRows.{distinct_on-by}
+use Rattle.algebra.proofs.MentionedColumns.{all-rising}
 
 -- ---- the same rows
 
@@ -39,18 +40,6 @@ distinct-by [] = refl
 distinct-by (r ∷ L) = ap (λ ys. r ∷ filter (λ s. not (same_rows r s)) ys) (distinct-by L)
 
 -- ---- all of a set
-
-all-insert : (p : ℕ → Bool) (c : ℕ) (ks : List ℕ) → list_all p (insert c ks) ≡ (p c && list_all p ks)
-all-insert p c [] = refl
-all-insert p c (k ∷ ks) =
-    let P : List ℕ → Type 0 = λ ls. list_all p ls ≡ (p c && (p k && list_all p ks)) in
-    cond_both (nat_lt c k) (c ∷ k ∷ ks) (if c == k then k ∷ ks else k ∷ insert c ks) P (λ before. refl) (λ after. cond_both (c == k) (k ∷ ks) (k ∷ insert c ks) P
-    (λ is. and-twice (p k) (list_all p ks) ∙ ap (λ z. p z && (p k && list_all p ks)) (sym (eqb-true c k is)))
-    (λ isnt. ap (λ b. p k && b) (all-insert p c ks) ∙ and-turn (p k) (p c) (list_all p ks)))
-
-pub all-rising : (p : ℕ → Bool) (ks : List ℕ) → list_all p (rising ks) ≡ list_all p ks
-all-rising p [] = refl
-all-rising p (k ∷ ks) = all-insert p k (rising ks) ∙ ap (λ b. p k && b) (all-rising p ks)
 
 -- ---- items
 

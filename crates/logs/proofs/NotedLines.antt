@@ -221,7 +221,3 @@ one-noted xs before n own long same g = by (g == n) refl
       | inl lt ↦ get_or_append_left xs (own ∷ []) [] g lt ∙ same g
       | inr le ↦ get_or_past (xs ++ own ∷ []) g [] (past (λ i. let is = eq-eqb g n i in cc) le) ∙ sym (get_or_past xs g [] le) ∙ same g
     ]
-
--- one entry more without columns
-pub none-more : (xs : List (List ℕ)) (g : ℕ) → columns_at (xs ++ [] ∷ []) g ≡ columns_at xs g
-none-more xs g = one-noted xs xs (length xs) [] refl (λ h. refl) g ∙ sym (none-noted xs (length xs) [] refl (omega arith) g)
