@@ -12,6 +12,7 @@ use Rattle.algebra.specs.Columns.{has, rising}
 use Rattle.algebra.specs.Expressions.{with_aggregates, aggregate_columns, are_different}
 use Rattle.algebra.proofs.Sets.{increasing-rising, different-rising, has-rising}
 use Rattle.algebra.proofs.Ordered.{and-turn}
+use Rattle.values.specs.declared.value.Value.{Value}
 
 -- ---- columns
 
@@ -42,6 +43,18 @@ has-ordered G c = ap (λ ks. has ks c) (ordered-columns G) ∙ has-rising c (agg
 
 pub different-ordered : (G : List Aggregation) → are_different (aggregate_columns (by_column G)) ≡ true
 different-ordered G = rw (ordered-columns G) (different-rising (aggregate_columns G))
+
+-- a column that no aggregate writes
+pub aggregates-outside : (A : List Aggregation) (rows : List Env) (r : Env) (c : ℕ) → has (aggregate_columns A) c ≡ false → with_aggregates A rows r c ≡ r c
+aggregates-outside [] rows r c absent = refl
+aggregates-outside (a ∷ A) rows r c absent = by (a.column == c) absent (aggregates-outside A rows r c)
+  where
+    here : Value
+    here = aggregate_of a.aggregate (length rows) (λ k. map (λ s. s k) rows)
+
+    by : (b : Bool) → (b || has (aggregate_columns A) c) ≡ false → (has (aggregate_columns A) c ≡ false → with_aggregates A rows r c ≡ r c) → (if b then here else with_aggregates A rows r c) ≡ r c
+    by true absent later = cc
+    by false absent later = later absent
 
 -- ---- values
 

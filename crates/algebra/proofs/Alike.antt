@@ -27,8 +27,8 @@ use Rattle.algebra.proofs.MentionedColumns.{mentions-Compare, mentions-IsNull, m
 use Rattle.algebra.proofs.NamedClasses.{named-Not, named-And, named-Or, named-Exists, named-In}
 use Rattle.algebra.proofs.Puts.{among-append}
 use Rattle.algebra.proofs.SameBags.{same_bag-trans, select-same, join-same, left_join-same, semi-same, anti-same}
-use Rattle.algebra.proofs.SameInputs.{has-first, expressions_keep_classes}
-use Rattle.algebra.proofs.Sets.{has-rising}
+use Rattle.algebra.proofs.SameInputs.{expressions_keep_classes}
+use Rattle.algebra.proofs.Sets.{has-rising, has-first}
 use Rattle.algebra.proofs.Truths.{truth-Compare, truth-IsNull, truth-Not, truth-And, truth-Or, truth-Exists, truth-In, true-all, allowed-all}
 
 module _ (root : ℕ → ℕ) where

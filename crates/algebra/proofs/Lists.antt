@@ -1,9 +1,10 @@
 -- Lists under maps.
-use Rattle.std.proofs.Common.{◌≡◌, refl, ap, sym, ◌∙◌, Bool, true, false, not, ◌&&◌, ◌||◌, if◌then◌else◌, List, [], ◌∷◌, map, filter, flat_map}
+use Rattle.std.proofs.Common.{◌≡◌, refl, ap, sym, ◌∙◌, Bool, true, false, not, ◌&&◌, ◌||◌, if◌then◌else◌, List, [], ◌∷◌, map, filter, flat_map, ℕ, ◌+◌, ◌<◌, length, get_or, fold, take}
 use Rattle.std.specs.List.{AllByRecursion, list_all, list_any}
 use Rattle.std.proofs.lemmas.List.{map-append}
+use Rattle.std.proofs.lemmas.List.Sums.{fold-append}
 use Rattle.values.proofs.Each.{all_filter}
-use Rattle.values.proofs.Lists.{filter-map}
+use Rattle.values.proofs.Lists.{filter-map, map_next}
 
 pub two : {X Y Z : Type 0} (f : X → Y → Z) {a b : X} {c d : Y} → a ≡ b → c ≡ d → f a c ≡ f b d
 two f e h = rw (e, h) refl
@@ -76,3 +77,8 @@ distinct-same P same other [] h all = refl
 distinct-same P same other (x ∷ xs) h all =
     ap (λ ys. x ∷ filter (λ y. not (same x y)) ys) (distinct-same P same other xs h all.1)
     ∙ ap (λ ys. x ∷ ys) (filter-same P (λ y. not (same x y)) (λ y. not (other x y)) (distinct_by other xs) (λ y k. ap not (h x y all.0 k)) (all-distinct P other xs all.1))
+
+-- a fold that takes one more element
+pub fold-next : {X Y Z : Type 0} (f : Z → Y → Z) (a : Z) (g : X → Y) (xs : List X) (i : ℕ) (x : X) → i < length xs → x ≡ get_or xs i x
+    → fold f a (map g (take (i + 1) xs)) ≡ f (fold f a (map g (take i xs))) (g x)
+fold-next f a g xs i x below is = ap (fold f a) (map_next g xs i x below is) ∙ fold-append f a (map g (take i xs)) (g x ∷ [])

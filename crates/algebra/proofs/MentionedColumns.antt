@@ -9,11 +9,12 @@ use Rattle.algebra.specs.declared.condition.Term.{Term}
 use Rattle.algebra.specs.declared.condition.Condition.{Condition, roll-Condition, fold-roll-Condition, map-Condition}
 use Rattle.algebra.specs.declared.condition.Condition.TheVariants.{Compare, IsNull, Not, And, Or, Exists, In, rolls-Compare, rolls-IsNull, rolls-Not, rolls-And, rolls-Or, rolls-Exists, rolls-In}
 use Rattle.algebra.specs.declared.condition.Condition.TheOpen.{Condition-F}
-use Rattle.algebra.specs.Columns.{ColumnSet, has, are_disjoint}
+use Rattle.algebra.specs.Columns.{ColumnSet, has, are_disjoint, rising}
 use Rattle.algebra.specs.Conditions.{Mentions, mentions_layer, mentions, term_columns}
 use Rattle.algebra.specs.Expressions.{mentioned}
 use Rattle.algebra.specs.GivenColumns.{HasAlso}
 use Rattle.algebra.proofs.Puts.{among-append}
+use Rattle.algebra.proofs.Sets.{has-rising}
 
 -- ---- what each form mentions
 
@@ -87,6 +88,12 @@ each_has p (x ∷ xs) all k in_ =
 pub all_has : (p : ℕ → Bool) (xs : List ℕ) → ((k : ℕ) → has xs k ≡ true → p k ≡ true) → list_all p xs ≡ true
 all_has p [] each = refl
 all_has p (x ∷ xs) each = and_from _ _ (each x (or_left (x == x) (has xs x) (eq-eqb x x refl))) (all_has p xs (λ k in_. each k (or_right (x == k) (has xs k) in_)))
+
+-- what all of a list pass, all pass in rising order
+pub all-rising : (p : ℕ → Bool) (xs : List ℕ) → list_all p (rising xs) ≡ list_all p xs
+all-rising p xs = both_ways _ _
+    (λ all. all_has p xs (λ k in_. each_has p (rising xs) all k (has-rising k xs ∙ in_)))
+    (λ all. all_has p (rising xs) (λ k in_. each_has p xs all k (sym (has-rising k xs) ∙ in_)))
 
 -- of two sets the one shares nothing with the other where the other shares nothing with it
 pub apart_turned : (xs B : List ℕ) (M : ColumnSet) → ((k : ℕ) → has xs k ≡ M k) → are_disjoint xs B ≡ list_all (λ k. not (M k)) B

@@ -60,6 +60,9 @@ pub tested_expr : (b : Bool) (x y : Expr) → IsTrue b ↔ (x ≡ y) → b ≡ s
 unfolding same_expr
 tested_expr = tested expr.the_row.coded
 
+pub same-expr : (x : Expr) → same_expr x x ≡ true
+same-expr x = sym (tested_expr true x x (λ e. refl, λ e. refl))
+
 pub tested_aggregation : (b : Bool) (x y : Aggregation) → IsTrue b ↔ (x ≡ y) → b ≡ same_aggregation x y
 unfolding same_aggregation
 tested_aggregation = tested aggregation.the_row.coded

@@ -17,10 +17,7 @@ use Rattle.algebra.proofs.Puts.{among-append}
 use Rattle.algebra.proofs.SameBags.{SameTest, select-same, join-same, left_join-same, semi-same, anti-same, keep-same, distinct-same}
 use Rattle.algebra.proofs.SameConditions.{SameClasses, same-left, same-right, holds-among, allows-among}
 use Rattle.algebra.proofs.SameGroups.{aggregated-same}
-use Rattle.algebra.proofs.Sets.{has-rising}
-
-pub has-first : (g : ℕ) (gs : List ℕ) → has (g ∷ gs) g ≡ true
-has-first g gs = or_left (g == g) (has gs g) (eq-eqb g g refl)
+use Rattle.algebra.proofs.Sets.{has-rising, has-first}
 
 pub has-second : (f g : ℕ) (gs : List ℕ) → has (f ∷ g ∷ gs) g ≡ true
 has-second f g gs = or_right (f == g) _ (has-first g gs)

@@ -92,7 +92,7 @@ different-rises (x ∷ xs) r = rw (above-disjoint x x xs (omega arith) r.0) (dif
 pub different-rising : (cs : List ℕ) → are_different (rising cs) ≡ true
 different-rising cs = different-rises (rising cs) (rises-rising cs)
 
-or-turn : (a b c : Bool) → (a || (b || c)) ≡ (b || (a || c))
+pub or-turn : (a b c : Bool) → (a || (b || c)) ≡ (b || (a || c))
 or-turn true true c = refl
 or-turn true false c = refl
 or-turn false true c = refl
@@ -114,7 +114,7 @@ pub has-rising : (k : ℕ) (cs : List ℕ) → has (rising cs) k ≡ has cs k
 has-rising k [] = refl
 has-rising k (c ∷ cs) = has-insert c k (rising cs) ∙ ap (λ b. (c == k) || b) (has-rising k cs)
 
-has-first : (x : ℕ) (xs : List ℕ) → has (x ∷ xs) x ≡ true
+pub has-first : (x : ℕ) (xs : List ℕ) → has (x ∷ xs) x ≡ true
 has-first x xs = rw (eq-eqb x x refl) refl
 
 above-disjoint-all : (x y : ℕ) (ys : List ℕ) → x < y → Above y ys → has (y ∷ ys) x ≡ false
@@ -139,6 +139,9 @@ one-rising (x ∷ xs) (y ∷ ys) r s same = elim (cases_order x y) [
     | inr gt ↦ absurd (cc (same y, has-first y ys, above-disjoint-all y x xs gt r.0))
   ]
 ]
+
+pub rising-again : (ns : List ℕ) → IsStrictlyIncreasing ns → rising ns ≡ ns
+rising-again ns sorted = one-rising (rising ns) ns (rises-rising ns) (rises ns sorted) (λ k. has-rising k ns)
 
 -- ---- membership
 

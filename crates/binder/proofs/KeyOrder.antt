@@ -4,6 +4,7 @@ use Rattle.std.specs.List.{list_any}
 use Rattle.std.proofs.lemmas.List.{append-nil, drop_all}
 use Rattle.std.proofs.lemmas.Bool.Decides.{nat_tests}
 use Rattle.std.proofs.lemmas.List.Folds.{list_any-append}
+use Rattle.std.proofs.Math.Bool.{or-false}
 use Rattle.values.specs.declared.fault.Fault.{Fault}
 use Rattle.values.specs.declared.fault.Fault.TheVariants as fault
 use Rattle.values.specs.Faults.{◌>>=◌, Fails}
@@ -32,10 +33,6 @@ both-step p q r x xs h before = grind (arith, rules)
 filter-both : {A : Type 0} (p q r : A → Bool) (xs : List A) → ((x : A) → r x ≡ (q x && p x)) → filter p (filter q xs) ≡ filter r xs
 filter-both p q r [] h = refl
 filter-both p q r (x ∷ xs) h = both-step p q r x xs (h x) (filter-both p q r xs h)
-
-or-false : (b : Bool) → (b || false) ≡ b
-or-false true = refl
-or-false false = refl
 
 in-more : (order : List SortKey) (k : SortKey) (i : ℕ) → is_in (order ++ k ∷ []) i ≡ (is_in order i || (k.item == i))
 in-more order k i = list_any-append (λ j. j.item == i) order (k ∷ []) ∙ ap (λ b. is_in order i || b) (or-false (k.item == i))

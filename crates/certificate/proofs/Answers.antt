@@ -7,6 +7,7 @@ use Rattle.values.proofs.Results.{both_ok}
 use Rattle.schema.specs.declared.schema.Schema.{Schema}
 use Rattle.schema.specs.declared.schema.Table.{Table}
 use Rattle.schema.specs.Databases.{Row, Database, Satisfies, SatisfyTables, IsUnique}
+use Rattle.schema.proofs.EmptyTables.{no-rows}
 use Rattle.query.specs.declared.query.Query.{Query}
 use Rattle.query.specs.declared.query.TableInstance.{TableInstance}
 use Rattle.query.specs.Bound.{IsBoundOver, TablesAreOver}
@@ -96,14 +97,6 @@ root-output q some c D is is_true =
     }
 
 -- ---- a database without rows
-
-no-rows : (ts : List Table) → SatisfyTables ts (map (λ t. []) ts)
-no-rows [] = tt
-no-rows (t ∷ ts) = (record { few = omega arith; fit = tt; unique = none-same t.unique }, no-rows ts)
-  where
-    none-same : (places : List (List ℕ)) → AllByRecursion (IsUnique []) places
-    none-same [] = tt
-    none-same (p ∷ places) = ((λ i j lt below known. absurd (omega (arith, below))), none-same places)
 
 -- what is said of the plan alone: its groups aggregate values of tables, and its nodes get the orders that they require
 record IsOfTables (instances : List TableInstance) (p : Plan) : Type 0 where

@@ -11,7 +11,7 @@ use Rattle.algebra.specs.declared.expr.Expr.{Expr}
 use Rattle.algebra.specs.Equality.{same_expr}
 use Rattle.algebra.specs.Expressions.{classes_pass, is_formed}
 use Rattle.algebra.specs.Classes.{class_columns, AreFormed}
-use Rattle.algebra.proofs.Same.{tested_expr}
+use Rattle.algebra.proofs.Same.{tested_expr, same-expr}
 use Rattle.frame.specs.Frames.{query_frame}
 use Rattle.frame.specs.FormedFrames.{own_aggregates}
 use Rattle.frame.proofs.FormedQueries.{frames_formed}
@@ -19,9 +19,6 @@ use Rattle.derivation.specs.declared.line.Line.TheVariants.{Founds}
 use Rattle.derivation.specs.Logs.{Log, line_at, entries, is_founding, founds}
 use Rattle.derivation.proofs.Lookups.{classes-wider}
 use Rattle.certificate.specs.Replay.{line_replays, lines_replay, FramesReplay}
-
-same-expr : (x : Expr) → same_expr x x ≡ true
-same-expr x = sym (tested_expr true x x (λ e. refl, λ e. refl))
 
 -- the log whose lines found classes by these expressions, the last first
 abbrev log : List Expr → Log

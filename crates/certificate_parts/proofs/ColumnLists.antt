@@ -11,7 +11,7 @@ use Rattle.std.specs.Prelude.{codes}
 use Rattle.std.specs.Result.{IsErrAnd}
 use Rattle.values.specs.declared.fault.Fault.{Fault}
 use Rattle.values.specs.declared.fault.Fault.TheVariants.{Memory, Refused}
-use Rattle.algebra.proofs.Sets.{rises, rises-rising, has-rising, one-rising}
+use Rattle.algebra.proofs.Sets.{rises, rises-rising, has-rising, one-rising, rising-again}
 use Rattle.algebra.specs.Columns.{rising}
 use Rattle.certificate_parts.specs.declared.part_fault.PartReason.{PartReason}
 use Rattle.certificate_parts.specs.declared.part_fault.PartReason.TheVariants.{OtherForm, OverLimit}
@@ -66,9 +66,6 @@ one_falls words n d e less some l is t ns s rise =
 
 -- ---- the columns of a list
 
-rising_again : (ns : List ℕ) → IsStrictlyIncreasing ns → rising ns ≡ ns
-rising_again ns s = one-rising (rising ns) ns (rises-rising ns) (rises ns s) (λ k. has-rising k ns)
-
 module _ (w : Text) (ts : List Text) (rise : Bool) (dash : w ≡ codes "-" → ⊥) (parts : ts ≡ slice_split (λ b. b == 44) w) (tells : (ns : List ℕ) → SpellEach ts ns → IsTrue rise ↔ IsStrictlyIncreasing ns) where
   pub none_rising : rise ≡ false → (ns : List ℕ) → SpellsColumns w ns → ⊥
   none_rising e ns s = false≢true (sym e ∙ (tells ns (parts ∙ parts_spelled w ns dash s.0)).1 s.1)
@@ -80,7 +77,7 @@ module _ (w : Text) (ts : List Text) (rise : Bool) (dash : w ≡ codes "-" → �
       → IsRead SpellsColumns AreShort w (Ok (Some ms))
   some_read view read v ms e r is g =
       let found : IsRead SpellEach AreShort ts (Ok (Some (view v))) = subst (λ read. IsRead SpellEach AreShort ts (Ok (option_map view read))) is r in
-      rw (g ∙ rising_again (view v) (some_rising (view v) e found.0).1) (some_rising (view v) e found.0, found.1)
+      rw (g ∙ rising-again (view v) (some_rising (view v) e found.0).1) (some_rising (view v) e found.0, found.1)
 
   pub past_range : {V : Type 0} (view : V → List ℕ) (read : Option V) → rise ≡ true → IsRead SpellEach AreShort ts (Ok (option_map view read)) → read ≡ None → IsRead SpellsColumns AreShort w (Ok None)
   past_range view read e r is =

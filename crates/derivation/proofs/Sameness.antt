@@ -1,6 +1,7 @@
 -- Classes that are the same.
 use Rattle.std.proofs.Common.{◌≡◌, refl, ap, sym, ◌∙◌, subst, inl, inr, ◌⊎◌, ℕ, ◌<◌, ◌≤◌, Bool, true, false, ◌||◌, ◌==◌, nat_lt, [], ◌∷◌, length, if◌then◌else◌, arith}
 use Rattle.std.proofs.lemmas.Bool.{eq-eqb, eqb-true, ltb-true, ltb-false}
+use Rattle.std.proofs.Math.Nat.{le_trans}
 use Rattle.derivation.specs.declared.line.Line.TheVariants.{Founds, Adds, Unites, Alike, Gives}
 use Rattle.derivation.specs.Logs.{Log, lesser, united, class_at, least}
 
@@ -82,15 +83,12 @@ united-stays a b r lt other = elim (united-is a b r) [
 
 -- ---- the least same class
 
-lower : {a b c : ℕ} → a ≤ b → b ≤ c → a ≤ c
-lower first second = omega (arith, first, second)
-
 pub least-low : (E : Log) (k : ℕ) → least E k ≤ k
 least-low [] k = omega arith
 least-low (Founds x ∷ E) k = least-low E k
 least-low (Adds g s x ∷ E) k = least-low E k
-least-low (Unites g h s ∷ E) k = lower (united-low (least E g) (least E h) (least E k)) (least-low E k)
-least-low (Alike i j ∷ E) k = lower (united-low (least E (class_at E i)) (least E (class_at E j)) (least E k)) (least-low E k)
+least-low (Unites g h s ∷ E) k = le_trans (united-low (least E g) (least E h) (least E k)) (least-low E k)
+least-low (Alike i j ∷ E) k = le_trans (united-low (least E (class_at E i)) (least E (class_at E j)) (least E k)) (least-low E k)
 least-low (Gives g m f ∷ E) k = least-low E k
 
 -- lines unite classes of earlier lines

@@ -7,19 +7,20 @@ use Rattle.algebra.specs.declared.expr.Expr.TheVariants as expr
 use Rattle.algebra.specs.ConditionEquality.{same_condition}
 use Rattle.algebra.specs.ConjunctParts.{union}
 use Rattle.algebra.specs.Equality.{same_columns, same_expr}
-use Rattle.algebra.proofs.Same.{same_columns-refl, tested_condition, tested_columns, tested_expr}
+use Rattle.algebra.proofs.Same.{same_columns-refl, tested_condition, tested_columns, tested_expr, same-expr}
 use Rattle.algebra.proofs.MentionedColumns.{mentions-Compare, mentions-IsNull}
+use Rattle.algebra.proofs.ConditionNames.{columns-Compare, columns-IsNull, classes-Compare, classes-IsNull}
 use Rattle.rules.specs.declared.shape.Shape.TheVariants.{Class, Join, Keep}
 use Rattle.rules.specs.declared.book.RuleName.TheVariants as rule
 use Rattle.derivation.specs.declared.line.Line.TheVariants.{Founds}
 use Rattle.derivation.specs.Examples.{WorkedLines, WorkedRules, WorkedConditions, WorkedRefusals, WorkedLogs, emps, joined, twice_joined, by_rule, equal_ids, falling_ids, without_dept, both}
-use Rattle.derivation.proofs.WorkedEquations.{same_expr-refl, columns-Compare, columns-IsNull, classes-Compare, classes-IsNull, parts-Compare, parts-IsNull, text-Compare, text-IsNull, by-texts, union-of-two, adds-stands, spelling-Class, spelling-Select, spelling-Join, spelling-Semi, spelling-Anti, spelling-Keep, spelling-Distinct}
+use Rattle.derivation.proofs.WorkedEquations.{parts-Compare, parts-IsNull, text-Compare, text-IsNull, by-texts, union-of-two, adds-stands, spelling-Class, spelling-Select, spelling-Join, spelling-Semi, spelling-Anti, spelling-Keep, spelling-Distinct}
 
 lines : WorkedLines
 lines = record {
   founds = refl;
-  alike = simp same_expr-refl refl;
-  alike_over_others = simp same_expr-refl refl;
+  alike = simp same-expr refl;
+  alike_over_others = simp same-expr refl;
   not_null = refl;
   weak_key = refl;
   strong_key = simp same_columns-refl refl;
@@ -43,29 +44,29 @@ chained = union-of-two _ _ (parts-Compare by.Equal (Column 0) (Column 2)) (parts
 
 rules : WorkedRules
 rules = record {
-  join_commutes = simp (columns-Compare, classes-Compare, same_columns-refl, spelling-Join, spelling-Class, same_expr-refl) refl;
-  join_commutes_united = simp (same_columns-refl, spelling-Join, spelling-Class, same_expr-refl) refl;
+  join_commutes = simp (columns-Compare, classes-Compare, same_columns-refl, spelling-Join, spelling-Class, same-expr) refl;
+  join_commutes_united = simp (same_columns-refl, spelling-Join, spelling-Class, same-expr) refl;
   join_associates = adds-stands emps [] (reverse (twice_joined ++ Founds (expr.Join falling_ids 1 2) ∷ [])) 4 (by_rule rule.JoinAssociates (4 ∷ 3 ∷ []) (5 ∷ [])) (expr.Join equal_ids 0 5) (Join equal_ids (Class 0) (Join falling_ids (Class 1) (Class 2)))
       (simp classes-Compare refl)
       (simp (columns-Compare, classes-Compare, same_columns-refl) refl)
       (simp (chained, mentions-Compare) refl)
-      (simp (spelling-Join, spelling-Class, same_expr-refl) refl);
-  selects_merge = simp (columns-Compare, columns-IsNull, classes-Compare, classes-IsNull, same_columns-refl, merged, spelling-Select, spelling-Class, same_expr-refl) refl;
-  select_below_join = simp (columns-Compare, classes-Compare, same_columns-refl, mentions-IsNull, spelling-Join, spelling-Select, spelling-Class, same_expr-refl) refl;
-  select_into_join = simp (columns-Compare, columns-IsNull, classes-Compare, classes-IsNull, same_columns-refl, merged, spelling-Join, spelling-Class, same_expr-refl) refl;
-  condition_below_join = simp (columns-Compare, classes-Compare, same_columns-refl, mentions-Compare, mentions-IsNull, spelling-Join, spelling-Select, spelling-Class, same_expr-refl) refl;
-  select_below_semi = simp (columns-Compare, classes-Compare, same_columns-refl, spelling-Semi, spelling-Select, spelling-Class, same_expr-refl) refl;
-  select_below_anti = simp (columns-Compare, classes-Compare, same_columns-refl, spelling-Anti, spelling-Select, spelling-Class, same_expr-refl) refl;
-  keeps_merge = simp (same_columns-refl, spelling-Keep, spelling-Class, same_expr-refl) refl;
+      (simp (spelling-Join, spelling-Class, same-expr) refl);
+  selects_merge = simp (columns-Compare, columns-IsNull, classes-Compare, classes-IsNull, same_columns-refl, merged, spelling-Select, spelling-Class, same-expr) refl;
+  select_below_join = simp (columns-Compare, classes-Compare, same_columns-refl, mentions-IsNull, spelling-Join, spelling-Select, spelling-Class, same-expr) refl;
+  select_into_join = simp (columns-Compare, columns-IsNull, classes-Compare, classes-IsNull, same_columns-refl, merged, spelling-Join, spelling-Class, same-expr) refl;
+  condition_below_join = simp (columns-Compare, classes-Compare, same_columns-refl, mentions-Compare, mentions-IsNull, spelling-Join, spelling-Select, spelling-Class, same-expr) refl;
+  select_below_semi = simp (columns-Compare, classes-Compare, same_columns-refl, spelling-Semi, spelling-Select, spelling-Class, same-expr) refl;
+  select_below_anti = simp (columns-Compare, classes-Compare, same_columns-refl, spelling-Anti, spelling-Select, spelling-Class, same-expr) refl;
+  keeps_merge = simp (same_columns-refl, spelling-Keep, spelling-Class, same-expr) refl;
   keep_of_all = simp (same_columns-refl, spelling-Class) refl;
   keep_below_join = adds-stands emps [] (reverse (joined ++ Founds (expr.Keep (2 ∷ []) 2) ∷ Founds (expr.Keep (0 ∷ []) 0) ∷ Founds (expr.Join equal_ids 4 1) ∷ [])) 3 (by_rule rule.KeepBelowJoin (3 ∷ 2 ∷ []) (5 ∷ 4 ∷ []))
       (expr.Keep (2 ∷ []) 5) (Keep (2 ∷ []) (Join equal_ids (Keep (0 ∷ []) (Class 0)) (Class 1)))
       refl
       (simp same_columns-refl refl)
       (simp mentions-Compare refl)
-      (simp (spelling-Keep, spelling-Join, spelling-Class, same_expr-refl) refl);
+      (simp (spelling-Keep, spelling-Join, spelling-Class, same-expr) refl);
   distinct_of_keyed = simp (same_columns-refl, spelling-Class) refl;
-  group_is_distinct = simp (same_columns-refl, spelling-Distinct, spelling-Keep, spelling-Class, same_expr-refl) refl;
+  group_is_distinct = simp (same_columns-refl, spelling-Distinct, spelling-Keep, spelling-Class, same-expr) refl;
 }
 
 conditions : WorkedConditions

@@ -18,7 +18,7 @@ use Rattle.algebra.specs.ConjunctParts.{union}
 use Rattle.algebra.specs.Equality.{same_columns, same_expr}
 use Rattle.algebra.specs.Expressions.{columns_of, is_formed}
 use Rattle.algebra.proofs.Lists.{two}
-use Rattle.algebra.proofs.Same.{tested_expr}
+use Rattle.algebra.proofs.Same.{tested_expr, same-expr}
 use Rattle.rules.specs.declared.shape.Shape.{Shape, fold-roll-Shape}
 use Rattle.rules.specs.declared.shape.Shape.TheOpen.{Shape-F}
 use Rattle.rules.specs.declared.shape.Shape.TheVariants.{Class, Select, Join, Semi, Anti, Keep, Distinct, rolls-Class, rolls-Select, rolls-Join, rolls-Semi, rolls-Anti, rolls-Keep, rolls-Distinct}
@@ -31,26 +31,7 @@ use Rattle.derivation.specs.Spelling.{Spelling, over_one, over_two, spelling_lay
 
 -- ---- tests of equality
 
-pub same_expr-refl : (x : Expr) → same_expr x x ≡ true
-same_expr-refl x = sym (tested_expr true x x (λ e. refl, λ e. refl))
-
 -- ---- conditions
-
-pub columns-Compare : (op : Comparison) (a b : Term) (p : ℕ → Bool) → all_columns (Compare op a b) p ≡ (term_passes p a && term_passes p b)
-unfolding all_columns
-columns-Compare op a b p = ap (λ c. all_columns c p) (sym (rolls-Compare op a b)) ∙ ap (λ f. f p) (fold-roll-Condition Passes columns_layer (Condition-F.Compare op a b))
-
-pub columns-IsNull : (a : Term) (p : ℕ → Bool) → all_columns (IsNull a) p ≡ term_passes p a
-unfolding all_columns
-columns-IsNull a p = ap (λ c. all_columns c p) (sym (rolls-IsNull a)) ∙ ap (λ f. f p) (fold-roll-Condition Passes columns_layer (Condition-F.IsNull a))
-
-pub classes-Compare : (op : Comparison) (a b : Term) (p : ℕ → Bool) → all_classes (Compare op a b) p ≡ true
-unfolding all_classes
-classes-Compare op a b p = ap (λ c. all_classes c p) (sym (rolls-Compare op a b)) ∙ ap (λ f. f p) (fold-roll-Condition Passes classes_layer (Condition-F.Compare op a b))
-
-pub classes-IsNull : (a : Term) (p : ℕ → Bool) → all_classes (IsNull a) p ≡ true
-unfolding all_classes
-classes-IsNull a p = ap (λ c. all_classes c p) (sym (rolls-IsNull a)) ∙ ap (λ f. f p) (fold-roll-Condition Passes classes_layer (Condition-F.IsNull a))
 
 pub parts-Compare : (op : Comparison) (a b : Term) → parts_of (Compare op a b) ≡ Compare op a b ∷ []
 unfolding flat

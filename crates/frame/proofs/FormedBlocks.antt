@@ -35,7 +35,7 @@ use Rattle.algebra.proofs.ConnectiveParts.{conjuncts-columns, conjuncts-classes}
 use Rattle.algebra.proofs.Puts.{differ-left, differ-right}
 use Rattle.algebra.proofs.Same.{equal_aggregation}
 use Rattle.algebra.proofs.Sets.{has-rising}
-use Rattle.frame.proofs.Shown.{all-rising}
+use Rattle.algebra.proofs.MentionedColumns.{all-rising}
 
 -- ---- aggregates
 

@@ -24,15 +24,11 @@ use Rattle.frame.proofs.FrameShapes.{FromShape, Sides, JoinParts, left_of, on_of
 use Rattle.frame.proofs.Growth.{grows-longer, kept-columns, last-below}
 use Rattle.algebra.proofs.ConnectiveParts.{conjuncts-columns, conjuncts-classes}
 use Rattle.algebra.proofs.Puts.{AreDisjoint, differ-left, differ-right, differ-disjoint}
-
--- what holds of each column of a list
-pub all-has : (p : ℕ → Bool) (xs : List ℕ) → ((c : ℕ) → has xs c ≡ true → p c ≡ true) → list_all p xs ≡ true
-all-has p [] h = refl
-all-has p (x ∷ xs) h = and_from _ _ (h x (or_left _ _ (eq-eqb x x refl))) (all-has p xs (λ c in_. h c (or_right (x == c) _ in_)))
+use Rattle.algebra.proofs.MentionedColumns.{all_has}
 
 -- lists with the columns of lists that share none share none
 sides-disjoint : (xs ys ks ls : List ℕ) → ((c : ℕ) → has xs c ≡ has ks c) → ((c : ℕ) → has ys c ≡ has ls c) → AreDisjoint ls ks → are_disjoint xs ys ≡ true
-sides-disjoint xs ys ks ls left right disjoint_are = all-has _ xs (λ c in_. not_from_false _ (false_from_ne_true (has ys c) (λ both. cc (left c, in_, disjoint_are c (sym (right c) ∙ both)))))
+sides-disjoint xs ys ks ls left right disjoint_are = all_has _ xs (λ c in_. not_from_false _ (false_from_ne_true (has ys c) (λ both. cc (left c, in_, disjoint_are c (sym (right c) ∙ both)))))
 
 -- an instance of the query's is one of its tables
 used-below : (instances : List TableInstance) (o : TableReference) → names_instance instances o ≡ true → o.number < length instances

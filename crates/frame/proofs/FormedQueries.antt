@@ -24,7 +24,7 @@ use Rattle.frame.specs.Frames as frame
 use Rattle.frame.specs.Frames.{cond_frame, from_frame, block_frame, where_lines, group_lines, keep_lines, distinct_lines, item_number, own_numbers, kept, last, query_frame, query_numbers}
 use Rattle.frame.proofs.FormedBlocks.{formed-Block}
 use Rattle.frame.proofs.FormedConds.{formed-Compare, formed-IsNull, formed-Not, formed-And, formed-Or, formed-Exists, formed-In}
-use Rattle.frame.proofs.FormedFroms.{all-has, formed-Table, formed-Join, formed-LeftJoin, formed-Comma}
+use Rattle.frame.proofs.FormedFroms.{formed-Table, formed-Join, formed-LeftJoin, formed-Comma}
 use Rattle.frame.proofs.FormedParts.{among_own, GroupsOwn, FormedBlock, CondFormed, FromFormed, BlockFormed}
 use Rattle.frame.proofs.FrameEquations.{frame-Block}
 use Rattle.frame.proofs.FrameShapes.{BoundParts, block-shape, bound-parts}
@@ -33,6 +33,7 @@ use Rattle.frame.proofs.Induction.{Steps, each-block}
 use Rattle.frame.proofs.OwnAggregates.{flat-apart, lines-apart}
 use Rattle.algebra.proofs.Same.{same_aggregation-refl}
 use Rattle.algebra.proofs.Sets.{has-rising}
+use Rattle.algebra.proofs.MentionedColumns.{all_has}
 
 -- ---- blocks
 
@@ -129,7 +130,7 @@ module _ (instances : List TableInstance) where
       → is_subset (map (item_number scope) items) (class_columns instances (distinct_lines twice (keep_lines scope items G)) (last (distinct_lines twice (keep_lines scope items G)))) ≡ true
   shown-in twice scope items G all =
       let ns : List ℕ = map (item_number scope) items in
-      ap (is_subset ns) (end-columns twice scope items G ∙ ap rising (own-all scope items all)) ∙ all-has (has (rising ns)) ns (λ c in_. has-rising c ns ∙ in_)
+      ap (is_subset ns) (end-columns twice scope items G ∙ ap rising (own-all scope items all)) ∙ all_has (has (rising ns)) ns (λ c in_. has-rising c ns ∙ in_)
 
   -- all that a query's block shows is among the columns of its last class
   block-shown : (q : Block) → (block_scope instances q).bound [] ≡ true → is_subset ((block_frame instances q).shown []) (class_columns instances ((block_frame instances q).lines [] []) (last ((block_frame instances q).lines [] []))) ≡ true

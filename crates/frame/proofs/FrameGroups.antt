@@ -26,7 +26,8 @@ use Rattle.algebra.proofs.Sets.{has-rising}
 use Rattle.algebra.proofs.Lists.{two, map-same, through, all-distinct, distinct_by, distinct-map, distinct-same}
 use Rattle.algebra.proofs.Puts.{put, put-off, put-reads, place-reads, reads, Agrees, IsNew, agrees-put, not-among, none-disjoint, differ-disjoint, differ-left, new-left}
 use Rattle.algebra.proofs.UniqueRows.{distinct_on-by}
-use Rattle.frame.proofs.Shown.{Reads, same_rows-cons, distinct-by, all-rising}
+use Rattle.algebra.proofs.MentionedColumns.{all-rising}
+use Rattle.frame.proofs.Shown.{Reads, same_rows-cons, distinct-by}
 
 -- ---- columns of the rows around
 

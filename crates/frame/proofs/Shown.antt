@@ -23,6 +23,7 @@ use Rattle.algebra.proofs.Lists.{two, map-same, distinct_by, distinct-map, disti
 use Rattle.algebra.proofs.Puts.{lay-lay}
 use Rattle.algebra.proofs.Ordered.{and-turn, and-twice}
 use Rattle.algebra.proofs.UniqueRows.{distinct_on-by}
+use Rattle.algebra.proofs.MentionedColumns.{all-rising}
 
 -- ---- the same rows
 
@@ -47,10 +48,6 @@ all-insert p c (k ∷ ks) =
     cond_both (nat_lt c k) (c ∷ k ∷ ks) (if c == k then k ∷ ks else k ∷ insert c ks) P (λ before. refl) (λ after. cond_both (c == k) (k ∷ ks) (k ∷ insert c ks) P
     (λ is. and-twice (p k) (list_all p ks) ∙ ap (λ z. p z && (p k && list_all p ks)) (sym (eqb-true c k is)))
     (λ isnt. ap (λ b. p k && b) (all-insert p c ks) ∙ and-turn (p k) (p c) (list_all p ks)))
-
-pub all-rising : (p : ℕ → Bool) (ks : List ℕ) → list_all p (rising ks) ≡ list_all p ks
-all-rising p [] = refl
-all-rising p (k ∷ ks) = all-insert p k (rising ks) ∙ ap (λ b. p k && b) (all-rising p ks)
 
 -- ---- items
 

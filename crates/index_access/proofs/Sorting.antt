@@ -11,6 +11,7 @@ use Rattle.std.proofs.lemmas.Cmp.{nat_cmp_total, then_total}
 use Rattle.std.proofs.lemmas.List.Kept.{IsSortedBy-filter}
 use Rattle.std.proofs.lemmas.List.Sorted.{ranks_by, sum_by-IsPermutation}
 use Rattle.std.proofs.lemmas.List.Sums.{sum_by-cons}
+use Rattle.std.proofs.lemmas.Bool.{and_parts}
 use Rattle.values.proofs.Each.{all_filter}
 use Rattle.values.proofs.Lists.{filter-map}
 use Rattle.values.specs.Order.{order}
@@ -113,14 +114,10 @@ filter-both p q (x ∷ xs) = by (p x) (filter-both p q xs)
     by true same = ap (λ l. cond (q x) (x ∷ l) l) same
     by false same = same
 
-and-second : (a b : Bool) → (a && b) ≡ true → b ≡ true
-and-second true b h = h
-and-second false b h = cc
-
 stable : (R : ℕ → ℕ → Ordering) → IsTotalOrder R → (p : ℕ → Bool) (xs ys : List ℕ) → IsPermutation xs ys → IsStableBy (λ a b. is_lt (then_cmp R nat_cmp a b)) (filter p xs) (filter p ys)
 stable R total p xs ys moved t =
     let q : ℕ → Bool = λ y. p y && ties (λ a b. is_lt (then_cmp R nat_cmp a b)) t y in
-    let same : (y : ℕ) → q y ≡ true → t ≡ y = λ y h. ties-same R total t y (and-second (p y) _ h) in
+    let same : (y : ℕ) → q y ≡ true → t ≡ y = λ y h. ties-same R total t y (and_parts (p y) _ h).1 in
     filter-both p (ties (λ a b. is_lt (then_cmp R nat_cmp a b)) t) ys ∙ only q t same ys
     ∙ ap (λ n. replicate n t) (sum_by-IsPermutation (λ y. if q y then 1 else 0) xs ys moved)
     ∙ sym (only q t same xs) ∙ sym (filter-both p (ties (λ a b. is_lt (then_cmp R nat_cmp a b)) t) xs)

@@ -14,7 +14,7 @@ use Rattle.laws.specs.Rewriting.{Ignores}
 use Rattle.laws.proofs.Mentions.{holds-reads}
 
 -- outside its columns nothing is laid over a row
-off : (B : ColumnSet) (s r : Env) (c : ℕ) → B c ≡ false → lay B s r c ≡ r c
+pub off : (B : ColumnSet) (s r : Env) (c : ℕ) → B c ≡ false → lay B s r c ≡ r c
 off B s r c out = rw out refl
 
 -- the conditions that pass a test do

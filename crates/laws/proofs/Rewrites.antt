@@ -5,6 +5,7 @@ use Rattle.values.specs.declared.value.Value.{Value}
 use Rattle.algebra.specs.Columns.{ColumnSet}
 use Rattle.algebra.specs.Bags.{Env, Test, Bag, total, SameBag, lay, has_match, select, join, keep}
 use Rattle.algebra.proofs.BagSums.{if_passes, total-map, total-filter, total-same}
+use Rattle.algebra.proofs.Ordered.{and-turn}
 use Rattle.laws.specs.Rewriting.{IsBoth, AreApart, JoinsCommute, JoinsAssociate, SelectsMerge, SelectsGoBelow, SelectsGoIn, ConditionsGoBelow, SelectsGoBelowSemi, SelectsGoBelowAnti, KeepsMerge, KeepOfAll, KeepsGoBelow}
 use Rattle.laws.proofs.JoinSums.{when_both, when_swap, total_when, total_swap, total_join, total_laid}
 use Rattle.laws.proofs.Overlays.{pointwise, lay-within}
@@ -120,12 +121,6 @@ select_join c d j B a b both e f =
     ∙ total-same _ _ (λ r. total-same _ _ (λ s. sym (when_both (d (lay B s r)) (c (lay B s r)) (f (lay B s r))) ∙ ap (λ v. if v then f (lay B s r) else 0) (sym (both (lay B s r)))) (b e)) (a e)
     ∙ sym (total_join f j B a b e)
 
-and_turn : (a b c : Bool) → (a && (b && c)) ≡ (b && (a && c))
-and_turn true true c = refl
-and_turn true false c = refl
-and_turn false true c = refl
-and_turn false false c = refl
-
 and_group : (a b c : Bool) → (a && (b && c)) ≡ ((a && b) && c)
 and_group true b c = refl
 and_group false b c = refl
@@ -133,7 +128,7 @@ and_group false b c = refl
 pub selects_go_below : SelectsGoBelow
 selects_go_below c d p q B a b both ignores e f =
     select_join c d (λ r. d r && c r) B a b (λ r. refl) e f
-    ∙ conditions_go_below (λ r. d r && c r) p (λ r. d r && q r) B a b (λ r. ap (λ v. d r && v) (both r) ∙ and_turn (d r) (p r) (q r)) ignores e f
+    ∙ conditions_go_below (λ r. d r && c r) p (λ r. d r && q r) B a b (λ r. ap (λ v. d r && v) (both r) ∙ and-turn (d r) (p r) (q r)) ignores e f
     ∙ sym (select_join q d (λ r. d r && q r) B (select p a) b (λ r. refl) e f)
 
 pub selects_go_in : SelectsGoIn

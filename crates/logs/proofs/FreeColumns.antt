@@ -2,20 +2,13 @@
 use Rattle.std.proofs.Common.{◌≡◌, refl, ap, sym, ◌∙◌, ℕ, ◌+◌, ◌<◌, Bool, true, false, not, ◌&&◌, ◌||◌, ◌==◌, List, [], length, take, get_or}
 use Rattle.std.proofs.lemmas.Bool.{eqb-true}
 use Rattle.std.proofs.lemmas.List.Folds.{list_any_more}
+use Rattle.std.proofs.Math.Bool.{or-false, and-false}
 use Rattle.algebra.specs.Columns.{ColumnSet, has}
 use Rattle.algebra.specs.GivenColumns.{HasAlso}
 
 or-over : (a b c : Bool) → ((a || b) || c) ≡ (a || (b || c))
 or-over true b c = refl
 or-over false b c = refl
-
-and-false : (a : Bool) → (a && false) ≡ false
-and-false true = refl
-and-false false = refl
-
-or-false : (a : Bool) → (a || false) ≡ a
-or-false true = refl
-or-false false = refl
 
 -- one more column of a list, unless it passes
 pub lacking-more : (passes : ColumnSet) (xs : List ℕ) (i : ℕ) (old mid new : List ℕ) → i < length xs

@@ -8,7 +8,7 @@ use Rattle.algebra.specs.declared.expr.Expr.{Expr}
 use Rattle.algebra.specs.Conditions.{classes_in, named_classes}
 use Rattle.algebra.specs.Expressions.{children, conditions, classes_pass, input_classes}
 use Rattle.algebra.specs.Columns.{has, rising}
-use Rattle.algebra.proofs.MentionedColumns.{all_has, each_has}
+use Rattle.algebra.proofs.MentionedColumns.{all_has, each_has, all-rising}
 use Rattle.algebra.proofs.NamedClasses.{all-named}
 use Rattle.algebra.proofs.Sets.{has-rising}
 use Rattle.derivation.specs.declared.line.Line.{Line}
@@ -47,19 +47,6 @@ founds_at lines g = ap is_founding (line-at lines g)
 
 pub member_at : (lines : List Line) (i : ℕ) → member (reverse lines) i ≡ as_member i (slice_get lines i)
 member_at lines i = ap (as_member i) (line-at lines i)
-
--- what all of a list pass, all pass in rising order
-all-rising : (p : ℕ → Bool) (xs : List ℕ) → list_all p (rising xs) ≡ list_all p xs
-all-rising p xs = by (list_all p (rising xs)) (list_all p xs) refl refl
-  where
-    onward : (ys zs : List ℕ) → ((k : ℕ) → has zs k ≡ has ys k) → list_all p ys ≡ true → list_all p zs ≡ true
-    onward ys zs same all = all_has p zs (λ k in_. each_has p ys all k (sym (same k) ∙ in_))
-
-    by : (a b : Bool) → list_all p (rising xs) ≡ a → list_all p xs ≡ b → a ≡ b
-    by true true first second = refl
-    by false false first second = refl
-    by true false first second = sym (onward (rising xs) xs (λ k. sym (has-rising k xs)) first) ∙ second
-    by false true first second = sym first ∙ onward xs (rising xs) (λ k. has-rising k xs) second
 
 -- the classes that an expression names, as a list
 pub pass-inputs : (p : ℕ → Bool) (x : Expr) → classes_pass p x ≡ list_all p (input_classes x)

@@ -4,20 +4,13 @@ use Rattle.std.specs.List.{AllByRecursion}
 use Rattle.std.proofs.lemmas.Bool.{eqb-true, eq-eqb}
 use Rattle.std.proofs.lemmas.List.{get_or-set_same, get_or-set_other}
 use Rattle.std.proofs.lemmas.List.Folds.{list_any_more}
+use Rattle.std.proofs.Math.Bool.{or-false, or-true}
 use Rattle.algebra.specs.Columns.{has}
 
 pub read-all : (P : ℕ → Type 0) (xs : List ℕ) (i d : ℕ) → AllByRecursion P xs → i < length xs → P (get_or xs i d)
 read-all P [] i d all lt = absurd (omega (arith, lt))
 read-all P (x ∷ xs) zero d all lt = all.0
 read-all P (x ∷ xs) (suc i) d all lt = read-all P xs i d all.1 (omega (arith, lt))
-
-or-true : (x : Bool) → (x || true) ≡ true
-or-true true = refl
-or-true false = refl
-
-or-false : (x : Bool) → (x || false) ≡ x
-or-false true = refl
-or-false false = refl
 
 module _ (sets old classes : List ℕ) (v i : ℕ) (lt : i < length classes) (within : get_or classes i 0 < length sets) where
   abbrev class : ℕ

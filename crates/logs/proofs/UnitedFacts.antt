@@ -1,6 +1,7 @@
 -- The facts of classes that become the same.
 use Rattle.std.proofs.Common.{◌≡◌, refl, ap, sym, ◌∙◌, inl, inr, ◌⊎◌, ℕ, Bool, true, false, ◌&&◌, ◌||◌, ◌==◌, nat_lt, if◌then◌else◌, [], ◌∷◌}
 use Rattle.std.proofs.lemmas.Bool.{eq-eqb, eqb-true}
+use Rattle.std.proofs.Math.Bool.{or-true}
 use Rattle.props.specs.declared.fact.FactSets.{FactSets}
 use Rattle.props.specs.Facts.{with_fact, with_facts}
 use Rattle.props.proofs.FactUnions.{learnt-first, learnt-other}
@@ -16,10 +17,6 @@ lesser-is a b = by (nat_lt b a)
     by : (c : Bool) → ((if c then b else a) ≡ a) ⊎ ((if c then b else a) ≡ b)
     by true = inr refl
     by false = inl refl
-
-or-true : (x : Bool) → (x || true) ≡ true
-or-true true = refl
-or-true false = refl
 
 lesser-either : (a b : ℕ) → (lesser a b == a || lesser a b == b) ≡ true
 lesser-either a b = elim (lesser-is a b) [

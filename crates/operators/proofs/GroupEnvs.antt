@@ -20,6 +20,7 @@ use Rattle.algebra.proofs.Lists.{through, all-each, distinct_by, distinct-map, d
 use Rattle.algebra.proofs.Puts.{among-append}
 use Rattle.algebra.proofs.Sets.{has-rising}
 use Rattle.algebra.proofs.UniqueRows.{distinct_on-by}
+use Rattle.algebra.proofs.AggregateLists.{aggregates-outside}
 use Rattle.operators.specs.declared.groups.Grouping.{Grouping}
 use Rattle.relations.specs.declared.headings.Heading.{Heading}
 use Rattle.relations.specs.declared.relation.Relation.{Relation}
@@ -112,17 +113,6 @@ group-rows g input e some =
     ∙ sym (ap (map one) (distinct-envs input e K)) ∙ sym (group-some K (with_aggregates g.added.now) (rows_of input) e some)
 
 -- ---- the columns of groups
-
-aggregates-outside : (A : List Aggregation) (rows : List Env) (r : Env) (c : ℕ) → has (aggregate_columns A) c ≡ false → with_aggregates A rows r c ≡ r c
-aggregates-outside [] rows r c absent = refl
-aggregates-outside (a ∷ A) rows r c absent = by (a.column == c) absent (aggregates-outside A rows r c)
-  where
-    here : Value
-    here = aggregate_of a.aggregate (length rows) (λ k. map (λ s. s k) rows)
-
-    by : (b : Bool) → (b || has (aggregate_columns A) c) ≡ false → (has (aggregate_columns A) c ≡ false → with_aggregates A rows r c ≡ r c) → (if b then here else with_aggregates A rows r c) ≡ r c
-    by true absent later = cc
-    by false absent later = later absent
 
 -- a group's row has the columns of the keys and of the aggregates, and else is the environment
 laid-group : (K : List ℕ) (A : List Aggregation) (rows : List Env) (r e : Env) → lay (has (rising (K ++ aggregate_columns A))) (with_aggregates A rows (lay (has K) r e)) e ≡ with_aggregates A rows (lay (has K) r e)

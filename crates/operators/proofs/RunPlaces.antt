@@ -4,7 +4,7 @@ use Rattle.std.specs.List.{AllByRecursion, range_with_len}
 use Rattle.std.specs.Cmp.{IsEquivalence}
 use Rattle.operators.specs.Groups.{StandTogether, continues, first_seen}
 use Rattle.operators.proofs.FirstSeen.{place, place-again, place-new}
-use Rattle.relations.proofs.Numbers.{range_number}
+use Rattle.store.proofs.IndexLists.{numbers_more}
 
 all-numbers : (P : ℕ → Type 0) (a n : ℕ) → ((i : ℕ) → a ≤ i → i < a + n → P i) → AllByRecursion P (range_with_len a n)
 all-numbers P a zero each = tt
@@ -39,6 +39,6 @@ module _ {K : Type 0} (key : ℕ → K) (eq : K → K → Bool) (law : IsEquival
       by : (b : Bool) → same (suc m) m ≡ b → (if b then before else next) ≡ place_of (suc m) (suc m)
       by true is =
           earlier m (omega arith) ∙ sym (place-again key eq law (range_with_len 0 m) m (suc m) is)
-          ∙ ap (λ rows. place key eq law rows (suc m)) (sym (range_number m) ∙ ap (range_with_len 0) (add-one m))
+          ∙ ap (λ rows. place key eq law rows (suc m)) (sym (numbers_more m) ∙ ap (range_with_len 0) (add-one m))
       by false is =
           many ∙ sym (place-new key eq law (range_with_len 0 (suc m)) (suc m) (all-numbers (λ x. same (suc m) x ≡ false) 0 (suc m) (λ x low high. unlike-earlier count m together below is x (omega (arith, high)))))

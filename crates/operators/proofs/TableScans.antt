@@ -11,13 +11,10 @@ use Rattle.physical.specs.Indexes.{columns_of_index, index_columns}
 use Rattle.relations.specs.declared.headings.Heading.{Heading}
 use Rattle.relations.specs.Places.{first_at}
 use Rattle.relations.specs.Relations.{row_env}
-use Rattle.relations.proofs.RelationRows.{table-rows}
+use Rattle.relations.proofs.RelationRows.{table-rows, table-row}
 use Rattle.index_access.specs.Cuts.{AreByIndex}
 use Rattle.index_access.proofs.TableIndexes.{index_sorts}
 use Rattle.operators.specs.Sources.{AreTableRows, IsAccessed, IsIndexOf, table_rows}
-
-pub table-row : (t : TableInstance) (h : Heading) (row : Row) (e : Env) → h.columns ≡ instance_columns t → h.places.items ≡ map first_at (range_with_len 0 (length t.entry.columns)) → row_env h (row ∷ []) e ≡ instance_row t row e
-table-row t h row e columns places = ap (λ (fs : List Env). get_or fs 0 nulls) (table-rows t h (row ∷ []) e columns places)
 
 sorts-of : (instance : Option TableInstance) (tables : List (List Row)) (index : ℕ) (numbers : List ℕ) (e : Env) (count : ℕ) (row : ℕ → Env) → AreTableRows instance tables e count row
     → is_subset (columns_of_index instance index) (get_columns instance) ≡ true → IsIndexOf instance tables index numbers → AreByIndex row (columns_of_index instance index) (range_with_len 0 count) numbers

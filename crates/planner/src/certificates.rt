@@ -1,6 +1,6 @@
 //! The certificate that follows a query's frame, operator by operator.
 
-ghost use Rattle.std.specs.Prelude.{◌≡◌, ◌<◌, IfOk, Ok, true, length, map};
+ghost use Rattle.std.specs.Prelude.{◌≡◌, ◌<◌, IfOk, Ok, true, length, map, reverse};
 ghost use Rattle.query.specs.Bound.{is_bound};
 ghost use Rattle.frame.specs.Frames.{is_framed};
 ghost use Rattle.derivation.specs.declared.line.Line.TheVariants.{Founds};
@@ -93,14 +93,26 @@ fn sorted(alloc: Global, keys: Items<OrderKey>, plan: Plan) -> Result<Plan, Allo
     })
 }
 
+/// The expressions of a frame, the last one first.
+fn last_first(alloc: Global, frame: Items<Expr>) -> Result<Items<Expr>, AllocError>
+    ensures { IfOk result (λ turned. turned ≡ reverse frame) }
+{
+    let mut turned = Items::new(alloc);
+    let mut left = frame;
+    while let Some(expr) = left.pop() {
+        turned.push(expr)?;
+    }
+    Ok(turned)
+}
+
 /// The lines that found a query's classes.
 fn lines_of(alloc: Global, frame: Items<Expr>) -> Result<Items<Line>, AllocError>
     ensures { IfOk result (λ lines. lines ≡ map Founds frame) }
 {
     let mut lines = Items::new(alloc);
-    let mut left = frame;
-    while !left.is_empty() {
-        lines.push(Line::Founds(left.remove(0)))?;
+    let mut last_first = last_first(alloc, frame)?;
+    while let Some(expr) = last_first.pop() {
+        lines.push(Line::Founds(expr))?;
     }
     Ok(lines)
 }

@@ -10,6 +10,7 @@ use Rattle.algebra.specs.declared.expr.Aggregation.{Aggregation}
 use Rattle.algebra.specs.Columns.{has, is_subset, is_same_set}
 use Rattle.algebra.specs.Bags.{Env, Bag, lay, same_on, distinct_on, group}
 use Rattle.algebra.specs.Expressions.{with_aggregates, aggregate_columns, aggregation_formed}
+use Rattle.algebra.proofs.AggregateLists.{aggregates-outside}
 use Rattle.laws.specs.Keys.{count, HasNoNull, IsStrongKey}
 use Rattle.laws.proofs.KeyCounts.{count_map, count_same, count_distinct, count_once}
 use Rattle.laws.proofs.Overlays.{in_subset}
@@ -19,16 +20,6 @@ use Rattle.props.proofs.SoundFacts.{same_on-set, le_zero}
 one-row : (b : Bool) → (if b then 1 else 0) + 0 ≤ 1
 one-row true = omega arith
 one-row false = omega arith
-
--- a column that no aggregate writes
-beside : (G : List Aggregation) (L : List Env) (w : Env) (c : ℕ) → has (aggregate_columns G) c ≡ false → with_aggregates G L w c ≡ w c
-beside [] L w c out = refl
-beside (a ∷ G) L w c out = by (a.column == c) (beside G L w c) out
-  where
-    by : (b : Bool) → (has (aggregate_columns G) c ≡ false → with_aggregates G L w c ≡ w c) → (b || has (aggregate_columns G) c) ≡ false
-        → (if b then aggregate_of a.aggregate (length L) (λ k. map (λ s. s k) L) else with_aggregates G L w c) ≡ w c
-    by true later out = cc
-    by false later out = later out
 
 -- aggregates write new columns
 new-columns : (own G : List Aggregation) (X : List ℕ) → list_all (aggregation_formed own X) G ≡ true → (c : ℕ) → has X c ≡ true → has (aggregate_columns G) c ≡ false
@@ -73,7 +64,7 @@ module _ (own G : List Aggregation) (X : List ℕ) (formed : list_all (aggregati
 
     -- a key column is read as in a row of the group
     key-read : (r : Env) (c : ℕ) → has (k ∷ L) c ≡ true → row r c ≡ r c
-    key-read r c in_ = beside G _ (lay (has (k ∷ L)) r e) c (new-columns own G X formed c (in_subset (k ∷ L) X within c in_)) ∙ (rw in_ refl)
+    key-read r c in_ = aggregates-outside G _ (lay (has (k ∷ L)) r e) c (new-columns own G X formed c (in_subset (k ∷ L) X within c in_)) ∙ (rw in_ refl)
 
   pub group-key : (L N : List ℕ) → is_subset L X ≡ true → is_same_set N L ≡ true → IsStrongKey N (group L (with_aggregates G) x)
   group-key [] N within is e r = one-row _

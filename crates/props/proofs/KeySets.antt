@@ -13,6 +13,7 @@ use Rattle.std.proofs.Math.Bool.{or-false}
 use Rattle.indexmap.specs.IndexSet.{insert_key}
 use Rattle.algebra.specs.Equality.{same_columns}
 use Rattle.algebra.proofs.Same.{equal_columns, same_columns-refl}
+use Rattle.algebra.proofs.Sets.{or-turn}
 use Rattle.props.specs.Keys.{Key, has_key, with_key, with_keys, in_order}
 
 abbrev order : Key → Key → Ordering
@@ -30,11 +31,6 @@ turned : (k l : Key) (o : Ordering) → order k l ≡ o → order l k ≡ orderi
 turned k l o is = total.antisymm l k ∙ ap ordering_reverse is
 
 -- ---- tests
-
-or-over : (a b c : Bool) → (a || (b || c)) ≡ (b || (a || c))
-or-over true true c = refl
-or-over true false c = refl
-or-over false b c = refl
 
 or-turned : (a b c : Bool) → (a || (b || c)) ≡ ((b || a) || c)
 or-turned true true c = refl
@@ -55,7 +51,7 @@ module _ (p : Key → Bool) where
       by : list_any p (with_key keys k) ≡ (p k || list_any p keys) → (o : Ordering) → order k x ≡ o → list_any p (match_ordering o (k ∷ x ∷ keys) (x ∷ keys) (x ∷ with_key keys k)) ≡ (p k || (p x || list_any p keys))
       by rest Less is = refl
       by rest Equal is = ap (λ z. p z || list_any p keys) (sym (tied k x is)) ∙ twice (p k) (list_any p keys) ∙ ap (λ z. p k || (p z || list_any p keys)) (tied k x is)
-      by rest Greater is = ap (λ b. p x || b) rest ∙ or-over (p x) (p k) (list_any p keys)
+      by rest Greater is = ap (λ b. p x || b) rest ∙ or-turn (p x) (p k) (list_any p keys)
 
   any-withs : (keys others : List Key) → list_any p (with_keys keys others) ≡ (list_any p others || list_any p keys)
   any-withs keys [] = refl

@@ -60,6 +60,3 @@ column-known columns c sorted is = one-rising columns _ (rises columns sorted) (
 
 pub nothing-behind : (columns : List ℕ) → IsStrictlyIncreasing columns → rising (columns ++ []) ≡ columns
 nothing-behind columns sorted = sym (one-rising columns _ (rises columns sorted) (rises-rising (columns ++ [])) (λ k. sym (has-rising k (columns ++ []) ∙ among-append k columns [] ∙ or-false (has columns k))))
-
-pub nothing-before : (columns : List ℕ) → IsStrictlyIncreasing columns → rising columns ≡ columns
-nothing-before columns sorted = sym (one-rising columns _ (rises columns sorted) (rises-rising columns) (λ k. sym (has-rising k columns)))

@@ -8,6 +8,7 @@ use Rattle.values.specs.Order.{same}
 use Rattle.algebra.specs.Columns.{ColumnSet, has, is_subset, is_same_set}
 use Rattle.algebra.specs.Bags.{Env, Test, Bag, SameBag, total, lay, same_on, join, left_join, keep}
 use Rattle.std.proofs.lemmas.List.Folds.{list_all-append, list_any-append}
+use Rattle.std.proofs.Math.Nat.{le_trans}
 use Rattle.algebra.proofs.BagSums.{total-zero, total-plus}
 use Rattle.algebra.proofs.Lists.{any_not}
 use Rattle.algebra.proofs.UniqueRows.{same_on-reads}
@@ -27,9 +28,6 @@ use Rattle.props.specs.Facts.{FactHolds, fact_columns}
 pub le_zero : {m n : ℕ} → m ≤ n → n ≡ 0 → m ≡ 0
 le_zero h l = omega arith
 
-le_next : {m n k : ℕ} → m ≤ n → n ≤ k → m ≤ k
-le_next h l = omega arith
-
 or_false : (a b : Bool) → (a || b) ≡ false → (a ≡ false) × (b ≡ false)
 or_false true b is = cc
 or_false false b is = (refl, is)
@@ -43,8 +41,8 @@ same-holds x y alike (StrongKey L) holds = λ e r. subst (λ n. n ≤ 1) (alike 
 
 pub fewer-holds : (x y : Bag) → ((q : Test) (e : Env) → count q (y e) ≤ count q (x e)) → (f : Fact) → FactHolds x f → FactHolds y f
 fewer-holds x y fewer (NotNull c) holds = λ e. le_zero (fewer (λ r. is_null (r c)) e) (holds e)
-fewer-holds x y fewer (WeakKey L) holds = λ e r full. le_next (fewer (same_on L r) e) (holds e r full)
-fewer-holds x y fewer (StrongKey L) holds = λ e r. le_next (fewer (same_on L r) e) (holds e r)
+fewer-holds x y fewer (WeakKey L) holds = λ e r full. le_trans (fewer (same_on L r) e) (holds e r full)
+fewer-holds x y fewer (StrongKey L) holds = λ e r. le_trans (fewer (same_on L r) e) (holds e r)
 
 -- rows projected to columns of which the fact speaks
 pub keep-holds : (L : List ℕ) (x : Bag) (f : Fact) → is_subset (fact_columns f) L ≡ true → FactHolds x f → FactHolds (keep (has L) x) f
@@ -137,13 +135,13 @@ rejected-holds p B a b c rejects e =
 -- of a side whose columns the fact speaks of, each of whose rows finds one match at most
 pub side-holds : (p : Test) (B : ColumnSet) (a b : Bag) (f : Fact) → ((c : ℕ) → has (fact_columns f) c ≡ true → B c ≡ false) → IsSingle p B b → FactHolds a f → FactHolds (join p B a b) f
 side-holds p B a b (NotNull c) out single holds = λ e. count.count_bad (λ r. is_null (r c)) p B a b (beside-null B c (out c (or_left (c == c) false (eq-eqb c c refl)))) e (holds e)
-side-holds p B a b (WeakKey L) out single holds = λ e r full. le_next (count.count_join (same_on L r) p B a b (beside-key B L out r) single e) (holds e r full)
-side-holds p B a b (StrongKey L) out single holds = λ e r. le_next (count.count_join (same_on L r) p B a b (beside-key B L out r) single e) (holds e r)
+side-holds p B a b (WeakKey L) out single holds = λ e r full. le_trans (count.count_join (same_on L r) p B a b (beside-key B L out r) single e) (holds e r full)
+side-holds p B a b (StrongKey L) out single holds = λ e r. le_trans (count.count_join (same_on L r) p B a b (beside-key B L out r) single e) (holds e r)
 
 pub left-side-holds : (p : Test) (B : ColumnSet) (a b : Bag) (f : Fact) → ((c : ℕ) → has (fact_columns f) c ≡ true → B c ≡ false) → IsSingle p B b → FactHolds a f → FactHolds (left_join p B a b) f
 left-side-holds p B a b (NotNull c) out single holds = λ e. count.count_bad_left (λ r. is_null (r c)) p B a b (beside-null B c (out c (or_left (c == c) false (eq-eqb c c refl)))) e (holds e)
-left-side-holds p B a b (WeakKey L) out single holds = λ e r full. le_next (count.count_left (same_on L r) p B a b (beside-key B L out r) single e) (holds e r full)
-left-side-holds p B a b (StrongKey L) out single holds = λ e r. le_next (count.count_left (same_on L r) p B a b (beside-key B L out r) single e) (holds e r)
+left-side-holds p B a b (WeakKey L) out single holds = λ e r full. le_trans (count.count_left (same_on L r) p B a b (beside-key B L out r) single e) (holds e r full)
+left-side-holds p B a b (StrongKey L) out single holds = λ e r. le_trans (count.count_left (same_on L r) p B a b (beside-key B L out r) single e) (holds e r)
 
 -- the union of a key of each side
 module _ (p : Test) (B : ColumnSet) (a b : Bag) (L M N : List ℕ) (is : is_same_set N (L ++ M) ≡ true) (out : (c : ℕ) → has L c ≡ true → B c ≡ false) (in_ : (c : ℕ) → has M c ≡ true → B c ≡ true) where
@@ -161,20 +159,20 @@ module _ (p : Test) (B : ColumnSet) (a b : Bag) (L M N : List ℕ) (is : is_same
 
   pub strong-union : IsStrongKey L a → IsStrongKey M b → IsStrongKey N (join p B a b)
   strong-union left right e r =
-      le_next (subst (λ n. n ≤ count (same_on L r) (a e)) (sym (count.count_same _ _ (both-keys r) (join p B a b e)))
+      le_trans (subst (λ n. n ≤ count (same_on L r) (a e)) (sym (count.count_same _ _ (both-keys r) (join p B a b e)))
       (count.count_pairs (same_on L r) (same_on M r) p B a b (beside-key B L out r) (λ s t. count.agree_within_set M B in_ r s t) e (right e r))) (left e r)
 
   pub weak-union : IsWeakKey L a → IsWeakKey M b → IsWeakKey N (join p B a b)
   weak-union left right e r full =
-      le_next (subst (λ n. n ≤ count (same_on L r) (a e)) (sym (count.count_same _ _ (both-keys r) (join p B a b e)))
+      le_trans (subst (λ n. n ≤ count (same_on L r) (a e)) (sym (count.count_same _ _ (both-keys r) (join p B a b e)))
       (count.count_pairs (same_on L r) (same_on M r) p B a b (beside-key B L out r) (λ s t. count.agree_within_set M B in_ r s t) e (right e r (full-right r full)))) (left e r (full-left r full))
 
   pub strong-left-union : IsStrongKey L a → IsStrongKey M b → IsStrongKey N (left_join p B a b)
   strong-left-union left right e r =
-      le_next (subst (λ n. n ≤ count (same_on L r) (a e)) (sym (count.count_same _ _ (both-keys r) (left_join p B a b e)))
+      le_trans (subst (λ n. n ≤ count (same_on L r) (a e)) (sym (count.count_same _ _ (both-keys r) (left_join p B a b e)))
       (count.count_padded_pairs (same_on L r) (same_on M r) p B a b (beside-key B L out r) (λ s t. count.agree_within_set M B in_ r s t) e (right e r))) (left e r)
 
   pub weak-left-union : IsWeakKey L a → IsWeakKey M b → IsWeakKey N (left_join p B a b)
   weak-left-union left right e r full =
-      le_next (subst (λ n. n ≤ count (same_on L r) (a e)) (sym (count.count_same _ _ (both-keys r) (left_join p B a b e)))
+      le_trans (subst (λ n. n ≤ count (same_on L r) (a e)) (sym (count.count_same _ _ (both-keys r) (left_join p B a b e)))
       (count.count_padded_pairs (same_on L r) (same_on M r) p B a b (beside-key B L out r) (λ s t. count.agree_within_set M B in_ r s t) e (right e r (full-right r full)))) (left e r (full-left r full))

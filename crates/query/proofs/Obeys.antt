@@ -52,7 +52,7 @@ in-pairs l x (s ∷ R) h = elim (counted-either x (l ++ s) (pairs_of l R) h) [
   | inr c ↦ let found = in-pairs l x R c in (found.0, counted-later found.0 s R found.1, found.2)
 ]
 
-is_true-True : (t : Truth) → is_true t ≡ true → t ≡ True
+pub is_true-True : (t : Truth) → is_true t ≡ true → t ≡ True
 is_true-True True h = refl
 is_true-True Unknown h = cc
 is_true-True False h = cc

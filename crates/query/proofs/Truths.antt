@@ -15,7 +15,7 @@ or-true Unknown Unknown h = cc
 or-true Unknown False h = cc
 or-true False b h = inr h
 
-true-or : (a : Truth) → disjunction a True ≡ True
+pub true-or : (a : Truth) → disjunction a True ≡ True
 true-or True = refl
 true-or Unknown = refl
 true-or False = refl

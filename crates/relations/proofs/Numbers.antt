@@ -10,12 +10,10 @@ use mathlib.Core.List.{map-map}
 use Rattle.algebra.proofs.Sets.{range_more}
 use Rattle.schema.specs.Databases.{Row}
 use Rattle.relations.specs.Parts.{row_at}
+use Rattle.store.proofs.TextPlaces.{range_alike}
+use Rattle.store.proofs.IndexLists.{numbers_more}
 
 -- ---- the numbers up to an end
-
-pub map-each : {Y : Type 0} (f g : ℕ → Y) (a n : ℕ) → ((i : ℕ) → a ≤ i → i < a + n → f i ≡ g i) → map f (range_with_len a n) ≡ map g (range_with_len a n)
-map-each f g a zero same = refl
-map-each f g a (suc n) same = rw (same a (omega arith) (omega arith), map-each f g (a + 1) n (λ i low high. same i (omega (arith, low)) (omega (arith, high)))) refl
 
 pub range-shift : (a n : ℕ) → range_with_len (suc a) n ≡ map suc (range_with_len a n)
 range-shift a zero = refl
@@ -27,18 +25,14 @@ by-number g [] d = refl
 by-number g (x ∷ xs) d =
     ap (λ l. g x ∷ l) (ap (map (λ n. g (get_or (x ∷ xs) n d))) (range-shift 0 (length xs)) ∙ map-map (λ n. g (get_or (x ∷ xs) n d)) suc (range_with_len 0 (length xs)) ∙ by-number g xs d)
 
--- one number more
-pub range_number : (n : ℕ) → range_with_len 0 (n + 1) ≡ range_with_len 0 n ++ n ∷ []
-range_number n = range_more 0 n ∙ ap (λ m. range_with_len 0 n ++ m ∷ []) (zero-add n)
-
 pub map_number : {Y : Type 0} (f : ℕ → Y) (n : ℕ) → map f (range_with_len 0 (n + 1)) ≡ map f (range_with_len 0 n) ++ f n ∷ []
-map_number f n = ap (map f) (range_number n) ∙ map-append f (range_with_len 0 n) (n ∷ [])
+map_number f n = ap (map f) (numbers_more n) ∙ map-append f (range_with_len 0 n) (n ∷ [])
 
 pub filter_number : (p : ℕ → Bool) (n : ℕ) → filter p (range_with_len 0 (n + 1)) ≡ filter p (range_with_len 0 n) ++ (if p n then n ∷ [] else [])
-filter_number p n = ap (filter p) (range_number n) ∙ filter-append p (range_with_len 0 n) (n ∷ [])
+filter_number p n = ap (filter p) (numbers_more n) ∙ filter-append p (range_with_len 0 n) (n ∷ [])
 
 pub any_number : (p : ℕ → Bool) (n : ℕ) → list_any p (range_with_len 0 n) ≡ false → p n ≡ false → list_any p (range_with_len 0 (n + 1)) ≡ false
-any_number p n before here = ap (list_any p) (range_number n) ∙ list_any-append p (range_with_len 0 n) (n ∷ []) ∙ rw (before, here) refl
+any_number p n before here = ap (list_any p) (numbers_more n) ∙ list_any-append p (range_with_len 0 n) (n ∷ []) ∙ rw (before, here) refl
 
 -- one of them settles the answer
 pub any_found : (p : ℕ → Bool) (n end : ℕ) → n < end → p n ≡ true → list_any p (range_with_len 0 end) ≡ true
@@ -46,7 +40,7 @@ any_found p n end below here =
     list_any_at p (range_with_len 0 end) n 0 (let many = length-range_with_len 0 end in omega (arith, below, many)) (ap p (get_or-range_with_len 0 end n 0 below ∙ zero-add n) ∙ here)
 
 pub flat_map_number : {Y : Type 0} (f : ℕ → List Y) (n : ℕ) → flat_map f (range_with_len 0 (n + 1)) ≡ flat_map f (range_with_len 0 n) ++ f n
-flat_map_number f n = ap (flat_map f) (range_number n) ∙ flat_map-append f (range_with_len 0 n) (n ∷ []) ∙ ap (λ l. flat_map f (range_with_len 0 n) ++ l) (append-nil (f n))
+flat_map_number f n = ap (flat_map f) (numbers_more n) ∙ flat_map-append f (range_with_len 0 n) (n ∷ []) ∙ ap (λ l. flat_map f (range_with_len 0 n) ++ l) (append-nil (f n))
 
 -- ---- rows that are chosen
 
@@ -58,7 +52,7 @@ chosen-row (part ∷ parts) numbers k below =
 pub chosen-rows : {Y : Type 0} (f : List Row → Y) (parts : List (List Row)) (numbers : List ℕ)
     → map (λ k. f (row_at (map (λ part. map (λ n. get_or part n []) numbers) parts) k)) (range_with_len 0 (length numbers)) ≡ map (λ n. f (row_at parts n)) numbers
 chosen-rows f parts numbers =
-    map-each (λ k. f (row_at (map (λ part. map (λ n. get_or part n []) numbers) parts) k)) (λ k. f (row_at parts (get_or numbers k 0))) 0 (length numbers) (λ i low high. ap f (chosen-row parts numbers i (omega (arith, high))))
+    range_alike (λ k. f (row_at (map (λ part. map (λ n. get_or part n []) numbers) parts) k)) (λ k. f (row_at parts (get_or numbers k 0))) 0 (length numbers) (λ i low high. ap f (chosen-row parts numbers i (omega (arith, high))))
     ∙ by-number (λ n. f (row_at parts n)) numbers 0
 
 -- rows beside others

@@ -19,11 +19,12 @@ use Rattle.relations.specs.Parts.{cell_rows, row_at, value_in}
 use Rattle.relations.specs.Places.{first_at, own_part, listed, place_in, place_list}
 use Rattle.relations.specs.Relations.{column_places, row_env}
 use Rattle.relations.proofs.ColumnPlaces.{made-row, in-run, projected-row}
-use Rattle.relations.proofs.Numbers.{map-each, by-number}
+use Rattle.relations.proofs.Numbers.{by-number}
+use Rattle.store.proofs.TextPlaces.{range_alike}
 
 -- ---- the rows of a table under its own heading
 
-table-row : (t : TableInstance) (h : Heading) (row : Row) (e : Env) → h.columns ≡ instance_columns t → h.places.items ≡ map first_at (range_with_len 0 (length t.entry.columns)) → row_env h (row ∷ []) e ≡ instance_row t row e
+pub table-row : (t : TableInstance) (h : Heading) (row : Row) (e : Env) → h.columns ≡ instance_columns t → h.places.items ≡ map first_at (range_with_len 0 (length t.entry.columns)) → row_env h (row ∷ []) e ≡ instance_row t row e
 table-row t h row e columns places = λ i c. pointwise c i
   where
     pointwise : (c : ℕ) → row_env h (row ∷ []) e c ≡ instance_row t row e c
@@ -48,7 +49,7 @@ pub made-rows : (h : Heading) (K : List ℕ) (parts : List (List Row)) (made : L
     → map (λ n. row_env h (row_at parts n) e) (range_with_len 0 count) ≡ map (λ f. lay (has K) f e) made
 made-rows h K parts made count e columns places many values =
     ap (λ n. map (λ n. row_env h (row_at parts n) e) (range_with_len 0 n)) (sym many)
-    ∙ map-each (λ n. row_env h (row_at parts n) e) (λ n. lay (has K) (get_or made n nulls) e) 0 (length made)
+    ∙ range_alike (λ n. row_env h (row_at parts n) e) (λ n. lay (has K) (get_or made n nulls) e) 0 (length made)
     (λ i low high. made-row h K (get_or made i nulls) e (row_at parts i) columns places (ap (λ ps. row_at ps i) values ∙ made-cells K made i (omega (arith, high))))
     ∙ by-number (λ (f : Env). lay (has K) f e) made nulls
 

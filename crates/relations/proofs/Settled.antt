@@ -6,16 +6,8 @@ use Rattle.values.specs.declared.truth.Truth.{Truth}
 use Rattle.values.specs.declared.truth.Truth.TheVariants.{True, False, Unknown}
 use Rattle.values.specs.Truth.{disjunction, is_true}
 use Rattle.query.specs.Meaning.{any_of}
-
-pub true-is : (t : Truth) → is_true t ≡ true → t ≡ True
-true-is True h = refl
-true-is False h = cc
-true-is Unknown h = cc
-
-or-true : (t : Truth) → disjunction t True ≡ True
-or-true True = refl
-or-true False = refl
-or-true Unknown = refl
+use Rattle.query.proofs.Obeys.{is_true-True}
+use Rattle.query.proofs.Truths.{true-or}
 
 stays-true : (ts : List Truth) → fold disjunction True ts ≡ True
 stays-true [] = refl
@@ -26,7 +18,7 @@ stays-true (Unknown ∷ ts) = stays-true ts
 settled-from : (f : ℕ → Truth) (t : Truth) (a n i : ℕ) → a ≤ i → i < a + n → f i ≡ True → fold disjunction t (map f (range_with_len a n)) ≡ True
 settled-from f t a zero i low high is = absurd (omega (arith, low, high))
 settled-from f t a (suc n) i low high is = elim (cases_eq i a) [
-  | inl e ↦ ap (λ v. fold disjunction (disjunction t v) (map f (range_with_len (a + 1) n))) (ap f (sym e) ∙ is) ∙ ap (λ v. fold disjunction v (map f (range_with_len (a + 1) n))) (or-true t) ∙ stays-true (map f (range_with_len (a + 1) n))
+  | inl e ↦ ap (λ v. fold disjunction (disjunction t v) (map f (range_with_len (a + 1) n))) (ap f (sym e) ∙ is) ∙ ap (λ v. fold disjunction v (map f (range_with_len (a + 1) n))) (true-or t) ∙ stays-true (map f (range_with_len (a + 1) n))
   | inr ne ↦ settled-from f (disjunction t (f a)) (a + 1) n i (omega (arith, low, ne)) (omega (arith, high)) is
 ]
 

@@ -7,9 +7,6 @@ use Rattle.std.proofs.lemmas.List.{nil_from_length}
 use Rattle.std.proofs.lemmas.List.Sums.{fold-append}
 use Rattle.values.proofs.Lists.{map_next}
 
-pub fold_next : {X Y Z : Type 0} (f : Z → Y → Z) (a : Z) (g : X → Y) (xs : List X) (i : ℕ) (x : X) → i < length xs → x ≡ get_or xs i x → fold f a (map g (take (i + 1) xs)) ≡ f (fold f a (map g (take i xs))) (g x)
-fold_next f a g xs i x h is = ap (fold f a) (map_next g xs i x h is) ∙ fold-append f a (map g (take i xs)) (g x ∷ [])
-
 -- what an iterator over a vector by value has given when nothing is left
 pub yielded-all : {X A : Type 0} (s t : IntoIter X A) (xs : List X) → Yields into_iter_steps s xs t → into_iter_len t ≡ 0 → xs ≡ s.rest.items
 yielded-all s t [] y h = sym (ap into_iter_items y ∙ nil_from_length (into_iter_items t) (sym t.rest.ok.0 ∙ h))

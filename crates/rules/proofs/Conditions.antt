@@ -15,23 +15,12 @@ use Rattle.algebra.proofs.MentionedColumns.{each_has}
 use Rattle.laws.specs.Fitting.{AreFitting}
 use Rattle.laws.specs.Rewriting.{Ignores, IsBoth, AreApart}
 use Rattle.laws.proofs.Mentions.{holds-reads}
+use Rattle.laws.proofs.Ignored.{off, part-passes}
 use Rattle.props.specs.Knowledge.{Knowledge, with_rows}
 use Rattle.rules.specs.declared.shape.Shape.{Shape}
 use Rattle.rules.specs.declared.unfit.Unfit.{Unfit}
 use Rattle.rules.specs.declared.unfit.Unfit.TheVariants.{Condition as FailedCondition}
 use Rattle.rules.specs.Conjuncts.{is_apart_from, wanted_some}
-
--- outside its columns nothing is laid over a row
-off : (B : ColumnSet) (s r : Env) (c : ℕ) → B c ≡ false → lay B s r c ≡ r c
-off B s r c out = rw out refl
-
-pub part-passes : (t : Condition → Bool) (C : List Condition) → list_all t (part t C) ≡ true
-part-passes t [] = refl
-part-passes t (c ∷ C) = by (t c) refl (part-passes t C)
-  where
-    by : (b : Bool) → t c ≡ b → list_all t (part t C) ≡ true → list_all t (if b then c ∷ part t C else part t C) ≡ true
-    by true is later = rw (is, later) refl
-    by false is later = later
 
 module _ (K : Knowledge) (g : ℕ) where
   mentioned-apart : (C : List Condition) → list_all (is_apart_from K g) C ≡ true → (c : ℕ) → mentioned K.columns K.free C c ≡ true → has (K.columns g) c ≡ false

@@ -1,3 +1,4 @@
+pub mod EmptyTables
 pub mod Json
 pub mod Keys
 pub mod Loops

@@ -26,10 +26,10 @@ use Rattle.schema.specs.Spelling.{HasKeys, HasMember, IsText, IsArray, word_of, 
 use Rattle.schema.proofs.Steps.{each_ok, place_ok}
 use Rattle.schema.proofs.Schemas.{some_ok}
 
-ok_same : {A R : Type 0} (x y : A) → ◌≡◌ {A = Result A R} (Ok x) (Ok y) → x ≡ y
+pub ok_same : {A R : Type 0} (x y : A) → ◌≡◌ {A = Result A R} (Ok x) (Ok y) → x ≡ y
 ok_same x y e = cc e
 
-pairs_map : {A B : Type 0} {R S : A → B → Type 0} (f : (x : A) (y : B) → R x y → S x y) (xs : List A) (ys : List B) → Pairs R xs ys → Pairs S xs ys
+pub pairs_map : {A B : Type 0} {R S : A → B → Type 0} (f : (x : A) (y : B) → R x y → S x y) (xs : List A) (ys : List B) → Pairs R xs ys → Pairs S xs ys
 pairs_map f [] [] h = tt
 pairs_map f [] (y ∷ ys) h = absurd h
 pairs_map f (x ∷ xs) [] h = absurd h

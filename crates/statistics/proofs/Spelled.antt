@@ -18,6 +18,7 @@ use Rattle.schema.specs.Spelling.{HasKeys, HasMember, IsArray}
 use Rattle.schema.specs.declared.schema.Table.{Table}
 use Rattle.schema.specs.declared.schema.Schema.{Schema}
 use Rattle.schema.proofs.Steps.{each_ok, pairs_length}
+use Rattle.schema.proofs.Spelled.{ok_same, pairs_map}
 use Rattle.statistics.specs.declared.counts.IndexStatistics.{IndexStatistics}
 use Rattle.statistics.specs.declared.counts.TableStatistics.{TableStatistics}
 use Rattle.statistics.specs.declared.counts.Statistics.{Statistics}
@@ -26,15 +27,6 @@ use Rattle.statistics.specs.declared.fault.StatisticsRefusal.TheVariants.{NotJso
 use Rattle.statistics.specs.Entries.{wanted, json_in, keys_in, member_in, number_in, items_in, index_in, indexes_in, table_in, named_in, tables_in}
 use Rattle.statistics.specs.Reading.{statistics_of}
 use Rattle.statistics.specs.Spelling.{HasNumber, IsIndexText, IsTableText, AreTablesText, IsStatisticsText}
-
-ok_same : {A R : Type 0} (x y : A) → ◌≡◌ {A = Result A R} (Ok x) (Ok y) → x ≡ y
-ok_same x y e = cc e
-
-pairs_map : {A B : Type 0} {R S : A → B → Type 0} (f : (x : A) (y : B) → R x y → S x y) (xs : List A) (ys : List B) → Pairs R xs ys → Pairs S xs ys
-pairs_map f [] [] h = tt
-pairs_map f [] (y ∷ ys) h = absurd h
-pairs_map f (x ∷ xs) [] h = absurd h
-pairs_map f (x ∷ xs) (y ∷ ys) h = (f x y h.0, pairs_map f xs ys h.1)
 
 keys_spelt : (n : ℕ) (d : Data) (u : Unit {0}) → keys_in n d ≡ Ok u → HasKeys n d
 unfolding keys_in

@@ -10,14 +10,6 @@ use Rattle.store.specs.Parsing.{ReadsTable}
 use Rattle.store.specs.Databases.{LoadsTable, Loads}
 use Rattle.schema.specs.Databases.{Row, Database, IsUnique, SatisfiesTable, SatisfyTables, Stored, most_rows}
 
-none_unique : (lists : List (List ℕ)) → AllByRecursion (IsUnique []) lists
-none_unique [] = tt
-none_unique (u ∷ us) = ((λ i j lt low whole same. omega arith), none_unique us)
-
-pub satisfy_empty : (ts : List Table) → SatisfyTables ts (map (λ t. []) ts)
-satisfy_empty [] = tt
-satisfy_empty (t ∷ ts) = (record { few = omega arith; fit = tt; unique = none_unique t.unique }, satisfy_empty ts)
-
 pub satisfy_length : (ts : List Table) (D : Database) → SatisfyTables ts D → length ts ≡ length D
 satisfy_length [] [] h = refl
 satisfy_length [] (r ∷ D) h = absurd h

@@ -10,7 +10,7 @@ use Rattle.values.proofs.Counts.{below_or_last}
 use Rattle.store.specs.Texts.{start_of, text_at, texts_of, AreEnds}
 
 -- two functions that agree on the numbers from a on
-range_alike : {X : Type 0} (f g : ℕ → X) (a n : ℕ) → ((i : ℕ) → a ≤ i → i < a + n → f i ≡ g i) → map f (range_with_len a n) ≡ map g (range_with_len a n)
+pub range_alike : {X : Type 0} (f g : ℕ → X) (a n : ℕ) → ((i : ℕ) → a ≤ i → i < a + n → f i ≡ g i) → map f (range_with_len a n) ≡ map g (range_with_len a n)
 range_alike f g a zero h = refl
 range_alike f g a (suc n) h =
     ap (λ x. x ∷ map f (range_with_len (a + 1) n)) (h a (omega arith) (omega arith))

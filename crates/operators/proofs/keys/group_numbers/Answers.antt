@@ -3,11 +3,11 @@ use Rattle.std.specs.List.{position_or_len, range_with_len}
 use Rattle.indexmap.specs.IndexSet.{insert_key}
 use Rattle.schema.specs.Databases.{Row}
 use Rattle.store.specs.Keys.{key_eq, key_equiv}
+use Rattle.store.proofs.IndexLists.{numbers_more}
 use Rattle.relations.specs.Parts.{row_at}
 use Rattle.operators.specs.Groups.{AreNumbered, added_at, first_seen, groups_by, key_at, same_at, with_founder}
 use Rattle.operators.proofs.FirstSeen.{groups-numbered, founders-more, keys-more, place}
 use Rattle.operators.proofs.NumberedGroups.{numbered-more}
-use Rattle.relations.proofs.Numbers.{range_number}
 use Rattle.operators.proofs.keys.group_numbers.Goals as goal
 
 pub loop-number-preserved : goal.loop-number-preserved
@@ -23,12 +23,12 @@ loop-number-preserved c =
     c.in_ok-group.ensures.index ∙ ap (λ k. position_or_len (key_eq k) c.loop-number.keys.keys) c.new-in-loop-number.ensures ∙ ap (position_or_len (key_eq (key n))) c.loop-number.invariant.keys in
     let many : length numbers ≡ n = c.loop-number.invariant.each in
     let added : groups_by same (range_with_len 0 (n + 1)) ≡ added_at c.in_ok-group.group n (groups_by same before) =
-    ap (groups_by same) (range_number n) ∙ groups-numbered key key_eq key_equiv before n ∙ ap (λ g. added_at g n (groups_by same before)) (sym group) in
+    ap (groups_by same) (numbers_more n) ∙ groups-numbered key key_eq key_equiv before n ∙ ap (λ g. added_at g n (groups_by same before)) (sym group) in
     record {
       keys = c.in_ok-group.ensures.keys ∙ ap (insert_key key_eq c.loop-number.keys.keys) c.new-in-loop-number.ensures ∙ ap (λ ks. insert_key key_eq ks (key n)) c.loop-number.invariant.keys
-          ∙ keys-more key key_eq key_equiv before n ∙ ap (λ l. map key (first_seen same l)) (sym (range_number n));
+          ∙ keys-more key key_eq key_equiv before n ∙ ap (λ l. map key (first_seen same l)) (sym (numbers_more n));
       firsts = c.in_ok-add.ensures.firsts ∙ ap (λ fs. with_founder fs c.in_ok-group.group n) c.loop-number.invariant.firsts ∙ ap (λ g. with_founder (first_seen same before) g n) group
-          ∙ sym (founders-more key key_eq key_equiv before n) ∙ ap (first_seen same) (sym (range_number n));
+          ∙ sym (founders-more key key_eq key_equiv before n) ∙ ap (first_seen same) (sym (numbers_more n));
       numbered = subst (AreNumbered same) (sym c.in_ok-add.ensures.numbers)
           (numbered-more same numbers c.in_ok-group.group c.loop-number.invariant.numbered
           (subst (λ m. groups_by same (range_with_len 0 (m + 1)) ≡ added_at c.in_ok-group.group m (groups_by same (range_with_len 0 m))) (sym many) added));

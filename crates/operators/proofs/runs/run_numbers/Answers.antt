@@ -2,8 +2,8 @@ use Rattle.std.proofs.Common.{◌≡◌, ap, sym, subst, ◌∙◌, ℕ, ◌+◌
 use Rattle.std.specs.List.{range_with_len}
 use Rattle.schema.specs.Databases.{Row}
 use Rattle.store.specs.Keys.{key_eq, key_equiv}
+use Rattle.store.proofs.IndexLists.{numbers_more}
 use Rattle.relations.specs.Parts.{row_at}
-use Rattle.relations.proofs.Numbers.{range_number}
 use Rattle.operators.specs.Groups.{AreNumbered, added_at, first_seen, groups_by, key_at, same_at, with_founder}
 use Rattle.operators.proofs.FirstSeen.{founders-more, groups-numbered, place}
 use Rattle.operators.proofs.NumberedGroups.{numbered-more}
@@ -25,10 +25,10 @@ loop-number-preserved c =
     let next : c.len.result ≡ length (first_seen same before) = omega (arith, c.len.ensures, founders) in
     let is : group ≡ place key key_eq key_equiv before n = c.run_at-group.ensures ∙ run-place key key_eq key_equiv rows.count n c.loop-number.group c.len.result c.requires (omega arith) c.loop-number.invariant.last next in
     let added : groups_by same (range_with_len 0 (n + 1)) ≡ added_at group n (groups_by same before) =
-    ap (groups_by same) (range_number n) ∙ groups-numbered key key_eq key_equiv before n ∙ ap (λ g. added_at g n (groups_by same before)) (sym is) in
+    ap (groups_by same) (numbers_more n) ∙ groups-numbered key key_eq key_equiv before n ∙ ap (λ g. added_at g n (groups_by same before)) (sym is) in
     record {
       firsts = c.in_ok-add.ensures.firsts ∙ ap (λ fs. with_founder fs group n) c.loop-number.invariant.firsts ∙ ap (λ g. with_founder (first_seen same before) g n) is
-          ∙ sym (founders-more key key_eq key_equiv before n) ∙ ap (first_seen same) (sym (range_number n));
+          ∙ sym (founders-more key key_eq key_equiv before n) ∙ ap (first_seen same) (sym (numbers_more n));
       numbered = subst (AreNumbered same) (sym c.in_ok-add.ensures.numbers)
           (numbered-more same numbers group c.loop-number.invariant.numbered
           (subst (λ m. groups_by same (range_with_len 0 (m + 1)) ≡ added_at group m (groups_by same (range_with_len 0 m))) (sym many) added));

@@ -1,9 +1,9 @@
 use Rattle.std.proofs.Common.{ap, sym, ◌∙◌, fold, map, take, arith}
 use Rattle.algebra.specs.declared.condition.Condition.{Condition}
+use Rattle.algebra.proofs.Lists.{fold-next}
 use Rattle.props.specs.declared.outcomes.Truths.{Truths}
 use Rattle.props.specs.Outcomes.{outcomes, null_set, of_and, of_or}
 use Rattle.props.proofs.OutcomeForms.{outcomes-Compare, outcomes-IsNull, outcomes-Not, outcomes-And, outcomes-Or, outcomes-Exists, outcomes-In}
-use Rattle.props.proofs.Steps.{fold-next}
 use Rattle.props.proofs.outcomes.+outcomes.Goals as goal
 
 pub outcomes-returns-in-Compare : goal.outcomes-returns-in-Compare

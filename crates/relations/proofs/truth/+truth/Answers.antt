@@ -4,9 +4,9 @@ use Rattle.values.specs.Truth.{truth_of, conjunction, disjunction}
 use Rattle.algebra.specs.declared.condition.Condition.{Condition}
 use Rattle.algebra.specs.Conditions.{truth}
 use Rattle.algebra.proofs.Truths.{truth-Compare, truth-IsNull, truth-Not, truth-And, truth-Or, truth-Exists, truth-In}
+use Rattle.algebra.proofs.Lists.{fold-next}
 use Rattle.relations.specs.Relations.{env_of, subqueries_given}
 use Rattle.relations.proofs.truth.+truth.Goals as goal
-use Rattle.relations.proofs.Steps.{fold_next}
 
 pub truth-returns-in-IsNull : goal.truth-returns-in-IsNull
 truth-returns-in-IsNull t c =
@@ -51,7 +51,7 @@ all-loop-condition-preserved t c =
     c.and-all.ensures
     ∙ ap (λ (a : Truth). conjunction a c.truth.result) c.loop-condition.invariant
     ∙ ap (conjunction (fold conjunction c.args.first (map true_of (take i c.args.conditions.now)))) c.truth.ensures
-    ∙ sym (fold_next conjunction c.args.first true_of c.args.conditions.now i c.condition-item.result (omega arith) c.condition-item.is)
+    ∙ sym (fold-next conjunction c.args.first true_of c.args.conditions.now i c.condition-item.result (omega arith) c.condition-item.is)
 
 pub any-loop-condition-preserved : goal.any-loop-condition-preserved
 any-loop-condition-preserved t c =
@@ -60,4 +60,4 @@ any-loop-condition-preserved t c =
     c.or-any.ensures
     ∙ ap (λ (a : Truth). disjunction a c.truth.result) c.loop-condition.invariant
     ∙ ap (disjunction (fold disjunction c.args.first (map true_of (take i c.args.conditions.now)))) c.truth.ensures
-    ∙ sym (fold_next disjunction c.args.first true_of c.args.conditions.now i c.condition-item.result (omega arith) c.condition-item.is)
+    ∙ sym (fold-next disjunction c.args.first true_of c.args.conditions.now i c.condition-item.result (omega arith) c.condition-item.is)

@@ -2,8 +2,8 @@ use Rattle.std.proofs.Common.{◌≡◌, ◌∙◌, [], take, sym, ap, arith}
 use Rattle.std.proofs.lemmas.List.{map_push, take_all}
 use Rattle.values.proofs.Lists.{take_next}
 use Rattle.schema.specs.declared.schema.Table.{Table}
+use Rattle.schema.proofs.EmptyTables.{no-rows}
 use Rattle.store.specs.StoredColumns.{Kept}
-use Rattle.store.proofs.Satisfies.{satisfy_empty}
 use Rattle.store.proofs.database.Database.new.Goals as goal
 
 pub loop-entry-preserved : goal.loop-entry-preserved
@@ -16,4 +16,4 @@ loop-entry-preserved c =
 pub invariant_of-result : goal.invariant_of-result
 invariant_of-result c =
     let all = take_all c.loop-entry.entry-index c.as_slice-entry-items.result.now (omega arith) in
-    rw (c.loop-entry.invariant, all, c.as_slice-entry-items.ensures) (satisfy_empty c.args.schema.now.tables)
+    rw (c.loop-entry.invariant, all, c.as_slice-entry-items.ensures) (no-rows c.args.schema.now.tables)
