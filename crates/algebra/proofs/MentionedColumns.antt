@@ -61,9 +61,6 @@ also_same xs ys F G same also k = also k ∙ ap (λ b. has xs k || b) (same k)
 pub also_both : (xs ys zs : List ℕ) (F G H : ColumnSet) → ((k : ℕ) → (F k || G k) ≡ H k) → HasAlso ys xs F → HasAlso zs ys G → HasAlso zs xs H
 also_both xs ys zs F G H same first second k = second k ∙ ap (λ b. b || G k) (first k) ∙ or_assoc (has xs k) (F k) (G k) ∙ ap (λ b. has xs k || b) (same k)
 
-pub also_added : (xs ys : List ℕ) → HasAlso (xs ++ ys) xs (has ys)
-also_added xs ys k = among-append k xs ys
-
 -- what an AND or an OR mentions, gathered part by part
 pub also_parts : (cols : ℕ → List ℕ) (free : ℕ → ColumnSet) (d a b f s : Condition) (more cs : List Condition) (xs ys zs ws : List ℕ)
     → ((k : ℕ) → mentions d cols free k ≡ mentioned cols free (a ∷ b ∷ cs) k) → f ≡ a → s ≡ b → more ≡ cs

@@ -223,5 +223,3 @@ one-noted xs before n own long same g = by (g == n) refl
     ]
 
 -- one entry more without columns
-pub none-more : (xs : List (List ℕ)) (g : ℕ) → columns_at (xs ++ [] ∷ []) g ≡ columns_at xs g
-none-more xs g = one-noted xs xs (length xs) [] refl (λ h. refl) g ∙ sym (none-noted xs (length xs) [] refl (omega arith) g)
