@@ -1,13 +1,15 @@
-// A library with one function.
+//! Plans as text for people: what each node does, by the names of the query, with the rows and the cost that are reckoned of it.
 #![tactic(auto)]
 
-ghost use Rattle.std.specs.Prelude.{◌≡◌};
-ghost use Rattle.explain.specs.Echo.{echo_of};
+mod condition_text;
+pub mod estimate;
+mod names;
+mod naming;
+mod node_text;
+mod parts;
+pub mod plan_text;
+pub mod worked;
 
-// The `ensures` clause is the contract: what `echo` returns is `echo_of` of its argument, a definition
-// in `specs/Echo.antt`, which a caller's clause can cite too.
-pub fn echo(x: usize) -> usize
-    ensures { result ≡ echo_of x }
-{
-    x
-}
+pub use estimate::Estimate;
+pub use naming::Naming;
+pub use plan_text::explain;

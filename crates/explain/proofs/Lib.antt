@@ -1,0 +1,4 @@
+mod ColumnNames
+mod ConditionTexts
+mod PlanTexts
+mod WorkedTexts
