@@ -67,3 +67,8 @@ pub all-below : (p : Plan) (inputs : List Plan) (i depth deeper : ℕ) → input
 all-below p inputs i depth deeper given end deep =
     let root : PlacedNode = record { depth = depth; node = (out-Plan p).node } in
     ap (λ xs. root ∷ nodes_below xs deeper) (take_all i inputs end ∙ given) ∙ ap (λ d. root ∷ nodes_below (out-Plan p).inputs d) deep ∙ sym (nodes-root p depth)
+
+-- the lines of a plan
+pub all-lines : (names : Naming) (estimates : List Estimate) (k : ℕ) (root : PlacedNode) (below nodes : List PlacedNode) (old text : Text) → text ≡ old ++ (line_text names root (estimate_at estimates k) ++ lines_from names estimates (k + 1) below)
+    → root ∷ below ≡ nodes → text ≡ old ++ lines_from names estimates k nodes
+all-lines names estimates k root below nodes old text is all = is ∙ ap (λ ns. old ++ lines_from names estimates k ns) all

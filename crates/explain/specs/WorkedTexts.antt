@@ -1,4 +1,4 @@
--- Texts that are spelled out: of a plan, of each form of condition, and of a node of each operator.
+-- Texts that are spelled out: of columns, of each form of condition, of a plan, of a node of each operator, and of a picture.
 use Rattle.std.specs.Prelude.{◌≡◌, ℕ, pos, negsuc, true, false, List, [], ◌∷◌, codes}
 use Rattle.values.specs.declared.truth.Comparison.TheVariants as by
 use Rattle.values.specs.declared.value.Value.{Value}
@@ -16,13 +16,13 @@ use Rattle.physical.specs.declared.plan.JoinMethod.TheVariants as method
 use Rattle.physical.specs.declared.plan.Matching.TheVariants as matching
 use Rattle.physical.specs.declared.plan.Operator.{Operator}
 use Rattle.physical.specs.declared.plan.Operator.TheVariants.{Scan, IndexScan, Filter, FilterSubqueries, Projection, JoinRows, IndexJoin, GroupRows, DistinctRows}
-use Rattle.physical.specs.declared.plan.Node.{Node}
 use Rattle.physical.specs.declared.plan.Node.TheVariants.{Implements, Sort}
 use Rattle.physical.specs.declared.plan.Plan.{Plan, roll-Plan}
 use Rattle.explain.specs.declared.estimate.Estimate.{Estimate}
 use Rattle.explain.specs.Names.{Text, Naming, column_text}
 use Rattle.explain.specs.ConditionTexts.{condition_text}
 use Rattle.explain.specs.PlanTexts.{node_text, plan_text}
+use Rattle.explain.specs.DotTexts.{dot_text}
 
 -- ---- a query
 
@@ -54,6 +54,9 @@ ColumnsAreSpelled =
 
 abbrev pub same_department : Condition
 same_department = Compare by.Equal (Column 4) (Column 0)
+
+abbrev pub department_same : Condition
+department_same = Compare by.Equal (Column 0) (Column 4)
 
 abbrev pub is_paid : Condition
 is_paid = Compare by.Greater (Column 5) (Literal (value.Int (pos 0)))
@@ -91,8 +94,8 @@ abbrev pub paid_employees : Plan
 paid_employees =
     a_plan (Projection (0 ∷ 3 ∷ []))
     (a_plan (Filter (is_paid ∷ []))
-     (a_plan (JoinRows method.Hash (matching.Left (same_department ∷ []))) (a_plan (Scan 0) [] ∷ a_plan (Scan 1) [] ∷ []) ∷ [])
-     ∷ [])
+    (a_plan (JoinRows method.Hash (matching.Left (same_department ∷ []))) (a_plan (Scan 0) [] ∷ a_plan (Scan 1) [] ∷ []) ∷ [])
+    ∷ [])
 
 abbrev pub estimated : List Estimate
 estimated = an_estimate 2 285 ∷ an_estimate 2 284 ∷ an_estimate 3 281 ∷ an_estimate 3 130 ∷ an_estimate 4 140 ∷ []
@@ -124,7 +127,7 @@ NodesAreSpelled =
     × (reads (Projection (0 ∷ 8 ∷ [])) ≡ codes "cut d.id,SUM(e.pay) rows=2 cost=281")
     × (reads (JoinRows method.NestedLoop (matching.Inner [])) ≡ codes "loop inner true rows=2 cost=281")
     × (reads (JoinRows method.Hash (matching.Anti (same_department ∷ []) [])) ≡ codes "hash anti sure e.dept = d.id maybe true rows=2 cost=281")
-    × (reads (JoinRows method.Hash (matching.Anti [] (same_department ∷ []))) ≡ codes "hash anti sure true maybe e.dept = d.id rows=2 cost=281")
+    × (reads (JoinRows method.Hash (matching.Anti [] (department_same ∷ []))) ≡ codes "hash anti sure true maybe d.id = e.dept rows=2 cost=281")
     × (reads (IndexJoin by_department (matching.Semi (same_department ∷ []))) ≡ codes "iloop semi emp e (e.dept,e.pay) e.dept = d.id rows=2 cost=281")
     × (reads (JoinRows (method.Merge 4 0) (matching.Inner (same_department ∷ []))) ≡ codes "merge e.dept = d.id e.dept = d.id rows=2 cost=281")
     × (reads (GroupRows group.Hash (1 ∷ []) counted) ≡ codes "hgroup d.name COUNT(*),SUM(e.pay) rows=2 cost=281")
@@ -132,3 +135,14 @@ NodesAreSpelled =
     × (reads (DistinctRows group.Hash) ≡ codes "hdistinct rows=2 cost=281")
     × (reads (DistinctRows group.Sorted) ≡ codes "sdistinct rows=2 cost=281")
     × (node_text names (Sort ((record { column = 1; descending = false }) ∷ (record { column = 7; descending = true }) ∷ [])) (an_estimate 2 281) ≡ codes "sort d.name ASC,COUNT(*) DESC rows=2 cost=281")
+
+-- ---- a picture
+
+-- the departments with another name than a backslash or a quote; nothing is reckoned of the scan
+abbrev pub other_departments : Plan
+other_departments = a_plan (Filter (is_named (value.Text (codes "\\ or \"")) ∷ [])) (a_plan (Scan 0) [] ∷ [])
+
+abbrev pub PictureIsSpelled : Type 0
+PictureIsSpelled =
+    dot_text names (an_estimate 2 135 ∷ []) other_departments
+    ≡ codes "digraph plan {\n  n0 [label=\"filter d.name <> '\\\\ or \\\"' rows=2 cost=135\"];\n  n0 -> n1;\n  n1 [label=\"scan dept d rows=0 cost=0\"];\n}\n"

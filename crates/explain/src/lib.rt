@@ -2,6 +2,7 @@
 #![tactic(auto)]
 
 mod condition_text;
+pub mod dot_text;
 pub mod estimate;
 mod names;
 mod naming;
@@ -10,6 +11,7 @@ mod parts;
 pub mod plan_text;
 pub mod worked;
 
+pub use dot_text::dot;
 pub use estimate::Estimate;
 pub use naming::Naming;
 pub use plan_text::explain;

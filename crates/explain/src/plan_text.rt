@@ -11,7 +11,7 @@ use physical::Plan;
 use std::alloc::{AllocError, Global};
 
 /// The estimate of the node with a number; 0 rows at no cost, if there is none.
-fn estimate_at(estimates: &[Estimate], number: usize) -> Estimate
+pub(crate) fn estimate_at(estimates: &[Estimate], number: usize) -> Estimate
     ensures { result ≡ spec.estimate_at estimates.now number }
 {
     match estimates.get(number) {
@@ -21,7 +21,7 @@ fn estimate_at(estimates: &[Estimate], number: usize) -> Estimate
 }
 
 /// The number behind a number, if there is one. A plan with more nodes than that has no room in memory.
-fn one_more(number: usize) -> Result<usize, AllocError>
+pub(crate) fn one_more(number: usize) -> Result<usize, AllocError>
     ensures { IfOk result (λ next. next ≡ number + 1) }
 {
     number.checked_add(1).ok_or(AllocError)

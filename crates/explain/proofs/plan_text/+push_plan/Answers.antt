@@ -1,7 +1,7 @@
-use Rattle.std.proofs.Common.{arith, ap, ◌∙◌, ◌+◌, ◌++◌, length}
+use Rattle.std.proofs.Common.{arith, ap, ◌+◌, length}
 use Rattle.physical.specs.declared.plan.Plan.{out-Plan}
 use Rattle.explain.specs.PlanTexts as spec
-use Rattle.explain.proofs.PlanTexts.{lines-more, next-more, all-below}
+use Rattle.explain.proofs.PlanTexts.{lines-more, next-more, all-below, all-lines}
 use Rattle.explain.proofs.plan_text.+push_plan.Goals as goal
 
 pub loop-input-preserved : goal.loop-input-preserved
@@ -17,7 +17,7 @@ loop-input-preserved t c =
 pub returns-clause-text : goal.returns-clause-text
 returns-clause-text t c =
     let nodes = all-below c.args.plan.now c.as_slice-input-items.result.now c.loop-input.input-index c.args.depth c.in_ok-deeper.deeper c.as_slice-input-items.ensures c.loop-input-test.false c.in_ok-deeper.ensures in
-    c.loop-input.invariant.0 ∙ ap (λ ns. c.args.text.now.items ++ spec.lines_from c.args.names.now c.args.estimates.now c.args.number ns) nodes
+    all-lines c.args.names.now c.args.estimates.now c.args.number _ _ _ c.args.text.now.items c.loop-input.text.items c.loop-input.invariant.0 nodes
 
 pub returns-clause-next : goal.returns-clause-next
 returns-clause-next t c =
