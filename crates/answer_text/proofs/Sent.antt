@@ -54,7 +54,6 @@ pub front_more : (a b c : Option (List ℕ)) (done x total : List ℕ) → Appen
 front_more a b c done x total before (front, rest, is, added) e =
     (done ++ front, rest, sym e ∙ ap (λ (t : List ℕ). done ++ t) is ∙ sym (append_assoc done front rest), appends_more a b c done front before added)
 
--- the text of the rows that are left begins with that of the next row
 -- ---- text that is gathered before it is sent
 
 pub gathered-more : (done sent left gathered more rest total : List ℕ) → gathered ++ more ≡ sent ++ left → done ++ (gathered ++ (more ++ rest)) ≡ total → (done ++ sent) ++ (left ++ rest) ≡ total

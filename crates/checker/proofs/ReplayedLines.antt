@@ -42,7 +42,6 @@ pub framed_line : (q : Query) (E : Log) (line : Line) (n : ℕ) (frame : List Ex
     → line_replays q E line ≡ wanted_if (refusal n OtherLine) b line
 framed_line q E line n frame b stands_there count is framed = rw (framed, is, count, stands_there) refl
 
--- one line more
 -- ---- a certificate
 
 pub certificate_replays : (q : Query) (V : Certificate) (lines : List Line) (E : Log) → lines ≡ V.lines → lines_replay q [] lines ≡ Ok E → fitted_plan q E V.plan ≡ Ok V.plan → replayed q V ≡ Ok V

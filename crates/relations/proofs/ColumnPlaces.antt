@@ -52,7 +52,6 @@ place-sorted (k ∷ columns) (p ∷ places) c (suc i) up h is =
 pub place-at : (columns : List ℕ) (places : List Place) (c i : ℕ) → IsStrictlyIncreasing columns → i < length columns → get_or columns i c ≡ c → place_in columns places c ≡ slice_get places i
 place-at columns places c i up h is = place-sorted columns places c i (sorted_from_strictly_increasing columns up) h is
 
--- what a binary search finds in a rising list
 -- each column has a place, if there is one for each
 pub has-place : (columns : List ℕ) (places : List Place) (c : ℕ) → length places ≡ length columns → is_some (place_in columns places c) ≡ has columns c
 has-place [] places c h = refl
