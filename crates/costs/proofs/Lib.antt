@@ -1,0 +1,7 @@
+pub mod CheaperInputs
+pub mod Cuts
+pub mod PlanEstimates
+pub mod RowsOfLogs
+pub mod SelectivityForms
+pub mod Shares
+pub mod Worked

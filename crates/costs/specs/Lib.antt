@@ -1,0 +1,7 @@
+pub mod Cardinalities
+pub mod Costs
+pub mod Examples
+pub mod Laws
+pub mod Numbers
+pub mod Selectivity
+pub mod Tables

@@ -1,0 +1,15 @@
+//! Cardinalities of classes, and costs of plans.
+#![tactic(auto)]
+
+pub mod cardinalities;
+mod index_conjuncts;
+pub mod monotone;
+pub mod nodes;
+mod numbers;
+pub mod plans;
+mod selectivity;
+mod tables;
+
+pub use cardinalities::Cardinalities;
+pub use nodes::{Estimate, Inputs, node_cost};
+pub use plans::cost;
