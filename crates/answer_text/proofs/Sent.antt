@@ -54,11 +54,6 @@ pub front_more : (a b c : Option (List ℕ)) (done x total : List ℕ) → Appen
 front_more a b c done x total before (front, rest, is, added) e =
     (done ++ front, rest, sym e ∙ ap (λ (t : List ℕ). done ++ t) is ∙ sym (append_assoc done front rest), appends_more a b c done front before added)
 
--- the text of the rows that are left begins with that of the next row
-pub rest_text : (rows : List Row) (i : ℕ) (r : Row) → i < length rows → r ≡ get_or rows i r
-    → rows_text (drop i rows) ≡ row_text default_writer (map field_of r) ++ rows_text (drop (i + 1) rows)
-rest_text rows i r lt at = ap rows_text (drop_next rows i r lt at)
-
 -- ---- text that is gathered before it is sent
 
 pub gathered-more : (done sent left gathered more rest total : List ℕ) → gathered ++ more ≡ sent ++ left → done ++ (gathered ++ (more ++ rest)) ≡ total → (done ++ sent) ++ (left ++ rest) ≡ total

@@ -51,9 +51,6 @@ unfolding numeral
 numeral_has_form zero = inl (refl, refl)
 numeral_has_form (suc n) = glyphs_have_form (digits_of 10 (suc n)) (all_below_base_digits_of 10 (suc n) (omega arith)) (first_digits_of 10 (suc n) (omega arith) (omega arith))
 
-pub numerals_differ : (m n : ℕ) → numeral m ≡ numeral n → m ≡ n
-numerals_differ m n e = sym (numeral_value m) ∙ ap (digits_value 10) e ∙ numeral_value n
-
 -- ---- from a text to its number
 
 glyph_again : (c : ℕ) → digit_value c < 10 → 48 + digit_value c ≡ c

@@ -42,12 +42,6 @@ pub framed_line : (q : Query) (E : Log) (line : Line) (n : ℕ) (frame : List Ex
     → line_replays q E line ≡ wanted_if (refusal n OtherLine) b line
 framed_line q E line n frame b stands_there count is framed = rw (framed, is, count, stands_there) refl
 
--- one line more
-pub line_more : (q : Query) (E : Log) (lines : List Line) (i : ℕ) (line : Line) → i < length lines → line ≡ get_or lines i line → line_replays q E line ≡ Ok line
-    → lines_replay q E (drop i lines) ≡ lines_replay q (line ∷ E) (drop (i + 1) lines)
-line_more q E lines i line lt is stands_there =
-    ap (lines_replay q E) (drop_next lines i line lt is) ∙ ap (λ r. r >>= (λ l. lines_replay q (l ∷ E) (drop (i + 1) lines))) stands_there
-
 -- ---- a certificate
 
 pub certificate_replays : (q : Query) (V : Certificate) (lines : List Line) (E : Log) → lines ≡ V.lines → lines_replay q [] lines ≡ Ok E → fitted_plan q E V.plan ≡ Ok V.plan → replayed q V ≡ Ok V

@@ -41,14 +41,6 @@ distinct-by (r ∷ L) = ap (λ ys. r ∷ filter (λ s. not (same_rows r s)) ys) 
 
 -- ---- all of a set
 
-all-insert : (p : ℕ → Bool) (c : ℕ) (ks : List ℕ) → list_all p (insert c ks) ≡ (p c && list_all p ks)
-all-insert p c [] = refl
-all-insert p c (k ∷ ks) =
-    let P : List ℕ → Type 0 = λ ls. list_all p ls ≡ (p c && (p k && list_all p ks)) in
-    cond_both (nat_lt c k) (c ∷ k ∷ ks) (if c == k then k ∷ ks else k ∷ insert c ks) P (λ before. refl) (λ after. cond_both (c == k) (k ∷ ks) (k ∷ insert c ks) P
-    (λ is. and-twice (p k) (list_all p ks) ∙ ap (λ z. p z && (p k && list_all p ks)) (sym (eqb-true c k is)))
-    (λ isnt. ap (λ b. p k && b) (all-insert p c ks) ∙ and-turn (p k) (p c) (list_all p ks)))
-
 -- ---- items
 
 -- the rows h of things x, in the environment e, show each item as sh does; and e itself shows what isn't the block's own

@@ -221,5 +221,3 @@ one-noted xs before n own long same g = by (g == n) refl
       | inl lt ↦ get_or_append_left xs (own ∷ []) [] g lt ∙ same g
       | inr le ↦ get_or_past (xs ++ own ∷ []) g [] (past (λ i. let is = eq-eqb g n i in cc) le) ∙ sym (get_or_past xs g [] le) ∙ same g
     ]
-
--- one entry more without columns

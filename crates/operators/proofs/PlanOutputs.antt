@@ -133,7 +133,3 @@ given-rows (h ∷ classes) (p ∷ inputs) (s ∷ relations) r all g = by (h == g
 
 pub same-holds : (classes : List ℕ) (C : List Condition) (inputs : List Output) (relations : List Relation) (r : Env) → AreOutputs inputs r relations → holds (given classes relations) C r ≡ holds (subquery_rows classes inputs) C r
 same-holds classes C inputs relations r all = same-all (given classes relations) (subquery_rows classes inputs) r (given-rows classes inputs relations r all) C
-
--- the classes may be given as those that the conditions name
-pub named-holds : (C : List Condition) (classes : List ℕ) (inputs : List Output) (r : Env) (b : Bool) → b ≡ holds (subquery_rows classes inputs) C r → classes ≡ classes_in C → b ≡ holds (subquery_rows (classes_in C) inputs) C r
-named-holds C classes inputs r b reported same = reported ∙ ap (λ gs. holds (subquery_rows gs inputs) C r) same

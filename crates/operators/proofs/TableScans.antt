@@ -11,7 +11,6 @@ use Rattle.physical.specs.Indexes.{columns_of_index, index_columns}
 use Rattle.relations.specs.declared.headings.Heading.{Heading}
 use Rattle.relations.specs.Places.{first_at}
 use Rattle.relations.specs.Relations.{row_env}
-use Rattle.relations.proofs.RelationRows.{table-rows, table-row}
 use Rattle.index_access.specs.Cuts.{AreByIndex}
 use Rattle.index_access.proofs.TableIndexes.{index_sorts}
 use Rattle.operators.specs.Sources.{AreTableRows, IsAccessed, IsIndexOf, table_rows}

@@ -8,6 +8,5 @@ pub mod Places
 pub mod SingleMatches
 pub mod SoundFacts
 pub mod SoundOutcomes
-pub mod Steps
 pub mod TableFacts
 pub mod Unions

@@ -52,15 +52,6 @@ place-sorted (k ∷ columns) (p ∷ places) c (suc i) up h is =
 pub place-at : (columns : List ℕ) (places : List Place) (c i : ℕ) → IsStrictlyIncreasing columns → i < length columns → get_or columns i c ≡ c → place_in columns places c ≡ slice_get places i
 place-at columns places c i up h is = place-sorted columns places c i (sorted_from_strictly_increasing columns up) h is
 
--- what a binary search finds in a rising list
-pub found-number : (columns : List ℕ) (c i : ℕ) → IsStrictlyIncreasing columns → IsBinarySearchResult (λ y. nat_cmp y c) columns (Ok i) → (i < length columns) × (get_or columns i c ≡ c)
-found-number columns c i rises h =
-    let found = searched columns c (Ok i) h (λ j k le lt. elim (cases_eq j k) [
-      | inl e ↦ rw e (omega arith)
-      | inr ne ↦ let below : get_or columns j 0 < get_or columns k 0 = below_from_sorted columns j k 0 (sorted_from_strictly_increasing columns rises) (omega (arith, le, ne)) lt in omega (arith, below)
-    ]) in
-    (found.0, get_or_default columns i c 0 found.0 ∙ found.1)
-
 -- each column has a place, if there is one for each
 pub has-place : (columns : List ℕ) (places : List Place) (c : ℕ) → length places ≡ length columns → is_some (place_in columns places c) ≡ has columns c
 has-place [] places c h = refl
@@ -82,9 +73,6 @@ pub other-column : (h : Heading) (row : List Row) (e : Env) (c : ℕ) → None �
 other-column h row e c is =
     let absent : has h.columns c ≡ false = sym (has-place h.columns h.places.items c h.whole) ∙ ap is_some (sym is) in
     ap (λ b. if b then value_in (column_place h c) row else e c) absent
-
-pub row-outside : (h : Heading) (row : List Row) (e : Env) (c : ℕ) → has h.columns c ≡ false → row_env h row e c ≡ e c
-row-outside h row e c absent = ap (λ b. if b then value_in (column_place h c) row else e c) absent
 
 -- ---- rows whose columns stand in order
 

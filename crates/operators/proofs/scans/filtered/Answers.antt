@@ -4,12 +4,12 @@ use Rattle.algebra.specs.Bags.{Env}
 use Rattle.algebra.specs.Conditions.{holds}
 use Rattle.physical.specs.Outputs.{no_classes}
 use Rattle.relations.specs.Relations.{env_of, numbered_env, numbers_of}
-use Rattle.joins.proofs.Outputs.{chosen-output}
 use Rattle.operators.proofs.scans.filtered.Goals as goal
+use Rattle.index_access.proofs.Sorting.{reported}
 
 pub returns : goal.returns
 returns c =
     let e = env_of c.args.env.now in
     let row : ℕ → Env = numbered_env c.args.input e in
-    chosen-output c.chosen.result _ _ _ e c.chosen.ensures.columns (c.chosen.ensures.rows e)
+    reported c.chosen.result _ _ _ e c.chosen.ensures.columns (c.chosen.ensures.rows e)
     (ap (map row) (c.as_slice.ensures.value ∙ c.in_ok-kept.ensures) ∙ sym (filter-map (holds no_classes c.args.conditions.now) row (numbers_of c.args.input)))

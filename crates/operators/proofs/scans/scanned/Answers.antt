@@ -9,9 +9,8 @@ use Rattle.relations.specs.declared.headings.Place.{Place}
 use Rattle.relations.specs.Parts.{row_at}
 use Rattle.relations.specs.Places.{first_at}
 use Rattle.relations.specs.Relations.{row_env}
-use Rattle.relations.proofs.RelationRows.{first-within, table-rows}
+use Rattle.relations.proofs.RelationRows.{first-within, table-rows, table-row}
 use Rattle.operators.specs.Sources.{AreTableRows}
-use Rattle.operators.proofs.TableScans.{table-row}
 use Rattle.operators.proofs.scans.scanned.Goals as goal
 
 pub invariant_of-result : goal.invariant_of-result

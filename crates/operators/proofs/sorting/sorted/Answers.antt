@@ -3,8 +3,8 @@ use Rattle.algebra.specs.Bags.{Env}
 use Rattle.physical.specs.declared.plan.OrderKey.{OrderKey}
 use Rattle.physical.specs.Sorts.{keys_order, put_sorted, sorted}
 use Rattle.relations.specs.Relations.{env_of, numbered_env, rows_of}
-use Rattle.joins.proofs.Outputs.{chosen-output}
 use Rattle.operators.proofs.sorting.sorted.Goals as goal
+use Rattle.index_access.proofs.Sorting.{reported}
 
 put-first : (r : Env) (rows : List Env) → put_sorted (keys_order []) r rows ≡ r ∷ rows
 put-first r [] = refl
@@ -24,5 +24,5 @@ returns-in-None c = record { columns_are = refl; rows_are = no-keys c.args.keys.
 pub returns-in_ok-numbers-in-Some : goal.returns-in_ok-numbers-in-Some
 returns-in_ok-numbers-in-Some c =
     let e = env_of c.args.env.now in
-    chosen-output c.chosen.result _ _ _ e c.chosen.ensures.columns (c.chosen.ensures.rows e)
+    reported c.chosen.result _ _ _ e c.chosen.ensures.columns (c.chosen.ensures.rows e)
     (ap (λ (ns : List ℕ). map (numbered_env c.args.input e) ns) c.as_slice.ensures.value ∙ c.in_ok-numbers-in-Some.ensures ∙ ap (λ (ks : List OrderKey). sorted (keys_order ks) (rows_of c.args.input e)) (sym c.in-Some.ensures.cases.0))

@@ -1,0 +1,96 @@
+#!/usr/bin/env python3
+"""Times `Statistics::of` beside the load of the same tables: a million employees with four indexes, and dept. The program of
+statistics/main.rt.txt, in a clone, is proved and built by `rt run`, and then run by itself, once loading alone and once counting too.
+
+Prints processor time (user and system) and peak memory of the whole process, the least of five runs, and what counting adds. What is
+counted is compared with counts of this script's own.
+
+usage: statistics.py [--tree PATH] [ROWS]
+"""
+import csv
+import json
+import os
+import pathlib
+import shutil
+import subprocess
+import sys
+import tempfile
+
+ROOT = pathlib.Path(__file__).resolve().parent.parent
+NAME = "statistics_bench"
+# By name: what is unique, and the indexes. `lasting` has an index that holds a unique list without Nulls, which needs no pass.
+SCHEMAS = {
+    "one index a column": ([["id"]], [["id"], ["dept"], ["pay"], ["badge"]]),
+    "no key for free": ([["badge"]], [["dept"], ["pay"], ["badge"], ["dept", "pay"]]),
+}
+RUNS = 5
+
+
+def schema(unique, indexes):
+    column = lambda name: {"name": name, "kind": "INT", "not_null": name == "id"}
+    emp = {"name": "emp", "columns": [column(name) for name in ("id", "dept", "pay", "badge")], "unique": unique, "indexes": indexes}
+    return json.dumps({"tables": [emp]})
+
+
+def built(tree):
+    """The program, built in a tree of the repository."""
+    crate = tree / "crates" / NAME
+    (crate / "src").mkdir(parents=True)
+    shutil.copy(ROOT / "bench/statistics/main.rt.txt", crate / "src/main.rt")
+    with open(tree / "crates.txt", "a", encoding="utf-8") as listed:
+        listed.write(f"{NAME}: values schema store statistics anyhow\n")
+    subprocess.run(["rt", "run"], cwd=crate, check=True, stdin=subprocess.DEVNULL, stdout=subprocess.DEVNULL)
+    return crate / "out" / NAME
+
+
+def measured(program, way, file, folder):
+    """Seconds, MB and the answer of one run."""
+    reader, writer = os.pipe()
+    os.write(writer, f"{way}\n{file}\n{folder}\n".encode())
+    os.close(writer)
+    child = subprocess.Popen([program], stdin=reader, stdout=subprocess.PIPE)
+    os.close(reader)
+    answer = child.stdout.read().decode()
+    _, status, usage = os.wait4(child.pid, 0)
+    assert status == 0, answer
+    return usage.ru_utime + usage.ru_stime, usage.ru_maxrss / 1000, answer
+
+
+def counted(folder, indexes):
+    """The lines that the program writes, by this script."""
+    with open(folder / "emp.csv", newline="") as file:
+        header, *rows = csv.reader(file)
+    lines = [f"{len(rows)} {-(-len(rows) // 50)}"]
+    for index in indexes:
+        places = [header.index(name) for name in index]
+        keys = {tuple(row[place] for place in places) for row in rows}
+        lines.append(f"{len(keys)} {-(-len(rows) // 100)}")
+    return "".join(line + "\n" for line in lines)
+
+
+def main():
+    words = sys.argv[1:]
+    rows = next((word for place, word in enumerate(words) if word.isdigit() and (place == 0 or words[place - 1] != "--tree")), "1000000")
+    with tempfile.TemporaryDirectory() as room:
+        room = pathlib.Path(room)
+        tree = room / "tree"
+        if "--tree" in words:
+            shutil.copytree(words[words.index("--tree") + 1], tree, symlinks=True)
+        else:
+            subprocess.run(["git", "clone", "-q", ROOT, tree], check=True)
+        program = built(tree)
+        data = room / "data"
+        subprocess.run([sys.executable, ROOT / "bench/make_emp.py", data, rows], check=True)
+        for name, (unique, indexes) in SCHEMAS.items():
+            file = room / "schema.json"
+            file.write_text(schema(unique, indexes), encoding="utf-8")
+            load = [measured(program, "load", file, data) for _ in range(RUNS)]
+            count = [measured(program, "count", file, data) for _ in range(RUNS)]
+            assert count[0][2] == counted(data, indexes), count[0][2]
+            loading, counting = min(run[0] for run in load), min(run[0] for run in count)
+            memory = [min(run[1] for run in runs) for runs in (load, count)]
+            print(f"{name}: load {loading:.3f} s {memory[0]:.0f} MB; with counting {counting:.3f} s {memory[1]:.0f} MB; {(counting - loading) / loading:.2f} of the load more")
+
+
+if __name__ == "__main__":
+    main()

@@ -1,0 +1,5 @@
+mod ColumnNames
+mod ConditionTexts
+mod DotTexts
+mod PlanTexts
+mod WorkedTexts

@@ -1,0 +1,17 @@
+//! Plans as text for people: what each node does, by the names of the query, with the rows and the cost that are reckoned of it.
+#![tactic(auto)]
+
+mod condition_text;
+pub mod dot_text;
+pub mod estimate;
+mod names;
+mod naming;
+mod node_text;
+mod parts;
+pub mod plan_text;
+pub mod worked;
+
+pub use dot_text::dot;
+pub use estimate::Estimate;
+pub use naming::Naming;
+pub use plan_text::explain;
