@@ -7,4 +7,5 @@ pub mod FrameLines
 pub mod Operators
 pub mod Ordered
 pub mod OrderKeys
+pub mod ReplayedLines
 pub mod StoredPlans

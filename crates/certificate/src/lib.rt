@@ -5,6 +5,7 @@
 pub mod certificate;
 mod index_fit;
 mod join_fit;
+pub mod judging;
 mod needed;
 pub mod order_by;
 mod order_fit;
@@ -12,5 +13,6 @@ pub mod plan_fit;
 pub mod soundness;
 
 pub use certificate::{Certificate, CheckFault, CheckReason, CheckRefusal};
+pub use judging::judge;
 pub use order_by::query_order;
 pub use plan_fit::fit;

@@ -5,17 +5,13 @@ ghost use Rattle.values.specs.Faults.{Gives};
 ghost use Rattle.query.specs.Bound.{IsBoundOver, TablesAreOver};
 ghost use Rattle.certificate.specs.Replay.{replayed, IsChecked};
 
-use crate::replay::{own_aggregates, replay};
-use certificate::{Certificate, CheckFault, fit};
-use frame::frame_of;
-use query::ids::id_of;
+use certificate::{Certificate, CheckFault, judge};
 use query::{BoundQuery, Query};
 use schema::Schema;
 use std::alloc::Global;
 use std::marker::Model;
 
 /// The check of a certificate against its query's tree.
-#[tactic(auto, unfolding(certificate::specs::Replay::replayed))]
 fn accepted<'a>(
     alloc: Global,
     schema: &'a Schema,
@@ -26,13 +22,7 @@ fn accepted<'a>(
     ensures verdict { Gives (λ c. c.certificate) result (replayed query.now certificate.now) }
     ensures of { IfOk result (λ c. (c.schema ≡ schema.now) × (c.query ≡ query.now)) }
 {
-    let frame = frame_of(alloc, query)?;
-    let own = own_aggregates(alloc, frame.as_slice())?;
-    let lines = certificate.lines.as_slice();
-    let log = replay(alloc, query, frame.as_slice(), own.as_slice(), lines)?;
-    let last = frame.len() - 1;
-    let root = id_of(last)?;
-    fit(alloc, query, root, &log, &certificate.plan)?;
+    judge(alloc, query, certificate)?;
     Ok(Checked {
         schema,
         query,

@@ -2,6 +2,5 @@
 #![tactic(auto)]
 
 pub mod checked;
-mod replay;
 
 pub use checked::{Checked, check};

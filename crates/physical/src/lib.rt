@@ -4,6 +4,7 @@
 //! (specs/Orders).
 #![tactic(auto)]
 
+mod copies;
 pub mod indexes;
 pub mod laws;
 pub mod node_orders;

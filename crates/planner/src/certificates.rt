@@ -118,7 +118,7 @@ fn lines_of(alloc: Global, frame: Items<Expr>) -> Result<Items<Line>, AllocError
 }
 
 /// The canonical certificate of a query's tree.
-fn certificate_of(alloc: Global, query: &Query) -> Result<Certificate, AllocError>
+pub(crate) fn certificate_of(alloc: Global, query: &Query) -> Result<Certificate, AllocError>
     requires { is_bound query.now ≡ true }
     ensures canonical { IfOk result (spec.IsCanonical query.now) }
     ensures replays { IfOk result (λ certificate. replayed query.now certificate ≡ Ok certificate) }

@@ -1,16 +1,8 @@
-use Rattle.std.proofs.Common.{◌≡◌, ap, ◌∙◌, ◌<◌, ◌-◌, subst, length, arith, Ok}
-use Rattle.frame.specs.Frames.{query_frame}
-use Rattle.frame.proofs.FormedQueries.{frames_formed}
 use Rattle.certificate.proofs.Answers.{checked}
-use Rattle.checker.proofs.ReplayedLines.{certificate_replays}
 use Rattle.checker.proofs.checked.accepted.Goals as goal
 
-pub overflow_sub-last : goal.overflow_sub-last
-overflow_sub-last c =
-    let some : 0 < length (query_frame c.args.query.now) = (frames_formed c.args.query.now c.requires.bound).some in
-    rw (c.len-last.ensures, c.in_ok-frame.ensures.lines) (omega (arith, some))
+pub judge-requires : goal.judge-requires
+judge-requires c = c.requires.bound
 
 pub invariant_of-result : goal.invariant_of-result
-invariant_of-result c =
-    checked c.args.schema.now c.args.query.now c.requires c.args.certificate.now
-    (certificate_replays c.args.query.now c.args.certificate.now c.as_slice-lines.result.now c.in_ok-log.log.log c.as_slice-lines.ensures c.in_ok-log.ensures.verdict c.in_ok-fit.ensures)
+invariant_of-result c = checked c.args.schema.now c.args.query.now c.requires c.args.certificate.now c.in_ok-judge.ensures

@@ -1,7 +1,8 @@
-//! The lines of a certificate, one behind the other.
+//! Certificates against their queries: their lines one behind the other, and then their plans.
 
-ghost use Rattle.std.specs.Prelude.{◌≡◌, [], option_map, flat_map, slice_get, IfOk, OnOk, Result};
+ghost use Rattle.std.specs.Prelude.{◌≡◌, [], true, option_map, flat_map, slice_get, IfOk, OnOk, Result};
 ghost use Rattle.values.specs.Faults.{Fails, Gives};
+ghost use Rattle.query.specs.Bound.{is_bound};
 ghost use Rattle.frame.specs.Frames.{query_frame};
 ghost use Rattle.frame.specs.FormedFrames.{group_aggregates, own_aggregates};
 ghost use Rattle.certificate.specs.Replay as spec;
@@ -9,12 +10,14 @@ ghost use Rattle.derivation.specs.declared.line.Line.{Line};
 ghost use Rattle.derivation.specs.declared.line.LineReason.{LineReason};
 ghost use Rattle.logs.specs.Logged.{with_line};
 
+use crate::certificate::{Certificate, CheckFault, CheckReason};
+use crate::plan_fit::{fit, refused};
 use algebra::{Aggregation, Expr};
-use certificate::plan_fit::refused;
-use certificate::{CheckFault, CheckReason};
 use derivation::Line;
+use frame::frame_of;
 use logs::{LineFault, Log};
 use query::Query;
+use query::ids::id_of;
 use std::alloc::{AllocError, Global};
 use values::Fault;
 
@@ -88,7 +91,7 @@ fn push_line(
 }
 
 /// The log of the lines, whose first ones are those of the query's frame.
-pub fn replay<'q>(
+fn replay<'q>(
     alloc: Global,
     query: &'q Query,
     frame: &[Expr],
@@ -108,4 +111,21 @@ pub fn replay<'q>(
         return Err(refused(lines.len(), CheckReason::OtherLine));
     }
     Ok(log)
+}
+
+/// Whether a certificate replays for a query, and else its first fault: lines go before nodes. Whoever makes certificates can ask it, and the
+/// check does.
+#[tactic(auto, unfolding(crate::specs::Replay::replayed))]
+pub fn judge(alloc: Global, query: &Query, certificate: &Certificate) -> Result<(), CheckFault>
+    requires { is_bound query.now ≡ true }
+    ensures { Gives (λ _. certificate.now) result (spec.replayed query.now certificate.now) }
+{
+    let frame = frame_of(alloc, query)?;
+    let own = own_aggregates(alloc, frame.as_slice())?;
+    let lines = certificate.lines.as_slice();
+    let log = replay(alloc, query, frame.as_slice(), own.as_slice(), lines)?;
+    let last = frame.len() - 1;
+    let root = id_of(last)?;
+    fit(alloc, query, root, &log, &certificate.plan)?;
+    Ok(())
 }

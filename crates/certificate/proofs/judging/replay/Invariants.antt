@@ -1,7 +1,7 @@
 use Rattle.std.proofs.Common.{◌≡◌, length, drop, []}
 use Rattle.frame.specs.FormedFrames.{own_aggregates}
 use Rattle.certificate.specs.Replay.{lines_replay}
-use Rattle.checker.proofs.replay.replay.Given as goal
+use Rattle.certificate.proofs.judging.replay.Given as goal
 
 abbrev pub invariant-loop-line : goal.invariant-loop-line
 invariant-loop-line l = record {

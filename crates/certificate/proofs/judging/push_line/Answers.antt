@@ -7,8 +7,8 @@ use Rattle.derivation.specs.Replay.{stands}
 use Rattle.certificate.specs.declared.certificate.CheckRefusal.{CheckRefusal}
 use Rattle.certificate.specs.declared.certificate.CheckReason.TheVariants.{OtherLine}
 use Rattle.certificate.specs.Replay.{refusal, at_line, line_replays}
-use Rattle.checker.proofs.ReplayedLines.{stands_as, refused_line, framed_line}
-use Rattle.checker.proofs.replay.push_line.Goals as goal
+use Rattle.certificate.proofs.ReplayedLines.{stands_as, refused_line, framed_line}
+use Rattle.certificate.proofs.judging.push_line.Goals as goal
 
 pub returns-in-Err-clause-verdict : goal.returns-in-Err-clause-verdict
 returns-in-Err-clause-verdict c =
