@@ -1,4 +1,4 @@
-//! What a plan reads: the tables, and those of their indexes that it scans or joins by, each sorted once.
+//! What a plan reads: the tables, and those of their indexes that it reads again and again, each sorted once.
 
 ghost use Rattle.std.specs.Prelude.{◌≡◌, [], slice_index_or, IfOk, IfSome, IsTrue};
 ghost use Rattle.store.specs.Indexes.{IsIndex};
@@ -59,17 +59,45 @@ pub struct Sources<'q, 't> {
     pub tables: &'q IndexedTables<'t>,
 }
 
-/// The indexes by which a plan scans or joins.
-fn push_accesses(plan: &Plan, accesses: &mut Vec<IndexAccess>) -> Result<(), AllocError> {
-    if let Node::Implements {
-        operator: Operator::IndexScan { access, .. } | Operator::IndexJoin { access, .. },
-        ..
-    } = &plan.node
-    {
-        accesses.push(*access)?;
+/// The index that a node reads, if it reads one.
+fn access_of(node: &Node) -> Option<IndexAccess> {
+    match node {
+        Node::Implements {
+            operator: Operator::IndexScan { access, .. } | Operator::IndexJoin { access, .. },
+            ..
+        } => Some(*access),
+        _ => None,
     }
-    for input in plan.inputs.as_slice() {
-        push_accesses(input, accesses)?;
+}
+
+/// Whether the inputs of a node behind the first are run at each row of it.
+fn has_subqueries(node: &Node) -> bool {
+    matches!(
+        node,
+        Node::Implements {
+            operator: Operator::FilterSubqueries { .. },
+            ..
+        }
+    )
+}
+
+/// The indexes by which a plan scans or joins again and again, in subqueries. One that is read once isn't worth its sort: the rows that a scan
+/// keeps are sorted, and a join goes by hash.
+fn push_accesses(
+    plan: &Plan,
+    is_repeated: bool,
+    accesses: &mut Vec<IndexAccess>,
+) -> Result<(), AllocError> {
+    if is_repeated {
+        if let Some(access) = access_of(&plan.node) {
+            accesses.push(access)?;
+        }
+    }
+    let inputs = plan.inputs.as_slice();
+    let has_subqueries = has_subqueries(&plan.node);
+    for place in 0..inputs.len() {
+        let is_repeated = is_repeated || (has_subqueries && place > 0);
+        push_accesses(&inputs[place], is_repeated, accesses)?;
     }
     Ok(())
 }
@@ -109,7 +137,7 @@ fn missing_index(
 }
 
 impl<'t> IndexedTables<'t> {
-    /// The tables, with the indexes by which a plan scans or joins.
+    /// The tables, with the indexes by which a plan scans or joins in subqueries.
     pub fn for_plan(
         alloc: Global,
         tables: &'t [Table],
@@ -119,7 +147,7 @@ impl<'t> IndexedTables<'t> {
         ensures { IfOk result (λ t. t ≡ tables.entry.now) }
     {
         let mut accesses = Vec::new(alloc);
-        push_accesses(plan, &mut accesses)?;
+        push_accesses(plan, false, &mut accesses)?;
         let mut indexes = Vec::new(alloc);
         for access in accesses.as_slice() {
             if let Some(index) = missing_index(

@@ -102,6 +102,7 @@ unprepared_refused schema text S inputs (refusal.Scope r) is h = (S, is, h)
 unprepared_refused schema text S inputs (refusal.Table n r) is h = (S, h.0, record { is_schema = is; is_query = h.1 }, h.2)
 unprepared_refused schema text S inputs (refusal.TableDevice n) is h = (S, h.0, record { is_schema = is; is_query = h.1 }, h.2)
 unprepared_refused schema text S inputs (refusal.Schema r) is h = absurd h
+unprepared_refused schema text S inputs (refusal.Statistics r) is h = absurd h
 unprepared_refused schema text S inputs (refusal.Certificate r) is h = absurd h
 unprepared_refused schema text S inputs (refusal.Check r) is h = absurd h
 unprepared_refused schema text S inputs refusal.Output is h = absurd h
@@ -114,6 +115,7 @@ unprepared_device text S inputs old new o (refusal.Scope r) h d = (d.0, refl)
 unprepared_device text S inputs old new o (refusal.Table n r) h d = (d.0, refl)
 unprepared_device text S inputs old new o (refusal.TableDevice n) h d = (d.0, refl)
 unprepared_device text S inputs old new o (refusal.Schema r) h d = absurd h
+unprepared_device text S inputs old new o (refusal.Statistics r) h d = absurd h
 unprepared_device text S inputs old new o (refusal.Certificate r) h d = absurd h
 unprepared_device text S inputs old new o (refusal.Check r) h d = absurd h
 unprepared_device text S inputs old new o refusal.Output h d = absurd h
@@ -127,6 +129,7 @@ answer_refused schema text S q d inputs o p (refusal.Scope r) is ready h = absur
 answer_refused schema text S q d inputs o p (refusal.Table n r) is ready h = absurd h
 answer_refused schema text S q d inputs o p (refusal.TableDevice n) is ready h = absurd h
 answer_refused schema text S q d inputs o p (refusal.Schema r) is ready h = absurd h
+answer_refused schema text S q d inputs o p (refusal.Statistics r) is ready h = absurd h
 answer_refused schema text S q d inputs o p (refusal.Certificate r) is ready h = absurd h
 answer_refused schema text S q d inputs o p (refusal.Check r) is ready h = absurd h
 
@@ -138,6 +141,7 @@ answer_device old new o p (refusal.Scope r) quiet h = absurd h
 answer_device old new o p (refusal.Table n r) quiet h = absurd h
 answer_device old new o p (refusal.TableDevice n) quiet h = absurd h
 answer_device old new o p (refusal.Schema r) quiet h = absurd h
+answer_device old new o p (refusal.Statistics r) quiet h = absurd h
 answer_device old new o p (refusal.Certificate r) quiet h = absurd h
 answer_device old new o p (refusal.Check r) quiet h = absurd h
 
@@ -150,5 +154,6 @@ answer_after o p (refusal.Scope r) h before = h
 answer_after o p (refusal.Table n r) h before = h
 answer_after o p (refusal.TableDevice n) h before = h
 answer_after o p (refusal.Schema r) h before = h
+answer_after o p (refusal.Statistics r) h before = absurd h
 answer_after o p (refusal.Certificate r) h before = h
 answer_after o p (refusal.Check r) h before = h

@@ -1,4 +1,5 @@
 pub mod Acceptance
 pub mod Answered
 pub mod Loaded
+pub mod Planning
 pub mod Prepared

@@ -57,6 +57,7 @@ IsNotAnswered S q c inputs refusal.Output = IsChecked S q c × AllReported S inp
 IsNotAnswered S q c inputs (refusal.Schema r) = ⊥
 IsNotAnswered S q c inputs (refusal.Text r) = ⊥
 IsNotAnswered S q c inputs (refusal.Scope r) = ⊥
+IsNotAnswered S q c inputs (refusal.Statistics r) = ⊥
 IsNotAnswered S q c inputs (refusal.Certificate r) = ⊥
 
 -- a query is asked, against which the certificate that the bytes are the text of is refused
@@ -73,6 +74,7 @@ IsNotAccepted schema text certificate refusal.Memory = Unit {0}
 IsNotAccepted schema text certificate (refusal.Schema r) = schema_of schema ≡ Err r
 IsNotAccepted schema text certificate (refusal.Text r) = (S : Schema) × (schema_of schema ≡ Ok S) × IsStatementFault text r
 IsNotAccepted schema text certificate (refusal.Scope r) = (S : Schema) × (schema_of schema ≡ Ok S) × IsUnbound text S r
+IsNotAccepted schema text certificate (refusal.Statistics r) = ⊥
 IsNotAccepted schema text certificate (refusal.Certificate r) = WithQuery schema text (λ S. Unit {0})
 IsNotAccepted schema text certificate (refusal.Check r) = IsCheckRefused schema text certificate r
 IsNotAccepted schema text certificate (refusal.Table n r) = ⊥
@@ -85,6 +87,7 @@ IsNotRun schema text certificate inputs refusal.Memory = Unit {0}
 IsNotRun schema text certificate inputs (refusal.Schema r) = IsNotAccepted schema text certificate (refusal.Schema r)
 IsNotRun schema text certificate inputs (refusal.Text r) = IsNotAccepted schema text certificate (refusal.Text r)
 IsNotRun schema text certificate inputs (refusal.Scope r) = IsNotAccepted schema text certificate (refusal.Scope r)
+IsNotRun schema text certificate inputs (refusal.Statistics r) = ⊥
 IsNotRun schema text certificate inputs (refusal.Certificate r) = IsNotAccepted schema text certificate (refusal.Certificate r)
 IsNotRun schema text certificate inputs (refusal.Check r) = IsNotAccepted schema text certificate (refusal.Check r)
 IsNotRun schema text certificate inputs (refusal.Table n r) = WithAccepted schema text certificate (λ S. IsTableRefused S inputs n r)

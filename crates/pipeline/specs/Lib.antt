@@ -1,4 +1,5 @@
 pub mod Certified
 pub mod EndToEnd
 pub mod Lines
+pub mod Planned
 pub mod Refusals

@@ -7,8 +7,9 @@ use Rattle.certificate.specs.Codes as check
 use Rattle.certificate_text.specs.Codes as certificate
 use Rattle.sql_parse.specs.Codes as text
 use Rattle.binder.specs.Codes as scope
+use Rattle.statistics.specs.Refusals as statistics
 use Rattle.pipeline.specs.declared.refusal.Refusal.{Refusal}
-use Rattle.pipeline.specs.declared.refusal.Refusal.TheVariants.{Memory, Schema, Text, Scope, Certificate, Check, Table, TableDevice, Output}
+use Rattle.pipeline.specs.declared.refusal.Refusal.TheVariants.{Memory, Schema, Text, Scope, Statistics, Certificate, Check, Table, TableDevice, Output}
 use Rattle.store.specs.Faults as store
 
 -- the name of a table of a schema; nothing where there is none
@@ -35,6 +36,7 @@ line_of S Memory = codes "memory"
 line_of S (Schema r) = codes "refused " ++ schema.code_of r
 line_of S (Text r) = codes "refused " ++ (text.code_of r.reason ++ (codes " at " ++ decimal r.at))
 line_of S (Scope r) = codes "refused " ++ (scope.code_of r.reason ++ (codes " at " ++ decimal r.at))
+line_of S (Statistics r) = codes "refused " ++ statistics.code_of r
 line_of S (Certificate r) = codes "refused " ++ (certificate.code_of r.reason ++ (codes " line " ++ decimal r.line))
 line_of S (Check r) = codes "refused " ++ (check.code_of r.reason ++ (rule_text (check.rule_of r.reason) ++ (codes " line " ++ decimal r.line)))
 line_of S (Table t r) = codes "refused " ++ (store.code_of r.cause ++ (codes " " ++ (table_name S t ++ (codes " row " ++ (decimal r.row ++ earlier_text (store.earlier_of r.cause))))))

@@ -7,11 +7,12 @@ use Rattle.certificate.specs.declared.certificate.CheckRefusal.{CheckRefusal}
 use Rattle.certificate_text.specs.declared.fault.TextRefusal.{TextRefusal}
 use Rattle.sql_parse.specs.declared.fault.ParseRefusal.{ParseRefusal}
 use Rattle.binder.specs.declared.fault.BindRefusal.{BindRefusal}
+use Rattle.statistics.specs.declared.fault.StatisticsRefusal.{StatisticsRefusal}
 use Rattle.answer_text.specs.declared.output.OutputFailed.{OutputFailed}
 use Rattle.store.specs.declared.fault.TableFault.{TableFault}
 use Rattle.store.specs.declared.fault.TableFault.TheVariants as table
 use Rattle.pipeline.specs.declared.refusal.Refusal.{Refusal}
-use Rattle.pipeline.specs.declared.refusal.Refusal.TheVariants.{Memory, Schema, Text, Scope, Certificate, Check, Table, TableDevice, Output}
+use Rattle.pipeline.specs.declared.refusal.Refusal.TheVariants.{Memory, Schema, Text, Scope, Statistics, Certificate, Check, Table, TableDevice, Output}
 
 abbrev pub of_schema : Fault SchemaRefusal → Refusal
 of_schema fault.Memory = Memory
@@ -24,6 +25,10 @@ of_text (fault.Refused r) = Text r
 abbrev pub of_scope : Fault BindRefusal → Refusal
 of_scope fault.Memory = Memory
 of_scope (fault.Refused r) = Scope r
+
+abbrev pub of_statistics : Fault StatisticsRefusal → Refusal
+of_statistics fault.Memory = Memory
+of_statistics (fault.Refused r) = Statistics r
 
 abbrev pub of_certificate : Fault TextRefusal → Refusal
 of_certificate fault.Memory = Memory
@@ -48,6 +53,7 @@ status_of Memory = 3
 status_of (Schema r) = 2
 status_of (Text r) = 2
 status_of (Scope r) = 2
+status_of (Statistics r) = 2
 status_of (Certificate r) = 2
 status_of (Check r) = 2
 status_of (Table t r) = 2

@@ -11,12 +11,12 @@ use answer_text::{AnswerOutput, write_rows};
 use checker::{Checked, check};
 use executor::write_answer;
 use oracle::meaning;
-use planner::{canonical, with_hash_joins};
+use planner::plan;
 use query::BoundQuery;
 use schema::Schema;
+use statistics::Statistics;
 use std::alloc::Global;
 use store::Database;
-use values::Fault;
 
 /// Writes what a checked plan gives.
 pub(crate) fn answer_by<W: AnswerOutput>(
@@ -38,29 +38,7 @@ pub(crate) fn answer_by<W: AnswerOutput>(
     Ok(())
 }
 
-/// Writes what the canonical plan gives, which the check accepts.
-fn answer_by_canonical_plan<W: AnswerOutput>(
-    alloc: Global,
-    schema: &Schema,
-    query: &BoundQuery,
-    database: &Database<'_>,
-    out: &mut W,
-) -> Result<(), Refusal>
-    requires bound { IsBoundOver schema.now query.now }
-    requires schema { database.now.schema ≡ schema.now }
-    ensures answered { OnOk result (ByPlan schema.now query.now database.now.tables (Appends (W.contents out.old) (W.contents out.new))) }
-    ensures handed { OnOk result (W.held out.new ≡ []) }
-    ensures front { OnErr result ((out.new ≡ out.old) ⊎ ByPlan schema.now query.now database.now.tables (HasFront (W.contents out.old) (W.contents out.new))) }
-    ensures fails { IfErr result (IsAnswerFault (W.failures out.old) (W.failures out.new)) }
-    ensures quiet { OnOk result (W.failures out.new ≡ W.failures out.old) }
-{
-    let certificate = canonical(alloc, query)?;
-    let checked = check(alloc, schema, query, &certificate)?;
-    answer_by(alloc, &checked, database, out)
-}
-
-/// Writes what a checked plan of the query gives: the canonical one with joins by hash, or where the check refuses that, the
-/// canonical one.
+/// Writes what the plan gives that is chosen for the query by the statistics of the database. The check accepts its certificate.
 pub(crate) fn answer_by_plan<W: AnswerOutput>(
     alloc: Global,
     schema: &Schema,
@@ -76,12 +54,10 @@ pub(crate) fn answer_by_plan<W: AnswerOutput>(
     ensures fails { IfErr result (IsAnswerFault (W.failures out.old) (W.failures out.new)) }
     ensures quiet { OnOk result (W.failures out.new ≡ W.failures out.old) }
 {
-    let certificate = with_hash_joins(alloc, query, canonical(alloc, query)?)?;
-    match check(alloc, schema, query, &certificate) {
-        Ok(checked) => answer_by(alloc, &checked, database, out),
-        Err(Fault::Memory) => Err(Refusal::Memory),
-        Err(Fault::Refused(_)) => answer_by_canonical_plan(alloc, schema, query, database, out),
-    }
+    let statistics = Statistics::of(alloc, database)?;
+    let planned = plan(alloc, query, &statistics)?;
+    let checked = check(alloc, schema, query, &planned.certificate)?;
+    answer_by(alloc, &checked, database, out)
 }
 
 /// Writes what the query means, by the slow evaluator.

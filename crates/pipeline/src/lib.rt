@@ -4,9 +4,11 @@
 mod answer;
 mod certified;
 mod commands;
+mod planned;
 mod preparation;
 mod refusal;
 
 pub use certified::{check, run};
 pub use commands::{evaluate, query};
+pub use planned::plan;
 pub use refusal::{Refusal, fault_line};

@@ -14,6 +14,7 @@ use certificate::{CheckFault, CheckRefusal};
 use certificate_text::{TextFault, TextRefusal};
 use schema::{Schema, SchemaFault, SchemaRefusal};
 use sql_parse::{ParseFault, ParseRefusal};
+use statistics::{StatisticsFault, StatisticsRefusal};
 use std::alloc::{AllocError, AllocFailed, Global};
 use store::{TableFault, TableRefusal};
 use thiserror::Error;
@@ -30,6 +31,8 @@ pub enum Refusal {
     Text(ParseRefusal),
     #[error("scope: {0}")]
     Scope(BindRefusal),
+    #[error("statistics: {0}")]
+    Statistics(StatisticsRefusal),
     #[error("certificate: {0}")]
     Certificate(TextRefusal),
     #[error("check: {0}")]
@@ -98,6 +101,19 @@ impl From<BindFault> for Refusal {
         match fault {
             Fault::Memory => Refusal::Memory,
             Fault::Refused(refusal) => Refusal::Scope(refusal),
+        }
+    }
+}
+
+impl From<StatisticsFault> for Refusal {
+    ghost use Rattle.pipeline.specs.Refusals.{of_statistics};
+
+    ghost from_gives = { λ fault e. e ≡ of_statistics fault };
+
+    fn from(fault: StatisticsFault) -> Refusal {
+        match fault {
+            Fault::Memory => Refusal::Memory,
+            Fault::Refused(refusal) => Refusal::Statistics(refusal),
         }
     }
 }
@@ -187,6 +203,13 @@ fn table_line(alloc: Global, name: &str, refusal: TableRefusal) -> Result<String
     }
 }
 
+/// The line of a refusal that has no place.
+fn code_line(alloc: Global, code: &str) -> Result<String, AllocError>
+    ensures { IfOk result (λ line. string_bytes line ≡ codes "refused " ++ code.now) }
+{
+    format!(in alloc; "refused {code}")
+}
+
 /// The line of a refusal at a place of the text.
 fn place_line(alloc: Global, code: &str, at: usize) -> Result<String, AllocError>
     ensures { IfOk result (λ line. string_bytes line ≡ codes "refused " ++ (code.now ++ (codes " at " ++ decimal at))) }
@@ -225,12 +248,10 @@ pub fn fault_line(
 {
     match refusal {
         Refusal::Memory => String::from_str(alloc, "memory"),
-        Refusal::Schema(refusal) => {
-            let code = refusal.code();
-            format!(in alloc; "refused {code}")
-        }
+        Refusal::Schema(refusal) => code_line(alloc, refusal.code()),
         Refusal::Text(refusal) => place_line(alloc, refusal.reason.code(), refusal.at),
         Refusal::Scope(refusal) => place_line(alloc, refusal.reason.code(), refusal.at),
+        Refusal::Statistics(refusal) => code_line(alloc, refusal.code()),
         Refusal::Certificate(refusal) => certificate_line(alloc, *refusal),
         Refusal::Check(refusal) => check_line(alloc, *refusal),
         Refusal::Table(table, refusal) => table_line(alloc, name_of(schema, *table), *refusal),

@@ -121,7 +121,7 @@ SELECT SUM(id), SUM(id) AS again, COUNT(*) FROM emp WHERE dept IN (SELECT id FRO
 /// DISTINCT leaves one of each.
 const DISTINCT: &str = r"SELECT DISTINCT pay FROM emp => pay;500;\N;400
 SELECT DISTINCT dept, pay FROM emp WHERE pay = 500 OR pay IS NULL => dept,pay;1,500;1,\N;\N,500
-SELECT DISTINCT d.boss FROM dept d, emp e => boss;10;\N;12
+SELECT DISTINCT d.boss FROM dept d, emp e ORDER BY d.boss => boss;\N;10;12
 SELECT pay FROM emp => pay;500;\N;400;500
 SELECT DISTINCT * FROM dept => id,name,boss;1,ops,10;2,lab,\N;3,dev,12";
 

@@ -8,6 +8,8 @@ mod canonical;
 #[cfg(test)]
 mod certificates;
 #[cfg(test)]
+mod chosen;
+#[cfg(test)]
 mod commands;
 #[cfg(test)]
 mod derived;
@@ -21,8 +23,6 @@ mod frames;
 mod free_columns;
 #[cfg(test)]
 mod handed_certificates;
-#[cfg(test)]
-mod hash_joins;
 #[cfg(test)]
 mod orders;
 #[cfg(test)]

@@ -129,7 +129,7 @@ impl Offers {
         self.offer(wanted, Operator::FilterSubqueries { conjuncts }, inputs)
     }
 
-    /// Offers the distinct rows of the class, by hash and sorted.
+    /// Offers the distinct rows of the class, sorted and by hash. What is offered last is tried first, so of two that cost the same the hash stays.
     fn offer_distinct(
         &mut self,
         alloc: Global,
@@ -137,15 +137,15 @@ impl Offers {
         wanted: Wanted<'_>,
         class: ClassId,
     ) -> Result<(), AllocError> {
-        let inputs = self.one_input(alloc, space, class, wanted.order)?;
-        let method = GroupMethod::Hash;
-        self.offer(wanted, Operator::DistinctRows { method }, inputs)?;
         let Some(columns) = space.columns(class) else {
             return Ok(());
         };
         let order = extended(alloc, wanted.order, columns.as_slice())?;
         let inputs = self.one_input(alloc, space, class, order.as_slice())?;
         let method = GroupMethod::Sorted;
+        self.offer(wanted, Operator::DistinctRows { method }, inputs)?;
+        let inputs = self.one_input(alloc, space, class, wanted.order)?;
+        let method = GroupMethod::Hash;
         self.offer(wanted, Operator::DistinctRows { method }, inputs)
     }
 
@@ -253,8 +253,8 @@ impl Offers {
             Expr::Distinct(x) => self.offer_distinct(alloc, space, wanted, *x),
             Expr::Group(keys, added, x) => {
                 let groups = Groups { keys, added };
-                self.offer_hash_group(alloc, space, wanted, groups, *x)?;
-                self.offer_sorted_group(alloc, space, wanted, groups, *x)
+                self.offer_sorted_group(alloc, space, wanted, groups, *x)?;
+                self.offer_hash_group(alloc, space, wanted, groups, *x)
             }
         }
     }

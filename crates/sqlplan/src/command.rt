@@ -19,6 +19,11 @@ fn of_query<'a>(alloc: Global, name: &'a str, about: &'a str) -> Result<Command<
         .arg(place(alloc, "QUERY", "the text of the query, a file"))
 }
 
+/// The place of statistics.
+fn statistics(alloc: Global) -> Arg<'static> {
+    place(alloc, "STATS", "the statistics of the tables, a JSON file")
+}
+
 /// The place of a certificate.
 fn certificate(alloc: Global) -> Arg<'static> {
     place(alloc, "CERT", "the certificate of a plan, a file")
@@ -42,6 +47,12 @@ pub fn command<'a>(alloc: Global) -> Result<Command<'a>, AllocError> {
         "Answers a query over tables in CSV files, as its meaning says: slowly, with no plan",
     )?
     .arg(folder(alloc))?;
+    let plan = of_query(
+        alloc,
+        "plan",
+        "Plans a query by statistics, and writes the certificate of its plan",
+    )?
+    .arg(statistics(alloc))?;
     let check = of_query(
         alloc,
         "check",
@@ -60,6 +71,7 @@ pub fn command<'a>(alloc: Global) -> Result<Command<'a>, AllocError> {
         .subcommand_required(true)
         .subcommand(query)?
         .subcommand(meaning)?
+        .subcommand(plan)?
         .subcommand(check)?
         .subcommand(run)
 }

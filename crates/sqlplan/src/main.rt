@@ -12,11 +12,11 @@ use answer_text::CountedOutput;
 use clap::ArgMatches;
 use clap::error::ErrorKind;
 use command::command;
-use pipeline::{Refusal, check, evaluate, query, run};
+use pipeline::{Refusal, check, evaluate, plan, query, run};
 use schema::Schema;
 use std::alloc::Global;
 use std::fs::File;
-use std::io::{BufWriter, Printer};
+use std::io::{BufWriter, Printer, Write};
 use std::process::ExitCode;
 use std::{env, fs, io};
 use stop::Stop;
@@ -61,6 +61,8 @@ enum Asked<'a> {
     Query(&'a str),
     /// Its answer by the slow evaluator, over the tables of a folder.
     Meaning(&'a str),
+    /// The certificate of a plan, by statistics.
+    Plan(&'a str),
     /// Whether a certificate is accepted.
     Check(&'a str),
     /// Its answer by the plan of a certificate, over the tables of a folder.
@@ -73,6 +75,7 @@ impl<'a> Asked<'a> {
         match command {
             "query" => Some(Asked::Query(arguments.get_str("DIR")?)),
             "meaning" => Some(Asked::Meaning(arguments.get_str("DIR")?)),
+            "plan" => Some(Asked::Plan(arguments.get_str("STATS")?)),
             "check" => Some(Asked::Check(arguments.get_str("CERT")?)),
             "run" => Some(Asked::Run(arguments.get_str("CERT")?, arguments.get_str("DIR")?)),
             _ => None,
@@ -156,6 +159,23 @@ fn answer_by_certificate(
     ended(rt.alloc(), given.schema, outcome)
 }
 
+/// Writes on standard output.
+fn print_bytes(rt: &HostRuntime, bytes: &[u8]) -> Result<(), Stop> {
+    match io::writer(rt).write_all(bytes) {
+        Ok(()) => Ok(()),
+        Err(_) => Err(Stop::of_refusal(rt.alloc(), &Refusal::Output, None)),
+    }
+}
+
+/// Writes on standard output the certificate of a plan, by the statistics of a file.
+fn plan_by_statistics(rt: &HostRuntime, given: Given<'_>, statistics: &str) -> Result<(), Stop> {
+    let statistics = bytes_of(rt, statistics)?;
+    match plan(rt.alloc(), given.bytes, given.text, statistics.as_slice()) {
+        Ok(certificate) => print_bytes(rt, certificate.as_slice()),
+        Err(refusal) => Err(Stop::of_refusal(rt.alloc(), &refusal, Some(given.schema))),
+    }
+}
+
 /// Says on standard output that a certificate is accepted, where it is.
 fn accept(rt: &HostRuntime, given: Given<'_>, certificate: &str) -> Result<(), Stop> {
     let certificate = bytes_of(rt, certificate)?;
@@ -186,6 +206,7 @@ fn serve(
     match asked {
         Asked::Query(folder) => answer(rt, given, folder),
         Asked::Meaning(folder) => answer_by_meaning(rt, given, folder),
+        Asked::Plan(statistics) => plan_by_statistics(rt, given, statistics),
         Asked::Check(certificate) => accept(rt, given, certificate),
         Asked::Run(certificate, folder) => answer_by_certificate(rt, given, certificate, folder),
     }

@@ -6,15 +6,15 @@ use Rattle.pipeline.specs.EndToEnd.{ByPlan}
 use Rattle.pipeline.proofs.Answered.{of_accepted}
 use Rattle.pipeline.proofs.answer.answer_by_plan.Goals as goal
 
-pub returns-in-Ok-clause-answered : goal.returns-in-Ok-clause-answered
-returns-in-Ok-clause-answered g c = of_accepted c.in-Ok.checked c.args.schema.now c.args.query.now
+pub returns-clause-answered : goal.returns-clause-answered
+returns-clause-answered g c = of_accepted c.in_ok-checked.checked c.args.schema.now c.args.query.now
     (λ S q. OnOk c.answer_by.result (ByPlan S q c.args.database.now.tables (Appends (g.W.AnswerOutput.contents c.args.out.now) (g.W.AnswerOutput.contents c.answer_by.new.out))))
-    c.in-Ok.ensures.of (on_ok_weaker c.answer_by.result (λ h. (c.in-Ok.checked.certificate, h)) c.answer_by.ensures.answered)
+    c.in_ok-checked.ensures.of (on_ok_weaker c.answer_by.result (λ h. (c.in_ok-checked.checked.certificate, h)) c.answer_by.ensures.answered)
 
-pub returns-in-Ok-clause-front : goal.returns-in-Ok-clause-front
-returns-in-Ok-clause-front g c = of_accepted c.in-Ok.checked c.args.schema.now c.args.query.now
+pub returns-clause-front : goal.returns-clause-front
+returns-clause-front g c = of_accepted c.in_ok-checked.checked c.args.schema.now c.args.query.now
     (λ S q. OnErr c.answer_by.result ((c.answer_by.new.out ≡ c.args.out.now) ⊎ ByPlan S q c.args.database.now.tables (HasFront (g.W.AnswerOutput.contents c.args.out.now) (g.W.AnswerOutput.contents c.answer_by.new.out))))
-    c.in-Ok.ensures.of (on_err_weaker c.answer_by.result (λ h. elim h [
+    c.in_ok-checked.ensures.of (on_err_weaker c.answer_by.result (λ h. elim h [
       | inl same ↦ inl same
-      | inr more ↦ inr (c.in-Ok.checked.certificate, more)
+      | inr more ↦ inr (c.in_ok-checked.checked.certificate, more)
     ]) c.answer_by.ensures.front)

@@ -1,0 +1,50 @@
+//! Certificates of queries, as text.
+
+ghost use Rattle.std.specs.Prelude.{◌≡◌, Ok, IfOk, IfErr};
+ghost use Rattle.query.specs.Bound.{IsBoundOver};
+ghost use Rattle.certificate_text.specs.Limits.{written};
+ghost use Rattle.pipeline.specs.Certified.{Accepts};
+ghost use Rattle.pipeline.specs.Planned.{IsNotPlanned, IsUnwritten, WithChecked};
+
+use crate::preparation::bound_query;
+use crate::refusal::Refusal;
+use certificate_text::write;
+use planner;
+use query::BoundQuery;
+use schema::Schema;
+use statistics::Statistics;
+use std::alloc::Global;
+
+/// The text of the certificate that is planned for a query.
+fn planned_text(
+    alloc: Global,
+    schema: &Schema,
+    query: &BoundQuery,
+    statistics: &Statistics,
+) -> Result<Vec<u8>, Refusal>
+    requires { IsBoundOver schema.now query.now }
+    ensures planned { IfOk result (λ text. WithChecked schema.now query.now (λ c. written c ≡ Ok text.items)) }
+    ensures refused { IfErr result (IsUnwritten schema.now query.now) }
+{
+    let planned = planner::plan(alloc, query, statistics)?;
+    Ok(write(alloc, &planned.certificate)?)
+}
+
+/// Plans a query: reads the schema, the text and the statistics, and gives the text of a certificate that `check` accepts for the query. Its
+/// plan is the cheapest that was found.
+///
+/// The first fault is reported, in the order schema, text, scope, statistics.
+pub fn plan(
+    alloc: Global,
+    schema: &[u8],
+    text: &[u8],
+    statistics: &[u8],
+) -> Result<Vec<u8>, Refusal>
+    ensures planned { IfOk result (λ certificate. Accepts schema.now text.now certificate.items) }
+    ensures refused { IfErr result (IsNotPlanned schema.now text.now statistics.now) }
+{
+    let schema = Schema::read(alloc, schema)?;
+    let query = bound_query(alloc, &schema, text)?;
+    let statistics = Statistics::read(alloc, &schema, statistics)?;
+    planned_text(alloc, &schema, &query, &statistics)
+}

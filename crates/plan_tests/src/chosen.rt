@@ -1,0 +1,118 @@
+//! Plans that are chosen by statistics.
+
+ghost use Rattle.query.specs.Bound.{TablesAreOver};
+
+use crate::answers::QUERIES;
+use checker::check;
+use fixtures::{COMPANY, Reporting, differences, push_lines, query_of, schema_of};
+use pipeline::fault_line;
+use query::BoundQuery;
+use schema::Schema;
+use statistics::Statistics;
+use std::alloc::{AllocError, Global};
+use std::fmt::Write;
+use std::str;
+
+/// Of both tables: rows, and pages.
+const STATISTICS: &str =
+    r#"{"tables":{"dept":{"rows":3,"pages":1,"indexes":[]},"emp":{"rows":4,"pages":1,"indexes":[{"keys":4,"pages":1}]}}}"#;
+
+/// Reports the certificate that is planned for a query, with `/` for a line's end. Statistics stand behind the query; else they are those above.
+struct Planned;
+
+impl Reporting for Planned {
+    fn report(&self, alloc: Global, text: &str, reported: &mut String) -> Result<(), AllocError> {
+        let (query, statistics) = text.split_once(" => ").unwrap_or((text, STATISTICS));
+        let planned = pipeline::plan(
+            alloc,
+            COMPANY.as_bytes(),
+            query.as_bytes(),
+            statistics.as_bytes(),
+        );
+        match planned {
+            Ok(certificate) => {
+                let certificate = str::from_utf8(certificate.as_slice()).unwrap_or("no text");
+                push_lines(reported, certificate, "/")
+            }
+            Err(refusal) => reported.push_str(fault_line(alloc, &refusal, None)?.as_str()),
+        }
+    }
+}
+
+/// A hash join of two small tables costs less than nested loops, one pass of a table less than one for each row of the other. A sort of few rows
+/// stands where they are fewest. Faults come in the order text, scope, statistics.
+#[test]
+fn plans_are_the_cheapest(rt: HostRuntime) {
+    const CASES: &str =
+        r#"SELECT d.id, e.id FROM dept d LEFT JOIN emp e ON e.dept = d.id WHERE e.pay > 0 => SQLPLAN 1/lines 5/F get 0/F get 1/F left [=(c4,c0)] 0 1/F select [>(c5,i0)] 2/F keep 0,3 3/plan 5/cut 4 0,3/filter 3 [>(c5,i0)]/hash 2 left [=(c4,c0)]/scan 0 0/scan 1 1/end/
+SELECT id FROM emp WHERE pay <> 500 => SQLPLAN 1/lines 3/F get 0/F select [<>(c2,i500)] 0/F keep 0 1/plan 3/cut 2 0/filter 1 [<>(c2,i500)]/scan 0 0/end/
+SELECT d.id FROM dept d JOIN emp e ON e.pay < d.id => SQLPLAN 1/lines 4/F get 0/F get 1/F join [<(c5,c0)] 0 1/F keep 0 2/plan 4/cut 3 0/loop 2 inner [<(c5,c0)]/scan 0 0/scan 1 1/end/
+SELECT nothing FROM emp => [] => refused B02 at 7
+SELECT id FROM emp => [ => refused N01
+SELECT id FROM emp => [] => refused N02
+SELECT id FROM emp => {"tables":{"dept":{"rows":3,"pages":1,"indexes":[]}}} => refused N02"#;
+    assert_eq!(rt;
+        differences(rt.alloc(), &[CASES], &Planned).as_deref(),
+        Ok("")
+    );
+}
+
+/// Adds a query for which the canonical plan is taken, or whose certificate the check refuses.
+fn push_unsearched(
+    alloc: Global,
+    found: &mut String,
+    schema: &Schema,
+    query: &BoundQuery,
+    statistics: &Statistics,
+    text: &str,
+) -> Result<(), AllocError>
+    requires { TablesAreOver schema.now query.now }
+{
+    let planned = planner::plan(alloc, query, statistics)?;
+    if !planned.is_searched {
+        writeln!(found, "{text}: the canonical plan")?;
+    }
+    match check(alloc, schema, query, &planned.certificate) {
+        Ok(_) => Ok(()),
+        Err(fault) => writeln!(found, "{text}: {fault}"),
+    }
+}
+
+/// How many of the texts of cases are queries over a schema; adds those for which no plan of the search's own is taken.
+fn push_unsearched_of(
+    alloc: Global,
+    found: &mut String,
+    schema: &Schema,
+    statistics: &Statistics,
+    cases: &str,
+) -> Result<usize, AllocError> {
+    let mut asked = 0_usize;
+    for case in cases.lines() {
+        let (text, _) = case.split_once(" => ").unwrap_or((case, ""));
+        if let Some(query) = &query_of(alloc, schema, text) {
+            asked = asked.saturating_add(1);
+            push_unsearched(alloc, found, schema, query, statistics, text)?;
+        }
+    }
+    Ok(asked)
+}
+
+/// The search finds a plan of each query that fits it: the canonical one is never taken in its place.
+#[test]
+fn plans_are_searched_for(rt: HostRuntime) {
+    let alloc = rt.alloc();
+    let mut found = String::new(alloc);
+    let mut asked = 0_usize;
+    if let Ok(schema) = &schema_of(alloc, COMPANY) {
+        if let Ok(statistics) = &Statistics::read(alloc, schema, STATISTICS.as_bytes()) {
+            for cases in QUERIES {
+                let more = push_unsearched_of(
+                    alloc, &mut found, schema, statistics, cases,
+                ).unwrap_or(0);
+                asked = asked.saturating_add(more);
+            }
+        }
+    }
+    assert_eq!(rt; found.as_str(), "");
+    assert_eq!(rt; asked, 112);
+}
