@@ -18,6 +18,7 @@ import tempfile
 ROOT = pathlib.Path(__file__).resolve().parent.parent
 PROGRAM = ROOT / "crates/sqlplan/out/sqlplan"
 TABLES = {"r": {"a": "INT", "b": "INT", "t": "TEXT"}, "s": {"a": "INT", "c": "INT", "u": "TEXT"}}
+INDEXES = {"r": [["a"], ["b", "a"], ["t"]], "s": [["a", "c"], ["u"]]}
 NUMBERS, TEXTS = ["0", "1", "2", "-1"], ["'x'", "'y'", "''"]
 COMPARISONS = ["=", "<>", "<", "<=", ">", ">="]
 
@@ -126,7 +127,7 @@ def write_inputs(folder, tables):
     for name, rows in tables.items():
         columns = TABLES[name]
         entries.append(
-            {"name": name, "unique": [], "indexes": [],
+            {"name": name, "unique": [], "indexes": INDEXES[name],
              "columns": [{"name": c, "kind": kind, "not_null": False} for c, kind in columns.items()]}
         )
         lines = [",".join(columns)] + [",".join(map(field_of, row)) for row in rows]
@@ -182,4 +183,5 @@ def main():
     print(f"{count} queries, {too_large} too large to be taken, {differ} differ, {rows_seen} rows")
 
 
-main()
+if __name__ == "__main__":
+    main()
