@@ -22,7 +22,7 @@ LIBRARIES = (
     "values schema store statistics sql_parse query binder algebra laws props rules derivation logs frame physical certificate"
     " certificate_text certificate_parts certificate_read costs explain anyhow"
 )
-BATCH = 500
+BATCH = 1000  # `rt try` gives no more than 1 MiB of output
 MOST = 2**64 - 1
 MILLION = 1_000_000
 INT, TEXT = "INT", "TEXT"
@@ -152,7 +152,7 @@ def line_text(line):
     if kind == "F":
         return f"F {expr_text(parts[0])}"
     if kind == "A":
-        return f"A {parts[0]} J1 0 {parts[1]} - {expr_text(parts[2])}"
+        return f"A {parts[0]} {parts[1]} 0 {list_text(parts[2])} - {expr_text(parts[3])}"
     return f"G {parts[0]} {parts[1]}"
 
 
@@ -537,7 +537,7 @@ class Derivation:
                 C = self.equated(a, b)
                 g = self.found((kind, C, a, b), both)
                 if kind == "join" and draw.random() < 0.4:
-                    self.lines.append(("A", g, g, ("join", C, b, a)))
+                    self.lines.append(("A", g, "J1", [g], ("join", C, b, a)))
         elif roll < 0.68:
             kept = sorted(draw.sample(sorted(cols), draw.randrange(0, len(cols) + 1)))
             self.found(("keep", kept, x), set(kept))
@@ -547,8 +547,20 @@ class Derivation:
             keys = sorted(draw.sample(sorted(cols), draw.randrange(0, min(3, len(cols)) + 1)))
             own = [c for c, (_, read) in AGGREGATES.items() if (read is None or read in cols) and c not in cols and draw.random() < 0.5]
             self.found(("group", keys, own, x), set(keys) | set(own))
-        else:
+        elif roll < 0.92:
             self.twin()
+        else:
+            self.merged()
+
+    def merged(self):
+        """A selection of a selection, both as one, and a class of that one: the same class, which would count other rows by its own line."""
+        x = self.draw.choice(list(self.columns))
+        C, D, cols = self.conjuncts(), self.conjuncts(), self.columns[x]
+        below = self.found(("select", D, x), cols)
+        top = self.found(("select", C, below), cols)
+        one = ("select", conjuncts(C + D), x)
+        self.lines.append(("A", top, "S1", [top, below], one))
+        self.lines.append(("G", len(self.lines) - 1, self.found(one, cols)))
 
     def twin(self):
         """A line with the expression of an earlier one, and a line that unites their classes."""
