@@ -2,7 +2,7 @@
 """Times `Statistics::of` beside the load of the same tables: a million employees with four indexes, and dept. The program of
 statistics/main.rt.txt, in a clone, is proved and built by `rt run`, and then run by itself, once loading alone and once counting too.
 
-Prints processor time (user and system) and peak memory of the whole process, the least of five runs, and what counting adds. What is
+Prints processor time (user and system) and peak memory of the whole process, the least of twelve runs, and what counting adds. What is
 counted is compared with counts of this script's own.
 
 usage: statistics.py [--tree PATH] [ROWS]
@@ -23,7 +23,7 @@ SCHEMAS = {
     "one index a column": ([["id"]], [["id"], ["dept"], ["pay"], ["badge"]]),
     "no key for free": ([["badge"]], [["dept"], ["pay"], ["badge"], ["dept", "pay"]]),
 }
-RUNS = 5
+RUNS = 12
 
 
 def schema(unique, indexes):
