@@ -2,7 +2,7 @@
 """Times `Statistics::of` beside the load of the same tables: a million employees with four indexes, and dept. The program of
 statistics/main.rt.txt, in a clone, is proved and built by `rt run`, and then run by itself, once loading alone and once counting too.
 
-Prints processor time (user and system) and peak memory of the whole process, the least of five runs, and what counting adds. What is
+Prints processor time (user and system) and peak memory of the whole process, the least of twelve runs, and what counting adds. What is
 counted is compared with counts of this script's own.
 
 usage: statistics.py [--tree PATH] [ROWS]
@@ -18,12 +18,12 @@ import tempfile
 
 ROOT = pathlib.Path(__file__).resolve().parent.parent
 NAME = "statistics_bench"
-# By name: what is unique, and the indexes. `lasting` has an index that holds a unique list without Nulls, which needs no pass.
+# By name: what is unique, and the indexes. The first has an index that holds a unique list without Nulls, which needs no pass.
 SCHEMAS = {
     "one index a column": ([["id"]], [["id"], ["dept"], ["pay"], ["badge"]]),
     "no key for free": ([["badge"]], [["dept"], ["pay"], ["badge"], ["dept", "pay"]]),
 }
-RUNS = 5
+RUNS = 12
 
 
 def schema(unique, indexes):
@@ -81,15 +81,19 @@ def main():
         program = built(tree)
         data = room / "data"
         subprocess.run([sys.executable, ROOT / "bench/make_emp.py", data, rows], check=True)
+        answers = []
         for name, (unique, indexes) in SCHEMAS.items():
             file = room / "schema.json"
             file.write_text(schema(unique, indexes), encoding="utf-8")
             load = [measured(program, "load", file, data) for _ in range(RUNS)]
             count = [measured(program, "count", file, data) for _ in range(RUNS)]
-            assert count[0][2] == counted(data, indexes), count[0][2]
+            answers.append((count[0][2], indexes))
             loading, counting = min(run[0] for run in load), min(run[0] for run in count)
             memory = [min(run[1] for run in runs) for runs in (load, count)]
             print(f"{name}: load {loading:.3f} s {memory[0]:.0f} MB; with counting {counting:.3f} s {memory[1]:.0f} MB; {(counting - loading) / loading:.2f} of the load more")
+        # Last, since a process that is started counts the memory of the one that starts it.
+        for answer, indexes in answers:
+            assert answer == counted(data, indexes), answer
 
 
 if __name__ == "__main__":

@@ -1,6 +1,8 @@
-//! Tests of the text of certificates.
+//! Tests of the text of certificates, and of their plans explained.
 #![tactic(auto)]
 
+#[cfg(test)]
+mod explained;
 #[cfg(test)]
 mod read_certificates;
 #[cfg(test)]

@@ -6,7 +6,7 @@ use std::alloc::{AllocError, Global};
 use values::Fault;
 
 /// The text with a line's end for each `/`.
-fn with_line_ends(alloc: Global, text: &str) -> Result<Vec<u8>, AllocError> {
+pub fn with_line_ends(alloc: Global, text: &str) -> Result<Vec<u8>, AllocError> {
     let mut bytes = Vec::with_capacity(alloc, text.len())?;
     for byte in text.as_bytes() {
         bytes.push(if *byte == b'/' { b'\n' } else { *byte })?;

@@ -1,5 +1,6 @@
 pub mod CheaperInputs
 pub mod Cuts
+pub mod NodeEstimates
 pub mod PlanEstimates
 pub mod RowsOfLogs
 pub mod SelectivityForms

@@ -1,8 +1,10 @@
 -- What is estimated of a plan, by its root's node.
-use Rattle.std.proofs.Common.{◌≡◌, refl, ap, sym, ◌∙◌, ℕ, ◌+◌, ◌*◌, ◌==◌, if◌then◌else◌, List, [], ◌∷◌, ◌++◌, length, map, take, arith}
+use Rattle.std.proofs.Common.{◌≡◌, refl, ap, sym, ◌∙◌, ℕ, ◌+◌, ◌*◌, ◌==◌, if◌then◌else◌, List, [], ◌∷◌, ◌++◌, length, get_or, map, take, ◌<◌, arith}
 use Rattle.std.specs.List.{sum_by}
 use Rattle.std.proofs.lemmas.Bool.{ne_eqb}
 use Rattle.std.proofs.lemmas.List.Sums.{sum_by-append}
+use Rattle.std.proofs.lemmas.List.{length-take-le, length-map}
+use Rattle.values.proofs.Lists.{map_next}
 use Rattle.query.specs.declared.query.TableInstance.{TableInstance}
 use Rattle.derivation.specs.Logs.{Log}
 use Rattle.physical.specs.declared.plan.Operator.{Operator}
@@ -60,13 +62,11 @@ module _ (S : Statistics) (instances : List TableInstance) where
       ap (λ rows. record { rows = rows; cost = node_cost S instances node rows (with_cut_costs x) }) (rows-cut n E node x)
       ∙ ap (λ cost. record { rows = node_rows n E node x; cost = cost }) (node-cut node (node_rows n E node x) x)
 
-  pub estimate_at : (n : ℕ → ℕ) (E : Log) (p : Plan) (plans : List Plan) (rows cost : ℕ) (inputs : Inputs) → plans ≡ (out-Plan p).inputs
-      → inputs ≡ with_cut_costs (inputs_of (map (plan_estimate S instances n E) plans)) → rows ≡ node_rows n E (out-Plan p).node inputs → cost ≡ node_cost S instances (out-Plan p).node rows inputs
-      → record { rows = rows; cost = cost } ≡ plan_estimate S instances n E p
+  pub estimate_at : (n : ℕ → ℕ) (E : Log) (p : Plan) (plans : List Plan) (own : Estimate) (inputs : Inputs) → plans ≡ (out-Plan p).inputs
+      → inputs ≡ with_cut_costs (inputs_of (map (plan_estimate S instances n E) plans)) → own ≡ node_estimate S instances n E (out-Plan p).node inputs → own ≡ plan_estimate S instances n E p
   unfolding plan_estimate
-  estimate_at n E p plans rows cost inputs given is counted costs =
-      ap (λ c. record { rows = rows; cost = c }) costs
-      ∙ ap (λ r. record { rows = r; cost = node_cost S instances (out-Plan p).node r inputs }) counted
+  estimate_at n E p plans own inputs given is owns =
+      owns
       ∙ ap (node_estimate S instances n E (out-Plan p).node) is
       ∙ estimate-cut n E (out-Plan p).node (inputs_of (map (plan_estimate S instances n E) plans))
       ∙ ap (λ ps. node_estimate S instances n E (out-Plan p).node (inputs_of (map (plan_estimate S instances n E) ps))) given
@@ -87,3 +87,16 @@ next-input (a ∷ []) e = ap (λ n. record { first = a; second = e; later = n })
 next-input (a ∷ b ∷ more) e =
     past (length (a ∷ b ∷ more)) _ _ _ (λ is. absurd (omega (arith, is))) (λ is. absurd (omega (arith, is)))
     ∙ ap (λ n. record { first = a; second = b; later = n }) (cut-less (sum_by (λ x. x.cost) (b ∷ more)) e.cost ∙ ap cut (sym (sum_by-append (λ x. x.cost) (b ∷ more) (e ∷ []) ∙ omega arith)))
+
+-- one input more
+pub input-more : (of : Plan → Estimate) (plans : List Plan) (i : ℕ) (plan : Plan) (e : Estimate) (before after : Inputs) → i < length plans → plan ≡ get_or plans i plan
+    → before ≡ with_cut_costs (inputs_of (map of (take i plans))) → e ≡ of plan → after ≡ with_input before i e → after ≡ with_cut_costs (inputs_of (map of (take (i + 1) plans)))
+input-more of plans i plan e before after inside at befores is afters =
+    let front = map of (take i plans) in
+    let size = length-map (take i plans) of ∙ length-take-le i plans (omega arith) in
+    afters
+    ∙ ap (λ (x : Inputs). with_input x i e) befores
+    ∙ ap (λ (e : Estimate). with_input (with_cut_costs (inputs_of front)) i e) is
+    ∙ ap (λ n. with_input (with_cut_costs (inputs_of front)) n (of plan)) (sym size)
+    ∙ next-input front (of plan)
+    ∙ ap (λ es. with_cut_costs (inputs_of es)) (sym (map_next of plans i plan inside at))

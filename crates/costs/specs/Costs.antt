@@ -1,7 +1,7 @@
 -- Costs of plans, in hundredths of a page that is fetched. A row that is fetched from a table costs 10, and a row or a step in memory 1.
 -- That plans are compared by the pages that they fetch and the rows that they go through: Selinger et al., Access path selection in a
 -- relational database management system, 1979. The numbers are this project's own.
-use Rattle.std.specs.Prelude.{ℕ, ◌+◌, ◌*◌, ◌&&◌, ◌==◌, Bool, true, false, if◌then◌else◌, List, [], ◌∷◌, filter, drop, slice_get, Option, Some, None}
+use Rattle.std.specs.Prelude.{ℕ, ◌+◌, ◌*◌, ◌&&◌, ◌==◌, Bool, true, false, if◌then◌else◌, List, [], ◌∷◌, filter, flat_map, map, drop, slice_get, Option, Some, None}
 use Rattle.std.specs.List.{list_any, list_all, sum_by}
 use Rattle.values.specs.declared.truth.Comparison.{Comparison}
 use Rattle.values.specs.declared.truth.Comparison.TheVariants as by
@@ -19,7 +19,7 @@ use Rattle.physical.specs.declared.plan.Operator.{Operator}
 use Rattle.physical.specs.declared.plan.Operator.TheVariants.{Scan, IndexScan, Filter, FilterSubqueries, Projection, JoinRows, IndexJoin, GroupRows, DistinctRows}
 use Rattle.physical.specs.declared.plan.Node.{Node}
 use Rattle.physical.specs.declared.plan.Node.TheVariants.{Implements, Sort}
-use Rattle.physical.specs.declared.plan.Plan.{Plan, fold-Plan}
+use Rattle.physical.specs.declared.plan.Plan.{Plan, roll-Plan, fold-Plan}
 use Rattle.physical.specs.declared.plan.Plan.TheOpen.{Plan-F}
 use Rattle.physical.specs.Indexes.{is_column, is_outside}
 use Rattle.statistics.specs.declared.counts.Statistics.{Statistics}
@@ -186,3 +186,30 @@ plan_estimate S instances n E = fold-Plan Estimate (estimate_layer S instances n
 -- what a plan over a log costs
 abbrev pub plan_cost : Statistics → List TableInstance → Log → Plan → ℕ
 plan_cost S instances E p = (plan_estimate S instances (class_rows S instances E) E p).cost
+
+-- ---- all nodes of a plan
+
+-- a plan, and those that stand below its root
+pub record Subplans : Type 0 where
+  pub own : Plan
+  pub below : List Plan
+
+abbrev pub all_of : Subplans → List Plan
+all_of s = s.own ∷ s.below
+
+abbrev pub subplans_layer : Plan-F Subplans → Subplans
+subplans_layer p = record { own = roll-Plan (record { node = p.node; inputs = map (λ s. s.own) p.inputs }); below = flat_map all_of p.inputs }
+
+unfoldable pub subplans_of : Plan → Subplans
+subplans_of = fold-Plan Subplans subplans_layer
+
+-- the plan of each node of a plan, each before its inputs: the plan itself is the first
+abbrev pub subplans : Plan → List Plan
+subplans p = all_of (subplans_of p)
+
+-- the estimate of each of them
+abbrev pub estimates_by : Statistics → List TableInstance → (ℕ → ℕ) → Log → Plan → List Estimate
+estimates_by S instances n E p = map (plan_estimate S instances n E) (subplans p)
+
+abbrev pub plan_estimates : Statistics → List TableInstance → Log → Plan → List Estimate
+plan_estimates S instances E p = estimates_by S instances (class_rows S instances E) E p

@@ -12,4 +12,4 @@ mod tables;
 
 pub use cardinalities::Cardinalities;
 pub use nodes::{Estimate, Inputs, node_cost};
-pub use plans::cost;
+pub use plans::{cost, estimates};

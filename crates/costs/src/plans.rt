@@ -1,6 +1,6 @@
-//! What a plan costs.
+//! What a plan costs, and each node of it.
 
-ghost use Rattle.std.specs.Prelude.{◌≡◌, map};
+ghost use Rattle.std.specs.Prelude.{◌≡◌, ◌++◌, flat_map, map, IfOk, OnOk};
 ghost use Rattle.derivation.specs.Logs.{class_at};
 ghost use Rattle.costs.specs.Cardinalities.{AreRows, rows_at};
 ghost use Rattle.costs.specs.Costs as spec;
@@ -12,6 +12,7 @@ use algebra::{ClassId, LineId};
 use logs::Log;
 use physical::{Node, Plan};
 use statistics::Statistics;
+use std::alloc::{AllocError, Global};
 
 /// Of an input that is missing.
 const NOTHING: Estimate = Estimate { rows: 0, cost: 0 };
@@ -66,6 +67,21 @@ fn with_input(inputs: Inputs, place: usize, input: Estimate) -> Inputs
     }
 }
 
+/// What is estimated of a node over inputs.
+fn node_estimate(
+    statistics: &Statistics,
+    log: &Log<'_>,
+    cardinalities: &Cardinalities,
+    node: &Node,
+    inputs: Inputs,
+) -> Estimate
+    ensures { result ≡ spec.node_estimate statistics.now log.now.instances (rows_at cardinalities.now) log.now.log node.now inputs }
+{
+    let rows = node_rows(log, cardinalities, node, inputs);
+    let cost = node_cost(statistics, log.instances(), node, rows, inputs);
+    Estimate { rows, cost }
+}
+
 #[cycle(estimates)]
 fn plan_estimate(
     statistics: &Statistics,
@@ -76,9 +92,7 @@ fn plan_estimate(
     ensures { result ≡ spec.plan_estimate statistics.now log.now.instances (rows_at cardinalities.now) log.now.log plan.now }
 {
     let inputs = inputs_of(statistics, log, cardinalities, plan.inputs.as_slice());
-    let rows = node_rows(log, cardinalities, &plan.node, inputs);
-    let cost = node_cost(statistics, log.instances(), &plan.node, rows, inputs);
-    Estimate { rows, cost }
+    node_estimate(statistics, log, cardinalities, &plan.node, inputs)
 }
 
 /// What is estimated of a node's inputs.
@@ -114,4 +128,71 @@ pub fn cost(
     ensures { result ≡ spec.plan_cost statistics.now log.now.instances log.now.log plan.now }
 {
     plan_estimate(statistics, log, cardinalities, plan).cost
+}
+
+/// Adds the estimates of a plan's nodes, each node before its inputs, and answers that of its root.
+#[cycle(all_nodes)]
+fn push_estimates(
+    statistics: &Statistics,
+    log: &Log<'_>,
+    cardinalities: &Cardinalities,
+    estimates: &mut Vec<Estimate>,
+    plan: &Plan,
+) -> Result<Estimate, AllocError>
+    ensures all { OnOk result (estimates.new.items ≡ estimates.old.items ++ spec.estimates_by statistics.now log.now.instances (rows_at cardinalities.now) log.now.log plan.now) }
+    ensures own { IfOk result (λ own. own ≡ spec.plan_estimate statistics.now log.now.instances (rows_at cardinalities.now) log.now.log plan.now) }
+{
+    let place = estimates.len();
+    estimates.push(NOTHING)?;
+    let inputs = push_inputs(
+        statistics,
+        log,
+        cardinalities,
+        estimates,
+        plan.inputs.as_slice(),
+    )?;
+    let own = node_estimate(statistics, log, cardinalities, &plan.node, inputs);
+    estimates[place] = own;
+    Ok(own)
+}
+
+/// Adds the estimates of the nodes of a node's inputs, and answers what is estimated of the inputs.
+#[cycle(all_nodes)]
+fn push_inputs(
+    statistics: &Statistics,
+    log: &Log<'_>,
+    cardinalities: &Cardinalities,
+    estimates: &mut Vec<Estimate>,
+    plans: &[Plan],
+) -> Result<Inputs, AllocError>
+    ensures all { OnOk result (estimates.new.items ≡ estimates.old.items ++ flat_map (spec.estimates_by statistics.now log.now.instances (rows_at cardinalities.now) log.now.log) plans.now) }
+    ensures own { IfOk result (λ inputs. inputs ≡ spec.with_cut_costs (spec.inputs_of (map (spec.plan_estimate statistics.now log.now.instances (rows_at cardinalities.now) log.now.log) plans.now))) }
+{
+    let mut inputs = Inputs {
+        first: NOTHING,
+        second: NOTHING,
+        later: 0,
+    };
+    for (place, plan) in plans.iter().enumerate() {
+        let input = push_estimates(statistics, log, cardinalities, estimates, plan)?;
+        inputs = with_input(inputs, place, input);
+    }
+    Ok(inputs)
+}
+
+/// What is estimated of each node of a plan over the log's lines, by the rows of the log's classes: each node before its inputs. It takes
+/// time in proportion to the nodes and what each names, and calls itself as deep as the plan is.
+pub fn estimates(
+    alloc: Global,
+    statistics: &Statistics,
+    log: &Log<'_>,
+    cardinalities: &Cardinalities,
+    plan: &Plan,
+) -> Result<Vec<Estimate>, AllocError>
+    requires { AreRows statistics.now log.now.instances log.now.log cardinalities.now }
+    ensures { IfOk result (λ estimates. estimates.items ≡ spec.plan_estimates statistics.now log.now.instances log.now.log plan.now) }
+{
+    let mut estimates = Vec::new(alloc);
+    push_estimates(statistics, log, cardinalities, &mut estimates, plan)?;
+    Ok(estimates)
 }

@@ -2,7 +2,7 @@
 use Rattle.std.proofs.Common.{◌≡◌, refl, ap, sym, ◌∙◌, append_assoc, ℕ, suc, ◌+◌, ◌<◌, ◌≤◌, List, ◌∷◌, ◌++◌, length, get_or, drop, drop-cons, add-one, map}
 use Rattle.std.proofs.lemmas.List.{append-nil, drop_all}
 use Rattle.physical.specs.declared.plan.Plan.{Plan, out-Plan, fold_out-Plan}
-use Rattle.explain.specs.declared.estimate.Estimate.{Estimate}
+use Rattle.costs.specs.declared.nodes.Estimate.{Estimate}
 use Rattle.explain.specs.Names.{Text, Naming}
 use Rattle.explain.specs.PlanTexts.{estimate_at}
 use Rattle.explain.specs.DotTexts.{Drawn, box_text, edge_text, behind, inputs_drawn, drawn_layer, drawn}

@@ -4,7 +4,7 @@ use Rattle.std.proofs.lemmas.List.{append-nil, length-append, take_all}
 use Rattle.std.proofs.lemmas.List.Folds.{flat_map-map}
 use Rattle.values.proofs.Lists.{flat_map_next}
 use Rattle.physical.specs.declared.plan.Plan.{Plan, out-Plan, fold_out-Plan}
-use Rattle.explain.specs.declared.estimate.Estimate.{Estimate}
+use Rattle.costs.specs.declared.nodes.Estimate.{Estimate}
 use Rattle.explain.specs.Names.{Text, Naming}
 use Rattle.explain.specs.PlanTexts.{PlacedNode, nodes_layer, nodes_from, indentation, line_text, lines_from, estimate_at}
 

@@ -11,7 +11,7 @@ use Rattle.explain.specs.WorkedTexts.{names, a_plan, same_department, department
 use Rattle.explain.proofs.ConditionTexts.{form-Compare, form-IsNull, form-Not, form-And, form-Or, form-Exists, form-In}
 use Rattle.explain.proofs.PlanTexts.{nodes_below}
 use Rattle.explain.proofs.DotTexts.{inputs_left}
-use Rattle.explain.specs.declared.estimate.Estimate.{Estimate}
+use Rattle.costs.specs.declared.nodes.Estimate.{Estimate}
 use Rattle.explain.specs.DotTexts.{Drawn, behind, box_text, drawn_layer, drawn}
 use Rattle.values.specs.declared.value.Value.TheVariants as value
 use Rattle.std.proofs.lemmas.List.Folds.{flat_map-map}

@@ -4,7 +4,7 @@ use Rattle.std.specs.Prelude.{ℕ, ◌+◌, ◌==◌, if◌then◌else◌, List,
 use Rattle.physical.specs.declared.plan.Node.{Node}
 use Rattle.physical.specs.declared.plan.Plan.{Plan, fold-Plan}
 use Rattle.physical.specs.declared.plan.Plan.TheOpen.{Plan-F}
-use Rattle.explain.specs.declared.estimate.Estimate.{Estimate}
+use Rattle.costs.specs.declared.nodes.Estimate.{Estimate}
 use Rattle.explain.specs.Names.{Text, Naming}
 use Rattle.explain.specs.PlanTexts.{node_text, estimate_at}
 

@@ -16,7 +16,7 @@ use Rattle.physical.specs.declared.plan.Node.TheVariants.{Implements, Sort}
 use Rattle.physical.specs.declared.plan.Plan.{Plan, fold-Plan}
 use Rattle.physical.specs.declared.plan.Plan.TheOpen.{Plan-F}
 use Rattle.physical.specs.Indexes.{index_columns}
-use Rattle.explain.specs.declared.estimate.Estimate.{Estimate}
+use Rattle.costs.specs.declared.nodes.Estimate.{Estimate}
 use Rattle.explain.specs.Names.{Text, ◌␣◌, list_text, Naming, table_text, aggregate_text, column_text, columns_text}
 use Rattle.explain.specs.ConditionTexts.{conjuncts_text}
 

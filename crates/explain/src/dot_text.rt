@@ -3,11 +3,11 @@
 ghost use Rattle.std.specs.Prelude.{◌≡◌, ◌++◌, flat_map, IfOk, OnOk};
 ghost use Rattle.explain.specs.DotTexts as spec;
 
-use crate::estimate::Estimate;
 use crate::naming::Naming;
 use crate::node_text::push_node;
 use crate::parts::{push_amount, push_text};
 use crate::plan_text::{estimate_at, one_more};
+use costs::Estimate;
 use physical::{Node, Plan};
 use std::alloc::{AllocError, Global};
 

@@ -6,11 +6,11 @@ ghost use Rattle.explain.specs.Names.{list_text, columns_text, ◌␣◌};
 ghost use Rattle.explain.specs.PlanTexts as spec;
 
 use crate::condition_text::push_conjuncts;
-use crate::estimate::Estimate;
 use crate::names::{push_aggregate, push_column, push_columns, push_table};
 use crate::naming::Naming;
 use crate::parts::{push_amount, push_text};
 use algebra::{Aggregation, Aggregations, Columns, Conjuncts};
+use costs::Estimate;
 use physical::indexes::index_columns;
 use physical::{GroupMethod, IndexAccess, JoinMethod, Matching, Node, Operator, OrderKey};
 use std::alloc::{AllocError, Global};

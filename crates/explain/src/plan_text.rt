@@ -3,10 +3,10 @@
 ghost use Rattle.std.specs.Prelude.{◌≡◌, ◌+◌, ◌++◌, length, IfOk, OnOk};
 ghost use Rattle.explain.specs.PlanTexts as spec;
 
-use crate::estimate::Estimate;
 use crate::naming::Naming;
 use crate::node_text::push_node;
 use crate::parts::push_text;
+use costs::Estimate;
 use physical::Plan;
 use std::alloc::{AllocError, Global};
 
