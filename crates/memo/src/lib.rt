@@ -1,0 +1,10 @@
+//! A log whose lines are found by their expressions, and grows by rules.
+//!
+//! Nothing is promised of which lines are added: the log takes only lines that may stand, so the code here is kept from panics and endless
+//! loops alone.
+#![tactic(auto)]
+
+mod keys;
+mod lines;
+
+pub use lines::Memo;
