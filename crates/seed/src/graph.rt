@@ -1,0 +1,265 @@
+//! What is to be joined: leaves, and the conditions over them.
+
+use crate::estimates::{filter_cost, per_million, probed, scan_cost, share};
+use crate::regions::{Parts, Region, conditions_of};
+use crate::sets::{LeafSet, MOST_LEAVES};
+use algebra::{ClassId, Condition, Expr};
+use costs::Cardinalities;
+use logs::Log;
+use statistics::Statistics;
+use std::alloc::{AllocError, Global};
+
+/// What is guessed of a leaf.
+#[derive(Clone, Copy, Drop)]
+pub(crate) struct Leaf {
+    /// Its rows that make the conditions on it alone true, and what they cost.
+    pub rows: u64,
+    pub cost: u64,
+}
+
+/// A condition over several leaves.
+#[derive(Clone, Copy, Drop)]
+pub(crate) struct Edge {
+    pub leaves: LeafSet,
+    pub share: u64,
+}
+
+/// What matches of one leaf's rows in another cost, where an index finds them.
+#[derive(Clone, Copy, Drop)]
+pub(crate) struct Probe {
+    pub from: LeafSet,
+    pub into: LeafSet,
+    pub cost: u64,
+}
+
+#[derive(Drop)]
+pub(crate) struct Graph {
+    pub leaves: Vec<Leaf>,
+    pub edges: Vec<Edge>,
+    pub probes: Vec<Probe>,
+    /// For each leaf those of which some column is equal to one of its own.
+    pub equated: Vec<LeafSet>,
+}
+
+/// What is known of the whole before a region is looked at.
+#[derive(Clone, Copy)]
+pub(crate) struct Guesses<'a, 'q> {
+    pub log: &'a Log<'q>,
+    pub statistics: &'a Statistics,
+    pub cardinalities: &'a Cardinalities,
+}
+
+/// The leaves of which the condition mentions a column.
+pub(crate) fn mentioned(
+    alloc: Global,
+    log: &Log<'_>,
+    leaves: &[ClassId],
+    condition: &Condition,
+) -> Result<LeafSet, AllocError> {
+    let classes = log.classes().columns;
+    let mut set = LeafSet::EMPTY;
+    for place in 0..leaves.len() {
+        if !condition.is_without(alloc, classes, leaves[place])? {
+            set = set.union(LeafSet::single(place));
+        }
+    }
+    Ok(set)
+}
+
+/// A leaf with no condition on it.
+fn bare_leaf(guesses: Guesses<'_, '_>, class: ClassId) -> Leaf {
+    let rows = guesses.cardinalities.rows(class);
+    let instance = match guesses.log.member(class) {
+        Some(member) => match member.expr {
+            Expr::Get(instance) => guesses.log.instances().get(*instance as usize),
+            _ => None,
+        },
+        None => None,
+    };
+    let cost = match instance {
+        Some(instance) => scan_cost(guesses.statistics, instance),
+        None => rows.saturating_mul(20),
+    };
+    Leaf { rows, cost }
+}
+
+/// What a condition on a leaf alone costs by an index, if there is one.
+fn cost_by_index(
+    guesses: Guesses<'_, '_>,
+    class: ClassId,
+    condition: &Condition,
+    share: u64,
+) -> Option<u64> {
+    let member = guesses.log.member(class)?;
+    let Expr::Get(instance) = member.expr else {
+        return None;
+    };
+    let instance = guesses.log.instances().get(*instance as usize)?;
+    filter_cost(guesses.statistics, instance, condition, share)
+}
+
+impl Graph {
+    /// Notes a condition on one leaf.
+    fn note_filter(
+        &mut self,
+        guesses: Guesses<'_, '_>,
+        classes: &[ClassId],
+        place: usize,
+        condition: &Condition,
+        share: u64,
+    ) {
+        let Some(class) = classes.get(place).copied() else {
+            return;
+        };
+        let by_index = cost_by_index(guesses, class, condition, share);
+        if let Some(leaf) = self.leaves.get_mut(place) {
+            leaf.rows = per_million(leaf.rows, share);
+            if let Some(cost) = by_index {
+                leaf.cost = leaf.cost.min(cost);
+            }
+        }
+    }
+
+    fn note_equated(&mut self, first: LeafSet, second: LeafSet) {
+        if let Some(set) = self.equated.get_mut(first.lowest()) {
+            *set = set.union(second);
+        }
+        if let Some(set) = self.equated.get_mut(second.lowest()) {
+            *set = set.union(first);
+        }
+    }
+
+    /// Notes an equality of columns of two leaves.
+    fn note_equality(
+        &mut self,
+        guesses: Guesses<'_, '_>,
+        classes: &[ClassId],
+        leaves: LeafSet,
+        condition: &Condition,
+    ) -> Result<(), AllocError> {
+        let Some((a, b)) = condition.equated() else {
+            return Ok(());
+        };
+        let first = LeafSet::single(leaves.lowest());
+        let second = leaves.minus(first);
+        self.note_equated(first, second);
+        for column in [a, b] {
+            let into = owner_of(guesses.log, classes, leaves, column);
+            if let Some(cost) = probed(guesses.statistics, guesses.log.instances(), column) {
+                let from = leaves.minus(into);
+                self.probes.push(Probe { from, into, cost })?;
+            }
+        }
+        Ok(())
+    }
+
+    /// Notes a condition of the region.
+    fn note(
+        &mut self,
+        alloc: Global,
+        guesses: Guesses<'_, '_>,
+        classes: &[ClassId],
+        condition: &Condition,
+    ) -> Result<(), AllocError> {
+        if !condition.has_no_class() {
+            return Ok(());
+        }
+        let leaves = mentioned(alloc, guesses.log, classes, condition)?;
+        let share = share(guesses.statistics, guesses.log.instances(), condition);
+        if leaves.count() == 1 {
+            self.note_filter(guesses, classes, leaves.lowest(), condition, share);
+            return Ok(());
+        }
+        if leaves.count() == 2 {
+            self.note_equality(guesses, classes, leaves, condition)?;
+        }
+        self.edges.push(Edge { leaves, share })?;
+        Ok(())
+    }
+
+    /// The leaves and conditions of a region.
+    pub(crate) fn of(
+        alloc: Global,
+        guesses: Guesses<'_, '_>,
+        region: Region,
+        parts: &Parts,
+    ) -> Result<Graph, AllocError> {
+        let mut graph = Graph {
+            leaves: Vec::new(alloc),
+            edges: Vec::new(alloc),
+            probes: Vec::new(alloc),
+            equated: Vec::from_elem(alloc, LeafSet::EMPTY, parts.leaves.len())?,
+        };
+        for class in &parts.leaves {
+            graph.leaves.push(bare_leaf(guesses, *class))?;
+        }
+        for line in &parts.joins {
+            for condition in conditions_of(guesses.log, *line) {
+                graph.note(alloc, guesses, &parts.leaves, condition)?;
+            }
+        }
+        if let Some(line) = region.select {
+            for condition in conditions_of(guesses.log, line) {
+                graph.note(alloc, guesses, &parts.leaves, condition)?;
+            }
+        }
+        Ok(graph)
+    }
+
+    pub(crate) fn leaf(&self, place: usize) -> Leaf {
+        self.leaves
+            .get(place)
+            .copied()
+            .unwrap_or(Leaf { rows: 0, cost: 0 })
+    }
+
+    /// The leaves that are equated with some of the set.
+    pub(crate) fn around(&self, set: LeafSet) -> LeafSet {
+        let mut around = LeafSet::EMPTY;
+        for (place, equated) in self.equated.iter().enumerate() {
+            if set.has(place) {
+                around = around.union(*equated);
+            }
+        }
+        around
+    }
+
+    /// What it costs to find the matches of one row in a leaf by an index, if there is one.
+    pub(crate) fn probe(&self, from: LeafSet, into: LeafSet) -> Option<u64> {
+        let mut least: Option<u64> = None;
+        for probe in &self.probes {
+            if probe.into == into && probe.from.is_within(from) {
+                least = Some(match least {
+                    Some(cost) => cost.min(probe.cost),
+                    None => probe.cost,
+                });
+            }
+        }
+        least
+    }
+
+    /// The rows of two sets joined, where so many pairs are tried: by the conditions over both that are over neither alone.
+    pub(crate) fn joined_rows(&self, first: LeafSet, second: LeafSet, pairs: u64) -> u64 {
+        let both = first.union(second);
+        let mut rows = pairs;
+        for edge in &self.edges {
+            let leaves = edge.leaves;
+            if leaves.is_within(both) && !leaves.is_within(first) && !leaves.is_within(second) {
+                rows = per_million(rows, edge.share);
+            }
+        }
+        rows
+    }
+}
+
+/// The leaf of the set whose column it is.
+fn owner_of(log: &Log<'_>, classes: &[ClassId], leaves: LeafSet, column: u32) -> LeafSet {
+    let known = log.classes().columns;
+    let mut set = LeafSet::EMPTY;
+    for (place, class) in classes.iter().enumerate() {
+        if place < MOST_LEAVES && leaves.has(place) && known.has(*class, column) {
+            set = LeafSet::single(place);
+        }
+    }
+    set
+}

@@ -1,0 +1,138 @@
+//! Regions: inner joins that hang together.
+
+use algebra::{ClassId, Condition, Expr, LineId};
+use derivation::Line;
+use logs::Log;
+use query::ids::id_of;
+use std::alloc::{AllocError, Global};
+
+/// A join with the joins below it, and the selection above it, if there is one.
+#[derive(Clone, Copy, Drop)]
+pub(crate) struct Region {
+    pub select: Option<LineId>,
+    pub join: LineId,
+}
+
+/// The lines of a region's joins, each behind those below it, and the classes that they join.
+#[derive(Drop)]
+pub(crate) struct Parts {
+    pub joins: Vec<LineId>,
+    pub leaves: Vec<ClassId>,
+}
+
+/// The sides of a join.
+#[derive(Clone, Copy, Drop)]
+pub(crate) struct Sides {
+    pub left: ClassId,
+    pub right: ClassId,
+}
+
+/// The sides of the join that founds the class, if it is one.
+pub(crate) fn founding_sides(log: &Log<'_>, class: ClassId) -> Option<Sides> {
+    match log.lines().get(class as usize) {
+        Some(Line::Founds(Expr::Join(_, left, right))) => Some(Sides {
+            left: *left,
+            right: *right,
+        }),
+        _ => None,
+    }
+}
+
+/// The class of which a line selects, where it founds a class so.
+fn selected(log: &Log<'_>, line: LineId) -> Option<ClassId> {
+    match log.lines().get(line as usize) {
+        Some(Line::Founds(Expr::Select(_, class))) => Some(*class),
+        _ => None,
+    }
+}
+
+fn mark(marks: &mut [bool], class: ClassId) {
+    if let Some(mark) = marks.get_mut(class as usize) {
+        *mark = true;
+    }
+}
+
+fn is_marked(marks: &[bool], class: ClassId) -> bool {
+    marks.get(class as usize).copied().unwrap_or(false)
+}
+
+/// The classes that are below a join or a selection.
+fn below_others(alloc: Global, log: &Log<'_>) -> Result<Vec<bool>, AllocError> {
+    let mut below = Vec::from_elem(alloc, false, log.len())?;
+    for line in 0..id_of(log.len())? {
+        if let Some(sides) = founding_sides(log, line) {
+            mark(&mut below, sides.left);
+            mark(&mut below, sides.right);
+        }
+        if let Some(class) = selected(log, line) {
+            mark(&mut below, class);
+        }
+    }
+    Ok(below)
+}
+
+/// The regions of a log, each behind those on which it stands.
+pub(crate) fn regions(alloc: Global, log: &Log<'_>) -> Result<Vec<Region>, AllocError> {
+    let below = below_others(alloc, log)?;
+    let mut regions = Vec::new(alloc);
+    for line in 0..id_of(log.len())? {
+        if founding_sides(log, line).is_some() && !is_marked(&below, line) {
+            regions.push(Region {
+                select: None,
+                join: line,
+            })?;
+        }
+        if let Some(class) = selected(log, line) {
+            if founding_sides(log, class).is_some() {
+                regions.push(Region {
+                    select: Some(line),
+                    join: class,
+                })?;
+            }
+        }
+    }
+    Ok(regions)
+}
+
+/// The joins of the region that ends with this one.
+fn joins_of(alloc: Global, log: &Log<'_>, join: LineId) -> Result<Vec<bool>, AllocError> {
+    let mut joins = Vec::from_elem(alloc, false, log.len())?;
+    mark(&mut joins, join);
+    for line in (0..id_of(log.len())?).rev() {
+        if is_marked(&joins, line) {
+            if let Some(sides) = founding_sides(log, line) {
+                mark(&mut joins, sides.left);
+                mark(&mut joins, sides.right);
+            }
+        }
+    }
+    Ok(joins)
+}
+
+/// What a region is made of.
+pub(crate) fn parts_of(alloc: Global, log: &Log<'_>, join: LineId) -> Result<Parts, AllocError> {
+    let marked = joins_of(alloc, log, join)?;
+    let mut joins = Vec::new(alloc);
+    let mut leaves = Vec::new(alloc);
+    for line in 0..id_of(log.len())? {
+        if is_marked(&marked, line) {
+            if founding_sides(log, line).is_some() {
+                joins.push(line)?;
+            } else {
+                leaves.push(line)?;
+            }
+        }
+    }
+    Ok(Parts { joins, leaves })
+}
+
+/// The conditions of the expression of a line, where it has one list of them.
+pub(crate) fn conditions_of<'a>(log: &'a Log<'_>, line: LineId) -> &'a [Condition] {
+    match log.member(line) {
+        Some(member) => match member.expr {
+            Expr::Select(conjuncts, _) | Expr::Join(conjuncts, _, _) => conjuncts.as_slice(),
+            _ => &[],
+        },
+        None => &[],
+    }
+}

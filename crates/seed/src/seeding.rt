@@ -1,0 +1,141 @@
+//! The seed of a log.
+
+use crate::chosen::JoinTree;
+use crate::graph::{Graph, Guesses};
+use crate::nodes::Nodes;
+use crate::reaching::reach;
+use crate::regions::{Parts, Region, founding_sides, parts_of, regions};
+use crate::sets::{LeafSet, MOST_LEAVES};
+use crate::sinking::{Wishes, combed, lowered, sunk};
+use algebra::ClassId;
+use costs::Cardinalities;
+use memo::Memo;
+use statistics::Statistics;
+use std::alloc::{AllocError, Global};
+
+/// What is chosen for a region: its tree, and the order in which its leaves are joined one by one.
+#[derive(Drop)]
+struct Choice {
+    tree: JoinTree,
+    order: Vec<usize>,
+}
+
+fn choose(
+    alloc: Global,
+    memo: &Memo<'_>,
+    statistics: &Statistics,
+    region: Region,
+    parts: &Parts,
+) -> Result<Choice, AllocError> {
+    let log = memo.log();
+    let cardinalities = Cardinalities::of(alloc, statistics, log)?;
+    let guesses = Guesses {
+        log,
+        statistics,
+        cardinalities: &cardinalities,
+    };
+    let graph = Graph::of(alloc, guesses, region, parts)?;
+    let tree = JoinTree::of(alloc, &graph)?;
+    let order = tree.order(alloc, &graph)?;
+    Ok(Choice { tree, order })
+}
+
+/// The leaves that are filtered before they are joined: all but those whose matches are found by an index.
+fn pushed_leaves(alloc: Global, tree: &JoinTree, count: usize) -> Result<LeafSet, AllocError> {
+    let mut pushed = LeafSet::first(count);
+    for joined in tree.joins(alloc)? {
+        if joined.is_probed {
+            pushed = pushed.minus(joined.right);
+        }
+    }
+    Ok(pushed)
+}
+
+/// The place of a class in a list.
+fn place_of(classes: &[ClassId], class: ClassId) -> Option<usize> {
+    classes.iter().position(|other| *other == class)
+}
+
+/// The number of the node of a class: leaves have the first numbers, and those of joins are listed.
+fn node_of(parts: &Parts, built: &[usize], class: ClassId) -> usize {
+    match place_of(&parts.leaves, class) {
+        Some(place) => place,
+        None => match place_of(&parts.joins, class) {
+            Some(place) => built.get(place).copied().unwrap_or(usize::MAX),
+            None => usize::MAX,
+        },
+    }
+}
+
+/// The nodes of a region's joins as they stand, with conditions on one side alone brought below. The last one is that of the region.
+fn built(
+    alloc: Global,
+    memo: &mut Memo<'_>,
+    nodes: &mut Nodes,
+    wishes: Wishes<'_>,
+    parts: &Parts,
+) -> Result<Option<usize>, AllocError> {
+    let mut built = Vec::new(alloc);
+    for place in 0..parts.leaves.len() {
+        let _ = nodes.add_leaf(parts.leaves[place], LeafSet::single(place))?;
+    }
+    for line in &parts.joins {
+        let mut number = usize::MAX;
+        if let Some(sides) = founding_sides(memo.log(), *line) {
+            let left = node_of(parts, &built, sides.left);
+            let right = node_of(parts, &built, sides.right);
+            if let Some(join) = nodes.add_join(*line, Some(*line), left, right)? {
+                number = lowered(alloc, memo, nodes, wishes, join)?;
+            }
+        }
+        built.push(number)?;
+    }
+    Ok(built.last().copied())
+}
+
+/// Seeds a region for which a tree is chosen.
+fn seed_tree(
+    alloc: Global,
+    memo: &mut Memo<'_>,
+    region: Region,
+    parts: &Parts,
+    choice: &Choice,
+) -> Result<(), AllocError> {
+    let tree = &choice.tree;
+    let wishes = Wishes {
+        leaves: &parts.leaves,
+        pushed: pushed_leaves(alloc, tree, parts.leaves.len())?,
+        order: &choice.order,
+    };
+    let mut nodes = Nodes::new(alloc);
+    let Some(top) = built(alloc, memo, &mut nodes, wishes, parts)? else {
+        return Ok(());
+    };
+    let top = match region.select {
+        Some(line) => sunk(alloc, memo, &mut nodes, wishes, line, top)?,
+        None => combed(alloc, memo, &mut nodes, wishes.order, top)?,
+    };
+    reach(alloc, memo, &mut nodes, wishes, tree, top)
+}
+
+fn seed_region(
+    alloc: Global,
+    memo: &mut Memo<'_>,
+    statistics: &Statistics,
+    region: Region,
+) -> Result<(), AllocError> {
+    let parts = parts_of(alloc, memo.log(), region.join)?;
+    if parts.leaves.len() > MOST_LEAVES {
+        return Ok(());
+    }
+    let choice = choose(alloc, memo, statistics, region, &parts)?;
+    seed_tree(alloc, memo, region, &parts, &choice)
+}
+
+/// Adds lines to a log so that for each group of inner joins that hang together a tree that seems good is among its plans.
+pub fn seed(alloc: Global, memo: &mut Memo<'_>, statistics: &Statistics) -> Result<(), AllocError> {
+    for region in regions(alloc, memo.log())? {
+        seed_region(alloc, memo, statistics, region)?;
+    }
+    Ok(())
+}
