@@ -91,7 +91,7 @@ fn push_line(
 }
 
 /// The log of the lines, whose first ones are those of the query's frame.
-fn replay<'q>(
+pub fn replay<'q>(
     alloc: Global,
     query: &'q Query,
     frame: &[Expr],
