@@ -11,7 +11,7 @@ use Rattle.std.specs.Prelude.{codes}
 use Rattle.std.specs.Result.{IsErrAnd}
 use Rattle.values.specs.declared.fault.Fault.{Fault}
 use Rattle.values.specs.declared.fault.Fault.TheVariants.{Memory, Refused}
-use Rattle.algebra.proofs.Sets.{rises, rises-rising, has-rising, one-rising, rising-again}
+use Rattle.algebra.proofs.Sets.{rising-again}
 use Rattle.algebra.specs.Columns.{rising}
 use Rattle.certificate_parts.specs.declared.part_fault.PartReason.{PartReason}
 use Rattle.certificate_parts.specs.declared.part_fault.PartReason.TheVariants.{OtherForm, OverLimit}

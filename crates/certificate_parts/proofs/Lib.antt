@@ -1,5 +1,9 @@
+pub mod AggregateLists
+pub mod AggregateParts
 pub mod ColumnLists
 pub mod DecimalNumerals
+pub mod Exits
+pub mod Lacking
 pub mod NumberLists
 pub mod NumberParts
 pub mod NumeralOrder

@@ -1,5 +1,5 @@
 -- Words that are numbers, as they are read.
-use Rattle.std.proofs.Common.{◌≡◌, ℕ, ◌<◌, ◌^◌, length, true, false, Result, Ok, Err, sym, ◌∙◌, ap, subst}
+use Rattle.std.proofs.Common.{◌≡◌, ℕ, ◌<◌, ◌^◌, length, true, false, Result, Ok, Err, Option, Some, None, sym, ◌∙◌, ap, subst}
 use Rattle.std.proofs.lemmas.Bool.{false≢true}
 use Rattle.std.proofs.lemmas.Str.Parse.{IsNumeralModel, numerals_by_value, tells_digits, parse_digits}
 use Rattle.std.specs.Result.{result_ok, OkIff}
@@ -7,7 +7,9 @@ use Rattle.std.specs.Str.Parse.{AllDigits, ParsesUnsigned, digits_value}
 use Rattle.certificate_parts.specs.PartTexts.{Text}
 use Rattle.certificate_parts.specs.Numerals.{numeral, has_numeral_form}
 use Rattle.certificate_parts.specs.Parts.{IsRead, SpellsNumber, IsShort}
-use Rattle.certificate_parts.proofs.Numerals.{tested_numeral, numeral_tested, form_digits, form_nonempty}
+use Rattle.certificate_parts.proofs.Numerals.{tested_numeral, numeral_tested, numeral_injective, form_digits, form_nonempty}
+use Rattle.certificate_parts.specs.declared.part_fault.PartReason.{PartReason}
+use Rattle.certificate_parts.specs.declared.part_fault.PartReason.TheVariants.{OtherForm, OverLimit}
 
 own : IsNumeralModel (AllDigits 10) (digits_value 10)
 own = numerals_by_value (AllDigits 10) tells_digits
@@ -21,3 +23,14 @@ numeral_read {E} w r h p = one r (parse_digits own 32 w r p (form_digits w h)) w
 
 pub no_numeral : (w : Text) → has_numeral_form w ≡ false → (n : ℕ) → SpellsNumber w n → ⊥
 no_numeral w h n e = false≢true (sym h ∙ ap has_numeral_form e ∙ numeral_tested n)
+
+-- ---- of a text that spells a number of 32 bits
+
+pub short_given : (w : Text) (n : ℕ) (r : Option ℕ) → IsRead SpellsNumber IsShort w (Ok r) → w ≡ numeral n → IsShort n → r ≡ Some n
+short_given w n (Some m) h e s = ap Some (numeral_injective m n (sym h.0 ∙ e))
+short_given w n None h e s = absurd (h.2 (subst IsShort (numeral_injective n h.0 (sym e ∙ h.1)) s))
+
+pub number_given : (w : Text) (n : ℕ) (r : Result (Option ℕ) PartReason) → IsRead SpellsNumber IsShort w r → w ≡ numeral n → IsShort n → r ≡ Ok (Some n)
+number_given w n (Ok r) h e s = ap Ok (short_given w n r h e s)
+number_given w n (Err OtherForm) h e s = absurd (h n e)
+number_given w n (Err OverLimit) h e s = absurd h

@@ -147,3 +147,9 @@ form_digits w h = let all : list_all is_ascii_digit w ≡ true = grind arith in 
 
 pub form_nonempty : (w : Text) → has_numeral_form w ≡ true → 0 < length w
 form_nonempty w h = grind (arith, nat_tests)
+
+pub numeral_digits : (n : ℕ) → list_all is_ascii_digit (numeral n) ≡ true
+numeral_digits n = all_ascii (numeral n) (form_digits (numeral n) (numeral_tested n))
+
+pub numeral_injective : (m n : ℕ) → numeral m ≡ numeral n → m ≡ n
+numeral_injective m n e = sym (numeral_value m) ∙ ap (digits_value 10) e ∙ numeral_value n

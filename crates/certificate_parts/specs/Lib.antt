@@ -2,3 +2,4 @@ pub mod DecimalNumerals
 pub mod Numerals
 pub mod Parts
 pub mod PartTexts
+pub mod Spelled

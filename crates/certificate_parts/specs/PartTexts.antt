@@ -1,6 +1,9 @@
 -- The texts of the parts of a line, with numbers of any size.
-use Rattle.std.specs.Prelude.{ℕ, List, [], ◌∷◌, codes}
+use Rattle.std.specs.Prelude.{◌≡◌, ℕ, List, [], ◌∷◌, ◌++◌, codes}
 use Rattle.std.specs.List.{join_by}
+use Rattle.query.specs.declared.query.Aggregate.{Aggregate}
+use Rattle.query.specs.declared.query.Aggregate.TheVariants as by
+use Rattle.algebra.specs.declared.expr.Aggregation.{Aggregation}
 use Rattle.certificate_parts.specs.Numerals.{numeral}
 
 abbrev pub Text : Type 0
@@ -13,3 +16,26 @@ list_text part (x ∷ xs) = join_by part (codes ",") (x ∷ xs)
 
 abbrev pub numbers_text : List ℕ → Text
 numbers_text = list_text numeral
+
+-- what an aggregate computes, with the column that it reads
+abbrev pub aggregate_text : Aggregate → Text
+aggregate_text by.CountRows = codes "count"
+aggregate_text (by.Count k) = codes "count:" ++ numeral k
+aggregate_text (by.Sum k) = codes "sum:" ++ numeral k
+aggregate_text (by.Min k) = codes "min:" ++ numeral k
+aggregate_text (by.Max k) = codes "max:" ++ numeral k
+
+-- the aggregate is the one of the name over the column
+abbrev pub IsNamed : Aggregate → Text → ℕ → Type 0
+IsNamed by.CountRows name k = ⊥
+IsNamed (by.Count c) name k = (name ≡ codes "count") × (c ≡ k)
+IsNamed (by.Sum c) name k = (name ≡ codes "sum") × (c ≡ k)
+IsNamed (by.Min c) name k = (name ≡ codes "min") × (c ≡ k)
+IsNamed (by.Max c) name k = (name ≡ codes "max") × (c ≡ k)
+
+-- with the new column before it
+abbrev pub aggregation_text : Aggregation → Text
+aggregation_text a = numeral a.column ++ (codes "=" ++ aggregate_text a.aggregate)
+
+abbrev pub aggregations_text : List Aggregation → Text
+aggregations_text = list_text aggregation_text

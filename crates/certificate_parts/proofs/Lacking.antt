@@ -1,0 +1,53 @@
+-- Texts that lack a character.
+use Rattle.std.proofs.Common.{◌≡◌, ◌≢◌, ℕ, zero, suc, ◌<◌, Bool, true, false, not, ◌&&◌, ◌==◌, List, [], ◌∷◌, ◌++◌, length, get_or, map, append-nil, refl, ◌∙◌, ap, arith}
+use Rattle.std.proofs.lemmas.Bool.Decides.{nat_tests}
+use Rattle.std.proofs.lemmas.Bool.{eq-eqb}
+use Rattle.std.proofs.lemmas.List.Elements.{All-from_recursion}
+use Rattle.std.proofs.lemmas.List.Splits.{slice_split_none, slice_split_at}
+use Rattle.std.specs.Char.{is_ascii_digit}
+use Rattle.std.specs.List.{list_all, All, AllByRecursion, join_by, slice_split}
+use Rattle.certificate_parts.specs.PartTexts.{Text}
+use Rattle.certificate_parts.specs.Numerals.{numeral}
+use Rattle.certificate_parts.proofs.Numerals.{numeral_digits}
+
+-- no byte of the text is the character
+abbrev pub lacks : ℕ → Text → Bool
+lacks c w = list_all (λ b. not (b == c)) w
+
+pub lacks_at : (c : ℕ) (w : Text) → lacks c w ≡ true → (i : ℕ) → i < length w → get_or w i 0 ≢ c
+lacks_at c [] h i l e = absurd (omega arith)
+lacks_at c (b ∷ w) h zero l e = grind (arith, nat_tests)
+lacks_at c (b ∷ w) h (suc i) l e = let more : lacks c w ≡ true = grind arith in lacks_at c w more i (omega arith) e
+
+pub lacks-append : (c : ℕ) (v w : Text) → lacks c (v ++ w) ≡ lacks c v && lacks c w
+lacks-append c [] w = refl
+lacks-append c (b ∷ v) w = let more = lacks-append c v w in grind arith
+
+pub lacks_both : (c : ℕ) (v w : Text) → lacks c v ≡ true → lacks c w ≡ true → lacks c (v ++ w) ≡ true
+lacks_both c v w h k = let both = lacks-append c v w in grind arith
+
+digits_lack : (c : ℕ) (w : Text) → is_ascii_digit c ≡ false → list_all is_ascii_digit w ≡ true → lacks c w ≡ true
+digits_lack c [] other h = refl
+digits_lack c (b ∷ w) other h =
+    let one : is_ascii_digit b ≡ true = grind arith in
+    let more : list_all is_ascii_digit w ≡ true = grind arith in
+    let rest = digits_lack c w other more in
+    grind (arith, nat_tests)
+
+pub numeral_lacks : (c n : ℕ) → is_ascii_digit c ≡ false → lacks c (numeral n) ≡ true
+numeral_lacks c n other = digits_lack c (numeral n) other (numeral_digits n)
+
+-- ---- lists that are joined by the character
+
+lacking : (c : ℕ) (w : Text) → lacks c w ≡ true → AllByRecursion (λ b. (b == c) ≡ false) w
+lacking c [] free = tt
+lacking c (b ∷ w) free = let more : lacks c w ≡ true = grind arith in (grind arith, lacking c w more)
+
+pub each_lacks : (c : ℕ) (w : Text) → lacks c w ≡ true → All (λ b. (b == c) ≡ false) w
+each_lacks c w free = All-from_recursion (λ b. (b == c) ≡ false) w (lacking c w free)
+
+-- a joined list is cut into its parts
+pub split_list : {X : Type 0} (part : X → Text) (c : ℕ) → ((x : X) → lacks c (part x) ≡ true) → (x : X) (xs : List X) → slice_split (λ b. b == c) (join_by part (c ∷ []) (x ∷ xs)) ≡ map part (x ∷ xs)
+split_list part c free x [] = ap (slice_split (λ b. b == c)) (append-nil (part x)) ∙ slice_split_none (λ b. b == c) (part x) (each_lacks c (part x) (free x))
+split_list part c free x (y ∷ ys) =
+    slice_split_at (λ b. b == c) (part x) c (join_by part (c ∷ []) (y ∷ ys)) (each_lacks c (part x) (free x)) (eq-eqb c c refl) ∙ ap (λ ts. part x ∷ ts) (split_list part c free y ys)

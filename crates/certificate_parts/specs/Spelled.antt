@@ -1,0 +1,40 @@
+-- What a call gives of a text that spells a value within its ranges.
+use Rattle.std.specs.Prelude.{◌≡◌, List, map, Result, Ok, Option, Some}
+use Rattle.std.specs.List.{AllByRecursion}
+use Rattle.std.specs.Option.{option_map}
+use Rattle.values.specs.declared.fault.Fault.{Fault}
+use Rattle.values.specs.Faults.{Gives}
+use Rattle.query.specs.declared.query.Aggregate.{Aggregate}
+use Rattle.query.specs.declared.query.Aggregate.TheVariants as by
+use Rattle.algebra.specs.declared.expr.Aggregation.{Aggregation}
+use Rattle.algebra.specs.AggregateOrder.{AreByColumn}
+use Rattle.certificate_parts.specs.declared.part_fault.PartReason.{PartReason}
+use Rattle.certificate_parts.specs.PartTexts.{Text, aggregation_text, aggregations_text}
+use Rattle.certificate_parts.specs.Parts.{IsShort}
+
+-- a value that the text spells is what the call gives, as view shows it, unless memory runs out
+abbrev pub ReadsSpelled : {T X V : Type 0} → (T → X → Type 0) → T → (V → X) → Result (Option V) (Fault PartReason) → Type 0
+ReadsSpelled {X = X} Spells t view result = (x : X) → Spells t x → Gives (option_map view) result (Ok (Some x))
+
+-- ---- aggregates
+
+-- the column that it reads is within 32 bits
+abbrev pub IsShortAggregate : Aggregate → Type 0
+IsShortAggregate by.CountRows = Unit {0}
+IsShortAggregate (by.Count k) = IsShort k
+IsShortAggregate (by.Sum k) = IsShort k
+IsShortAggregate (by.Min k) = IsShort k
+IsShortAggregate (by.Max k) = IsShort k
+
+abbrev pub IsShortAggregation : Aggregation → Type 0
+IsShortAggregation a = IsShort a.column × IsShortAggregate a.aggregate
+
+-- their columns are within 32 bits, and those that they add rise strictly
+abbrev pub AreReadable : List Aggregation → Type 0
+AreReadable G = AllByRecursion IsShortAggregation G × AreByColumn G
+
+abbrev pub SpellEachAggregation : List Text → List Aggregation → Type 0
+SpellEachAggregation ts G = (ts ≡ map aggregation_text G) × AreReadable G
+
+abbrev pub SpellsAggregations : Text → List Aggregation → Type 0
+SpellsAggregations t G = (t ≡ aggregations_text G) × AreReadable G
