@@ -8,3 +8,6 @@ pub numeral-decimal : (n : ℕ) → n < 2 ^ 64 → numeral n ≡ decimal n
 unfolding numeral
 numeral-decimal zero small = sym (decimal_digit 0 (omega arith))
 numeral-decimal (suc n) small = sym (decimal-digits_of (suc n) (omega arith) small)
+
+pub short_decimal : (n : ℕ) → n < 2 ^ 32 → decimal n ≡ numeral n
+short_decimal n small = sym (numeral-decimal n (omega (arith, small)))

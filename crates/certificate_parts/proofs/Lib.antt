@@ -8,3 +8,4 @@ pub mod NumberLists
 pub mod NumberParts
 pub mod NumeralOrder
 pub mod Numerals
+pub mod TermParts

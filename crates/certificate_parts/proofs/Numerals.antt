@@ -153,3 +153,7 @@ numeral_digits n = all_ascii (numeral n) (form_digits (numeral n) (numeral_teste
 
 pub numeral_injective : (m n : ℕ) → numeral m ≡ numeral n → m ≡ n
 numeral_injective m n e = sym (numeral_value m) ∙ ap (digits_value 10) e ∙ numeral_value n
+
+pub numeral-zero : numeral 0 ≡ 48 ∷ []
+unfolding numeral
+numeral-zero = refl

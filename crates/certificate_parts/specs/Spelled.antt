@@ -1,13 +1,20 @@
 -- What a call gives of a text that spells a value within its ranges.
-use Rattle.std.specs.Prelude.{◌≡◌, List, map, Result, Ok, Option, Some}
+use Rattle.std.specs.Prelude.{◌≡◌, ℕ, Bool, ◌&&◌, ◌||◌, nat_le, List, map, Result, Ok, Option, Some, FitsSigned, IsUtf8}
+use Rattle.std.specs.Char.{is_ascii_digit}
+use Rattle.std.specs.Int.{w64}
 use Rattle.std.specs.List.{AllByRecursion}
 use Rattle.std.specs.Option.{option_map}
 use Rattle.values.specs.declared.fault.Fault.{Fault}
 use Rattle.values.specs.Faults.{Gives}
+use Rattle.values.specs.declared.value.Value.{Value}
+use Rattle.values.specs.declared.value.Value.TheVariants as value
 use Rattle.query.specs.declared.query.Aggregate.{Aggregate}
 use Rattle.query.specs.declared.query.Aggregate.TheVariants as by
 use Rattle.algebra.specs.declared.expr.Aggregation.{Aggregation}
 use Rattle.algebra.specs.AggregateOrder.{AreByColumn}
+use Rattle.algebra.specs.declared.condition.Term.{Term}
+use Rattle.algebra.specs.declared.condition.Term.TheVariants as term
+use Rattle.algebra.specs.ConjunctOrder.{term_text}
 use Rattle.certificate_parts.specs.declared.part_fault.PartReason.{PartReason}
 use Rattle.certificate_parts.specs.PartTexts.{Text, aggregation_text, aggregations_text}
 use Rattle.certificate_parts.specs.Parts.{IsShort}
@@ -38,3 +45,22 @@ SpellEachAggregation ts G = (ts ≡ map aggregation_text G) × AreReadable G
 
 abbrev pub SpellsAggregations : Text → List Aggregation → Type 0
 SpellsAggregations t G = (t ≡ aggregations_text G) × AreReadable G
+
+-- ---- terms
+
+-- a digit of hexadecimal, in lower case
+abbrev pub is_lower_hex : ℕ → Bool
+is_lower_hex b = is_ascii_digit b || (nat_le 97 b && nat_le b 102)
+
+-- a number has 64 bits, and a text is one
+abbrev pub IsReadableValue : Value → Type 0
+IsReadableValue value.Null = Unit {0}
+IsReadableValue (value.Int z) = FitsSigned w64 z
+IsReadableValue (value.Text t) = IsUtf8 t
+
+abbrev pub IsReadableTerm : Term → Type 0
+IsReadableTerm (term.Column k) = IsShort k
+IsReadableTerm (term.Literal v) = IsReadableValue v
+
+abbrev pub SpellsTerm : Text → Term → Type 0
+SpellsTerm w t = (w ≡ term_text t) × IsReadableTerm t

@@ -1,48 +1,81 @@
 //! Terms: columns and literals.
 
+ghost use Rattle.std.specs.Prelude.{◌≡◌, ℕ, ℤ, List, Ok, Some, IsTrue, FitsSigned, IsUtf8};
+ghost use Rattle.std.specs.Int.{w64};
+ghost use Rattle.std.specs.Fmt.{signed_decimal};
+ghost use Rattle.std.specs.List.{list_all};
+ghost use Rattle.hex.specs.Hex.{encode_lower};
+ghost use Rattle.values.specs.Faults.{Gives};
+ghost use Rattle.certificate_parts.specs.Spelled.{ReadsSpelled, SpellsTerm, is_lower_hex};
+
 use crate::numbers::{is_numeral, number};
 use crate::part_fault::{PartFault, PartReason};
 use algebra::Term;
 use std::alloc::Global;
 use values::{Literal, Text};
 
+/// Whether a word is a number with or without a minus, of any size. There is no `-0`.
+fn is_integer(word: &str) -> bool
+    ensures { (z : ℤ) → FitsSigned w64 z → word.now ≡ signed_decimal z → IsTrue result }
+{
+    match word.strip_prefix('-') {
+        Some(digits) => is_numeral(digits) && digits != "0",
+        None => is_numeral(word),
+    }
+}
+
 /// The number of 64 bits that a word is; `None` where it is past them.
-fn integer(word: &str) -> Result<Option<i64>, PartReason> {
-    let digits = match word.strip_prefix('-') {
-        Some("0") => return Err(PartReason::OtherForm),
-        Some(digits) => digits,
-        None => word,
-    };
-    if !is_numeral(digits) {
+fn integer(word: &str) -> Result<Option<i64>, PartReason>
+    ensures { (z : ℤ) → FitsSigned w64 z → word.now ≡ signed_decimal z → result ≡ Ok (Some z) }
+{
+    if !is_integer(word) {
         return Err(PartReason::OtherForm);
     }
     Ok(word.parse::<i64>().ok())
 }
 
-fn is_lower_hex(byte: u8) -> bool {
-    byte.is_ascii_digit() || (b'a'..=b'f').contains(&byte)
+fn is_lower_hex(byte: u8) -> bool
+    ensures { result ≡ is_lower_hex byte }
+{
+    byte.is_ascii_digit() || (b'a' <= byte && byte <= b'f')
+}
+
+fn are_lower_hex(bytes: &[u8]) -> bool
+    ensures { result ≡ list_all is_lower_hex bytes.now }
+{
+    bytes.iter().all(|byte| is_lower_hex(*byte))
+}
+
+/// The bytes that are spelled in lower-case hexadecimal digits.
+fn bytes(alloc: Global, digits: &str) -> Result<Vec<u8>, PartFault>
+    ensures { (t : List ℕ) → IsUtf8 t → digits.now ≡ encode_lower t → Gives (λ v. v.items) result (Ok t) }
+{
+    if !are_lower_hex(digits.as_bytes()) {
+        return Err(PartReason::OtherForm.into());
+    }
+    match hex::decode(alloc, digits) {
+        Ok(bytes) => Ok(bytes),
+        Err(error) => match error {
+            hex::FromHexError::OutOfMemory => Err(PartFault::Memory),
+            _ => Err(PartReason::OtherForm.into()),
+        },
+    }
 }
 
 /// The text whose bytes in UTF-8 are spelled in lower-case hexadecimal digits.
-fn text(alloc: Global, digits: &str) -> Result<Text, PartFault> {
-    for byte in digits.as_bytes() {
-        if !is_lower_hex(*byte) {
-            return Err(PartReason::OtherForm.into());
-        }
-    }
-    let bytes = match hex::decode(alloc, digits) {
-        Ok(bytes) => bytes,
-        Err(hex::FromHexError::OutOfMemory) => return Err(PartFault::Memory),
-        Err(_) => return Err(PartReason::OtherForm.into()),
-    };
-    match String::from_utf8(bytes) {
+fn text(alloc: Global, digits: &str) -> Result<Text, PartFault>
+    ensures { (t : List ℕ) → IsUtf8 t → digits.now ≡ encode_lower t → Gives (λ x. x) result (Ok t) }
+{
+    match String::from_utf8(bytes(alloc, digits)?) {
         Ok(text) => Ok(Text::new(text)),
         Err(_) => Err(PartReason::OtherForm.into()),
     }
 }
 
 /// The term that a word is; `None` where its number is past its range: 32 bits of a column, 64 bits of a literal.
-pub(crate) fn term(alloc: Global, word: &str) -> Result<Option<Term>, PartFault> {
+pub(crate) fn term(alloc: Global, word: &str) -> Result<Option<Term>, PartFault>
+    ensures { ReadsSpelled SpellsTerm word.now (λ t. t) result }
+{
     if word == "n" {
         return Ok(Some(Term::Literal(Literal::null())));
     }
