@@ -1,6 +1,7 @@
 pub mod AggregateLists
 pub mod AggregateParts
 pub mod ColumnLists
+pub mod CursorSteps
 pub mod DecimalNumerals
 pub mod Exits
 pub mod Lacking
@@ -8,4 +9,5 @@ pub mod NumberLists
 pub mod NumberParts
 pub mod NumeralOrder
 pub mod Numerals
+pub mod OpenConditions
 pub mod TermParts
