@@ -1,6 +1,8 @@
 pub mod AggregateLists
 pub mod AggregateParts
 pub mod ColumnLists
+pub mod ConjunctParts
+pub mod ConjunctTexts
 pub mod CursorSteps
 pub mod DecimalNumerals
 pub mod Exits

@@ -19,7 +19,7 @@ use Rattle.certificate_parts.proofs.DecimalNumerals.{short_decimal}
 
 -- ---- layers
 
-text-at : (x : Condition-F Condition) (c : Condition) → roll-Condition x ≡ c → condition_text c ≡ text_layer (map-Condition Condition (List ℕ) condition_text x)
+pub text-at : (x : Condition-F Condition) (c : Condition) → roll-Condition x ≡ c → condition_text c ≡ text_layer (map-Condition Condition (List ℕ) condition_text x)
 unfolding condition_text
 text-at x c is = ap condition_text (sym is) ∙ fold-roll-Condition (List ℕ) text_layer x
 
@@ -27,13 +27,13 @@ nests-at : (x : Condition-F Condition) (c : Condition) (room : ℕ) → roll-Con
 unfolding nests_within
 nests-at x c room is = ap (λ c. nests_within c room) (sym is) ∙ ap (λ f. f room) (fold-roll-Condition (ℕ → Bool) nests_layer x)
 
-terms-at : (x : Condition-F Condition) (c : Condition) → roll-Condition x ≡ c → terms_of c ≡ terms_layer (map-Condition Condition (List Term) terms_of x)
+pub terms-at : (x : Condition-F Condition) (c : Condition) → roll-Condition x ≡ c → terms_of c ≡ terms_layer (map-Condition Condition (List Term) terms_of x)
 unfolding terms_of
 terms-at x c is = ap terms_of (sym is) ∙ fold-roll-Condition (List Term) terms_layer x
 
 -- ---- parts
 
-all_split : {X : Type 0} (P : X → Type 0) (xs ys : List X) → AllByRecursion P (xs ++ ys) → AllByRecursion P xs × AllByRecursion P ys
+pub all_split : {X : Type 0} (P : X → Type 0) (xs ys : List X) → AllByRecursion P (xs ++ ys) → AllByRecursion P xs × AllByRecursion P ys
 all_split P [] ys h = (tt, h)
 all_split P (x ∷ xs) ys h = let more = all_split P xs ys h.1 in ((h.0, more.0), more.1)
 
@@ -52,7 +52,7 @@ more-texts : (cs : List Condition) → flat_map (λ t. codes "," ++ t) (map cond
 more-texts [] = refl
 more-texts (c ∷ cs) = ap (λ t. (codes "," ++ condition_text c) ++ t) (more-texts cs)
 
-listed-more : (a : Condition) (cs : List Condition) → listed (condition_text a ∷ map condition_text cs) ≡ condition_text a ++ more_text cs
+pub listed-more : (a : Condition) (cs : List Condition) → listed (condition_text a ∷ map condition_text cs) ≡ condition_text a ++ more_text cs
 listed-more a cs = ap (λ t. condition_text a ++ t) (more-texts cs)
 
 -- ---- what stands behind the parenthesis, before the rest

@@ -90,7 +90,7 @@ same_text [] (c ∷ w) e = absurd (false≢true e)
 same_text (b ∷ v) [] e = absurd (false≢true e)
 same_text (b ∷ v) (c ∷ w) e = let parts = and_parts (eqb b c) (pointwise eqb v w) e in λ i. eqb-true b c parts.0 i ∷ same_text v w parts.1 i
 
-pointwise-same : (v : Text) → pointwise eqb v v ≡ true
+pub pointwise-same : (v : Text) → pointwise eqb v v ≡ true
 pointwise-same [] = refl
 pointwise-same (b ∷ v) = λ i. eq-eqb b b refl i && pointwise-same v i
 
