@@ -10,11 +10,11 @@ use Rattle.query.specs.declared.query.Aggregate.{Aggregate}
 use Rattle.query.specs.declared.query.Aggregate.TheVariants as by
 use Rattle.algebra.specs.declared.expr.Aggregation.{Aggregation}
 use Rattle.certificate_parts.specs.declared.part_fault.PartReason.{PartReason}
-use Rattle.certificate_parts.specs.PartTexts.{Text, aggregate_text, aggregation_text}
+use Rattle.certificate_parts.specs.PartTexts.{Text, lacks, aggregate_text, aggregation_text}
 use Rattle.certificate_parts.specs.Numerals.{numeral}
 use Rattle.certificate_parts.specs.Spelled.{ReadsSpelled, IsShortAggregation, SpellEachAggregation, SpellsAggregations}
 use Rattle.certificate_parts.proofs.Exits.{same_some, not_none}
-use Rattle.certificate_parts.proofs.Lacking.{lacks, lacks_both, numeral_lacks, split_list}
+use Rattle.certificate_parts.proofs.Lacking.{lacks_both, numeral_lacks, split_list}
 use Rattle.certificate_parts.proofs.NumberLists.{texts, texts_length}
 
 abbrev columns_of : List Aggregation → List ℕ

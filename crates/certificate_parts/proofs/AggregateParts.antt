@@ -8,11 +8,11 @@ use Rattle.query.specs.declared.query.Aggregate.{Aggregate}
 use Rattle.query.specs.declared.query.Aggregate.TheVariants as by
 use Rattle.algebra.specs.declared.expr.Aggregation.{Aggregation}
 use Rattle.certificate_parts.specs.declared.part_fault.PartReason.{PartReason}
-use Rattle.certificate_parts.specs.PartTexts.{Text, aggregate_text, aggregation_text, IsNamed}
+use Rattle.certificate_parts.specs.PartTexts.{Text, lacks, aggregate_text, aggregation_text, IsNamed}
 use Rattle.certificate_parts.specs.Numerals.{numeral}
 use Rattle.certificate_parts.specs.Parts.{IsRead, SpellsNumber, IsShort}
 use Rattle.certificate_parts.specs.Spelled.{IsShortAggregate, IsShortAggregation}
-use Rattle.certificate_parts.proofs.Lacking.{lacks, lacks_at, numeral_lacks}
+use Rattle.certificate_parts.proofs.Lacking.{lacks_at, numeral_lacks}
 use Rattle.certificate_parts.proofs.NumberParts.{short_given, number_given}
 
 abbrev Cut : Type 0

@@ -1,18 +1,14 @@
 -- Texts that lack a character.
-use Rattle.std.proofs.Common.{◌≡◌, ◌≢◌, ℕ, zero, suc, ◌<◌, Bool, true, false, not, ◌&&◌, ◌==◌, List, [], ◌∷◌, ◌++◌, length, get_or, map, append-nil, refl, ◌∙◌, ap, arith}
+use Rattle.std.proofs.Common.{◌≡◌, ◌≢◌, ℕ, zero, suc, ◌<◌, Bool, true, false, not, ◌&&◌, ◌==◌, List, [], ◌∷◌, ◌++◌, length, get_or, map, append-nil, refl, sym, ◌∙◌, ap, arith}
 use Rattle.std.proofs.lemmas.Bool.Decides.{nat_tests}
-use Rattle.std.proofs.lemmas.Bool.{eq-eqb}
+use Rattle.std.proofs.lemmas.Bool.{eq-eqb, eqb-true, and_parts, false≢true}
 use Rattle.std.proofs.lemmas.List.Elements.{All-from_recursion}
 use Rattle.std.proofs.lemmas.List.Splits.{slice_split_none, slice_split_at}
 use Rattle.std.specs.Char.{is_ascii_digit}
 use Rattle.std.specs.List.{list_all, All, AllByRecursion, join_by, slice_split}
-use Rattle.certificate_parts.specs.PartTexts.{Text}
+use Rattle.certificate_parts.specs.PartTexts.{Text, lacks}
 use Rattle.certificate_parts.specs.Numerals.{numeral}
 use Rattle.certificate_parts.proofs.Numerals.{numeral_digits}
-
--- no byte of the text is the character
-abbrev pub lacks : ℕ → Text → Bool
-lacks c w = list_all (λ b. not (b == c)) w
 
 pub lacks_at : (c : ℕ) (w : Text) → lacks c w ≡ true → (i : ℕ) → i < length w → get_or w i 0 ≢ c
 lacks_at c [] h i l e = absurd (omega arith)
@@ -26,16 +22,17 @@ lacks-append c (b ∷ v) w = let more = lacks-append c v w in grind arith
 pub lacks_both : (c : ℕ) (v w : Text) → lacks c v ≡ true → lacks c w ≡ true → lacks c (v ++ w) ≡ true
 lacks_both c v w h k = let both = lacks-append c v w in grind arith
 
-digits_lack : (c : ℕ) (w : Text) → is_ascii_digit c ≡ false → list_all is_ascii_digit w ≡ true → lacks c w ≡ true
-digits_lack c [] other h = refl
-digits_lack c (b ∷ w) other h =
-    let one : is_ascii_digit b ≡ true = grind arith in
-    let more : list_all is_ascii_digit w ≡ true = grind arith in
-    let rest = digits_lack c w other more in
-    grind (arith, nat_tests)
+pub passing_lack : (p : ℕ → Bool) (c : ℕ) (w : Text) → p c ≡ false → list_all p w ≡ true → lacks c w ≡ true
+passing_lack p c [] other h = refl
+passing_lack p c (b ∷ w) other h =
+    let parts = and_parts (p b) (list_all p w) h in
+    one (b == c) refl parts.0 (passing_lack p c w other parts.1) where
+      one : (same : Bool) → (b == c) ≡ same → p b ≡ true → lacks c w ≡ true → (not same && lacks c w) ≡ true
+      one true e passes rest = absurd (false≢true (sym other ∙ ap p (sym (eqb-true b c e)) ∙ passes))
+      one false e passes rest = rest
 
 pub numeral_lacks : (c n : ℕ) → is_ascii_digit c ≡ false → lacks c (numeral n) ≡ true
-numeral_lacks c n other = digits_lack c (numeral n) other (numeral_digits n)
+numeral_lacks c n other = passing_lack is_ascii_digit c (numeral n) other (numeral_digits n)
 
 -- ---- lists that are joined by the character
 

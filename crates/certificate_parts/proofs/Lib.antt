@@ -1,6 +1,9 @@
 pub mod AggregateLists
 pub mod AggregateParts
 pub mod ColumnLists
+pub mod ConjunctParts
+pub mod ConjunctTexts
+pub mod CursorSteps
 pub mod DecimalNumerals
 pub mod Exits
 pub mod Lacking
@@ -8,4 +11,5 @@ pub mod NumberLists
 pub mod NumberParts
 pub mod NumeralOrder
 pub mod Numerals
+pub mod OpenConditions
 pub mod TermParts

@@ -1,5 +1,5 @@
 -- Terms, as they are read.
-use Rattle.std.proofs.Common.{◌≡◌, ◌≢◌, ℕ, zero, suc, ◌+◌, ◌/◌, ◌%◌, ◌<◌, ◌^◌, Bool, true, false, not, ◌&&◌, cond, List, [], ◌∷◌, length, get_or, drop, ℤ, pos, negsuc, neg_ℤ, Result, Ok, Err, Option, Some, FitsSigned, ltb, inl, inr, ◌⊎◌, refl, sym, ◌∙◌, ap, subst, arith, codes, decimal}
+use Rattle.std.proofs.Common.{◌≡◌, ◌≢◌, ℕ, zero, suc, ◌+◌, ◌/◌, ◌%◌, ◌<◌, ◌^◌, Bool, true, false, not, ◌&&◌, ◌||◌, cond, List, [], ◌∷◌, length, get_or, drop, ℤ, pos, negsuc, neg_ℤ, Result, Ok, Err, Option, Some, FitsSigned, ltb, inl, inr, ◌⊎◌, refl, sym, ◌∙◌, ap, subst, arith, codes, decimal}
 use lib.Dec.{eqb}
 use lib.Pointwise.{pointwise}
 use lib.Utf8.{scalar, scalars, encode, encodes, next, scalar_cases}
@@ -8,6 +8,7 @@ use Rattle.std.proofs.lemmas.Bool.{false≢true, and_parts, cases_lt, eq-eqb, eq
 use Rattle.std.proofs.lemmas.Str.Parse.{IsNumeralModel, numerals_by_value, tells_digits, parse_signed_minus, parse_signed_digits}
 use Rattle.std.proofs.lemmas.Result.{Ok-from_Ok_iff}
 use Rattle.values.proofs.Lists.{all_append}
+use Rattle.std.specs.Char.{is_ascii_digit}
 use Rattle.std.specs.Int.{w64}
 use Rattle.std.specs.Fmt.{signed_decimal}
 use Rattle.std.specs.List.{list_all, AllByRecursion}
@@ -23,14 +24,15 @@ use Rattle.values.specs.Faults.{Gives}
 use Rattle.values.specs.declared.value.Value.TheVariants as value
 use Rattle.algebra.specs.declared.condition.Term.{Term}
 use Rattle.algebra.specs.declared.condition.Term.TheVariants as term
+use Rattle.algebra.specs.ConjunctOrder.{term_text}
 use Rattle.certificate_parts.specs.declared.part_fault.PartReason.{PartReason}
-use Rattle.certificate_parts.specs.PartTexts.{Text}
+use Rattle.certificate_parts.specs.PartTexts.{Text, lacks}
 use Rattle.certificate_parts.specs.Parts.{IsRead, SpellsNumber, IsShort}
 use Rattle.certificate_parts.specs.Numerals.{numeral, has_numeral_form}
-use Rattle.certificate_parts.specs.Spelled.{is_lower_hex, SpellsTerm}
+use Rattle.certificate_parts.specs.Spelled.{is_lower_hex, IsReadableTerm, SpellsTerm}
 use Rattle.certificate_parts.proofs.DecimalNumerals.{numeral-decimal, short_decimal}
 use Rattle.certificate_parts.proofs.Exits.{not_both, same_ok}
-use Rattle.certificate_parts.proofs.Lacking.{lacks_at, numeral_lacks}
+use Rattle.certificate_parts.proofs.Lacking.{lacks_at, lacks_both, passing_lack, numeral_lacks}
 use Rattle.certificate_parts.proofs.NumberParts.{number_given}
 use Rattle.certificate_parts.proofs.Numerals.{numeral_tested, numeral-zero, numeral_injective, numeral_value, form_digits, form_nonempty}
 
@@ -88,7 +90,7 @@ same_text [] (c ∷ w) e = absurd (false≢true e)
 same_text (b ∷ v) [] e = absurd (false≢true e)
 same_text (b ∷ v) (c ∷ w) e = let parts = and_parts (eqb b c) (pointwise eqb v w) e in λ i. eqb-true b c parts.0 i ∷ same_text v w parts.1 i
 
-pointwise-same : (v : Text) → pointwise eqb v v ≡ true
+pub pointwise-same : (v : Text) → pointwise eqb v v ≡ true
 pointwise-same [] = refl
 pointwise-same (b ∷ v) = λ i. eq-eqb b b refl i && pointwise-same v i
 
@@ -217,3 +219,25 @@ no_text w v same e f g = false≢true (sym e ∙ f ∙ ap (λ w. pointwise eqb w
 
 pub text_read : (r : Result Text (Fault PartReason)) (u x : Text) → r ≡ Ok x → Gives (λ x. x) r (Ok u) → u ≡ x
 text_read r u x e h = same_ok {E = PartReason} (Ok u) u x refl (subst (λ (r : Result Text (Fault PartReason)). Gives (λ x. x) r (Ok u)) e h)
+
+-- ---- what a term's text lacks
+
+module _ (c : ℕ) (other : is_lower_hex c ≡ false) (letters : (lacks c (codes "n") ≡ true) × (lacks c (codes "c") ≡ true) × (lacks c (codes "i") ≡ true) × (lacks c (codes "t") ≡ true) × (lacks c (codes "-") ≡ true)) where
+  no_digit : is_ascii_digit c ≡ false
+  no_digit = or_left_false (is_ascii_digit c) _ other where
+    or_left_false : (x y : Bool) → (x || y) ≡ false → x ≡ false
+    or_left_false true y e = absurd (false≢true (sym e))
+    or_left_false false y e = refl
+
+  pub term_lacks : (t : Term) → IsReadableTerm t → lacks c (term_text t) ≡ true
+  term_lacks (term.Column k) s = lacks_both c (codes "c") (decimal k) letters.1 (ap (lacks c) (short_decimal k s) ∙ numeral_lacks c k no_digit)
+  term_lacks (term.Literal value.Null) s = letters.0
+  term_lacks (term.Literal (value.Int (pos n))) s = lacks_both c (codes "i") (decimal n) letters.2 (ap (lacks c) (plain n s) ∙ numeral_lacks c n no_digit)
+  term_lacks (term.Literal (value.Int (negsuc n))) s = lacks_both c (codes "i") (45 ∷ decimal (suc n)) letters.2 (lacks_both c (codes "-") (decimal (suc n)) letters.4 (ap (lacks c) (behind_minus n s) ∙ numeral_lacks c (suc n) no_digit))
+  term_lacks (term.Literal (value.Text u)) s = lacks_both c (codes "t") (encode_lower u) letters.3 (passing_lack is_lower_hex c (encode_lower u) other (encoded_lower u (text_bytes u s)))
+
+pub no_comma : (t : Term) → IsReadableTerm t → lacks 44 (term_text t) ≡ true
+no_comma = term_lacks 44 refl (refl, refl, refl, refl, refl)
+
+pub no_parenthesis : (t : Term) → IsReadableTerm t → lacks 41 (term_text t) ≡ true
+no_parenthesis = term_lacks 41 refl (refl, refl, refl, refl, refl)

@@ -1,3 +1,4 @@
+pub mod Conditions
 pub mod DecimalNumerals
 pub mod Numerals
 pub mod Parts

@@ -1,6 +1,6 @@
 -- The texts of the parts of a line, with numbers of any size.
-use Rattle.std.specs.Prelude.{◌≡◌, ℕ, List, [], ◌∷◌, ◌++◌, codes}
-use Rattle.std.specs.List.{join_by}
+use Rattle.std.specs.Prelude.{◌≡◌, ◌==◌, ℕ, Bool, not, List, [], ◌∷◌, ◌++◌, codes}
+use Rattle.std.specs.List.{join_by, list_all}
 use Rattle.query.specs.declared.query.Aggregate.{Aggregate}
 use Rattle.query.specs.declared.query.Aggregate.TheVariants as by
 use Rattle.algebra.specs.declared.expr.Aggregation.{Aggregation}
@@ -8,6 +8,10 @@ use Rattle.certificate_parts.specs.Numerals.{numeral}
 
 abbrev pub Text : Type 0
 Text = List ℕ
+
+-- no byte of the text is the character
+abbrev pub lacks : ℕ → Text → Bool
+lacks c w = list_all (λ b. not (b == c)) w
 
 -- parts with commas between them; a list without parts is a dash
 abbrev pub list_text : {X : Type 0} → (X → Text) → List X → Text

@@ -1,11 +1,69 @@
 //! Conditions, read from left to right.
 
+ghost use Rattle.std.specs.Prelude.{◌≡◌, ℕ, ◌<◌, ◌++◌, ◌∷◌, List, codes, true, false, Some, MatchBool};
+ghost use Rattle.std.specs.Char.{is_ascii_digit};
+ghost use Rattle.std.specs.List.{AllByRecursion};
+ghost use Rattle.values.specs.declared.truth.Comparison.{Comparison};
+ghost use Rattle.algebra.specs.declared.condition.Condition.{Condition};
+ghost use Rattle.algebra.specs.declared.condition.Condition.TheVariants as condition;
+ghost use Rattle.algebra.specs.declared.condition.Term.{Term};
+ghost use Rattle.algebra.specs.ConjunctOrder.{comparison_text, condition_text, term_text};
+ghost use Rattle.certificate_parts.specs.declared.conditions.Form.{Form};
+ghost use Rattle.certificate_parts.specs.Conditions.{Leaves, IsReadable, form_text, more_text};
+ghost use Rattle.certificate_parts.specs.Numerals.{numeral};
+ghost use Rattle.certificate_parts.specs.PartTexts.{Text, lacks};
+ghost use Rattle.certificate_parts.specs.Parts.{IsShort};
+ghost use Rattle.certificate_parts.specs.Spelled.{IsReadableTerm};
+
 use crate::numbers::number;
 use crate::part_fault::{PartFault, PartReason};
 use crate::terms::term;
 use algebra::{Condition, Term};
 use std::alloc::Global;
 use values::{Boxed, Comparison, Items, Literal};
+
+/// What a condition is, by what stands before its parenthesis.
+#[derive(Drop)]
+enum Form {
+    Not,
+    And,
+    Or,
+    IsNull,
+    Exists,
+    In,
+    Compare(Comparison),
+}
+
+fn named_comparison(name: &str) -> Option<Comparison>
+    ensures { (op : Comparison) → name.now ≡ comparison_text op → result ≡ Some op }
+{
+    match name {
+        "=" => Some(Comparison::Equal),
+        "<>" => Some(Comparison::NotEqual),
+        "<" => Some(Comparison::Less),
+        "<=" => Some(Comparison::LessOrEqual),
+        ">" => Some(Comparison::Greater),
+        ">=" => Some(Comparison::GreaterOrEqual),
+        _ => None,
+    }
+}
+
+fn named_form(name: &str) -> Option<Form>
+    ensures { (form : Form) → name.now ≡ form_text form → result ≡ Some form }
+{
+    match name {
+        "not" => Some(Form::Not),
+        "and" => Some(Form::And),
+        "or" => Some(Form::Or),
+        "null" => Some(Form::IsNull),
+        "exists" => Some(Form::Exists),
+        "in" => Some(Form::In),
+        _ => match named_comparison(name) {
+            Some(comparison) => Some(Form::Compare(comparison)),
+            None => None,
+        },
+    }
+}
 
 /// What is still to be read of a condition. A number past its range is read as any value.
 #[derive(Drop)]
@@ -15,7 +73,10 @@ pub(crate) struct Cursor<'a> {
 }
 
 impl<'a> Cursor<'a> {
-    pub(crate) fn at(left: &'a str) -> Cursor<'a> {
+    pub(crate) fn at(left: &'a str) -> Cursor<'a>
+        ensures left { result.left.now ≡ left.now }
+        ensures in_range { result.in_range ≡ true }
+    {
         Cursor {
             left,
             in_range: true,
@@ -23,7 +84,10 @@ impl<'a> Cursor<'a> {
     }
 
     /// Whether this stands there; it is passed then.
-    fn passes(&mut self, word: &str) -> bool {
+    fn passes(&mut self, word: &str) -> bool
+        ensures passed { MatchBool result (self.old.left.now ≡ word.now ++ self.new.left.now) (((rest : Text) → self.old.left.now ≡ word.now ++ rest → ⊥) × (self.new.left.now ≡ self.old.left.now)) }
+        ensures in_range { self.new.in_range ≡ self.old.in_range }
+    {
         match self.left.strip_prefix(word) {
             Some(left) => {
                 self.left = left;
@@ -34,7 +98,9 @@ impl<'a> Cursor<'a> {
     }
 
     /// Passes what has to stand there.
-    fn expect(&mut self, word: &str) -> Result<(), PartFault> {
+    fn expect(&mut self, word: &str) -> Result<(), PartFault>
+        ensures { (rest : Text) → self.old.left.now ≡ word.now ++ rest → Leaves (λ u. u) tt rest self.old self.new result }
+    {
         if self.passes(word) {
             Ok(())
         } else {
@@ -43,7 +109,10 @@ impl<'a> Cursor<'a> {
     }
 
     /// What stands before the next such character, which is passed too.
-    fn until(&mut self, end: char) -> Result<&'a str, PartFault> {
+    fn until(&mut self, end: char) -> Result<&'a str, PartFault>
+        requires { end < 128 }
+        ensures { (word : Text) (rest : Text) → lacks end word ≡ true → self.old.left.now ≡ word ++ (end ∷ rest) → Leaves (λ w. w.now) word rest self.old self.new result }
+    {
         match self.left.split_once(end) {
             Some((word, left)) => {
                 self.left = left;
@@ -53,7 +122,12 @@ impl<'a> Cursor<'a> {
         }
     }
 
-    fn number(&mut self, word: &str) -> Result<u32, PartFault> {
+    /// The number up to the next such character.
+    fn number(&mut self, end: char) -> Result<u32, PartFault>
+        requires { end < 128 }
+        ensures { (n : ℕ) (rest : Text) → is_ascii_digit end ≡ false → IsShort n → self.old.left.now ≡ numeral n ++ (end ∷ rest) → Leaves (λ n. n) n rest self.old self.new result }
+    {
+        let word = self.until(end)?;
         match number(word)? {
             Some(number) => Ok(number),
             None => {
@@ -64,7 +138,10 @@ impl<'a> Cursor<'a> {
     }
 
     /// The term up to the next such character.
-    fn term(&mut self, alloc: Global, end: char) -> Result<Term, PartFault> {
+    fn term(&mut self, alloc: Global, end: char) -> Result<Term, PartFault>
+        requires { end < 128 }
+        ensures { (t : Term) (rest : Text) → lacks end (term_text t) ≡ true → IsReadableTerm t → self.old.left.now ≡ term_text t ++ (end ∷ rest) → Leaves (λ t. t) t rest self.old self.new result }
+    {
         let word = self.until(end)?;
         match term(alloc, word)? {
             Some(term) => Ok(term),
@@ -75,22 +152,14 @@ impl<'a> Cursor<'a> {
         }
     }
 
-    /// The comparison that stands there, up to its parenthesis.
-    fn comparison(&mut self) -> Result<Comparison, PartFault> {
-        if self.passes("=(") {
-            Ok(Comparison::Equal)
-        } else if self.passes("<>(") {
-            Ok(Comparison::NotEqual)
-        } else if self.passes("<(") {
-            Ok(Comparison::Less)
-        } else if self.passes("<=(") {
-            Ok(Comparison::LessOrEqual)
-        } else if self.passes(">(") {
-            Ok(Comparison::Greater)
-        } else if self.passes(">=(") {
-            Ok(Comparison::GreaterOrEqual)
-        } else {
-            Err(PartReason::OtherForm.into())
+    /// What stands before the parenthesis, which is passed too.
+    fn form(&mut self) -> Result<Form, PartFault>
+        ensures { (form : Form) (rest : Text) → self.old.left.now ≡ form_text form ++ (40 ∷ rest) → Leaves (λ form. form) form rest self.old self.new result }
+    {
+        let name = self.until('(')?;
+        match named_form(name) {
+            Some(form) => Ok(form),
+            None => Err(PartReason::OtherForm.into()),
         }
     }
 
@@ -100,62 +169,81 @@ impl<'a> Cursor<'a> {
         &mut self,
         alloc: Global,
         room: usize,
-    ) -> Result<(Boxed<Condition>, Boxed<Condition>, Items<Condition>), PartFault> {
+    ) -> Result<(Boxed<Condition>, Boxed<Condition>, Items<Condition>), PartFault>
+        ensures { (a : Condition) (b : Condition) (cs : List Condition) (rest : Text) → IsReadable room a → IsReadable room b → AllByRecursion (IsReadable room) cs
+            → self.old.left.now ≡ condition_text a ++ (44 ∷ (condition_text b ++ (more_text cs ++ (41 ∷ rest))))
+            → Leaves (λ parts. parts) (a, b, cs) rest self.old self.new result }
+    {
         let first = Boxed::new(alloc, self.condition(alloc, room)?)?;
         self.expect(",")?;
         let second = Boxed::new(alloc, self.condition(alloc, room)?)?;
+        Ok((first, second, self.more(alloc, room)?))
+    }
+
+    /// The parts behind the second one, up to the last parenthesis.
+    #[cycle(conditions)]
+    fn more(&mut self, alloc: Global, room: usize) -> Result<Items<Condition>, PartFault>
+        ensures { (cs : List Condition) (rest : Text) → AllByRecursion (IsReadable room) cs → self.old.left.now ≡ more_text cs ++ (41 ∷ rest) → Leaves (λ cs. cs) cs rest self.old self.new result }
+    {
         let mut more = Items::new(alloc);
-        // Each takes a byte at least.
-        for _ in 0..self.left.len() {
-            if !self.passes(",") {
-                break;
+        // Each takes a byte at least, and so does the parenthesis.
+        for _count in 0..self.left.len() {
+            if self.passes(")") {
+                return Ok(more);
             }
+            self.expect(",")?;
             more.push(self.condition(alloc, room)?)?;
         }
-        self.expect(")")?;
-        Ok((first, second, more))
+        Err(PartReason::OtherForm.into())
     }
 
     /// The condition that stands there, with no more conditions in one another than there is room for.
     #[cycle(conditions)]
-    pub(crate) fn condition(&mut self, alloc: Global, room: usize) -> Result<Condition, PartFault> {
+    pub(crate) fn condition(&mut self, alloc: Global, room: usize) -> Result<Condition, PartFault>
+        ensures { (c : Condition) (rest : Text) → IsReadable room c → self.old.left.now ≡ condition_text c ++ rest → Leaves (λ c. c) c rest self.old self.new result }
+    {
         let Some(room) = room.checked_sub(1) else {
             return Err(PartReason::OverLimit.into());
         };
-        if self.passes("not(") {
-            let part = Boxed::new(alloc, self.condition(alloc, room)?)?;
-            self.expect(")")?;
-            return Ok(Condition::Not(part));
+        match self.form()? {
+            Form::Not => {
+                let part = Boxed::new(alloc, self.condition(alloc, room)?)?;
+                self.expect(")")?;
+                Ok(Condition::Not(part))
+            }
+            Form::And => {
+                let (first, second, more) = self.parts(alloc, room)?;
+                Ok(Condition::And(first, second, more))
+            }
+            Form::Or => {
+                let (first, second, more) = self.parts(alloc, room)?;
+                Ok(Condition::Or(first, second, more))
+            }
+            Form::IsNull => Ok(Condition::IsNull(self.term(alloc, ')')?)),
+            Form::Exists => Ok(Condition::Exists(self.number(')')?)),
+            Form::In => self.membership(alloc),
+            Form::Compare(comparison) => self.comparison(alloc, comparison),
         }
-        if self.passes("and(") {
-            let (first, second, more) = self.parts(alloc, room)?;
-            return Ok(Condition::And(first, second, more));
-        }
-        if self.passes("or(") {
-            let (first, second, more) = self.parts(alloc, room)?;
-            return Ok(Condition::Or(first, second, more));
-        }
-        self.simple(alloc)
     }
 
-    /// The condition that stands there, of one that has no other in it.
-    fn simple(&mut self, alloc: Global) -> Result<Condition, PartFault> {
-        if self.passes("null(") {
-            return Ok(Condition::IsNull(self.term(alloc, ')')?));
-        }
-        if self.passes("exists(") {
-            let class = self.until(')')?;
-            return Ok(Condition::Exists(self.number(class)?));
-        }
-        if self.passes("in(") {
-            let term = self.term(alloc, ',')?;
-            let class = self.until(',')?;
-            let class = self.number(class)?;
-            self.expect("c")?;
-            let column = self.until(')')?;
-            return Ok(Condition::In(term, class, self.number(column)?));
-        }
-        let comparison = self.comparison()?;
+    /// Whether a term is among the values of a column of a class, behind the parenthesis.
+    fn membership(&mut self, alloc: Global) -> Result<Condition, PartFault>
+        ensures { (a : Term) (g : ℕ) (k : ℕ) (rest : Text) → IsReadableTerm a → IsShort g → IsShort k
+            → self.old.left.now ≡ term_text a ++ (44 ∷ (numeral g ++ (44 ∷ (99 ∷ (numeral k ++ (41 ∷ rest))))))
+            → Leaves (λ c. c) (condition.In a g k) rest self.old self.new result }
+    {
+        let term = self.term(alloc, ',')?;
+        let class = self.number(',')?;
+        self.expect("c")?;
+        Ok(Condition::In(term, class, self.number(')')?))
+    }
+
+    /// The comparison of two terms, behind the parenthesis.
+    fn comparison(&mut self, alloc: Global, comparison: Comparison) -> Result<Condition, PartFault>
+        ensures { (a : Term) (b : Term) (rest : Text) → IsReadableTerm a → IsReadableTerm b
+            → self.old.left.now ≡ term_text a ++ (44 ∷ (term_text b ++ (41 ∷ rest)))
+            → Leaves (λ c. c) (condition.Compare comparison a b) rest self.old self.new result }
+    {
         let left = self.term(alloc, ',')?;
         Ok(Condition::Compare(comparison, left, self.term(alloc, ')')?))
     }

@@ -1,10 +1,44 @@
 //! Lists of conjuncts: no ANDs, in rising order of their texts.
 
+ghost use Rattle.std.specs.Prelude.{◌≡◌, ℕ, ◌+◌, ◌<◌, ◌≤◌, ◌++◌, List, [], codes, false, map};
+ghost use Rattle.std.specs.List.{slice_split};
+ghost use Rattle.std.specs.Ordering.{nat_cmp, is_lt};
+ghost use Rattle.std.specs.Cmp.Lexicographic.{slice_cmp};
+ghost use Rattle.algebra.specs.declared.condition.Condition.{Condition};
+ghost use Rattle.algebra.specs.ConjunctOrder.{condition_text, IsPart};
+ghost use Rattle.certificate_parts.specs.Conditions.{IsReadable, IsBefore, Adds, SpellsConjuncts};
+ghost use Rattle.certificate_parts.specs.Spelled.{ReadsSpelled};
+
 use crate::conditions::Cursor;
 use crate::part_fault::{PartFault, PartReason};
 use algebra::{Condition, Conjuncts};
 use std::alloc::Global;
 use values::Items;
+
+fn is_and(condition: &Condition) -> bool
+    ensures { IsPart condition.now → result ≡ false }
+{
+    match condition {
+        Condition::And(_, _, _) => true,
+        _ => false,
+    }
+}
+
+/// Whether the first of two texts is before the second.
+fn is_before(first: &str, second: &str) -> bool
+    ensures { result ≡ is_lt (slice_cmp nat_cmp first.now second.now) }
+{
+    first < second
+}
+
+/// What stands behind the condition of a part.
+fn end_of(place: usize, parts: usize) -> &'static str
+    requires { place < parts }
+    ensures inner { place + 1 < parts → result.now ≡ [] }
+    ensures last { parts ≤ place + 1 → result.now ≡ codes "]" }
+{
+    if place + 1 < parts { "" } else { "]" }
+}
 
 /// What is read of a list so far.
 #[derive(Drop)]
@@ -16,20 +50,18 @@ struct Rising<'a> {
 
 impl<'a> Rising<'a> {
     /// Reads one more condition, behind which this stands.
-    fn add(
-        &mut self,
-        alloc: Global,
-        part: &'a str,
-        end: &str,
-        room: usize,
-    ) -> Result<(), PartFault> {
+    fn add(&mut self, alloc: Global, part: &'a str, end: &str, room: usize) -> Result<(), PartFault>
+        ensures { (c : Condition) → IsReadable room c → IsPart c → part.now ≡ condition_text c ++ end.now → IsBefore self.old.last.now (condition_text c) → Adds c self.old self.new result }
+    {
         let mut cursor = Cursor::at(part);
         let condition = cursor.condition(alloc, room)?;
         if cursor.left != end {
             return Err(PartReason::OtherForm.into());
         }
-        let text = part.strip_suffix(']').unwrap_or(part);
-        if text.starts_with("and(") || text <= self.last {
+        let Some(text) = part.strip_suffix(end) else {
+            return Err(PartReason::OtherForm.into());
+        };
+        if is_and(&condition) || !is_before(self.last, text) {
             return Err(PartReason::OtherForm.into());
         }
         self.conditions.push(condition)?;
@@ -65,8 +97,7 @@ pub fn conjuncts(alloc: Global, list: &str, room: usize) -> Result<Option<Conjun
         in_range: true,
     };
     for place in 0..parts.len() {
-        let end = if place + 1 < parts.len() { "" } else { "]" };
-        read.add(alloc, parts[place], end, room)?;
+        read.add(alloc, parts[place], end_of(place, parts.len()), room)?;
     }
     read.into_conjuncts(alloc)
 }
