@@ -5,6 +5,7 @@ ghost use Rattle.schema.specs.Databases.{SatisfiesTable, SatisfyTables};
 ghost use Rattle.statistics.specs.Counting as spec;
 
 use crate::counts::{IndexStatistics, Statistics, TableStatistics};
+use crate::digits::keys_by_slots;
 use crate::unique_lists::holds_unique_list;
 use std::alloc::{AllocError, Global};
 use std::collections::HashSet;
@@ -15,7 +16,8 @@ const ROWS_IN_PAGE: u64 = 50;
 
 const ENTRIES_IN_PAGE: u64 = 100;
 
-fn different_keys(alloc: Global, rows: &Table, places: &[usize]) -> Result<u64, AllocError>
+/// By a set of the keys.
+fn keys_by_set(alloc: Global, rows: &Table, places: &[usize]) -> Result<u64, AllocError>
     ensures { IfOk result (λ keys. keys ≡ spec.different_keys rows.now places.now) }
 {
     let mut keys = HashSet::new(alloc);
@@ -23,6 +25,15 @@ fn different_keys(alloc: Global, rows: &Table, places: &[usize]) -> Result<u64, 
         keys.insert(RowKey::new(RowCells::Stored(rows, row), places))?;
     }
     Ok(keys.len() as u64)
+}
+
+fn different_keys(alloc: Global, rows: &Table, places: &[usize]) -> Result<u64, AllocError>
+    ensures { IfOk result (λ keys. keys ≡ spec.different_keys rows.now places.now) }
+{
+    match keys_by_slots(alloc, rows, places)? {
+        Some(keys) => Ok(keys),
+        None => keys_by_set(alloc, rows, places),
+    }
 }
 
 /// The same of rows that satisfy their table's entry, with no pass where they can't agree on the index.

@@ -3,6 +3,7 @@
 
 mod counting;
 pub mod counts;
+mod digits;
 mod entries;
 pub mod fault;
 mod reading;
