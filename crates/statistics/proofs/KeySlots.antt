@@ -1,5 +1,5 @@
 -- Slots of keys: two rows have one slot exactly where they have one key.
-use Rattle.std.proofs.Common.{◌≡◌, refl, sym, ap, ◌∙◌, ℕ, zero, suc, ◌+◌, ◌*◌, ◌<◌, ◌≤◌, ℤ, Bool, true, false, List, [], ◌∷◌, ◌++◌, length, get_or, map, take, slice_index_or, nat_eq, subst, eq-eqb, arith}
+use Rattle.std.proofs.Common.{◌≡◌, refl, sym, ap, ◌∙◌, ℕ, zero, suc, ◌+◌, ◌*◌, ◌<◌, ◌≤◌, ℤ, List, [], ◌∷◌, ◌++◌, length, get_or, take, slice_index_or, nat_eq, subst, eq-eqb, arith}
 use Rattle.std.specs.Cmp.{both_ways}
 use Rattle.std.proofs.lemmas.Bool.{eqb-true}
 use Rattle.store.specs.Keys.{key_eq, key_decides}
@@ -10,7 +10,6 @@ use Rattle.std.proofs.lemmas.Nat.{mul-le, same_from_place}
 use Rattle.std.proofs.lemmas.List.Sums.{fold_more}
 use Rattle.values.specs.declared.value.Value.{Value}
 use Rattle.values.specs.declared.value.Value.TheVariants as value
-use Rattle.values.proofs.Lists.{all_at}
 use Rattle.schema.specs.Databases.{Row, values_at}
 use Rattle.store.specs.NumberColumns.{number_at, AreNumbersOf}
 use Rattle.store.specs.declared.numbers.Numbers.{Numbers}

@@ -1,8 +1,8 @@
 -- Marks at the slots of keys: as many as the keys that differ.
-use Rattle.std.proofs.Common.{◌≡◌, ◌≢◌, refl, sym, ap, ◌∙◌, ℕ, zero, suc, ◌+◌, ◌<◌, ◌≤◌, Bool, true, false, cond, ◌||◌, List, [], ◌∷◌, ◌++◌, length, get_or, map, replicate, nat_eq, inl, inr, arith}
+use Rattle.std.proofs.Common.{◌≡◌, ◌≢◌, refl, sym, ap, ◌∙◌, ℕ, zero, suc, ◌+◌, ◌<◌, ◌≤◌, Bool, true, false, cond, ◌||◌, List, [], ◌∷◌, length, get_or, map, replicate, nat_eq, inl, inr, arith}
 use Rattle.std.proofs.Math.ListN.{set}
-use Rattle.std.specs.Cmp.{both_ways, nat_eq_equiv}
-use Rattle.std.specs.List.{list_any, count_by, range_with_len, AllByRecursion, IsDistinct}
+use Rattle.std.specs.Cmp.{nat_eq_equiv}
+use Rattle.std.specs.List.{count_by, range_with_len, AllByRecursion, IsDistinct}
 use Rattle.std.specs.Set.{is_member, distinct_count, unique_keys}
 use Rattle.std.proofs.lemmas.Bool.Decides.{eqb_tells}
 use Rattle.std.proofs.lemmas.List.{get_or-set_same, get_or-set_other}
@@ -12,7 +12,7 @@ use Rattle.std.proofs.lemmas.List.Sums.{sum_by-cons}
 use Rattle.std.proofs.lemmas.List.{get_or-map, length-map}
 use Rattle.std.proofs.lemmas.Map.Made.{length-from_keys}
 use Rattle.schema.specs.Databases.{Row, values_at}
-use Rattle.store.specs.Keys.{key_eq, key_decides}
+use Rattle.store.specs.Keys.{key_eq}
 use Rattle.statistics.specs.Counting.{different_keys}
 use Rattle.statistics.specs.declared.digits.DigitColumn.{DigitColumn}
 use Rattle.statistics.specs.Digits.{slot_in, AreMarked, ColumnsOf}

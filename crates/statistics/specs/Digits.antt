@@ -1,6 +1,6 @@
 -- The keys of an index as whole numbers: each of its columns has a digit, and a key's digits make up its slot.
 use Rattle.std.specs.Prelude.{◌≡◌, ℕ, ◌+◌, ◌*◌, ◌<◌, ◌≤ℤ◌, ◌-ℤ◌, ℤ, Bool, List, [], ◌∷◌, length, map, unsigned_abs, slice_index_or, nat_eq, false}
-use Rattle.std.specs.List.{fold, range_with_len, AllByRecursion}
+use Rattle.std.specs.List.{fold, range_with_len}
 use Rattle.std.specs.Set.{is_member}
 use Rattle.values.specs.declared.value.Value.{Value}
 use Rattle.values.specs.declared.value.Value.TheVariants as value

@@ -1,4 +1,4 @@
-use Rattle.std.proofs.Common.{◌≡◌, ◌≤◌, ◌<◌, ap, sym, ◌∙◌, length, map, false, arith, slice_index_or, nat_eq}
+use Rattle.std.proofs.Common.{◌≡◌, ap, ◌∙◌, length, map, false, arith, slice_index_or, nat_eq}
 use Rattle.std.proofs.lemmas.List.{with_items_is, length-replicate}
 use Rattle.std.specs.List.{range_with_len}
 use Rattle.std.specs.Set.{is_member}

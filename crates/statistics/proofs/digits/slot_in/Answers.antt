@@ -1,4 +1,4 @@
-use Rattle.std.proofs.Common.{◌≡◌, ◌≤◌, ◌<◌, ◌*◌, ◌+◌, ◌^◌, refl, ap, sym, ◌∙◌, length, take, get_or, w64, pos, [], arith}
+use Rattle.std.proofs.Common.{◌^◌, refl, ap, sym, ◌∙◌, pos, [], arith}
 use Rattle.statistics.specs.declared.digits.DigitColumn.{DigitColumn}
 use Rattle.std.proofs.lemmas.List.{take_all}
 use Rattle.values.proofs.Lists.{all_at}
