@@ -278,7 +278,9 @@ fn statistics_of_unique_lists(rt: HostRuntime) {
     const SCHEMA: &str =
         r#"{"tables":[{"name":"t","columns":[{"name":"a","kind":"INT","not_null":true},{"name":"b","kind":"INT","not_null":false}],"unique":[["b"],["a"]],"indexes":[["b"],["a"],["b","a"]]}]}"#;
     const CASES: &str = r"a,b~ => loaded 0 0 / 0 0 / 0 0 / 0 0
-a,b~1,\N~2,\N~3,7~ => loaded 3 1 / 2 1 / 3 1 / 3 1";
+a,b~1,\N~2,\N~3,7~ => loaded 3 1 / 2 1 / 3 1 / 3 1
+a,b~1,7~2,-9223372036854775808~ => loaded 2 1 / 2 1 / 2 1 / 2 1
+a,b~1,\N~2,\N~ => loaded 2 1 / 1 1 / 2 1 / 2 1";
     let by = Counted { schema: SCHEMA };
     assert_eq!(rt; differences(rt.alloc(), &[CASES], &by).as_deref(), Ok(""));
 }

@@ -5,4 +5,5 @@ pub mod Marks
 pub mod PairedLists
 pub mod ReadBack
 pub mod Spelled
+pub mod UniqueColumns
 pub mod UniqueRows

@@ -6,6 +6,7 @@ ghost use Rattle.statistics.specs.Counting as spec;
 
 use crate::counts::{IndexStatistics, Statistics, TableStatistics};
 use crate::digits::keys_by_slots;
+use crate::unique_columns::{is_unique_column, unique_column_keys};
 use crate::unique_lists::holds_unique_list;
 use std::alloc::{AllocError, Global};
 use std::collections::HashSet;
@@ -36,7 +37,7 @@ fn different_keys(alloc: Global, rows: &Table, places: &[usize]) -> Result<u64, 
     }
 }
 
-/// The same of rows that satisfy their table's entry, with no pass where they can't agree on the index.
+/// The same of rows that satisfy their table's entry, with no pass where they can't agree on the index, or only those with a Null can.
 fn index_keys(
     alloc: Global,
     rows: &Table,
@@ -48,6 +49,11 @@ fn index_keys(
 {
     if holds_unique_list(entry, places) {
         return Ok(rows.len() as u64);
+    }
+    if let [place] = places {
+        if is_unique_column(entry, *place) {
+            return Ok(unique_column_keys(rows, *place) as u64);
+        }
     }
     different_keys(alloc, rows, places)
 }

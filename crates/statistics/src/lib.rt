@@ -7,6 +7,7 @@ mod digits;
 mod entries;
 pub mod fault;
 mod reading;
+mod unique_columns;
 mod unique_lists;
 
 pub use counts::{IndexStatistics, Statistics, TableStatistics};
