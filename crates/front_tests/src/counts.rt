@@ -278,7 +278,29 @@ fn statistics_of_unique_lists(rt: HostRuntime) {
     const SCHEMA: &str =
         r#"{"tables":[{"name":"t","columns":[{"name":"a","kind":"INT","not_null":true},{"name":"b","kind":"INT","not_null":false}],"unique":[["b"],["a"]],"indexes":[["b"],["a"],["b","a"]]}]}"#;
     const CASES: &str = r"a,b~ => loaded 0 0 / 0 0 / 0 0 / 0 0
-a,b~1,\N~2,\N~3,7~ => loaded 3 1 / 2 1 / 3 1 / 3 1";
+a,b~1,\N~2,\N~3,7~ => loaded 3 1 / 2 1 / 3 1 / 3 1
+a,b~1,7~2,-9223372036854775808~ => loaded 2 1 / 2 1 / 2 1 / 2 1
+a,b~1,\N~2,\N~ => loaded 2 1 / 1 1 / 2 1 / 2 1";
+    let by = Counted { schema: SCHEMA };
+    assert_eq!(rt; differences(rt.alloc(), &[CASES], &by).as_deref(), Ok(""));
+}
+
+/// Numbers close together, of either sign, beside Null and the least and greatest of 64 bits, and some just too far apart for their rows.
+#[test]
+fn statistics_of_numbers(rt: HostRuntime) {
+    const SCHEMA: &str =
+        r#"{"tables":[{"name":"t","columns":[{"name":"a","kind":"INT","not_null":false},{"name":"b","kind":"INT","not_null":false}],"unique":[],"indexes":[["a"],["a","b"],["b","a"]]}]}"#;
+    const CASES: &str = r"a,b~ => loaded 0 0 / 0 0 / 0 0 / 0 0
+a,b~\N,\N~ => loaded 1 1 / 1 1 / 1 1 / 1 1
+a,b~-5,\N~ => loaded 1 1 / 1 1 / 1 1 / 1 1
+a,b~\N,\N~\N,\N~ => loaded 2 1 / 1 1 / 1 1 / 1 1
+a,b~-3,5~-3,\N~\N,5~\N,\N~-1,5~-3,5~ => loaded 6 1 / 3 1 / 5 1 / 5 1
+a,b~0,0~0,1~1,0~1,1~1,1~ => loaded 5 1 / 2 1 / 4 1 / 4 1
+a,b~0,0~6,0~ => loaded 2 1 / 2 1 / 2 1 / 2 1
+a,b~0,0~7,0~ => loaded 2 1 / 2 1 / 2 1 / 2 1
+a,b~-9223372036854775808,1~-9223372036854775807,1~\N,1~ => loaded 3 1 / 3 1 / 3 1 / 3 1
+a,b~9223372036854775807,1~9223372036854775806,\N~\N,1~ => loaded 3 1 / 3 1 / 3 1 / 3 1
+a,b~-9223372036854775808,0~9223372036854775807,0~\N,0~0,0~9223372036854775807,0~ => loaded 5 1 / 4 1 / 4 1 / 4 1";
     let by = Counted { schema: SCHEMA };
     assert_eq!(rt; differences(rt.alloc(), &[CASES], &by).as_deref(), Ok(""));
 }

@@ -1,5 +1,5 @@
 -- What is read is spelt by the bytes.
-use Rattle.std.proofs.Common.{◌≡◌, ℕ, List, [], ◌∷◌, length, Bool, true, false, cond, Some, Result, Ok, Err, IfOk, refl, sym, ap, ◌∙◌, subst, codes, ◌==◌}
+use Rattle.std.proofs.Common.{◌≡◌, ℕ, List, length, Bool, true, false, cond, Some, Result, Ok, Err, IfOk, refl, sym, ap, ◌∙◌, subst, codes, ◌==◌}
 use Rattle.std.specs.Str.{IsUtf8, is_utf8}
 use Rattle.std.proofs.lemmas.Str.{IsUtf8-from_is_utf8}
 use Rattle.std.proofs.lemmas.Bool.{eqb-true}
@@ -12,7 +12,6 @@ use Rattle.values.specs.Faults.{Gives}
 use Rattle.values.specs.Faults as faults
 use Rattle.values.proofs.Results.{both_ok, wanted_ok, wanted_if_ok}
 use Rattle.schema.specs.Names.{Name}
-use Rattle.schema.specs.Each.{Pairs}
 use Rattle.schema.specs.Entries.{list_of}
 use Rattle.schema.specs.Spelling.{HasKeys, HasMember, IsArray}
 use Rattle.schema.specs.declared.schema.Table.{Table}

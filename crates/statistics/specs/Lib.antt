@@ -1,4 +1,5 @@
 pub mod Counting
+pub mod Digits
 pub mod Entries
 pub mod Reading
 pub mod Refusals

@@ -5,6 +5,8 @@ ghost use Rattle.schema.specs.Databases.{SatisfiesTable, SatisfyTables};
 ghost use Rattle.statistics.specs.Counting as spec;
 
 use crate::counts::{IndexStatistics, Statistics, TableStatistics};
+use crate::digits::keys_by_slots;
+use crate::unique_columns::{is_unique_column, unique_column_keys};
 use crate::unique_lists::holds_unique_list;
 use std::alloc::{AllocError, Global};
 use std::collections::HashSet;
@@ -15,7 +17,8 @@ const ROWS_IN_PAGE: u64 = 50;
 
 const ENTRIES_IN_PAGE: u64 = 100;
 
-fn different_keys(alloc: Global, rows: &Table, places: &[usize]) -> Result<u64, AllocError>
+/// By a set of the keys.
+fn keys_by_set(alloc: Global, rows: &Table, places: &[usize]) -> Result<u64, AllocError>
     ensures { IfOk result (λ keys. keys ≡ spec.different_keys rows.now places.now) }
 {
     let mut keys = HashSet::new(alloc);
@@ -25,7 +28,16 @@ fn different_keys(alloc: Global, rows: &Table, places: &[usize]) -> Result<u64, 
     Ok(keys.len() as u64)
 }
 
-/// The same of rows that satisfy their table's entry, with no pass where they can't agree on the index.
+fn different_keys(alloc: Global, rows: &Table, places: &[usize]) -> Result<u64, AllocError>
+    ensures { IfOk result (λ keys. keys ≡ spec.different_keys rows.now places.now) }
+{
+    match keys_by_slots(alloc, rows, places)? {
+        Some(keys) => Ok(keys),
+        None => keys_by_set(alloc, rows, places),
+    }
+}
+
+/// The same of rows that satisfy their table's entry, with no pass where they can't agree on the index, or only those with a Null can.
 fn index_keys(
     alloc: Global,
     rows: &Table,
@@ -37,6 +49,11 @@ fn index_keys(
 {
     if holds_unique_list(entry, places) {
         return Ok(rows.len() as u64);
+    }
+    if let [place] = places {
+        if is_unique_column(entry, *place) {
+            return Ok(unique_column_keys(rows, *place) as u64);
+        }
     }
     different_keys(alloc, rows, places)
 }

@@ -3,9 +3,11 @@
 
 mod counting;
 pub mod counts;
+mod digits;
 mod entries;
 pub mod fault;
 mod reading;
+mod unique_columns;
 mod unique_lists;
 
 pub use counts::{IndexStatistics, Statistics, TableStatistics};

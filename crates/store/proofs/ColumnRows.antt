@@ -1,5 +1,5 @@
 -- Rows that are kept by columns.
-use Rattle.std.proofs.Common.{◌≡◌, ℕ, zero, suc, ◌+◌, ◌-◌, ◌<◌, ◌≤◌, List, [], ◌∷◌, ◌++◌, length, map, take, get_or, Bool, true, false, cond, not, refl, sym, ap, ◌∙◌, subst, arith, length-append, pos}
+use Rattle.std.proofs.Common.{◌≡◌, ℕ, zero, suc, ◌+◌, ◌-◌, ◌<◌, ◌≤◌, List, [], ◌∷◌, ◌++◌, length, map, take, get_or, Bool, true, false, cond, not, refl, sym, ap, ◌∙◌, subst, arith, length-append, pos, Option, Some, None, IfSome}
 use Rattle.std.proofs.Math.ListN.{set}
 use Rattle.std.specs.List.{range_with_len, AllByRecursion}
 use Rattle.std.specs.Vec.{with_items}
@@ -16,6 +16,8 @@ use Rattle.schema.specs.Databases.{Row}
 use Rattle.store.specs.declared.cells.Entries.{Entries}
 use Rattle.store.specs.declared.cells.Entries.TheVariants as entries
 use Rattle.store.specs.declared.cells.ColumnCells.{ColumnCells}
+use Rattle.store.specs.declared.numbers.Numbers.{Numbers}
+use Rattle.store.specs.NumberColumns.{AreNumbersOf}
 use Rattle.store.specs.StoredColumns.{Kept, Takes, TakeRow, kind_of, size_of, entry_at, HasCells, cell_at, row_at, rows_of, with_entry, with_value, with_row}
 use Rattle.store.proofs.TextPlaces.{range_same}
 
@@ -212,3 +214,23 @@ place_below cs n rows i j is low within =
 
 pub cell_of_rows : (cs : List ColumnCells) (n : ℕ) (rows : List Row) (i j : ℕ) (c : ColumnCells) → rows_of cs n ≡ rows → i < n → j < length cs → c ≡ get_or cs j c → cell_at c i ≡ get_or (get_or rows i []) j value.Null
 cell_of_rows cs n rows i j c is low within at = rw (← is, row_there cs n i low) (sym (cell_there cs j i c within at))
+
+-- what a column of numbers lends
+numbers_there : (cs : List ColumnCells) (n : ℕ) (rows : List Row) (j : ℕ) (d : ColumnCells) (c : Numbers) → rows_of cs n ≡ rows → AllByRecursion (HasCells n) cs → j < length cs → d ≡ get_or cs j d
+    → c.known.now ≡ d.known → d.entries ≡ entries.Numbers c.numbers.now → AreNumbersOf rows j c
+numbers_there cs n rows j d c is all within at known numbers =
+    let has = has_there cs n j d all within at in
+    let size : length rows ≡ n = ap length (sym is) ∙ length_rows cs n in
+    record {
+      known = ap length known ∙ has.known ∙ sym size;
+      numbers = sym (ap size_of numbers) ∙ has.entries ∙ sym size;
+      value = λ i low.
+          let here : cell_at d i ≡ get_or (get_or rows i []) j value.Null = cell_of_rows cs n rows i j d is (rw size at low) within at in
+          sym here ∙ ap (λ (ks : List Bool). cond (get_or ks i false) (entry_at d.entries i) value.Null) (sym known)
+          ∙ ap (λ (e : Entries). cond (get_or c.known.now i false) (entry_at e i) value.Null) numbers;
+    }
+
+pub numbers_lent : (cs : List ColumnCells) (n : ℕ) (rows : List Row) (j : ℕ) (d : ColumnCells) (o : Option Numbers) → rows_of cs n ≡ rows → AllByRecursion (HasCells n) cs → j < length cs → d ≡ get_or cs j d
+    → IfSome o (λ c. c.known.now ≡ d.known) → IfSome o (λ c. d.entries ≡ entries.Numbers c.numbers.now) → IfSome o (AreNumbersOf rows j)
+numbers_lent cs n rows j d None is all within at known numbers = tt
+numbers_lent cs n rows j d (Some c) is all within at known numbers = numbers_there cs n rows j d c is all within at known numbers

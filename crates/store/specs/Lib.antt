@@ -6,6 +6,7 @@ pub mod Fields
 pub mod Indexes
 pub mod KeyedRows
 pub mod Keys
+pub mod NumberColumns
 pub mod Numbers
 pub mod Parsing
 pub mod Reading

@@ -1,6 +1,6 @@
 //! The values of one column.
 
-ghost use Rattle.std.specs.Prelude.{◌≡◌, ◌<◌, length, not, OnErr, OnOk};
+ghost use Rattle.std.specs.Prelude.{◌≡◌, ◌<◌, length, not, IfSome, OnErr, OnOk};
 ghost use Rattle.values.specs.Cells.{value_of};
 ghost use Rattle.values.specs.Truth as logic;
 ghost use Rattle.values.specs.declared.value.Value.{Value};
@@ -10,10 +10,12 @@ ghost use Rattle.store.specs.Parsing.{IsPlain, PlainFails};
 ghost use Rattle.store.specs.Reports.{Reports};
 ghost use Rattle.store.specs.StoredColumns.{HasCells, kind_of, size_of, cell_at, with_entry, with_value};
 ghost use Rattle.store.specs.declared.cells.Entries.{Entries};
+ghost use Rattle.store.specs.declared.cells.Entries.TheVariants as entries;
 ghost use Rattle.store.specs.declared.cells.ColumnCells.{ColumnCells};
 
 use crate::fault::FieldFault;
 use crate::field::{number_of, unescaped};
+use crate::numbers::Numbers;
 use crate::texts::Texts;
 use schema::{Column, Kind};
 use std::alloc::{AllocError, Global};
@@ -147,6 +149,20 @@ impl ColumnCells {
         match &self.entries {
             Entries::Numbers(numbers) => Cell::Int(i128::from(numbers.as_slice()[row])),
             Entries::Texts(texts) => Cell::Text(texts.text(row)),
+        }
+    }
+
+    /// The column's numbers; None where it has texts.
+    pub fn numbers(&self) -> Option<Numbers<'_>>
+        ensures known { IfSome result (λ c. c.known.now ≡ self.now.known) }
+        ensures entries { IfSome result (λ c. self.now.entries ≡ entries.Numbers c.numbers.now) }
+    {
+        match &self.entries {
+            Entries::Numbers(numbers) => Some(Numbers {
+                known: self.known.as_slice(),
+                numbers: numbers.as_slice(),
+            }),
+            Entries::Texts(_) => None,
         }
     }
 }

@@ -1,10 +1,11 @@
 //! Rows that are kept by columns.
 
-ghost use Rattle.std.specs.Prelude.{◌≡◌, ◌≤◌, ◌∷◌, ◌++◌, ◌<◌, List, [], length, map, slice_index_or, IfOk, OnErr};
+ghost use Rattle.std.specs.Prelude.{◌≡◌, ◌≤◌, ◌∷◌, ◌++◌, ◌<◌, List, [], length, map, slice_index_or, IfOk, IfSome, OnErr};
 ghost use Rattle.csv.specs.Records.{fields_of};
 ghost use Rattle.values.specs.Cells.{value_of};
 ghost use Rattle.values.specs.declared.value.Value.TheVariants as value;
 ghost use Rattle.schema.specs.Databases.{Row, HaveWidth, most_rows};
+ghost use Rattle.store.specs.NumberColumns.{AreNumbersOf};
 ghost use Rattle.store.specs.Tables.{StandFor};
 ghost use Rattle.store.specs.Parsing.{RowFails, fault_at};
 ghost use Rattle.store.specs.Reports.{Reports};
@@ -13,6 +14,7 @@ ghost use Rattle.store.specs.declared.cells.ColumnCells.{ColumnCells};
 
 use crate::cells::ColumnCells;
 use crate::fault::{FieldFault, TableCause};
+use crate::numbers::Numbers;
 use csv::ByteRecord;
 use schema::Column;
 use std::alloc::{AllocError, Global};
@@ -129,5 +131,15 @@ impl ColumnStore {
         ensures { value_of result ≡ slice_index_or (slice_index_or self.now.rows row []) column value.Null }
     {
         self.columns.as_slice()[column].cell(row)
+    }
+
+    /// The numbers of a column; None where it has texts, or there is none.
+    pub fn numbers(&self, column: usize) -> Option<Numbers<'_>>
+        ensures { IfSome result (AreNumbersOf self.now.rows column) }
+    {
+        match self.columns.as_slice().get(column) {
+            Some(cells) => cells.numbers(),
+            None => None,
+        }
     }
 }

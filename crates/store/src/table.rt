@@ -1,8 +1,10 @@
 //! A table of a database.
 
-ghost use Rattle.std.specs.Prelude.{◌≡◌};
+ghost use Rattle.std.specs.Prelude.{◌≡◌, IfSome};
+ghost use Rattle.store.specs.NumberColumns.{AreNumbersOf};
 
 use crate::columns::ColumnStore;
+use crate::numbers::Numbers;
 use crate::source::RowSource;
 use std::marker::Model;
 use values::Cell;
@@ -27,6 +29,13 @@ impl Table {
         ensures { result ≡ columns.rows }
     {
         Table { columns }
+    }
+
+    /// The numbers of a column, as they are kept; None where it has texts, or there is none.
+    pub fn numbers(&self, column: usize) -> Option<Numbers<'_>>
+        ensures { IfSome result (AreNumbersOf self.now column) }
+    {
+        self.columns.numbers(column)
     }
 }
 

@@ -5,7 +5,7 @@ use Rattle.std.proofs.lemmas.Map.Made.{length-from_keys}
 use Rattle.schema.specs.Databases.{Row, values_at}
 use Rattle.store.specs.Keys.{key_eq, key_equiv}
 use Rattle.statistics.proofs.DifferentKeys.{keys-more}
-use Rattle.statistics.proofs.counting.different_keys.Goals as goal
+use Rattle.statistics.proofs.counting.keys_by_set.Goals as goal
 
 pub loop-row-preserved : goal.loop-row-preserved
 loop-row-preserved c = (

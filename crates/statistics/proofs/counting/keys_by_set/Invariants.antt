@@ -3,7 +3,7 @@ use Rattle.std.specs.HashSet as hash
 use Rattle.std.specs.Set.{is_member}
 use Rattle.schema.specs.Databases.{Row, values_at}
 use Rattle.store.specs.Keys.{key_eq}
-use Rattle.statistics.proofs.counting.different_keys.Given as goal
+use Rattle.statistics.proofs.counting.keys_by_set.Given as goal
 
 -- the set has the keys of the rows so far
 abbrev pub invariant-loop-row : goal.invariant-loop-row
