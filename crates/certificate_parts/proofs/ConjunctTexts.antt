@@ -8,8 +8,8 @@ use Rattle.algebra.specs.declared.condition.Condition.{Condition, roll-Condition
 use Rattle.algebra.specs.declared.condition.Condition.TheOpen.{Condition-F}
 use Rattle.algebra.specs.declared.condition.Term.TheVariants as term
 use Rattle.algebra.specs.ConjunctOrder.{condition_text, comparison_text, term_text, listed}
-use Rattle.certificate_parts.specs.Conditions.{IsReadable, more_text, terms_of}
-use Rattle.certificate_parts.specs.PartTexts.{Text, lacks}
+use Rattle.certificate_parts.specs.Conditions.{IsReadable, ended, more_text, terms_of}
+use Rattle.certificate_parts.specs.PartTexts.{lacks}
 use Rattle.certificate_parts.specs.Spelled.{IsReadableTerm}
 use Rattle.certificate_parts.proofs.DecimalNumerals.{short_decimal}
 use Rattle.certificate_parts.proofs.Lacking.{lacks_both, numeral_lacks, each_lacks}
@@ -76,12 +76,6 @@ condition_lacks : (c : Condition) → Lacks c
 condition_lacks = ind-Condition Lacks (λ x y is. subst (λ z. Lacks (roll-Condition z)) is (lacks-layer y _ refl))
 
 -- ---- the parts of a list
-
--- each condition, and the bracket behind the last
-abbrev pub ended : List Condition → List Text
-ended [] = []
-ended (c ∷ []) = (condition_text c ++ codes "]") ∷ []
-ended (c ∷ d ∷ C) = condition_text c ∷ ended (d ∷ C)
 
 pub list_cut : (room : ℕ) (c : Condition) (C : List Condition) → AllByRecursion (IsReadable room) (c ∷ C) → slice_split (λ b. b == 59) (join_by condition_text (codes ";") (c ∷ C) ++ codes "]") ≡ ended (c ∷ C)
 list_cut room c [] h =

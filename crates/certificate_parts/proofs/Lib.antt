@@ -1,6 +1,7 @@
 pub mod AggregateLists
 pub mod AggregateParts
 pub mod ColumnLists
+pub mod ConjunctLists
 pub mod ConjunctParts
 pub mod ConjunctTexts
 pub mod CursorSteps

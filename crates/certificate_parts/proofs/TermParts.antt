@@ -217,6 +217,10 @@ decode_fails t w e u is other (inr fails) = not_both (decode_of w) e t fails (he
 pub no_text : (w v : Text) (same : Bool) → same ≡ false → same ≡ pointwise eqb w v → w ≡ v → ⊥
 no_text w v same e f g = false≢true (sym e ∙ f ∙ ap (λ w. pointwise eqb w v) g ∙ pointwise-same v)
 
+-- a word that the test finds to be the text
+pub text_same : (w v : Text) (same : Bool) → same ≡ true → same ≡ pointwise eqb w v → w ≡ v
+text_same w v same e f = same_text w v (sym f ∙ e)
+
 pub text_read : (r : Result Text (Fault PartReason)) (u x : Text) → r ≡ Ok x → Gives (λ x. x) r (Ok u) → u ≡ x
 text_read r u x e h = same_ok {E = PartReason} (Ok u) u x refl (subst (λ (r : Result Text (Fault PartReason)). Gives (λ x. x) r (Ok u)) e h)
 

@@ -78,6 +78,15 @@ form_text (form.Compare op) = comparison_text op
 abbrev pub conjuncts_text : List Condition → Text
 conjuncts_text C = codes "[" ++ (join_by condition_text (codes ";") C ++ codes "]")
 
+-- each condition, and the bracket behind the last
+abbrev pub ended : List Condition → List Text
+ended [] = []
+ended (c ∷ []) = (condition_text c ++ codes "]") ∷ []
+ended (c ∷ d ∷ C) = condition_text c ∷ ended (d ∷ C)
+
+abbrev pub SpellEachConjunct : ℕ → List Text → List Condition → Type 0
+SpellEachConjunct room ts C = (ts ≡ ended C) × AllByRecursion (IsReadable room) C × AreRising C
+
 -- a list of conditions that can be read, of which none is an AND and whose texts rise
 abbrev pub SpellsConjuncts : ℕ → Text → List Condition → Type 0
 SpellsConjuncts room t C = (t ≡ conjuncts_text C) × AllByRecursion (IsReadable room) C × AreRising C

@@ -1,18 +1,20 @@
 //! Lists of conjuncts: no ANDs, in rising order of their texts.
 
-ghost use Rattle.std.specs.Prelude.{◌≡◌, ℕ, ◌+◌, ◌<◌, ◌≤◌, ◌++◌, List, [], codes, false, map};
+ghost use Rattle.std.specs.Prelude.{◌≡◌, ℕ, ◌+◌, ◌<◌, ◌≤◌, ◌++◌, List, [], ◌==◌, codes, true, false, Ok, Some, map, IfOk};
 ghost use Rattle.std.specs.List.{slice_split};
 ghost use Rattle.std.specs.Ordering.{nat_cmp, is_lt};
 ghost use Rattle.std.specs.Cmp.Lexicographic.{slice_cmp};
+ghost use Rattle.std.specs.Option.{option_map};
+ghost use Rattle.values.specs.Faults.{Gives};
 ghost use Rattle.algebra.specs.declared.condition.Condition.{Condition};
-ghost use Rattle.algebra.specs.ConjunctOrder.{condition_text, IsPart};
-ghost use Rattle.certificate_parts.specs.Conditions.{IsReadable, IsBefore, Adds, SpellsConjuncts};
+ghost use Rattle.algebra.specs.ConjunctOrder.{condition_text, IsPart, AreRising};
+ghost use Rattle.certificate_parts.specs.Conditions.{IsReadable, IsBefore, Adds, SpellEachConjunct, SpellsConjuncts};
 ghost use Rattle.certificate_parts.specs.Spelled.{ReadsSpelled};
 
 use crate::conditions::Cursor;
 use crate::part_fault::{PartFault, PartReason};
 use algebra::{Condition, Conjuncts};
-use std::alloc::Global;
+use std::alloc::{AllocError, Global};
 use values::Items;
 
 fn is_and(condition: &Condition) -> bool
@@ -70,7 +72,9 @@ impl<'a> Rising<'a> {
         Ok(())
     }
 
-    fn into_conjuncts(self, alloc: Global) -> Result<Option<Conjuncts>, PartFault> {
+    fn into_conjuncts(self, alloc: Global) -> Result<Option<Conjuncts>, PartFault>
+        ensures { AreRising self.entry.conditions → self.entry.in_range ≡ true → Gives (option_map (λ c. c)) result (Ok (Some self.entry.conditions)) }
+    {
         if !self.in_range {
             return Ok(None);
         }
@@ -81,16 +85,17 @@ impl<'a> Rising<'a> {
     }
 }
 
-/// The conjuncts of a list, in each of which no more conditions stand in one another than there is room for; `None` where a number is
-/// past its range.
-pub fn conjuncts(alloc: Global, list: &str, room: usize) -> Result<Option<Conjuncts>, PartFault> {
-    if list == "[]" {
-        return Ok(Some(Conjuncts::none(alloc)));
-    }
-    let Some(inside) = list.strip_prefix('[') else {
-        return Err(PartReason::OtherForm.into());
-    };
-    let parts: Vec<&str> = inside.split(';').collect(alloc)?;
+/// The parts of a list.
+fn parts_of(alloc: Global, list: &str) -> Result<Vec<&str>, AllocError>
+    ensures { IfOk result (λ parts. map (λ part. part.now) parts.items ≡ slice_split (λ b. b == 59) list.now) }
+{
+    list.split(';').collect(alloc)
+}
+
+/// The conjuncts of the parts of a list.
+fn each_conjunct(alloc: Global, parts: &[&str], room: usize) -> Result<Option<Conjuncts>, PartFault>
+    ensures { ReadsSpelled (SpellEachConjunct room) (map (λ part. part.now) parts.now) (λ c. c) result }
+{
     let mut read = Rising {
         conditions: Items::new(alloc),
         last: "",
@@ -100,4 +105,19 @@ pub fn conjuncts(alloc: Global, list: &str, room: usize) -> Result<Option<Conjun
         read.add(alloc, parts[place], end_of(place, parts.len()), room)?;
     }
     read.into_conjuncts(alloc)
+}
+
+/// The conjuncts of a list, in each of which no more conditions stand in one another than there is room for; `None` where a number is
+/// past its range.
+pub fn conjuncts(alloc: Global, list: &str, room: usize) -> Result<Option<Conjuncts>, PartFault>
+    ensures { ReadsSpelled (SpellsConjuncts room) list.now (λ c. c) result }
+{
+    if list == "[]" {
+        return Ok(Some(Conjuncts::none(alloc)));
+    }
+    let Some(inside) = list.strip_prefix('[') else {
+        return Err(PartReason::OtherForm.into());
+    };
+    let parts = parts_of(alloc, inside)?;
+    each_conjunct(alloc, parts.as_slice(), room)
 }
