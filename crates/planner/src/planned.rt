@@ -12,10 +12,12 @@ use costs::{Cardinalities, cost};
 use derivation::Line;
 use frame::frame_of;
 use logs::Log;
+use memo::Memo;
 use physical::Plan;
 use query::ids::id_of;
 use query::{BoundQuery, Query};
 use search::best;
+use seed::seed;
 use statistics::Statistics;
 use std::alloc::{AllocError, Global};
 use values::{Fault, Items};
@@ -45,21 +47,21 @@ fn log_of<'q>(
     Ok(Some(log))
 }
 
-/// The cheapest plan of the log's last class in the query's order, where none of the same class is cheaper than the one that is known.
+/// The cheapest plan of the known certificate's class in the query's order, if it is as cheap as the known one.
 fn cheapest(
     alloc: Global,
     query: &Query,
     statistics: &Statistics,
     log: &Log<'_>,
-    known: &Plan,
+    known: &Certificate,
 ) -> Result<Option<Plan>, AllocError> {
-    let Some(last) = log.len().checked_sub(1) else {
+    let Some(last) = known.lines.len().checked_sub(1) else {
         return Ok(None);
     };
     let root = id_of(last)?;
     let order = query_order(alloc, query)?;
     let cardinalities = Cardinalities::of(alloc, statistics, log)?;
-    let known = cost(statistics, log, &cardinalities, known);
+    let known = cost(statistics, log, &cardinalities, &known.plan);
     match best(
         alloc,
         log,
@@ -73,7 +75,18 @@ fn cheapest(
     }
 }
 
-/// A certificate whose plan is searched for over the lines of a known one, if a plan is found that is as cheap.
+/// The log, with lines by which good join trees are among its plans.
+fn seeded<'q>(
+    alloc: Global,
+    log: Log<'q>,
+    statistics: &Statistics,
+) -> Result<Log<'q>, AllocError> {
+    let mut memo = Memo::of(alloc, log)?;
+    seed(alloc, &mut memo, statistics)?;
+    Ok(memo.into_log())
+}
+
+/// A certificate whose plan is searched for over the lines of a known one, and what follows from them, if a plan is found that is as cheap.
 fn searched(
     alloc: Global,
     query: &Query,
@@ -85,7 +98,8 @@ fn searched(
     let Some(log) = log_of(alloc, query, own.as_slice(), known.lines.as_slice())? else {
         return Ok(None);
     };
-    let Some(plan) = cheapest(alloc, query, statistics, &log, &known.plan)? else {
+    let log = seeded(alloc, log, statistics)?;
+    let Some(plan) = cheapest(alloc, query, statistics, &log, known)? else {
         return Ok(None);
     };
     let lines = Items::from_vec(log.into_lines());

@@ -1,0 +1,432 @@
+#!/usr/bin/env python3
+"""Compares the join trees that are planned with the cheapest ones, over random join graphs and statistics.
+
+A second search, of this script's own: a dynamic program over all bushy trees of a query's tables, with scans, scans and joins by index,
+filters before and after joins, hash joins and nested loops, by the costs of docs/COSTS.md. It knows no orders, so no merge joins. Both plans
+are priced by one model: a join of tables has the product of their rows and of the selectivities of all conditions over them, whichever
+tree it comes from, and at least one row. (`costs` rounds up at each line, and never guesses a list to keep less than a millionth.)
+
+Told are, for each shape, form of FROM and number of tables, the geometric mean and the worst of the planned cost over the least one, and how often
+the canonical plan was taken. Wants the program built, or a tree in which the program of quality/main.rt.txt is tried, which proves
+nothing. The seed is fixed, so each run asks the same.
+
+usage: quality.py [--tree PATH] [--worst] [DRAWS [FEWEST MOST [SEED]]]
+"""
+import dataclasses
+import json
+import math
+import pathlib
+import random
+import re
+import shutil
+import subprocess
+import sys
+import tempfile
+
+ROOT = pathlib.Path(__file__).resolve().parent.parent
+NAME = "plan_quality"
+LIBRARIES = (
+    "values schema store statistics sql_parse query binder algebra laws props rules derivation logs frame physical costs memo seed search"
+    " certificate certificate_text planner anyhow"
+)
+BATCH = 200
+SHAPES = ("chain", "star", "cycle", "clique")
+FORMS = ("comma", "on")
+MILLION = 1_000_000
+
+
+# ---- queries
+
+
+@dataclasses.dataclass
+class Table:
+    rows: int
+    columns: list  # names; the first is unique
+    keys: dict  # of the columns with an index, how many different keys
+    filters: list  # conditions on it alone: column, operator, literal
+
+    @property
+    def pages(self):
+        return -(-self.rows // 50)
+
+    @property
+    def index_pages(self):
+        return -(-self.rows // 100)
+
+
+@dataclasses.dataclass
+class Draw:
+    tables: list
+    edges: list  # place, column, place, column
+    text: str
+    from_order: list  # places in the order of the text
+
+
+def joined_pairs(shape, count):
+    chain = [(place, place + 1) for place in range(count - 1)]
+    if shape == "chain":
+        return chain
+    if shape == "star":
+        return [(0, place) for place in range(1, count)]
+    if shape == "cycle":
+        return chain + [(0, count - 1)]
+    return [(a, b) for a in range(count) for b in range(a + 1, count)]
+
+
+def table_of(rng, links):
+    rows = int(10 ** rng.uniform(1, 6))
+    columns = ["id", "v", "w"] + [f"c{link}" for link in links]
+    keys = {"id": rows}
+    for column in columns[1:]:
+        if rng.random() < 0.4:
+            keys[column] = max(1, int(rows ** rng.uniform(0.1, 1)))
+    filters = []
+    for column in ("v", "w"):
+        if rng.random() < 0.3:
+            filters.append((column, rng.choice(["=", "=", "<", ">="]), rng.randrange(100)))
+    return Table(rows, columns, keys, filters)
+
+
+def edge_text(edge):
+    a, column_a, b, column_b = edge
+    return f"t{a}.{column_a} = t{b}.{column_b}"
+
+
+def filter_texts(place, table):
+    return [f"t{place}.{column} {operator} {literal}" for column, operator, literal in table.filters]
+
+
+def connected_order(rng, pairs, count):
+    """The tables in an order in which each but the first is joined with one before it."""
+    order = [rng.randrange(count)]
+    while len(order) < count:
+        near = [p for p in range(count) if p not in order and any({p, q} == set(pair) for q in order for pair in pairs)]
+        order.append(rng.choice(near))
+    return order
+
+
+def query_text(rng, form, tables, edges, order):
+    """`SELECT` of two columns over the tables in this order."""
+    items = f"t{order[0]}.v, t{order[-1]}.w"
+    if form == "comma":
+        conditions = [edge_text(edge) for edge in edges] + [text for p, table in enumerate(tables) for text in filter_texts(p, table)]
+        rng.shuffle(conditions)
+        where = " WHERE " + " AND ".join(conditions) if conditions else ""
+        return f"SELECT {items} FROM " + ", ".join(f"t{place}" for place in order) + where
+    text, seen, where = f"SELECT {items} FROM t{order[0]}", {order[0]}, filter_texts(order[0], tables[order[0]])
+    for place in order[1:]:
+        seen.add(place)
+        on = [edge_text(edge) for edge in edges if place in (edge[0], edge[2]) and {edge[0], edge[2]} <= seen]
+        for condition in filter_texts(place, tables[place]):
+            (on if rng.random() < 0.5 else where).append(condition)
+        text += f" JOIN t{place} ON " + " AND ".join(on)
+    return text + (" WHERE " + " AND ".join(where) if where else "")
+
+
+def draw(rng, shape, form, count):
+    pairs = joined_pairs(shape, count)
+    tables = [table_of(rng, [b if a == place else a for a, b in pairs if place in (a, b)]) for place in range(count)]
+    edges = []
+    for a, b in pairs:
+        side = rng.random()
+        # mostly a foreign key and the unique column that it refers to
+        column_a, column_b = (f"c{b}", "id") if side < 0.4 else ("id", f"c{a}") if side < 0.7 else (f"c{b}", f"c{a}")
+        edges.append((a, column_a, b, column_b))
+    order = connected_order(rng, pairs, count) if form == "on" else rng.sample(range(count), count)
+    return Draw(tables, edges, query_text(rng, form, tables, edges, order), order)
+
+
+def schema_of(drawn):
+    column = lambda name: {"name": name, "kind": "INT", "not_null": name == "id"}
+    return json.dumps(
+        {
+            "tables": [
+                {"name": f"t{place}", "columns": [column(name) for name in table.columns], "unique": [["id"]], "indexes": [[name] for name in table.keys]}
+                for place, table in enumerate(drawn.tables)
+            ]
+        }
+    )
+
+
+def statistics_of(drawn):
+    return json.dumps(
+        {
+            "tables": {
+                f"t{place}": {
+                    "rows": table.rows,
+                    "pages": table.pages,
+                    "indexes": [{"keys": keys, "pages": table.index_pages} for keys in table.keys.values()],
+                }
+                for place, table in enumerate(drawn.tables)
+            }
+        }
+    )
+
+
+# ---- the one model by which plans are priced
+
+
+def share(keys):
+    return -(-MILLION // max(keys, 1)) / MILLION
+
+
+def column_share(table, column):
+    return share(table.keys[column]) if column in table.keys else None
+
+
+def filter_share(table, condition):
+    column, operator, _ = condition
+    if operator == "=":
+        found = column_share(table, column)
+        return 0.1 if found is None else found
+    return 0.333334
+
+
+def edge_share(tables, edge):
+    a, column_a, b, column_b = edge
+    keys = [table.keys[column] for table, column in ((tables[a], column_a), (tables[b], column_b)) if column in table.keys]
+    return share(max(keys)) if keys else 0.1
+
+
+def counted(rows):
+    return max(rows, 1.0)
+
+
+def scan_cost(table):
+    return 100 * table.pages + 10 * table.rows
+
+
+def index_scan_cost(table, column, filters):
+    """The cost of a scan by the index over a column that finds by these filters."""
+    if column == "id" and any(f[0] == column and f[1] == "=" for f in filters):
+        return 210
+    part = math.prod((filter_share(table, f) for f in filters if f[0] == column), start=1.0)
+    rows = table.rows * math.prod((filter_share(table, f) for f in filters), start=1.0)
+    return 100 * part * (table.index_pages + table.rows) + 10 * counted(rows)
+
+
+def probe_cost(table, column):
+    if column == "id":
+        return 210
+    part = share(table.keys[column])
+    return 100 * part * (table.index_pages + table.rows) + 10 * part * table.rows
+
+
+def sort_cost(rows):
+    return rows * max(1, int(rows).bit_length())
+
+
+# ---- the least cost
+
+
+def leaf_costs(table):
+    """The rows and cost of a table with its filters, and without."""
+    raw = (float(table.rows), scan_cost(table))
+    part = math.prod((filter_share(table, f) for f in table.filters), start=1.0)
+    whole = [raw[1] + (table.rows if table.filters else 0)]
+    if table.filters:
+        whole += [index_scan_cost(table, column, table.filters) for column in table.keys if any(f[0] == column for f in table.filters)]
+    return raw, (table.rows * part, min(whole))
+
+
+def least_cost(drawn):
+    tables, count = drawn.tables, len(drawn.tables)
+    raw, full = zip(*map(leaf_costs, tables))
+    near = [0] * count
+    for a, _, b, _ in drawn.edges:
+        near[a] |= 1 << b
+        near[b] |= 1 << a
+    probes = [[] for _ in range(count)]  # of each table: the other table, and the cost of finding matches of one row
+    for a, column_a, b, column_b in drawn.edges:
+        for other, place, column in ((b, a, column_a), (a, b, column_b)):
+            if column in tables[place].keys:
+                probes[place].append((1 << other, probe_cost(tables[place], column)))
+    rows, cost, around = [0.0] * (1 << count), [0.0] * (1 << count), [0] * (1 << count)
+    for place in range(count):
+        rows[1 << place], cost[1 << place] = full[place]
+        around[1 << place] = near[place]
+    shares = [(1 << a | 1 << b, edge_share(tables, edge)) for edge in drawn.edges for a, b in [(edge[0], edge[2])]]
+    for whole in range(1, 1 << count):
+        if whole & (whole - 1) == 0:
+            continue
+        low = whole & -whole
+        others = whole & ~low
+        around[whole] = around[low] | around[others]
+        rows[whole] = rows[low] * rows[others] * math.prod((s for both, s in shares if both & whole == both and both & low), start=1.0)
+        least, part = math.inf, others
+        while part:
+            least = min(least, join_cost(part, whole & ~part, rows, cost, around, raw, probes), join_cost(whole & ~part, part, rows, cost, around, raw, probes))
+            part = (part - 1) & others
+        cost[whole] = least
+    return cost[-1] + 1
+
+
+def sides_of(part, rows, cost, raw):
+    """A side's rows and cost: a table may also stand without its filters, which then are the join's."""
+    sides = [(counted(rows[part]), cost[part])]
+    if part & (part - 1) == 0:
+        place = part.bit_length() - 1
+        sides.append((counted(raw[place][0]), raw[place][1]))
+    return sides
+
+
+def join_cost(left, right, rows, cost, around, raw, probes):
+    least = math.inf
+    is_equated = around[left] & right
+    for left_rows, left_cost in sides_of(left, rows, cost, raw):
+        for right_rows, right_cost in sides_of(right, rows, cost, raw):
+            least = min(least, left_cost + left_rows * right_cost)
+            if is_equated:
+                least = min(least, left_cost + right_cost + left_rows + 2 * right_rows)
+        if is_equated and right & (right - 1) == 0:
+            for other, probe in probes[right.bit_length() - 1]:
+                if other & left:
+                    least = min(least, left_cost + left_rows * probe)
+    return least
+
+
+# ---- the cost of a plan that was made
+
+
+def conditions_in(text):
+    return [c for c in text[1:-1].split(";") if c]
+
+
+class Priced:
+    """A plan's text by the same model."""
+
+    def __init__(self, drawn, nodes):
+        self.tables, self.nodes, self.columns = drawn.tables, iter(nodes), []
+        for place in drawn.from_order:
+            self.columns += [(place, name) for name in drawn.tables[place].columns]
+        self.from_order = drawn.from_order
+
+    def share(self, condition):
+        operator, first, second = re.fullmatch(r"(\S+?)\((\w[-\w]*),(\w[-\w]*)\)", condition).groups()
+        a = self.columns[int(first[1:])] if first[0] == "c" else None
+        b = self.columns[int(second[1:])] if second[0] == "c" else None
+        if a and b:
+            return edge_share(self.tables, (a[0], a[1], b[0], b[1]))
+        place, column = a or b
+        return filter_share(self.tables[place], (column, operator, 0))
+
+    def shares(self, text):
+        return math.prod((self.share(c) for c in conditions_in(text)), start=1.0)
+
+    def index_of(self, instance, index):
+        table = self.tables[self.from_order[int(instance)]]
+        return table, list(table.keys)[int(index)]
+
+    def price(self):
+        """Rows and cost of the plan whose node comes next."""
+        name, *words = next(self.nodes).split()
+        if name == "sort":
+            rows, cost = self.price()
+            return rows, cost + sort_cost(counted(rows))
+        if name == "scan":
+            table = self.tables[self.from_order[int(words[1])]]
+            return float(table.rows), scan_cost(table)
+        if name == "iscan":
+            table, column = self.index_of(words[2], words[3])
+            filters = []
+            for condition in conditions_in(words[4]):
+                operator, first, second = re.fullmatch(r"(\S+?)\((\S+),(\S+)\)", condition).groups()
+                filters.append((self.columns[int((first if first[0] == "c" else second)[1:])][1], operator, 0))
+            return table.rows * self.shares(words[4]), index_scan_cost(table, column, filters)
+        if name == "filter":
+            rows, cost = self.price()
+            return rows * self.shares(words[1]), cost + counted(rows)
+        if name == "cut":
+            rows, cost = self.price()
+            return rows, cost + 1
+        if name == "iloop":
+            table, column = self.index_of(words[3], words[4])
+            rows, cost = self.price()
+            return rows * table.rows * self.shares(words[5]), cost + counted(rows) * probe_cost(table, column)
+        left_rows, left_cost = self.price()
+        right_rows, right_cost = self.price()
+        rows = left_rows * right_rows * self.shares(words[-1])
+        left, right = counted(left_rows), counted(right_rows)
+        if name == "loop":
+            return rows, left_cost + left * right_cost
+        if name == "hash":
+            return rows, left_cost + right_cost + left + 2 * right
+        assert name == "merge", name
+        return rows, left_cost + right_cost + left + right
+
+
+def planned_cost(drawn, certificate):
+    lines, nodes = certificate.split("\nplan ")
+    return Priced(drawn, nodes.split("\n")[1:-2]).price()[1], int(lines.split("\n")[1].split()[1])
+
+
+# ---- both
+
+
+def tried(tree, draws):
+    """The certificates, by the program that is tried in a tree."""
+    crate = tree / "crates" / NAME
+    (crate / "src").mkdir(parents=True, exist_ok=True)
+    shutil.copy(ROOT / "bench/quality/main.rt.txt", crate / "src/main.rt")
+    listed = tree / "crates.txt"
+    if f"\n{NAME}:" not in listed.read_text(encoding="utf-8"):
+        with open(listed, "a", encoding="utf-8") as lines:
+            lines.write(f"{NAME}: {LIBRARIES}\n")
+    texts = []
+    for start in range(0, len(draws), BATCH):
+        parts = [part.encode() for drawn in draws[start : start + BATCH] for part in (schema_of(drawn), drawn.text, statistics_of(drawn))]
+        asked = b"".join(b"%d\n%b" % (len(part), part) for part in parts)
+        run = subprocess.run(["rt", "try"], cwd=crate, input=asked, capture_output=True, check=False)
+        texts += [text for text in run.stdout.decode().split("----\n") if text.startswith("SQLPLAN")]
+        if len(texts) < min(len(draws), start + BATCH):
+            sys.exit(run.stdout.decode()[-2000:] + run.stderr.decode()[-3000:])
+    return texts
+
+
+def planned(draws):
+    texts = []
+    with tempfile.TemporaryDirectory() as name:
+        folder = pathlib.Path(name)
+        for drawn in draws:
+            (folder / "schema.json").write_text(schema_of(drawn))
+            (folder / "query.sql").write_text(drawn.text)
+            (folder / "stats.json").write_text(statistics_of(drawn))
+            run = subprocess.run([ROOT / "release/sqlplan", "plan", *(folder / f for f in ("schema.json", "query.sql", "stats.json"))], capture_output=True, text=True, check=True)
+            texts.append(run.stdout)
+    return texts
+
+
+def main():
+    words = sys.argv[1:]
+    tree = None
+    if "--tree" in words:
+        place = words.index("--tree")
+        tree = pathlib.Path(words[place + 1])
+        del words[place : place + 2]
+    tells_worst = "--worst" in words
+    numbers = [int(word) for word in words if word.isdigit()]
+    count, fewest, most, seed = numbers + [20, 4, 10, 40][len(numbers) :]
+    rng = random.Random(seed)
+    kinds = [(shape, form, size) for shape in SHAPES for form in FORMS for size in range(fewest, most + 1)]
+    draws = [draw(rng, *kind) for kind in kinds for _ in range(count)]
+    certificates = tried(tree, draws) if tree else planned(draws)
+    everything = []
+    for number, kind in enumerate(kinds):
+        ratios, lines = [], []
+        for place in range(number * count, (number + 1) * count):
+            cost, length = planned_cost(draws[place], certificates[place])
+            ratios.append((cost / least_cost(draws[place]), place))
+            lines.append(length)
+        worst, place = max(ratios)
+        mean = math.exp(sum(math.log(ratio) for ratio, _ in ratios) / count)
+        everything += ratios
+        print(f"{kind[0]:7} {kind[1]:5} {kind[2]:2} tables: mean {mean:.3f}, worst {worst:.3f}; lines {min(lines)} to {max(lines)}")
+        if tells_worst and worst > 1.5:
+            drawn = draws[place]
+            print(drawn.text, statistics_of(drawn), certificates[place], sep="\n")
+    logs = [math.log(ratio) for ratio, _ in everything]
+    print(f"all: mean {math.exp(sum(logs) / len(logs)):.3f}, worst {math.exp(max(logs)):.3f}, over 1.5: {sum(log > math.log(1.5) for log in logs)} of {len(logs)}")
+
+
+if __name__ == "__main__":
+    main()
