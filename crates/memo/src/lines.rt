@@ -5,6 +5,7 @@ use algebra::{ClassId, Expr, LineId};
 use derivation::{Line, LineReason, Numbers, Step};
 use indexmap::IndexMap;
 use logs::{LineFault, Log};
+use props::Fact;
 use query::ids::id_of;
 use rules::{Match, RuleName, Shape, Unfit};
 use std::alloc::{AllocError, Global};
@@ -141,6 +142,20 @@ impl<'q> Memo<'q> {
             Some(member) => Ok(Some(member.line)),
             None => Ok(None),
         }
+    }
+
+    /// Adds that the fact holds of a class by the line that founds it, unless it is known. Whether it is known now.
+    pub fn learn(
+        &mut self,
+        alloc: Global,
+        class: ClassId,
+        fact: Fact,
+    ) -> Result<bool, AllocError> {
+        if self.log.classes().knows(class, &fact) {
+            return Ok(true);
+        }
+        let added = self.push(alloc, Line::Gives(class, class, fact));
+        Ok(unless_refused(added)?.is_some())
     }
 
     /// What the rule gives of the class of the first line.

@@ -18,6 +18,7 @@ use query::ids::id_of;
 use query::{BoundQuery, Query};
 use search::best;
 use seed::seed;
+use simplify::simplify;
 use statistics::Statistics;
 use std::alloc::{AllocError, Global};
 use values::{Fault, Items};
@@ -75,13 +76,14 @@ fn cheapest(
     }
 }
 
-/// The log, with lines by which good join trees are among its plans.
+/// The log with what is simpler, and with lines by which good join trees are among its plans.
 fn seeded<'q>(
     alloc: Global,
     log: Log<'q>,
     statistics: &Statistics,
 ) -> Result<Log<'q>, AllocError> {
     let mut memo = Memo::of(alloc, log)?;
+    simplify(alloc, &mut memo)?;
     seed(alloc, &mut memo, statistics)?;
     Ok(memo.into_log())
 }
