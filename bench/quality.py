@@ -29,10 +29,12 @@ LIBRARIES = (
     "values schema store statistics sql_parse query binder algebra laws props rules derivation logs frame physical costs memo seed search"
     " certificate certificate_text planner anyhow"
 )
-BATCH = 200
+BATCH = 60
 SHAPES = ("chain", "star", "cycle", "clique")
 FORMS = ("comma", "on")
 MILLION = 1_000_000
+# Costs are cut to 64 bits, where all plans cost the same; queries whose cheapest plan comes near that are not asked.
+MOST_COST = 1e13
 
 
 # ---- queries
@@ -79,7 +81,7 @@ def table_of(rng, links):
     keys = {"id": rows}
     for column in columns[1:]:
         if rng.random() < 0.4:
-            keys[column] = max(1, int(rows ** rng.uniform(0.1, 1)))
+            keys[column] = max(2, int(rows ** rng.uniform(0.3, 1)))
     filters = []
     for column in ("v", "w"):
         if rng.random() < 0.3:
@@ -126,14 +128,27 @@ def query_text(rng, form, tables, edges, order):
 def draw(rng, shape, form, count):
     pairs = joined_pairs(shape, count)
     tables = [table_of(rng, [b if a == place else a for a, b in pairs if place in (a, b)]) for place in range(count)]
-    edges = []
+    edges, tree = [], set(joined_pairs("star" if shape == "star" else "chain", count))
     for a, b in pairs:
         side = rng.random()
-        # mostly a foreign key and the unique column that it refers to
-        column_a, column_b = (f"c{b}", "id") if side < 0.4 else ("id", f"c{a}") if side < 0.7 else (f"c{b}", f"c{a}")
+        # mostly a foreign key and the unique column that it refers to; what closes a circle has few keys, so that some rows are left
+        if (a, b) not in tree:
+            tables[a].keys[f"c{b}"] = rng.randint(1, 2) if shape == "clique" else rng.randint(2, 4)
+            tables[b].keys.pop(f"c{a}", None)
+            side = 1
+        column_a, column_b = (f"c{b}", "id") if side < 0.4 else ("id", f"c{a}") if side < 0.8 else (f"c{b}", f"c{a}")
         edges.append((a, column_a, b, column_b))
     order = connected_order(rng, pairs, count) if form == "on" else rng.sample(range(count), count)
     return Draw(tables, edges, query_text(rng, form, tables, edges, order), order)
+
+
+def fair(rng, *kind):
+    """A draw whose cheapest plan is no giant, and whose joins all have a row at least, so that rounding says little; with that plan's cost."""
+    while True:
+        drawn = draw(rng, *kind)
+        cost, fewest = least_cost(drawn)
+        if cost < MOST_COST and fewest >= 1:
+            return drawn, cost
 
 
 def schema_of(drawn):
@@ -189,7 +204,7 @@ def edge_share(tables, edge):
 
 
 def counted(rows):
-    return max(rows, 1.0)
+    return max(math.ceil(rows), 1)
 
 
 def scan_cost(table):
@@ -230,6 +245,7 @@ def leaf_costs(table):
 
 
 def least_cost(drawn):
+    """The least cost, and the rows of the join of some of the tables that has the fewest."""
     tables, count = drawn.tables, len(drawn.tables)
     raw, full = zip(*map(leaf_costs, tables))
     near = [0] * count
@@ -245,6 +261,8 @@ def least_cost(drawn):
     for place in range(count):
         rows[1 << place], cost[1 << place] = full[place]
         around[1 << place] = near[place]
+    if min(rows[1 << place] for place in range(count)) < 1:
+        return math.inf, 0
     shares = [(1 << a | 1 << b, edge_share(tables, edge)) for edge in drawn.edges for a, b in [(edge[0], edge[2])]]
     for whole in range(1, 1 << count):
         if whole & (whole - 1) == 0:
@@ -258,7 +276,7 @@ def least_cost(drawn):
             least = min(least, join_cost(part, whole & ~part, rows, cost, around, raw, probes), join_cost(whole & ~part, part, rows, cost, around, raw, probes))
             part = (part - 1) & others
         cost[whole] = least
-    return cost[-1] + 1
+    return cost[-1] + 1, min(rows[1:])
 
 
 def sides_of(part, rows, cost, raw):
@@ -376,7 +394,7 @@ def tried(tree, draws):
     for start in range(0, len(draws), BATCH):
         parts = [part.encode() for drawn in draws[start : start + BATCH] for part in (schema_of(drawn), drawn.text, statistics_of(drawn))]
         asked = b"".join(b"%d\n%b" % (len(part), part) for part in parts)
-        run = subprocess.run(["rt", "try"], cwd=crate, input=asked, capture_output=True, check=False)
+        run = subprocess.run(["rt", "try", "--seconds", "900"], cwd=crate, input=asked, capture_output=True, check=False)
         texts += [text for text in run.stdout.decode().split("----\n") if text.startswith("SQLPLAN")]
         if len(texts) < min(len(draws), start + BATCH):
             sys.exit(run.stdout.decode()[-2000:] + run.stderr.decode()[-3000:])
@@ -408,14 +426,14 @@ def main():
     count, fewest, most, seed = numbers + [20, 4, 10, 40][len(numbers) :]
     rng = random.Random(seed)
     kinds = [(shape, form, size) for shape in SHAPES for form in FORMS for size in range(fewest, most + 1)]
-    draws = [draw(rng, *kind) for kind in kinds for _ in range(count)]
+    draws, least = zip(*(fair(rng, *kind) for kind in kinds for _ in range(count)))
     certificates = tried(tree, draws) if tree else planned(draws)
     everything = []
     for number, kind in enumerate(kinds):
         ratios, lines = [], []
         for place in range(number * count, (number + 1) * count):
             cost, length = planned_cost(draws[place], certificates[place])
-            ratios.append((cost / least_cost(draws[place]), place))
+            ratios.append((cost / least[place], place))
             lines.append(length)
         worst, place = max(ratios)
         mean = math.exp(sum(math.log(ratio) for ratio, _ in ratios) / count)

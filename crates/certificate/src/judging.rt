@@ -1,6 +1,6 @@
 //! Certificates against their queries: their lines one behind the other, and then their plans.
 
-ghost use Rattle.std.specs.Prelude.{◌≡◌, [], true, option_map, flat_map, slice_get, IfOk, OnOk, Result};
+ghost use Rattle.std.specs.Prelude.{◌≡◌, [], true, option_map, flat_map, reverse, slice_get, IfOk, OnOk, Result};
 ghost use Rattle.values.specs.Faults.{Fails, Gives};
 ghost use Rattle.query.specs.Bound.{is_bound};
 ghost use Rattle.frame.specs.Frames.{query_frame};
@@ -113,19 +113,37 @@ pub fn replay<'q>(
     Ok(log)
 }
 
-/// Whether a certificate replays for a query, and else its first fault: lines go before nodes. Whoever makes certificates can ask it, and the
-/// check does.
+/// The log of a certificate's lines, where the certificate replays for the query; else its first fault: lines go before nodes.
 #[tactic(auto, unfolding(crate::specs::Replay::replayed))]
+pub fn judged_log<'q>(
+    alloc: Global,
+    query: &'q Query,
+    frame: &[Expr],
+    own: &'q [Aggregation],
+    certificate: &Certificate,
+) -> Result<Log<'q>, CheckFault>
+    requires bound { is_bound query.now ≡ true }
+    requires frame { frame.now ≡ query_frame query.now }
+    requires own { own.now ≡ own_aggregates query.now }
+    ensures verdict { Gives (λ _. certificate.now) result (spec.replayed query.now certificate.now) }
+    ensures lines { IfOk result (λ log. log.log ≡ reverse certificate.now.lines) }
+    ensures instances { IfOk result (λ log. log.instances ≡ query.now.tables) }
+{
+    let lines = certificate.lines.as_slice();
+    let log = replay(alloc, query, frame, own, lines)?;
+    let last = frame.len() - 1;
+    let root = id_of(last)?;
+    fit(alloc, query, root, &log, &certificate.plan)?;
+    Ok(log)
+}
+
+/// Whether a certificate replays for a query, and else its first fault. Whoever makes certificates can ask it, and the check does.
 pub fn judge(alloc: Global, query: &Query, certificate: &Certificate) -> Result<(), CheckFault>
     requires { is_bound query.now ≡ true }
     ensures { Gives (λ _. certificate.now) result (spec.replayed query.now certificate.now) }
 {
     let frame = frame_of(alloc, query)?;
     let own = own_aggregates(alloc, frame.as_slice())?;
-    let lines = certificate.lines.as_slice();
-    let log = replay(alloc, query, frame.as_slice(), own.as_slice(), lines)?;
-    let last = frame.len() - 1;
-    let root = id_of(last)?;
-    fit(alloc, query, root, &log, &certificate.plan)?;
+    let _log = judged_log(alloc, query, frame.as_slice(), own.as_slice(), certificate)?;
     Ok(())
 }

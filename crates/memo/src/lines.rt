@@ -145,12 +145,7 @@ impl<'q> Memo<'q> {
     }
 
     /// Adds that the fact holds of a class by the line that founds it, unless it is known. Whether it is known now.
-    pub fn learn(
-        &mut self,
-        alloc: Global,
-        class: ClassId,
-        fact: Fact,
-    ) -> Result<bool, AllocError> {
+    pub fn learn(&mut self, alloc: Global, class: ClassId, fact: Fact) -> Result<bool, AllocError> {
         if self.log.classes().knows(class, &fact) {
             return Ok(true);
         }
@@ -267,15 +262,19 @@ impl<'q> Memo<'q> {
         self.push(alloc, Line::Adds(class, step, expr))
     }
 
-    /// A line that says that two classes are the same.
+    /// A line that says that the class of the first line is the same as another by the rule; that line itself where they are the same already.
     fn united(
         &mut self,
         alloc: Global,
         class: ClassId,
         other: ClassId,
-        step: Step,
+        rule: RuleName,
+        uses: &[LineId],
     ) -> Result<LineId, LineFault> {
-        let step = Boxed::new(alloc, step)?;
+        if self.log.are_same(class, other) {
+            return Ok(uses.first().copied().unwrap_or(class));
+        }
+        let step = Boxed::new(alloc, step_of(alloc, rule, uses, &[])?)?;
         self.push(alloc, Line::Unites(class, other, step))
     }
 
@@ -286,18 +285,18 @@ impl<'q> Memo<'q> {
         uses: &[LineId],
     ) -> Result<LineId, LineFault> {
         let Given { class, shape } = self.given(alloc, rule, uses)?;
-        let mut makes = Vec::new(alloc);
         if let Shape::Class(other) = shape {
-            let step = step_of(alloc, rule, uses, makes.as_slice())?;
-            return self.united(alloc, class, other, step);
+            return self.united(alloc, class, other, rule, uses);
         }
+        let mut makes = Vec::new(alloc);
         let expr = self.expr_of(alloc, shape, &mut makes)?;
         let step = step_of(alloc, rule, uses, makes.as_slice())?;
         self.added(alloc, class, step, expr)
     }
 
     /// The line of what the rule gives at these lines, the top first, in the first one's class: a new one behind the lines that found what
-    /// it is made of, unless it is there. None where the rule doesn't fit.
+    /// it is made of, unless it is there. Where the rule gives a class, the line says that the two are the same; where they were, it is the first
+    /// of these lines. None where the rule doesn't fit.
     pub fn apply(
         &mut self,
         alloc: Global,

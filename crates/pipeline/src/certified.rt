@@ -45,9 +45,9 @@ pub fn check(alloc: Global, schema: &[u8], text: &[u8], certificate: &[u8]) -> R
     ensures refused { IfErr result (IsNotAccepted schema.now text.now certificate.now) }
 {
     let schema = Schema::read(alloc, schema)?;
-    let query = bound_query(alloc, &schema, text)?;
+    let asked = bound_query(alloc, &schema, text)?;
     let certificate = read(alloc, certificate)?;
-    accept(alloc, &schema, &query, &certificate)
+    accept(alloc, &schema, &asked, &certificate)
 }
 
 /// Checks a certificate, loads the tables, one input each in the order of the schema, and writes what the certificate's plan gives.

@@ -4,11 +4,13 @@
 mod answer;
 mod certified;
 mod commands;
+pub mod explained;
 mod planned;
 mod preparation;
 mod refusal;
 
 pub use certified::{check, run};
 pub use commands::{evaluate, query};
+pub use explained::{PlanForm, explain};
 pub use planned::plan;
 pub use refusal::{Refusal, fault_line};

@@ -5,7 +5,7 @@ ghost use Rattle.query.specs.Bound.{TablesAreOver};
 use crate::answers::QUERIES;
 use checker::check;
 use fixtures::{COMPANY, Reporting, differences, push_lines, query_of, schema_of};
-use pipeline::fault_line;
+use pipeline::{PlanForm, explain, fault_line};
 use query::BoundQuery;
 use schema::Schema;
 use statistics::Statistics;
@@ -47,12 +47,56 @@ fn plans_are_the_cheapest(rt: HostRuntime) {
         r#"SELECT d.id, e.id FROM dept d LEFT JOIN emp e ON e.dept = d.id WHERE e.pay > 0 => SQLPLAN 1/lines 5/F get 0/F get 1/F left [=(c4,c0)] 0 1/F select [>(c5,i0)] 2/F keep 0,3 3/plan 5/cut 4 0,3/filter 3 [>(c5,i0)]/hash 2 left [=(c4,c0)]/scan 0 0/scan 1 1/end/
 SELECT id FROM emp WHERE pay <> 500 => SQLPLAN 1/lines 3/F get 0/F select [<>(c2,i500)] 0/F keep 0 1/plan 3/cut 2 0/filter 1 [<>(c2,i500)]/scan 0 0/end/
 SELECT d.id FROM dept d JOIN emp e ON e.pay < d.id => SQLPLAN 1/lines 5/F get 0/F get 1/F join [<(c5,c0)] 0 1/F keep 0 2/A 2 J1 0 2 - join [<(c5,c0)] 1 0/plan 4/cut 3 0/loop 2 inner [<(c5,c0)]/scan 0 0/scan 1 1/end/
+SELECT DISTINCT d.id FROM dept d => SQLPLAN 1/lines 8/F get 0/F keep 0 0/F distinct 1/L 0 0 notnull 0/L 0 0 weak 0/L 0 0 strong 0/L 1 1 strong 0/S 2 1 D1 0 2 -/plan 2/cut 1 0/scan 0 0/end/
 SELECT nothing FROM emp => [] => refused B02 at 7
 SELECT id FROM emp => [ => refused N01
 SELECT id FROM emp => [] => refused N02
 SELECT id FROM emp => {"tables":{"dept":{"rows":3,"pages":1,"indexes":[]}}} => refused N02"#;
     assert_eq!(rt;
         differences(rt.alloc(), &[CASES], &Planned).as_deref(),
+        Ok("")
+    );
+}
+
+/// Reports the plan of a query as text, or as a graph where `dot ` stands before the query, with `/` for a line's end.
+struct Explained;
+
+impl Reporting for Explained {
+    fn report(&self, alloc: Global, text: &str, reported: &mut String) -> Result<(), AllocError> {
+        let (form, query) = match text.strip_prefix("dot ") {
+            Some(query) => (PlanForm::Graph, query),
+            None => (PlanForm::Text, text),
+        };
+        let shown = explain(
+            alloc,
+            form,
+            COMPANY.as_bytes(),
+            query.as_bytes(),
+            STATISTICS.as_bytes(),
+        );
+        match shown {
+            Ok(plan) => push_lines(
+                reported,
+                str::from_utf8(plan.as_slice()).unwrap_or("no text"),
+                "/",
+            ),
+            Err(refusal) => reported.push_str(fault_line(alloc, &refusal, None)?.as_str()),
+        }
+    }
+}
+
+/// The plan is shown that is chosen: joins in another order than the text's, and distinct rows of a key not looked for.
+#[test]
+fn plans_are_explained(rt: HostRuntime) {
+    const CASES: &str =
+        r#"SELECT d.id, e.id FROM dept d LEFT JOIN emp e ON e.dept = d.id WHERE e.pay > 0 => cut d.id,e.id rows=2 cost=285/  filter e.pay > 0 rows=2 cost=284/    hash left e.dept = d.id rows=3 cost=281/      scan dept d rows=3 cost=130/      scan emp e rows=4 cost=140/
+SELECT DISTINCT d.id FROM dept d => cut d.id rows=3 cost=131/  scan dept d rows=3 cost=130/
+SELECT * FROM dept => scan dept dept rows=3 cost=130/
+SELECT name FROM dept GROUP BY name => hgroup dept.name - rows=1 cost=136/  scan dept dept rows=3 cost=130/
+dot SELECT * FROM dept => digraph plan {/  n0 [label="scan dept dept rows=3 cost=130"];/}/
+SELECT nothing FROM emp => refused B02 at 7"#;
+    assert_eq!(rt;
+        differences(rt.alloc(), &[CASES], &Explained).as_deref(),
         Ok("")
     );
 }

@@ -1,13 +1,17 @@
 //! The plan that is chosen for a query.
 
-ghost use Rattle.std.specs.Prelude.{◌≡◌, true, Ok, IfOk, IfSome};
+ghost use Rattle.std.specs.Prelude.{◌≡◌, true, nat_le, reverse, Ok, IfOk, IfSome};
 ghost use Rattle.query.specs.Bound.{is_bound};
+ghost use Rattle.frame.specs.Frames.{query_frame};
+ghost use Rattle.frame.specs.FormedFrames.{own_aggregates};
+ghost use Rattle.costs.specs.Costs.{plan_cost};
 ghost use Rattle.certificate.specs.Replay.{replayed};
+ghost use Rattle.planner.specs.NotDearer.{IsAsCheap, IsNotDearer};
 
 use crate::certificates::certificate_of;
-use algebra::Aggregation;
-use certificate::judging::own_aggregates;
-use certificate::{Certificate, judge, query_order};
+use algebra::{Aggregation, Expr};
+use certificate::judging::{judged_log, own_aggregates};
+use certificate::{Certificate, query_order};
 use costs::{Cardinalities, cost};
 use derivation::Line;
 use frame::frame_of;
@@ -48,7 +52,7 @@ fn log_of<'q>(
     Ok(Some(log))
 }
 
-/// The cheapest plan of the known certificate's class in the query's order, if it is as cheap as the known one.
+/// The cheapest plan that is found of the known certificate's class in the query's order.
 fn cheapest(
     alloc: Global,
     query: &Query,
@@ -62,33 +66,31 @@ fn cheapest(
     let root = id_of(last)?;
     let order = query_order(alloc, query)?;
     let cardinalities = Cardinalities::of(alloc, statistics, log)?;
-    let known = cost(statistics, log, &cardinalities, &known.plan);
-    match best(
+    let found = best(
         alloc,
         log,
         statistics,
         &cardinalities,
         root,
         order.as_slice(),
-    )? {
-        Some(found) if found.cost <= known => Ok(Some(found.plan)),
-        _ => Ok(None),
+    )?;
+    match found {
+        Some(found) => Ok(Some(found.plan)),
+        None => Ok(None),
     }
 }
 
-/// The log with what is simpler, and with lines by which good join trees are among its plans.
-fn seeded<'q>(
-    alloc: Global,
-    log: Log<'q>,
-    statistics: &Statistics,
-) -> Result<Log<'q>, AllocError> {
+/// The log with what is simpler, and with lines by which good join trees are among its plans. These put selections over selections, so it is
+/// simplified again.
+fn grown<'q>(alloc: Global, log: Log<'q>, statistics: &Statistics) -> Result<Log<'q>, AllocError> {
     let mut memo = Memo::of(alloc, log)?;
     simplify(alloc, &mut memo)?;
     seed(alloc, &mut memo, statistics)?;
+    simplify(alloc, &mut memo)?;
     Ok(memo.into_log())
 }
 
-/// A certificate whose plan is searched for over the lines of a known one, and what follows from them, if a plan is found that is as cheap.
+/// A certificate whose plan is searched for over the lines of a known one and others behind them, if a plan is found.
 fn searched(
     alloc: Global,
     query: &Query,
@@ -100,7 +102,7 @@ fn searched(
     let Some(log) = log_of(alloc, query, own.as_slice(), known.lines.as_slice())? else {
         return Ok(None);
     };
-    let log = seeded(alloc, log, statistics)?;
+    let log = grown(alloc, log, statistics)?;
     let Some(plan) = cheapest(alloc, query, statistics, &log, known)? else {
         return Ok(None);
     };
@@ -108,22 +110,82 @@ fn searched(
     Ok(Some(Certificate { lines, plan }))
 }
 
-/// The certificate, if it replays for the query.
+/// Whether a plan over the log costs no more than another.
+fn is_as_cheap(
+    alloc: Global,
+    statistics: &Statistics,
+    log: &Log<'_>,
+    plan: &Plan,
+    other: &Plan,
+) -> Result<bool, AllocError>
+    ensures { IfOk result (λ is. is ≡ nat_le (plan_cost statistics.now log.now.instances log.now.log plan.now) (plan_cost statistics.now log.now.instances log.now.log other.now)) }
+{
+    let cardinalities = Cardinalities::of(alloc, statistics, log)?;
+    let own = cost(statistics, log, &cardinalities, plan);
+    Ok(own <= cost(statistics, log, &cardinalities, other))
+}
+
+/// The log of a certificate that replays for the query; none where it doesn't.
+fn fitting_log<'q>(
+    alloc: Global,
+    query: &'q Query,
+    frame: &[Expr],
+    own: &'q [Aggregation],
+    certificate: &Certificate,
+) -> Result<Option<Log<'q>>, AllocError>
+    requires bound { is_bound query.now ≡ true }
+    requires frame { frame.now ≡ query_frame query.now }
+    requires own { own.now ≡ own_aggregates query.now }
+    ensures replays { IfOk result (λ log. IfSome log (λ l. replayed query.now certificate.now ≡ Ok certificate.now)) }
+    ensures lines { IfOk result (λ log. IfSome log (λ l. l.log ≡ reverse certificate.now.lines)) }
+    ensures instances { IfOk result (λ log. IfSome log (λ l. l.instances ≡ query.now.tables)) }
+{
+    match judged_log(alloc, query, frame, own, certificate) {
+        Ok(log) => Ok(Some(log)),
+        Err(Fault::Memory) => Err(AllocError),
+        Err(Fault::Refused(_)) => Ok(None),
+    }
+}
+
+/// Whether a certificate replays for the query, and its plan costs no more than the known one.
+fn is_fitting(
+    alloc: Global,
+    query: &Query,
+    statistics: &Statistics,
+    certificate: &Certificate,
+    known: &Certificate,
+) -> Result<bool, AllocError>
+    requires { is_bound query.now ≡ true }
+    ensures replays { IfOk result (λ is. is ≡ true → replayed query.now certificate.now ≡ Ok certificate.now) }
+    ensures cheap { IfOk result (λ is. is ≡ true → IsAsCheap statistics.now query.now certificate.now known.now) }
+{
+    let frame = frame_of(alloc, query)?;
+    let own = own_aggregates(alloc, frame.as_slice())?;
+    match fitting_log(alloc, query, frame.as_slice(), own.as_slice(), certificate)? {
+        Some(log) => is_as_cheap(alloc, statistics, &log, &certificate.plan, &known.plan),
+        None => Ok(false),
+    }
+}
+
+/// The certificate, if it replays for the query and its plan costs no more than the known one.
 fn fitting(
     alloc: Global,
     query: &Query,
+    statistics: &Statistics,
     found: Option<Certificate>,
+    known: &Certificate,
 ) -> Result<Option<Certificate>, AllocError>
     requires { is_bound query.now ≡ true }
-    ensures { IfOk result (λ fitting. IfSome fitting (λ certificate. replayed query.now certificate ≡ Ok certificate)) }
+    ensures replays { IfOk result (λ fitting. IfSome fitting (λ certificate. replayed query.now certificate ≡ Ok certificate)) }
+    ensures cheap { IfOk result (λ fitting. IfSome fitting (λ certificate. IsAsCheap statistics.now query.now certificate known.now)) }
 {
     let Some(certificate) = found else {
         return Ok(None);
     };
-    match judge(alloc, query, &certificate) {
-        Ok(()) => Ok(Some(certificate)),
-        Err(Fault::Memory) => Err(AllocError),
-        Err(Fault::Refused(_)) => Ok(None),
+    if is_fitting(alloc, query, statistics, &certificate, known)? {
+        Ok(Some(certificate))
+    } else {
+        Ok(None)
     }
 }
 
@@ -133,11 +195,12 @@ fn plan_of_tree(
     statistics: &Statistics,
 ) -> Result<Planned, AllocError>
     requires { is_bound query.now ≡ true }
-    ensures { IfOk result (λ planned. replayed query.now planned.certificate ≡ Ok planned.certificate) }
+    ensures replays { IfOk result (λ planned. replayed query.now planned.certificate ≡ Ok planned.certificate) }
+    ensures cheap { IfOk result (λ planned. IsNotDearer statistics.now query.now planned.certificate) }
 {
     let known = certificate_of(alloc, query)?;
     let found = searched(alloc, query, statistics, &known)?;
-    match fitting(alloc, query, found)? {
+    match fitting(alloc, query, statistics, found, &known)? {
         Some(certificate) => Ok(Planned {
             certificate,
             is_searched: true,
@@ -155,7 +218,9 @@ pub fn plan(
     query: &BoundQuery,
     statistics: &Statistics,
 ) -> Result<Planned, AllocError>
-    ensures { IfOk result (λ planned. replayed query.now planned.certificate ≡ Ok planned.certificate) }
+    ensures replays { IfOk result (λ planned. replayed query.now planned.certificate ≡ Ok planned.certificate) }
+    // It costs no more than the canonical plan, whatever was searched.
+    ensures cheap { IfOk result (λ planned. IsNotDearer statistics.now query.now planned.certificate) }
 {
     plan_of_tree(alloc, query.query(), statistics)
 }

@@ -98,7 +98,11 @@ impl Candidates {
 }
 
 /// What may be keys of a class by the expression that founds it.
-fn candidates(alloc: Global, memo: &Memo<'_>, class: ClassId) -> Result<Candidates, AllocError> {
+fn candidate_keys(
+    alloc: Global,
+    memo: &Memo<'_>,
+    class: ClassId,
+) -> Result<Candidates, AllocError> {
     let mut found = Candidates::none(alloc);
     let Some(member) = memo.log().member(class) else {
         return Ok(found);
@@ -119,24 +123,26 @@ fn candidates(alloc: Global, memo: &Memo<'_>, class: ClassId) -> Result<Candidat
     Ok(found)
 }
 
-/// Learns what is so of a key: of its columns that they are nowhere Null, and that it is a strong one; else that it is a weak one.
+fn columns_of(alloc: Global, key: &[ColumnId]) -> Result<Columns, AllocError> {
+    Ok(Columns::from_vec(Vec::from_slice(alloc, key)?))
+}
+
+/// Learns what is so of a key: that it is a strong one; else of its columns that they are nowhere Null, and that it is a weak one, and then
+/// a strong one by both.
 fn learn_key(
     alloc: Global,
     memo: &mut Memo<'_>,
     class: ClassId,
     key: &[ColumnId],
 ) -> Result<(), AllocError> {
-    let columns = |alloc: Global| -> Result<Columns, AllocError> {
-        Ok(Columns::from_vec(Vec::from_slice(alloc, key)?))
-    };
+    if memo.learn(alloc, class, Fact::StrongKey(columns_of(alloc, key)?))? {
+        return Ok(());
+    }
     for column in key {
         let _ = memo.learn(alloc, class, Fact::NotNull(*column))?;
     }
-    if memo.learn(alloc, class, Fact::StrongKey(columns(alloc)?))? {
-        return Ok(());
-    }
-    if memo.learn(alloc, class, Fact::WeakKey(columns(alloc)?))? {
-        let _ = memo.learn(alloc, class, Fact::StrongKey(columns(alloc)?))?;
+    if memo.learn(alloc, class, Fact::WeakKey(columns_of(alloc, key)?))? {
+        let _ = memo.learn(alloc, class, Fact::StrongKey(columns_of(alloc, key)?))?;
     }
     Ok(())
 }
@@ -185,7 +191,7 @@ pub(crate) fn learn_keys(
         return Ok(());
     }
     for below in classes_below(alloc, memo, class)? {
-        for key in candidates(alloc, memo, below)?.keys {
+        for key in candidate_keys(alloc, memo, below)?.keys {
             learn_key(alloc, memo, below, key.as_slice())?;
         }
     }

@@ -26,7 +26,7 @@ enum Simplified {
     Groups,
 }
 
-fn simplified(memo: &Memo<'_>, line: LineId) -> Option<Simplified> {
+fn simplification(memo: &Memo<'_>, line: LineId) -> Option<Simplified> {
     match memo.log().member(line)?.expr {
         Expr::Select(_, x) => Some(Simplified::Select(*x)),
         Expr::Keep(_, x) => Some(Simplified::Keep(*x)),
@@ -61,7 +61,7 @@ fn merge(
 
 fn simplify_line(alloc: Global, memo: &mut Memo<'_>, line: LineId) -> Result<(), AllocError> {
     let alone = [line];
-    match simplified(memo, line) {
+    match simplification(memo, line) {
         Some(Simplified::Select(x)) => merge(alloc, memo, RuleName::SelectsMerge, line, x),
         Some(Simplified::Keep(x)) => {
             let _ = memo.apply(alloc, RuleName::KeepOfAll, alone.as_slice())?;

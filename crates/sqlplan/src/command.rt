@@ -3,6 +3,9 @@
 use clap::{Arg, ArgAction, Command};
 use std::alloc::{AllocError, Global};
 
+/// How a plan may be shown.
+const FORMATS: &[&str] = &["text", "dot"];
+
 /// A word that has to stand there.
 fn place<'a>(alloc: Global, name: &'a str, help: &'a str) -> Arg<'a> {
     Arg::new(alloc, name)
@@ -22,6 +25,16 @@ fn of_query<'a>(alloc: Global, name: &'a str, about: &'a str) -> Result<Command<
 /// The place of statistics.
 fn statistics(alloc: Global) -> Arg<'static> {
     place(alloc, "STATS", "the statistics of the tables, a JSON file")
+}
+
+/// How a plan is shown.
+fn format(alloc: Global) -> Arg<'static> {
+    Arg::new(alloc, "format")
+        .long("format")
+        .value_name("FORMAT")
+        .value_parser(FORMATS)
+        .action(ArgAction::Set)
+        .help("text, or dot: a graph for Graphviz")
 }
 
 /// The place of a certificate.
@@ -53,6 +66,13 @@ pub fn command<'a>(alloc: Global) -> Result<Command<'a>, AllocError> {
         "Plans a query by statistics, and writes the certificate of its plan",
     )?
     .arg(statistics(alloc))?;
+    let explain = of_query(
+        alloc,
+        "explain",
+        "Plans a query by statistics, and shows its plan with rows and costs",
+    )?
+    .arg(statistics(alloc))?
+    .arg(format(alloc))?;
     let check = of_query(
         alloc,
         "check",
@@ -72,6 +92,7 @@ pub fn command<'a>(alloc: Global) -> Result<Command<'a>, AllocError> {
         .subcommand(query)?
         .subcommand(meaning)?
         .subcommand(plan)?
+        .subcommand(explain)?
         .subcommand(check)?
         .subcommand(run)
 }

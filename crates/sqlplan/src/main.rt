@@ -12,7 +12,7 @@ use answer_text::CountedOutput;
 use clap::ArgMatches;
 use clap::error::ErrorKind;
 use command::command;
-use pipeline::{Refusal, check, evaluate, plan, query, run};
+use pipeline::{PlanForm, Refusal, check, evaluate, explain, plan, query, run};
 use schema::Schema;
 use std::alloc::Global;
 use std::fs::File;
@@ -63,10 +63,21 @@ enum Asked<'a> {
     Meaning(&'a str),
     /// The certificate of a plan, by statistics.
     Plan(&'a str),
+    /// A plan by statistics, shown so.
+    Explain(&'a str, PlanForm),
     /// Whether a certificate is accepted.
     Check(&'a str),
     /// Its answer by the plan of a certificate, over the tables of a folder.
     Run(&'a str, &'a str),
+}
+
+/// How a plan is shown: as text, unless something else is asked for; nothing where there is no such form.
+fn form(arguments: &ArgMatches<'_>) -> Option<PlanForm> {
+    match arguments.get_str("format") {
+        None | Some("text") => Some(PlanForm::Text),
+        Some("dot") => Some(PlanForm::Graph),
+        Some(_) => None,
+    }
 }
 
 impl<'a> Asked<'a> {
@@ -76,6 +87,7 @@ impl<'a> Asked<'a> {
             "query" => Some(Asked::Query(arguments.get_str("DIR")?)),
             "meaning" => Some(Asked::Meaning(arguments.get_str("DIR")?)),
             "plan" => Some(Asked::Plan(arguments.get_str("STATS")?)),
+            "explain" => Some(Asked::Explain(arguments.get_str("STATS")?, form(arguments)?)),
             "check" => Some(Asked::Check(arguments.get_str("CERT")?)),
             "run" => Some(Asked::Run(arguments.get_str("CERT")?, arguments.get_str("DIR")?)),
             _ => None,
@@ -176,6 +188,26 @@ fn plan_by_statistics(rt: &HostRuntime, given: Given<'_>, statistics: &str) -> R
     }
 }
 
+/// Writes on standard output a plan, with what the statistics of a file say of it.
+fn explain_by_statistics(
+    rt: &HostRuntime,
+    given: Given<'_>,
+    statistics: &str,
+    form: PlanForm,
+) -> Result<(), Stop> {
+    let statistics = bytes_of(rt, statistics)?;
+    match explain(
+        rt.alloc(),
+        form,
+        given.bytes,
+        given.text,
+        statistics.as_slice(),
+    ) {
+        Ok(text) => print_bytes(rt, text.as_slice()),
+        Err(refusal) => Err(Stop::of_refusal(rt.alloc(), &refusal, Some(given.schema))),
+    }
+}
+
 /// Says on standard output that a certificate is accepted, where it is.
 fn accept(rt: &HostRuntime, given: Given<'_>, certificate: &str) -> Result<(), Stop> {
     let certificate = bytes_of(rt, certificate)?;
@@ -207,6 +239,7 @@ fn serve(
         Asked::Query(folder) => answer(rt, given, folder),
         Asked::Meaning(folder) => answer_by_meaning(rt, given, folder),
         Asked::Plan(statistics) => plan_by_statistics(rt, given, statistics),
+        Asked::Explain(statistics, form) => explain_by_statistics(rt, given, statistics, form),
         Asked::Check(certificate) => accept(rt, given, certificate),
         Asked::Run(certificate, folder) => answer_by_certificate(rt, given, certificate, folder),
     }

@@ -1,0 +1,87 @@
+#!/usr/bin/env python3
+"""Times planning: one table, and chains, stars and cliques of many, beside PostgreSQL in the same run.
+
+Of sqlplan the time on the clock of the whole process `sqlplan plan`, which reads the schema, the text and the statistics and writes the
+certificate, less that of a process that says its usage alone; and of `sqlplan check` of that certificate, in the same way. Of PostgreSQL what EXPLAIN
+tells of its planning, over empty tables whose statistics are set to the same numbers of rows, with join_collapse_limit over the number of
+tables and without its genetic search. Of each the least of RUNS, at the first draw of quality.py for that shape, form and size. Where PostgreSQL takes longer than
+LIMIT, it is left out. Wants the program built; PostgreSQL is left out where it isn't there.
+
+usage: planning.py [--program PATH] [--runs N]
+"""
+import argparse
+import pathlib
+import random
+import subprocess
+import tempfile
+import time
+
+from joins import postgres
+from quality import draw, schema_of, statistics_of
+
+ROOT = pathlib.Path(__file__).resolve().parent.parent
+LIMIT = 60
+CASES = [("chain", "comma", 1, 1), ("chain", "comma", 8, 5), ("star", "comma", 8, 5), ("clique", "comma", 8, 25), ("chain", "on", 8, 5), ("star", "on", 8, 5)]
+CASES += [("clique", "on", 8, 25), ("clique", "comma", 11, 200), ("clique", "comma", 16, 200), ("chain", "comma", 24, 200), ("star", "comma", 24, 200)]
+
+
+def least_clock(runs, words, wanted=0):
+    """Milliseconds of a process, and what it wrote."""
+    best = float("inf")
+    for _ in range(runs):
+        begin = time.perf_counter()
+        run = subprocess.run(words, capture_output=True, check=False)
+        best = min(best, time.perf_counter() - begin)
+        assert run.returncode == wanted, run.stderr
+    return best * 1000, run.stdout
+
+
+def tables_of(drawn):
+    """The tables for PostgreSQL, which takes the numbers of rows from its catalogue."""
+    lines = ["SET client_min_messages = warning;", "DROP SCHEMA IF EXISTS public CASCADE; CREATE SCHEMA public;"]
+    for place, table in enumerate(drawn.tables):
+        columns = ", ".join(f"{name} bigint" + (" PRIMARY KEY" if name == "id" else "") for name in table.columns)
+        lines.append(f"CREATE TABLE t{place}({columns}) WITH (autovacuum_enabled = false);")
+        lines += [f"CREATE INDEX ON t{place}({name});" for name in table.keys if name != "id"]
+    lines.append("SET allow_system_table_mods = on;")
+    lines += [f"UPDATE pg_class SET reltuples = {table.rows}, relpages = {table.pages} WHERE relname = 't{place}';" for place, table in enumerate(drawn.tables)]
+    return "\n".join(lines) + "\n"
+
+
+def postgres_planning(asks, drawn, runs):
+    """The least milliseconds of planning that EXPLAIN tells; None where it takes too long."""
+    if not asks:
+        return None
+    ask = f"SET join_collapse_limit = 30; SET from_collapse_limit = 30; SET geqo = off; SET statement_timeout = '{LIMIT}s';\n"
+    ask += f"EXPLAIN (SUMMARY) {drawn.text};\n" * runs
+    run = subprocess.run(asks, input=tables_of(drawn) + ask, capture_output=True, text=True, check=False)
+    told = [float(line.split()[2]) for line in run.stdout.splitlines() if line.startswith("Planning Time:")]
+    return min(told) if told else None
+
+
+def main():
+    parser = argparse.ArgumentParser()
+    parser.add_argument("--runs", type=int, default=9)
+    parser.add_argument("--program", default=ROOT / "release/sqlplan")
+    wanted = parser.parse_args()
+    print("| Query | plan | lines | target | check | PostgreSQL |\n|---|---|---|---|---|---|")
+    with tempfile.TemporaryDirectory() as name, postgres(pathlib.Path(name)) as asks:
+        folder = pathlib.Path(name)
+        start, _ = least_clock(wanted.runs, [wanted.program], 2)
+        for shape, form, size, target in CASES:
+            drawn = draw(random.Random(40), shape, form, size)
+            files = [folder / "schema.json", folder / "query.sql", folder / "stats.json"]
+            for file, text in zip(files, (schema_of(drawn), drawn.text, statistics_of(drawn))):
+                file.write_text(text)
+            took, certificate = least_clock(wanted.runs, [wanted.program, "plan", *files])
+            (folder / "plan.cert").write_bytes(certificate)
+            checked, _ = least_clock(wanted.runs, [wanted.program, "check", *files[:2], folder / "plan.cert"])
+            its = postgres_planning(asks, drawn, 3)
+            beside = "none" if its is None else f"{its:.1f} ms"
+            lines = certificate.split(b"\n")[1].decode().split()[1]
+            print(f"| {shape} of {size}, {form} | {took - start:.1f} ms | {lines} | {target} ms | {checked - start:.1f} ms | {beside} |", flush=True)
+        print(f"\nThe start alone: {start:.1f} ms")
+
+
+if __name__ == "__main__":
+    main()
