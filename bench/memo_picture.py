@@ -39,7 +39,7 @@ def main():
         else:
             a, b = (root(int(word)) for word in words[:2]) if kind == "S" else (root(g) for g in (int(words[0]), int(words[1])) if g in roots)
             roots[max(a, b)] = min(a, b)
-    print('digraph memo {\n  rankdir=BT\n  node [shape=plaintext fontname="sans-serif" fontsize=10]\n  edge [arrowsize=0.5 color="#777777"]')
+    print('digraph memo {\n  rankdir=TB\n  node [shape=plaintext fontname="sans-serif" fontsize=10]\n  edge [arrowsize=0.5 color="#777777"]')
     for own in sorted({root(g) for g in members}):
         same = [g for g in sorted(members) if root(g) == own]
         rows = [f'<tr><td bgcolor="#dddddd"><b>class {", ".join(map(str, same))}</b></td></tr>']
