@@ -10,6 +10,7 @@ LIMIT, it is left out. Wants the program built; PostgreSQL is left out where it 
 usage: planning.py [--program PATH] [--runs N]
 """
 import argparse
+import contextlib
 import pathlib
 import random
 import subprocess
@@ -62,11 +63,13 @@ def postgres_planning(asks, drawn, runs):
 def main():
     parser = argparse.ArgumentParser()
     parser.add_argument("--runs", type=int, default=9)
-    parser.add_argument("--program", default=ROOT / "release/sqlplan")
+    parser.add_argument("--program", default=ROOT / "crates/sqlplan/out/sqlplan")
     wanted = parser.parse_args()
     print("| Query | plan | lines | target | check | PostgreSQL |\n|---|---|---|---|---|---|")
-    with tempfile.TemporaryDirectory() as name, postgres(pathlib.Path(name)) as asks:
-        folder = pathlib.Path(name)
+    with contextlib.ExitStack() as held:
+        folder = pathlib.Path(held.enter_context(tempfile.TemporaryDirectory()))
+        folder.chmod(0o755)
+        asks = held.enter_context(postgres(folder))
         start, _ = least_clock(wanted.runs, [wanted.program], 2)
         for shape, form, size, target in CASES:
             drawn = draw(random.Random(40), shape, form, size)

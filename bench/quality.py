@@ -409,7 +409,7 @@ def planned(draws):
             (folder / "schema.json").write_text(schema_of(drawn))
             (folder / "query.sql").write_text(drawn.text)
             (folder / "stats.json").write_text(statistics_of(drawn))
-            run = subprocess.run([ROOT / "release/sqlplan", "plan", *(folder / f for f in ("schema.json", "query.sql", "stats.json"))], capture_output=True, text=True, check=True)
+            run = subprocess.run([ROOT / "crates/sqlplan/out/sqlplan", "plan", *(folder / f for f in ("schema.json", "query.sql", "stats.json"))], capture_output=True, text=True, check=True)
             texts.append(run.stdout)
     return texts
 
