@@ -2,6 +2,7 @@
 #![tactic(auto)]
 
 mod derivation_lines;
+mod forms;
 mod line_fault;
 mod nodes;
 mod reading;

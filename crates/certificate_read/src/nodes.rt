@@ -1,7 +1,7 @@
 //! The nodes of a plan.
 
 use crate::line_fault::LineFault;
-use crate::words::Words;
+use crate::words::{Words, words_of};
 use certificate_parts::numbers::number;
 use physical::{GroupMethod, IndexAccess, JoinMethod, Matching, Node, Operator, OrderKey};
 use std::alloc::Global;
@@ -214,7 +214,8 @@ fn node_of(alloc: Global, words: &mut Words<'_>) -> Result<ReadNode, LineFault> 
 
 /// The node that a line of the text is. It is refused where it stands too deep.
 pub(crate) fn node(alloc: Global, text: &str, is_within: bool) -> Result<ReadNode, LineFault> {
-    let mut words = Words::of(alloc, text)?;
+    let parts = words_of(alloc, text)?;
+    let mut words = Words::of(parts.as_slice());
     let read = node_of(alloc, &mut words)?;
     words.end(is_within)?;
     Ok(read)

@@ -1,0 +1,4 @@
+pub mod FormWords
+pub mod LineTexts
+pub mod PartWords
+pub mod WordCalls
