@@ -1,4 +1,6 @@
 pub mod FormWords
 pub mod LineTexts
+pub mod NodeTexts
+pub mod NodeWords
 pub mod PartWords
 pub mod WordCalls

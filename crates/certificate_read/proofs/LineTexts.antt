@@ -108,7 +108,7 @@ all_both (w ∷ ws) vs h k = (h.0, all_both ws vs h.1 k)
 -- ---- expressions, steps and facts
 
 -- a part of a line: its words have no spaces, and its text is they, with spaces between them
-abbrev IsPart : Text → List Text → Type 0
+abbrev pub IsPart : Text → List Text → Type 0
 IsPart t ws = (w : Text) × (vs : List Text) × (ws ≡ w ∷ vs) × (t ≡ spaced (w ∷ vs)) × AreSpaceless (w ∷ vs)
 
 expr_part : (x : Expr) → IsReadableExpr x → IsPart (expr_text x) (expr_words x)
@@ -132,14 +132,14 @@ fact_part (WeakKey K) h = (codes "weak", numbers_text K ∷ [], refl, simp appen
 fact_part (StrongKey K) h = (codes "strong", numbers_text K ∷ [], refl, simp append-nil, (refl, (numbers_spaceless K h.0, tt)))
 
 -- one part behind another, with a space between them
-both_parts : (t u : Text) (ts us : List Text) → IsPart t ts → IsPart u us → IsPart (t ++ (codes " " ++ u)) (ts ++ us)
+pub both_parts : (t u : Text) (ts us : List Text) → IsPart t ts → IsPart u us → IsPart (t ++ (codes " " ++ u)) (ts ++ us)
 both_parts t u ts us h k =
     (h.0, h.1 ++ (k.0 ∷ k.1), (λ i. h.2 i ++ k.2 i), (λ i. h.3 i ++ (32 ∷ k.3 i)) ∙ sym (spaced-append h.0 h.1 k.0 k.1), all_both (h.0 ∷ h.1) (k.0 ∷ k.1) h.4 k.4)
 
-one_word : (w : Text) → IsSpaceless w → IsPart w (w ∷ [])
+pub one_word : (w : Text) → IsSpaceless w → IsPart w (w ∷ [])
 one_word w free = (w, [], refl, sym (append-nil w), (free, tt))
 
-number_part : (n : ℕ) → IsShort n → IsPart (decimal n) (decimal n ∷ [])
+pub number_part : (n : ℕ) → IsShort n → IsPart (decimal n) (decimal n ∷ [])
 number_part n s = one_word (decimal n) (number_spaceless n s)
 
 -- ---- lines
@@ -151,7 +151,7 @@ line_part (Unites g i s) h = both_parts _ _ _ _ (one_word (codes "S") refl) (bot
 line_part (Alike i j) h = both_parts _ _ _ _ (one_word (codes "G") refl) (both_parts _ _ _ _ (number_part i h.0) (number_part j h.1))
 line_part (Gives g m f) h = both_parts _ _ _ _ (one_word (codes "L") refl) (both_parts _ _ _ _ (number_part g h.0) (both_parts _ _ _ _ (number_part m h.1) (fact_part f h.2)))
 
-part_cut : (t : Text) (ws : List Text) → IsPart t ws → slice_split (λ b. b == 32) t ≡ ws
+pub part_cut : (t : Text) (ws : List Text) → IsPart t ws → slice_split (λ b. b == 32) t ≡ ws
 part_cut t ws h = ap (slice_split (λ b. b == 32)) h.3 ∙ words_cut h.0 h.1 h.4 ∙ sym h.2
 
 pub line_cut : (l : Line) → IsReadableLine l → slice_split (λ b. b == 32) (line_words l) ≡ words_of l ++ []

@@ -1,2 +1,3 @@
 pub mod LineReading
+pub mod NodeReading
 pub mod WordReading

@@ -4,6 +4,7 @@
 mod derivation_lines;
 mod forms;
 mod line_fault;
+mod node_forms;
 mod nodes;
 mod reading;
 mod text_lines;

@@ -1,0 +1,88 @@
+-- What stands behind the names of operators.
+use Rattle.std.proofs.Common.{◌≡◌, ℕ, Bool, true, false, List, ◌∷◌, ◌++◌, Result, Ok, Err, refl, sym, ◌∙◌, ap, subst, decimal}
+use Rattle.std.proofs.lemmas.Bool.{false≢true}
+use Rattle.algebra.specs.declared.condition.Condition.{Condition}
+use Rattle.algebra.specs.declared.expr.Aggregation.{Aggregation}
+use Rattle.physical.specs.declared.plan.GroupMethod.TheVariants as group
+use Rattle.physical.specs.declared.plan.JoinMethod.TheVariants as method
+use Rattle.physical.specs.declared.plan.Matching.{Matching}
+use Rattle.physical.specs.declared.plan.Matching.TheVariants as matching
+use Rattle.physical.specs.declared.plan.Node.{Node}
+use Rattle.physical.specs.declared.plan.Operator.{Operator}
+use Rattle.physical.specs.declared.plan.Operator.TheVariants.{Scan, IndexScan, Filter, FilterSubqueries, Projection, JoinRows, IndexJoin, GroupRows, DistinctRows}
+use Rattle.certificate_parts.specs.Parts.{IsShort}
+use Rattle.certificate_text.specs.CertificateText.{Text, kind_text, conjuncts_text, numbers_text, aggregations_text}
+use Rattle.certificate_read.specs.declared.node_forms.KindForm.{KindForm}
+use Rattle.certificate_read.specs.declared.node_forms.KindForm.TheVariants as kind
+use Rattle.certificate_read.specs.declared.node_forms.OperatorForm.{OperatorForm}
+use Rattle.certificate_read.specs.declared.node_forms.OperatorForm.TheVariants as operator
+use Rattle.certificate_read.specs.declared.node_forms.NodeForm.{NodeForm}
+use Rattle.certificate_read.specs.declared.node_forms.NodeForm.TheVariants as node
+use Rattle.certificate_read.specs.NodeReading.{LeavesNode, kind_name, kind_of, operator_form, operator_words, IsReadableOperator}
+use Rattle.certificate_read.specs.declared.line_fault.LineFault.{LineFault}
+use Rattle.certificate_read.specs.declared.nodes.ReadNode.{ReadNode}
+use Rattle.certificate_read.specs.declared.words.Words.{Words}
+use Rattle.certificate_read.specs.WordReading.{AreColumns, AreAggregations, AreConjuncts}
+
+pub kind_same : (j : Matching) → kind_text j ≡ kind_name (kind_of j)
+kind_same (matching.Inner C) = refl
+kind_same (matching.Left C) = refl
+kind_same (matching.Semi C) = refl
+kind_same (matching.Anti S M) = refl
+
+-- the operator's form, where it is one
+abbrev form_of : NodeForm → OperatorForm
+form_of node.Sort = operator.Scan
+form_of (node.Implements form) = form
+
+abbrev is_sort : NodeForm → Bool
+is_sort node.Sort = true
+is_sort (node.Implements form) = false
+
+pub same_form : (f : NodeForm) (g h : OperatorForm) → f ≡ node.Implements g → f ≡ node.Implements h → g ≡ h
+same_form f g h e i = ap form_of (sym e ∙ i)
+
+pub no_sort : (f : NodeForm) (g : OperatorForm) → f ≡ node.Implements g → f ≡ node.Sort → ⊥
+no_sort f g e i = false≢true (ap is_sort (sym e ∙ i))
+
+-- of the operators whose form says more than their words: groups by their method, and what merges
+abbrev pub BehindOperator : Operator → ℕ → List Text → OperatorForm → List Text → Type 0
+BehindOperator o inputs rest operator.HashGroup ws = (K : List ℕ) × (G : List Aggregation) × AreColumns K × AreAggregations G × (GroupRows group.Hash K G ≡ o) × (inputs ≡ 1) × (ws ≡ numbers_text K ∷ aggregations_text G ∷ rest)
+BehindOperator o inputs rest operator.SortedGroup ws = (K : List ℕ) × (G : List Aggregation) × AreColumns K × AreAggregations G × (GroupRows group.Sorted K G ≡ o) × (inputs ≡ 1) × (ws ≡ numbers_text K ∷ aggregations_text G ∷ rest)
+BehindOperator o inputs rest operator.MergeJoin ws =
+    (a : ℕ) × (b : ℕ) × (C : List Condition) × IsShort a × IsShort b × AreConjuncts C × (JoinRows (method.Merge a b) (matching.Inner C) ≡ o) × (inputs ≡ 2) × (ws ≡ decimal a ∷ decimal b ∷ conjuncts_text C ∷ rest)
+BehindOperator o inputs rest _ ws = Unit {0}
+
+abbrev is_inner : KindForm → Bool
+is_inner kind.Inner = true
+is_inner kind.Left = false
+is_inner kind.Semi = false
+is_inner kind.Anti = false
+
+opened_operator : (o : Operator) (inputs : ℕ) (rest : List Text) → IsReadableOperator o inputs → BehindOperator o inputs rest (operator_form o) (operator_words o inputs ++ rest)
+opened_operator (Scan o) inputs rest h = tt
+opened_operator (IndexScan a C) inputs rest h = tt
+opened_operator (Filter C) inputs rest h = tt
+opened_operator (FilterSubqueries C) inputs rest h = tt
+opened_operator (Projection K) inputs rest h = tt
+opened_operator (JoinRows method.NestedLoop j) inputs rest h = tt
+opened_operator (JoinRows method.Hash j) inputs rest h = tt
+opened_operator (JoinRows (method.Merge a b) (matching.Inner C)) inputs rest h = (a, b, C, h.2.0, h.2.1, h.1, refl, h.0, refl)
+opened_operator (JoinRows (method.Merge a b) (matching.Left C)) inputs rest h = absurd (false≢true (ap is_inner h.2.2))
+opened_operator (JoinRows (method.Merge a b) (matching.Semi C)) inputs rest h = absurd (false≢true (ap is_inner h.2.2))
+opened_operator (JoinRows (method.Merge a b) (matching.Anti S M)) inputs rest h = absurd (false≢true (ap is_inner h.2.2))
+opened_operator (IndexJoin a j) inputs rest h = tt
+opened_operator (GroupRows group.Hash K G) inputs rest h = (K, G, h.1, h.2, refl, h.0, refl)
+opened_operator (GroupRows group.Sorted K G) inputs rest h = (K, G, h.1, h.2, refl, h.0, refl)
+opened_operator (DistinctRows group.Hash) inputs rest h = tt
+opened_operator (DistinctRows group.Sorted) inputs rest h = tt
+
+pub operator_at : (o : Operator) (inputs : ℕ) (rest ws : List Text) (form : OperatorForm) → operator_form o ≡ form → IsReadableOperator o inputs → ws ≡ operator_words o inputs ++ rest → BehindOperator o inputs rest form ws
+operator_at o inputs rest ws form is h e =
+    subst (λ ws. BehindOperator o inputs rest form ws) (sym e) (subst (λ form. BehindOperator o inputs rest form (operator_words o inputs ++ rest)) is (opened_operator o inputs rest h))
+
+-- what a later call leaves, of the whole
+pub leaves_node : (n : Node) (inputs : ℕ) (rest : List Text) (old mid new : Words) (r : Result ReadNode LineFault) → mid.in_range ≡ old.in_range → LeavesNode n inputs rest mid new r
+    → LeavesNode n inputs rest old new r
+leaves_node n inputs rest old mid new (Ok v) f h = (h.0, h.1, h.2, h.3 ∙ f)
+leaves_node n inputs rest old mid new (Err fault) f h = h
