@@ -1,4 +1,5 @@
 pub mod FormWords
+pub mod KeyTexts
 pub mod LineTexts
 pub mod NodeTexts
 pub mod NodeWords

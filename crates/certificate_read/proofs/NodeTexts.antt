@@ -1,5 +1,5 @@
 -- The text of a node is cut into its words.
-use Rattle.std.proofs.Common.{◌≡◌, ℕ, ◌-◌, ◌==◌, List, [], ◌∷◌, ◌++◌, append-nil, refl, sym, ◌∙◌, codes}
+use Rattle.std.proofs.Common.{decimal, Bool, true, false, ◌≡◌, ℕ, ◌-◌, ◌==◌, List, [], ◌∷◌, ◌++◌, append-nil, refl, sym, ◌∙◌, codes}
 use Rattle.std.specs.List.{slice_split}
 use Rattle.algebra.specs.declared.condition.Condition.{Condition}
 use Rattle.algebra.specs.declared.expr.Aggregation.{Aggregation}
@@ -9,18 +9,28 @@ use Rattle.physical.specs.declared.plan.Matching.{Matching}
 use Rattle.physical.specs.declared.plan.Matching.TheVariants as matching
 use Rattle.physical.specs.declared.plan.Operator.{Operator}
 use Rattle.physical.specs.declared.plan.Operator.TheVariants.{Scan, IndexScan, Filter, FilterSubqueries, Projection, JoinRows, IndexJoin, GroupRows, DistinctRows}
-use Rattle.physical.specs.declared.plan.Node.TheVariants.{Implements}
+use Rattle.physical.specs.declared.plan.Node.TheVariants.{Implements, Sort}
+use Rattle.physical.specs.declared.plan.Node.{Node}
+use Rattle.physical.specs.declared.plan.OrderKey.{OrderKey}
+use Rattle.certificate_parts.proofs.Lacking.{lacks_both}
 use Rattle.certificate_parts.specs.Parts.{IsShort}
-use Rattle.certificate_text.specs.CertificateText.{kind_text, lists_text, conjuncts_text, numbers_text, aggregations_text, operator_text, node_words}
-use Rattle.certificate_read.specs.NodeReading.{lists_words, words_of, IsReadableMatching, IsReadableOperator}
+use Rattle.certificate_text.specs.CertificateText.{key_text, keys_text, direction_text, kind_text, lists_text, conjuncts_text, numbers_text, aggregations_text, operator_text, node_words}
+use Rattle.certificate_read.specs.NodeReading.{IsShortKey, AreShortKeys, IsReadableNode, lists_words, words_of, IsReadableMatching, IsReadableOperator}
 use Rattle.certificate_read.specs.WordReading.{AreColumns, AreAggregations, AreConjuncts}
-use Rattle.certificate_read.proofs.LineTexts.{IsPart, IsSpaceless, both_parts, one_word, number_part, part_cut, conjuncts_spaceless, numbers_spaceless, aggregations_spaceless}
+use Rattle.certificate_read.proofs.LineTexts.{list_spaceless, number_spaceless, IsPart, IsSpaceless, both_parts, one_word, number_part, part_cut, conjuncts_spaceless, numbers_spaceless, aggregations_spaceless}
 
 kind_spaceless : (j : Matching) → IsSpaceless (kind_text j)
 kind_spaceless (matching.Inner C) = refl
 kind_spaceless (matching.Left C) = refl
 kind_spaceless (matching.Semi C) = refl
 kind_spaceless (matching.Anti S M) = refl
+
+direction_spaceless : (b : Bool) → IsSpaceless (direction_text b)
+direction_spaceless false = refl
+direction_spaceless true = refl
+
+key_spaceless : (k : OrderKey) → IsShortKey k → IsSpaceless (key_text k)
+key_spaceless k s = lacks_both 32 (decimal k.column) (direction_text k.descending) (number_spaceless k.column s) (direction_spaceless k.descending)
 
 conjuncts_part : (C : List Condition) → AreConjuncts C → IsPart (conjuncts_text C) (conjuncts_text C ∷ [])
 conjuncts_part C h = one_word (conjuncts_text C) (conjuncts_spaceless C h)
@@ -60,5 +70,12 @@ operator_part (GroupRows group.Sorted K G) line inputs s h = both_parts _ _ _ _ 
 operator_part (DistinctRows group.Hash) line inputs s h = both_parts _ _ _ _ (one_word (codes "hdistinct") refl) (number_part line s)
 operator_part (DistinctRows group.Sorted) line inputs s h = both_parts _ _ _ _ (one_word (codes "sdistinct") refl) (number_part line s)
 
-pub node_cut : (o : Operator) (line inputs : ℕ) → IsShort line → IsReadableOperator o inputs → slice_split (λ b. b == 32) (node_words (Implements line o) inputs) ≡ words_of (Implements line o) inputs ++ []
-node_cut o line inputs s h = part_cut _ _ (operator_part o line inputs s h) ∙ sym (append-nil (words_of (Implements line o) inputs))
+keys_part : (K : List OrderKey) → AreShortKeys K → IsPart (keys_text K) (keys_text K ∷ [])
+keys_part K h = one_word (keys_text K) (list_spaceless key_text IsShortKey key_spaceless K h)
+
+node_part : (n : Node) (inputs : ℕ) → IsReadableNode n inputs → IsPart (node_words n inputs) (words_of n inputs)
+node_part (Implements line o) inputs h = operator_part o line inputs h.0 h.1
+node_part (Sort K) inputs h = both_parts _ _ _ _ (one_word (codes "sort") refl) (keys_part K h.1)
+
+pub node_cut : (n : Node) (inputs : ℕ) → IsReadableNode n inputs → slice_split (λ b. b == 32) (node_words n inputs) ≡ words_of n inputs ++ []
+node_cut n inputs h = part_cut _ _ (node_part n inputs h) ∙ sym (append-nil (words_of n inputs))

@@ -8,20 +8,23 @@ use Rattle.physical.specs.declared.plan.JoinMethod.TheVariants as method
 use Rattle.physical.specs.declared.plan.Matching.{Matching}
 use Rattle.physical.specs.declared.plan.Matching.TheVariants as matching
 use Rattle.physical.specs.declared.plan.Node.{Node}
+use Rattle.physical.specs.declared.plan.Node.TheVariants.{Implements, Sort}
+use Rattle.physical.specs.declared.plan.OrderKey.{OrderKey}
 use Rattle.physical.specs.declared.plan.Operator.{Operator}
 use Rattle.physical.specs.declared.plan.Operator.TheVariants.{Scan, IndexScan, Filter, FilterSubqueries, Projection, JoinRows, IndexJoin, GroupRows, DistinctRows}
 use Rattle.certificate_parts.specs.Parts.{IsShort}
-use Rattle.certificate_text.specs.CertificateText.{Text, kind_text, conjuncts_text, numbers_text, aggregations_text}
+use Rattle.certificate_text.specs.CertificateText.{Text, keys_text, kind_text, conjuncts_text, numbers_text, aggregations_text}
 use Rattle.certificate_read.specs.declared.node_forms.KindForm.{KindForm}
 use Rattle.certificate_read.specs.declared.node_forms.KindForm.TheVariants as kind
 use Rattle.certificate_read.specs.declared.node_forms.OperatorForm.{OperatorForm}
 use Rattle.certificate_read.specs.declared.node_forms.OperatorForm.TheVariants as operator
 use Rattle.certificate_read.specs.declared.node_forms.NodeForm.{NodeForm}
 use Rattle.certificate_read.specs.declared.node_forms.NodeForm.TheVariants as node
-use Rattle.certificate_read.specs.NodeReading.{LeavesNode, kind_name, kind_of, operator_form, operator_words, IsReadableOperator}
+use Rattle.certificate_read.specs.NodeReading.{node_name, words_of, AreShortKeys, IsReadableNode, LeavesNode, kind_name, kind_of, operator_form, operator_words, IsReadableOperator}
 use Rattle.certificate_read.specs.declared.line_fault.LineFault.{LineFault}
 use Rattle.certificate_read.specs.declared.nodes.ReadNode.{ReadNode}
 use Rattle.certificate_read.specs.declared.words.Words.{Words}
+use Rattle.certificate_read.proofs.FormWords.{Opened}
 use Rattle.certificate_read.specs.WordReading.{AreColumns, AreAggregations, AreConjuncts}
 
 pub kind_same : (j : Matching) → kind_text j ≡ kind_name (kind_of j)
@@ -29,21 +32,6 @@ kind_same (matching.Inner C) = refl
 kind_same (matching.Left C) = refl
 kind_same (matching.Semi C) = refl
 kind_same (matching.Anti S M) = refl
-
--- the operator's form, where it is one
-abbrev form_of : NodeForm → OperatorForm
-form_of node.Sort = operator.Scan
-form_of (node.Implements form) = form
-
-abbrev is_sort : NodeForm → Bool
-is_sort node.Sort = true
-is_sort (node.Implements form) = false
-
-pub same_form : (f : NodeForm) (g h : OperatorForm) → f ≡ node.Implements g → f ≡ node.Implements h → g ≡ h
-same_form f g h e i = ap form_of (sym e ∙ i)
-
-pub no_sort : (f : NodeForm) (g : OperatorForm) → f ≡ node.Implements g → f ≡ node.Sort → ⊥
-no_sort f g e i = false≢true (ap is_sort (sym e ∙ i))
 
 -- of the operators whose form says more than their words: groups by their method, and what merges
 abbrev pub BehindOperator : Operator → ℕ → List Text → OperatorForm → List Text → Type 0
@@ -81,8 +69,21 @@ pub operator_at : (o : Operator) (inputs : ℕ) (rest ws : List Text) (form : Op
 operator_at o inputs rest ws form is h e =
     subst (λ ws. BehindOperator o inputs rest form ws) (sym e) (subst (λ form. BehindOperator o inputs rest form (operator_words o inputs ++ rest)) is (opened_operator o inputs rest h))
 
+-- ---- nodes
+
+abbrev pub BehindNode : Node → ℕ → List Text → NodeForm → List Text → Type 0
+BehindNode n inputs rest node.Sort ws = (K : List OrderKey) × AreShortKeys K × (Sort K ≡ n) × (1 ≡ inputs) × (ws ≡ keys_text K ∷ rest)
+BehindNode n inputs rest (node.Implements form) ws =
+    (line : ℕ) × (o : Operator) × IsShort line × (operator_form o ≡ form) × IsReadableOperator o inputs × (Implements line o ≡ n) × (ws ≡ decimal line ∷ (operator_words o inputs ++ rest))
+
+opened_node : (n : Node) (inputs : ℕ) (rest : List Text) → IsReadableNode n inputs → Opened node_name (BehindNode n inputs rest) (words_of n inputs ++ rest)
+opened_node (Implements line o) inputs rest h = (node.Implements (operator_form o), decimal line ∷ (operator_words o inputs ++ rest), refl, (line, o, h.0, refl, h.1, refl, refl))
+opened_node (Sort K) inputs rest h = (node.Sort, keys_text K ∷ rest, refl, (K, h.1, refl, sym h.0, refl))
+
+pub node_opened : (n : Node) (inputs : ℕ) (rest ws : List Text) → IsReadableNode n inputs → ws ≡ words_of n inputs ++ rest → Opened node_name (BehindNode n inputs rest) ws
+node_opened n inputs rest ws h e = subst (Opened node_name (BehindNode n inputs rest)) (sym e) (opened_node n inputs rest h)
+
 -- what a later call leaves, of the whole
-pub leaves_node : (n : Node) (inputs : ℕ) (rest : List Text) (old mid new : Words) (r : Result ReadNode LineFault) → mid.in_range ≡ old.in_range → LeavesNode n inputs rest mid new r
-    → LeavesNode n inputs rest old new r
-leaves_node n inputs rest old mid new (Ok v) f h = (h.0, h.1, h.2, h.3 ∙ f)
-leaves_node n inputs rest old mid new (Err fault) f h = h
+pub leaves_node : (m n : Node) (count inputs : ℕ) (rest : List Text) (old mid new : Words) (r : Result ReadNode LineFault) → m ≡ n → count ≡ inputs → mid.in_range ≡ old.in_range → LeavesNode m count rest mid new r → LeavesNode n inputs rest old new r
+leaves_node m n count inputs rest old mid new (Ok v) e g f h = (h.0 ∙ e, h.1 ∙ g, h.2, h.3 ∙ f)
+leaves_node m n count inputs rest old mid new (Err fault) e g f h = h

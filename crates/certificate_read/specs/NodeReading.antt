@@ -1,5 +1,5 @@
 -- The words of a plan's nodes, and which nodes can be read.
-use Rattle.std.specs.Prelude.{◌≡◌, ℕ, ◌-◌, ◌<◌, List, [], ◌∷◌, codes, decimal, Result}
+use Rattle.std.specs.Prelude.{map, ◌≡◌, ℕ, ◌-◌, ◌<◌, List, [], ◌∷◌, codes, decimal, Result}
 use Rattle.std.specs.List.{AllByRecursion}
 use Rattle.physical.specs.declared.plan.GroupMethod.TheVariants as group
 use Rattle.physical.specs.declared.plan.IndexAccess.{IndexAccess}
@@ -13,7 +13,7 @@ use Rattle.physical.specs.declared.plan.Operator.TheVariants.{Scan, IndexScan, F
 use Rattle.physical.specs.declared.plan.Node.{Node}
 use Rattle.physical.specs.declared.plan.Node.TheVariants.{Implements, Sort}
 use Rattle.certificate_parts.specs.Parts.{IsShort}
-use Rattle.certificate_text.specs.CertificateText.{Text, numbers_text, aggregations_text, conjuncts_text, keys_text, kind_text}
+use Rattle.certificate_text.specs.CertificateText.{Text, numbers_text, aggregations_text, conjuncts_text, key_text, keys_text, kind_text}
 use Rattle.certificate_read.specs.declared.line_fault.LineFault.{LineFault}
 use Rattle.certificate_read.specs.declared.nodes.ReadNode.{ReadNode}
 use Rattle.certificate_read.specs.declared.words.Words.{Words}
@@ -132,9 +132,18 @@ IsReadableOperator (DistinctRows m) inputs = inputs ≡ 1
 abbrev pub IsShortKey : OrderKey → Type 0
 IsShortKey k = IsShort k.column
 
+abbrev pub AreShortKeys : List OrderKey → Type 0
+AreShortKeys = AllByRecursion IsShortKey
+
+abbrev pub keys_words : List OrderKey → List Text
+keys_words K = keys_text K ∷ []
+
+abbrev pub SpellEachKey : List Text → List OrderKey → Type 0
+SpellEachKey ts K = (ts ≡ map key_text K) × AreShortKeys K
+
 abbrev pub IsReadableNode : Node → ℕ → Type 0
 IsReadableNode (Implements line operator) inputs = IsShort line × IsReadableOperator operator inputs
-IsReadableNode (Sort keys) inputs = (inputs ≡ 1) × AllByRecursion IsShortKey keys
+IsReadableNode (Sort keys) inputs = (inputs ≡ 1) × AreShortKeys keys
 
 -- the call gives the node with so many inputs and leaves these words, unless memory ran out
 abbrev pub LeavesNode : Node → ℕ → List Text → Words → Words → Result ReadNode LineFault → Type 0

@@ -7,6 +7,7 @@ mod line_fault;
 mod node_forms;
 mod nodes;
 mod reading;
+mod sort_keys;
 mod text_lines;
 mod words;
 

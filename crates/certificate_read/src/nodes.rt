@@ -7,59 +7,28 @@ ghost use Rattle.physical.specs.declared.plan.IndexAccess.{IndexAccess};
 ghost use Rattle.physical.specs.declared.plan.JoinMethod.TheVariants as method;
 ghost use Rattle.physical.specs.declared.plan.Matching.{Matching};
 ghost use Rattle.physical.specs.declared.plan.Matching.TheVariants as matching;
+ghost use Rattle.physical.specs.declared.plan.Node.{Node};
 ghost use Rattle.physical.specs.declared.plan.Node.TheVariants as plan;
+ghost use Rattle.physical.specs.declared.plan.OrderKey.{OrderKey};
 ghost use Rattle.physical.specs.declared.plan.Operator.{Operator};
 ghost use Rattle.physical.specs.declared.plan.Operator.TheVariants as physical;
 ghost use Rattle.certificate_parts.specs.Parts.{IsShort};
-ghost use Rattle.certificate_text.specs.CertificateText.{Text, kind_text, node_words, conjuncts_text, numbers_text, aggregations_text};
+ghost use Rattle.certificate_text.specs.CertificateText.{Text, keys_text, kind_text, node_words, conjuncts_text, numbers_text, aggregations_text};
 ghost use Rattle.certificate_read.specs.NodeReading as spec;
 ghost use Rattle.certificate_read.specs.WordReading.{left_words, Leaves, UnlessMemory, AreColumns, AreAggregations, AreConjuncts};
 
 use crate::line_fault::LineFault;
 use crate::node_forms::{KindForm, NodeForm, OperatorForm, kind_form, node_form};
+use crate::sort_keys::keys;
 use crate::words::{Words, words_of};
-use certificate_parts::numbers::number;
-use physical::{GroupMethod, IndexAccess, JoinMethod, Matching, Node, Operator, OrderKey};
+use physical::{GroupMethod, IndexAccess, JoinMethod, Matching, Node, Operator};
 use std::alloc::Global;
-use values::Items;
 
 /// A node and how many inputs follow it.
 #[derive(Drop)]
 pub(crate) struct ReadNode {
     pub node: Node,
     pub inputs: u64,
-}
-
-/// The key that a part of a list is: a column with `a` for ascending or `d` for descending; `None` where the column is past 32 bits.
-fn key(part: &str) -> Result<Option<OrderKey>, LineFault> {
-    let (column, descending) = match part.strip_suffix('a') {
-        Some(column) => (column, false),
-        None => match part.strip_suffix('d') {
-            Some(column) => (column, true),
-            None => return Err(LineFault::OtherForm),
-        },
-    };
-    Ok(match number(column)? {
-        Some(column) => Some(OrderKey { column, descending }),
-        None => None,
-    })
-}
-
-/// The keys of a sort.
-fn keys(alloc: Global, words: &mut Words<'_>) -> Result<Items<OrderKey>, LineFault> {
-    let mut keys = Items::new(alloc);
-    let list = words.word()?;
-    if list == "-" {
-        return Ok(keys);
-    }
-    let parts: Vec<&str> = list.split(',').collect(alloc)?;
-    for part in parts {
-        match key(part)? {
-            Some(key) => keys.push(key)?,
-            None => words.passes_range(),
-        }
-    }
-    Ok(keys)
 }
 
 /// The lists of an antijoin.
@@ -204,7 +173,9 @@ fn operator(
     }
 }
 
-fn sort(alloc: Global, words: &mut Words<'_>) -> Result<ReadNode, LineFault> {
+fn sort(alloc: Global, words: &mut Words<'_>) -> Result<ReadNode, LineFault>
+    ensures { (K : List OrderKey) (rest : List Text) → spec.AreShortKeys K → left_words words.old ≡ keys_text K ∷ rest → spec.LeavesNode (plan.Sort K) 1 rest words.old words.new result }
+{
     let keys = keys(alloc, words)?;
     Ok(ReadNode {
         node: Node::Sort { keys },
@@ -228,7 +199,7 @@ fn implementation(
 }
 
 fn node_of(alloc: Global, words: &mut Words<'_>) -> Result<ReadNode, LineFault>
-    ensures { (line : ℕ) (o : Operator) (inputs : ℕ) (rest : List Text) → IsShort line → spec.IsReadableOperator o inputs → left_words words.old ≡ spec.words_of (plan.Implements line o) inputs ++ rest → spec.LeavesNode (plan.Implements line o) inputs rest words.old words.new result }
+    ensures { (n : Node) (inputs : ℕ) (rest : List Text) → spec.IsReadableNode n inputs → left_words words.old ≡ spec.words_of n inputs ++ rest → spec.LeavesNode n inputs rest words.old words.new result }
 {
     match node_form(words)? {
         NodeForm::Sort => sort(alloc, words),
@@ -238,7 +209,7 @@ fn node_of(alloc: Global, words: &mut Words<'_>) -> Result<ReadNode, LineFault>
 
 /// The node that a line of the text is. It is refused where it stands too deep.
 pub(crate) fn node(alloc: Global, text: &str, is_within: bool) -> Result<ReadNode, LineFault>
-    ensures { (line : ℕ) (o : Operator) (inputs : ℕ) → IsShort line → spec.IsReadableOperator o inputs → is_within ≡ true → text.now ≡ node_words (plan.Implements line o) inputs → UnlessMemory (λ r. (r.node ≡ plan.Implements line o) × (r.inputs ≡ inputs)) result }
+    ensures { (n : Node) (inputs : ℕ) → spec.IsReadableNode n inputs → is_within ≡ true → text.now ≡ node_words n inputs → UnlessMemory (λ r. (r.node ≡ n) × (r.inputs ≡ inputs)) result }
 {
     let parts = words_of(alloc, text)?;
     let mut words = Words::of(parts.as_slice());
