@@ -1,5 +1,10 @@
 //! Why a line isn't read.
 
+ghost use Rattle.std.specs.Prelude.{◌≡◌};
+ghost use Rattle.certificate_read.specs.declared.line_fault.LineFault.{LineFault};
+ghost use Rattle.certificate_read.specs.declared.line_fault.LineFault.TheVariants.{Memory};
+ghost use Rattle.certificate_read.specs.WordReading.{line_fault_of};
+
 use certificate_parts::part_fault::{PartFault, PartReason};
 use certificate_text::TextReason;
 use std::alloc::{AllocError, AllocFailed};
@@ -27,12 +32,16 @@ impl LineFault {
 }
 
 impl From<AllocError> for LineFault {
+    ghost from_gives = { λ _ fault. fault ≡ Memory };
+
     fn from(_error: AllocError) -> LineFault {
         LineFault::Memory
     }
 }
 
 impl<T: Drop> From<AllocFailed<T>> for LineFault {
+    ghost from_gives = { λ _ fault. fault ≡ Memory };
+
     fn from(_error: AllocFailed<T>) -> LineFault {
         LineFault::Memory
     }
@@ -48,10 +57,13 @@ impl From<PartReason> for LineFault {
 }
 
 impl From<PartFault> for LineFault {
+    ghost from_gives = { λ fault given. given ≡ line_fault_of fault };
+
     fn from(fault: PartFault) -> LineFault {
         match fault {
             Fault::Memory => LineFault::Memory,
-            Fault::Refused(reason) => LineFault::from(reason),
+            Fault::Refused(PartReason::OtherForm) => LineFault::OtherForm,
+            Fault::Refused(PartReason::OverLimit) => LineFault::OverLimit,
         }
     }
 }

@@ -1,11 +1,28 @@
 //! The nodes of a plan.
 
+ghost use Rattle.std.specs.Prelude.{◌≡◌, ◌+◌, ◌∷◌, ◌++◌, ℕ, List, decimal, true};
+ghost use Rattle.algebra.specs.declared.condition.Condition.{Condition};
+ghost use Rattle.algebra.specs.declared.expr.Aggregation.{Aggregation};
+ghost use Rattle.physical.specs.declared.plan.IndexAccess.{IndexAccess};
+ghost use Rattle.physical.specs.declared.plan.JoinMethod.TheVariants as method;
+ghost use Rattle.physical.specs.declared.plan.Matching.{Matching};
+ghost use Rattle.physical.specs.declared.plan.Matching.TheVariants as matching;
+ghost use Rattle.physical.specs.declared.plan.Node.{Node};
+ghost use Rattle.physical.specs.declared.plan.Node.TheVariants as plan;
+ghost use Rattle.physical.specs.declared.plan.OrderKey.{OrderKey};
+ghost use Rattle.physical.specs.declared.plan.Operator.{Operator};
+ghost use Rattle.physical.specs.declared.plan.Operator.TheVariants as physical;
+ghost use Rattle.certificate_parts.specs.Parts.{IsShort};
+ghost use Rattle.certificate_text.specs.CertificateText.{Text, keys_text, kind_text, node_words, conjuncts_text, numbers_text, aggregations_text};
+ghost use Rattle.certificate_read.specs.NodeReading as spec;
+ghost use Rattle.certificate_read.specs.WordReading.{left_words, Leaves, UnlessMemory, AreColumns, AreAggregations, AreConjuncts};
+
 use crate::line_fault::LineFault;
-use crate::words::Words;
-use certificate_parts::numbers::number;
-use physical::{GroupMethod, IndexAccess, JoinMethod, Matching, Node, Operator, OrderKey};
+use crate::node_forms::{KindForm, NodeForm, OperatorForm, kind_form, node_form};
+use crate::sort_keys::keys;
+use crate::words::{Words, words_of};
+use physical::{GroupMethod, IndexAccess, JoinMethod, Matching, Node, Operator};
 use std::alloc::Global;
-use values::Items;
 
 /// A node and how many inputs follow it.
 #[derive(Drop)]
@@ -14,101 +31,65 @@ pub(crate) struct ReadNode {
     pub inputs: u64,
 }
 
-/// The key that a part of a list is: a column with `a` for ascending or `d` for descending; `None` where the column is past 32 bits.
-fn key(part: &str) -> Result<Option<OrderKey>, LineFault> {
-    let (column, descending) = match part.strip_suffix('a') {
-        Some(column) => (column, false),
-        None => match part.strip_suffix('d') {
-            Some(column) => (column, true),
-            None => return Err(LineFault::OtherForm),
-        },
-    };
-    Ok(match number(column)? {
-        Some(column) => Some(OrderKey { column, descending }),
-        None => None,
-    })
-}
-
-/// The keys of a sort.
-fn keys(alloc: Global, words: &mut Words<'_>) -> Result<Items<OrderKey>, LineFault> {
-    let mut keys = Items::new(alloc);
-    let list = words.word()?;
-    if list == "-" {
-        return Ok(keys);
-    }
-    let parts: Vec<&str> = list.split(',').collect(alloc)?;
-    for part in parts {
-        match key(part)? {
-            Some(key) => keys.push(key)?,
-            None => words.passes_range(),
-        }
-    }
-    Ok(keys)
-}
-
-/// The kinds of joins, by their names.
-#[derive(Clone, Copy)]
-enum Kind {
-    Inner,
-    Left,
-    Semi,
-    Anti,
-}
-
-fn kind_of(word: &str) -> Result<Kind, LineFault> {
-    match word {
-        "inner" => Ok(Kind::Inner),
-        "left" => Ok(Kind::Left),
-        "semi" => Ok(Kind::Semi),
-        "anti" => Ok(Kind::Anti),
-        _ => Err(LineFault::OtherForm),
-    }
+/// The lists of an antijoin.
+fn anti(alloc: Global, words: &mut Words<'_>) -> Result<Matching, LineFault>
+    ensures { (S : List Condition) (M : List Condition) (rest : List Text) → AreConjuncts S → AreConjuncts M → left_words words.old ≡ conjuncts_text S ∷ conjuncts_text M ∷ rest → Leaves (λ j. j) (matching.Anti S M) rest words.old words.new result }
+{
+    let ordinary = words.conjuncts(alloc)?;
+    Ok(Matching::Anti(ordinary, words.conjuncts(alloc)?))
 }
 
 /// The lists of a join of this kind.
-fn matching(alloc: Global, kind: Kind, words: &mut Words<'_>) -> Result<Matching, LineFault> {
-    let conjuncts = words.conjuncts(alloc)?;
-    Ok(match kind {
-        Kind::Inner => Matching::Inner(conjuncts),
-        Kind::Left => Matching::Left(conjuncts),
-        Kind::Semi => Matching::Semi(conjuncts),
-        Kind::Anti => Matching::Anti(conjuncts, words.conjuncts(alloc)?),
-    })
+fn matching(alloc: Global, kind: KindForm, words: &mut Words<'_>) -> Result<Matching, LineFault>
+    ensures { (j : Matching) (rest : List Text) → spec.kind_of j ≡ kind → spec.IsReadableMatching j → left_words words.old ≡ spec.lists_words j ++ rest → Leaves (λ j. j) j rest words.old words.new result }
+{
+    match kind {
+        KindForm::Inner => Ok(Matching::Inner(words.conjuncts(alloc)?)),
+        KindForm::Left => Ok(Matching::Left(words.conjuncts(alloc)?)),
+        KindForm::Semi => Ok(Matching::Semi(words.conjuncts(alloc)?)),
+        KindForm::Anti => anti(alloc, words),
+    }
 }
 
 /// A join whose kind is named.
-fn join(
-    alloc: Global,
-    method: JoinMethod,
-    words: &mut Words<'_>,
-) -> Result<(Operator, u64), LineFault> {
-    let kind = kind_of(words.word()?)?;
-    let matching = matching(alloc, kind, words)?;
-    Ok((Operator::JoinRows { method, matching }, 2))
+fn join(alloc: Global, words: &mut Words<'_>) -> Result<Matching, LineFault>
+    ensures { (j : Matching) (rest : List Text) → spec.IsReadableMatching j → left_words words.old ≡ kind_text j ∷ (spec.lists_words j ++ rest) → Leaves (λ j. j) j rest words.old words.new result }
+{
+    let kind = kind_form(words)?;
+    matching(alloc, kind, words)
 }
 
 /// A merge join, which is an inner one.
-fn merge(alloc: Global, words: &mut Words<'_>) -> Result<(Operator, u64), LineFault> {
+fn merge(alloc: Global, words: &mut Words<'_>) -> Result<Operator, LineFault>
+    ensures { (a : ℕ) (b : ℕ) (C : List Condition) (rest : List Text) → IsShort a → IsShort b → AreConjuncts C → left_words words.old ≡ decimal a ∷ decimal b ∷ conjuncts_text C ∷ rest → Leaves (λ o. o) (physical.JoinRows (method.Merge a b) (matching.Inner C)) rest words.old words.new result }
+{
     let left = words.number()?;
     let right = words.number()?;
     let method = JoinMethod::Merge(left, right);
-    let matching = matching(alloc, Kind::Inner, words)?;
-    Ok((Operator::JoinRows { method, matching }, 2))
+    let matching = Matching::Inner(words.conjuncts(alloc)?);
+    Ok(Operator::JoinRows { method, matching })
 }
 
-fn index_scan(alloc: Global, words: &mut Words<'_>) -> Result<(Operator, u64), LineFault> {
+fn index_scan(alloc: Global, words: &mut Words<'_>) -> Result<Operator, LineFault>
+    ensures { (a : IndexAccess) (C : List Condition) (rest : List Text) → spec.IsReadableAccess a → AreConjuncts C → left_words words.old ≡ decimal a.line ∷ decimal a.instance ∷ decimal a.index ∷ conjuncts_text C ∷ rest → Leaves (λ o. o) (physical.IndexScan a C) rest words.old words.new result }
+{
+    let line = words.number()?;
+    let instance = words.number()?;
+    let index = words.number()?;
     let access = IndexAccess {
-        line: words.number()?,
-        instance: words.number()?,
-        index: words.number()?,
+        line,
+        instance,
+        index,
     };
     let conjuncts = words.conjuncts(alloc)?;
-    Ok((Operator::IndexScan { access, conjuncts }, 0))
+    Ok(Operator::IndexScan { access, conjuncts })
 }
 
-fn index_join(alloc: Global, words: &mut Words<'_>) -> Result<(Operator, u64), LineFault> {
+fn index_join(alloc: Global, words: &mut Words<'_>) -> Result<Operator, LineFault>
+    ensures { (a : IndexAccess) (j : Matching) (rest : List Text) → spec.IsReadableAccess a → spec.IsReadableMatching j → left_words words.old ≡ decimal a.line ∷ kind_text j ∷ decimal a.instance ∷ decimal a.index ∷ (spec.lists_words j ++ rest) → Leaves (λ o. o) (physical.IndexJoin a j) rest words.old words.new result }
+{
     let line = words.number()?;
-    let kind = kind_of(words.word()?)?;
+    let kind = kind_form(words)?;
     let instance = words.number()?;
     let index = words.number()?;
     let access = IndexAccess {
@@ -117,11 +98,13 @@ fn index_join(alloc: Global, words: &mut Words<'_>) -> Result<(Operator, u64), L
         index,
     };
     let matching = matching(alloc, kind, words)?;
-    Ok((Operator::IndexJoin { access, matching }, 1))
+    Ok(Operator::IndexJoin { access, matching })
 }
 
-/// A filter with subqueries, which says how many inputs follow the first.
-fn filter_subqueries(alloc: Global, words: &mut Words<'_>) -> Result<(Operator, u64), LineFault> {
+/// A filter with subqueries, and how many inputs follow the first.
+fn filter_subqueries(alloc: Global, words: &mut Words<'_>) -> Result<(Operator, u64), LineFault>
+    ensures { (C : List Condition) (more : ℕ) (rest : List Text) → AreConjuncts C → IsShort more → left_words words.old ≡ conjuncts_text C ∷ decimal more ∷ rest → Leaves (λ o. o) (physical.FilterSubqueries C, more + 1) rest words.old words.new result }
+{
     let conjuncts = words.conjuncts(alloc)?;
     let more = words.number()?;
     Ok((
@@ -130,65 +113,69 @@ fn filter_subqueries(alloc: Global, words: &mut Words<'_>) -> Result<(Operator, 
     ))
 }
 
-fn group(
-    alloc: Global,
-    method: GroupMethod,
-    words: &mut Words<'_>,
-) -> Result<(Operator, u64), LineFault> {
+fn group(alloc: Global, method: GroupMethod, words: &mut Words<'_>) -> Result<Operator, LineFault>
+    ensures { (K : List ℕ) (G : List Aggregation) (rest : List Text) → AreColumns K → AreAggregations G → left_words words.old ≡ numbers_text K ∷ aggregations_text G ∷ rest → Leaves (λ o. o) (physical.GroupRows method K G) rest words.old words.new result }
+{
     let keys = words.columns(alloc)?;
     let added = words.aggregations(alloc)?;
-    let operator = Operator::GroupRows {
+    Ok(Operator::GroupRows {
         method,
         keys,
         added,
-    };
-    Ok((operator, 1))
+    })
 }
 
 /// The operator of this name, and how many inputs follow.
 fn operator(
     alloc: Global,
-    name: &str,
+    form: OperatorForm,
     words: &mut Words<'_>,
-) -> Result<(Operator, u64), LineFault> {
-    match name {
-        "scan" => {
+) -> Result<(Operator, u64), LineFault>
+    ensures { (o : Operator) (inputs : ℕ) (rest : List Text) → spec.operator_form o ≡ form → spec.IsReadableOperator o inputs → left_words words.old ≡ spec.operator_words o inputs ++ rest → Leaves (λ o. o) (o, inputs) rest words.old words.new result }
+{
+    match form {
+        OperatorForm::Scan => {
             let instance = words.number()?;
             Ok((Operator::Scan { instance }, 0))
         }
-        "iscan" => index_scan(alloc, words),
-        "filter" => {
+        OperatorForm::IndexScan => Ok((index_scan(alloc, words)?, 0)),
+        OperatorForm::Filter => {
             let conjuncts = words.conjuncts(alloc)?;
             Ok((Operator::Filter { conjuncts }, 1))
         }
-        "filtersub" => filter_subqueries(alloc, words),
-        "cut" => {
+        OperatorForm::FilterSubqueries => filter_subqueries(alloc, words),
+        OperatorForm::Projection => {
             let columns = words.columns(alloc)?;
             Ok((Operator::Projection { columns }, 1))
         }
-        "loop" => join(alloc, JoinMethod::NestedLoop, words),
-        "hash" => join(alloc, JoinMethod::Hash, words),
-        "merge" => merge(alloc, words),
-        "iloop" => index_join(alloc, words),
-        "hgroup" => group(alloc, GroupMethod::Hash, words),
-        "sgroup" => group(alloc, GroupMethod::Sorted, words),
-        "hdistinct" => Ok((
-            Operator::DistinctRows {
-                method: GroupMethod::Hash,
-            },
-            1,
-        )),
-        "sdistinct" => Ok((
-            Operator::DistinctRows {
-                method: GroupMethod::Sorted,
-            },
-            1,
-        )),
-        _ => Err(LineFault::OtherForm),
+        OperatorForm::NestedLoop => {
+            let method = JoinMethod::NestedLoop;
+            let matching = join(alloc, words)?;
+            Ok((Operator::JoinRows { method, matching }, 2))
+        }
+        OperatorForm::HashJoin => {
+            let method = JoinMethod::Hash;
+            let matching = join(alloc, words)?;
+            Ok((Operator::JoinRows { method, matching }, 2))
+        }
+        OperatorForm::MergeJoin => Ok((merge(alloc, words)?, 2)),
+        OperatorForm::IndexJoin => Ok((index_join(alloc, words)?, 1)),
+        OperatorForm::HashGroup => Ok((group(alloc, GroupMethod::Hash, words)?, 1)),
+        OperatorForm::SortedGroup => Ok((group(alloc, GroupMethod::Sorted, words)?, 1)),
+        OperatorForm::HashDistinct => {
+            let method = GroupMethod::Hash;
+            Ok((Operator::DistinctRows { method }, 1))
+        }
+        OperatorForm::SortedDistinct => {
+            let method = GroupMethod::Sorted;
+            Ok((Operator::DistinctRows { method }, 1))
+        }
     }
 }
 
-fn sort(alloc: Global, words: &mut Words<'_>) -> Result<ReadNode, LineFault> {
+fn sort(alloc: Global, words: &mut Words<'_>) -> Result<ReadNode, LineFault>
+    ensures { (K : List OrderKey) (rest : List Text) → spec.AreShortKeys K → left_words words.old ≡ keys_text K ∷ rest → spec.LeavesNode (plan.Sort K) 1 rest words.old words.new result }
+{
     let keys = keys(alloc, words)?;
     Ok(ReadNode {
         node: Node::Sort { keys },
@@ -196,25 +183,36 @@ fn sort(alloc: Global, words: &mut Words<'_>) -> Result<ReadNode, LineFault> {
     })
 }
 
-fn implementation(alloc: Global, name: &str, words: &mut Words<'_>) -> Result<ReadNode, LineFault> {
+fn implementation(
+    alloc: Global,
+    form: OperatorForm,
+    words: &mut Words<'_>,
+) -> Result<ReadNode, LineFault>
+    ensures { (line : ℕ) (o : Operator) (inputs : ℕ) (rest : List Text) → IsShort line → spec.operator_form o ≡ form → spec.IsReadableOperator o inputs → left_words words.old ≡ decimal line ∷ (spec.operator_words o inputs ++ rest) → spec.LeavesNode (plan.Implements line o) inputs rest words.old words.new result }
+{
     let line = words.number()?;
-    let (operator, inputs) = operator(alloc, name, words)?;
+    let (operator, inputs) = operator(alloc, form, words)?;
     Ok(ReadNode {
         node: Node::Implements { line, operator },
         inputs,
     })
 }
 
-fn node_of(alloc: Global, words: &mut Words<'_>) -> Result<ReadNode, LineFault> {
-    match words.word()? {
-        "sort" => sort(alloc, words),
-        name => implementation(alloc, name, words),
+fn node_of(alloc: Global, words: &mut Words<'_>) -> Result<ReadNode, LineFault>
+    ensures { (n : Node) (inputs : ℕ) (rest : List Text) → spec.IsReadableNode n inputs → left_words words.old ≡ spec.words_of n inputs ++ rest → spec.LeavesNode n inputs rest words.old words.new result }
+{
+    match node_form(words)? {
+        NodeForm::Sort => sort(alloc, words),
+        NodeForm::Implements(form) => implementation(alloc, form, words),
     }
 }
 
 /// The node that a line of the text is. It is refused where it stands too deep.
-pub(crate) fn node(alloc: Global, text: &str, is_within: bool) -> Result<ReadNode, LineFault> {
-    let mut words = Words::of(alloc, text)?;
+pub(crate) fn node(alloc: Global, text: &str, is_within: bool) -> Result<ReadNode, LineFault>
+    ensures { (n : Node) (inputs : ℕ) → spec.IsReadableNode n inputs → is_within ≡ true → text.now ≡ node_words n inputs → UnlessMemory (λ r. (r.node ≡ n) × (r.inputs ≡ inputs)) result }
+{
+    let parts = words_of(alloc, text)?;
+    let mut words = Words::of(parts.as_slice());
     let read = node_of(alloc, &mut words)?;
     words.end(is_within)?;
     Ok(read)

@@ -1,5 +1,11 @@
 //! The words of a line, read one after the other.
 
+ghost use Rattle.std.specs.Prelude.{◌≡◌, ◌==◌, ◌∷◌, [], List, map, Ok, true, IfOk};
+ghost use Rattle.std.specs.List.{slice_split};
+ghost use Rattle.certificate_parts.specs.Parts.{IsShort, AreShort};
+ghost use Rattle.certificate_text.specs.CertificateText.{Text};
+ghost use Rattle.certificate_read.specs.WordReading as spec;
+
 use crate::line_fault::LineFault;
 use algebra::{Aggregations, Columns, Conjuncts};
 use certificate_parts::aggregates::aggregations;
@@ -8,36 +14,51 @@ use certificate_parts::conjunct_lists::conjuncts;
 use certificate_parts::numbers::{number, numbers};
 use certificate_text::MOST_NESTED;
 use derivation::Numbers;
-use std::alloc::Global;
-use std::vec;
+use std::alloc::{AllocError, Global};
+
+/// The words of a line, which single spaces stand between.
+pub(crate) fn words_of(alloc: Global, line: &str) -> Result<Vec<&str>, AllocError>
+    ensures { IfOk result (λ words. map (λ word. word.now) words.items ≡ slice_split (λ b. b == 32) line.now) }
+{
+    line.split(' ').collect(alloc)
+}
 
 /// The words of a line that are still to be read. A number past its range is read as any value: the line is refused for it once it has
 /// its form.
 #[derive(Drop)]
 pub(crate) struct Words<'a> {
-    left: vec::IntoIter<&'a str>,
+    left: &'a [&'a str],
     in_range: bool,
 }
 
 impl<'a> Words<'a> {
-    pub(crate) fn of(alloc: Global, line: &'a str) -> Result<Words<'a>, LineFault> {
-        let words: Vec<&'a str> = line.split(' ').collect(alloc)?;
-        Ok(Words {
-            left: words.into_iter(),
+    pub(crate) fn of(words: &'a [&'a str]) -> Words<'a>
+        ensures left { spec.left_words result ≡ map (λ word. word.now) words.now }
+        ensures in_range { result.in_range ≡ true }
+    {
+        Words {
+            left: words,
             in_range: true,
-        })
+        }
     }
 
-    pub(crate) fn word(&mut self) -> Result<&'a str, LineFault> {
-        match self.left.next() {
-            Some(word) => Ok(word),
-            None => Err(LineFault::OtherForm),
+    pub(crate) fn word(&mut self) -> Result<&'a str, LineFault>
+        ensures { (word : Text) (rest : List Text) → spec.left_words self.old ≡ word ∷ rest → spec.Leaves (λ w. w.now) word rest self.old self.new result }
+    {
+        match self.left {
+            [word, left @ ..] => {
+                self.left = left;
+                Ok(*word)
+            }
+            [] => Err(LineFault::OtherForm),
         }
     }
 
     /// That the line ends here. It is refused for the limit that it isn't within, and else for a number past its range.
-    pub(crate) fn end(mut self, is_within: bool) -> Result<(), LineFault> {
-        if self.left.next().is_some() {
+    pub(crate) fn end(self, is_within: bool) -> Result<(), LineFault>
+        ensures { spec.left_words self.entry ≡ [] → self.entry.in_range ≡ true → is_within ≡ true → result ≡ Ok tt }
+    {
+        if !self.left.is_empty() {
             return Err(LineFault::OtherForm);
         }
         if !is_within {
@@ -55,7 +76,9 @@ impl<'a> Words<'a> {
         self.in_range = false;
     }
 
-    pub(crate) fn number(&mut self) -> Result<u32, LineFault> {
+    pub(crate) fn number(&mut self) -> Result<u32, LineFault>
+        ensures { spec.ReadsWords spec.number_words IsShort self.old self.new result }
+    {
         match number(self.word()?)? {
             Some(number) => Ok(number),
             None => {
@@ -65,7 +88,9 @@ impl<'a> Words<'a> {
         }
     }
 
-    pub(crate) fn numbers(&mut self, alloc: Global) -> Result<Numbers, LineFault> {
+    pub(crate) fn numbers(&mut self, alloc: Global) -> Result<Numbers, LineFault>
+        ensures { spec.ReadsWords spec.numbers_words AreShort self.old self.new result }
+    {
         match numbers(alloc, self.word()?)? {
             Some(numbers) => Ok(Numbers::from_slice(alloc, numbers.as_slice())?),
             None => {
@@ -75,7 +100,9 @@ impl<'a> Words<'a> {
         }
     }
 
-    pub(crate) fn columns(&mut self, alloc: Global) -> Result<Columns, LineFault> {
+    pub(crate) fn columns(&mut self, alloc: Global) -> Result<Columns, LineFault>
+        ensures { spec.ReadsWords spec.numbers_words spec.AreColumns self.old self.new result }
+    {
         match columns(alloc, self.word()?)? {
             Some(columns) => Ok(columns),
             None => {
@@ -85,7 +112,9 @@ impl<'a> Words<'a> {
         }
     }
 
-    pub(crate) fn aggregations(&mut self, alloc: Global) -> Result<Aggregations, LineFault> {
+    pub(crate) fn aggregations(&mut self, alloc: Global) -> Result<Aggregations, LineFault>
+        ensures { spec.ReadsWords spec.aggregations_words spec.AreAggregations self.old self.new result }
+    {
         match aggregations(alloc, self.word()?)? {
             Some(added) => Ok(added),
             None => {
@@ -95,7 +124,9 @@ impl<'a> Words<'a> {
         }
     }
 
-    pub(crate) fn conjuncts(&mut self, alloc: Global) -> Result<Conjuncts, LineFault> {
+    pub(crate) fn conjuncts(&mut self, alloc: Global) -> Result<Conjuncts, LineFault>
+        ensures { spec.ReadsWords spec.conjuncts_words spec.AreConjuncts self.old self.new result }
+    {
         match conjuncts(alloc, self.word()?, MOST_NESTED)? {
             Some(conjuncts) => Ok(conjuncts),
             None => {
@@ -106,7 +137,9 @@ impl<'a> Words<'a> {
     }
 
     /// The conditions and the two classes of a join.
-    pub(crate) fn sides(&mut self, alloc: Global) -> Result<(Conjuncts, u32, u32), LineFault> {
+    pub(crate) fn sides(&mut self, alloc: Global) -> Result<(Conjuncts, u32, u32), LineFault>
+        ensures { spec.ReadsWords spec.sides_words spec.AreSides self.old self.new result }
+    {
         let conjuncts = self.conjuncts(alloc)?;
         let left = self.number()?;
         Ok((conjuncts, left, self.number()?))

@@ -1,0 +1,3 @@
+pub mod LineReading
+pub mod NodeReading
+pub mod WordReading
