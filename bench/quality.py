@@ -10,7 +10,7 @@ Told are, for each shape, form of FROM and number of tables, the geometric mean 
 the canonical plan was taken. Wants the program built, or a tree in which the program of quality/main.rt.txt is tried, which proves
 nothing. The seed is fixed, so each run asks the same.
 
-usage: quality.py [--tree PATH] [--worst] [DRAWS [FEWEST MOST [SEED]]]
+usage: quality.py [--tree PATH] [--program PATH] [--worst] [DRAWS [FEWEST MOST [SEED]]]
 """
 import dataclasses
 import json
@@ -401,7 +401,7 @@ def tried(tree, draws):
     return texts
 
 
-def planned(draws):
+def planned(program, draws):
     texts = []
     with tempfile.TemporaryDirectory() as name:
         folder = pathlib.Path(name)
@@ -409,17 +409,22 @@ def planned(draws):
             (folder / "schema.json").write_text(schema_of(drawn))
             (folder / "query.sql").write_text(drawn.text)
             (folder / "stats.json").write_text(statistics_of(drawn))
-            run = subprocess.run([ROOT / "crates/sqlplan/out/sqlplan", "plan", *(folder / f for f in ("schema.json", "query.sql", "stats.json"))], capture_output=True, text=True, check=True)
+            files = [folder / file for file in ("schema.json", "query.sql", "stats.json")]
+            run = subprocess.run([program, "plan", *files], capture_output=True, text=True, check=True)
             texts.append(run.stdout)
     return texts
 
 
 def main():
     words = sys.argv[1:]
-    tree = None
+    tree, program = None, ROOT / "crates/sqlplan/out/sqlplan"
     if "--tree" in words:
         place = words.index("--tree")
         tree = pathlib.Path(words[place + 1])
+        del words[place : place + 2]
+    if "--program" in words:
+        place = words.index("--program")
+        program = pathlib.Path(words[place + 1])
         del words[place : place + 2]
     tells_worst = "--worst" in words
     numbers = [int(word) for word in words if word.isdigit()]
@@ -427,7 +432,7 @@ def main():
     rng = random.Random(seed)
     kinds = [(shape, form, size) for shape in SHAPES for form in FORMS for size in range(fewest, most + 1)]
     draws, least = zip(*(fair(rng, *kind) for kind in kinds for _ in range(count)))
-    certificates = tried(tree, draws) if tree else planned(draws)
+    certificates = tried(tree, draws) if tree else planned(program, draws)
     everything = []
     for number, kind in enumerate(kinds):
         ratios, lines = [], []
