@@ -41,13 +41,17 @@ fn step_of(
 }
 
 /// An operator under conditions, whose inputs are still to be found.
-fn under<'a>(operator: Operator<'a>, conditions: &'a [Condition]) -> Operation<'a> {
+fn under<'a>(
+    operator: Operator<'a>,
+    conditions: &'a [Condition],
+    null_aware: &'a [Condition],
+) -> Operation<'a> {
     Operation {
         operator,
         left: None,
         right: None,
         conditions,
-        null_aware: &[],
+        null_aware,
     }
 }
 
@@ -79,45 +83,37 @@ impl<'q> Memo<'q> {
         }
     }
 
-    /// A line with the operator over the class of a shape.
-    #[cycle(looking)]
+    /// A line with the operator over a class, if there is one.
     fn line_over(
         &mut self,
         alloc: Global,
         operation: Operation<'_>,
-        input: &Boxed<Shape>,
+        input: Option<ClassId>,
     ) -> Result<Option<Member>, AllocError> {
-        let Some(input) = self.class_there(alloc, input)? else {
-            return Ok(None);
-        };
-        let left = Some(input);
-        self.alike(alloc, Operation { left, ..operation })
+        match input {
+            Some(_) => self.alike(
+                alloc,
+                Operation {
+                    left: input,
+                    ..operation
+                },
+            ),
+            None => Ok(None),
+        }
     }
 
-    /// A line with the operator over the classes of two shapes.
-    #[cycle(looking)]
+    /// A line with the operator over two classes, if there are both.
     fn line_over_both(
         &mut self,
         alloc: Global,
         operation: Operation<'_>,
-        left: &Boxed<Shape>,
-        right: &Boxed<Shape>,
+        left: Option<ClassId>,
+        right: Option<ClassId>,
     ) -> Result<Option<Member>, AllocError> {
-        let Some(left) = self.class_there(alloc, left)? else {
-            return Ok(None);
-        };
-        let Some(right) = self.class_there(alloc, right)? else {
-            return Ok(None);
-        };
-        let (left, right) = (Some(left), Some(right));
-        self.alike(
-            alloc,
-            Operation {
-                left,
-                right,
-                ..operation
-            },
-        )
+        match right {
+            Some(_) => self.line_over(alloc, Operation { right, ..operation }, left),
+            None => Ok(None),
+        }
     }
 
     /// A line with the expression that a shape is, up to which classes are the same, if there is one. Nothing is added.
@@ -126,34 +122,38 @@ impl<'q> Memo<'q> {
         match shape {
             Shape::Class(_) => Ok(None),
             Shape::Select(c, x) => {
-                self.line_over(alloc, under(Operator::Select, c.as_slice()), x)
+                let x = self.class_there(alloc, x)?;
+                self.line_over(alloc, under(Operator::Select, c.as_slice(), &[]), x)
             }
             Shape::Join(c, a, b) => {
-                self.line_over_both(alloc, under(Operator::Join, c.as_slice()), a, b)
+                let a = self.class_there(alloc, a)?;
+                let b = self.class_there(alloc, b)?;
+                self.line_over_both(alloc, under(Operator::Join, c.as_slice(), &[]), a, b)
             }
             Shape::LeftJoin(c, a, b) => {
-                self.line_over_both(alloc, under(Operator::LeftJoin, c.as_slice()), a, b)
+                let a = self.class_there(alloc, a)?;
+                let b = self.class_there(alloc, b)?;
+                self.line_over_both(alloc, under(Operator::LeftJoin, c.as_slice(), &[]), a, b)
             }
             Shape::Semi(c, a, b) => {
-                self.line_over_both(alloc, under(Operator::Semi, c.as_slice()), a, b)
+                let a = self.class_there(alloc, a)?;
+                let b = self.class_there(alloc, b)?;
+                self.line_over_both(alloc, under(Operator::Semi, c.as_slice(), &[]), a, b)
             }
             Shape::Anti(ordinary, null_aware, a, b) => {
-                let null_aware = null_aware.as_slice();
-                let ordinary = under(Operator::Anti, ordinary.as_slice());
-                self.line_over_both(
-                    alloc,
-                    Operation {
-                        null_aware,
-                        ..ordinary
-                    },
-                    a,
-                    b,
-                )
+                let a = self.class_there(alloc, a)?;
+                let b = self.class_there(alloc, b)?;
+                let operation = under(Operator::Anti, ordinary.as_slice(), null_aware.as_slice());
+                self.line_over_both(alloc, operation, a, b)
             }
             Shape::Keep(k, x) => {
-                self.line_over(alloc, under(Operator::Keep(k.as_slice()), &[]), x)
+                let x = self.class_there(alloc, x)?;
+                self.line_over(alloc, under(Operator::Keep(k.as_slice()), &[], &[]), x)
             }
-            Shape::Distinct(x) => self.line_over(alloc, under(Operator::Distinct, &[]), x),
+            Shape::Distinct(x) => {
+                let x = self.class_there(alloc, x)?;
+                self.line_over(alloc, under(Operator::Distinct, &[], &[]), x)
+            }
         }
     }
 

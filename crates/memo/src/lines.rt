@@ -1,5 +1,11 @@
 //! The lines of a log, found by their expressions up to which classes are the same.
 
+ghost use Rattle.std.specs.Prelude.{◌≡◌, ℕ, IfOk};
+ghost use Rattle.std.specs.List.Sorted.{IsSorted};
+ghost use Rattle.std.specs.Ordering.{nat_cmp};
+ghost use Rattle.logs.specs.Members.{is_member, once_if};
+ghost use Rattle.logs.specs.Sets.{times};
+
 use crate::groups::Groups;
 use crate::keys::{ConditionNumbers, Key, Keys, Operation, operation_of};
 use algebra::{ClassId, Expr, LineId};
@@ -262,7 +268,10 @@ impl<'q> Memo<'q> {
     }
 
     /// The lines with an expression of the class, or of one that is the same: each once, rising. None where no line founds it.
-    pub fn members(&self, alloc: Global, class: ClassId) -> Result<Vec<LineId>, AllocError> {
+    pub fn members(&self, alloc: Global, class: ClassId) -> Result<Vec<LineId>, AllocError>
+        ensures exact { IfOk result (λ found. (n : ℕ) → times n found.items ≡ once_if (is_member self.now.log.log class n)) }
+        ensures rising { IfOk result (λ found. IsSorted nat_cmp found.items) }
+    {
         let mut members = self.log.members(alloc, class)?;
         members.sort_unstable();
         Ok(members)
