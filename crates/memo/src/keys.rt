@@ -1,17 +1,52 @@
 //! Expressions by numbers, so that equal ones are found.
 
+use crate::grouped::grouped_condition;
+use crate::groups::Groups;
 use algebra::condition_text::condition_text;
 use algebra::{Aggregation, ClassId, Condition, Expr};
 use indexmap::IndexSet;
-use query::Aggregate;
 use query::ids::id_of;
+use query::{Aggregate, ColumnId, InstanceId};
 use std::alloc::{AllocError, Global};
 
-/// An expression, of a class or of any. Equal ones have equal keys, and only these.
+/// An operator, with what it has beside inputs and conditions.
+#[derive(Clone, Copy)]
+pub(crate) enum Operator<'a> {
+    Get(InstanceId),
+    Select,
+    Join,
+    LeftJoin,
+    Semi,
+    Anti,
+    Keep(&'a [ColumnId]),
+    Distinct,
+    Group(&'a [ColumnId], &'a [Aggregation]),
+}
+
+/// An operator over classes, under conditions.
+#[derive(Clone, Copy)]
+pub(crate) struct Operation<'a> {
+    pub operator: Operator<'a>,
+    pub left: Option<ClassId>,
+    pub right: Option<ClassId>,
+    pub conditions: &'a [Condition],
+    /// The second conditions of an antijoin.
+    pub null_aware: &'a [Condition],
+}
+
+/// An expression by numbers.
 #[derive(PartialEq, Eq, Hash, Drop)]
 pub(crate) struct Key {
-    class: Option<ClassId>,
     numbers: Vec<u32>,
+}
+
+/// The keys of an expression.
+#[derive(Drop)]
+pub(crate) struct Keys {
+    /// With the classes as they are named: equal expressions have equal ones, and only these.
+    pub named: Key,
+    /// With the groups of the classes: expressions that are equal up to which classes are the same have equal ones, and only these.
+    pub alike: Key,
 }
 
 /// The numbers of conditions, by their texts.
@@ -20,26 +55,72 @@ pub(crate) struct ConditionNumbers {
     texts: IndexSet<String>,
 }
 
+/// The numbers of an operation's conditions: each list rising, each number once.
+#[derive(Drop)]
+struct ConditionLists {
+    conditions: Vec<u32>,
+    null_aware: Vec<u32>,
+}
+
 /// Which operator it is.
-fn operator_number(expr: &Expr) -> u32 {
-    match expr {
-        Expr::Get(_) => 0,
-        Expr::Select(_, _) => 1,
-        Expr::Join(_, _, _) => 2,
-        Expr::LeftJoin(_, _, _) => 3,
-        Expr::Semi(_, _, _) => 4,
-        Expr::Anti(_, _, _, _) => 5,
-        Expr::Keep(_, _) => 6,
-        Expr::Distinct(_) => 7,
-        Expr::Group(_, _, _) => 8,
+fn operator_number(operator: Operator<'_>) -> u32 {
+    match operator {
+        Operator::Get(_) => 0,
+        Operator::Select => 1,
+        Operator::Join => 2,
+        Operator::LeftJoin => 3,
+        Operator::Semi => 4,
+        Operator::Anti => 5,
+        Operator::Keep(_) => 6,
+        Operator::Distinct => 7,
+        Operator::Group(_, _) => 8,
     }
 }
 
-fn push_input(numbers: &mut Vec<u32>, input: Option<ClassId>) -> Result<(), AllocError> {
-    if let Some(class) = input {
-        numbers.push(class)?;
+fn operator_of(expr: &Expr) -> Operator<'_> {
+    match expr {
+        Expr::Get(instance) => Operator::Get(*instance),
+        Expr::Select(_, _) => Operator::Select,
+        Expr::Join(_, _, _) => Operator::Join,
+        Expr::LeftJoin(_, _, _) => Operator::LeftJoin,
+        Expr::Semi(_, _, _) => Operator::Semi,
+        Expr::Anti(_, _, _, _) => Operator::Anti,
+        Expr::Keep(columns, _) => Operator::Keep(columns.as_slice()),
+        Expr::Distinct(_) => Operator::Distinct,
+        Expr::Group(keys, added, _) => Operator::Group(keys.as_slice(), added.as_slice()),
     }
-    Ok(())
+}
+
+/// What an expression does.
+pub(crate) fn operation_of(expr: &Expr) -> Operation<'_> {
+    let (left, right) = expr.children();
+    let (conditions, null_aware) = expr.conditions();
+    Operation {
+        operator: operator_of(expr),
+        left,
+        right,
+        conditions,
+        null_aware,
+    }
+}
+
+/// Adds the number of a class, or of its group where groups are given.
+fn push_input(
+    numbers: &mut Vec<u32>,
+    input: Option<ClassId>,
+    groups: Option<&Groups>,
+) -> Result<(), AllocError> {
+    match (input, groups) {
+        (Some(class), Some(groups)) => {
+            numbers.push(groups.of(class))?;
+            Ok(())
+        }
+        (Some(class), None) => {
+            numbers.push(class)?;
+            Ok(())
+        }
+        (None, _) => Ok(()),
+    }
 }
 
 /// Adds a list behind its length.
@@ -70,24 +151,54 @@ fn push_aggregations(numbers: &mut Vec<u32>, added: &[Aggregation]) -> Result<()
     Ok(())
 }
 
-/// Adds what an operator without conditions has of its own.
-fn push_own(numbers: &mut Vec<u32>, expr: &Expr) -> Result<(), AllocError> {
-    match expr {
-        Expr::Get(instance) => {
-            numbers.push(*instance)?;
+/// Adds what an operator has of its own.
+fn push_own(numbers: &mut Vec<u32>, operator: Operator<'_>) -> Result<(), AllocError> {
+    match operator {
+        Operator::Get(instance) => {
+            numbers.push(instance)?;
             Ok(())
         }
-        Expr::Keep(columns, _) => push_list(numbers, columns.as_slice()),
-        Expr::Group(keys, added, _) => {
-            push_list(numbers, keys.as_slice())?;
-            push_aggregations(numbers, added.as_slice())
+        Operator::Keep(columns) => push_list(numbers, columns),
+        Operator::Group(keys, added) => {
+            push_list(numbers, keys)?;
+            push_aggregations(numbers, added)
         }
-        Expr::Select(_, _)
-        | Expr::Join(_, _, _)
-        | Expr::LeftJoin(_, _, _)
-        | Expr::Semi(_, _, _)
-        | Expr::Anti(_, _, _, _)
-        | Expr::Distinct(_) => Ok(()),
+        Operator::Select
+        | Operator::Join
+        | Operator::LeftJoin
+        | Operator::Semi
+        | Operator::Anti
+        | Operator::Distinct => Ok(()),
+    }
+}
+
+impl Operation<'_> {
+    /// Whether its conditions name no class.
+    fn is_plain(self) -> bool {
+        self.conditions
+            .iter()
+            .all(|condition| condition.has_no_class())
+            && self
+                .null_aware
+                .iter()
+                .all(|condition| condition.has_no_class())
+    }
+
+    /// Its key, by groups where they are given.
+    fn key(
+        self,
+        alloc: Global,
+        lists: &ConditionLists,
+        groups: Option<&Groups>,
+    ) -> Result<Key, AllocError> {
+        let mut numbers = Vec::with_capacity(alloc, 8)?;
+        numbers.push(operator_number(self.operator))?;
+        push_input(&mut numbers, self.left, groups)?;
+        push_input(&mut numbers, self.right, groups)?;
+        push_list(&mut numbers, lists.conditions.as_slice())?;
+        push_list(&mut numbers, lists.null_aware.as_slice())?;
+        push_own(&mut numbers, self.operator)?;
+        Ok(Key { numbers })
     }
 }
 
@@ -98,38 +209,79 @@ impl ConditionNumbers {
         }
     }
 
-    /// Adds the numbers of conditions behind their count.
-    fn push_conditions(
+    /// The number of a condition, with its classes as they are named, or with their groups where these are given.
+    fn number(
         &mut self,
         alloc: Global,
-        numbers: &mut Vec<u32>,
-        conditions: &[Condition],
-    ) -> Result<(), AllocError> {
-        numbers.push(id_of(conditions.len())?)?;
-        for condition in conditions {
-            let text = condition_text(alloc, condition)?;
-            let (number, _) = self.texts.insert_full(text)?;
-            numbers.push(id_of(number)?)?;
-        }
-        Ok(())
+        condition: &Condition,
+        groups: Option<&Groups>,
+    ) -> Result<u32, AllocError> {
+        let text = match groups {
+            Some(groups) => condition_text(alloc, &grouped_condition(alloc, condition, groups)?)?,
+            None => condition_text(alloc, condition)?,
+        };
+        let (number, _) = self.texts.insert_full(text)?;
+        id_of(number)
     }
 
-    /// The key of an expression of the class, or of any.
-    pub(crate) fn key(
+    fn numbers(
         &mut self,
         alloc: Global,
-        class: Option<ClassId>,
-        expr: &Expr,
+        conditions: &[Condition],
+        groups: Option<&Groups>,
+    ) -> Result<Vec<u32>, AllocError> {
+        let mut numbers = Vec::new(alloc);
+        for condition in conditions {
+            numbers.push(self.number(alloc, condition, groups)?)?;
+        }
+        numbers.sort_unstable();
+        numbers.dedup();
+        Ok(numbers)
+    }
+
+    fn lists(
+        &mut self,
+        alloc: Global,
+        operation: Operation<'_>,
+        groups: Option<&Groups>,
+    ) -> Result<ConditionLists, AllocError> {
+        Ok(ConditionLists {
+            conditions: self.numbers(alloc, operation.conditions, groups)?,
+            null_aware: self.numbers(alloc, operation.null_aware, groups)?,
+        })
+    }
+
+    /// The key by groups.
+    pub(crate) fn alike_key(
+        &mut self,
+        alloc: Global,
+        operation: Operation<'_>,
+        groups: &Groups,
     ) -> Result<Key, AllocError> {
-        let (left, right) = expr.children();
-        let (first, second) = expr.conditions();
-        let mut numbers = Vec::with_capacity(alloc, 8)?;
-        numbers.push(operator_number(expr))?;
-        push_input(&mut numbers, left)?;
-        push_input(&mut numbers, right)?;
-        self.push_conditions(alloc, &mut numbers, first)?;
-        self.push_conditions(alloc, &mut numbers, second)?;
-        push_own(&mut numbers, expr)?;
-        Ok(Key { class, numbers })
+        // Most conditions name no class, and then nothing in them is to be renamed.
+        let renamed = if operation.is_plain() {
+            None
+        } else {
+            Some(groups)
+        };
+        let lists = self.lists(alloc, operation, renamed)?;
+        operation.key(alloc, &lists, Some(groups))
+    }
+
+    /// Both keys.
+    pub(crate) fn keys(
+        &mut self,
+        alloc: Global,
+        operation: Operation<'_>,
+        groups: &Groups,
+    ) -> Result<Keys, AllocError> {
+        let lists = self.lists(alloc, operation, None)?;
+        let named = operation.key(alloc, &lists, None)?;
+        let alike = if operation.is_plain() {
+            operation.key(alloc, &lists, Some(groups))?
+        } else {
+            self.alike_key(alloc, operation, groups)?
+        };
+        Ok(Keys { named, alike })
     }
 }

@@ -1,40 +1,69 @@
-//! The lines of a log, found by their expressions.
+//! The lines of a log, found by their expressions up to which classes are the same.
 
-use crate::keys::{ConditionNumbers, Key};
+ghost use Rattle.std.specs.Prelude.{◌≡◌, ℕ, IfOk};
+ghost use Rattle.std.specs.List.Sorted.{IsSorted};
+ghost use Rattle.std.specs.Ordering.{nat_cmp};
+ghost use Rattle.logs.specs.Members.{is_member, once_if};
+ghost use Rattle.logs.specs.Sets.{times};
+
+use crate::groups::Groups;
+use crate::keys::{ConditionNumbers, Key, Keys, Operation, operation_of};
 use algebra::{ClassId, Expr, LineId};
-use derivation::{Line, LineReason, Numbers, Step};
+use derivation::Line;
 use indexmap::IndexMap;
 use logs::{LineFault, Log};
 use props::Fact;
 use query::ids::id_of;
-use rules::{Match, RuleName, Shape, Unfit};
 use std::alloc::{AllocError, Global};
-use values::{Boxed, Fault};
+use values::Fault;
 
-/// A log, and for each expression of a class, or of any, the first line that has it. Classes go by the numbers that lines name.
+/// So many lines are added at most at once that say of two lines that their classes are the same. Others wait for the next line.
+const MOST_ALIKE: usize = 100_000;
+
+/// A log whose lines are found by their expressions up to which classes are the same, and which says of each two lines that have one
+/// expression so that their classes are the same.
 #[derive(Drop)]
 pub struct Memo<'q> {
     log: Log<'q>,
+    groups: Groups,
     conditions: ConditionNumbers,
-    lines: IndexMap<Key, LineId>,
+    /// For each expression, with its classes as they are named, the first line that has it.
+    named: IndexMap<Key, LineId>,
+    /// For each expression, with the groups of its classes, a line that has it. Keys with a group that went over to another are never asked
+    /// for again.
+    alike: IndexMap<Key, LineId>,
+    /// Lines that have one expression so, and are perhaps not of one class yet.
+    congruent: Vec<Congruence>,
+}
+
+/// Two lines that have one expression up to which classes are the same.
+#[derive(Clone, Copy, Drop)]
+struct Congruence {
+    first: LineId,
+    second: LineId,
 }
 
 /// A line with an expression, and its class.
 #[derive(Clone, Copy)]
-struct Member {
-    line: LineId,
-    class: ClassId,
+pub(crate) struct Member {
+    pub line: LineId,
+    pub class: ClassId,
 }
 
-/// What a rule gives of a class.
-#[derive(Drop)]
-struct Given {
-    class: ClassId,
-    shape: Shape,
+/// What a line says of classes.
+#[derive(Clone, Copy)]
+enum Said {
+    /// It has an expression of one.
+    Member,
+    /// These two are the same.
+    Same(ClassId, ClassId),
+    Nothing,
 }
 
 /// What there is, or none where something is refused.
-fn unless_refused<T: Drop>(found: Result<T, LineFault>) -> Result<Option<T>, AllocError> {
+pub(crate) fn unless_refused<T: Drop>(
+    found: Result<T, LineFault>,
+) -> Result<Option<T>, AllocError> {
     match found {
         Ok(found) => Ok(Some(found)),
         Err(Fault::Memory) => Err(AllocError),
@@ -43,17 +72,22 @@ fn unless_refused<T: Drop>(found: Result<T, LineFault>) -> Result<Option<T>, All
 }
 
 impl<'q> Memo<'q> {
-    /// The lines of a log.
+    /// The lines of a log, and others behind them by which lines that have one expression are of one class. It takes the time of all conditions,
+    /// and of what has other groups as classes become the same.
     pub fn of(alloc: Global, log: Log<'q>) -> Result<Memo<'q>, AllocError> {
         let count = id_of(log.len())?;
         let mut memo = Memo {
             log,
+            groups: Groups::none(alloc),
             conditions: ConditionNumbers::none(alloc),
-            lines: IndexMap::new(alloc),
+            named: IndexMap::new(alloc),
+            alike: IndexMap::new(alloc),
+            congruent: Vec::new(alloc),
         };
         for line in 0..count {
             memo.note(alloc, line)?;
         }
+        memo.close(alloc)?;
         Ok(memo)
     }
 
@@ -66,82 +100,186 @@ impl<'q> Memo<'q> {
         log
     }
 
-    /// Enters a line, if it has an expression.
+    /// The class of a line; the line itself where it has no expression.
+    fn class_at(&self, line: LineId) -> ClassId {
+        match self.log.member(line) {
+            Some(member) => member.class,
+            None => line,
+        }
+    }
+
+    fn said(&self, line: LineId) -> Said {
+        match self.log.lines().get(line as usize) {
+            Some(Line::Founds(_) | Line::Adds(_, _, _)) => Said::Member,
+            Some(Line::Unites(first, second, _)) => Said::Same(*first, *second),
+            Some(Line::Alike(first, second)) => Said::Same(
+                self.class_at(*first),
+                self.class_at(*second),
+            ),
+            Some(Line::Gives(_, _, _)) | None => Said::Nothing,
+        }
+    }
+
+    /// Enters the next line of the log.
     fn note(&mut self, alloc: Global, line: LineId) -> Result<(), AllocError> {
+        self.groups.add()?;
+        match self.said(line) {
+            Said::Member => self.note_member(alloc, line),
+            Said::Same(first, second) => self.unite(alloc, first, second),
+            Said::Nothing => Ok(()),
+        }
+    }
+
+    /// Enters a line that has an expression.
+    fn note_member(&mut self, alloc: Global, line: LineId) -> Result<(), AllocError> {
         let Some(member) = self.log.member(line) else {
             return Ok(());
         };
-        let class = member.class;
-        let of_any = self.conditions.key(alloc, None, member.expr)?;
-        let of_class = self.conditions.key(alloc, Some(class), member.expr)?;
-        self.enter(of_any, line)?;
-        self.enter(of_class, line)
+        let operation = operation_of(member.expr);
+        let Keys { named, alike } = self.conditions.keys(alloc, operation, &self.groups)?;
+        for class in &member.expr.inputs(alloc)? {
+            self.groups.add_parent(*class, line)?;
+        }
+        if self.named.get(&named).is_none() {
+            self.named.insert(named, line)?;
+        }
+        self.enter(alike, line)
     }
 
-    /// Enters a line, unless an earlier one has the key.
+    /// Enters a line by its key of groups, unless another one has that.
     fn enter(&mut self, key: Key, line: LineId) -> Result<(), AllocError> {
-        if self.lines.get(&key).is_none() {
-            self.lines.insert(key, line)?;
+        match self.alike.get(&key).copied() {
+            Some(other) => {
+                self.congruent.push(Congruence {
+                    first: other.min(line),
+                    second: other.max(line),
+                })?;
+            }
+            None => {
+                self.alike.insert(key, line)?;
+            }
+        }
+        Ok(())
+    }
+
+    /// Makes the groups of two classes one, and enters again the lines over classes whose group changes.
+    fn unite(&mut self, alloc: Global, first: ClassId, second: ClassId) -> Result<(), AllocError> {
+        for line in &self.groups.unite(first, second)? {
+            if let Some(member) = self.log.member(*line) {
+                let operation = operation_of(member.expr);
+                let key = self.conditions.alike_key(alloc, operation, &self.groups)?;
+                self.enter(key, *line)?;
+            }
         }
         Ok(())
     }
 
     /// Adds a line, if it may stand.
-    fn push(&mut self, alloc: Global, line: Line) -> Result<LineId, LineFault> {
+    fn append(&mut self, alloc: Global, line: Line) -> Result<LineId, LineFault> {
         let number = id_of(self.log.len())?;
         self.log.push(alloc, line)?;
         self.note(alloc, number)?;
         Ok(number)
     }
 
-    /// The line with an expression of the class, or of any, and its class.
-    fn member(
-        &mut self,
-        alloc: Global,
-        class: Option<ClassId>,
-        expr: &Expr,
-    ) -> Result<Option<Member>, AllocError> {
-        let key = self.conditions.key(alloc, class, expr)?;
-        let Some(line) = self.lines.get(&key).copied() else {
-            return Ok(None);
-        };
-        match self.log.member(line) {
-            Some(member) => {
-                let class = member.class;
-                Ok(Some(Member { line, class }))
+    /// Adds lines that say of two lines with one expression that their classes are the same, and so on for the lines over these.
+    fn close(&mut self, alloc: Global) -> Result<(), AllocError> {
+        for _ in 0..MOST_ALIKE {
+            let Some(Congruence { first, second }) = self.congruent.pop() else {
+                break;
+            };
+            if !self
+                .log
+                .are_same(self.class_at(first), self.class_at(second))
+            {
+                let _ = unless_refused(self.append(alloc, Line::Alike(first, second)))?;
             }
-            None => Ok(None),
         }
+        Ok(())
     }
 
-    /// The line with an expression, a new one where there is none.
-    fn founded(&mut self, alloc: Global, expr: Expr) -> Result<Member, LineFault> {
-        if let Some(found) = self.member(alloc, None, &expr)? {
+    /// Adds a line, if it may stand, and what follows from it of which classes are the same.
+    pub(crate) fn push(&mut self, alloc: Global, line: Line) -> Result<LineId, LineFault> {
+        let number = self.append(alloc, line)?;
+        self.close(alloc)?;
+        Ok(number)
+    }
+
+    /// A line of this number with an expression, and its class.
+    fn member(&self, line: Option<LineId>) -> Option<Member> {
+        let line = line?;
+        let class = self.log.member(line)?.class;
+        Some(Member { line, class })
+    }
+
+    /// The first line with an expression, its classes being named as here.
+    pub(crate) fn named(
+        &mut self,
+        alloc: Global,
+        expr: &Expr,
+    ) -> Result<Option<Member>, AllocError> {
+        let keys = self
+            .conditions
+            .keys(alloc, operation_of(expr), &self.groups)?;
+        Ok(self.member(self.named.get(&keys.named).copied()))
+    }
+
+    /// A line with the expression that does this, up to which classes are the same.
+    pub(crate) fn alike(
+        &mut self,
+        alloc: Global,
+        operation: Operation<'_>,
+    ) -> Result<Option<Member>, AllocError> {
+        let key = self.conditions.alike_key(alloc, operation, &self.groups)?;
+        Ok(self.member(self.alike.get(&key).copied()))
+    }
+
+    /// The first line with an expression, its classes being named as here: a new one where there is none.
+    pub(crate) fn founded(&mut self, alloc: Global, expr: Expr) -> Result<Member, LineFault> {
+        if let Some(found) = self.named(alloc, &expr)? {
             return Ok(found);
         }
         let line = self.push(alloc, Line::Founds(expr))?;
         Ok(Member { line, class: line })
     }
 
-    /// The class of an expression, a new one where no line has it; none where the log refuses it.
+    /// The class of an expression, up to which classes are the same; a new one where no line has it, none where the log refuses it.
     pub fn found(&mut self, alloc: Global, expr: Expr) -> Result<Option<ClassId>, AllocError> {
+        if let Some(member) = self.alike(alloc, operation_of(&expr))? {
+            return Ok(Some(member.class));
+        }
         match unless_refused(self.founded(alloc, expr))? {
             Some(member) => Ok(Some(member.class)),
             None => Ok(None),
         }
     }
 
-    /// The line of this class with the expression, if there is one.
+    /// A line of this class, or of one that is the same, with the expression up to which classes are the same, if there is one.
     pub fn line_of(
         &mut self,
         alloc: Global,
         class: ClassId,
         expr: &Expr,
     ) -> Result<Option<LineId>, AllocError> {
-        match self.member(alloc, Some(class), expr)? {
-            Some(member) => Ok(Some(member.line)),
-            None => Ok(None),
+        match self.alike(alloc, operation_of(expr))? {
+            Some(member) if self.log.are_same(member.class, class) => Ok(Some(member.line)),
+            _ => Ok(None),
         }
+    }
+
+    /// The lines with an expression of the class, or of one that is the same: each once, rising. None where no line founds it.
+    pub fn members(&self, alloc: Global, class: ClassId) -> Result<Vec<LineId>, AllocError>
+        ensures exact { IfOk result (λ found. (n : ℕ) → times n found.items ≡ once_if (is_member self.now.log.log class n)) }
+        ensures rising { IfOk result (λ found. IsSorted nat_cmp found.items) }
+    {
+        let mut members = self.log.members(alloc, class)?;
+        members.sort_unstable();
+        Ok(members)
+    }
+
+    /// The lines whose expressions have the class, or one that is the same, as an input or in a condition: each once, rising.
+    pub fn parents(&self, class: ClassId) -> Result<Vec<LineId>, AllocError> {
+        self.groups.parents(class)
     }
 
     /// Adds that the fact holds of a class by the line that founds it, unless it is known. Whether it is known now.
@@ -152,171 +290,4 @@ impl<'q> Memo<'q> {
         let added = self.push(alloc, Line::Gives(class, class, fact));
         Ok(unless_refused(added)?.is_some())
     }
-
-    /// What the rule gives of the class of the first line.
-    fn given(&self, alloc: Global, rule: RuleName, uses: &[LineId]) -> Result<Given, LineFault> {
-        let mut lines = Vec::new(alloc);
-        for line in uses {
-            if let Some(member) = self.log.member(*line) {
-                lines.push(member)?;
-            }
-        }
-        let at = Match {
-            lines: lines.as_slice(),
-            pick: 0,
-            classes: self.log.classes(),
-        };
-        let class = match lines.first() {
-            Some(first) => first.class,
-            None => 0,
-        };
-        match rule.apply(alloc, at) {
-            Ok(shape) => Ok(Given { class, shape }),
-            Err(Fault::Memory) => Err(Fault::Memory),
-            Err(Fault::Refused(Unfit::Pattern)) => Err(Fault::Refused(LineReason::OtherForm)),
-            Err(Fault::Refused(Unfit::Condition)) => Err(Fault::Refused(LineReason::FailedCondition(
-                rule,
-            ))),
-        }
-    }
-
-    /// The expression that a shape is over classes. The lines that have its inner expressions are found or founded, and are added to the
-    /// list, outer before inner, left before right.
-    #[cycle(spelling)]
-    fn expr_of(
-        &mut self,
-        alloc: Global,
-        shape: Shape,
-        makes: &mut Vec<LineId>,
-    ) -> Result<Expr, LineFault> {
-        match shape {
-            Shape::Class(_) => Err(Fault::Refused(LineReason::OtherForm)),
-            Shape::Select(c, x) => {
-                let x = self.class_of(alloc, x.into_inner(), makes)?;
-                Ok(Expr::Select(c, x))
-            }
-            Shape::Join(c, a, b) => {
-                let a = self.class_of(alloc, a.into_inner(), makes)?;
-                let b = self.class_of(alloc, b.into_inner(), makes)?;
-                Ok(Expr::Join(c, a, b))
-            }
-            Shape::LeftJoin(c, a, b) => {
-                let a = self.class_of(alloc, a.into_inner(), makes)?;
-                let b = self.class_of(alloc, b.into_inner(), makes)?;
-                Ok(Expr::LeftJoin(c, a, b))
-            }
-            Shape::Semi(c, a, b) => {
-                let a = self.class_of(alloc, a.into_inner(), makes)?;
-                let b = self.class_of(alloc, b.into_inner(), makes)?;
-                Ok(Expr::Semi(c, a, b))
-            }
-            Shape::Anti(ordinary, null_aware, a, b) => {
-                let a = self.class_of(alloc, a.into_inner(), makes)?;
-                let b = self.class_of(alloc, b.into_inner(), makes)?;
-                Ok(Expr::Anti(ordinary, null_aware, a, b))
-            }
-            Shape::Keep(k, x) => {
-                let x = self.class_of(alloc, x.into_inner(), makes)?;
-                Ok(Expr::Keep(k, x))
-            }
-            Shape::Distinct(x) => {
-                let x = self.class_of(alloc, x.into_inner(), makes)?;
-                Ok(Expr::Distinct(x))
-            }
-        }
-    }
-
-    /// The class that a shape is, in the same way.
-    #[cycle(spelling)]
-    fn class_of(
-        &mut self,
-        alloc: Global,
-        shape: Shape,
-        makes: &mut Vec<LineId>,
-    ) -> Result<ClassId, LineFault> {
-        if let Shape::Class(class) = shape {
-            return Ok(class);
-        }
-        let place = makes.len();
-        makes.push(0)?;
-        let expr = self.expr_of(alloc, shape, makes)?;
-        let member = self.founded(alloc, expr)?;
-        if let Some(make) = makes.get_mut(place) {
-            *make = member.line;
-        }
-        Ok(member.class)
-    }
-
-    /// The line of the class with what a step from it gives, a new one where there is none.
-    fn added(
-        &mut self,
-        alloc: Global,
-        class: ClassId,
-        step: Step,
-        expr: Expr,
-    ) -> Result<LineId, LineFault> {
-        if let Some(member) = self.member(alloc, Some(class), &expr)? {
-            return Ok(member.line);
-        }
-        let step = Boxed::new(alloc, step)?;
-        self.push(alloc, Line::Adds(class, step, expr))
-    }
-
-    /// A line that says that the class of the first line is the same as another by the rule; that line itself where they are the same already.
-    fn united(
-        &mut self,
-        alloc: Global,
-        class: ClassId,
-        other: ClassId,
-        rule: RuleName,
-        uses: &[LineId],
-    ) -> Result<LineId, LineFault> {
-        if self.log.are_same(class, other) {
-            return Ok(uses.first().copied().unwrap_or(class));
-        }
-        let step = Boxed::new(alloc, step_of(alloc, rule, uses, &[])?)?;
-        self.push(alloc, Line::Unites(class, other, step))
-    }
-
-    fn applied(
-        &mut self,
-        alloc: Global,
-        rule: RuleName,
-        uses: &[LineId],
-    ) -> Result<LineId, LineFault> {
-        let Given { class, shape } = self.given(alloc, rule, uses)?;
-        if let Shape::Class(other) = shape {
-            return self.united(alloc, class, other, rule, uses);
-        }
-        let mut makes = Vec::new(alloc);
-        let expr = self.expr_of(alloc, shape, &mut makes)?;
-        let step = step_of(alloc, rule, uses, makes.as_slice())?;
-        self.added(alloc, class, step, expr)
-    }
-
-    /// The line of what the rule gives at these lines, the top first, in the first one's class: a new one behind the lines that found what
-    /// it is made of, unless it is there. Where the rule gives a class, the line says that the two are the same; where they were, it is the first
-    /// of these lines. None where the rule doesn't fit.
-    pub fn apply(
-        &mut self,
-        alloc: Global,
-        rule: RuleName,
-        uses: &[LineId],
-    ) -> Result<Option<LineId>, AllocError> {
-        unless_refused(self.applied(alloc, rule, uses))
-    }
-}
-
-fn step_of(
-    alloc: Global,
-    rule: RuleName,
-    uses: &[LineId],
-    makes: &[LineId],
-) -> Result<Step, AllocError> {
-    Ok(Step {
-        rule,
-        pick: 0,
-        uses: Numbers::from_slice(alloc, uses)?,
-        makes: Numbers::from_slice(alloc, makes)?,
-    })
 }

@@ -1,7 +1,7 @@
 //! Lines of derivations, read from words with `; ` between them: `F EXPR`, `A CLASS RULE PICK USES MAKES EXPR`,
 //! `S CLASS CLASS RULE PICK USES MAKES`, `G LINE LINE`, `L CLASS LINE FACT`. Numbers are joined by `,`, none are `-`. An expression is
 //! `get INSTANCE`, `select [..] CLASS`, `join [..] CLASS CLASS`, `semi` and `anti [..] [..]` so, `keep COLUMNS CLASS`, `distinct CLASS`,
-//! `group KEYS CLASS`, with comparisons of columns, numbers and NULL as conditions: `[=(c4,c0);<>(c2,i500)]`.
+//! `group KEYS CLASS`, with comparisons of columns, numbers and NULL, and `exists(CLASS)`, as conditions: `[=(c4,c0);<>(c2,i500)]`.
 
 use crate::plans::{cut, id};
 use algebra::{Aggregations, Columns, Condition, Conjuncts, Expr, Term};
@@ -12,11 +12,11 @@ use std::alloc::{AllocError, Global};
 use values::{Boxed, Comparison, Items, Literal};
 
 /// The rule of a code; J1 if there is none.
-fn rule_of(code: &str) -> RuleName {
+pub fn rule_of(code: &str) -> RuleName {
     RuleName::of_code(code).unwrap_or(RuleName::JoinCommutes)
 }
 
-fn numbers_of(alloc: Global, word: &str) -> Result<Vec<u32>, AllocError> {
+pub fn numbers_of(alloc: Global, word: &str) -> Result<Vec<u32>, AllocError> {
     let mut numbers = Vec::new(alloc);
     if word != "-" {
         for part in word.split(",") {
@@ -57,6 +57,9 @@ fn condition_of(text: &str) -> Condition {
     let (sign, terms) = cut(text, "(");
     let (terms, _) = cut(terms, ")");
     let (first, second) = cut(terms, ",");
+    if sign == "exists" {
+        return Condition::Exists(id(first));
+    }
     Condition::Compare(comparison_of(sign), term_of(first), term_of(second))
 }
 
@@ -105,7 +108,7 @@ pub fn expr_of(alloc: Global, text: &str) -> Result<Expr, AllocError> {
     })
 }
 
-fn fact_of(alloc: Global, words: &str) -> Result<Fact, AllocError> {
+pub fn fact_of(alloc: Global, words: &str) -> Result<Fact, AllocError> {
     let (name, columns) = cut(words, " ");
     Ok(match name {
         "notnull" => Fact::NotNull(id(columns)),

@@ -1,4 +1,4 @@
-//! Tests of plans, and of the whole way: `frame`, `physical`, `checker`, `executor`, `planner` and `pipeline`.
+//! Tests of plans, and of the whole way: `frame`, `memo`, `physical`, `checker`, `executor`, `planner` and `pipeline`.
 #![tactic(auto)]
 
 #[cfg(test)]
@@ -23,6 +23,8 @@ mod frames;
 mod free_columns;
 #[cfg(test)]
 mod handed_certificates;
+#[cfg(test)]
+mod memos;
 #[cfg(test)]
 mod orders;
 #[cfg(test)]

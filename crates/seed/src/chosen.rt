@@ -5,9 +5,9 @@ use crate::sets::{LeafSet, MOST_LEAVES};
 use std::alloc::{AllocError, Global};
 
 /// Up to so many leaves every subset is looked at.
-const MOST_EXHAUSTIVE: usize = 11;
+const MOST_EXHAUSTIVE: usize = 12;
 
-/// More than there are subsets of so many leaves.
+/// As many subsets as so many leaves have.
 const MOST_SUBSETS: usize = 4096;
 
 /// What is guessed of a set of leaves joined.
@@ -23,6 +23,8 @@ pub(crate) struct Joined {
     pub right: LeafSet,
     /// Whether the right side is a leaf whose matches are found by an index.
     pub is_probed: bool,
+    /// Whether equalities lead from each leaf to each other.
+    is_connected: bool,
 }
 
 /// A set that is not looked at.
@@ -34,6 +36,7 @@ const NOTHING: Joined = Joined {
     left: LeafSet::EMPTY,
     right: LeafSet::EMPTY,
     is_probed: false,
+    is_connected: false,
 };
 
 /// A join tree: its sets, each with its sides.
@@ -53,6 +56,7 @@ fn leaf_joined(graph: &Graph, place: usize) -> Joined {
         left: LeafSet::EMPTY,
         right: LeafSet::EMPTY,
         is_probed: false,
+        is_connected: true,
     }
 }
 
@@ -98,6 +102,7 @@ fn join_of(graph: &Graph, left: Joined, right: Joined, rows: u64) -> Joined {
         left: left.set,
         right: right.set,
         is_probed,
+        is_connected: left.is_connected && right.is_connected && left.around.meets(right.set),
     }
 }
 
@@ -112,9 +117,24 @@ fn joined_at(cells: &[Joined], set: LeafSet) -> Joined {
     cells.get(set.number()).copied().unwrap_or(NOTHING)
 }
 
-/// The rows of a set by those of the set without its first leaf.
+/// The leaf that a set's rows are counted without: the first of those that the others, hanging together, are equated with. A product of many
+/// tables has more rows than 64 bits count, so a set that hangs together is not to be counted by one that doesn't.
+fn removed_leaf(cells: &[Joined], set: LeafSet, count: usize) -> LeafSet {
+    for place in 0..count {
+        let leaf = LeafSet::single(place);
+        if leaf.is_within(set) {
+            let others = joined_at(cells, set.minus(leaf));
+            if others.is_connected && others.around.meets(leaf) {
+                return leaf;
+            }
+        }
+    }
+    LeafSet::single(set.lowest())
+}
+
+/// The rows of a set by those of the set without a leaf.
 fn rows_of(graph: &Graph, cells: &[Joined], set: LeafSet) -> u64 {
-    let first = LeafSet::single(set.lowest());
+    let first = removed_leaf(cells, set, graph.leaves.len());
     let others = set.minus(first);
     let one = joined_at(cells, first);
     let rest = joined_at(cells, others);
@@ -128,6 +148,7 @@ fn best_join(graph: &Graph, cells: &[Joined], set: LeafSet) -> Joined {
     let others = set.minus(first);
     let mut part = others;
     let mut best = NOTHING;
+    let mut is_connected = false;
     for _ in 0..MOST_SUBSETS {
         let right = part;
         if right.is_empty() {
@@ -135,11 +156,13 @@ fn best_join(graph: &Graph, cells: &[Joined], set: LeafSet) -> Joined {
         }
         let left = set.minus(right);
         let found = cheaper_join(graph, joined_at(cells, left), joined_at(cells, right), rows);
+        is_connected = is_connected || found.is_connected;
         if found.cost < best.cost || best.set.is_empty() {
             best = found;
         }
         part = part.before(others);
     }
+    best.is_connected = is_connected;
     best
 }
 

@@ -64,7 +64,7 @@ pub(crate) fn join_line(memo: &Memo<'_>, line: LineId) -> Option<JoinLine> {
     }
 }
 
-/// The first line of the class that joins something, or what is wanted, with the right side.
+/// The first line of the class that joins something, or what is wanted, with the right side, up to which classes are the same.
 pub(crate) fn line_over(
     alloc: Global,
     memo: &Memo<'_>,
@@ -77,10 +77,11 @@ pub(crate) fn line_over(
     for line in &lines {
         if let Some(join) = join_line(memo, *line) {
             let is_left = match left {
-                Some(left) => join.left == left,
+                Some(left) => memo.log().are_same(join.left, left),
                 None => true,
             };
-            if join.right == right && is_left && found.is_none_or(|other| *line < other) {
+            let is_right = memo.log().are_same(join.right, right);
+            if is_right && is_left && found.is_none_or(|other| *line < other) {
                 found = Some(*line);
             }
         }

@@ -7,7 +7,7 @@ use query::ids::id_of;
 use rules::RuleName;
 use std::alloc::{AllocError, Global};
 
-/// No log grows past so many lines here.
+/// Of a longer log the first lines alone are looked at, which bounds the time that is spent.
 const MOST_LINES: usize = 2_000;
 
 /// How often a log is gone through. Classes that become the same can let a rule fit earlier lines, so there may be several passes.

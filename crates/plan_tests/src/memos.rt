@@ -1,0 +1,180 @@
+//! Memos: logs whose lines are found by their expressions up to which classes are the same.
+
+use crate::derived::{expr_of, fact_of, lines_of, numbers_of, rule_of};
+use crate::plans::{cut, id};
+use derivation::Line;
+use fixtures::{COMPANY, DEPT, EMP, QueryReporting, Tables, push_number, query_differences};
+use logs::Log;
+use memo::Memo;
+use query::BoundQuery;
+use std::alloc::{AllocError, Global};
+use store::Database;
+use values::Fault;
+
+const TABLES: Tables<'static> = Tables {
+    schema: COMPANY,
+    first: DEPT,
+    second: EMP,
+};
+
+/// The number, or `none`.
+fn push_found(reported: &mut String, found: Option<u32>) -> Result<(), AllocError> {
+    match found {
+        Some(number) => push_number(reported, "", number as usize),
+        None => reported.push_str("none"),
+    }
+}
+
+fn push_numbers(reported: &mut String, numbers: &[u32]) -> Result<(), AllocError> {
+    for (place, number) in numbers.iter().enumerate() {
+        push_number(
+            reported,
+            if place == 0 { "" } else { " " },
+            *number as usize,
+        )?;
+    }
+    Ok(())
+}
+
+/// Does what the words say, and adds what comes of it: `found EXPR` the class, `line CLASS EXPR` and `apply RULE LINES` the line,
+/// `learn CLASS FACT` whether it is known, `members CLASS` and `parents CLASS` lines.
+fn push_done(
+    alloc: Global,
+    reported: &mut String,
+    memo: &mut Memo<'_>,
+    words: &str,
+) -> Result<(), AllocError> {
+    let (verb, more) = cut(words, " ");
+    let (first, rest) = cut(more, " ");
+    match verb {
+        "found" => push_found(reported, memo.found(alloc, expr_of(alloc, more)?)?),
+        "line" => push_found(
+            reported,
+            memo.line_of(alloc, id(first), &expr_of(alloc, rest)?)?,
+        ),
+        "apply" => {
+            let uses = numbers_of(alloc, rest)?;
+            push_found(
+                reported,
+                memo.apply(alloc, rule_of(first), uses.as_slice())?,
+            )
+        }
+        "learn" => {
+            let is_known = memo.learn(alloc, id(first), fact_of(alloc, rest)?)?;
+            reported.push_str(if is_known { "known" } else { "not known" })
+        }
+        "members" => push_numbers(reported, memo.members(alloc, id(first))?.as_slice()),
+        "parents" => push_numbers(reported, memo.parents(id(first))?.as_slice()),
+        _ => reported.push_str("what?"),
+    }
+}
+
+/// The letter of a line, the class to which it adds, and the classes or lines that it says are the same.
+fn push_kind(reported: &mut String, line: &Line) -> Result<(), AllocError> {
+    match line {
+        Line::Founds(_) => reported.push_str(" F"),
+        Line::Adds(class, _, _) => push_number(reported, " A", *class as usize),
+        Line::Unites(first, second, _) => {
+            push_number(reported, " S", *first as usize)?;
+            push_number(reported, ",", *second as usize)
+        }
+        Line::Alike(first, second) => {
+            push_number(reported, " G", *first as usize)?;
+            push_number(reported, ",", *second as usize)
+        }
+        Line::Gives(class, _, _) => push_number(reported, " L", *class as usize),
+    }
+}
+
+/// A log of the lines that may stand.
+fn log_of<'q>(alloc: Global, query: &'q BoundQuery, words: &str) -> Result<Log<'q>, AllocError> {
+    let mut log = Log::new(alloc, query.query().tables.as_slice(), &[]);
+    for line in lines_of(alloc, words)?.as_slice() {
+        match log.push(alloc, line.copy(alloc)?) {
+            Ok(()) | Err(Fault::Refused(_)) => {}
+            Err(Fault::Memory) => return Err(AllocError),
+        }
+    }
+    Ok(log)
+}
+
+/// Reports what comes of a memo of lines, ` / ` and what is done with it, and then the kinds of all lines.
+struct Grown;
+
+impl QueryReporting for Grown {
+    fn report(
+        &self,
+        alloc: Global,
+        _database: &Database<'_>,
+        query: &BoundQuery,
+        more: &str,
+        reported: &mut String,
+    ) -> Result<(), AllocError> {
+        let (lines, deeds) = cut(more, " / ");
+        let mut memo = Memo::of(alloc, log_of(alloc, query, lines)?)?;
+        for deed in deeds.split("; ") {
+            push_done(alloc, reported, &mut memo, deed)?;
+            reported.push_str("; ")?;
+        }
+        reported.push_str("lines")?;
+        let log = memo.into_log();
+        for line in log.lines() {
+            push_kind(reported, line)?;
+        }
+        Ok(())
+    }
+}
+
+/// A step adds its line once, and what it makes stands before it.
+#[test]
+fn lines_are_added_once(rt: HostRuntime) {
+    const TURNED: &str =
+        "SELECT d.id FROM dept d, emp e => F get 0; F get 1; F join [] 0 1 / apply J1 2; apply J1 2; apply J1 3; line 2 join [] 1 0; line 0 join [] 1 0; apply J1 0; members 2; parents 0 => 3; 3; 2; 3; none; none; 2 3; 2 3; lines F F F A2";
+    const MADE: &str =
+        "SELECT d.id FROM dept d, emp e => F get 0; F get 1; F join [] 0 1; F select [>(c0,i5)] 2 / apply S2 3,2; apply S2 3,2; found select [>(c0,i5)] 0; found select [>(c0,i5)] 7; parents 4 => 5; 5; 4; none; 5; lines F F F F F A3";
+    assert_eq!(rt;
+        query_differences(rt.alloc(), TABLES, &[TURNED, MADE], &Grown).as_deref(),
+        Ok("")
+    );
+}
+
+/// Where two classes become the same, so do those of lines over them that are alike, and those of lines over these.
+#[test]
+fn alike_lines_are_of_one_class(rt: HostRuntime) {
+    const LATER: &str =
+        "SELECT id FROM emp => F get 0; F keep 0 0; F distinct 1; F select [>(c0,i5)] 1; F select [>(c0,i5)] 2; F distinct 3; F distinct 4; L 0 0 notnull 0; L 0 0 weak 0; L 0 0 strong 0; L 1 1 strong 0 / parents 1; apply D1 2; members 2; members 4; members 6; parents 1; parents 4; members 11; apply D1 2 => 2 3; 11; 1 2; 3 4; 5 6; 2 3 4; 5 6; ; 2; lines F F F F F F F L0 L0 L0 L1 S2,1 G3,4 G5,6
+SELECT id FROM dept => F get 0; F keep 0 0; F distinct 1; F select [exists(1)] 0; F select [exists(2)] 0; L 0 0 notnull 0; L 0 0 weak 0; L 0 0 strong 0; L 1 1 strong 0 / apply D1 2; members 4; parents 2; found select [exists(2)] 0 => 9; 3 4; 2 3 4; 3; lines F F F F F L0 L0 L0 L1 S2,1 G3,4";
+    const AT_FIRST: &str =
+        "SELECT id FROM emp => F get 0; F keep 0 0; F keep 0 0; F distinct 1; F distinct 2; F distinct 4 / members 2; members 4; parents 2; parents 3 => 1 2; 3 4; 3 4; 5; lines F F F F F F G1,2 G3,4
+SELECT id FROM emp => F get 0; F keep 0 0; F keep 0 0; G 1 2; F distinct 1; F distinct 2 / members 2; members 5; parents 1 => 1 2; 4 5; 4 5; lines F F F G1,2 F F G4,5";
+    assert_eq!(rt;
+        query_differences(rt.alloc(), TABLES, &[LATER, AT_FIRST], &Grown).as_deref(),
+        Ok("")
+    );
+}
+
+/// An expression over one of two same classes is found by the other, and a step founds only what it names that no line has so.
+#[test]
+fn expressions_are_found_by_same_classes(rt: HostRuntime) {
+    const FOUND: &str =
+        "SELECT id FROM emp => F get 0; F keep 0 0; F distinct 1; F select [>(c0,i5)] 1; L 0 0 notnull 0; L 0 0 weak 0; L 0 0 strong 0; L 1 1 strong 0 / line 3 select [>(c0,i5)] 2; apply D1 2; line 3 select [>(c0,i5)] 2; found select [>(c0,i5)] 2; found distinct 2; learn 1 notnull 0; learn 2 notnull 0 => none; 8; 3; 3; 2; known; known; lines F F F F L0 L0 L0 L1 S2,1 L1";
+    const MADE: &str =
+        "SELECT d.id FROM dept d, emp e => F get 0; F get 1; F distinct 0; F select [>(c0,i5)] 2; F join [] 0 1; F select [>(c0,i5)] 4; L 0 0 notnull 0; L 0 0 weak 0; L 0 0 strong 0 / apply D1 2; apply S2 5,4; apply S2 5,4; found join [] 3 1; members 3; members 5; parents 2 => 9; 12; 12; 5; 3 10; 5 12; 2 3 4 10; lines F F F F F F L0 L0 L0 S2,0 F G3,10 A5
+SELECT d.id FROM dept d, emp e => F get 0; F get 1; F distinct 0; F select [>(c0,i5)] 2; F join [] 0 1; F select [>(c0,i5)] 4; L 0 0 notnull 0; L 0 0 weak 0; L 0 0 strong 0; F join [] 3 1 / apply D1 2; apply S2 5,4; members 5; apply S2 5,4 => 10; 13; 5 9 13; 9; lines F F F F F F L0 L0 L0 F S2,0 F G3,11 A5 G9,13";
+    assert_eq!(rt;
+        query_differences(rt.alloc(), TABLES, &[FOUND, MADE], &Grown).as_deref(),
+        Ok("")
+    );
+}
+
+/// Where a step gives an expression that another class has, the two are the same.
+#[test]
+fn classes_with_one_expression_are_same(rt: HostRuntime) {
+    const CASES: &str =
+        "SELECT d.id FROM dept d, emp e => F get 0; F get 1; F join [] 0 1; F join [] 1 0; F keep 0 2; F keep 0 3 / apply J1 2; members 2; members 4; apply J1 2; apply J1 3 => 3; 2 3; 4 5; 3; 2; lines F F F F F F S2,3 G4,5
+SELECT d.id FROM dept d, emp e => F get 0; F get 1; F join [] 0 1; F select [>(c0,i5)] 2; F select [>(c0,i5)] 0; F join [] 4 1 / apply S2 3,2; members 3; apply S2 3,2 => 5; 3 5; 5; lines F F F F F F S3,5";
+    assert_eq!(rt;
+        query_differences(rt.alloc(), TABLES, &[CASES], &Grown).as_deref(),
+        Ok("")
+    );
+}
