@@ -1,6 +1,7 @@
 -- The texts of conjuncts, as a list is cut into them.
 use Rattle.std.proofs.Common.{◌≡◌, ℕ, zero, suc, ◌+◌, ◌<◌, ◌==◌, Bool, true, not, ◌&&◌, List, [], ◌∷◌, ◌++◌, length, ◌^◌, get_or, map, flat_map, refl, ◌∙◌, ap, subst, arith, append_assoc, append-nil, codes, decimal}
 use Rattle.std.proofs.lemmas.Bool.{and_parts}
+use Rattle.std.proofs.lemmas.Bool.Decides.{nat_tests}
 use Rattle.std.specs.List.{AllByRecursion, join_by, list_all, slice_split}
 use Rattle.std.proofs.lemmas.List.Splits.{slice_split_none, slice_split_at}
 use Rattle.values.specs.declared.truth.Comparison.{Comparison}
@@ -10,33 +11,23 @@ use Rattle.algebra.specs.declared.condition.Condition.TheOpen.{Condition-F}
 use Rattle.algebra.specs.declared.condition.Term.TheVariants as term
 use Rattle.algebra.specs.ConjunctOrder.{condition_text, comparison_text, term_text, listed}
 use Rattle.certificate_parts.specs.Conditions.{IsReadable, ended, more_text, terms_of}
-use Rattle.certificate_parts.specs.Numerals.{numeral}
-use Rattle.certificate_parts.specs.PartTexts.{Text, lacks}
-use Rattle.certificate_parts.specs.Spelled.{IsReadableTerm}
+use Rattle.certificate_parts.specs.PartTexts.{is_graphic, lacks}
+use Rattle.certificate_parts.specs.Spelled.{IsReadableTerm, is_lower_hex}
 use Rattle.certificate_parts.proofs.DecimalNumerals.{short_decimal}
-use Rattle.certificate_parts.proofs.Lacking.{lacks_both, numeral_lacks, each_lacks, passing_lack}
+use Rattle.certificate_parts.proofs.Lacking.{pass_both, pass_more, passing_lack, lacks_both, each_lacks}
 use Rattle.certificate_parts.proofs.OpenConditions.{text-at, terms-at, all_split, listed-more}
-use Rattle.certificate_parts.proofs.TermParts.{term_lacks}
+use Rattle.certificate_parts.proofs.TermParts.{term_passes, numeral_passes}
 
--- ---- no condition has a semicolon or a space in it
+-- ---- a condition has characters of ASCII that can be seen, and no semicolon
 
--- neither a semicolon nor a space
 abbrev is_inner : ℕ → Bool
-is_inner b = not (b == 59) && not (b == 32)
+is_inner b = is_graphic b && not (b == 59)
 
-inner_both : (v w : Text) → list_all is_inner v ≡ true → list_all is_inner w ≡ true → list_all is_inner (v ++ w) ≡ true
-inner_both [] w h k = k
-inner_both (b ∷ v) w h k = let parts = and_parts (is_inner b) (list_all is_inner v) h in λ i. parts.0 i && inner_both v w parts.1 k i
-
-lacking_both : (w : Text) → lacks 59 w ≡ true → lacks 32 w ≡ true → list_all is_inner w ≡ true
-lacking_both [] h k = refl
-lacking_both (b ∷ w) h k =
-    let one = and_parts (not (b == 59)) (lacks 59 w) h in
-    let other = and_parts (not (b == 32)) (lacks 32 w) k in
-    λ i. (one.0 i && other.0 i) && lacking_both w one.1 other.1 i
+hex_inner : (b : ℕ) → is_lower_hex b ≡ true → is_inner b ≡ true
+hex_inner b h = grind (arith, nat_tests)
 
 term_inner : (t : term.the_data) → IsReadableTerm t → list_all is_inner (term_text t) ≡ true
-term_inner t s = lacking_both (term_text t) (term_lacks 59 refl (refl, refl, refl, refl, refl) t s) (term_lacks 32 refl (refl, refl, refl, refl, refl) t s)
+term_inner = term_passes is_inner hex_inner (refl, refl, refl, refl, refl)
 
 sign_inner : (c : Comparison) → list_all is_inner (comparison_text c) ≡ true
 sign_inner op.Equal = refl
@@ -53,41 +44,41 @@ abbrev Part : Type 0
 Part = (c : Condition) × Inner c
 
 number_inner : (n : ℕ) → n < 2 ^ 32 → list_all is_inner (decimal n) ≡ true
-number_inner n short = ap (list_all is_inner) (short_decimal n short) ∙ lacking_both (numeral n) (numeral_lacks 59 n refl) (numeral_lacks 32 n refl)
+number_inner n short = ap (list_all is_inner) (short_decimal n short) ∙ numeral_passes is_inner hex_inner (refl, refl, refl, refl, refl) n
 
 more_inner : (ps : List Part) → AllByRecursion IsReadableTerm (flat_map (λ c. c) (map terms_of (map (λ p. p.0) ps))) → list_all is_inner (more_text (map (λ p. p.0) ps)) ≡ true
 more_inner [] s = refl
 more_inner (p ∷ ps) s =
     let terms = all_split IsReadableTerm (terms_of p.0) (flat_map (λ c. c) (map terms_of (map (λ p. p.0) ps))) s in
-    inner_both (codes "," ++ condition_text p.0) (more_text (map (λ p. p.0) ps)) (p.1 terms.0) (more_inner ps terms.1)
+    pass_both is_inner (codes "," ++ condition_text p.0) (more_text (map (λ p. p.0) ps)) (p.1 terms.0) (more_inner ps terms.1)
 
 parts_inner : (p q : Part) (ps : List Part) → AllByRecursion IsReadableTerm (flat_map (λ c. c) (map terms_of (map (λ p. p.0) (p ∷ q ∷ ps)))) → list_all is_inner (listed (map condition_text (map (λ p. p.0) (p ∷ q ∷ ps))) ++ codes ")") ≡ true
 parts_inner p q ps s =
     let terms = all_split IsReadableTerm (terms_of p.0) (flat_map (λ c. c) (map terms_of (map (λ p. p.0) (q ∷ ps)))) s in
-    inner_both (listed (map condition_text (map (λ p. p.0) (p ∷ q ∷ ps)))) (codes ")")
-    (ap (list_all is_inner) (listed-more p.0 (map (λ p. p.0) (q ∷ ps))) ∙ inner_both (condition_text p.0) (more_text (map (λ p. p.0) (q ∷ ps))) (p.1 terms.0) (more_inner (q ∷ ps) terms.1)) refl
+    pass_both is_inner (listed (map condition_text (map (λ p. p.0) (p ∷ q ∷ ps)))) (codes ")")
+    (ap (list_all is_inner) (listed-more p.0 (map (λ p. p.0) (q ∷ ps))) ∙ pass_both is_inner (condition_text p.0) (more_text (map (λ p. p.0) (q ∷ ps))) (p.1 terms.0) (more_inner (q ∷ ps) terms.1)) refl
 
 inner-layer : (y : Condition-F Part) (c : Condition) → roll-Condition (map-Condition Part Condition (λ p. p.0) y) ≡ c → Inner c
 inner-layer (Condition-F.Compare c a b) d is s =
     let terms = subst (AllByRecursion IsReadableTerm) (terms-at (Condition-F.Compare c a b) d is) s in
     ap (list_all is_inner) (text-at (Condition-F.Compare c a b) d is)
-    ∙ inner_both (comparison_text c) _ (sign_inner c) (inner_both (term_text a) _ (term_inner a terms.0) (inner_both (term_text b) (codes ")") (term_inner b terms.1.0) refl))
+    ∙ pass_both is_inner (comparison_text c) _ (sign_inner c) (pass_both is_inner (term_text a) _ (term_inner a terms.0) (pass_both is_inner (term_text b) (codes ")") (term_inner b terms.1.0) refl))
 inner-layer (Condition-F.IsNull a) d is s =
     let terms = subst (AllByRecursion IsReadableTerm) (terms-at (Condition-F.IsNull a) d is) s in
-    ap (list_all is_inner) (text-at (Condition-F.IsNull a) d is) ∙ inner_both (term_text a) (codes ")") (term_inner a terms.0) refl
+    ap (list_all is_inner) (text-at (Condition-F.IsNull a) d is) ∙ pass_both is_inner (term_text a) (codes ")") (term_inner a terms.0) refl
 inner-layer (Condition-F.Not p) d is s =
-    ap (list_all is_inner) (text-at (Condition-F.Not p.0) d is) ∙ inner_both (condition_text p.0) (codes ")") (p.1 (subst (AllByRecursion IsReadableTerm) (terms-at (Condition-F.Not p.0) d is) s)) refl
+    ap (list_all is_inner) (text-at (Condition-F.Not p.0) d is) ∙ pass_both is_inner (condition_text p.0) (codes ")") (p.1 (subst (AllByRecursion IsReadableTerm) (terms-at (Condition-F.Not p.0) d is) s)) refl
 inner-layer (Condition-F.And p q ps) d is s =
     ap (list_all is_inner) (text-at (Condition-F.And p.0 q.0 (map (λ p. p.0) ps)) d is) ∙ parts_inner p q ps (subst (AllByRecursion IsReadableTerm) (terms-at (Condition-F.And p.0 q.0 (map (λ p. p.0) ps)) d is) s)
 inner-layer (Condition-F.Or p q ps) d is s =
     ap (list_all is_inner) (text-at (Condition-F.Or p.0 q.0 (map (λ p. p.0) ps)) d is) ∙ parts_inner p q ps (subst (AllByRecursion IsReadableTerm) (terms-at (Condition-F.Or p.0 q.0 (map (λ p. p.0) ps)) d is) s)
 inner-layer (Condition-F.Exists g) d is s =
     let terms = subst (AllByRecursion IsReadableTerm) (terms-at (Condition-F.Exists g) d is) s in
-    ap (list_all is_inner) (text-at (Condition-F.Exists g) d is) ∙ inner_both (decimal g) (codes ")") (number_inner g terms.0) refl
+    ap (list_all is_inner) (text-at (Condition-F.Exists g) d is) ∙ pass_both is_inner (decimal g) (codes ")") (number_inner g terms.0) refl
 inner-layer (Condition-F.In a g k) d is s =
     let terms = subst (AllByRecursion IsReadableTerm) (terms-at (Condition-F.In a g k) d is) s in
     ap (list_all is_inner) (text-at (Condition-F.In a g k) d is)
-    ∙ inner_both (term_text a) _ (term_inner a terms.0) (inner_both (decimal g) _ (number_inner g terms.1.0) (inner_both (decimal k) (codes ")") (number_inner k terms.1.1.0) refl))
+    ∙ pass_both is_inner (term_text a) _ (term_inner a terms.0) (pass_both is_inner (decimal g) _ (number_inner g terms.1.0) (pass_both is_inner (decimal k) (codes ")") (number_inner k terms.1.1.0) refl))
 
 condition_inner : (c : Condition) → Inner c
 condition_inner = ind-Condition Inner (λ x y is. subst (λ z. Inner (roll-Condition z)) is (inner-layer y _ refl))
@@ -95,8 +86,8 @@ condition_inner = ind-Condition Inner (λ x y is. subst (λ z. Inner (roll-Condi
 pub condition_lacks : (c : Condition) → AllByRecursion IsReadableTerm (terms_of c) → lacks 59 (condition_text c) ≡ true
 condition_lacks c h = passing_lack is_inner 59 (condition_text c) refl (condition_inner c h)
 
-pub condition_spaceless : (c : Condition) → AllByRecursion IsReadableTerm (terms_of c) → lacks 32 (condition_text c) ≡ true
-condition_spaceless c h = passing_lack is_inner 32 (condition_text c) refl (condition_inner c h)
+pub condition_graphic : (c : Condition) → AllByRecursion IsReadableTerm (terms_of c) → list_all is_graphic (condition_text c) ≡ true
+condition_graphic c h = pass_more is_inner is_graphic (λ b inner. (and_parts (is_graphic b) (not (b == 59)) inner).0) (condition_text c) (condition_inner c h)
 
 -- ---- the parts of a list
 

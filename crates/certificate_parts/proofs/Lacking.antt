@@ -15,21 +15,28 @@ lacks_at c [] h i l e = absurd (omega arith)
 lacks_at c (b ∷ w) h zero l e = grind (arith, nat_tests)
 lacks_at c (b ∷ w) h (suc i) l e = let more : lacks c w ≡ true = grind arith in lacks_at c w more i (omega arith) e
 
-pub lacks-append : (c : ℕ) (v w : Text) → lacks c (v ++ w) ≡ lacks c v && lacks c w
-lacks-append c [] w = refl
-lacks-append c (b ∷ v) w = let more = lacks-append c v w in grind arith
+-- ---- tests that each character passes
+
+pub pass_both : (p : ℕ → Bool) (v w : Text) → list_all p v ≡ true → list_all p w ≡ true → list_all p (v ++ w) ≡ true
+pass_both p [] w h k = k
+pass_both p (b ∷ v) w h k = let parts = and_parts (p b) (list_all p v) h in λ i. parts.0 i && pass_both p v w parts.1 k i
+
+pub pass_more : (p q : ℕ → Bool) → ((b : ℕ) → p b ≡ true → q b ≡ true) → (w : Text) → list_all p w ≡ true → list_all q w ≡ true
+pass_more p q more [] h = refl
+pass_more p q more (b ∷ w) h = let parts = and_parts (p b) (list_all p w) h in λ i. more b parts.0 i && pass_more p q more w parts.1 i
 
 pub lacks_both : (c : ℕ) (v w : Text) → lacks c v ≡ true → lacks c w ≡ true → lacks c (v ++ w) ≡ true
-lacks_both c v w h k = let both = lacks-append c v w in grind arith
+lacks_both c = pass_both (λ b. not (b == c))
+
+-- a character that fails a test is none that passes it
+pub passes_other : (p : ℕ → Bool) (c : ℕ) → p c ≡ false → (b : ℕ) → p b ≡ true → not (b == c) ≡ true
+passes_other p c fails b passes = one (b == c) refl where
+  one : (same : Bool) → (b == c) ≡ same → not same ≡ true
+  one true e = absurd (false≢true (sym fails ∙ ap p (sym (eqb-true b c e)) ∙ passes))
+  one false e = refl
 
 pub passing_lack : (p : ℕ → Bool) (c : ℕ) (w : Text) → p c ≡ false → list_all p w ≡ true → lacks c w ≡ true
-passing_lack p c [] other h = refl
-passing_lack p c (b ∷ w) other h =
-    let parts = and_parts (p b) (list_all p w) h in
-    one (b == c) refl parts.0 (passing_lack p c w other parts.1) where
-      one : (same : Bool) → (b == c) ≡ same → p b ≡ true → lacks c w ≡ true → (not same && lacks c w) ≡ true
-      one true e passes rest = absurd (false≢true (sym other ∙ ap p (sym (eqb-true b c e)) ∙ passes))
-      one false e passes rest = rest
+passing_lack p c w fails h = pass_more p (λ b. not (b == c)) (passes_other p c fails) w h
 
 pub numeral_lacks : (c n : ℕ) → is_ascii_digit c ≡ false → lacks c (numeral n) ≡ true
 numeral_lacks c n other = passing_lack is_ascii_digit c (numeral n) other (numeral_digits n)

@@ -1,5 +1,5 @@
 -- Terms, as they are read.
-use Rattle.std.proofs.Common.{◌≡◌, ◌≢◌, ℕ, zero, suc, ◌+◌, ◌/◌, ◌%◌, ◌<◌, ◌^◌, Bool, true, false, not, ◌&&◌, ◌||◌, cond, List, [], ◌∷◌, length, get_or, drop, ℤ, pos, negsuc, neg_ℤ, Result, Ok, Err, Option, Some, FitsSigned, ltb, inl, inr, ◌⊎◌, refl, sym, ◌∙◌, ap, subst, arith, codes, decimal}
+use Rattle.std.proofs.Common.{◌≡◌, ◌≢◌, ◌==◌, ℕ, zero, suc, ◌+◌, ◌/◌, ◌%◌, ◌<◌, ◌^◌, nat_le, Bool, true, false, not, ◌&&◌, ◌||◌, cond, List, [], ◌∷◌, length, get_or, drop, ℤ, pos, negsuc, neg_ℤ, Result, Ok, Err, Option, Some, FitsSigned, ltb, inl, inr, ◌⊎◌, refl, sym, ◌∙◌, ap, subst, arith, codes, decimal}
 use lib.Dec.{eqb}
 use lib.Pointwise.{pointwise}
 use lib.Utf8.{scalar, scalars, encode, encodes, next, scalar_cases}
@@ -32,9 +32,9 @@ use Rattle.certificate_parts.specs.Numerals.{numeral, has_numeral_form}
 use Rattle.certificate_parts.specs.Spelled.{is_lower_hex, IsReadableTerm, SpellsTerm}
 use Rattle.certificate_parts.proofs.DecimalNumerals.{numeral-decimal, short_decimal}
 use Rattle.certificate_parts.proofs.Exits.{not_both, same_ok}
-use Rattle.certificate_parts.proofs.Lacking.{lacks_at, lacks_both, passing_lack, numeral_lacks}
+use Rattle.certificate_parts.proofs.Lacking.{lacks_at, pass_both, pass_more, passes_other, numeral_lacks}
 use Rattle.certificate_parts.proofs.NumberParts.{number_given}
-use Rattle.certificate_parts.proofs.Numerals.{numeral_tested, numeral-zero, numeral_injective, numeral_value, form_digits, form_nonempty}
+use Rattle.certificate_parts.proofs.Numerals.{numeral_tested, numeral-zero, numeral_injective, numeral_value, form_digits, form_nonempty, numeral_digits}
 
 own : IsNumeralModel (AllDigits 10) (digits_value 10)
 own = numerals_by_value (AllDigits 10) tells_digits
@@ -224,24 +224,21 @@ text_same w v same e f = same_text w v (sym f ∙ e)
 pub text_read : (r : Result Text (Fault PartReason)) (u x : Text) → r ≡ Ok x → Gives (λ x. x) r (Ok u) → u ≡ x
 text_read r u x e h = same_ok {E = PartReason} (Ok u) u x refl (subst (λ (r : Result Text (Fault PartReason)). Gives (λ x. x) r (Ok u)) e h)
 
--- ---- what a term's text lacks
+-- ---- the characters of a term's text
 
-module _ (c : ℕ) (other : is_lower_hex c ≡ false) (letters : (lacks c (codes "n") ≡ true) × (lacks c (codes "c") ≡ true) × (lacks c (codes "i") ≡ true) × (lacks c (codes "t") ≡ true) × (lacks c (codes "-") ≡ true)) where
-  no_digit : is_ascii_digit c ≡ false
-  no_digit = or_left_false (is_ascii_digit c) _ other where
-    or_left_false : (x y : Bool) → (x || y) ≡ false → x ≡ false
-    or_left_false true y e = absurd (false≢true (sym e))
-    or_left_false false y e = refl
+module _ (p : ℕ → Bool) (hex : (b : ℕ) → is_lower_hex b ≡ true → p b ≡ true) (letters : (list_all p (codes "n") ≡ true) × (list_all p (codes "c") ≡ true) × (list_all p (codes "i") ≡ true) × (list_all p (codes "t") ≡ true) × (list_all p (codes "-") ≡ true)) where
+  pub numeral_passes : (n : ℕ) → list_all p (numeral n) ≡ true
+  numeral_passes n = pass_more is_ascii_digit p (λ b digit. hex b (ap (λ d. d || (nat_le 97 b && nat_le b 102)) digit)) (numeral n) (numeral_digits n)
 
-  pub term_lacks : (t : Term) → IsReadableTerm t → lacks c (term_text t) ≡ true
-  term_lacks (term.Column k) s = lacks_both c (codes "c") (decimal k) letters.1 (ap (lacks c) (short_decimal k s) ∙ numeral_lacks c k no_digit)
-  term_lacks (term.Literal value.Null) s = letters.0
-  term_lacks (term.Literal (value.Int (pos n))) s = lacks_both c (codes "i") (decimal n) letters.2 (ap (lacks c) (plain n s) ∙ numeral_lacks c n no_digit)
-  term_lacks (term.Literal (value.Int (negsuc n))) s = lacks_both c (codes "i") (45 ∷ decimal (suc n)) letters.2 (lacks_both c (codes "-") (decimal (suc n)) letters.4 (ap (lacks c) (behind_minus n s) ∙ numeral_lacks c (suc n) no_digit))
-  term_lacks (term.Literal (value.Text u)) s = lacks_both c (codes "t") (encode_lower u) letters.3 (passing_lack is_lower_hex c (encode_lower u) other (encoded_lower u (text_bytes u s)))
+  pub term_passes : (t : Term) → IsReadableTerm t → list_all p (term_text t) ≡ true
+  term_passes (term.Column k) s = pass_both p (codes "c") (decimal k) letters.1 (ap (list_all p) (short_decimal k s) ∙ numeral_passes k)
+  term_passes (term.Literal value.Null) s = letters.0
+  term_passes (term.Literal (value.Int (pos n))) s = pass_both p (codes "i") (decimal n) letters.2 (ap (list_all p) (plain n s) ∙ numeral_passes n)
+  term_passes (term.Literal (value.Int (negsuc n))) s = pass_both p (codes "i") (45 ∷ decimal (suc n)) letters.2 (pass_both p (codes "-") (decimal (suc n)) letters.4 (ap (list_all p) (behind_minus n s) ∙ numeral_passes (suc n)))
+  term_passes (term.Literal (value.Text u)) s = pass_both p (codes "t") (encode_lower u) letters.3 (pass_more is_lower_hex p hex (encode_lower u) (encoded_lower u (text_bytes u s)))
 
 pub no_comma : (t : Term) → IsReadableTerm t → lacks 44 (term_text t) ≡ true
-no_comma = term_lacks 44 refl (refl, refl, refl, refl, refl)
+no_comma = term_passes (λ b. not (b == 44)) (passes_other is_lower_hex 44 refl) (refl, refl, refl, refl, refl)
 
 pub no_parenthesis : (t : Term) → IsReadableTerm t → lacks 41 (term_text t) ≡ true
-no_parenthesis = term_lacks 41 refl (refl, refl, refl, refl, refl)
+no_parenthesis = term_passes (λ b. not (b == 41)) (passes_other is_lower_hex 41 refl) (refl, refl, refl, refl, refl)

@@ -1,5 +1,5 @@
 -- The texts of the parts of a line, with numbers of any size.
-use Rattle.std.specs.Prelude.{◌≡◌, ◌==◌, ℕ, Bool, not, List, [], ◌∷◌, ◌++◌, codes}
+use Rattle.std.specs.Prelude.{◌≡◌, ◌==◌, ◌&&◌, nat_lt, ℕ, Bool, not, List, [], ◌∷◌, ◌++◌, codes}
 use Rattle.std.specs.List.{join_by, list_all}
 use Rattle.query.specs.declared.query.Aggregate.{Aggregate}
 use Rattle.query.specs.declared.query.Aggregate.TheVariants as by
@@ -12,6 +12,10 @@ Text = List ℕ
 -- no byte of the text is the character
 abbrev pub lacks : ℕ → Text → Bool
 lacks c w = list_all (λ b. not (b == c)) w
+
+-- a character of ASCII that can be seen, and isn't a space
+abbrev pub is_graphic : ℕ → Bool
+is_graphic b = nat_lt 32 b && nat_lt b 127
 
 -- parts with commas between them; a list without parts is a dash
 abbrev pub list_text : {X : Type 0} → (X → Text) → List X → Text

@@ -4,4 +4,8 @@ pub mod LineTexts
 pub mod NodeTexts
 pub mod NodeWords
 pub mod PartWords
+pub mod PlanNodes
+pub mod TextCuts
+pub mod TextLists
+pub mod WholeTexts
 pub mod WordCalls

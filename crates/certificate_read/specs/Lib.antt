@@ -1,3 +1,4 @@
 pub mod LineReading
 pub mod NodeReading
+pub mod TextReading
 pub mod WordReading

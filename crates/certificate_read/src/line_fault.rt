@@ -1,6 +1,6 @@
 //! Why a line isn't read.
 
-ghost use Rattle.std.specs.Prelude.{◌≡◌};
+ghost use Rattle.std.specs.Prelude.{◌≡◌, None};
 ghost use Rattle.certificate_read.specs.declared.line_fault.LineFault.{LineFault};
 ghost use Rattle.certificate_read.specs.declared.line_fault.LineFault.TheVariants.{Memory};
 ghost use Rattle.certificate_read.specs.WordReading.{line_fault_of};
@@ -21,7 +21,9 @@ pub(crate) enum LineFault {
 
 impl LineFault {
     /// As a fault of the text; nothing where memory ran out.
-    pub(crate) fn reason(self) -> Option<TextReason> {
+    pub(crate) fn reason(self) -> Option<TextReason>
+        ensures { self ≡ Memory → result ≡ None }
+    {
         match self {
             LineFault::Memory => None,
             LineFault::OtherForm => Some(TextReason::OtherForm),

@@ -1,14 +1,26 @@
 //! Certificates from their text.
 
-ghost use Rattle.std.specs.Prelude.{◌≡◌, Ok, IfOk};
-ghost use Rattle.certificate_text.specs.Limits.{written};
+ghost use Rattle.std.specs.Prelude.{◌≡◌, ◌≤◌, ◌<◌, ◌+◌, ◌-◌, ◌++◌, ℕ, List, [], length, map, flat_map, sum, codes, decimal, Ok, IfOk, true};
+ghost use Rattle.std.specs.List.{AllByRecursion};
+ghost use Rattle.derivation.specs.declared.line.Line.{Line};
+ghost use Rattle.physical.specs.declared.plan.Node.{Node};
+ghost use Rattle.physical.specs.declared.plan.Plan.{Plan};
+ghost use Rattle.certificate.specs.declared.certificate.Certificate.{Certificate};
+ghost use Rattle.certificate_parts.specs.PartTexts.{lacks};
+ghost use Rattle.certificate_parts.specs.Parts.{IsShort};
+ghost use Rattle.certificate_text.specs.CertificateText.{Text, ◌␣◌, ended, line_text, node_text, plan_text, node_count, certificate_text};
+ghost use Rattle.certificate_text.specs.Limits.{written, most_lines, most_nodes, most_deep};
+ghost use Rattle.certificate_read.specs.LineReading.{IsReadableLine};
+ghost use Rattle.certificate_read.specs.NodeReading.{IsReadableNode};
+ghost use Rattle.certificate_read.specs.TextReading as spec;
+ghost use Rattle.certificate_read.specs.WordReading.{UnlessMemory};
 
 use crate::derivation_lines::derivation_line;
 use crate::line_fault::LineFault;
 use crate::nodes::{ReadNode, node};
 use crate::text_lines::TextLines;
 use certificate::Certificate;
-use certificate_parts::numbers::is_numeral;
+use certificate_parts::numbers::number;
 use certificate_text::{MOST_DEEP, MOST_LINES, MOST_NODES, TextFault, TextReason, write};
 use derivation::Line;
 use physical::Plan;
@@ -16,20 +28,29 @@ use std::alloc::Global;
 use values::Items;
 
 /// The number behind a word and a space, which is at most so large.
-fn count_of(line: &str, word: &str, most: usize) -> Result<usize, LineFault> {
-    match line.split_once(' ') {
-        Some((first, number)) if first == word && is_numeral(number) => {
-            match number.parse::<usize>() {
-                Ok(count) if count <= most => Ok(count),
-                _ => Err(LineFault::OverLimit),
-            }
-        }
-        _ => Err(LineFault::OtherForm),
+fn count_of(line: &str, word: &str, most: usize) -> Result<usize, LineFault>
+    ensures { (n : ℕ) → n ≤ most → IsShort n → lacks 32 word.now ≡ true → line.now ≡ word.now ␣ decimal n → UnlessMemory (λ count. count ≡ n) result }
+{
+    let Some((first, text)) = line.split_once(' ') else {
+        return Err(LineFault::OtherForm);
+    };
+    if first != word {
+        return Err(LineFault::OtherForm);
+    }
+    let Some(count) = number(text)? else {
+        return Err(LineFault::OverLimit);
+    };
+    if count as usize <= most {
+        Ok(count as usize)
+    } else {
+        Err(LineFault::OverLimit)
     }
 }
 
 /// The count of what follows, on a line of its own.
-fn count(text: &mut TextLines<'_>, word: &str, most: usize) -> Result<usize, TextFault> {
+fn count(text: &mut TextLines<'_>, word: &str, most: usize) -> Result<usize, TextFault>
+    ensures { (n : ℕ) (rest : Text) → n ≤ most → IsShort n → spec.IsWord word.now → text.old.left.now ≡ ended (word.now ␣ decimal n) ++ rest → spec.LeavesText (λ count. count) n rest text.new result }
+{
     let line = text.line()?;
     match count_of(line, word, most) {
         Ok(count) => Ok(count),
@@ -37,15 +58,26 @@ fn count(text: &mut TextLines<'_>, word: &str, most: usize) -> Result<usize, Tex
     }
 }
 
-fn derivation(alloc: Global, text: &mut TextLines<'_>) -> Result<Items<Line>, TextFault> {
+/// The line of the derivation that is the next line of the text.
+fn next_line(alloc: Global, text: &mut TextLines<'_>) -> Result<Line, TextFault>
+    ensures { (l : Line) (rest : Text) → IsReadableLine l → text.old.left.now ≡ line_text l ++ rest → spec.LeavesText (λ l. l) l rest text.new result }
+{
+    let line = text.line()?;
+    match derivation_line(alloc, line) {
+        Ok(read) => Ok(read),
+        Err(fault) => Err(text.fault(fault)),
+    }
+}
+
+fn derivation(alloc: Global, text: &mut TextLines<'_>) -> Result<Items<Line>, TextFault>
+    ensures { (ls : List Line) (rest : Text) → AllByRecursion IsReadableLine ls → length ls ≤ most_lines
+        → text.old.left.now ≡ ended (codes "lines" ␣ decimal (length ls)) ++ (flat_map line_text ls ++ rest)
+        → spec.LeavesText (λ ls. ls) ls rest text.new result }
+{
     let count = count(text, "lines", MOST_LINES)?;
     let mut lines = Items::new(alloc);
-    for _ in 0..count {
-        let line = text.line()?;
-        match derivation_line(alloc, line) {
-            Ok(read) => lines.push(read)?,
-            Err(fault) => return Err(text.fault(fault)),
-        }
+    for _done in 0..count {
+        lines.push(next_line(alloc, text)?)?;
     }
     Ok(lines)
 }
@@ -59,10 +91,28 @@ struct Wanted {
 
 impl Wanted {
     /// Takes a node with so many inputs, behind which as many nodes are counted as inputs are wanted at least, and none where none is.
-    fn take(&mut self, inputs: u64) -> bool {
+    fn take(&mut self, inputs: u64) -> bool
+        ensures { (k : ℕ) (w : ℕ) → spec.IsWanted (k + 1) (w + 1) self.old → spec.IsBalanced k (w + inputs) → (result ≡ true) × spec.IsWanted k (w + inputs) self.new }
+    {
         self.counted = self.counted.saturating_sub(1);
         self.inputs = self.inputs.saturating_sub(1).saturating_add(inputs);
         self.inputs <= self.counted && (self.inputs > 0 || self.counted == 0)
+    }
+}
+
+/// The node that is the next line of the text.
+fn next_node(
+    alloc: Global,
+    text: &mut TextLines<'_>,
+    is_within: bool,
+) -> Result<ReadNode, TextFault>
+    ensures { (n : Node) (inputs : ℕ) (rest : Text) → IsReadableNode n inputs → is_within ≡ true → text.old.left.now ≡ node_text n inputs ++ rest
+        → spec.UnlessMemory (λ r. (r.node ≡ n) × (r.inputs ≡ inputs) × (text.new.left.now ≡ rest)) result }
+{
+    let line = text.line()?;
+    match node(alloc, line, is_within) {
+        Ok(read) => Ok(read),
+        Err(fault) => Err(text.fault(fault)),
     }
 }
 
@@ -72,12 +122,17 @@ fn node_within(
     text: &mut TextLines<'_>,
     wanted: &mut Wanted,
     room: usize,
-) -> Result<ReadNode, TextFault> {
-    let line = text.line()?;
-    match node(alloc, line, room > 0) {
-        Ok(read) if wanted.take(read.inputs) => Ok(read),
-        Ok(_) => Err(text.refused(TextReason::OtherForm)),
-        Err(fault) => Err(text.fault(fault)),
+) -> Result<ReadNode, TextFault>
+    ensures { (n : Node) (inputs : ℕ) (k : ℕ) (w : ℕ) (rest : Text) → IsReadableNode n inputs → 0 < room
+        → spec.IsWanted (k + 1) (w + 1) wanted.old → spec.IsBalanced k (w + inputs)
+        → text.old.left.now ≡ node_text n inputs ++ rest
+        → spec.UnlessMemory (λ r. (r.node ≡ n) × (r.inputs ≡ inputs) × (text.new.left.now ≡ rest) × spec.IsWanted k (w + inputs) wanted.new) result }
+{
+    let read = next_node(alloc, text, room > 0)?;
+    if wanted.take(read.inputs) {
+        Ok(read)
+    } else {
+        Err(text.refused(TextReason::OtherForm))
     }
 }
 
@@ -89,12 +144,17 @@ fn inputs_within(
     wanted: &mut Wanted,
     count: u64,
     room: usize,
-) -> Result<Items<Plan>, TextFault> {
+) -> Result<Items<Plan>, TextFault>
+    ensures { (ps : List Plan) (k : ℕ) (w : ℕ) (rest : Text) → AllByRecursion (spec.IsReadablePlan (room - 1)) ps → length ps ≡ count → 0 < room
+        → spec.IsWanted (sum (map node_count ps) + k) (w + length ps) wanted.old → spec.IsBalanced k w
+        → text.old.left.now ≡ flat_map plan_text ps ++ rest
+        → spec.UnlessMemory (λ read. (read ≡ ps) × (text.new.left.now ≡ rest) × spec.IsWanted k w wanted.new) result }
+{
     let Some(below) = room.checked_sub(1) else {
         return Err(text.refused(TextReason::OverLimit));
     };
     let mut inputs = Items::new(alloc);
-    for _ in 0..count {
+    for _done in 0..count {
         inputs.push(plan_within(alloc, text, wanted, below)?)?;
     }
     Ok(inputs)
@@ -107,13 +167,22 @@ fn plan_within(
     text: &mut TextLines<'_>,
     wanted: &mut Wanted,
     room: usize,
-) -> Result<Plan, TextFault> {
+) -> Result<Plan, TextFault>
+    ensures { (p : Plan) (k : ℕ) (w : ℕ) (rest : Text) → spec.IsReadablePlan room p
+        → spec.IsWanted (node_count p + k) (w + 1) wanted.old → spec.IsBalanced k w
+        → text.old.left.now ≡ plan_text p ++ rest
+        → spec.UnlessMemory (λ read. (read ≡ p) × (text.new.left.now ≡ rest) × spec.IsWanted k w wanted.new) result }
+{
     let ReadNode { node, inputs } = node_within(alloc, text, wanted, room)?;
     let inputs = inputs_within(alloc, text, wanted, inputs, room)?;
     Ok(Plan { node, inputs })
 }
 
-fn plan(alloc: Global, text: &mut TextLines<'_>) -> Result<Plan, TextFault> {
+fn plan(alloc: Global, text: &mut TextLines<'_>) -> Result<Plan, TextFault>
+    ensures { (p : Plan) (rest : Text) → spec.IsReadablePlan most_deep p → node_count p ≤ most_nodes
+        → text.old.left.now ≡ ended (codes "plan" ␣ decimal (node_count p)) ++ (plan_text p ++ rest)
+        → spec.LeavesText (λ p. p) p rest text.new result }
+{
     let count = count(text, "plan", MOST_NODES)?;
     if count == 0 {
         return Err(text.refused(TextReason::OtherForm));
@@ -125,14 +194,25 @@ fn plan(alloc: Global, text: &mut TextLines<'_>) -> Result<Plan, TextFault> {
     plan_within(alloc, text, &mut wanted, MOST_DEEP)
 }
 
+/// The plan, which the text ends behind.
+fn last_plan(alloc: Global, text: &mut TextLines<'_>) -> Result<Plan, TextFault>
+    ensures { (p : Plan) → spec.IsReadablePlan most_deep p → node_count p ≤ most_nodes
+        → text.old.left.now ≡ ended (codes "plan" ␣ decimal (node_count p)) ++ (plan_text p ++ ended (codes "end"))
+        → spec.UnlessMemory (λ read. read ≡ p) result }
+{
+    let plan = plan(alloc, text)?;
+    text.finish()?;
+    Ok(plan)
+}
+
 /// What is read before it is judged.
-fn candidate(alloc: Global, bytes: &[u8]) -> Result<Certificate, TextFault> {
+fn candidate(alloc: Global, bytes: &[u8]) -> Result<Certificate, TextFault>
+    ensures { (c : Certificate) → spec.IsReadableCertificate c → written c ≡ Ok bytes.now → spec.UnlessMemory (λ read. read ≡ c) result }
+{
     let mut text = TextLines::of(bytes);
     text.expect(b"SQLPLAN 1", TextReason::OtherVersion)?;
     let lines = derivation(alloc, &mut text)?;
-    let plan = plan(alloc, &mut text)?;
-    text.expect(b"end", TextReason::OtherForm)?;
-    text.end()?;
+    let plan = last_plan(alloc, &mut text)?;
     Ok(Certificate { lines, plan })
 }
 
@@ -143,7 +223,9 @@ fn candidate(alloc: Global, bytes: &[u8]) -> Result<Certificate, TextFault> {
 /// What was read is written again and compared with the bytes. That the comparison fails is no fault of a line; it would be reported of
 /// the first one, as another form.
 pub fn read(alloc: Global, bytes: &[u8]) -> Result<Certificate, TextFault>
-    ensures { IfOk result (λ certificate. written certificate ≡ Ok bytes.now) }
+    ensures sound { IfOk result (λ certificate. written certificate ≡ Ok bytes.now) }
+    // The text of each certificate that can be read is read as that certificate.
+    ensures complete { (c : Certificate) → spec.IsReadableCertificate c → written c ≡ Ok bytes.now → spec.UnlessMemory (λ read. read ≡ c) result }
 {
     let certificate = candidate(alloc, bytes)?;
     let text = write(alloc, &certificate)?;

@@ -1,8 +1,23 @@
 //! The lines of a text, one after the other.
 
+ghost use Rattle.std.specs.Prelude.{◌≡◌, ◌==◌, ◌++◌, [], codes, Ok, true};
+ghost use Rattle.std.specs.List.{position};
+ghost use Rattle.values.specs.declared.fault.Fault.TheVariants.{Memory};
+ghost use Rattle.certificate_parts.specs.PartTexts.{lacks};
+ghost use Rattle.certificate_text.specs.CertificateText.{Text, ended};
+ghost use Rattle.certificate_read.specs.declared.line_fault.LineFault.TheVariants as line_fault;
+ghost use Rattle.certificate_read.specs.TextReading.{IsLine, LeavesText, UnlessMemory};
+
 use crate::line_fault::LineFault;
 use certificate_text::{TextFault, TextReason, TextRefusal};
 use values::Fault;
+
+/// The place of the first LF.
+fn first_end(text: &[u8]) -> Option<usize>
+    ensures { result ≡ position (λ b. b == 10) text.now }
+{
+    text.iter().position(|byte| *byte == b'\n')
+}
 
 /// The lines that are still to be read.
 #[derive(Drop)]
@@ -13,7 +28,9 @@ pub(crate) struct TextLines<'a> {
 }
 
 impl<'a> TextLines<'a> {
-    pub(crate) fn of(text: &'a [u8]) -> TextLines<'a> {
+    pub(crate) fn of(text: &'a [u8]) -> TextLines<'a>
+        ensures { result.left.now ≡ text.now }
+    {
         TextLines {
             left: text,
             number: 0,
@@ -27,7 +44,9 @@ impl<'a> TextLines<'a> {
     }
 
     /// Why the line that was read last isn't of its form.
-    pub(crate) fn fault(&self, fault: LineFault) -> TextFault {
+    pub(crate) fn fault(&self, fault: LineFault) -> TextFault
+        ensures { fault ≡ line_fault.Memory → result ≡ Memory }
+    {
         match fault.reason() {
             Some(reason) => self.refused(reason),
             None => Fault::Memory,
@@ -35,9 +54,11 @@ impl<'a> TextLines<'a> {
     }
 
     /// The next line, without its end.
-    pub(crate) fn bytes(&mut self) -> Result<&'a [u8], TextFault> {
+    pub(crate) fn bytes(&mut self) -> Result<&'a [u8], TextFault>
+        ensures { (line : Text) (rest : Text) → lacks 10 line ≡ true → self.old.left.now ≡ ended line ++ rest → LeavesText (λ l. l.now) line rest self.new result }
+    {
         self.number = self.number.saturating_add(1);
-        match self.left.iter().position(|byte| *byte == b'\n') {
+        match first_end(self.left) {
             Some(end) => {
                 let line = &self.left[..end];
                 self.left = &self.left[end + 1..];
@@ -48,7 +69,9 @@ impl<'a> TextLines<'a> {
     }
 
     /// The next line, which is to be text.
-    pub(crate) fn line(&mut self) -> Result<&'a str, TextFault> {
+    pub(crate) fn line(&mut self) -> Result<&'a str, TextFault>
+        ensures { (line : Text) (rest : Text) → IsLine line → self.old.left.now ≡ ended line ++ rest → LeavesText (λ l. l.now) line rest self.new result }
+    {
         match str::from_utf8(self.bytes()?) {
             Ok(line) => Ok(line),
             Err(_) => Err(self.refused(TextReason::OtherForm)),
@@ -56,7 +79,9 @@ impl<'a> TextLines<'a> {
     }
 
     /// That the next line is this one, for else it is refused so.
-    pub(crate) fn expect(&mut self, line: &[u8], reason: TextReason) -> Result<(), TextFault> {
+    pub(crate) fn expect(&mut self, line: &[u8], reason: TextReason) -> Result<(), TextFault>
+        ensures { (rest : Text) → lacks 10 line.now ≡ true → self.old.left.now ≡ ended line.now ++ rest → LeavesText (λ u. u) tt rest self.new result }
+    {
         if self.bytes()? == line {
             Ok(())
         } else {
@@ -65,11 +90,21 @@ impl<'a> TextLines<'a> {
     }
 
     /// That no byte is left; the line behind the last is refused for it.
-    pub(crate) fn end(&mut self) -> Result<(), TextFault> {
+    fn end(&mut self) -> Result<(), TextFault>
+        ensures { self.old.left.now ≡ [] → result ≡ Ok tt }
+    {
         if self.left.is_empty() {
             return Ok(());
         }
         self.number = self.number.saturating_add(1);
         Err(self.refused(TextReason::OtherForm))
+    }
+
+    /// That the next line is the last, and says that the text ends.
+    pub(crate) fn finish(&mut self) -> Result<(), TextFault>
+        ensures { self.old.left.now ≡ ended (codes "end") → UnlessMemory (λ u. u ≡ tt) result }
+    {
+        self.expect(b"end", TextReason::OtherForm)?;
+        self.end()
     }
 }

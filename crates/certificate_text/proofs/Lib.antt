@@ -1,3 +1,3 @@
-mod LimitLists
-mod PlanTexts
+pub mod LimitLists
+pub mod PlanTexts
 mod WorkedTexts

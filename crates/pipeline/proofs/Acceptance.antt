@@ -1,5 +1,6 @@
 -- What is accepted, and what a certificate that is accepted answers.
-use Rattle.std.proofs.Common.{◌≡◌, refl, sym, subst, ℕ, List, [], Ok}
+use Rattle.std.proofs.Common.{◌≡◌, refl, sym, ap, subst, ℕ, Bool, true, false, List, [], Ok}
+use Rattle.std.proofs.lemmas.Bool.{false≢true}
 use Rattle.values.specs.declared.fault.Fault.{Fault}
 use Rattle.values.specs.declared.fault.Fault.TheVariants as fault
 use Rattle.values.specs.Faults.{◌>>=◌, Fails}
@@ -14,6 +15,7 @@ use Rattle.certificate.specs.declared.certificate.CheckRefusal.{CheckRefusal}
 use Rattle.certificate.specs.QueryOrders.{answer}
 use Rattle.certificate.specs.Replay.{lines_replay, fitted_plan, replayed, IsChecked}
 use Rattle.certificate_text.specs.declared.fault.TextRefusal.{TextRefusal}
+use Rattle.certificate_read.specs.TextReading.{IsReadableCertificate}
 use Rattle.answer_text.specs.AnswerText.{answer_text}
 use Rattle.checker.specs.Accepted.{Accepted}
 use Rattle.pipeline.specs.declared.refusal.Refusal.{Refusal}
@@ -36,9 +38,15 @@ no_query_accepted schema text certificate S (refusal.Table n r) is h = absurd h
 no_query_accepted schema text certificate S (refusal.TableDevice n) is h = absurd h
 no_query_accepted schema text certificate S refusal.Output is h = absurd h
 
-pub text_not_accepted : (schema text certificate : List ℕ) (S : Schema) (q : Query) (f : Fault TextRefusal) → Asks schema text S q → IsNotAccepted schema text certificate (of_certificate f)
-text_not_accepted schema text certificate S q fault.Memory asks = tt
-text_not_accepted schema text certificate S q (fault.Refused r) asks = (S, q, asks, tt)
+is_memory : {R : Type 0} → Fault R → Bool
+is_memory fault.Memory = true
+is_memory (fault.Refused r) = false
+
+-- each text that a certificate has is read, unless memory runs out
+pub text_not_accepted : (schema text certificate : List ℕ) (S : Schema) (q : Query) (f : Fault TextRefusal) → Asks schema text S q → ((c : Certificate) → IsReadableCertificate c → IsCertificate certificate c → f ≡ fault.Memory)
+    → IsNotAccepted schema text certificate (of_certificate f)
+text_not_accepted schema text certificate S q fault.Memory asks memory = tt
+text_not_accepted schema text certificate S q (fault.Refused r) asks memory = (S, q, asks, λ c readable is. false≢true (ap is_memory (memory c readable is)))
 
 pub check_refused : (q : Query) (c : Certificate) (f : Fault CheckRefusal) → Fails f (replayed q c) → IsCheckFault q c (of_check f)
 check_refused q c fault.Memory fails = tt

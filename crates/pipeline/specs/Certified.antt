@@ -9,6 +9,7 @@ use Rattle.certificate.specs.declared.certificate.Certificate.{Certificate}
 use Rattle.certificate.specs.declared.certificate.CheckRefusal.{CheckRefusal}
 use Rattle.certificate.specs.Replay.{replayed, IsChecked}
 use Rattle.certificate_text.specs.Limits.{written}
+use Rattle.certificate_read.specs.TextReading.{IsReadableCertificate}
 use Rattle.pipeline.specs.declared.refusal.Refusal.{Refusal}
 use Rattle.pipeline.specs.declared.refusal.Refusal.TheVariants as refusal
 use Rattle.pipeline.specs.EndToEnd.{Input, Asks, IsFromFiles, ByCertificate, IsUnbound, IsReached, IsTableRefused, AllReported, IsAnswerText, IsByPlan, WithQuery}
@@ -18,6 +19,10 @@ use Rattle.pipeline.specs.EndToEnd.{Input, Asks, IsFromFiles, ByCertificate, IsU
 -- the bytes are the text of this certificate, which is within the limits
 abbrev pub IsCertificate : List ℕ → Certificate → Type 0
 IsCertificate bytes c = written c ≡ Ok bytes
+
+-- they are the text of none whose numbers are within their ranges, whose lists are in order, and whose nodes have as many inputs as they take
+abbrev pub IsNoCertificate : List ℕ → Type 0
+IsNoCertificate bytes = (c : Certificate) → IsReadableCertificate c → IsCertificate bytes c → ⊥
 
 -- a query is asked, and the bytes are the text of a certificate that is checked against it
 pub record Accepts (schema text certificate : List ℕ) : Type 0 where
@@ -60,6 +65,10 @@ IsNotAnswered S q c inputs (refusal.Scope r) = ⊥
 IsNotAnswered S q c inputs (refusal.Statistics r) = ⊥
 IsNotAnswered S q c inputs (refusal.Certificate r) = ⊥
 
+-- a query is asked, and the bytes are no certificate's text
+abbrev pub IsTextRefused : List ℕ → List ℕ → List ℕ → Type 0
+IsTextRefused schema text certificate = WithQuery schema text (λ S. IsNoCertificate certificate)
+
 -- a query is asked, against which the certificate that the bytes are the text of is refused
 abbrev pub IsCheckRefused : List ℕ → List ℕ → List ℕ → CheckRefusal → Type 0
 IsCheckRefused schema text certificate r = (S : Schema) × (q : Query) × Asks schema text S q × (c : Certificate) × IsCertificate certificate c × (replayed q c ≡ Err r)
@@ -75,7 +84,7 @@ IsNotAccepted schema text certificate (refusal.Schema r) = schema_of schema ≡ 
 IsNotAccepted schema text certificate (refusal.Text r) = (S : Schema) × (schema_of schema ≡ Ok S) × IsStatementFault text r
 IsNotAccepted schema text certificate (refusal.Scope r) = (S : Schema) × (schema_of schema ≡ Ok S) × IsUnbound text S r
 IsNotAccepted schema text certificate (refusal.Statistics r) = ⊥
-IsNotAccepted schema text certificate (refusal.Certificate r) = WithQuery schema text (λ S. Unit {0})
+IsNotAccepted schema text certificate (refusal.Certificate r) = IsTextRefused schema text certificate
 IsNotAccepted schema text certificate (refusal.Check r) = IsCheckRefused schema text certificate r
 IsNotAccepted schema text certificate (refusal.Table n r) = ⊥
 IsNotAccepted schema text certificate (refusal.TableDevice n) = ⊥

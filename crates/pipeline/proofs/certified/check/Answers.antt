@@ -11,7 +11,7 @@ returns-in_err-certificate-clause-refused c =
     let p = err_from_is_err_and c.from_residual-in_err-certificate.result c.from_residual-in_err-certificate.ensures.1 in
     of_fault c.from_residual-in_err-certificate.result (of_certificate c.in_err-certificate.field-0.0) _ (p.1 ∙ ap Err p.2)
     (text_not_accepted c.args.schema.now c.args.text.now c.args.certificate.now c.in_ok-schema.schema c.in_ok-asked.asked c.in_err-certificate.field-0.0
-    (record { is_schema = c.in_ok-schema.ensures.exact; is_query = c.in_ok-asked.ensures.ok }))
+    (record { is_schema = c.in_ok-schema.ensures.exact; is_query = c.in_ok-asked.ensures.ok }) c.in_err-certificate.ensures.complete)
 
 pub accept-requires : goal.accept-requires
 accept-requires c = (query_bound c.args.text.now c.in_ok-schema.schema c.in_ok-asked.asked c.in_ok-asked.ensures.ok).over
@@ -19,11 +19,11 @@ accept-requires c = (query_bound c.args.text.now c.in_ok-schema.schema c.in_ok-a
 pub returns-clause-accepted : goal.returns-clause-accepted
 returns-clause-accepted c = on_ok_weaker c.accept.result
     (accepted c.args.schema.now c.args.text.now c.args.certificate.now c.in_ok-schema.schema c.in_ok-asked.asked c.in_ok-certificate.certificate
-    (record { is_schema = c.in_ok-schema.ensures.exact; is_query = c.in_ok-asked.ensures.ok }) c.in_ok-certificate.ensures)
+    (record { is_schema = c.in_ok-schema.ensures.exact; is_query = c.in_ok-asked.ensures.ok }) c.in_ok-certificate.ensures.sound)
     c.accept.ensures.accepted
 
 pub returns-clause-refused : goal.returns-clause-refused
 returns-clause-refused c = IfErr-weaker c.accept.result _ _
     (λ r. check_not_accepted c.args.schema.now c.args.text.now c.args.certificate.now c.in_ok-schema.schema c.in_ok-asked.asked c.in_ok-certificate.certificate r
-    (record { is_schema = c.in_ok-schema.ensures.exact; is_query = c.in_ok-asked.ensures.ok }) c.in_ok-certificate.ensures)
+    (record { is_schema = c.in_ok-schema.ensures.exact; is_query = c.in_ok-asked.ensures.ok }) c.in_ok-certificate.ensures.sound)
     c.accept.ensures.refused

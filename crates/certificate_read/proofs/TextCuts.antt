@@ -1,0 +1,66 @@
+-- A text is cut behind a line, at the first LF.
+use Rattle.std.proofs.Common.{◌≡◌, ap, ◌∙◌, arith, ℕ, ◌+◌, ◌-◌, ◌==◌, Bool, true, cond, nat_lt, [], ◌∷◌, ◌++◌, length, take, drop, append_assoc, Option, Some, None, Result, Ok, decimal}
+use denote.Ref.{Bor}
+use Rattle.std.proofs.Math.Seq.{take-append_seam, drop-append-add, get_or-append_seam}
+use Rattle.std.proofs.lemmas.Bool.{lt-ltb}
+use Rattle.std.proofs.lemmas.List.{get_or_append_left, length-append, take_all}
+use Rattle.std.proofs.lemmas.List.Sums.{position_or_len_is}
+use Rattle.std.proofs.lemmas.Str.Pattern.{IsSplitOnceResult}
+use Rattle.std.specs.List.{position, position_or_len}
+use Rattle.certificate_parts.specs.declared.part_fault.PartReason.{PartReason}
+use Rattle.certificate_parts.specs.Parts.{IsRead, IsShort, SpellsNumber}
+use Rattle.certificate_parts.specs.PartTexts.{lacks}
+use Rattle.certificate_parts.proofs.AggregateParts.{cut_at}
+use Rattle.certificate_parts.proofs.DecimalNumerals.{short_decimal}
+use Rattle.certificate_parts.proofs.Exits.{not_none, same_some}
+use Rattle.certificate_parts.proofs.Lacking.{each_lacks}
+use Rattle.certificate_parts.proofs.NumberParts.{number_given}
+use Rattle.certificate_text.specs.CertificateText.{Text, ended}
+use Rattle.certificate_read.specs.TextReading.{IsLine, IsWord}
+use Rattle.certificate_read.proofs.LineTexts.{both_parts, one_word, number_part, part_line}
+
+abbrev is_end : ℕ → Bool
+is_end b = b == 10
+
+module _ (line rest now : Text) (free : lacks 10 line ≡ true) (e : now ≡ ended line ++ rest) where
+  whole : now ≡ line ++ (10 ∷ rest)
+  whole = e ∙ append_assoc line (10 ∷ []) rest
+
+  first : position_or_len is_end (line ++ (10 ∷ rest)) ≡ length line
+  first =
+      position_or_len_is is_end (line ++ (10 ∷ rest)) (length line) 0 (omega (arith, length-append line (10 ∷ rest)))
+      (λ k below. ap is_end (get_or_append_left line (10 ∷ rest) 0 k below) ∙ each_lacks 10 line free k 0 below)
+      (λ within. ap is_end (get_or-append_seam line 10 rest 0))
+
+  found : position is_end now ≡ Some (length line)
+  found =
+      let within = lt-ltb (length line) (length (line ++ (10 ∷ rest))) (omega (arith, length-append line (10 ∷ rest))) in
+      ap (position is_end) whole
+      ∙ (λ i. cond (nat_lt (first i) (length (line ++ (10 ∷ rest)))) (Some (first i)) None)
+      ∙ ap (λ b. cond b (Some (length line)) None) within
+
+  pub line_cut_off : (r : Option ℕ) (end : ℕ) → r ≡ position is_end now → r ≡ Some end → (take end now ≡ line) × (take (length now - (end + 1)) (drop (end + 1) now) ≡ rest)
+  line_cut_off r end given is =
+      let at : end ≡ length line = same_some r end (length line) is (given ∙ found) in
+      let behind : drop (end + 1) now ≡ rest = (λ i. drop (at i + 1) (whole i)) ∙ drop-append-add line (10 ∷ rest) 1 in (
+        (λ i. take (at i) (whole i)) ∙ take-append_seam line (10 ∷ rest),
+        take_all (length now - (end + 1)) (drop (end + 1) now) (omega (arith, at, ap length behind, ap length whole, length-append line (10 ∷ rest))) ∙ behind,
+      )
+
+  pub line_not_missing : (r : Option ℕ) → r ≡ position is_end now → r ≡ None → ⊥
+  line_not_missing r given none = not_none r (length line) none (given ∙ found)
+
+-- ---- counts
+
+pub count_line : (word : Text) (n : ℕ) → IsWord word → IsShort n → IsLine (word ++ (32 ∷ decimal n))
+count_line word n h s = part_line _ _ (both_parts _ _ _ _ (one_word word h) (number_part n s))
+
+module _ (word : Text) (n : ℕ) (line : Text) (free : lacks 32 word ≡ true) (short : IsShort n) (e : line ≡ word ++ (32 ∷ decimal n)) where
+  pub count_uncut : IsSplitOnceResult 32 line None → ⊥
+  count_uncut cut = cut_at 32 line word (decimal n) None cut (omega arith) free e
+
+  pub count_word : (x : Bor Text × Bor Text) → IsSplitOnceResult 32 line (Some x) → x.0.now ≡ word
+  count_word x cut = (cut_at 32 line word (decimal n) (Some x) cut (omega arith) free e).0
+
+  pub count_read : (x : Bor Text × Bor Text) (r : Result (Option ℕ) PartReason) → IsSplitOnceResult 32 line (Some x) → IsRead SpellsNumber IsShort x.1.now r → r ≡ Ok (Some n)
+  count_read x r cut h = number_given x.1.now n r h ((cut_at 32 line word (decimal n) (Some x) cut (omega arith) free e).1 ∙ short_decimal n short) short
