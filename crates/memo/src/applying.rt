@@ -1,13 +1,13 @@
 //! A log grows by rules.
 
 use crate::keys::{Operation, Operator};
-use crate::lines::{Member, Memo, unless_refused};
+use crate::lines::{Member, Memo};
+use crate::unadded::{Unadded, unless_refused};
 use algebra::{ClassId, Condition, Expr, LineId};
-use derivation::{Line, LineReason, Numbers, Step};
-use logs::LineFault;
-use rules::{Match, RuleName, Shape, Unfit};
+use derivation::{Line, Numbers, Step};
+use rules::{Match, RuleName, Shape};
 use std::alloc::{AllocError, Global};
-use values::{Boxed, Fault};
+use values::Boxed;
 
 /// What a rule gives of a class.
 #[derive(Drop)]
@@ -57,7 +57,7 @@ fn under<'a>(
 
 impl<'q> Memo<'q> {
     /// What the rule gives of the class of the first line.
-    fn given(&self, alloc: Global, applied: Applied<'_>) -> Result<Given, LineFault> {
+    fn given(&self, alloc: Global, applied: Applied<'_>) -> Result<Given, Unadded> {
         let mut lines = Vec::new(alloc);
         for line in applied.uses {
             if let Some(member) = self.log().member(*line) {
@@ -73,14 +73,8 @@ impl<'q> Memo<'q> {
             Some(first) => first.class,
             None => 0,
         };
-        match applied.rule.apply(alloc, at) {
-            Ok(shape) => Ok(Given { class, shape }),
-            Err(Fault::Memory) => Err(Fault::Memory),
-            Err(Fault::Refused(Unfit::Pattern)) => Err(Fault::Refused(LineReason::OtherForm)),
-            Err(Fault::Refused(Unfit::Condition)) => Err(Fault::Refused(LineReason::FailedCondition(
-                applied.rule,
-            ))),
-        }
+        let shape = applied.rule.apply(alloc, at)?;
+        Ok(Given { class, shape })
     }
 
     /// A line with the operator over a class, if there is one.
@@ -182,9 +176,9 @@ impl<'q> Memo<'q> {
         alloc: Global,
         shape: Shape,
         makes: &mut Vec<LineId>,
-    ) -> Result<Expr, LineFault> {
+    ) -> Result<Expr, Unadded> {
         match shape {
-            Shape::Class(_) => Err(Fault::Refused(LineReason::OtherForm)),
+            Shape::Class(_) => Err(Unadded::Refused),
             Shape::Select(c, x) => {
                 let x = self.class_of(alloc, x.into_inner(), makes)?;
                 Ok(Expr::Select(c, x))
@@ -227,7 +221,7 @@ impl<'q> Memo<'q> {
         alloc: Global,
         shape: Shape,
         makes: &mut Vec<LineId>,
-    ) -> Result<ClassId, LineFault> {
+    ) -> Result<ClassId, Unadded> {
         if let Shape::Class(class) = shape {
             return Ok(class);
         }
@@ -249,7 +243,7 @@ impl<'q> Memo<'q> {
         other: ClassId,
         applied: Applied<'_>,
         makes: &[LineId],
-    ) -> Result<Option<LineId>, LineFault> {
+    ) -> Result<Option<LineId>, Unadded> {
         if self.log().are_same(class, other) {
             return Ok(None);
         }
@@ -266,7 +260,7 @@ impl<'q> Memo<'q> {
         applied: Applied<'_>,
         expr: Expr,
         makes: &[LineId],
-    ) -> Result<LineId, LineFault> {
+    ) -> Result<LineId, Unadded> {
         match self.named(alloc, &expr)? {
             Some(found) => {
                 let mut spelt = Vec::new(alloc);
@@ -282,7 +276,7 @@ impl<'q> Memo<'q> {
         }
     }
 
-    fn applied(&mut self, alloc: Global, applied: Applied<'_>) -> Result<LineId, LineFault> {
+    fn applied(&mut self, alloc: Global, applied: Applied<'_>) -> Result<LineId, Unadded> {
         let Given { class, shape } = self.given(alloc, applied)?;
         if let Shape::Class(other) = shape {
             let line = self.united(alloc, class, other, applied, &[])?;

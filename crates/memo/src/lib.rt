@@ -9,5 +9,6 @@ mod grouped;
 mod groups;
 mod keys;
 mod lines;
+mod unadded;
 
 pub use lines::Memo;

@@ -8,14 +8,14 @@ ghost use Rattle.logs.specs.Sets.{times};
 
 use crate::groups::Groups;
 use crate::keys::{ConditionNumbers, Key, Keys, Operation, operation_of};
+use crate::unadded::{Unadded, unless_refused};
 use algebra::{ClassId, Expr, LineId};
 use derivation::Line;
 use indexmap::IndexMap;
-use logs::{LineFault, Log};
+use logs::Log;
 use props::Fact;
 use query::ids::id_of;
 use std::alloc::{AllocError, Global};
-use values::Fault;
 
 /// So many lines are added at most at once that say of two lines that their classes are the same. Others wait for the next line.
 const MOST_ALIKE: usize = 100_000;
@@ -25,6 +25,8 @@ const MOST_ALIKE: usize = 100_000;
 #[derive(Drop)]
 pub struct Memo<'q> {
     log: Log<'q>,
+    /// No line is added to a log that holds so many.
+    limit: usize,
     groups: Groups,
     conditions: ConditionNumbers,
     /// For each expression, with its classes as they are named, the first line that has it.
@@ -60,24 +62,14 @@ enum Said {
     Nothing,
 }
 
-/// What there is, or none where something is refused.
-pub(crate) fn unless_refused<T: Drop>(
-    found: Result<T, LineFault>,
-) -> Result<Option<T>, AllocError> {
-    match found {
-        Ok(found) => Ok(Some(found)),
-        Err(Fault::Memory) => Err(AllocError),
-        Err(Fault::Refused(_)) => Ok(None),
-    }
-}
-
 impl<'q> Memo<'q> {
-    /// The lines of a log, and others behind them by which lines that have one expression are of one class. It takes the time of all conditions,
-    /// and of what has other groups as classes become the same.
-    pub fn of(alloc: Global, log: Log<'q>) -> Result<Memo<'q>, AllocError> {
+    /// The lines of a log, and others behind them by which lines that have one expression are of one class. No line is ever added to a log that
+    /// holds `limit` lines. It takes the time of all conditions, and of what has other groups as classes become the same.
+    pub fn of(alloc: Global, log: Log<'q>, limit: usize) -> Result<Memo<'q>, AllocError> {
         let count = id_of(log.len())?;
         let mut memo = Memo {
             log,
+            limit,
             groups: Groups::none(alloc),
             conditions: ConditionNumbers::none(alloc),
             named: IndexMap::new(alloc),
@@ -174,8 +166,11 @@ impl<'q> Memo<'q> {
         Ok(())
     }
 
-    /// Adds a line, if it may stand.
-    fn append(&mut self, alloc: Global, line: Line) -> Result<LineId, LineFault> {
+    /// Adds a line, if it may stand and there is room for it.
+    fn append(&mut self, alloc: Global, line: Line) -> Result<LineId, Unadded> {
+        if self.log.len() >= self.limit {
+            return Err(Unadded::Refused);
+        }
         let number = id_of(self.log.len())?;
         self.log.push(alloc, line)?;
         self.note(alloc, number)?;
@@ -199,7 +194,7 @@ impl<'q> Memo<'q> {
     }
 
     /// Adds a line, if it may stand, and what follows from it of which classes are the same.
-    pub(crate) fn push(&mut self, alloc: Global, line: Line) -> Result<LineId, LineFault> {
+    pub(crate) fn push(&mut self, alloc: Global, line: Line) -> Result<LineId, Unadded> {
         let number = self.append(alloc, line)?;
         self.close(alloc)?;
         Ok(number)
@@ -235,7 +230,7 @@ impl<'q> Memo<'q> {
     }
 
     /// The first line with an expression, its classes being named as here: a new one where there is none.
-    pub(crate) fn founded(&mut self, alloc: Global, expr: Expr) -> Result<Member, LineFault> {
+    pub(crate) fn founded(&mut self, alloc: Global, expr: Expr) -> Result<Member, Unadded> {
         if let Some(found) = self.named(alloc, &expr)? {
             return Ok(found);
         }

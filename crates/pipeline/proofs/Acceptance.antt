@@ -38,7 +38,7 @@ no_query_accepted schema text certificate S (refusal.Table n r) is h = absurd h
 no_query_accepted schema text certificate S (refusal.TableDevice n) is h = absurd h
 no_query_accepted schema text certificate S refusal.Output is h = absurd h
 
-is_memory : {R : Type 0} → Fault R → Bool
+abbrev is_memory : {R : Type 0} → Fault R → Bool
 is_memory fault.Memory = true
 is_memory (fault.Refused r) = false
 

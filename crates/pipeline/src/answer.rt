@@ -38,12 +38,14 @@ pub(crate) fn answer_by<W: AnswerOutput>(
     Ok(())
 }
 
-/// Writes what the plan gives that is chosen for the query by the statistics of the database. The check accepts its certificate.
+/// Writes what the plan gives that is chosen for the query by the statistics of the database, over a log of at most `limit` lines. The check
+/// accepts its certificate.
 pub(crate) fn answer_by_plan<W: AnswerOutput>(
     alloc: Global,
     schema: &Schema,
     query: &BoundQuery,
     database: &Database<'_>,
+    limit: usize,
     out: &mut W,
 ) -> Result<(), Refusal>
     requires bound { IsBoundOver schema.now query.now }
@@ -55,7 +57,7 @@ pub(crate) fn answer_by_plan<W: AnswerOutput>(
     ensures quiet { OnOk result (W.failures out.new ≡ W.failures out.old) }
 {
     let statistics = Statistics::of(alloc, database)?;
-    let planned = plan(alloc, query, &statistics)?;
+    let planned = plan(alloc, query, &statistics, limit)?;
     let checked = check(alloc, schema, query, &planned.certificate)?;
     answer_by(alloc, &checked, database, out)
 }

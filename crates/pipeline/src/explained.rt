@@ -82,17 +82,18 @@ fn explained_query(
     schema: &Schema,
     query: &BoundQuery,
     statistics: &Statistics,
+    limit: usize,
 ) -> Result<Vec<u8>, Refusal>
     requires { IsBoundOver schema.now query.now }
     ensures text { IfOk result (λ text. WithChecked schema.now query.now (λ c. text.items ≡ plan_in form statistics.now query.now c)) }
     ensures memory { IfErr result (λ r. r ≡ Memory) }
 {
-    let planned = planner::plan(alloc, query, statistics)?;
+    let planned = planner::plan(alloc, query, statistics, limit)?;
     plan_in(alloc, form, query.query(), statistics, &planned.certificate)
 }
 
 /// Plans a query and explains the plan: reads the schema, the text and the statistics, and shows the plan that `plan` finds by these, with the
-/// rows and the cost that are estimated of each node.
+/// rows and the cost that are estimated of each node, over a log of at most `limit` lines.
 ///
 /// The first fault is reported, in the order schema, text, scope, statistics.
 pub fn explain(
@@ -101,6 +102,7 @@ pub fn explain(
     schema: &[u8],
     text: &[u8],
     statistics: &[u8],
+    limit: usize,
 ) -> Result<Vec<u8>, Refusal>
     ensures explained { IfOk result (λ written. IsExplained form schema.now text.now statistics.now written.items) }
     ensures refused { IfErr result (IsNotExplained schema.now text.now statistics.now) }
@@ -108,5 +110,5 @@ pub fn explain(
     let schema = Schema::read(alloc, schema)?;
     let query = bound_query(alloc, &schema, text)?;
     let statistics = Statistics::read(alloc, &schema, statistics)?;
-    explained_query(alloc, form, &schema, &query, &statistics)
+    explained_query(alloc, form, &schema, &query, &statistics, limit)
 }

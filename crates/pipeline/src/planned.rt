@@ -21,17 +21,18 @@ fn planned_text(
     schema: &Schema,
     query: &BoundQuery,
     statistics: &Statistics,
+    limit: usize,
 ) -> Result<Vec<u8>, Refusal>
     requires { IsBoundOver schema.now query.now }
     ensures planned { IfOk result (λ text. WithChecked schema.now query.now (λ c. written c ≡ Ok text.items)) }
     ensures refused { IfErr result (IsUnwritten schema.now query.now) }
 {
-    let planned = planner::plan(alloc, query, statistics)?;
+    let planned = planner::plan(alloc, query, statistics, limit)?;
     Ok(write(alloc, &planned.certificate)?)
 }
 
 /// Plans a query: reads the schema, the text and the statistics, and gives the text of a certificate that `check` accepts for the query. Its
-/// plan is the cheapest that was found.
+/// plan is the cheapest that was found over a log of at most `limit` lines.
 ///
 /// The first fault is reported, in the order schema, text, scope, statistics.
 pub fn plan(
@@ -39,6 +40,7 @@ pub fn plan(
     schema: &[u8],
     text: &[u8],
     statistics: &[u8],
+    limit: usize,
 ) -> Result<Vec<u8>, Refusal>
     ensures planned { IfOk result (λ certificate. Accepts schema.now text.now certificate.items) }
     ensures refused { IfErr result (IsNotPlanned schema.now text.now statistics.now) }
@@ -46,5 +48,5 @@ pub fn plan(
     let schema = Schema::read(alloc, schema)?;
     let query = bound_query(alloc, &schema, text)?;
     let statistics = Statistics::read(alloc, &schema, statistics)?;
-    planned_text(alloc, &schema, &query, &statistics)
+    planned_text(alloc, &schema, &query, &statistics, limit)
 }

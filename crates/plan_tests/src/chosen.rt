@@ -13,6 +13,9 @@ use std::alloc::{AllocError, Global};
 use std::fmt::Write;
 use std::str;
 
+/// Lines of a log, at most.
+const LIMIT: usize = 20_000;
+
 /// Of both tables: rows, and pages.
 const STATISTICS: &str =
     r#"{"tables":{"dept":{"rows":3,"pages":1,"indexes":[]},"emp":{"rows":4,"pages":1,"indexes":[{"keys":4,"pages":1}]}}}"#;
@@ -28,6 +31,7 @@ impl Reporting for Planned {
             COMPANY.as_bytes(),
             query.as_bytes(),
             statistics.as_bytes(),
+            LIMIT,
         );
         match planned {
             Ok(certificate) => {
@@ -73,6 +77,7 @@ impl Reporting for Explained {
             COMPANY.as_bytes(),
             query.as_bytes(),
             STATISTICS.as_bytes(),
+            LIMIT,
         );
         match shown {
             Ok(plan) => push_lines(
@@ -112,7 +117,7 @@ fn push_unsearched(
 ) -> Result<(), AllocError>
     requires { TablesAreOver schema.now query.now }
 {
-    let planned = planner::plan(alloc, query, statistics)?;
+    let planned = planner::plan(alloc, query, statistics, LIMIT)?;
     if !planned.is_searched {
         writeln!(found, "{text}: the canonical plan")?;
     }

@@ -11,6 +11,9 @@ use std::alloc::{AllocError, Global};
 use store::Database;
 use values::Fault;
 
+/// Lines of a log, at most.
+const LIMIT: usize = 20_000;
+
 const TABLES: Tables<'static> = Tables {
     schema: COMPANY,
     first: DEPT,
@@ -98,8 +101,10 @@ fn log_of<'q>(alloc: Global, query: &'q BoundQuery, words: &str) -> Result<Log<'
     Ok(log)
 }
 
-/// Reports what comes of a memo of lines, ` / ` and what is done with it, and then the kinds of all lines.
-struct Grown;
+/// Reports what comes of a memo of lines, ` / ` and what is done with it, and then the kinds of all lines. The log has so many at most.
+struct Grown {
+    limit: usize,
+}
 
 impl QueryReporting for Grown {
     fn report(
@@ -111,7 +116,7 @@ impl QueryReporting for Grown {
         reported: &mut String,
     ) -> Result<(), AllocError> {
         let (lines, deeds) = cut(more, " / ");
-        let mut memo = Memo::of(alloc, log_of(alloc, query, lines)?)?;
+        let mut memo = Memo::of(alloc, log_of(alloc, query, lines)?, self.limit)?;
         for deed in deeds.split("; ") {
             push_done(alloc, reported, &mut memo, deed)?;
             reported.push_str("; ")?;
@@ -133,7 +138,7 @@ fn lines_are_added_once(rt: HostRuntime) {
     const MADE: &str =
         "SELECT d.id FROM dept d, emp e => F get 0; F get 1; F join [] 0 1; F select [>(c0,i5)] 2 / apply S2 3,2; apply S2 3,2; found select [>(c0,i5)] 0; found select [>(c0,i5)] 7; parents 4 => 5; 5; 4; none; 5; lines F F F F F A3";
     assert_eq!(rt;
-        query_differences(rt.alloc(), TABLES, &[TURNED, MADE], &Grown).as_deref(),
+        query_differences(rt.alloc(), TABLES, &[TURNED, MADE], &Grown { limit: LIMIT }).as_deref(),
         Ok("")
     );
 }
@@ -148,7 +153,13 @@ SELECT id FROM dept => F get 0; F keep 0 0; F distinct 1; F select [exists(1)] 0
         "SELECT id FROM emp => F get 0; F keep 0 0; F keep 0 0; F distinct 1; F distinct 2; F distinct 4 / members 2; members 4; parents 2; parents 3 => 1 2; 3 4; 3 4; 5; lines F F F F F F G1,2 G3,4
 SELECT id FROM emp => F get 0; F keep 0 0; F keep 0 0; G 1 2; F distinct 1; F distinct 2 / members 2; members 5; parents 1 => 1 2; 4 5; 4 5; lines F F F G1,2 F F G4,5";
     assert_eq!(rt;
-        query_differences(rt.alloc(), TABLES, &[LATER, AT_FIRST], &Grown).as_deref(),
+        query_differences(
+            rt.alloc(),
+            TABLES,
+            &[LATER, AT_FIRST],
+            &Grown { limit: LIMIT }
+        )
+        .as_deref(),
         Ok("")
     );
 }
@@ -162,7 +173,7 @@ fn expressions_are_found_by_same_classes(rt: HostRuntime) {
         "SELECT d.id FROM dept d, emp e => F get 0; F get 1; F distinct 0; F select [>(c0,i5)] 2; F join [] 0 1; F select [>(c0,i5)] 4; L 0 0 notnull 0; L 0 0 weak 0; L 0 0 strong 0 / apply D1 2; apply S2 5,4; apply S2 5,4; found join [] 3 1; members 3; members 5; parents 2 => 9; 12; 12; 5; 3 10; 5 12; 2 3 4 10; lines F F F F F F L0 L0 L0 S2,0 F G3,10 A5
 SELECT d.id FROM dept d, emp e => F get 0; F get 1; F distinct 0; F select [>(c0,i5)] 2; F join [] 0 1; F select [>(c0,i5)] 4; L 0 0 notnull 0; L 0 0 weak 0; L 0 0 strong 0; F join [] 3 1 / apply D1 2; apply S2 5,4; members 5; apply S2 5,4 => 10; 13; 5 9 13; 9; lines F F F F F F L0 L0 L0 F S2,0 F G3,11 A5 G9,13";
     assert_eq!(rt;
-        query_differences(rt.alloc(), TABLES, &[FOUND, MADE], &Grown).as_deref(),
+        query_differences(rt.alloc(), TABLES, &[FOUND, MADE], &Grown { limit: LIMIT }).as_deref(),
         Ok("")
     );
 }
@@ -174,7 +185,18 @@ fn classes_with_one_expression_are_same(rt: HostRuntime) {
         "SELECT d.id FROM dept d, emp e => F get 0; F get 1; F join [] 0 1; F join [] 1 0; F keep 0 2; F keep 0 3 / apply J1 2; members 2; members 4; apply J1 2; apply J1 3 => 3; 2 3; 4 5; 3; 2; lines F F F F F F S2,3 G4,5
 SELECT d.id FROM dept d, emp e => F get 0; F get 1; F join [] 0 1; F select [>(c0,i5)] 2; F select [>(c0,i5)] 0; F join [] 4 1 / apply S2 3,2; members 3; apply S2 3,2 => 5; 3 5; 5; lines F F F F F F S3,5";
     assert_eq!(rt;
-        query_differences(rt.alloc(), TABLES, &[CASES], &Grown).as_deref(),
+        query_differences(rt.alloc(), TABLES, &[CASES], &Grown { limit: LIMIT }).as_deref(),
+        Ok("")
+    );
+}
+
+/// Nothing is added to a log that holds as many lines as it may.
+#[test]
+fn full_logs_stay(rt: HostRuntime) {
+    const CASES: &str =
+        "SELECT d.id FROM dept d, emp e => F get 0; F get 1; F join [] 0 1 / apply J1 2; found select [>(c0,i5)] 0; learn 0 notnull 0; found get 1; apply J1 3 => 3; none; not known; 1; 2; lines F F F A2";
+    assert_eq!(rt;
+        query_differences(rt.alloc(), TABLES, &[CASES], &Grown { limit: 4 }).as_deref(),
         Ok("")
     );
 }

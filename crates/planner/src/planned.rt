@@ -1,6 +1,6 @@
 //! The plan that is chosen for a query.
 
-ghost use Rattle.std.specs.Prelude.{◌≡◌, true, nat_le, reverse, Ok, IfOk, IfSome};
+ghost use Rattle.std.specs.Prelude.{◌≡◌, ◌≤◌, true, nat_le, length, reverse, Ok, IfOk, IfSome};
 ghost use Rattle.query.specs.Bound.{is_bound};
 ghost use Rattle.frame.specs.Frames.{query_frame};
 ghost use Rattle.frame.specs.FormedFrames.{own_aggregates};
@@ -80,10 +80,15 @@ fn cheapest(
     }
 }
 
-/// The log with what is simpler, and with lines by which good join trees are among its plans. These put selections over selections, so it is
-/// simplified again.
-fn grown<'q>(alloc: Global, log: Log<'q>, statistics: &Statistics) -> Result<Log<'q>, AllocError> {
-    let mut memo = Memo::of(alloc, log)?;
+/// The log with what is simpler, and with lines by which good join trees are among its plans, up to so many lines. These put selections over
+/// selections, so it is simplified again.
+fn grown<'q>(
+    alloc: Global,
+    log: Log<'q>,
+    statistics: &Statistics,
+    limit: usize,
+) -> Result<Log<'q>, AllocError> {
+    let mut memo = Memo::of(alloc, log, limit)?;
     simplify(alloc, &mut memo)?;
     seed(alloc, &mut memo, statistics)?;
     simplify(alloc, &mut memo)?;
@@ -95,6 +100,7 @@ fn searched(
     alloc: Global,
     query: &Query,
     statistics: &Statistics,
+    limit: usize,
     known: &Certificate,
 ) -> Result<Option<Certificate>, AllocError> {
     let frame = frame_of(alloc, query)?;
@@ -102,7 +108,7 @@ fn searched(
     let Some(log) = log_of(alloc, query, own.as_slice(), known.lines.as_slice())? else {
         return Ok(None);
     };
-    let log = grown(alloc, log, statistics)?;
+    let log = grown(alloc, log, statistics, limit)?;
     let Some(plan) = cheapest(alloc, query, statistics, &log, known)? else {
         return Ok(None);
     };
@@ -147,18 +153,23 @@ fn fitting_log<'q>(
     }
 }
 
-/// Whether a certificate replays for the query, and its plan costs no more than the known one.
+/// Whether a certificate of so many lines at most replays for the query, and its plan costs no more than the known one.
 fn is_fitting(
     alloc: Global,
     query: &Query,
     statistics: &Statistics,
+    limit: usize,
     certificate: &Certificate,
     known: &Certificate,
 ) -> Result<bool, AllocError>
     requires { is_bound query.now ≡ true }
     ensures replays { IfOk result (λ is. is ≡ true → replayed query.now certificate.now ≡ Ok certificate.now) }
     ensures cheap { IfOk result (λ is. is ≡ true → IsAsCheap statistics.now query.now certificate.now known.now) }
+    ensures within { IfOk result (λ is. is ≡ true → length certificate.now.lines ≤ limit) }
 {
+    if certificate.lines.len() > limit {
+        return Ok(false);
+    }
     let frame = frame_of(alloc, query)?;
     let own = own_aggregates(alloc, frame.as_slice())?;
     match fitting_log(alloc, query, frame.as_slice(), own.as_slice(), certificate)? {
@@ -167,22 +178,24 @@ fn is_fitting(
     }
 }
 
-/// The certificate, if it replays for the query and its plan costs no more than the known one.
+/// The certificate, if it has so many lines at most, replays for the query, and its plan costs no more than the known one.
 fn fitting(
     alloc: Global,
     query: &Query,
     statistics: &Statistics,
+    limit: usize,
     found: Option<Certificate>,
     known: &Certificate,
 ) -> Result<Option<Certificate>, AllocError>
     requires { is_bound query.now ≡ true }
     ensures replays { IfOk result (λ fitting. IfSome fitting (λ certificate. replayed query.now certificate ≡ Ok certificate)) }
     ensures cheap { IfOk result (λ fitting. IfSome fitting (λ certificate. IsAsCheap statistics.now query.now certificate known.now)) }
+    ensures within { IfOk result (λ fitting. IfSome fitting (λ certificate. length certificate.lines ≤ limit)) }
 {
     let Some(certificate) = found else {
         return Ok(None);
     };
-    if is_fitting(alloc, query, statistics, &certificate, known)? {
+    if is_fitting(alloc, query, statistics, limit, &certificate, known)? {
         Ok(Some(certificate))
     } else {
         Ok(None)
@@ -193,14 +206,16 @@ fn plan_of_tree(
     alloc: Global,
     query: &Query,
     statistics: &Statistics,
+    limit: usize,
 ) -> Result<Planned, AllocError>
     requires { is_bound query.now ≡ true }
     ensures replays { IfOk result (λ planned. replayed query.now planned.certificate ≡ Ok planned.certificate) }
     ensures cheap { IfOk result (λ planned. IsNotDearer statistics.now query.now planned.certificate) }
+    ensures within { IfOk result (λ planned. planned.is_searched ≡ true → length planned.certificate.lines ≤ limit) }
 {
     let known = certificate_of(alloc, query)?;
-    let found = searched(alloc, query, statistics, &known)?;
-    match fitting(alloc, query, statistics, found, &known)? {
+    let found = searched(alloc, query, statistics, limit, &known)?;
+    match fitting(alloc, query, statistics, limit, found, &known)? {
         Some(certificate) => Ok(Planned {
             certificate,
             is_searched: true,
@@ -212,15 +227,19 @@ fn plan_of_tree(
     }
 }
 
-/// Plans a query: a certificate that replays for it, whose plan is the cheapest that was found by the statistics.
+/// Plans a query: a certificate that replays for it, whose plan is the cheapest that was found by the statistics over a log of at most `limit`
+/// lines.
 pub fn plan(
     alloc: Global,
     query: &BoundQuery,
     statistics: &Statistics,
+    limit: usize,
 ) -> Result<Planned, AllocError>
     ensures replays { IfOk result (λ planned. replayed query.now planned.certificate ≡ Ok planned.certificate) }
     // It costs no more than the canonical plan, whatever was searched.
     ensures cheap { IfOk result (λ planned. IsNotDearer statistics.now query.now planned.certificate) }
+    // No line is added past the limit. The canonical certificate has the lines of its query's frame, however many these are.
+    ensures within { IfOk result (λ planned. planned.is_searched ≡ true → length planned.certificate.lines ≤ limit) }
 {
-    plan_of_tree(alloc, query.query(), statistics)
+    plan_of_tree(alloc, query.query(), statistics, limit)
 }

@@ -1,5 +1,6 @@
 //! The program's command line.
 
+use clap::builder::ValueParser;
 use clap::{Arg, ArgAction, Command};
 use std::alloc::{AllocError, Global};
 
@@ -25,6 +26,17 @@ fn of_query<'a>(alloc: Global, name: &'a str, about: &'a str) -> Result<Command<
 /// The place of statistics.
 fn statistics(alloc: Global) -> Arg<'static> {
     place(alloc, "STATS", "the statistics of the tables, a JSON file")
+}
+
+/// How many lines a log may have that a plan is searched for over.
+fn limit(alloc: Global) -> Arg<'static> {
+    Arg::new(alloc, "limit")
+        .long("limit")
+        .value_name("LINES")
+        .value_parser(ValueParser::unsigned(2_000, 100_000))
+        .default_value("20000")
+        .action(ArgAction::Set)
+        .help("so many lines the derivation has at most, 2000 to 100000")
 }
 
 /// How a plan is shown.
@@ -53,7 +65,8 @@ pub fn command<'a>(alloc: Global) -> Result<Command<'a>, AllocError> {
         "query",
         "Answers a query over tables in CSV files, by a plan that was checked",
     )?
-    .arg(folder(alloc))?;
+    .arg(folder(alloc))?
+    .arg(limit(alloc))?;
     let meaning = of_query(
         alloc,
         "meaning",
@@ -65,14 +78,16 @@ pub fn command<'a>(alloc: Global) -> Result<Command<'a>, AllocError> {
         "plan",
         "Plans a query by statistics, and writes the certificate of its plan",
     )?
-    .arg(statistics(alloc))?;
+    .arg(statistics(alloc))?
+    .arg(limit(alloc))?;
     let explain = of_query(
         alloc,
         "explain",
         "Plans a query by statistics, and shows its plan with rows and costs",
     )?
     .arg(statistics(alloc))?
-    .arg(format(alloc))?;
+    .arg(format(alloc))?
+    .arg(limit(alloc))?;
     let check = of_query(
         alloc,
         "check",

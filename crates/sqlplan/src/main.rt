@@ -57,14 +57,14 @@ fn open_tables(
 /// What is asked of a query, with the paths of the files besides its schema and its text.
 #[derive(Clone, Copy)]
 enum Asked<'a> {
-    /// Its answer by a plan that was checked, over the tables of a folder.
-    Query(&'a str),
+    /// Its answer by a plan that was checked, over the tables of a folder; and how many lines the plan's log may have.
+    Query(&'a str, usize),
     /// Its answer by the slow evaluator, over the tables of a folder.
     Meaning(&'a str),
-    /// The certificate of a plan, by statistics.
-    Plan(&'a str),
-    /// A plan by statistics, shown so.
-    Explain(&'a str, PlanForm),
+    /// The certificate of a plan, by statistics, with so many lines at most.
+    Plan(&'a str, usize),
+    /// A plan by statistics, shown so, over a log of so many lines at most.
+    Explain(&'a str, PlanForm, usize),
     /// Whether a certificate is accepted.
     Check(&'a str),
     /// Its answer by the plan of a certificate, over the tables of a folder.
@@ -80,14 +80,22 @@ fn form(arguments: &ArgMatches<'_>) -> Option<PlanForm> {
     }
 }
 
+/// How many lines a log may have.
+fn limit(arguments: &ArgMatches<'_>) -> Option<usize> {
+    arguments.get_one::<usize>("limit")
+}
+
 impl<'a> Asked<'a> {
     /// What a command asks.
     fn of(command: &str, arguments: &'a ArgMatches<'_>) -> Option<Asked<'a>> {
         match command {
-            "query" => Some(Asked::Query(arguments.get_str("DIR")?)),
+            "query" => Some(Asked::Query(arguments.get_str("DIR")?, limit(arguments)?)),
             "meaning" => Some(Asked::Meaning(arguments.get_str("DIR")?)),
-            "plan" => Some(Asked::Plan(arguments.get_str("STATS")?)),
-            "explain" => Some(Asked::Explain(arguments.get_str("STATS")?, form(arguments)?)),
+            "plan" => Some(Asked::Plan(arguments.get_str("STATS")?, limit(arguments)?)),
+            "explain" => {
+                let statistics = arguments.get_str("STATS")?;
+                Some(Asked::Explain(statistics, form(arguments)?, limit(arguments)?))
+            }
             "check" => Some(Asked::Check(arguments.get_str("CERT")?)),
             "run" => Some(Asked::Run(arguments.get_str("CERT")?, arguments.get_str("DIR")?)),
             _ => None,
@@ -118,7 +126,7 @@ fn output(rt: &HostRuntime) -> Result<CountedOutput<BufWriter<Printer<'_, HostRu
 }
 
 /// Answers a query on standard output by a plan that was checked. The schema is that of the bytes.
-fn answer(rt: &HostRuntime, given: Given<'_>, folder: &str) -> Result<(), Stop>
+fn answer(rt: &HostRuntime, given: Given<'_>, folder: &str, limit: usize) -> Result<(), Stop>
     requires { schema_of given.bytes.now ≡ Ok given.schema.now }
 {
     let mut tables = open_tables(rt, given.schema, folder)?;
@@ -128,6 +136,7 @@ fn answer(rt: &HostRuntime, given: Given<'_>, folder: &str) -> Result<(), Stop>
         given.bytes,
         given.text,
         tables,
+        limit,
         &mut output(rt)?,
     );
     ended(rt.alloc(), given.schema, outcome)
@@ -180,9 +189,20 @@ fn print_bytes(rt: &HostRuntime, bytes: &[u8]) -> Result<(), Stop> {
 }
 
 /// Writes on standard output the certificate of a plan, by the statistics of a file.
-fn plan_by_statistics(rt: &HostRuntime, given: Given<'_>, statistics: &str) -> Result<(), Stop> {
+fn plan_by_statistics(
+    rt: &HostRuntime,
+    given: Given<'_>,
+    statistics: &str,
+    limit: usize,
+) -> Result<(), Stop> {
     let statistics = bytes_of(rt, statistics)?;
-    match plan(rt.alloc(), given.bytes, given.text, statistics.as_slice()) {
+    match plan(
+        rt.alloc(),
+        given.bytes,
+        given.text,
+        statistics.as_slice(),
+        limit,
+    ) {
         Ok(certificate) => print_bytes(rt, certificate.as_slice()),
         Err(refusal) => Err(Stop::of_refusal(rt.alloc(), &refusal, Some(given.schema))),
     }
@@ -194,6 +214,7 @@ fn explain_by_statistics(
     given: Given<'_>,
     statistics: &str,
     form: PlanForm,
+    limit: usize,
 ) -> Result<(), Stop> {
     let statistics = bytes_of(rt, statistics)?;
     match explain(
@@ -202,6 +223,7 @@ fn explain_by_statistics(
         given.bytes,
         given.text,
         statistics.as_slice(),
+        limit,
     ) {
         Ok(text) => print_bytes(rt, text.as_slice()),
         Err(refusal) => Err(Stop::of_refusal(rt.alloc(), &refusal, Some(given.schema))),
@@ -236,10 +258,12 @@ fn serve(
         text: text.as_slice(),
     };
     match asked {
-        Asked::Query(folder) => answer(rt, given, folder),
+        Asked::Query(folder, limit) => answer(rt, given, folder, limit),
         Asked::Meaning(folder) => answer_by_meaning(rt, given, folder),
-        Asked::Plan(statistics) => plan_by_statistics(rt, given, statistics),
-        Asked::Explain(statistics, form) => explain_by_statistics(rt, given, statistics, form),
+        Asked::Plan(statistics, limit) => plan_by_statistics(rt, given, statistics, limit),
+        Asked::Explain(statistics, form, limit) => {
+            explain_by_statistics(rt, given, statistics, form, limit)
+        }
         Asked::Check(certificate) => accept(rt, given, certificate),
         Asked::Run(certificate, folder) => answer_by_certificate(rt, given, certificate, folder),
     }
