@@ -6,6 +6,7 @@ pub mod ConjunctParts
 pub mod ConjunctTexts
 pub mod CursorSteps
 pub mod DecimalNumerals
+pub mod DifferentTexts
 pub mod Exits
 pub mod Lacking
 pub mod NumberLists

@@ -1,5 +1,6 @@
 pub mod Conditions
 pub mod DecimalNumerals
+pub mod DifferentTexts
 pub mod Numerals
 pub mod Parts
 pub mod PartTexts

@@ -9,3 +9,4 @@ pub mod decimal_law;
 pub mod numbers;
 pub mod part_fault;
 mod terms;
+pub mod text_law;
