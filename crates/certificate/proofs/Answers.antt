@@ -64,13 +64,13 @@ ordered-is instances E cols p ordered g n m fits =
     (after-is cols node (map (plan_order instances) (out-Plan p).inputs) (map (plan_fits instances E cols) (out-Plan p).inputs) ordered n m first.0 first.2).delivered
 
 -- what a certificate that replays leaves: a log, and a plan that fits
-record IsReplayed (q : Query) (c : Certificate) : Type 0 where
-  log : Log
-  is_log : lines_replay q [] c.lines ≡ Ok log
-  last : ℕ
-  fits : plan_fits q.tables log (class_columns q.tables (entries log)) c.plan (is_delivered q c.plan) (root q) (length log) ≡ Ok last
+pub record IsReplayed (q : Query) (c : Certificate) : Type 0 where
+  pub log : Log
+  pub is_log : lines_replay q [] c.lines ≡ Ok log
+  pub last : ℕ
+  pub fits : plan_fits q.tables log (class_columns q.tables (entries log)) c.plan (is_delivered q c.plan) (root q) (length log) ≡ Ok last
 
-replayed-is : (q : Query) (c d : Certificate) → replayed q c ≡ Ok d → IsReplayed q c
+pub replayed-is : (q : Query) (c d : Certificate) → replayed q c ≡ Ok d → IsReplayed q c
 unfolding replayed
 replayed-is q c d ok =
     let first = both_ok (lines_replay q [] c.lines) (λ E. fitted_plan q E c.plan >>= λ p. Ok c) d ok in
@@ -79,7 +79,7 @@ replayed-is q c d ok =
     record { log = first.0; is_log = first.1; last = third.0; fits = third.1 }
 
 -- what its log says is true in each database that satisfies the schema
-log-true : (S : Schema) (D : Database) (q : Query) → Satisfies S D → TablesAreOver S q → (c : Certificate) (is : IsReplayed q c) → IsTrue q.tables (own_aggregates q) (tables_of S D) is.log
+pub log-true : (S : Schema) (D : Database) (q : Query) → Satisfies S D → TablesAreOver S q → (c : Certificate) (is : IsReplayed q c) → IsTrue q.tables (own_aggregates q) (tables_of S D) is.log
 log-true S D q satisfies over c is = logs_true S D satisfies q.tables over (own_aggregates q) is.log (log-replays q c.lines [] is.log tt is.is_log)
 
 record IsRootOutput (q : Query) (c : Certificate) (D : Tables) : Type 0 where

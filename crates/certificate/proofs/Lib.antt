@@ -4,6 +4,7 @@ pub mod Fits
 pub mod FittedPlans
 pub mod Founded
 pub mod FrameLines
+pub mod NodeInputs
 pub mod Operators
 pub mod Ordered
 pub mod OrderKeys

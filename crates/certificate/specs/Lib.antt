@@ -1,3 +1,4 @@
 pub mod Codes
+pub mod NodeInputs
 pub mod QueryOrders
 pub mod Replay
