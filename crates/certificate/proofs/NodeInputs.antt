@@ -33,7 +33,7 @@ use Rattle.physical.specs.declared.plan.Operator.{Operator}
 use Rattle.physical.specs.declared.plan.Operator.TheVariants.{Scan, IndexScan, Filter, FilterSubqueries, Projection, JoinRows, IndexJoin, GroupRows, DistinctRows}
 use Rattle.physical.specs.declared.plan.Node.{Node}
 use Rattle.physical.specs.declared.plan.Node.TheVariants.{Implements, Sort}
-use Rattle.physical.specs.declared.plan.Plan.{Plan, roll-Plan, out-roll-Plan, fold-roll-Plan, ind-Plan, map-Plan}
+use Rattle.physical.specs.declared.plan.Plan.{Plan, roll-Plan, out-Plan, out-roll-Plan, fold-roll-Plan, fold_out-Plan, ind-Plan, map-Plan}
 use Rattle.physical.specs.declared.plan.Plan.TheOpen.{Plan-F}
 use Rattle.physical.specs.Orders.{are_columns, plan_order}
 use Rattle.certificate.specs.declared.certificate.CheckRefusal.{CheckRefusal}
@@ -95,6 +95,13 @@ module _ (instances : List TableInstance) (own : List Aggregation) (cols : ℕ �
   takes (DistinctRows m) x sides n h formed e = cc
 
 -- ---- plans
+
+-- the nodes of a plan, by its root
+pub list_at : (p : Plan) → nodes_of p ≡ ((out-Plan p).node, length (out-Plan p).inputs) ∷ flat_map nodes_of (out-Plan p).inputs
+unfolding nodes_of
+list_at p =
+    let own = out-Plan p in
+    fold_out-Plan (List (Node × ℕ)) nodes_layer p ∙ (λ i. (own.node, length-map own.inputs nodes_of i) ∷ flat_map-map (λ nodes. nodes) nodes_of own.inputs i)
 
 abbrev AllTake : List (Node × ℕ) → Type 0
 AllTake nodes = AllByRecursion (λ n. NodeTakes n.0 n.1) nodes

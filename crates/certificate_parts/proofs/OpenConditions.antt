@@ -23,7 +23,7 @@ pub text-at : (x : Condition-F Condition) (c : Condition) → roll-Condition x �
 unfolding condition_text
 text-at x c is = ap condition_text (sym is) ∙ fold-roll-Condition (List ℕ) text_layer x
 
-nests-at : (x : Condition-F Condition) (c : Condition) (room : ℕ) → roll-Condition x ≡ c → nests_within c room ≡ nests_layer (map-Condition Condition (ℕ → Bool) nests_within x) room
+pub nests-at : (x : Condition-F Condition) (c : Condition) (room : ℕ) → roll-Condition x ≡ c → nests_within c room ≡ nests_layer (map-Condition Condition (ℕ → Bool) nests_within x) room
 unfolding nests_within
 nests-at x c room is = ap (λ c. nests_within c room) (sym is) ∙ ap (λ f. f room) (fold-roll-Condition (ℕ → Bool) nests_layer x)
 
@@ -45,7 +45,7 @@ each_readable room (c ∷ cs) h s =
     let terms = all_split IsReadableTerm (terms_of c) (flat_map (λ c. c) (map terms_of cs)) s in
     ((nests.0, terms.0), each_readable room cs nests.1 terms.1)
 
-one-less : (room : ℕ) → (room + 1) - 1 ≡ room
+pub one-less : (room : ℕ) → (room + 1) - 1 ≡ room
 one-less room = omega arith
 
 more-texts : (cs : List Condition) → flat_map (λ t. codes "," ++ t) (map condition_text cs) ≡ more_text cs

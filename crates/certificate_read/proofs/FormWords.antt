@@ -11,6 +11,7 @@ use Rattle.derivation.specs.declared.line.Line.{Line}
 use Rattle.derivation.specs.declared.line.Line.TheVariants.{Founds, Adds, Unites, Alike, Gives}
 use Rattle.certificate_parts.specs.Parts.{IsShort}
 use Rattle.certificate_text.specs.CertificateText.{Text, numbers_text, aggregations_text, conjuncts_text}
+use Rattle.certificate_text.specs.Readable.{AreAggregations, AreColumns, AreConjuncts, IsReadableExpr, IsReadableFact, IsReadableLine, IsReadableStep}
 use Rattle.certificate_read.specs.declared.forms.ExprForm.{ExprForm}
 use Rattle.certificate_read.specs.declared.forms.ExprForm.TheVariants as expr
 use Rattle.certificate_read.specs.declared.forms.FactForm.{FactForm}
@@ -20,8 +21,8 @@ use Rattle.certificate_read.specs.declared.forms.LineForm.TheVariants as line
 use Rattle.certificate_read.specs.declared.line_fault.LineFault.{LineFault}
 use Rattle.certificate_read.specs.declared.line_fault.LineFault.TheVariants.{Memory}
 use Rattle.certificate_read.specs.declared.words.Words.{Words}
-use Rattle.certificate_read.specs.LineReading.{expr_name, fact_name, line_name, expr_words, step_words, fact_words, words_of, IsReadableExpr, IsReadableStep, IsReadableFact, IsReadableLine}
-use Rattle.certificate_read.specs.WordReading.{left_words, Leaves, AreColumns, AreAggregations, AreConjuncts, Sides, sides_words, AreSides}
+use Rattle.certificate_read.specs.LineReading.{expr_name, fact_name, line_name, expr_words, step_words, fact_words, words_of}
+use Rattle.certificate_read.specs.WordReading.{left_words, Leaves, Sides, sides_words, AreSides}
 
 -- ---- behind a form that is read
 

@@ -14,7 +14,8 @@ use Rattle.certificate_parts.proofs.Lacking.{lacks_both, numeral_lacks, each_lac
 use Rattle.certificate_parts.proofs.NumberLists.{texts, texts_length}
 use Rattle.certificate_parts.proofs.Numerals.{form_nonempty, numeral_tested}
 use Rattle.certificate_text.specs.CertificateText.{Text, key_text, keys_text, direction_text}
-use Rattle.certificate_read.specs.NodeReading.{IsShortKey, AreShortKeys, SpellEachKey}
+use Rattle.certificate_text.specs.Readable.{AreShortKeys, IsShortKey}
+use Rattle.certificate_read.specs.NodeReading.{SpellEachKey}
 
 -- ---- one key
 

@@ -7,5 +7,4 @@ pub mod PartWords
 pub mod PlanNodes
 pub mod TextCuts
 pub mod TextLists
-pub mod WholeTexts
 pub mod WordCalls

@@ -34,9 +34,9 @@ use Rattle.certificate_parts.proofs.Lacking.{pass_both, pass_more, passing_lack,
 use Rattle.certificate_parts.proofs.Numerals.{numeral_digits}
 use Rattle.certificate_text.specs.CertificateText.{Text, list_text, numbers_text, aggregate_text, aggregation_text, aggregations_text, conjuncts_text, expr_text, step_text, fact_text, line_words}
 use Rattle.certificate_text.specs.Limits.{most_nested}
-use Rattle.certificate_read.specs.LineReading.{expr_words, step_words, fact_words, words_of, IsReadableExpr, IsReadableStep, IsReadableFact, IsReadableLine}
+use Rattle.certificate_text.specs.Readable.{AreAggregations, AreConjuncts, IsReadableExpr, IsReadableFact, IsReadableLine, IsReadableStep}
+use Rattle.certificate_read.specs.LineReading.{expr_words, step_words, fact_words, words_of}
 use Rattle.certificate_read.specs.TextReading.{IsLine}
-use Rattle.certificate_read.specs.WordReading.{AreAggregations, AreConjuncts}
 
 -- ---- words, whose characters are ones of ASCII that can be seen
 

@@ -16,9 +16,9 @@ use Rattle.certificate_parts.proofs.Lacking.{pass_both}
 use Rattle.certificate_parts.specs.PartTexts.{is_graphic}
 use Rattle.certificate_parts.specs.Parts.{IsShort}
 use Rattle.certificate_text.specs.CertificateText.{key_text, keys_text, direction_text, kind_text, lists_text, conjuncts_text, numbers_text, aggregations_text, operator_text, node_words}
-use Rattle.certificate_read.specs.NodeReading.{IsShortKey, AreShortKeys, IsReadableNode, lists_words, words_of, IsReadableMatching, IsReadableOperator}
+use Rattle.certificate_text.specs.Readable.{AreAggregations, AreColumns, AreConjuncts, AreShortKeys, IsReadableMatching, IsReadableNode, IsReadableOperator, IsShortKey}
+use Rattle.certificate_read.specs.NodeReading.{lists_words, words_of}
 use Rattle.certificate_read.specs.TextReading.{IsLine}
-use Rattle.certificate_read.specs.WordReading.{AreColumns, AreAggregations, AreConjuncts}
 use Rattle.certificate_read.proofs.LineTexts.{list_graphic, number_graphic, IsPart, IsGraphic, both_parts, one_word, number_part, part_line, part_cut, conjuncts_graphic, numbers_graphic, aggregations_graphic}
 
 kind_graphic : (j : Matching) → IsGraphic (kind_text j)

@@ -1,6 +1,5 @@
 -- What stands behind the names of operators.
-use Rattle.std.proofs.Common.{◌≡◌, ℕ, Bool, true, false, List, ◌∷◌, ◌++◌, Result, Ok, Err, refl, sym, ◌∙◌, ap, subst, decimal}
-use Rattle.std.proofs.lemmas.Bool.{false≢true}
+use Rattle.std.proofs.Common.{◌≡◌, ℕ, List, ◌∷◌, ◌++◌, Result, Ok, Err, refl, sym, ◌∙◌, ap, subst, decimal}
 use Rattle.algebra.specs.declared.condition.Condition.{Condition}
 use Rattle.algebra.specs.declared.expr.Aggregation.{Aggregation}
 use Rattle.physical.specs.declared.plan.GroupMethod.TheVariants as group
@@ -14,18 +13,16 @@ use Rattle.physical.specs.declared.plan.Operator.{Operator}
 use Rattle.physical.specs.declared.plan.Operator.TheVariants.{Scan, IndexScan, Filter, FilterSubqueries, Projection, JoinRows, IndexJoin, GroupRows, DistinctRows}
 use Rattle.certificate_parts.specs.Parts.{IsShort}
 use Rattle.certificate_text.specs.CertificateText.{Text, keys_text, kind_text, conjuncts_text, numbers_text, aggregations_text}
-use Rattle.certificate_read.specs.declared.node_forms.KindForm.{KindForm}
-use Rattle.certificate_read.specs.declared.node_forms.KindForm.TheVariants as kind
+use Rattle.certificate_text.specs.Readable.{AreAggregations, AreColumns, AreConjuncts, AreShortKeys, IsReadableNode, IsReadableOperator}
 use Rattle.certificate_read.specs.declared.node_forms.OperatorForm.{OperatorForm}
 use Rattle.certificate_read.specs.declared.node_forms.OperatorForm.TheVariants as operator
 use Rattle.certificate_read.specs.declared.node_forms.NodeForm.{NodeForm}
 use Rattle.certificate_read.specs.declared.node_forms.NodeForm.TheVariants as node
-use Rattle.certificate_read.specs.NodeReading.{node_name, words_of, AreShortKeys, IsReadableNode, LeavesNode, kind_name, kind_of, operator_form, operator_words, IsReadableOperator}
+use Rattle.certificate_read.specs.NodeReading.{node_name, words_of, LeavesNode, kind_name, kind_of, operator_form, operator_words}
 use Rattle.certificate_read.specs.declared.line_fault.LineFault.{LineFault}
 use Rattle.certificate_read.specs.declared.nodes.ReadNode.{ReadNode}
 use Rattle.certificate_read.specs.declared.words.Words.{Words}
 use Rattle.certificate_read.proofs.FormWords.{Opened}
-use Rattle.certificate_read.specs.WordReading.{AreColumns, AreAggregations, AreConjuncts}
 
 pub kind_same : (j : Matching) → kind_text j ≡ kind_name (kind_of j)
 kind_same (matching.Inner C) = refl
@@ -41,12 +38,6 @@ BehindOperator o inputs rest operator.MergeJoin ws =
     (a : ℕ) × (b : ℕ) × (C : List Condition) × IsShort a × IsShort b × AreConjuncts C × (JoinRows (method.Merge a b) (matching.Inner C) ≡ o) × (inputs ≡ 2) × (ws ≡ decimal a ∷ decimal b ∷ conjuncts_text C ∷ rest)
 BehindOperator o inputs rest _ ws = Unit {0}
 
-abbrev is_inner : KindForm → Bool
-is_inner kind.Inner = true
-is_inner kind.Left = false
-is_inner kind.Semi = false
-is_inner kind.Anti = false
-
 opened_operator : (o : Operator) (inputs : ℕ) (rest : List Text) → IsReadableOperator o inputs → BehindOperator o inputs rest (operator_form o) (operator_words o inputs ++ rest)
 opened_operator (Scan o) inputs rest h = tt
 opened_operator (IndexScan a C) inputs rest h = tt
@@ -56,9 +47,9 @@ opened_operator (Projection K) inputs rest h = tt
 opened_operator (JoinRows method.NestedLoop j) inputs rest h = tt
 opened_operator (JoinRows method.Hash j) inputs rest h = tt
 opened_operator (JoinRows (method.Merge a b) (matching.Inner C)) inputs rest h = (a, b, C, h.2.0, h.2.1, h.1, refl, h.0, refl)
-opened_operator (JoinRows (method.Merge a b) (matching.Left C)) inputs rest h = absurd (false≢true (ap is_inner h.2.2))
-opened_operator (JoinRows (method.Merge a b) (matching.Semi C)) inputs rest h = absurd (false≢true (ap is_inner h.2.2))
-opened_operator (JoinRows (method.Merge a b) (matching.Anti S M)) inputs rest h = absurd (false≢true (ap is_inner h.2.2))
+opened_operator (JoinRows (method.Merge a b) (matching.Left C)) inputs rest h = absurd h.2.2
+opened_operator (JoinRows (method.Merge a b) (matching.Semi C)) inputs rest h = absurd h.2.2
+opened_operator (JoinRows (method.Merge a b) (matching.Anti S M)) inputs rest h = absurd h.2.2
 opened_operator (IndexJoin a j) inputs rest h = tt
 opened_operator (GroupRows group.Hash K G) inputs rest h = (K, G, h.1, h.2, refl, h.0, refl)
 opened_operator (GroupRows group.Sorted K G) inputs rest h = (K, G, h.1, h.2, refl, h.0, refl)

@@ -20,7 +20,7 @@ use Rattle.certificate_parts.proofs.NumberLists.{parts_spelled}
 use Rattle.certificate_parts.proofs.Numerals.{numeral_injective, numeral_tested, form_nonempty}
 use Rattle.certificate_text.specs.CertificateText as text
 use Rattle.certificate_text.specs.CertificateText.{Text, numbers_text, aggregate_text, aggregation_text, aggregations_text}
-use Rattle.certificate_read.specs.WordReading.{AreColumns, AreAggregations}
+use Rattle.certificate_text.specs.Readable.{AreAggregations, AreColumns}
 
 -- ---- the same texts
 

@@ -2,27 +2,20 @@
 use Rattle.std.proofs.Common.{◌≡◌, refl, ap, sym, ◌∙◌, subst, arith, ℕ, ◌+◌, ◌-◌, ◌<◌, ◌≤◌, Bool, true, nat_lt, List, [], ◌∷◌, ◌++◌, length, map, flat_map, sum, append_assoc}
 use Rattle.std.specs.List.{AllByRecursion}
 use Rattle.std.proofs.lemmas.Bool.{and_parts, ltb-true}
-use Rattle.std.proofs.lemmas.List.{length-map}
-use Rattle.std.proofs.lemmas.List.Folds.{flat_map-map}
-use Rattle.std.proofs.lemmas.List.Sums.{sum_by-cons}
 use Rattle.physical.specs.declared.plan.Node.{Node}
-use Rattle.physical.specs.declared.plan.Plan.{Plan, out-Plan, fold_out-Plan}
+use Rattle.physical.specs.declared.plan.Plan.{Plan, out-Plan}
 use Rattle.certificate_text.specs.CertificateText.{Text, node_text, plan_text, node_count}
 use Rattle.certificate_text.specs.Limits.{nodes_within, node_is_within}
 use Rattle.certificate_text.proofs.LimitLists.{nodes_at}
-use Rattle.certificate_text.proofs.PlanTexts.{count_at, text_at}
+use Rattle.certificate_text.proofs.PlanTexts.{count_at, no-more, one-more, some_each, some_nodes, text_at}
 use Rattle.certificate_parts.proofs.OpenConditions.{all_split}
+use Rattle.certificate.specs.NodeInputs.{nodes_of}
+use Rattle.certificate.proofs.NodeInputs.{list_at}
+use Rattle.certificate_text.specs.Readable.{AreReadableNodes, IsReadableNode}
 use Rattle.certificate_read.specs.declared.reading.Wanted.{Wanted}
-use Rattle.certificate_read.specs.NodeReading.{IsReadableNode}
-use Rattle.certificate_read.specs.TextReading.{nodes_layer, nodes_of, AreReadableNodes, IsReadablePlan, IsWanted, IsBalanced}
+use Rattle.certificate_read.specs.TextReading.{IsReadablePlan, IsWanted, IsBalanced}
 
 -- ---- plans that can be read
-
-list-at : (p : Plan) → nodes_of p ≡ ((out-Plan p).node, length (out-Plan p).inputs) ∷ flat_map nodes_of (out-Plan p).inputs
-unfolding nodes_of
-list-at p =
-    let own = out-Plan p in
-    fold_out-Plan (List (Node × ℕ)) nodes_layer p ∙ (λ i. (own.node, length-map own.inputs nodes_of i) ∷ flat_map-map (λ nodes. nodes) nodes_of own.inputs i)
 
 all_inputs : {X Y : Type 0} (P : Y → Type 0) (f : X → List Y) (xs : List X) → AllByRecursion P (flat_map f xs) → AllByRecursion (λ x. AllByRecursion P (f x)) xs
 all_inputs P f [] all = tt
@@ -38,7 +31,7 @@ IsTrue b = b ≡ true
 pub plan_opened : (room : ℕ) (p : Plan) → IsReadablePlan room p → (0 < room) × IsReadableNode (out-Plan p).node (length (out-Plan p).inputs) × AllByRecursion (IsReadablePlan (room - 1)) (out-Plan p).inputs
 plan_opened room p h =
     let inputs = (out-Plan p).inputs in
-    let nodes = subst (AllByRecursion (λ (n : Node × ℕ). IsReadableNode n.0 n.1)) (list-at p) h.0 in
+    let nodes = subst (AllByRecursion (λ (n : Node × ℕ). IsReadableNode n.0 n.1)) (list_at p) h.0 in
     let within = subst (AllByRecursion IsTrue) (nodes_at p room) h.1 in (
       ltb-true 0 room (and_parts (nat_lt 0 room) (node_is_within (out-Plan p).node) within.0).0,
       nodes.0,
@@ -46,19 +39,6 @@ plan_opened room p h =
     )
 
 -- ---- how many nodes
-
-pub some_nodes : (p : Plan) → 1 ≤ node_count p
-some_nodes p = let count = count_at p (out-Plan p).inputs refl in omega (arith, count)
-
-one-more : (p : Plan) (ps : List Plan) → sum (map node_count (p ∷ ps)) ≡ node_count p + sum (map node_count ps)
-one-more p ps = sum_by-cons (λ n. n) (node_count p) (map node_count ps)
-
-no-more : sum (map node_count []) ≡ 0
-no-more = refl
-
-some_each : (ps : List Plan) → length ps ≤ sum (map node_count ps)
-some_each [] = omega arith
-some_each (p ∷ ps) = omega (arith, one-more p ps, some_nodes p, some_each ps)
 
 -- behind a root the nodes of its inputs are counted, and its inputs are wanted
 pub inputs_balanced : (k w : ℕ) (ps : List Plan) → IsBalanced k w → IsBalanced (sum (map node_count ps) + k) (w + length ps)

@@ -1,4 +1,4 @@
--- The words of a derivation's lines, and which lines can be read.
+-- The words of a derivation's lines.
 use Rattle.std.specs.Prelude.{List, [], ◌∷◌, ◌++◌, codes, decimal}
 use Rattle.algebra.specs.declared.expr.Expr.{Expr}
 use Rattle.algebra.specs.declared.expr.Expr.TheVariants.{Get, Select, Join, LeftJoin, Semi, Anti, Keep, Distinct, Group}
@@ -16,7 +16,6 @@ use Rattle.certificate_read.specs.declared.forms.FactForm.{FactForm}
 use Rattle.certificate_read.specs.declared.forms.FactForm.TheVariants as fact
 use Rattle.certificate_read.specs.declared.forms.LineForm.{LineForm}
 use Rattle.certificate_read.specs.declared.forms.LineForm.TheVariants as line
-use Rattle.certificate_read.specs.WordReading.{AreColumns, AreAggregations, AreConjuncts}
 
 -- ---- first words
 
@@ -77,31 +76,3 @@ words_of (Adds g s x) = codes "A" ∷ decimal g ∷ (step_words s ++ expr_words 
 words_of (Unites g h s) = codes "S" ∷ decimal g ∷ decimal h ∷ step_words s
 words_of (Alike i j) = codes "G" ∷ decimal i ∷ decimal j ∷ []
 words_of (Gives g m f) = codes "L" ∷ decimal g ∷ decimal m ∷ fact_words f
-
--- ---- lines that can be read: numbers in their ranges, lists in order, texts valid, and conditions within the limit
-
-abbrev pub IsReadableExpr : Expr → Type 0
-IsReadableExpr (Get o) = IsShort o
-IsReadableExpr (Select C x) = AreConjuncts C × IsShort x
-IsReadableExpr (Join C a b) = AreConjuncts C × IsShort a × IsShort b
-IsReadableExpr (LeftJoin C a b) = AreConjuncts C × IsShort a × IsShort b
-IsReadableExpr (Semi C a b) = AreConjuncts C × IsShort a × IsShort b
-IsReadableExpr (Anti S M a b) = AreConjuncts S × AreConjuncts M × IsShort a × IsShort b
-IsReadableExpr (Keep K x) = AreColumns K × IsShort x
-IsReadableExpr (Distinct x) = IsShort x
-IsReadableExpr (Group K G x) = AreColumns K × AreAggregations G × IsShort x
-
-abbrev pub IsReadableStep : Step → Type 0
-IsReadableStep s = IsShort s.pick × AreShort s.uses × AreShort s.makes
-
-abbrev pub IsReadableFact : Fact → Type 0
-IsReadableFact (NotNull c) = IsShort c
-IsReadableFact (WeakKey K) = AreColumns K
-IsReadableFact (StrongKey K) = AreColumns K
-
-abbrev pub IsReadableLine : Line → Type 0
-IsReadableLine (Founds x) = IsReadableExpr x
-IsReadableLine (Adds g s x) = IsShort g × IsReadableStep s × IsReadableExpr x
-IsReadableLine (Unites g h s) = IsShort g × IsShort h × IsReadableStep s
-IsReadableLine (Alike i j) = IsShort i × IsShort j
-IsReadableLine (Gives g m f) = IsShort g × IsShort m × IsReadableFact f

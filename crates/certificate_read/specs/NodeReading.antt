@@ -1,4 +1,4 @@
--- The words of a plan's nodes, and which nodes can be read.
+-- The words of a plan's nodes.
 use Rattle.std.specs.Prelude.{map, ◌≡◌, ℕ, ◌-◌, ◌<◌, List, [], ◌∷◌, codes, decimal, Result}
 use Rattle.std.specs.List.{AllByRecursion}
 use Rattle.physical.specs.declared.plan.GroupMethod.TheVariants as group
@@ -14,6 +14,7 @@ use Rattle.physical.specs.declared.plan.Node.{Node}
 use Rattle.physical.specs.declared.plan.Node.TheVariants.{Implements, Sort}
 use Rattle.certificate_parts.specs.Parts.{IsShort}
 use Rattle.certificate_text.specs.CertificateText.{Text, numbers_text, aggregations_text, conjuncts_text, key_text, keys_text, kind_text}
+use Rattle.certificate_text.specs.Readable.{AreShortKeys}
 use Rattle.certificate_read.specs.declared.line_fault.LineFault.{LineFault}
 use Rattle.certificate_read.specs.declared.nodes.ReadNode.{ReadNode}
 use Rattle.certificate_read.specs.declared.words.Words.{Words}
@@ -23,7 +24,7 @@ use Rattle.certificate_read.specs.declared.node_forms.OperatorForm.{OperatorForm
 use Rattle.certificate_read.specs.declared.node_forms.OperatorForm.TheVariants as operator
 use Rattle.certificate_read.specs.declared.node_forms.NodeForm.{NodeForm}
 use Rattle.certificate_read.specs.declared.node_forms.NodeForm.TheVariants as node
-use Rattle.certificate_read.specs.WordReading.{UnlessMemory, left_words, AreColumns, AreAggregations, AreConjuncts}
+use Rattle.certificate_read.specs.WordReading.{UnlessMemory, left_words}
 
 -- ---- names
 
@@ -100,50 +101,13 @@ abbrev pub words_of : Node → ℕ → List Text
 words_of (Implements line operator) inputs = operator_name (operator_form operator) ∷ decimal line ∷ operator_words operator inputs
 words_of (Sort keys) inputs = codes "sort" ∷ keys_text keys ∷ []
 
--- ---- nodes that can be read
-
-abbrev pub IsReadableMatching : Matching → Type 0
-IsReadableMatching (matching.Inner C) = AreConjuncts C
-IsReadableMatching (matching.Left C) = AreConjuncts C
-IsReadableMatching (matching.Semi C) = AreConjuncts C
-IsReadableMatching (matching.Anti S M) = AreConjuncts S × AreConjuncts M
-
-abbrev pub IsReadableAccess : IndexAccess → Type 0
-IsReadableAccess a = IsShort a.line × IsShort a.instance × IsShort a.index
-
--- what merges is an inner join
-abbrev pub FitsMethod : JoinMethod → Matching → Type 0
-FitsMethod method.NestedLoop j = Unit {0}
-FitsMethod method.Hash j = Unit {0}
-FitsMethod (method.Merge a b) j = IsShort a × IsShort b × (kind_of j ≡ kind.Inner)
-
--- it has as many inputs as its form has, and its numbers, lists and conditions can be read
-abbrev pub IsReadableOperator : Operator → ℕ → Type 0
-IsReadableOperator (Scan o) inputs = (inputs ≡ 0) × IsShort o
-IsReadableOperator (IndexScan a C) inputs = (inputs ≡ 0) × IsReadableAccess a × AreConjuncts C
-IsReadableOperator (Filter C) inputs = (inputs ≡ 1) × AreConjuncts C
-IsReadableOperator (FilterSubqueries C) inputs = (0 < inputs) × IsShort (inputs - 1) × AreConjuncts C
-IsReadableOperator (Projection K) inputs = (inputs ≡ 1) × AreColumns K
-IsReadableOperator (JoinRows m j) inputs = (inputs ≡ 2) × IsReadableMatching j × FitsMethod m j
-IsReadableOperator (IndexJoin a j) inputs = (inputs ≡ 1) × IsReadableAccess a × IsReadableMatching j
-IsReadableOperator (GroupRows m K G) inputs = (inputs ≡ 1) × AreColumns K × AreAggregations G
-IsReadableOperator (DistinctRows m) inputs = inputs ≡ 1
-
-abbrev pub IsShortKey : OrderKey → Type 0
-IsShortKey k = IsShort k.column
-
-abbrev pub AreShortKeys : List OrderKey → Type 0
-AreShortKeys = AllByRecursion IsShortKey
+-- ---- nodes
 
 abbrev pub keys_words : List OrderKey → List Text
 keys_words K = keys_text K ∷ []
 
 abbrev pub SpellEachKey : List Text → List OrderKey → Type 0
 SpellEachKey ts K = (ts ≡ map key_text K) × AreShortKeys K
-
-abbrev pub IsReadableNode : Node → ℕ → Type 0
-IsReadableNode (Implements line operator) inputs = IsShort line × IsReadableOperator operator inputs
-IsReadableNode (Sort keys) inputs = (inputs ≡ 1) × AreShortKeys keys
 
 -- the call gives the node with so many inputs and leaves these words, unless memory ran out
 abbrev pub LeavesNode : Node → ℕ → List Text → Words → Words → Result ReadNode LineFault → Type 0

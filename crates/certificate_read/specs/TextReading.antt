@@ -1,4 +1,4 @@
--- What a call reads of the lines of a text, and which certificates can be read.
+-- What a call reads of the lines of a text, and which plans can be read.
 use Rattle.std.specs.Prelude.{◌≡◌, ℕ, ◌≤◌, true, List, ◌∷◌, length, flat_map, Result, MatchResult, IsUtf8}
 use Rattle.std.specs.List.{list_all, AllByRecursion}
 use Rattle.values.specs.declared.fault.Fault.{Fault}
@@ -11,25 +11,11 @@ use Rattle.certificate_parts.specs.PartTexts.{is_graphic, lacks}
 use Rattle.certificate_text.specs.declared.fault.TextRefusal.{TextRefusal}
 use Rattle.certificate_text.specs.CertificateText.{Text}
 use Rattle.certificate_text.specs.Limits.{nodes_within}
+use Rattle.certificate_text.specs.Readable.{AreReadableNodes}
 use Rattle.certificate_read.specs.declared.text_lines.TextLines.{TextLines}
 use Rattle.certificate_read.specs.declared.reading.Wanted.{Wanted}
-use Rattle.certificate_read.specs.LineReading.{IsReadableLine}
-use Rattle.certificate_read.specs.NodeReading.{IsReadableNode}
 
--- ---- certificates that can be read
-
--- the nodes of a plan, each with how many inputs it has, in the order of the text
-abbrev pub nodes_layer : Plan-F (List (Node × ℕ)) → List (Node × ℕ)
-nodes_layer p = (p.node, length p.inputs) ∷ flat_map (λ nodes. nodes) p.inputs
-
-unfoldable pub nodes_of : Plan → List (Node × ℕ)
-nodes_of = fold-Plan (List (Node × ℕ)) nodes_layer
-
-abbrev pub AreReadableNodes : Plan → Type 0
-AreReadableNodes p = AllByRecursion (λ n. IsReadableNode n.0 n.1) (nodes_of p)
-
-abbrev pub IsReadableCertificate : Certificate → Type 0
-IsReadableCertificate c = AllByRecursion IsReadableLine c.lines × AreReadableNodes c.plan
+-- ---- plans that can be read
 
 -- its nodes can be read, and none of them is over a limit where there is room for so many from the root down
 abbrev pub IsReadablePlan : ℕ → Plan → Type 0

@@ -14,6 +14,7 @@ use Rattle.certificate_parts.specs.Parts.{IsShort, AreShort}
 use Rattle.certificate_parts.specs.Spelled as parts
 use Rattle.certificate_text.specs.CertificateText.{Text, numbers_text, aggregations_text, conjuncts_text}
 use Rattle.certificate_text.specs.Limits.{most_nested}
+use Rattle.certificate_text.specs.Readable.{AreConjuncts}
 use Rattle.certificate_read.specs.declared.line_fault.LineFault.{LineFault}
 use Rattle.certificate_read.specs.declared.line_fault.LineFault.TheVariants.{Memory, OtherForm, OverLimit}
 use Rattle.certificate_read.specs.declared.words.Words.{Words}
@@ -53,17 +54,6 @@ aggregations_words G = aggregations_text G ∷ []
 
 abbrev pub conjuncts_words : List Condition → List Text
 conjuncts_words C = conjuncts_text C ∷ []
-
--- columns within 32 bits that rise strictly
-abbrev pub AreColumns : List ℕ → Type 0
-AreColumns K = AreShort K × IsStrictlyIncreasing K
-
-abbrev pub AreAggregations : List Aggregation → Type 0
-AreAggregations = parts.AreReadable
-
--- conjuncts in order, each within the limit of conditions in one another, with its numbers in their ranges and its texts valid
-abbrev pub AreConjuncts : List Condition → Type 0
-AreConjuncts C = AllByRecursion (IsReadable most_nested) C × AreRising C
 
 -- ---- the conditions and the two classes of a join
 

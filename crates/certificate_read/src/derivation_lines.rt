@@ -12,8 +12,9 @@ ghost use Rattle.derivation.specs.declared.line.Line.TheVariants as derivation;
 ghost use Rattle.rules.specs.Book.{code_of};
 ghost use Rattle.certificate_parts.specs.Parts.{IsShort};
 ghost use Rattle.certificate_text.specs.CertificateText.{Text, line_words, numbers_text, aggregations_text, conjuncts_text};
+ghost use Rattle.certificate_text.specs.Readable.{AreAggregations, AreColumns, AreConjuncts, IsReadableExpr, IsReadableFact, IsReadableLine, IsReadableStep};
 ghost use Rattle.certificate_read.specs.LineReading as spec;
-ghost use Rattle.certificate_read.specs.WordReading.{left_words, Leaves, ReadsWords, UnlessMemory, AreColumns, AreAggregations, AreConjuncts, AreSides, Sides, sides_words};
+ghost use Rattle.certificate_read.specs.WordReading.{left_words, Leaves, ReadsWords, UnlessMemory, AreSides, Sides, sides_words};
 
 use crate::forms::{ExprForm, FactForm, LineForm, expr_form, fact_form, line_form};
 use crate::line_fault::LineFault;
@@ -56,7 +57,7 @@ fn group(alloc: Global, words: &mut Words<'_>) -> Result<Expr, LineFault>
 }
 
 fn expr(alloc: Global, words: &mut Words<'_>) -> Result<Expr, LineFault>
-    ensures { ReadsWords spec.expr_words spec.IsReadableExpr words.old words.new result }
+    ensures { ReadsWords spec.expr_words IsReadableExpr words.old words.new result }
 {
     match expr_form(words)? {
         ExprForm::Get => Ok(Expr::Get(words.number()?)),
@@ -90,7 +91,7 @@ fn rule(words: &mut Words<'_>) -> Result<RuleName, LineFault>
 }
 
 fn step(alloc: Global, words: &mut Words<'_>) -> Result<Boxed<Step>, LineFault>
-    ensures { ReadsWords spec.step_words spec.IsReadableStep words.old words.new result }
+    ensures { ReadsWords spec.step_words IsReadableStep words.old words.new result }
 {
     let rule = rule(words)?;
     let pick = words.number()?;
@@ -106,7 +107,7 @@ fn step(alloc: Global, words: &mut Words<'_>) -> Result<Boxed<Step>, LineFault>
 }
 
 fn fact(alloc: Global, words: &mut Words<'_>) -> Result<Fact, LineFault>
-    ensures { ReadsWords spec.fact_words spec.IsReadableFact words.old words.new result }
+    ensures { ReadsWords spec.fact_words IsReadableFact words.old words.new result }
 {
     match fact_form(words)? {
         FactForm::NotNull => Ok(Fact::NotNull(words.number()?)),
@@ -116,7 +117,7 @@ fn fact(alloc: Global, words: &mut Words<'_>) -> Result<Fact, LineFault>
 }
 
 fn adds(alloc: Global, words: &mut Words<'_>) -> Result<Line, LineFault>
-    ensures { (g : ℕ) (s : Step) (x : Expr) (rest : List Text) → IsShort g → spec.IsReadableStep s → spec.IsReadableExpr x → left_words words.old ≡ decimal g ∷ (spec.step_words s ++ (spec.expr_words x ++ rest)) → Leaves (λ l. l) (derivation.Adds g s x) rest words.old words.new result }
+    ensures { (g : ℕ) (s : Step) (x : Expr) (rest : List Text) → IsShort g → IsReadableStep s → IsReadableExpr x → left_words words.old ≡ decimal g ∷ (spec.step_words s ++ (spec.expr_words x ++ rest)) → Leaves (λ l. l) (derivation.Adds g s x) rest words.old words.new result }
 {
     let class = words.number()?;
     let step = step(alloc, words)?;
@@ -124,7 +125,7 @@ fn adds(alloc: Global, words: &mut Words<'_>) -> Result<Line, LineFault>
 }
 
 fn unites(alloc: Global, words: &mut Words<'_>) -> Result<Line, LineFault>
-    ensures { (g : ℕ) (h : ℕ) (s : Step) (rest : List Text) → IsShort g → IsShort h → spec.IsReadableStep s → left_words words.old ≡ decimal g ∷ decimal h ∷ (spec.step_words s ++ rest) → Leaves (λ l. l) (derivation.Unites g h s) rest words.old words.new result }
+    ensures { (g : ℕ) (h : ℕ) (s : Step) (rest : List Text) → IsShort g → IsShort h → IsReadableStep s → left_words words.old ≡ decimal g ∷ decimal h ∷ (spec.step_words s ++ rest) → Leaves (λ l. l) (derivation.Unites g h s) rest words.old words.new result }
 {
     let first = words.number()?;
     let second = words.number()?;
@@ -139,7 +140,7 @@ fn alike(words: &mut Words<'_>) -> Result<Line, LineFault>
 }
 
 fn gives(alloc: Global, words: &mut Words<'_>) -> Result<Line, LineFault>
-    ensures { (g : ℕ) (m : ℕ) (f : Fact) (rest : List Text) → IsShort g → IsShort m → spec.IsReadableFact f → left_words words.old ≡ decimal g ∷ decimal m ∷ (spec.fact_words f ++ rest) → Leaves (λ l. l) (derivation.Gives g m f) rest words.old words.new result }
+    ensures { (g : ℕ) (m : ℕ) (f : Fact) (rest : List Text) → IsShort g → IsShort m → IsReadableFact f → left_words words.old ≡ decimal g ∷ decimal m ∷ (spec.fact_words f ++ rest) → Leaves (λ l. l) (derivation.Gives g m f) rest words.old words.new result }
 {
     let class = words.number()?;
     let member = words.number()?;
@@ -147,7 +148,7 @@ fn gives(alloc: Global, words: &mut Words<'_>) -> Result<Line, LineFault>
 }
 
 fn line_of(alloc: Global, words: &mut Words<'_>) -> Result<Line, LineFault>
-    ensures { ReadsWords spec.words_of spec.IsReadableLine words.old words.new result }
+    ensures { ReadsWords spec.words_of IsReadableLine words.old words.new result }
 {
     match line_form(words)? {
         LineForm::Founds => Ok(Line::Founds(expr(alloc, words)?)),
@@ -160,7 +161,7 @@ fn line_of(alloc: Global, words: &mut Words<'_>) -> Result<Line, LineFault>
 
 /// The line of a derivation that a line of the text is.
 pub(crate) fn derivation_line(alloc: Global, text: &str) -> Result<Line, LineFault>
-    ensures { (l : Line) → spec.IsReadableLine l → text.now ≡ line_words l → UnlessMemory (λ read. read ≡ l) result }
+    ensures { (l : Line) → IsReadableLine l → text.now ≡ line_words l → UnlessMemory (λ read. read ≡ l) result }
 {
     let parts = words_of(alloc, text)?;
     let mut words = Words::of(parts.as_slice());

@@ -14,8 +14,9 @@ ghost use Rattle.physical.specs.declared.plan.Operator.{Operator};
 ghost use Rattle.physical.specs.declared.plan.Operator.TheVariants as physical;
 ghost use Rattle.certificate_parts.specs.Parts.{IsShort};
 ghost use Rattle.certificate_text.specs.CertificateText.{Text, keys_text, kind_text, node_words, conjuncts_text, numbers_text, aggregations_text};
+ghost use Rattle.certificate_text.specs.Readable.{AreAggregations, AreColumns, AreConjuncts, AreShortKeys, IsReadableAccess, IsReadableMatching, IsReadableNode, IsReadableOperator};
 ghost use Rattle.certificate_read.specs.NodeReading as spec;
-ghost use Rattle.certificate_read.specs.WordReading.{left_words, Leaves, UnlessMemory, AreColumns, AreAggregations, AreConjuncts};
+ghost use Rattle.certificate_read.specs.WordReading.{left_words, Leaves, UnlessMemory};
 
 use crate::line_fault::LineFault;
 use crate::node_forms::{KindForm, NodeForm, OperatorForm, kind_form, node_form};
@@ -41,7 +42,7 @@ fn anti(alloc: Global, words: &mut Words<'_>) -> Result<Matching, LineFault>
 
 /// The lists of a join of this kind.
 fn matching(alloc: Global, kind: KindForm, words: &mut Words<'_>) -> Result<Matching, LineFault>
-    ensures { (j : Matching) (rest : List Text) → spec.kind_of j ≡ kind → spec.IsReadableMatching j → left_words words.old ≡ spec.lists_words j ++ rest → Leaves (λ j. j) j rest words.old words.new result }
+    ensures { (j : Matching) (rest : List Text) → spec.kind_of j ≡ kind → IsReadableMatching j → left_words words.old ≡ spec.lists_words j ++ rest → Leaves (λ j. j) j rest words.old words.new result }
 {
     match kind {
         KindForm::Inner => Ok(Matching::Inner(words.conjuncts(alloc)?)),
@@ -53,7 +54,7 @@ fn matching(alloc: Global, kind: KindForm, words: &mut Words<'_>) -> Result<Matc
 
 /// A join whose kind is named.
 fn join(alloc: Global, words: &mut Words<'_>) -> Result<Matching, LineFault>
-    ensures { (j : Matching) (rest : List Text) → spec.IsReadableMatching j → left_words words.old ≡ kind_text j ∷ (spec.lists_words j ++ rest) → Leaves (λ j. j) j rest words.old words.new result }
+    ensures { (j : Matching) (rest : List Text) → IsReadableMatching j → left_words words.old ≡ kind_text j ∷ (spec.lists_words j ++ rest) → Leaves (λ j. j) j rest words.old words.new result }
 {
     let kind = kind_form(words)?;
     matching(alloc, kind, words)
@@ -71,7 +72,7 @@ fn merge(alloc: Global, words: &mut Words<'_>) -> Result<Operator, LineFault>
 }
 
 fn index_scan(alloc: Global, words: &mut Words<'_>) -> Result<Operator, LineFault>
-    ensures { (a : IndexAccess) (C : List Condition) (rest : List Text) → spec.IsReadableAccess a → AreConjuncts C → left_words words.old ≡ decimal a.line ∷ decimal a.instance ∷ decimal a.index ∷ conjuncts_text C ∷ rest → Leaves (λ o. o) (physical.IndexScan a C) rest words.old words.new result }
+    ensures { (a : IndexAccess) (C : List Condition) (rest : List Text) → IsReadableAccess a → AreConjuncts C → left_words words.old ≡ decimal a.line ∷ decimal a.instance ∷ decimal a.index ∷ conjuncts_text C ∷ rest → Leaves (λ o. o) (physical.IndexScan a C) rest words.old words.new result }
 {
     let line = words.number()?;
     let instance = words.number()?;
@@ -86,7 +87,7 @@ fn index_scan(alloc: Global, words: &mut Words<'_>) -> Result<Operator, LineFaul
 }
 
 fn index_join(alloc: Global, words: &mut Words<'_>) -> Result<Operator, LineFault>
-    ensures { (a : IndexAccess) (j : Matching) (rest : List Text) → spec.IsReadableAccess a → spec.IsReadableMatching j → left_words words.old ≡ decimal a.line ∷ kind_text j ∷ decimal a.instance ∷ decimal a.index ∷ (spec.lists_words j ++ rest) → Leaves (λ o. o) (physical.IndexJoin a j) rest words.old words.new result }
+    ensures { (a : IndexAccess) (j : Matching) (rest : List Text) → IsReadableAccess a → IsReadableMatching j → left_words words.old ≡ decimal a.line ∷ kind_text j ∷ decimal a.instance ∷ decimal a.index ∷ (spec.lists_words j ++ rest) → Leaves (λ o. o) (physical.IndexJoin a j) rest words.old words.new result }
 {
     let line = words.number()?;
     let kind = kind_form(words)?;
@@ -131,7 +132,7 @@ fn operator(
     form: OperatorForm,
     words: &mut Words<'_>,
 ) -> Result<(Operator, u64), LineFault>
-    ensures { (o : Operator) (inputs : ℕ) (rest : List Text) → spec.operator_form o ≡ form → spec.IsReadableOperator o inputs → left_words words.old ≡ spec.operator_words o inputs ++ rest → Leaves (λ o. o) (o, inputs) rest words.old words.new result }
+    ensures { (o : Operator) (inputs : ℕ) (rest : List Text) → spec.operator_form o ≡ form → IsReadableOperator o inputs → left_words words.old ≡ spec.operator_words o inputs ++ rest → Leaves (λ o. o) (o, inputs) rest words.old words.new result }
 {
     match form {
         OperatorForm::Scan => {
@@ -174,7 +175,7 @@ fn operator(
 }
 
 fn sort(alloc: Global, words: &mut Words<'_>) -> Result<ReadNode, LineFault>
-    ensures { (K : List OrderKey) (rest : List Text) → spec.AreShortKeys K → left_words words.old ≡ keys_text K ∷ rest → spec.LeavesNode (plan.Sort K) 1 rest words.old words.new result }
+    ensures { (K : List OrderKey) (rest : List Text) → AreShortKeys K → left_words words.old ≡ keys_text K ∷ rest → spec.LeavesNode (plan.Sort K) 1 rest words.old words.new result }
 {
     let keys = keys(alloc, words)?;
     Ok(ReadNode {
@@ -188,7 +189,7 @@ fn implementation(
     form: OperatorForm,
     words: &mut Words<'_>,
 ) -> Result<ReadNode, LineFault>
-    ensures { (line : ℕ) (o : Operator) (inputs : ℕ) (rest : List Text) → IsShort line → spec.operator_form o ≡ form → spec.IsReadableOperator o inputs → left_words words.old ≡ decimal line ∷ (spec.operator_words o inputs ++ rest) → spec.LeavesNode (plan.Implements line o) inputs rest words.old words.new result }
+    ensures { (line : ℕ) (o : Operator) (inputs : ℕ) (rest : List Text) → IsShort line → spec.operator_form o ≡ form → IsReadableOperator o inputs → left_words words.old ≡ decimal line ∷ (spec.operator_words o inputs ++ rest) → spec.LeavesNode (plan.Implements line o) inputs rest words.old words.new result }
 {
     let line = words.number()?;
     let (operator, inputs) = operator(alloc, form, words)?;
@@ -199,7 +200,7 @@ fn implementation(
 }
 
 fn node_of(alloc: Global, words: &mut Words<'_>) -> Result<ReadNode, LineFault>
-    ensures { (n : Node) (inputs : ℕ) (rest : List Text) → spec.IsReadableNode n inputs → left_words words.old ≡ spec.words_of n inputs ++ rest → spec.LeavesNode n inputs rest words.old words.new result }
+    ensures { (n : Node) (inputs : ℕ) (rest : List Text) → IsReadableNode n inputs → left_words words.old ≡ spec.words_of n inputs ++ rest → spec.LeavesNode n inputs rest words.old words.new result }
 {
     match node_form(words)? {
         NodeForm::Sort => sort(alloc, words),
@@ -209,7 +210,7 @@ fn node_of(alloc: Global, words: &mut Words<'_>) -> Result<ReadNode, LineFault>
 
 /// The node that a line of the text is. It is refused where it stands too deep.
 pub(crate) fn node(alloc: Global, text: &str, is_within: bool) -> Result<ReadNode, LineFault>
-    ensures { (n : Node) (inputs : ℕ) → spec.IsReadableNode n inputs → is_within ≡ true → text.now ≡ node_words n inputs → UnlessMemory (λ r. (r.node ≡ n) × (r.inputs ≡ inputs)) result }
+    ensures { (n : Node) (inputs : ℕ) → IsReadableNode n inputs → is_within ≡ true → text.now ≡ node_words n inputs → UnlessMemory (λ r. (r.node ≡ n) × (r.inputs ≡ inputs)) result }
 {
     let parts = words_of(alloc, text)?;
     let mut words = Words::of(parts.as_slice());

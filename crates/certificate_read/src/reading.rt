@@ -10,8 +10,7 @@ ghost use Rattle.certificate_parts.specs.PartTexts.{lacks};
 ghost use Rattle.certificate_parts.specs.Parts.{IsShort};
 ghost use Rattle.certificate_text.specs.CertificateText.{Text, ◌␣◌, ended, line_text, node_text, plan_text, node_count, certificate_text};
 ghost use Rattle.certificate_text.specs.Limits.{written, most_lines, most_nodes, most_deep};
-ghost use Rattle.certificate_read.specs.LineReading.{IsReadableLine};
-ghost use Rattle.certificate_read.specs.NodeReading.{IsReadableNode};
+ghost use Rattle.certificate_text.specs.Readable.{IsReadableCertificate, IsReadableLine, IsReadableNode};
 ghost use Rattle.certificate_read.specs.TextReading as spec;
 ghost use Rattle.certificate_read.specs.WordReading.{UnlessMemory};
 
@@ -207,7 +206,7 @@ fn last_plan(alloc: Global, text: &mut TextLines<'_>) -> Result<Plan, TextFault>
 
 /// What is read before it is judged.
 fn candidate(alloc: Global, bytes: &[u8]) -> Result<Certificate, TextFault>
-    ensures { (c : Certificate) → spec.IsReadableCertificate c → written c ≡ Ok bytes.now → spec.UnlessMemory (λ read. read ≡ c) result }
+    ensures { (c : Certificate) → IsReadableCertificate c → written c ≡ Ok bytes.now → spec.UnlessMemory (λ read. read ≡ c) result }
 {
     let mut text = TextLines::of(bytes);
     text.expect(b"SQLPLAN 1", TextReason::OtherVersion)?;
@@ -225,7 +224,7 @@ fn candidate(alloc: Global, bytes: &[u8]) -> Result<Certificate, TextFault>
 pub fn read(alloc: Global, bytes: &[u8]) -> Result<Certificate, TextFault>
     ensures sound { IfOk result (λ certificate. written certificate ≡ Ok bytes.now) }
     // The text of each certificate that can be read is read as that certificate.
-    ensures complete { (c : Certificate) → spec.IsReadableCertificate c → written c ≡ Ok bytes.now → spec.UnlessMemory (λ read. read ≡ c) result }
+    ensures complete { (c : Certificate) → IsReadableCertificate c → written c ≡ Ok bytes.now → spec.UnlessMemory (λ read. read ≡ c) result }
 {
     let certificate = candidate(alloc, bytes)?;
     let text = write(alloc, &certificate)?;

@@ -5,6 +5,7 @@ ghost use Rattle.std.specs.List.{slice_split};
 ghost use Rattle.physical.specs.declared.plan.OrderKey.{OrderKey};
 ghost use Rattle.certificate_parts.specs.Parts.{IsShort};
 ghost use Rattle.certificate_text.specs.CertificateText.{key_text};
+ghost use Rattle.certificate_text.specs.Readable.{AreShortKeys, IsShortKey};
 ghost use Rattle.certificate_read.specs.NodeReading as spec;
 ghost use Rattle.certificate_read.specs.WordReading.{ReadsWords, UnlessMemory};
 
@@ -26,7 +27,7 @@ fn key_of(column: &str, descending: bool) -> Result<Option<OrderKey>, LineFault>
 
 /// The key that a part of a list is: a column with `a` for ascending or `d` for descending; `None` where the column is past 32 bits.
 fn key(part: &str) -> Result<Option<OrderKey>, LineFault>
-    ensures { (k : OrderKey) → spec.IsShortKey k → part.now ≡ key_text k → result ≡ Ok (Some k) }
+    ensures { (k : OrderKey) → IsShortKey k → part.now ≡ key_text k → result ≡ Ok (Some k) }
 {
     if let Some(column) = part.strip_suffix('a') {
         return key_of(column, false);
@@ -59,7 +60,7 @@ fn each_key(alloc: Global, parts: &[&str]) -> Result<Option<Items<OrderKey>>, Li
 }
 
 pub(crate) fn keys(alloc: Global, words: &mut Words<'_>) -> Result<Items<OrderKey>, LineFault>
-    ensures { ReadsWords spec.keys_words spec.AreShortKeys words.old words.new result }
+    ensures { ReadsWords spec.keys_words AreShortKeys words.old words.new result }
 {
     let list = words.word()?;
     if list == "-" {

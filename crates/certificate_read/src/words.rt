@@ -4,6 +4,7 @@ ghost use Rattle.std.specs.Prelude.{◌≡◌, ◌==◌, ◌∷◌, [], List, ma
 ghost use Rattle.std.specs.List.{slice_split};
 ghost use Rattle.certificate_parts.specs.Parts.{IsShort, AreShort};
 ghost use Rattle.certificate_text.specs.CertificateText.{Text};
+ghost use Rattle.certificate_text.specs.Readable.{AreAggregations, AreColumns, AreConjuncts};
 ghost use Rattle.certificate_read.specs.WordReading as spec;
 
 use crate::line_fault::LineFault;
@@ -101,7 +102,7 @@ impl<'a> Words<'a> {
     }
 
     pub(crate) fn columns(&mut self, alloc: Global) -> Result<Columns, LineFault>
-        ensures { spec.ReadsWords spec.numbers_words spec.AreColumns self.old self.new result }
+        ensures { spec.ReadsWords spec.numbers_words AreColumns self.old self.new result }
     {
         match columns(alloc, self.word()?)? {
             Some(columns) => Ok(columns),
@@ -113,7 +114,7 @@ impl<'a> Words<'a> {
     }
 
     pub(crate) fn aggregations(&mut self, alloc: Global) -> Result<Aggregations, LineFault>
-        ensures { spec.ReadsWords spec.aggregations_words spec.AreAggregations self.old self.new result }
+        ensures { spec.ReadsWords spec.aggregations_words AreAggregations self.old self.new result }
     {
         match aggregations(alloc, self.word()?)? {
             Some(added) => Ok(added),
@@ -125,7 +126,7 @@ impl<'a> Words<'a> {
     }
 
     pub(crate) fn conjuncts(&mut self, alloc: Global) -> Result<Conjuncts, LineFault>
-        ensures { spec.ReadsWords spec.conjuncts_words spec.AreConjuncts self.old self.new result }
+        ensures { spec.ReadsWords spec.conjuncts_words AreConjuncts self.old self.new result }
     {
         match conjuncts(alloc, self.word()?, MOST_NESTED)? {
             Some(conjuncts) => Ok(conjuncts),

@@ -1,3 +1,5 @@
+pub mod KeptTerms
 pub mod LimitLists
 pub mod PlanTexts
+pub mod WholeTexts
 mod WorkedTexts

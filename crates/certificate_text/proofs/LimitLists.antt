@@ -13,17 +13,15 @@ use Rattle.algebra.specs.declared.condition.Condition.TheOpen.{Condition-F}
 use Rattle.physical.specs.declared.plan.Plan.{Plan, out-Plan, fold_out-Plan}
 use Rattle.certificate_text.specs.declared.fault.TextRefusal.{TextRefusal}
 use Rattle.certificate_text.specs.CertificateText.{Text, node_count, certificate_text}
-use Rattle.certificate_text.specs.Limits.{most_lines, most_nodes, most_deep, line_is_within, written, nests_layer, nests_within, all_nest_within, node_is_within, within_layer, nodes_within, checked}
+use Rattle.certificate_parts.specs.Conditions.{nests_layer, nests_within}
+use Rattle.certificate_parts.proofs.OpenConditions.{nests-at, one-less}
+use Rattle.certificate_text.specs.Limits.{most_lines, most_nodes, most_deep, line_is_within, written, all_nest_within, node_is_within, within_layer, nodes_within, checked}
 
 -- ---- conditions
 
 all-map : (cs : List Condition) (room : ℕ) → list_all (λ c. c room) (map nests_within cs) ≡ all_nest_within cs room
 all-map [] room = refl
 all-map (c ∷ cs) room = ap (λ b. nests_within c room && b) (all-map cs room)
-
-nests-at : (x : Condition-F Condition) (c : Condition) (room : ℕ) → roll-Condition x ≡ c → nests_within c room ≡ nests_layer (map-Condition Condition (ℕ → Bool) nests_within x) room
-unfolding nests_within
-nests-at x c room is = ap (λ c. nests_within c room) (sym is) ∙ ap (λ f. f room) (fold-roll-Condition (ℕ → Bool) nests_layer x)
 
 no-room : (x : Condition-F (ℕ → Bool)) → nests_layer x 0 ≡ false
 no-room (Condition-F.Compare op a b) = refl
@@ -41,9 +39,6 @@ nests_nowhere c room none = sym (ap (nests_within c) none ∙ ap (λ f. f 0) (fo
 -- there is room, and one less for the parts
 some-room : (room : ℕ) → nat_lt 0 (room + 1) ≡ true
 some-room room = lt-ltb 0 (room + 1) (omega arith)
-
-one-less : (room : ℕ) → (room + 1) - 1 ≡ room
-one-less room = omega arith
 
 pub part_compare : (d : Condition) (op : Comparison) (a b : Term) (room : ℕ) → d ≡ Compare op a b → true ≡ nests_within d (room + 1)
 part_compare d op a b room is = sym (nests-at (Condition-F.Compare op a b) d (room + 1) (rolls-Compare op a b ∙ sym is) ∙ some-room room)

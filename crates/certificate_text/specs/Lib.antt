@@ -1,4 +1,5 @@
 pub mod CertificateText
 pub mod Codes
 pub mod Limits
+pub mod Readable
 pub mod WorkedTexts

@@ -2,8 +2,7 @@
 use Rattle.std.specs.Prelude.{ℕ, ◌+◌, ◌-◌, Bool, true, false, ◌&&◌, nat_le, nat_lt, List, [], ◌∷◌, ◌++◌, length, map, flat_map, Result, Ok, Err}
 use Rattle.std.specs.List.{list_all}
 use Rattle.values.specs.Faults.{◌>>=◌}
-use Rattle.algebra.specs.declared.condition.Condition.{Condition, fold-Condition}
-use Rattle.algebra.specs.declared.condition.Condition.TheOpen.{Condition-F}
+use Rattle.algebra.specs.declared.condition.Condition.{Condition}
 use Rattle.algebra.specs.Expressions.{conditions}
 use Rattle.derivation.specs.declared.line.Line.{Line}
 use Rattle.derivation.specs.declared.line.Line.TheVariants.{Founds, Adds, Unites, Alike, Gives}
@@ -16,6 +15,7 @@ use Rattle.physical.specs.declared.plan.Node.TheVariants.{Implements, Sort}
 use Rattle.physical.specs.declared.plan.Plan.{Plan, fold-Plan}
 use Rattle.physical.specs.declared.plan.Plan.TheOpen.{Plan-F}
 use Rattle.certificate.specs.declared.certificate.Certificate.{Certificate}
+use Rattle.certificate_parts.specs.Conditions.{nests_within}
 use Rattle.certificate_text.specs.declared.fault.TextRefusal.{TextRefusal}
 use Rattle.certificate_text.specs.declared.fault.TextReason.TheVariants.{OverLimit}
 use Rattle.certificate_text.specs.CertificateText.{Text, node_count, certificate_text}
@@ -36,19 +36,6 @@ abbrev pub most_deep : ℕ
 most_deep = 1024
 
 -- ---- conditions
-
-abbrev pub nests_layer : Condition-F (ℕ → Bool) → ℕ → Bool
-nests_layer (Condition-F.Compare op a b) room = nat_lt 0 room
-nests_layer (Condition-F.IsNull a) room = nat_lt 0 room
-nests_layer (Condition-F.Not c) room = nat_lt 0 room && c (room - 1)
-nests_layer (Condition-F.And a b cs) room = nat_lt 0 room && list_all (λ c. c (room - 1)) (a ∷ b ∷ cs)
-nests_layer (Condition-F.Or a b cs) room = nat_lt 0 room && list_all (λ c. c (room - 1)) (a ∷ b ∷ cs)
-nests_layer (Condition-F.Exists g) room = nat_lt 0 room
-nests_layer (Condition-F.In a g k) room = nat_lt 0 room
-
--- whether no more conditions stand in one another than there is room for
-unfoldable pub nests_within : Condition → ℕ → Bool
-nests_within = fold-Condition (ℕ → Bool) nests_layer
 
 abbrev pub all_nest_within : List Condition → ℕ → Bool
 all_nest_within C room = list_all (λ c. nests_within c room) C

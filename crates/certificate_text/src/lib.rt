@@ -2,6 +2,7 @@
 #![tactic(auto)]
 
 pub mod fault;
+mod kept;
 mod limits;
 mod line_text;
 mod node_text;

@@ -3,6 +3,7 @@
 ghost use Rattle.std.specs.Prelude.{◌≡◌, ◌+◌, ◌∷◌, ◌++◌, ◌&&◌, nat_lt, [], map, Ok};
 ghost use Rattle.values.specs.Faults.{Gives};
 ghost use Rattle.values.specs.declared.fault.Fault.TheVariants.{Refused};
+ghost use Rattle.certificate_parts.specs.Conditions.{nests_within};
 ghost use Rattle.certificate_text.specs.declared.fault.TextRefusal.{TextRefusal};
 ghost use Rattle.certificate_text.specs.CertificateText.{certificate_text};
 ghost use Rattle.certificate_text.specs.Limits as spec;
@@ -31,7 +32,7 @@ pub const MOST_DEEP: usize = 1_024;
 #[cycle(nested)]
 #[tactic(auto, using(crate::proofs::LimitLists::nests_nowhere))]
 fn nests_within(condition: &Condition, room: usize) -> bool
-    ensures { result ≡ spec.nests_within condition.now room }
+    ensures { result ≡ nests_within condition.now room }
 {
     match room.checked_sub(1) {
         Some(inside) => parts_within(condition, inside),
@@ -43,7 +44,7 @@ fn nests_within(condition: &Condition, room: usize) -> bool
 #[cycle(nested)]
 #[tactic(auto, using(crate::proofs::LimitLists::part_compare, crate::proofs::LimitLists::part_is_null, crate::proofs::LimitLists::part_not, crate::proofs::LimitLists::part_and, crate::proofs::LimitLists::part_or, crate::proofs::LimitLists::part_exists, crate::proofs::LimitLists::part_in))]
 fn parts_within(condition: &Condition, room: usize) -> bool
-    ensures { result ≡ spec.nests_within condition.now (room + 1) }
+    ensures { result ≡ nests_within condition.now (room + 1) }
 {
     match condition {
         Condition::Compare(_, _, _) => true,

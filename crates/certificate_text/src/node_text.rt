@@ -1,10 +1,15 @@
 //! The nodes of a plan as text.
 
-ghost use Rattle.std.specs.Prelude.{◌≡◌, ◌+◌, ◌++◌, codes, IfOk, OnOk};
+ghost use Rattle.std.specs.Prelude.{◌≡◌, ◌+◌, ◌++◌, codes, true, IfOk, OnOk};
+ghost use Rattle.std.specs.List.{AllByRecursion};
+ghost use Rattle.certificate.specs.NodeInputs.{JoinsBy, TakesInputs, nodes_of};
+ghost use Rattle.certificate_parts.specs.Parts.{IsShort};
 ghost use Rattle.certificate_text.specs.CertificateText as spec;
+ghost use Rattle.certificate_text.specs.Limits.{all_nest_within, matching_conditions, most_nested, operator_conditions};
+ghost use Rattle.certificate_text.specs.Readable.{AreAggregations, AreColumns, AreConjuncts, CanBeRead, FitsMethod, IsReadableAccess, IsReadableMatching, IsReadableOperator};
 
 use crate::parts::{
-    push_aggregations, push_conjuncts, push_count, push_keys, push_number, push_numbers, push_text,
+    push_aggregations, push_columns, push_conjuncts, push_count, push_keys, push_number, push_text,
 };
 use algebra::{Aggregations, Columns, Conjuncts, LineId};
 use physical::{GroupMethod, IndexAccess, JoinMethod, Matching, Node, Operator, Plan};
@@ -22,16 +27,18 @@ fn kind_text(matching: &Matching) -> &'static str
 }
 
 /// Adds the conditions of a join behind a space.
+#[tactic(auto, using(crate::proofs::KeptTerms::both_nest))]
 fn push_lists(alloc: Global, text: &mut Vec<u8>, matching: &Matching) -> Result<(), AllocError>
-    ensures { OnOk result (text.new.items ≡ text.old.items ++ (codes " " ++ spec.lists_text matching.now)) }
+    ensures text { OnOk result (text.new.items ≡ text.old.items ++ (codes " " ++ spec.lists_text matching.now)) }
+    ensures readable { OnOk result (all_nest_within (matching_conditions matching.now) most_nested ≡ true → IsReadableMatching matching.now) }
 {
     match matching {
-        Matching::Inner(on) => push_conjuncts(alloc, text, " ", on.as_slice()),
-        Matching::Left(on) => push_conjuncts(alloc, text, " ", on.as_slice()),
-        Matching::Semi(on) => push_conjuncts(alloc, text, " ", on.as_slice()),
+        Matching::Inner(on) => push_conjuncts(alloc, text, " ", on),
+        Matching::Left(on) => push_conjuncts(alloc, text, " ", on),
+        Matching::Semi(on) => push_conjuncts(alloc, text, " ", on),
         Matching::Anti(ordinary, null_aware) => {
-            push_conjuncts(alloc, text, " ", ordinary.as_slice())?;
-            push_conjuncts(alloc, text, " ", null_aware.as_slice())
+            push_conjuncts(alloc, text, " ", ordinary)?;
+            push_conjuncts(alloc, text, " ", null_aware)
         }
     }
 }
@@ -51,7 +58,8 @@ fn push_join(
     method: JoinMethod,
     matching: &Matching,
 ) -> Result<(), AllocError>
-    ensures { OnOk result (text.new.items ≡ text.old.items ++ spec.join_text method matching.now line) }
+    ensures text { OnOk result (text.new.items ≡ text.old.items ++ spec.join_text method matching.now line) }
+    ensures readable { OnOk result (all_nest_within (matching_conditions matching.now) most_nested ≡ true → JoinsBy method matching.now → IsShort line × IsReadableMatching matching.now × FitsMethod method matching.now) }
 {
     match method {
         JoinMethod::NestedLoop => {
@@ -80,7 +88,8 @@ fn push_index_join(
     access: IndexAccess,
     matching: &Matching,
 ) -> Result<(), AllocError>
-    ensures { OnOk result (text.new.items ≡ text.old.items ++ spec.index_join_text access matching.now line) }
+    ensures text { OnOk result (text.new.items ≡ text.old.items ++ spec.index_join_text access matching.now line) }
+    ensures readable { OnOk result (all_nest_within (matching_conditions matching.now) most_nested ≡ true → IsShort line × IsReadableAccess access × IsReadableMatching matching.now) }
 {
     push_number(text, "iloop ", line)?;
     push_number(text, " ", access.line)?;
@@ -97,13 +106,14 @@ fn push_index_scan(
     access: IndexAccess,
     conjuncts: &Conjuncts,
 ) -> Result<(), AllocError>
-    ensures { OnOk result (text.new.items ≡ text.old.items ++ spec.index_scan_text access conjuncts.now line) }
+    ensures text { OnOk result (text.new.items ≡ text.old.items ++ spec.index_scan_text access conjuncts.now line) }
+    ensures readable { OnOk result (all_nest_within conjuncts.now most_nested ≡ true → IsShort line × IsReadableAccess access × AreConjuncts conjuncts.now) }
 {
     push_number(text, "iscan ", line)?;
     push_number(text, " ", access.line)?;
     push_number(text, " ", access.instance)?;
     push_number(text, " ", access.index)?;
-    push_conjuncts(alloc, text, " ", conjuncts.as_slice())
+    push_conjuncts(alloc, text, " ", conjuncts)
 }
 
 fn push_group(
@@ -113,15 +123,16 @@ fn push_group(
     keys: &Columns,
     added: &Aggregations,
 ) -> Result<(), AllocError>
-    ensures { OnOk result (text.new.items ≡ text.old.items ++ spec.group_text method keys.now added.now line) }
+    ensures text { OnOk result (text.new.items ≡ text.old.items ++ spec.group_text method keys.now added.now line) }
+    ensures readable { OnOk result (IsShort line × AreColumns keys.now × AreAggregations added.now) }
 {
     let name = match method {
         GroupMethod::Hash => "hgroup ",
         GroupMethod::Sorted => "sgroup ",
     };
     push_number(text, name, line)?;
-    push_numbers(text, " ", keys.as_slice())?;
-    push_aggregations(text, " ", added.as_slice())
+    push_columns(text, " ", keys)?;
+    push_aggregations(text, " ", added)
 }
 
 fn push_operator(
@@ -131,7 +142,8 @@ fn push_operator(
     operator: &Operator,
     inputs: usize,
 ) -> Result<(), AllocError>
-    ensures { OnOk result (text.new.items ≡ text.old.items ++ spec.operator_text operator.now line inputs) }
+    ensures text { OnOk result (text.new.items ≡ text.old.items ++ spec.operator_text operator.now line inputs) }
+    ensures readable { OnOk result (all_nest_within (operator_conditions operator.now) most_nested ≡ true → TakesInputs operator.now inputs → IsShort inputs → IsShort line × IsReadableOperator operator.now inputs) }
 {
     match operator {
         Operator::Scan { instance } => {
@@ -143,16 +155,16 @@ fn push_operator(
         }
         Operator::Filter { conjuncts } => {
             push_number(text, "filter ", line)?;
-            push_conjuncts(alloc, text, " ", conjuncts.as_slice())
+            push_conjuncts(alloc, text, " ", conjuncts)
         }
         Operator::FilterSubqueries { conjuncts } => {
             push_number(text, "filtersub ", line)?;
-            push_conjuncts(alloc, text, " ", conjuncts.as_slice())?;
+            push_conjuncts(alloc, text, " ", conjuncts)?;
             push_count(text, " ", inputs.saturating_sub(1))
         }
         Operator::Projection { columns } => {
             push_number(text, "cut ", line)?;
-            push_numbers(text, " ", columns.as_slice())
+            push_columns(text, " ", columns)
         }
         Operator::JoinRows { method, matching } => push_join(alloc, text, line, *method, matching),
         Operator::IndexJoin { access, matching } => {
@@ -176,7 +188,8 @@ fn push_node(
     node: &Node,
     inputs: usize,
 ) -> Result<(), AllocError>
-    ensures { OnOk result (text.new.items ≡ text.old.items ++ spec.node_text node.now inputs) }
+    ensures text { OnOk result (text.new.items ≡ text.old.items ++ spec.node_text node.now inputs) }
+    ensures readable { OnOk result (CanBeRead node.now inputs) }
 {
     match node {
         Node::Implements { line, operator } => push_operator(alloc, text, *line, operator, inputs)?,
@@ -187,7 +200,8 @@ fn push_node(
 
 /// Adds the nodes of a plan, each before its inputs.
 pub(crate) fn push_plan(alloc: Global, text: &mut Vec<u8>, plan: &Plan) -> Result<(), AllocError>
-    ensures { OnOk result (text.new.items ≡ text.old.items ++ spec.plan_text plan.now) }
+    ensures text { OnOk result (text.new.items ≡ text.old.items ++ spec.plan_text plan.now) }
+    ensures readable { OnOk result (AllByRecursion (λ n. CanBeRead n.0 n.1) (nodes_of plan.now)) }
 {
     let inputs = plan.inputs.as_slice();
     push_node(alloc, text, &plan.node, inputs.len())?;

@@ -1,12 +1,17 @@
 //! The parts of a line: numbers, columns, conditions, aggregates and keys, each added behind what goes before it.
 
-ghost use Rattle.std.specs.Prelude.{◌≡◌, ◌++◌, codes, decimal, flat_map, OnOk};
-ghost use Rattle.std.specs.List.{join_by};
+ghost use Rattle.std.specs.Prelude.{◌≡◌, ◌++◌, codes, decimal, flat_map, true, OnOk};
+ghost use Rattle.std.specs.List.{AllByRecursion, join_by};
 ghost use Rattle.algebra.specs.ConjunctOrder.{condition_text};
+ghost use Rattle.certificate_parts.specs.Parts.{IsShort, AreShort};
+ghost use Rattle.certificate_parts.specs.Spelled.{IsShortAggregate, IsShortAggregation};
 ghost use Rattle.certificate_text.specs.CertificateText as spec;
+ghost use Rattle.certificate_text.specs.Limits.{all_nest_within, most_nested};
+ghost use Rattle.certificate_text.specs.Readable.{AreAggregations, AreColumns, AreConjuncts, AreShortKeys, IsShortKey};
 
+use crate::kept::conditions_are_kept;
 use algebra::condition_text::condition_text;
-use algebra::{Aggregation, Condition};
+use algebra::{Aggregation, Aggregations, Columns, Condition, Conjuncts};
 use itoa::Buffer;
 use physical::OrderKey;
 use query::Aggregate;
@@ -19,7 +24,8 @@ pub(crate) fn push_text(text: &mut Vec<u8>, part: &str) -> Result<(), AllocError
 }
 
 pub(crate) fn push_number(text: &mut Vec<u8>, before: &str, number: u32) -> Result<(), AllocError>
-    ensures { OnOk result (text.new.items ≡ text.old.items ++ (before.now ++ decimal number)) }
+    ensures text { OnOk result (text.new.items ≡ text.old.items ++ (before.now ++ decimal number)) }
+    ensures short { IsShort number }
 {
     push_text(text, before)?;
     push_text(text, Buffer::new().format(number))
@@ -46,7 +52,8 @@ pub(crate) fn push_numbers(
     before: &str,
     numbers: &[u32],
 ) -> Result<(), AllocError>
-    ensures { OnOk result (text.new.items ≡ text.old.items ++ (before.now ++ spec.numbers_text numbers.now)) }
+    ensures text { OnOk result (text.new.items ≡ text.old.items ++ (before.now ++ spec.numbers_text numbers.now)) }
+    ensures short { AreShort numbers.now }
 {
     push_text(text, before)?;
     match numbers {
@@ -56,6 +63,17 @@ pub(crate) fn push_numbers(
             push_more_numbers(text, more)
         }
     }
+}
+
+pub(crate) fn push_columns(
+    text: &mut Vec<u8>,
+    before: &str,
+    columns: &Columns,
+) -> Result<(), AllocError>
+    ensures text { OnOk result (text.new.items ≡ text.old.items ++ (before.now ++ spec.numbers_text columns.now)) }
+    ensures readable { AreColumns columns.now }
+{
+    push_numbers(text, before, columns.as_slice())
 }
 
 fn push_condition(
@@ -100,15 +118,19 @@ fn push_conditions(
     }
 }
 
-/// Adds conditions in brackets.
+/// Adds conjuncts in brackets.
+#[tactic(auto, using(crate::proofs::KeptTerms::conjuncts_readable))]
 pub(crate) fn push_conjuncts(
     alloc: Global,
     text: &mut Vec<u8>,
     before: &str,
-    conditions: &[Condition],
+    conjuncts: &Conjuncts,
 ) -> Result<(), AllocError>
-    ensures { OnOk result (text.new.items ≡ text.old.items ++ (before.now ++ spec.conjuncts_text conditions.now)) }
+    ensures text { OnOk result (text.new.items ≡ text.old.items ++ (before.now ++ spec.conjuncts_text conjuncts.now)) }
+    ensures readable { all_nest_within conjuncts.now most_nested ≡ true → AreConjuncts conjuncts.now }
 {
+    let conditions = conjuncts.as_slice();
+    conditions_are_kept(conditions);
     push_text(text, before)?;
     push_text(text, "[")?;
     push_conditions(alloc, text, conditions)?;
@@ -116,7 +138,8 @@ pub(crate) fn push_conjuncts(
 }
 
 fn push_aggregate(text: &mut Vec<u8>, aggregate: Aggregate) -> Result<(), AllocError>
-    ensures { OnOk result (text.new.items ≡ text.old.items ++ spec.aggregate_text aggregate) }
+    ensures text { OnOk result (text.new.items ≡ text.old.items ++ spec.aggregate_text aggregate) }
+    ensures short { IsShortAggregate aggregate }
 {
     match aggregate {
         Aggregate::CountRows => push_text(text, "count"),
@@ -128,7 +151,8 @@ fn push_aggregate(text: &mut Vec<u8>, aggregate: Aggregate) -> Result<(), AllocE
 }
 
 fn push_aggregation(text: &mut Vec<u8>, before: &str, added: Aggregation) -> Result<(), AllocError>
-    ensures { OnOk result (text.new.items ≡ text.old.items ++ (before.now ++ spec.aggregation_text added)) }
+    ensures text { OnOk result (text.new.items ≡ text.old.items ++ (before.now ++ spec.aggregation_text added)) }
+    ensures short { OnOk result (IsShortAggregation added) }
 {
     push_number(text, before, added.column)?;
     push_text(text, "=")?;
@@ -136,7 +160,8 @@ fn push_aggregation(text: &mut Vec<u8>, before: &str, added: Aggregation) -> Res
 }
 
 fn push_more_aggregations(text: &mut Vec<u8>, more: &[Aggregation]) -> Result<(), AllocError>
-    ensures { OnOk result (text.new.items ≡ text.old.items ++ flat_map (λ a. codes "," ++ spec.aggregation_text a) more.now) }
+    ensures text { OnOk result (text.new.items ≡ text.old.items ++ flat_map (λ a. codes "," ++ spec.aggregation_text a) more.now) }
+    ensures short { OnOk result (AllByRecursion IsShortAggregation more.now) }
 {
     for added in more {
         push_aggregation(text, ",", *added)?;
@@ -147,12 +172,13 @@ fn push_more_aggregations(text: &mut Vec<u8>, more: &[Aggregation]) -> Result<()
 pub(crate) fn push_aggregations(
     text: &mut Vec<u8>,
     before: &str,
-    added: &[Aggregation],
+    added: &Aggregations,
 ) -> Result<(), AllocError>
-    ensures { OnOk result (text.new.items ≡ text.old.items ++ (before.now ++ spec.aggregations_text added.now)) }
+    ensures text { OnOk result (text.new.items ≡ text.old.items ++ (before.now ++ spec.aggregations_text added.now)) }
+    ensures readable { OnOk result (AreAggregations added.now) }
 {
     push_text(text, before)?;
-    match added {
+    match added.as_slice() {
         [] => push_text(text, "-"),
         [first, more @ ..] => {
             push_aggregation(text, "", *first)?;
@@ -162,14 +188,16 @@ pub(crate) fn push_aggregations(
 }
 
 fn push_key(text: &mut Vec<u8>, before: &str, key: OrderKey) -> Result<(), AllocError>
-    ensures { OnOk result (text.new.items ≡ text.old.items ++ (before.now ++ spec.key_text key)) }
+    ensures text { OnOk result (text.new.items ≡ text.old.items ++ (before.now ++ spec.key_text key)) }
+    ensures short { OnOk result (IsShortKey key) }
 {
     push_number(text, before, key.column)?;
     push_text(text, if key.descending { "d" } else { "a" })
 }
 
 fn push_more_keys(text: &mut Vec<u8>, more: &[OrderKey]) -> Result<(), AllocError>
-    ensures { OnOk result (text.new.items ≡ text.old.items ++ flat_map (λ k. codes "," ++ spec.key_text k) more.now) }
+    ensures text { OnOk result (text.new.items ≡ text.old.items ++ flat_map (λ k. codes "," ++ spec.key_text k) more.now) }
+    ensures short { OnOk result (AreShortKeys more.now) }
 {
     for key in more {
         push_key(text, ",", *key)?;
@@ -182,7 +210,8 @@ pub(crate) fn push_keys(
     before: &str,
     keys: &[OrderKey],
 ) -> Result<(), AllocError>
-    ensures { OnOk result (text.new.items ≡ text.old.items ++ (before.now ++ spec.keys_text keys.now)) }
+    ensures text { OnOk result (text.new.items ≡ text.old.items ++ (before.now ++ spec.keys_text keys.now)) }
+    ensures short { OnOk result (AreShortKeys keys.now) }
 {
     push_text(text, before)?;
     match keys {

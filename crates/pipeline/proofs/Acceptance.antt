@@ -15,7 +15,7 @@ use Rattle.certificate.specs.declared.certificate.CheckRefusal.{CheckRefusal}
 use Rattle.certificate.specs.QueryOrders.{answer}
 use Rattle.certificate.specs.Replay.{lines_replay, fitted_plan, replayed, IsChecked}
 use Rattle.certificate_text.specs.declared.fault.TextRefusal.{TextRefusal}
-use Rattle.certificate_read.specs.TextReading.{IsReadableCertificate}
+use Rattle.certificate_text.specs.Readable.{IsReadableCertificate}
 use Rattle.answer_text.specs.AnswerText.{answer_text}
 use Rattle.checker.specs.Accepted.{Accepted}
 use Rattle.pipeline.specs.declared.refusal.Refusal.{Refusal}

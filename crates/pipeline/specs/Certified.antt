@@ -9,7 +9,7 @@ use Rattle.certificate.specs.declared.certificate.Certificate.{Certificate}
 use Rattle.certificate.specs.declared.certificate.CheckRefusal.{CheckRefusal}
 use Rattle.certificate.specs.Replay.{replayed, IsChecked}
 use Rattle.certificate_text.specs.Limits.{written}
-use Rattle.certificate_read.specs.TextReading.{IsReadableCertificate}
+use Rattle.certificate_text.specs.Readable.{IsReadableCertificate}
 use Rattle.pipeline.specs.declared.refusal.Refusal.{Refusal}
 use Rattle.pipeline.specs.declared.refusal.Refusal.TheVariants as refusal
 use Rattle.pipeline.specs.EndToEnd.{Input, Asks, IsFromFiles, ByCertificate, IsUnbound, IsReached, IsTableRefused, AllReported, IsAnswerText, IsByPlan, WithQuery}

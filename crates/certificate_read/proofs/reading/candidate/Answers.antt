@@ -1,6 +1,6 @@
 use Rattle.std.proofs.Common.{◌++◌, flat_map, length, refl, ◌∙◌, codes, decimal}
 use Rattle.certificate_text.specs.CertificateText.{Text, ◌␣◌, ended, line_text, plan_text, node_count}
-use Rattle.certificate_read.proofs.WholeTexts.{written_within}
+use Rattle.certificate_text.proofs.WholeTexts.{written_within}
 use Rattle.certificate_read.proofs.WordCalls.{fails}
 use Rattle.certificate_read.proofs.reading.candidate.Goals as goal
 

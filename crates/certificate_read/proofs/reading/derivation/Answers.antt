@@ -1,6 +1,6 @@
 use Rattle.std.proofs.Common.{◌<◌, ◌^◌, ◌++◌, flat_map, length, refl, sym, ap, arith}
 use Rattle.certificate_text.specs.CertificateText.{line_text}
-use Rattle.certificate_read.specs.LineReading.{IsReadableLine}
+use Rattle.certificate_text.specs.Readable.{IsReadableLine}
 use Rattle.certificate_read.proofs.TextLists.{so_far_whole, so_far_next, so_far_read}
 use Rattle.certificate_read.proofs.WordCalls.{fails}
 use Rattle.certificate_read.proofs.reading.derivation.Goals as goal

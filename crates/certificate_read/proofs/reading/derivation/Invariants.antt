@@ -2,7 +2,7 @@ use Rattle.std.proofs.Common.{◌≡◌, List, ◌++◌, flat_map, length}
 use Rattle.std.specs.List.{AllByRecursion}
 use Rattle.derivation.specs.declared.line.Line.{Line}
 use Rattle.certificate_text.specs.CertificateText.{Text, line_text}
-use Rattle.certificate_read.specs.LineReading.{IsReadableLine}
+use Rattle.certificate_text.specs.Readable.{IsReadableLine}
 use Rattle.certificate_read.proofs.TextLists.{SoFar}
 use Rattle.certificate_read.proofs.reading.derivation.Given as goal
 

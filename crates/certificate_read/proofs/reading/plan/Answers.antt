@@ -3,7 +3,7 @@ use Rattle.values.specs.declared.fault.Fault.TheVariants.{Memory}
 use Rattle.physical.specs.declared.plan.Plan.{Plan}
 use Rattle.certificate_text.specs.CertificateText.{plan_text, node_count}
 use Rattle.certificate_read.specs.TextReading.{IsWanted}
-use Rattle.certificate_read.proofs.PlanNodes.{some_nodes}
+use Rattle.certificate_text.proofs.PlanTexts.{some_nodes}
 use Rattle.certificate_read.proofs.WordCalls.{gives_less}
 use Rattle.certificate_read.proofs.reading.plan.Goals as goal
 

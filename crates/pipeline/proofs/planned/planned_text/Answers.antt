@@ -11,8 +11,8 @@ returns-in_err-write-clause-refused c =
     let p = err_from_is_err_and c.from_residual-in_err-write.result c.from_residual-in_err-write.ensures.1 in
     of_fault c.from_residual-in_err-write.result (of_certificate c.in_err-write.field-0.0) _ (p.1 ∙ ap Err p.2)
     (unwritten c.args.schema.now c.args.query.now c.in_ok-planned.planned.certificate c.in_err-write.field-0.0
-    (checked c.args.schema.now c.args.query.now c.requires c.in_ok-planned.planned.certificate c.in_ok-planned.ensures.replays) c.in_err-write.ensures)
+    (checked c.args.schema.now c.args.query.now c.requires c.in_ok-planned.planned.certificate c.in_ok-planned.ensures.replays) c.in_err-write.ensures.text)
 
 pub returns-clause-planned : goal.returns-clause-planned
 returns-clause-planned c =
-    (c.in_ok-planned.planned.certificate, checked c.args.schema.now c.args.query.now c.requires c.in_ok-planned.planned.certificate c.in_ok-planned.ensures.replays, c.in_ok-write.ensures)
+    (c.in_ok-planned.planned.certificate, checked c.args.schema.now c.args.query.now c.requires c.in_ok-planned.planned.certificate c.in_ok-planned.ensures.replays, c.in_ok-write.ensures.text)
