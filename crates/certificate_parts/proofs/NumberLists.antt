@@ -65,7 +65,7 @@ pub texts_length : (words : List (Bor Text)) → length (texts words) ≡ length
 texts_length [] = refl
 texts_length (word ∷ words) = omega (arith, texts_length words)
 
-texts_more : (words : List (Bor Text)) (i : ℕ) (d : Bor Text) → i < length words → take (i + 1) (texts words) ≡ take i (texts words) ++ ((get_or words i d).now ∷ [])
+pub texts_more : (words : List (Bor Text)) (i : ℕ) (d : Bor Text) → i < length words → take (i + 1) (texts words) ≡ take i (texts words) ++ ((get_or words i d).now ∷ [])
 texts_more words i d l =
     let s : i + 1 ≡ suc i = omega arith in
     ap (λ n. take n (texts words)) s ∙ take-suc (texts words) i [] (subst (λ n. i < n) (sym (texts_length words)) l)

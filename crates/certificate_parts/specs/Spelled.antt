@@ -16,7 +16,7 @@ use Rattle.algebra.specs.declared.condition.Term.{Term}
 use Rattle.algebra.specs.declared.condition.Term.TheVariants as term
 use Rattle.algebra.specs.ConjunctOrder.{term_text}
 use Rattle.certificate_parts.specs.declared.part_fault.PartReason.{PartReason}
-use Rattle.certificate_parts.specs.PartTexts.{Text, aggregation_text, aggregations_text}
+use Rattle.certificate_parts.specs.PartTexts.{Text, aggregate_text, aggregation_text, aggregations_text}
 use Rattle.certificate_parts.specs.Parts.{IsShort}
 
 -- a value that the text spells is what the call gives, as view shows it, unless memory runs out
@@ -36,15 +36,26 @@ IsShortAggregate (by.Max k) = IsShort k
 abbrev pub IsShortAggregation : Aggregation → Type 0
 IsShortAggregation a = IsShort a.column × IsShortAggregate a.aggregate
 
+abbrev pub AreShortAggregations : List Aggregation → Type 0
+AreShortAggregations G = AllByRecursion IsShortAggregation G
+
 -- their columns are within 32 bits, and those that they add rise strictly
 abbrev pub AreReadable : List Aggregation → Type 0
-AreReadable G = AllByRecursion IsShortAggregation G × AreByColumn G
+AreReadable G = AreShortAggregations G × AreByColumn G
 
+abbrev pub SpellsAggregate : Text → Aggregate → Type 0
+SpellsAggregate t a = t ≡ aggregate_text a
+
+abbrev pub SpellsAggregation : Text → Aggregation → Type 0
+SpellsAggregation t a = t ≡ aggregation_text a
+
+-- each text is that of an aggregate with its column
 abbrev pub SpellEachAggregation : List Text → List Aggregation → Type 0
-SpellEachAggregation ts G = (ts ≡ map aggregation_text G) × AreReadable G
+SpellEachAggregation ts G = ts ≡ map aggregation_text G
 
+-- a list of aggregates, with columns of any size, that rise strictly
 abbrev pub SpellsAggregations : Text → List Aggregation → Type 0
-SpellsAggregations t G = (t ≡ aggregations_text G) × AreReadable G
+SpellsAggregations t G = (t ≡ aggregations_text G) × AreByColumn G
 
 -- ---- terms
 
