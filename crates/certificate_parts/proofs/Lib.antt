@@ -16,3 +16,4 @@ pub mod Numerals
 pub mod OpenConditions
 pub mod PartLists
 pub mod TermParts
+pub mod WideConditions

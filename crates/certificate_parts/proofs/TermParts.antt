@@ -350,7 +350,7 @@ algebras_text (term.Literal (value.Int (pos n))) s = ap (λ x. 105 ∷ x) (sym (
 algebras_text (term.Literal (value.Int (negsuc n))) s = ap (λ x. 105 ∷ 45 ∷ x) (sym (behind_minus n s))
 algebras_text (term.Literal (value.Text u)) s = refl
 
-short_term : (t : Term) → IsReadableTerm t → IsShortTerm t × HasText t
+pub short_term : (t : Term) → IsReadableTerm t → IsShortTerm t × HasText t
 short_term (term.Column k) s = (s, tt)
 short_term (term.Literal value.Null) s = (tt, tt)
 short_term (term.Literal (value.Int z)) s = (s, tt)
