@@ -1,16 +1,16 @@
 -- Conditions with numbers of any size: within the ranges their texts are those of algebra.
-use Rattle.std.proofs.Common.{◌≡◌, ℕ, zero, suc, ◌+◌, Bool, true, List, [], ◌∷◌, ◌++◌, map, refl, sym, ◌∙◌, ap, arith, codes}
+use Rattle.std.proofs.Common.{◌≡◌, ℕ, zero, suc, List, [], ◌∷◌, ◌++◌, map, refl, sym, ◌∙◌, ap, arith, codes}
 use Rattle.std.specs.List.{AllByRecursion}
 use Rattle.algebra.specs.declared.condition.Condition.{Condition, roll-Condition, fold-roll-Condition, map-Condition}
 use Rattle.algebra.specs.declared.condition.Condition.TheVariants.{Compare, IsNull, Not, And, Or, Exists, In, rolls-Compare, rolls-IsNull, rolls-Not, rolls-And, rolls-Or, rolls-Exists, rolls-In}
 use Rattle.algebra.specs.declared.condition.Condition.TheOpen.{Condition-F}
 use Rattle.algebra.specs.declared.condition.Term.{Term}
-use Rattle.algebra.specs.ConjunctOrder.{comparison_text, condition_text, listed, term_text}
+use Rattle.algebra.specs.ConjunctOrder.{comparison_text, condition_text, listed}
 use Rattle.certificate_parts.specs.declared.conditions.Form.{Form}
 use Rattle.certificate_parts.specs.declared.conditions.Form.TheVariants as form
 use Rattle.certificate_parts.specs.Conditions.{IsReadable, terms_of}
 use Rattle.certificate_parts.specs.ConditionReading.{part_text_layer, part_condition_text, IsWithin, IsShortCondition}
-use Rattle.certificate_parts.specs.PartTexts.{Text, part_term_text}
+use Rattle.certificate_parts.specs.PartTexts.{Text}
 use Rattle.certificate_parts.specs.Spelled.{IsReadableTerm, IsShortTerm, HasText}
 use Rattle.certificate_parts.proofs.DecimalNumerals.{short_decimal}
 use Rattle.certificate_parts.proofs.OpenConditions.{Body, opened, some_room, text-at}
