@@ -11,7 +11,7 @@ use Rattle.certificate_parts.specs.declared.part_fault.PartReason.TheVariants.{O
 use Rattle.certificate_parts.specs.declared.conditions.Cursor.{Cursor}
 use Rattle.certificate_parts.specs.Conditions.{IsReadable, nests_within, terms_of}
 use Rattle.certificate_parts.specs.Numerals.{numeral}
-use Rattle.certificate_parts.specs.PartTexts.{Text, part_term_text}
+use Rattle.certificate_parts.specs.PartTexts.{Text, lacks, part_term_text}
 use Rattle.certificate_parts.specs.Spelled.{HasText, IsShortTerm}
 
 -- ---- the text of a condition, with numbers of any size
@@ -66,3 +66,10 @@ ReadsCondition room old new (Ok v) =
 ReadsCondition room old new (Err Memory) = Unit {0}
 ReadsCondition room old new (Err (Refused OtherForm)) = ((c : Condition) (rest : Text) → BeginsWith room old.left.now c rest → ⊥) × (IsTooDeep room old.left.now → ⊥)
 ReadsCondition room old new (Err (Refused OverLimit)) = IsTooDeep room old.left.now
+
+-- the call passes a word, which view shows, and the first such character, which stands behind it
+abbrev pub PassesWord : {V : Type 0} → (V → Text) → ℕ → Cursor → Cursor → Result V (Fault PartReason) → Type 0
+PassesWord view end old new (Ok w) = (old.left.now ≡ view w ++ (end ∷ new.left.now)) × (lacks end (view w) ≡ true) × (new.in_range ≡ old.in_range)
+PassesWord view end old new (Err Memory) = Unit {0}
+PassesWord view end old new (Err (Refused OtherForm)) = (word : Text) (rest : Text) → lacks end word ≡ true → old.left.now ≡ word ++ (end ∷ rest) → ⊥
+PassesWord view end old new (Err (Refused OverLimit)) = ⊥
