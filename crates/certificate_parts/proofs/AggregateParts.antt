@@ -1,5 +1,5 @@
--- Aggregates, as they are read.
-use Rattle.std.proofs.Common.{◌≡◌, ℕ, ◌<◌, true, ◌∷◌, ◌++◌, length, get_or, Result, Ok, Option, Some, None, MatchOption, length-append, is_some, refl, sym, ◌∙◌, ap, subst, arith, codes}
+-- Aggregates, as they are cut and read.
+use Rattle.std.proofs.Common.{◌≡◌, ℕ, ◌<◌, true, false, ◌∷◌, ◌++◌, length, get_or, Ok, Err, Option, Some, None, MatchOption, ◌⊎◌, inl, inr, length-append, is_some, if◌then◌else◌, refl, sym, ◌∙◌, ap, subst, arith, codes}
 use denote.Ref.{Bor}
 use Rattle.std.specs.Option.{unwrap_or}
 use Rattle.std.proofs.Math.Seq.{get_or-append_seam}
@@ -11,9 +11,10 @@ use Rattle.certificate_parts.specs.declared.part_fault.PartReason.{PartReason}
 use Rattle.certificate_parts.specs.PartTexts.{Text, lacks, aggregate_text, aggregation_text, IsNamed}
 use Rattle.certificate_parts.specs.Numerals.{numeral}
 use Rattle.certificate_parts.specs.Parts.{IsRead, SpellsNumber, IsShort}
-use Rattle.certificate_parts.specs.Spelled.{IsShortAggregate, IsShortAggregation}
+use Rattle.certificate_parts.specs.declared.part_fault.PartReason.TheVariants.{OtherForm, OverLimit}
+use Rattle.certificate_parts.specs.Spelled.{IsShortAggregate, IsShortAggregation, SpellsAggregate, SpellsAggregation}
+use Rattle.certificate_parts.proofs.Exits.{same_some, not_none}
 use Rattle.certificate_parts.proofs.Lacking.{lacks_at, numeral_lacks}
-use Rattle.certificate_parts.proofs.NumberParts.{short_given, number_given}
 
 abbrev Cut : Type 0
 Cut = Option (Bor Text × Bor Text)
@@ -52,21 +53,84 @@ aggregate_cut (by.Sum k) w r h e = named_cut (by.Sum k) (codes "sum") k r (refl,
 aggregate_cut (by.Min k) w r h e = named_cut (by.Min k) (codes "min") k r (refl, refl) (cut_at 58 w (codes "min") (numeral k) r h (omega arith) refl e)
 aggregate_cut (by.Max k) w r h e = named_cut (by.Max k) (codes "max") k r (refl, refl) (cut_at 58 w (codes "max") (numeral k) r h (omega arith) refl e)
 
--- the number is read as its column, and the name is the aggregate's
-pub aggregate_read : (a : Aggregate) (w : Text) (x : Bor Text × Bor Text) (read : Option ℕ) (k : ℕ) (named : Option Aggregate) → IsSplitOnceResult 58 w (Some x) → IsShortAggregate a → w ≡ aggregate_text a → IsRead SpellsNumber IsShort x.1.now (Ok read)
-    → k ≡ unwrap_or read 0 → ((b : Aggregate) → IsNamed b x.0.now k → named ≡ Some b) → (is_some read ≡ true) × (named ≡ Some a)
-aggregate_read a w x read k named h s e is l f =
-    let cut = aggregate_cut a w (Some x) h e in
-    let found = short_given x.1.now (column_of a) read is cut.1 (short_column a s) in
-    (ap is_some found, f a (subst (λ k. IsNamed a x.0.now k) (sym (l ∙ ap (λ r. unwrap_or r 0) found)) cut.0))
+-- ---- an aggregate
+
+pub named_text : (a : Aggregate) (name : Text) (k : ℕ) → IsNamed a name k → (aggregate_text a ≡ name ++ (58 ∷ numeral k)) × (column_of a ≡ k)
+named_text by.CountRows name k n = absurd n
+named_text (by.Count c) name k n = ((λ i. sym n.0 i ++ (58 ∷ numeral (n.1 i))), n.1)
+named_text (by.Sum c) name k n = ((λ i. sym n.0 i ++ (58 ∷ numeral (n.1 i))), n.1)
+named_text (by.Min c) name k n = ((λ i. sym n.0 i ++ (58 ∷ numeral (n.1 i))), n.1)
+named_text (by.Max c) name k n = ((λ i. sym n.0 i ++ (58 ∷ numeral (n.1 i))), n.1)
+
+-- the aggregate of the name over another column
+renamed : (a : Aggregate) (name : Text) (k m : ℕ) → IsNamed a name k → (b : Aggregate) × IsNamed b name m
+renamed by.CountRows name k m n = absurd n
+renamed (by.Count c) name k m n = (by.Count m, (n.0, refl))
+renamed (by.Sum c) name k m n = (by.Sum m, (n.0, refl))
+renamed (by.Min c) name k m n = (by.Min m, (n.0, refl))
+renamed (by.Max c) name k m n = (by.Max m, (n.0, refl))
+
+column_short : (a : Aggregate) (name : Text) (k : ℕ) → IsNamed a name k → IsShort k → IsShortAggregate a
+column_short by.CountRows name k n s = tt
+column_short (by.Count c) name k n s = subst IsShort (sym n.1) s
+column_short (by.Sum c) name k n s = subst IsShort (sym n.1) s
+column_short (by.Min c) name k n s = subst IsShort (sym n.1) s
+column_short (by.Max c) name k n s = subst IsShort (sym n.1) s
+
+-- without a colon it is the one over rows
+pub aggregate_uncut : (w : Text) (r : Cut) → IsSplitOnceResult 58 w r → r ≡ None → (w ≡ codes "count" → ⊥) → (a : Aggregate) → SpellsAggregate w a → ⊥
+aggregate_uncut w r h none other a e = let rows : a ≡ by.CountRows = subst (λ r. MatchOption r (a ≡ by.CountRows) (λ x. IsNamed a x.0.now (column_of a) × (x.1.now ≡ numeral (column_of a)))) none (aggregate_cut a w r h e) in other (e ∙ ap aggregate_text rows)
+
+module _ (w : Text) (x : Bor Text × Bor Text) (h : IsSplitOnceResult 58 w (Some x)) where
+  whole : (a : Aggregate) (k : ℕ) → IsNamed a x.0.now k → x.1.now ≡ numeral k → SpellsAggregate w a
+  whole a k n e = (split_parts 58 w (Some x) h (omega arith)).0 ∙ ap (λ t. x.0.now ++ (58 ∷ t)) e ∙ sym (named_text a x.0.now k n).0
+
+  -- its column isn't read
+  pub aggregate_other : (reason : PartReason) → IsRead SpellsNumber IsShort x.1.now (Err reason) → IsRead SpellsAggregate IsShortAggregate w (Err reason)
+  aggregate_other OverLimit k = absurd k
+  aggregate_other OtherForm k = λ a e. k (column_of a) (aggregate_cut a w (Some x) h e).1
+
+  -- it has no name
+  pub aggregate_unnamed : (k : ℕ) → ((a : Aggregate) → IsNamed a x.0.now k → ⊥) → (a : Aggregate) → SpellsAggregate w a → ⊥
+  aggregate_unnamed k none a e = let b = renamed a x.0.now (column_of a) k (aggregate_cut a w (Some x) h e).0 in none b.0 b.1
+
+  pub aggregate_read : (r : Option ℕ) (k : ℕ) (a : Aggregate) → IsRead SpellsNumber IsShort x.1.now (Ok r) → k ≡ unwrap_or r 0 → IsNamed a x.0.now k → IsRead SpellsAggregate IsShortAggregate w (Ok (if is_some r then Some a else None))
+  aggregate_read (Some m) k a read e n = (whole a m (subst (λ k. IsNamed a x.0.now k) e n) read.0, column_short a x.0.now k n (subst IsShort (sym e) read.1))
+  aggregate_read None k a read e n =
+      let b = renamed a x.0.now k read.0 n in
+      (b.0, whole b.0 read.0 b.1 read.1, λ s. read.2 (subst IsShort (named_text b.0 x.0.now read.0 b.1).1 (short_column b.0 s)))
+
+  pub aggregate_past : (r : Option ℕ) (k : ℕ) (a : Aggregate) → IsRead SpellsNumber IsShort x.1.now (Ok r) → k ≡ unwrap_or r 0 → IsNamed a x.0.now k → is_some r ≡ false → IsRead SpellsAggregate IsShortAggregate w (Ok None)
+  aggregate_past r k a read e n past = subst (λ some. IsRead SpellsAggregate IsShortAggregate w (Ok (if some then Some a else None))) past (aggregate_read r k a read e n)
+
+-- ---- an aggregate with the column that it adds
 
 -- the text of an aggregate with its column is cut behind the column
 pub aggregation_cut : (a : Aggregation) (w : Text) (r : Cut) → IsSplitOnceResult 61 w r → w ≡ aggregation_text a → MatchOption r ⊥ (λ x. (x.0.now ≡ numeral a.column) × (x.1.now ≡ aggregate_text a.aggregate))
 aggregation_cut a w r h e = cut_at 61 w (numeral a.column) (aggregate_text a.aggregate) r h (omega arith) (numeral_lacks 61 a.column refl) e
 
-module _ (a : Aggregation) (w : Text) (x : Bor Text × Bor Text) (h : IsSplitOnceResult 61 w (Some x)) (s : IsShortAggregation a) (e : w ≡ aggregation_text a) where
-  pub column_read : (r : Result (Option ℕ) PartReason) → IsRead SpellsNumber IsShort x.0.now r → r ≡ Ok (Some a.column)
-  column_read r is = number_given x.0.now a.column r is (aggregation_cut a w (Some x) h e).0 s.0
+module _ (w : Text) (x : Bor Text × Bor Text) (h : IsSplitOnceResult 61 w (Some x)) where
+  pub column_other : (reason : PartReason) → IsRead SpellsNumber IsShort x.0.now (Err reason) → IsRead SpellsAggregation IsShortAggregation w (Err reason)
+  column_other OverLimit k = absurd k
+  column_other OtherForm k = λ a e. k a.column (aggregation_cut a w (Some x) h e).0
 
-  pub word_read : (r : Result (Option Aggregate) PartReason) → ((b : Aggregate) → IsShortAggregate b → x.1.now ≡ aggregate_text b → r ≡ Ok (Some b)) → r ≡ Ok (Some a.aggregate)
-  word_read r is = is a.aggregate s.1 (aggregation_cut a w (Some x) h e).1
+  pub word_other : (reason : PartReason) → IsRead SpellsAggregate IsShortAggregate x.1.now (Err reason) → IsRead SpellsAggregation IsShortAggregation w (Err reason)
+  word_other OverLimit k = absurd k
+  word_other OtherForm k = λ a e. k a.aggregate (aggregation_cut a w (Some x) h e).1
+
+  both : (a : Aggregation) → SpellsNumber x.0.now a.column → SpellsAggregate x.1.now a.aggregate → SpellsAggregation w a
+  both a e f = (split_parts 61 w (Some x) h (omega arith)).0 ∙ (λ i. e i ++ (61 ∷ f i))
+
+  pub aggregation_read : (k : Option ℕ) (g : Option Aggregate) (r : Option Aggregation) → IsRead SpellsNumber IsShort x.0.now (Ok k) → IsRead SpellsAggregate IsShortAggregate x.1.now (Ok g)
+      → MatchOption r ((k ≡ None) ⊎ (g ≡ None)) (λ a. (k ≡ Some a.column) × (g ≡ Some a.aggregate)) → IsRead SpellsAggregation IsShortAggregation w (Ok r)
+  aggregation_read (Some k) (Some g) (Some a) read is m =
+      let same_k : k ≡ a.column = same_some (Some k) k a.column refl m.0 in
+      let same_g : g ≡ a.aggregate = same_some (Some g) g a.aggregate refl m.1 in
+      (both a (read.0 ∙ ap numeral same_k) (is.0 ∙ ap aggregate_text same_g), (subst IsShort same_k read.1, subst IsShortAggregate same_g is.1))
+  aggregation_read (Some k) None (Some a) read is m = absurd (not_none None a.aggregate refl m.1)
+  aggregation_read None g (Some a) read is m = absurd (not_none None a.column refl m.0)
+  aggregation_read (Some k) (Some g) None read is (inl m) = absurd (not_none (Some k) k m refl)
+  aggregation_read (Some k) (Some g) None read is (inr m) = absurd (not_none (Some g) g m refl)
+  aggregation_read (Some k) None None read is m = (record { column = k; aggregate = is.0 }, both (record { column = k; aggregate = is.0 }) read.0 is.1, λ s. is.2 s.1)
+  aggregation_read None (Some g) None read is m = (record { column = read.0; aggregate = g }, both (record { column = read.0; aggregate = g }) read.1 is.0, λ s. read.2 s.0)
+  aggregation_read None None None read is m = (record { column = read.0; aggregate = is.0 }, both (record { column = read.0; aggregate = is.0 }) read.1 is.1, λ s. read.2 s.0)

@@ -1,5 +1,6 @@
 -- Steps of a reader along a text.
-use Rattle.std.proofs.Common.{◌≡◌, [], ◌∷◌, ◌++◌, drop, Result, Ok, Err, Option, Some, None, refl, sym, ◌∙◌, ap, subst}
+use Rattle.std.proofs.Common.{◌≡◌, ◌≢◌, ◌==◌, ℕ, suc, ◌<◌, Bool, true, false, not, ◌&&◌, length, get_or, arith, [], ◌∷◌, ◌++◌, drop, Result, Ok, Err, Option, Some, None, refl, sym, ◌∙◌, ap, subst}
+use Rattle.std.proofs.lemmas.Bool.{eqb-true}
 use Rattle.std.proofs.lemmas.Result.{err_from_is_err_and}
 use Rattle.std.specs.Result.{IsErrAnd}
 use Rattle.std.specs.Option.{option_map}
@@ -9,7 +10,7 @@ use Rattle.values.specs.Faults.{Fails, Gives}
 use Rattle.certificate_parts.specs.declared.part_fault.PartReason.{PartReason}
 use Rattle.certificate_parts.specs.declared.conditions.Cursor.{Cursor}
 use Rattle.certificate_parts.specs.Conditions.{Leaves}
-use Rattle.certificate_parts.specs.PartTexts.{Text}
+use Rattle.certificate_parts.specs.PartTexts.{Text, lacks}
 use Rattle.certificate_parts.proofs.Exits.{not_both, same_ok, same_some, not_none}
 
 pub same_rest : (w x y : Text) → w ++ x ≡ w ++ y → x ≡ y
@@ -51,3 +52,11 @@ pub leaves_whole : {V X : Type 0} (view : V → X) (x y : X) (rest : Text) (old 
 leaves_whole view x y rest old mid new (Ok v) e f h = (h.0 ∙ e, h.1, h.2 ∙ f)
 leaves_whole view x y rest old mid new (Err Memory) e f h = tt
 leaves_whole view x y rest old mid new (Err (Refused r)) e f h = absurd h
+
+-- a word that is cut at the first such character lacks it
+pub lacking_before : (c : ℕ) (w : Text) → ((i : ℕ) → i < length w → get_or w i 0 ≢ c) → lacks c w ≡ true
+lacking_before c [] free = refl
+lacking_before c (b ∷ w) free = by (b == c) refl (lacking_before c w (λ i l. free (suc i) (omega (arith, l)))) where
+  by : (same : Bool) → (b == c) ≡ same → lacks c w ≡ true → (not same && lacks c w) ≡ true
+  by true e more = absurd (free 0 (omega arith) (eqb-true b c e))
+  by false e more = more

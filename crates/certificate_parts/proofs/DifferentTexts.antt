@@ -1,5 +1,5 @@
 -- Different conditions have different texts, so conjuncts in their order have rising texts.
-use Rattle.std.proofs.Common.{◌≡◌, refl, sym, ◌∙◌, ap, subst, arith, Ordering, Less, Equal, Greater, ℕ, zero, suc, ◌+◌, ◌<◌, ◌^◌, Bool, true, false, not, if◌then◌else◌, ◌==◌, List, [], ◌∷◌, ◌++◌, length, get_or, drop, append_assoc, ℤ, pos, negsuc, codes, decimal, FitsSigned, IsUtf8}
+use Rattle.std.proofs.Common.{◌≡◌, refl, sym, ◌∙◌, ap, subst, arith, Ordering, Less, Equal, Greater, ℕ, zero, suc, ◌+◌, ◌<◌, ◌^◌, true, false, if◌then◌else◌, ◌==◌, List, [], ◌∷◌, ◌++◌, get_or, drop, append_assoc, ℤ, pos, negsuc, decimal, FitsSigned, IsUtf8}
 use Rattle.std.proofs.lemmas.Bool.{and_parts, false≢true}
 use Rattle.std.specs.Char.{is_ascii_digit}
 use Rattle.std.specs.Int.{w64}

@@ -26,6 +26,10 @@ same_found r found x y f g h = same_some found x y (same_ok r found (Some x) g f
 pub found_none : {A E : Type 0} (r : Result (Option A) E) (found : Option A) (x : A) → r ≡ Ok (Some x) → r ≡ Ok found → found ≡ None → ⊥
 found_none r found x f g h = not_none found x h (same_ok r found (Some x) g f)
 
+-- what holds of a fault holds of the result that hands it on
+pub holds_of_fault : {A E : Type 0} (P : Result A E → Type 0) (r : Result A E) (fault : E) → IsErrAnd r (λ given. given ≡ fault) → P (Err fault) → P r
+holds_of_fault P r fault e h = let x = err_from_is_err_and r e in subst P (sym (x.1 ∙ ap Err x.2)) h
+
 -- a fault that may be there is handed on
 pub handed_on : {R X Y Z : Type 0} (view : X → Y) (r : Result X (Fault R)) (fault : Fault R) (z : Z) (y : Y) → IsErrAnd r (λ given. given ≡ fault) → Fails fault (Ok z) → Gives view r (Ok y)
 handed_on {R} {X} {Y} {Z} view r fault z y e h =

@@ -14,4 +14,6 @@ pub mod NumberParts
 pub mod NumeralOrder
 pub mod Numerals
 pub mod OpenConditions
+pub mod PartLists
 pub mod TermParts
+pub mod WideConditions

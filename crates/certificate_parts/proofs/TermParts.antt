@@ -1,40 +1,41 @@
 -- Terms, as they are read.
-use Rattle.std.proofs.Common.{◌≡◌, ◌≢◌, ◌==◌, ℕ, zero, suc, ◌+◌, ◌/◌, ◌%◌, ◌<◌, ◌^◌, nat_le, Bool, true, false, not, ◌&&◌, ◌||◌, cond, List, [], ◌∷◌, length, get_or, drop, ℤ, pos, negsuc, neg_ℤ, Result, Ok, Err, Option, Some, FitsSigned, ltb, inl, inr, ◌⊎◌, refl, sym, ◌∙◌, ap, subst, arith, codes, decimal}
+use Rattle.std.proofs.Common.{◌≡◌, ◌≢◌, ◌==◌, ℕ, zero, suc, ◌+◌, ◌-◌, ◌*◌, ◌/◌, ◌%◌, ◌<◌, ◌≤◌, ◌^◌, nat_le, nat_lt, if◌then◌else◌, MatchBool, None, Bool, true, false, not, ◌&&◌, ◌||◌, cond, List, [], ◌∷◌, length, get_or, drop, ℤ, pos, negsuc, neg_ℤ, Result, Ok, Err, Option, Some, FitsSigned, ltb, inl, inr, ◌⊎◌, refl, sym, ◌∙◌, ap, subst, arith, codes, decimal}
 use lib.Dec.{eqb}
 use lib.Pointwise.{pointwise}
 use lib.Utf8.{scalar, scalars, encode, encodes, next, scalar_cases}
 use mathlib.Core.Logic.{⊎_elim}
 use Rattle.std.proofs.lemmas.Bool.{false≢true, and_parts, cases_lt, eq-eqb, eqb-true, ltb-true}
 use Rattle.std.proofs.lemmas.Str.Parse.{IsNumeralModel, numerals_by_value, tells_digits, parse_signed_minus, parse_signed_digits}
-use Rattle.std.proofs.lemmas.Result.{Ok-from_Ok_iff}
+use Rattle.std.proofs.lemmas.Bool.Decides.{nat_tests}
 use Rattle.values.proofs.Lists.{all_append}
 use Rattle.std.specs.Char.{is_ascii_digit}
 use Rattle.std.specs.Int.{w64}
-use Rattle.std.specs.Fmt.{signed_decimal}
+use Rattle.std.specs.Option.{option_map}
 use Rattle.std.specs.List.{list_all, AllByRecursion}
 use Rattle.std.specs.Prelude.{IsUtf8}
-use Rattle.std.specs.Result.{result_ok}
+use Rattle.std.specs.Result.{result_ok, OkIff}
 use Rattle.std.specs.Str.Parse.{AllDigits, ParsesSigned, digits_value}
 use Rattle.hex.specs.Hex.{encode_with, encode_lower, decode_of, lower_digits, IsBytes}
 use Rattle.hex.specs.declared.error.FromHexError.{FromHexError}
 use Rattle.hex.specs.declared.error.FromHexError.TheVariants.{OutOfMemory}
-use Rattle.hex.proofs.HexLemmas.{decode_of-encode_lower}
+use Rattle.hex.proofs.HexLemmas.{decode_of-encode_lower, decode_of-ok, decode_of-same}
 use Rattle.values.specs.declared.fault.Fault.{Fault}
+use Rattle.values.specs.declared.fault.Fault.TheVariants.{Memory, Refused}
 use Rattle.values.specs.Faults.{Gives}
 use Rattle.values.specs.declared.value.Value.TheVariants as value
 use Rattle.algebra.specs.declared.condition.Term.{Term}
 use Rattle.algebra.specs.declared.condition.Term.TheVariants as term
 use Rattle.algebra.specs.ConjunctOrder.{term_text}
 use Rattle.certificate_parts.specs.declared.part_fault.PartReason.{PartReason}
-use Rattle.certificate_parts.specs.PartTexts.{Text, lacks}
-use Rattle.certificate_parts.specs.Parts.{IsRead, SpellsNumber, IsShort}
+use Rattle.certificate_parts.specs.declared.part_fault.PartReason.TheVariants.{OtherForm, OverLimit}
+use Rattle.certificate_parts.specs.PartTexts.{Text, lacks, integer_text, part_term_text}
+use Rattle.certificate_parts.specs.Parts.{IsRead, Reads, ReadsAny, SpellsNumber, IsShort}
 use Rattle.certificate_parts.specs.Numerals.{numeral, has_numeral_form}
-use Rattle.certificate_parts.specs.Spelled.{is_lower_hex, IsReadableTerm, SpellsTerm}
+use Rattle.certificate_parts.specs.Spelled.{is_lower_hex, IsReadableTerm, IsShortTerm, HasText, SpellsInteger, SpellsBytes, SpellsText, SpellsTerm}
 use Rattle.certificate_parts.proofs.DecimalNumerals.{numeral-decimal, short_decimal}
-use Rattle.certificate_parts.proofs.Exits.{not_both, same_ok}
+use Rattle.certificate_parts.proofs.Exits.{not_both}
 use Rattle.certificate_parts.proofs.Lacking.{lacks_at, pass_both, pass_more, passes_other, numeral_lacks}
-use Rattle.certificate_parts.proofs.NumberParts.{number_given}
-use Rattle.certificate_parts.proofs.Numerals.{numeral_tested, numeral-zero, numeral_injective, numeral_value, form_digits, form_nonempty, numeral_digits}
+use Rattle.certificate_parts.proofs.Numerals.{tested_numeral, numeral_tested, numeral-zero, numeral_injective, numeral_value, form_digits, form_nonempty, numeral_digits}
 
 own : IsNumeralModel (AllDigits 10) (digits_value 10)
 own = numerals_by_value (AllDigits 10) tells_digits
@@ -53,30 +54,14 @@ nonempty n = form_nonempty (numeral n) (numeral_tested n)
 no_minus : (n : ℕ) (rest : Text) → numeral n ≡ 45 ∷ rest → ⊥
 no_minus n rest e = lacks_at 45 (numeral n) (numeral_lacks 45 n refl) 0 (nonempty n) (ap (λ w. get_or w 0 0) e)
 
-parsed : {E : Type 0} (z : ℤ) (w : Text) (r : Result ℤ E) → FitsSigned w64 z → w ≡ signed_decimal z → ParsesSigned w64 10 w r → r ≡ Ok z
-parsed (pos n) w r fits e h =
-    let is : w ≡ numeral n = e ∙ plain n fits in
-    let digits : AllDigits 10 w = subst (AllDigits 10) (sym is) (form_digits (numeral n) (numeral_tested n)) in
-    let value : digits_value 10 w ≡ n = ap (digits_value 10) is ∙ numeral_value n in
-    let some : 0 < length w = omega (arith, ap length is, nonempty n) in
-    let l : n < 2 ^ 63 = fits.sfits in
-    Ok-from_Ok_iff r _ _ (parse_signed_digits own w64 w r h digits) (some, omega (arith, value, l)) ∙ ap (λ n. Ok (pos n)) value
-parsed (negsuc n) w r fits e h =
-    let is : drop 1 w ≡ numeral (suc n) = ap (drop 1) e ∙ behind_minus n fits in
-    let digits : AllDigits 10 (drop 1 w) = subst (AllDigits 10) (sym is) (form_digits (numeral (suc n)) (numeral_tested (suc n))) in
-    let value : digits_value 10 (drop 1 w) ≡ suc n = ap (digits_value 10) is ∙ numeral_value (suc n) in
-    let some : 0 < length (drop 1 w) = omega (arith, ap length is, nonempty (suc n)) in
-    let l : n < 2 ^ 63 = fits.sfits in
-    Ok-from_Ok_iff r _ _ (parse_signed_minus own w64 w r h (ap (λ w. get_or w 0 0) e)) (digits, some, omega (arith, value, l)) ∙ ap (λ n. Ok (neg_ℤ (pos n))) value
-
 -- behind a minus are the digits of a number that isn't 0, and without one those of a number
-pub digits_behind : (z : ℤ) (w x : Text) → FitsSigned w64 z → w ≡ signed_decimal z → w ≡ 45 ∷ x → (n : ℕ) × (x ≡ numeral (suc n))
-digits_behind (pos n) w x fits e f = absurd (no_minus n x (sym (e ∙ plain n fits) ∙ f))
-digits_behind (negsuc n) w x fits e f = (n, ap (drop 1) (sym f ∙ e) ∙ behind_minus n fits)
+digits_behind : (z : ℤ) (w x : Text) → SpellsInteger w z → w ≡ 45 ∷ x → (n : ℕ) × (x ≡ numeral (suc n))
+digits_behind (pos n) w x e f = absurd (no_minus n x (sym e ∙ f))
+digits_behind (negsuc n) w x e f = (n, ap (drop 1) (sym f ∙ e))
 
-pub digits_alone : (z : ℤ) (w : Text) → FitsSigned w64 z → w ≡ signed_decimal z → ((rest : Text) → w ≢ 45 ∷ rest) → (n : ℕ) × (w ≡ numeral n)
-digits_alone (pos n) w fits e f = (n, e ∙ plain n fits)
-digits_alone (negsuc n) w fits e f = absurd (f (decimal (suc n)) e)
+digits_alone : (z : ℤ) (w : Text) → SpellsInteger w z → ((rest : Text) → w ≢ 45 ∷ rest) → (n : ℕ) × (w ≡ numeral n)
+digits_alone (pos n) w e f = (n, e)
+digits_alone (negsuc n) w e f = absurd (f (numeral (suc n)) e)
 
 pub tested : (n : ℕ) (w : Text) → w ≡ numeral n → has_numeral_form w ≡ true
 tested n w e = ap has_numeral_form e ∙ numeral_tested n
@@ -100,8 +85,57 @@ unlike v w h = by (pointwise eqb v w) refl where
   by true e = absurd (h (same_text v w e))
   by false e = refl
 
-pub integer_given : (z : ℤ) (w : Text) {E : Type 0} (r : Result ℤ E) → FitsSigned w64 z → w ≡ signed_decimal z → ParsesSigned w64 10 w r → result_ok r ≡ Some z
-integer_given z w r fits e h = ap result_ok (parsed z w r fits e h)
+-- whether a word is an integer
+abbrev pub IsTold : Text → Bool → Type 0
+IsTold w b = MatchBool b ((z : ℤ) × SpellsInteger w z) ((z : ℤ) → SpellsInteger w z → ⊥)
+
+pub minus_tested : (w x : Text) (other : Bool) → w ≡ 45 ∷ x → has_numeral_form x ≡ true → other ≡ not (pointwise eqb x (codes "0")) → IsTold w other
+minus_tested w x true e h f = (by (digits_value 10 x) (tested_numeral x h)) where
+  by : (n : ℕ) → x ≡ numeral n → (z : ℤ) × SpellsInteger w z
+  by zero is = absurd (false≢true (sym (f ∙ ap not (ap (λ x. pointwise eqb x (codes "0")) (is ∙ numeral-zero)))))
+  by (suc n) is = (negsuc n, e ∙ ap (λ x. 45 ∷ x) is)
+minus_tested w x false e h f = λ z s.
+    let behind = digits_behind z w x s e in
+    false≢true (f ∙ unlike x (codes "0") (no_zero behind.0 x behind.1))
+
+pub minus_untested : (w x : Text) (form : Bool) → w ≡ 45 ∷ x → form ≡ has_numeral_form x → form ≡ false → IsTold w form
+minus_untested w x form e is h = subst (IsTold w) (sym h) (λ z s. let behind = digits_behind z w x s e in false≢true (sym h ∙ is ∙ tested (suc behind.0) x behind.1))
+
+pub plain_tested : (w : Text) (form : Bool) → ((rest : Text) → w ≢ 45 ∷ rest) → form ≡ has_numeral_form w → IsTold w form
+plain_tested w true none e = (pos (digits_value 10 w), tested_numeral w (sym e))
+plain_tested w false none e = λ z s. let alone = digits_alone z w s none in false≢true (e ∙ tested alone.0 w alone.1)
+
+-- an integer is parsed where it is within 64 bits
+pub integer_read : {E : Type 0} (z : ℤ) (w : Text) (r : Result ℤ E) → SpellsInteger w z → ParsesSigned w64 10 w r → IsRead SpellsInteger (FitsSigned w64) w (Ok (result_ok r))
+integer_read {E} (pos n) w r e h = one r (parse_signed_digits own w64 w r h digits) where
+  digits : AllDigits 10 w
+  digits = subst (AllDigits 10) (sym e) (form_digits (numeral n) (numeral_tested n))
+
+  value : digits_value 10 w ≡ n
+  value = ap (digits_value 10) e ∙ numeral_value n
+
+  one : (r : Result ℤ E) → OkIff r ((0 < length w) × (digits_value 10 w < 2 ^ 63)) (pos (digits_value 10 w)) → IsRead SpellsInteger (FitsSigned w64) w (Ok (result_ok r))
+  one (Ok m) q = subst (λ m. SpellsInteger w m × FitsSigned w64 m) (sym (q.1 ∙ ap pos value)) (e, record { sfits = omega (arith, q.0.1, value) })
+  one (Err f) q = (pos n, e, λ fits. let l : n < 2 ^ 63 = fits.sfits in q (omega (arith, ap length e, nonempty n), omega (arith, l, value)))
+integer_read {E} (negsuc n) w r e h = one r (parse_signed_minus own w64 w r h (ap (λ w. get_or w 0 0) e)) where
+  behind : drop 1 w ≡ numeral (suc n)
+  behind = ap (drop 1) e
+
+  digits : AllDigits 10 (drop 1 w)
+  digits = subst (AllDigits 10) (sym behind) (form_digits (numeral (suc n)) (numeral_tested (suc n)))
+
+  value : digits_value 10 (drop 1 w) ≡ suc n
+  value = ap (digits_value 10) behind ∙ numeral_value (suc n)
+
+  one : (r : Result ℤ E) → OkIff r (AllDigits 10 (drop 1 w) × (0 < length (drop 1 w)) × (digits_value 10 (drop 1 w) ≤ 2 ^ 63)) (neg_ℤ (pos (digits_value 10 (drop 1 w)))) → IsRead SpellsInteger (FitsSigned w64) w (Ok (result_ok r))
+  one (Ok m) q = subst (λ m. SpellsInteger w m × FitsSigned w64 m) (sym (q.1 ∙ ap (λ n. neg_ℤ (pos n)) value)) (e, record { sfits = omega (arith, q.0.2, value) })
+  one (Err f) q = (negsuc n, e, λ fits. let l : n < 2 ^ 63 = fits.sfits in q (digits, omega (arith, ap length behind, nonempty (suc n)), omega (arith, l, value)))
+
+integer_told : (y z : ℤ) → integer_text y ≡ integer_text z → y ≡ z
+integer_told (pos m) (pos n) e = ap pos (numeral_injective m n e)
+integer_told (pos m) (negsuc n) e = absurd (no_minus m (numeral (suc n)) e)
+integer_told (negsuc m) (pos n) e = absurd (no_minus n (numeral (suc m)) (sym e))
+integer_told (negsuc m) (negsuc n) e = ap (λ n. neg_ℤ (pos n)) (numeral_injective (suc m) (suc n) (ap (drop 1) e))
 
 -- ---- hexadecimal digits
 
@@ -163,55 +197,185 @@ at_each (b ∷ t) h (suc i) = at_each t h.1 i
 pub hex_read : (t w : Text) → IsUtf8 t → w ≡ encode_lower t → (list_all is_lower_hex w ≡ true) × (decode_of w ≡ Ok t)
 hex_read t w u e = let bytes = text_bytes t u in (ap (list_all is_lower_hex) e ∙ encoded_lower t bytes, ap decode_of e ∙ decode_of-encode_lower t (at_each t bytes))
 
+-- ---- texts that are spelled in hexadecimal digits
+
+abbrev digit_of : ℕ → ℕ
+digit_of c = if nat_le 97 c then c - 87 else c - 48
+
+abbrev all_back : ℕ → Bool
+all_back zero = true
+all_back (suc n) = (not (is_lower_hex n) || (nat_lt (digit_of n) 16 && (get_or lower_digits (digit_of n) 0 == n))) && all_back n
+
+back_below : (n c : ℕ) → all_back n ≡ true → c < n → is_lower_hex c ≡ true → (digit_of c < 16) × (get_or lower_digits (digit_of c) 0 ≡ c)
+back_below zero c h l p = absurd (omega arith)
+back_below (suc n) c h l p =
+    let parts = and_parts (not (is_lower_hex n) || (nat_lt (digit_of n) 16 && (get_or lower_digits (digit_of n) 0 == n))) (all_back n) h in
+    elim (cases_lt c n) [
+      | inl below ↦ back_below n c parts.1 below p
+      | inr top ↦
+          let e : c ≡ n = omega arith in
+          let both : (nat_lt (digit_of n) 16 && (get_or lower_digits (digit_of n) 0 == n)) ≡ true = ap (λ t. not t || (nat_lt (digit_of n) 16 && (get_or lower_digits (digit_of n) 0 == n))) (sym p ∙ ap is_lower_hex e) ∙ parts.0 in
+          let each = and_parts (nat_lt (digit_of n) 16) (get_or lower_digits (digit_of n) 0 == n) both in
+          rw e (ltb-true (digit_of n) 16 each.0, eqb-true (get_or lower_digits (digit_of n) 0) n each.1)
+    ]
+
+lower_small : (c : ℕ) → is_lower_hex c ≡ true → c < 128
+lower_small c p = grind (arith, nat_tests)
+
+hex_back : (c : ℕ) → is_lower_hex c ≡ true → (digit_of c < 16) × (get_or lower_digits (digit_of c) 0 ≡ c)
+hex_back c p = back_below 128 c refl (lower_small c p) p
+
+-- an even number of digits spells bytes
+encoded : (s : Text) → list_all is_lower_hex s ≡ true → length s % 2 ≡ 0 → (t : Text) × SpellsBytes s t
+unfolding encode_with
+encoded [] h even = ([], (refl, tt))
+encoded (a ∷ []) h even = absurd (omega (arith, even))
+encoded (a ∷ b ∷ s) h even =
+    let first = and_parts (is_lower_hex a) (list_all is_lower_hex (b ∷ s)) h in
+    let second = and_parts (is_lower_hex b) (list_all is_lower_hex s) first.1 in
+    let more = encoded s second.1 (omega (arith, even)) in
+    let high = hex_back a first.0 in
+    let low = hex_back b second.0 in
+    let x : ℕ = digit_of a in
+    let y : ℕ = digit_of b in
+    let byte : ℕ = x * 16 + y in
+    let up : byte / 16 ≡ x = omega (arith, low.0) in
+    let down : byte % 16 ≡ y = omega (arith, low.0) in (
+      byte ∷ more.0,
+      ((λ i. (sym high.1 ∙ ap (λ d. get_or lower_digits d 0) (sym up)) i ∷ (sym low.1 ∙ ap (λ d. get_or lower_digits d 0) (sym down)) i ∷ more.1.0 i), (omega (arith, high.0, low.0), more.1.1)),
+    )
+
+pub bytes_read : (w b : Text) → list_all is_lower_hex w ≡ true → decode_of w ≡ Ok b → SpellsBytes w b
+bytes_read w b h e =
+    let is = encoded w h (decode_of-ok w b e).0 in
+    subst (SpellsBytes w) (decode_of-same w is.0 b (ap decode_of is.1.0 ∙ decode_of-encode_lower is.0 (at_each is.0 is.1.1)) e) is.1
+
+pub bytes_lower : (w t : Text) → SpellsBytes w t → list_all is_lower_hex w ≡ true
+bytes_lower w t s = ap (list_all is_lower_hex) s.0 ∙ encoded_lower t s.1
+
+pub bytes_decode : (w t : Text) → SpellsBytes w t → decode_of w ≡ Ok t
+bytes_decode w t s = ap decode_of s.0 ∙ decode_of-encode_lower t (at_each t s.1)
+
+-- decoding fails by memory alone
+pub decode_fails : (w t : Text) (e : FromHexError) → SpellsBytes w t → (e ≡ OutOfMemory → ⊥) → (e ≡ OutOfMemory) ⊎ (decode_of w ≡ Err e) → ⊥
+decode_fails w t e s other (inl memory) = other memory
+decode_fails w t e s other (inr fails) = not_both (decode_of w) e t fails (bytes_decode w t s)
+
+pub text_spells_bytes : (w t : Text) → SpellsText w t → SpellsBytes w t
+text_spells_bytes w t s = (s.0, text_bytes t s.1)
+
+-- bytes that aren't a text
+pub bytes_alone : (w b : Text) → SpellsBytes w b → (IsUtf8 b → ⊥) → (t : Text) → SpellsText w t → ⊥
+bytes_alone w b s none t u = none (subst IsUtf8 (decode_of-same w t b (bytes_decode w t (text_spells_bytes w t u)) (bytes_decode w b s)) u.1)
+
+pub bytes_fault : {V W : Type 0} (w : Text) (view : V → Text) (seen : W → Text) (fault : Fault PartReason) → ReadsAny SpellsBytes w view (Err fault) → ReadsAny SpellsText w seen (Err fault)
+bytes_fault w view seen Memory h = tt
+bytes_fault w view seen (Refused OverLimit) h = absurd h
+bytes_fault w view seen (Refused OtherForm) h = λ t s. h t (text_spells_bytes w t s)
+
 -- ---- which term it is
 
-head : (c d : ℕ) (x y : Text) → c ∷ x ≡ d ∷ y → c ≡ d
-head c d x y e = ap (λ w. get_or w 0 0) e
-
-column_word : (t : Term) (w x : Text) → w ≡ 99 ∷ x → SpellsTerm w t → (k : ℕ) × (t ≡ term.Column k) × (x ≡ numeral k) × IsShort k
-column_word (term.Column k) w x e s = (k, refl, ap (drop 1) (sym e ∙ s.0) ∙ short_decimal k s.1, s.1)
+column_word : (t : Term) (w x : Text) → w ≡ 99 ∷ x → SpellsTerm w t → (k : ℕ) × SpellsNumber x k × (t ≡ term.Column k)
+column_word (term.Column k) w x e s = (k, ap (drop 1) (sym e ∙ s.0), refl)
 column_word (term.Literal value.Null) w x e s = absurd (omega (arith, ap (λ w. get_or w 0 0) (sym e ∙ s.0)))
 column_word (term.Literal (value.Int z)) w x e s = absurd (omega (arith, ap (λ w. get_or w 0 0) (sym e ∙ s.0)))
 column_word (term.Literal (value.Text u)) w x e s = absurd (omega (arith, ap (λ w. get_or w 0 0) (sym e ∙ s.0)))
 
-integer_word : (t : Term) (w x : Text) → w ≡ 105 ∷ x → SpellsTerm w t → (z : ℤ) × (t ≡ term.Literal (value.Int z)) × (x ≡ signed_decimal z) × FitsSigned w64 z
+integer_word : (t : Term) (w x : Text) → w ≡ 105 ∷ x → SpellsTerm w t → (z : ℤ) × SpellsInteger x z × (t ≡ term.Literal (value.Int z))
 integer_word (term.Column k) w x e s = absurd (omega (arith, ap (λ w. get_or w 0 0) (sym e ∙ s.0)))
 integer_word (term.Literal value.Null) w x e s = absurd (omega (arith, ap (λ w. get_or w 0 0) (sym e ∙ s.0)))
-integer_word (term.Literal (value.Int z)) w x e s = (z, refl, ap (drop 1) (sym e ∙ s.0), s.1)
+integer_word (term.Literal (value.Int z)) w x e s = (z, ap (drop 1) (sym e ∙ s.0), refl)
 integer_word (term.Literal (value.Text u)) w x e s = absurd (omega (arith, ap (λ w. get_or w 0 0) (sym e ∙ s.0)))
 
-text_word : (t : Term) (w x : Text) → w ≡ 116 ∷ x → SpellsTerm w t → (u : Text) × (t ≡ term.Literal (value.Text u)) × (x ≡ encode_lower u) × IsUtf8 u
+text_word : (t : Term) (w x : Text) → w ≡ 116 ∷ x → SpellsTerm w t → (u : Text) × SpellsText x u × (t ≡ term.Literal (value.Text u))
 text_word (term.Column k) w x e s = absurd (omega (arith, ap (λ w. get_or w 0 0) (sym e ∙ s.0)))
 text_word (term.Literal value.Null) w x e s = absurd (omega (arith, ap (λ w. get_or w 0 0) (sym e ∙ s.0)))
 text_word (term.Literal (value.Int z)) w x e s = absurd (omega (arith, ap (λ w. get_or w 0 0) (sym e ∙ s.0)))
-text_word (term.Literal (value.Text u)) w x e s = (u, refl, ap (drop 1) (sym e ∙ s.0), s.1)
+text_word (term.Literal (value.Text u)) w x e s = (u, (ap (drop 1) (sym e ∙ s.0), s.1), refl)
 
-pub null_word : (t : Term) (w : Text) → w ≡ codes "n" → SpellsTerm w t → t ≡ term.Literal value.Null
+null_word : (t : Term) (w : Text) → w ≡ codes "n" → SpellsTerm w t → t ≡ term.Literal value.Null
 null_word (term.Column k) w e s = absurd (omega (arith, ap (λ w. get_or w 0 0) (sym e ∙ s.0)))
 null_word (term.Literal value.Null) w e s = refl
 null_word (term.Literal (value.Int z)) w e s = absurd (omega (arith, ap (λ w. get_or w 0 0) (sym e ∙ s.0)))
 null_word (term.Literal (value.Text u)) w e s = absurd (omega (arith, ap (λ w. get_or w 0 0) (sym e ∙ s.0)))
 
 pub no_word : (t : Term) (w : Text) → (w ≡ codes "n" → ⊥) → ((x : Text) → w ≢ 99 ∷ x) → ((x : Text) → w ≢ 105 ∷ x) → ((x : Text) → w ≢ 116 ∷ x) → SpellsTerm w t → ⊥
-no_word (term.Column k) w null column integer text s = column (decimal k) s.0
+no_word (term.Column k) w null column integer text s = column (numeral k) s.0
 no_word (term.Literal value.Null) w null column integer text s = null s.0
-no_word (term.Literal (value.Int z)) w null column integer text s = integer (signed_decimal z) s.0
+no_word (term.Literal (value.Int z)) w null column integer text s = integer (integer_text z) s.0
 no_word (term.Literal (value.Text u)) w null column integer text s = text (encode_lower u) s.0
 
--- ---- what the calls give of it
+-- ---- a term is read as what stands behind its letter
 
-pub column_given : (t : Term) (w x : Text) (r : Result (Option ℕ) PartReason) → w ≡ 99 ∷ x → IsRead SpellsNumber IsShort x r → SpellsTerm w t → (k : ℕ) × (t ≡ term.Column k) × (r ≡ Ok (Some k))
-column_given t w x r e h s = let word = column_word t w x e s in (word.0, word.1, number_given x word.0 r h word.2 word.3)
+abbrev Term_is : Text → Result (Option Term) PartReason → Type 0
+Term_is = IsRead SpellsTerm IsShortTerm
 
-pub integer_term : (t : Term) (w x : Text) (r : Result (Option ℤ) PartReason) → w ≡ 105 ∷ x → ((z : ℤ) → FitsSigned w64 z → x ≡ signed_decimal z → r ≡ Ok (Some z)) → SpellsTerm w t → (z : ℤ) × (t ≡ term.Literal (value.Int z)) × (r ≡ Ok (Some z))
-integer_term t w x r e h s = let word = integer_word t w x e s in (word.0, word.1, h word.0 word.3 word.2)
+module _ (w x : Text) (e : w ≡ 99 ∷ x) where
+  pub column_other : (reason : PartReason) → IsRead SpellsNumber IsShort x (Err reason) → Term_is w (Err reason)
+  column_other OverLimit h = absurd h
+  column_other OtherForm h = λ t s. let word = column_word t w x e s in h word.0 word.1
 
-pub text_term : (t : Term) (w x : Text) (r : Result Text (Fault PartReason)) → w ≡ 116 ∷ x → ((u : Text) → IsUtf8 u → x ≡ encode_lower u → Gives (λ x. x) r (Ok u)) → SpellsTerm w t → (u : Text) × (t ≡ term.Literal (value.Text u)) × Gives (λ x. x) r (Ok u)
-text_term t w x r e h s = let word = text_word t w x e s in (word.0, word.1, h word.0 word.3 word.2)
+  pub column_term : (k : ℕ) → IsRead SpellsNumber IsShort x (Ok (Some k)) → Term_is w (Ok (Some (term.Column k)))
+  column_term k h = ((e ∙ ap (λ x. 99 ∷ x) h.0, tt), h.1)
 
-pub decode_fails : (t w : Text) (e : FromHexError) → IsUtf8 t → w ≡ encode_lower t → (e ≡ OutOfMemory → ⊥) → (e ≡ OutOfMemory) ⊎ (decode_of w ≡ Err e) → ⊥
-decode_fails t w e u is other (inl memory) = other memory
-decode_fails t w e u is other (inr fails) = not_both (decode_of w) e t fails (hex_read t w u is).1
+  pub column_past : IsRead SpellsNumber IsShort x (Ok None) → Term_is w (Ok None)
+  column_past h = (term.Column h.0, (e ∙ ap (λ x. 99 ∷ x) h.1, tt), h.2)
+
+module _ (w x : Text) (e : w ≡ 105 ∷ x) where
+  pub integer_other : (reason : PartReason) → IsRead SpellsInteger (FitsSigned w64) x (Err reason) → Term_is w (Err reason)
+  integer_other OverLimit h = absurd h
+  integer_other OtherForm h = λ t s. let word = integer_word t w x e s in h word.0 word.1
+
+  pub integer_term : (z : ℤ) → IsRead SpellsInteger (FitsSigned w64) x (Ok (Some z)) → Term_is w (Ok (Some (term.Literal (value.Int z))))
+  integer_term z h = ((e ∙ ap (λ x. 105 ∷ x) h.0, tt), h.1)
+
+  pub integer_past : IsRead SpellsInteger (FitsSigned w64) x (Ok None) → Term_is w (Ok None)
+  integer_past h = (term.Literal (value.Int h.0), (e ∙ ap (λ x. 105 ∷ x) h.1, tt), h.2)
+
+module _ (w x : Text) (e : w ≡ 116 ∷ x) where
+  pub text_fault : {V W : Type 0} (view : V → Text) (seen : W → Term) (fault : Fault PartReason) → ReadsAny SpellsText x view (Err fault) → Reads SpellsTerm IsShortTerm w seen (Err fault)
+  text_fault view seen Memory h = tt
+  text_fault view seen (Refused OverLimit) h = absurd h
+  text_fault view seen (Refused OtherForm) h = λ t s. let word = text_word t w x e s in h word.0 word.1
+
+  pub text_term : (u : Text) → SpellsText x u → Term_is w (Ok (Some (term.Literal (value.Text u))))
+  text_term u h = ((e ∙ ap (λ x. 116 ∷ x) h.0, h.1), tt)
+
+-- ---- of a term that is spelled within its ranges
+
+pub algebras_text : (t : Term) → IsReadableTerm t → part_term_text t ≡ term_text t
+algebras_text (term.Column k) s = ap (λ x. 99 ∷ x) (sym (short_decimal k s))
+algebras_text (term.Literal value.Null) s = refl
+algebras_text (term.Literal (value.Int (pos n))) s = ap (λ x. 105 ∷ x) (sym (plain n s))
+algebras_text (term.Literal (value.Int (negsuc n))) s = ap (λ x. 105 ∷ 45 ∷ x) (sym (behind_minus n s))
+algebras_text (term.Literal (value.Text u)) s = refl
+
+pub short_term : (t : Term) → IsReadableTerm t → IsShortTerm t × HasText t
+short_term (term.Column k) s = (s, tt)
+short_term (term.Literal value.Null) s = (tt, tt)
+short_term (term.Literal (value.Int z)) s = (s, tt)
+short_term (term.Literal (value.Text u)) s = (tt, s)
+
+pub term_told : (w : Text) (t v : Term) → SpellsTerm w t → SpellsTerm w v → v ≡ t
+term_told w (term.Column k) v s r = let word = column_word v w (numeral k) s.0 r in word.2 ∙ ap term.Column (numeral_injective word.0 k (sym word.1))
+term_told w (term.Literal value.Null) v s r = null_word v w s.0 r
+term_told w (term.Literal (value.Int z)) v s r = let word = integer_word v w (integer_text z) s.0 r in word.2 ∙ ap (λ z. term.Literal (value.Int z)) (integer_told word.0 z (sym word.1))
+term_told w (term.Literal (value.Text u)) v s r =
+    let word = text_word v w (encode_lower u) s.0 r in
+    word.2 ∙ ap (λ u. term.Literal (value.Text u)) (decode_of-same (encode_lower u) word.0 u (bytes_decode (encode_lower u) word.0 (text_spells_bytes (encode_lower u) word.0 word.1)) (bytes_decode (encode_lower u) u (refl, text_bytes u s.1)))
+
+-- a term within its ranges is read as algebra spells it
+pub term_given : (w : Text) (r : Result (Option Term) (Fault PartReason)) → Reads SpellsTerm IsShortTerm w (λ t. t) r → (t : Term) → w ≡ term_text t → IsReadableTerm t → Gives (option_map (λ t. t)) r (Ok (Some t))
+term_given w r reads t e s = by r reads where
+  spells : SpellsTerm w t
+  spells = (e ∙ sym (algebras_text t s), (short_term t s).1)
+
+  by : (r : Result (Option Term) (Fault PartReason)) → Reads SpellsTerm IsShortTerm w (λ t. t) r → Gives (option_map (λ t. t)) r (Ok (Some t))
+  by (Ok (Some v)) h = ap (λ t. Ok (Some t)) (sym (term_told w t v spells h.0))
+  by (Ok None) h = absurd (h.2 (subst IsShortTerm (sym (term_told w t h.0 spells h.1)) (short_term t s).0))
+  by (Err Memory) h = tt
+  by (Err (Refused OtherForm)) h = absurd (h t spells)
+  by (Err (Refused OverLimit)) h = absurd h
 
 -- a word that the test finds to be another text
 pub no_text : (w v : Text) (same : Bool) → same ≡ false → same ≡ pointwise eqb w v → w ≡ v → ⊥
@@ -220,9 +384,6 @@ no_text w v same e f g = false≢true (sym e ∙ f ∙ ap (λ w. pointwise eqb w
 -- a word that the test finds to be the text
 pub text_same : (w v : Text) (same : Bool) → same ≡ true → same ≡ pointwise eqb w v → w ≡ v
 text_same w v same e f = same_text w v (sym f ∙ e)
-
-pub text_read : (r : Result Text (Fault PartReason)) (u x : Text) → r ≡ Ok x → Gives (λ x. x) r (Ok u) → u ≡ x
-text_read r u x e h = same_ok {E = PartReason} (Ok u) u x refl (subst (λ (r : Result Text (Fault PartReason)). Gives (λ x. x) r (Ok u)) e h)
 
 -- ---- the characters of a term's text
 

@@ -1,3 +1,4 @@
+pub mod ConditionReading
 pub mod Conditions
 pub mod DecimalNumerals
 pub mod DifferentTexts

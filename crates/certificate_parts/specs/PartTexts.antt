@@ -1,8 +1,12 @@
 -- The texts of the parts of a line, with numbers of any size.
-use Rattle.std.specs.Prelude.{◌≡◌, ◌==◌, ◌&&◌, nat_lt, ℕ, Bool, not, List, [], ◌∷◌, ◌++◌, codes}
+use Rattle.std.specs.Prelude.{◌≡◌, ◌==◌, ◌&&◌, nat_lt, ℕ, suc, ℤ, pos, negsuc, Bool, not, List, [], ◌∷◌, ◌++◌, codes}
 use Rattle.std.specs.List.{join_by, list_all}
+use Rattle.hex.specs.Hex.{encode_lower}
+use Rattle.values.specs.declared.value.Value.TheVariants as value
 use Rattle.query.specs.declared.query.Aggregate.{Aggregate}
 use Rattle.query.specs.declared.query.Aggregate.TheVariants as by
+use Rattle.algebra.specs.declared.condition.Term.{Term}
+use Rattle.algebra.specs.declared.condition.Term.TheVariants as term
 use Rattle.algebra.specs.declared.expr.Aggregation.{Aggregation}
 use Rattle.certificate_parts.specs.Numerals.{numeral}
 
@@ -47,3 +51,15 @@ aggregation_text a = numeral a.column ++ (codes "=" ++ aggregate_text a.aggregat
 
 abbrev pub aggregations_text : List Aggregation → Text
 aggregations_text = list_text aggregation_text
+
+-- a number with a minus or without one; there is no -0
+abbrev pub integer_text : ℤ → Text
+integer_text (pos n) = numeral n
+integer_text (negsuc n) = codes "-" ++ numeral (suc n)
+
+-- a term: a column, a number, the bytes of a text, or Null
+abbrev pub part_term_text : Term → Text
+part_term_text (term.Column k) = codes "c" ++ numeral k
+part_term_text (term.Literal value.Null) = codes "n"
+part_term_text (term.Literal (value.Int z)) = codes "i" ++ integer_text z
+part_term_text (term.Literal (value.Text t)) = codes "t" ++ encode_lower t

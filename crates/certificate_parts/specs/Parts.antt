@@ -24,6 +24,13 @@ Reads Spells IsInRange t view (Ok v) = IsRead Spells IsInRange t (Ok (option_map
 Reads Spells IsInRange t view (Err Memory) = Unit {0}
 Reads Spells IsInRange t view (Err (Refused r)) = IsRead Spells IsInRange t (Err r)
 
+-- the same of a call whose values have no range
+abbrev pub ReadsAny : {T X V : Type 0} → (T → X → Type 0) → T → (V → X) → Result V (Fault PartReason) → Type 0
+ReadsAny Spells t view (Ok v) = Spells t (view v)
+ReadsAny Spells t view (Err Memory) = Unit {0}
+ReadsAny {X = X} Spells t view (Err (Refused OtherForm)) = (x : X) → Spells t x → ⊥
+ReadsAny Spells t view (Err (Refused OverLimit)) = ⊥
+
 -- ---- numbers
 
 abbrev pub SpellsNumber : Text → ℕ → Type 0

@@ -10,6 +10,7 @@ ghost use Rattle.algebra.specs.declared.condition.Term.{Term};
 ghost use Rattle.algebra.specs.ConjunctOrder.{comparison_text, condition_text, term_text};
 ghost use Rattle.certificate_parts.specs.declared.conditions.Form.{Form};
 ghost use Rattle.certificate_parts.specs.Conditions.{Leaves, IsReadable, form_text, more_text};
+ghost use Rattle.certificate_parts.specs.ConditionReading.{PassesWord};
 ghost use Rattle.certificate_parts.specs.Numerals.{numeral};
 ghost use Rattle.certificate_parts.specs.PartTexts.{Text, lacks};
 ghost use Rattle.certificate_parts.specs.Parts.{IsShort};
@@ -111,7 +112,8 @@ impl<'a> Cursor<'a> {
     /// What stands before the next such character, which is passed too.
     fn until(&mut self, end: char) -> Result<&'a str, PartFault>
         requires { end < 128 }
-        ensures { (word : Text) (rest : Text) → lacks end word ≡ true → self.old.left.now ≡ word ++ (end ∷ rest) → Leaves (λ w. w.now) word rest self.old self.new result }
+        ensures passed { PassesWord (λ w. w.now) end self.old self.new result }
+        ensures spelled { (word : Text) (rest : Text) → lacks end word ≡ true → self.old.left.now ≡ word ++ (end ∷ rest) → Leaves (λ w. w.now) word rest self.old self.new result }
     {
         match self.left.split_once(end) {
             Some((word, left)) => {

@@ -1,12 +1,10 @@
 //! Terms: columns and literals.
 
-ghost use Rattle.std.specs.Prelude.{◌≡◌, ℕ, ℤ, List, Ok, Some, IsTrue, FitsSigned, IsUtf8};
+ghost use Rattle.std.specs.Prelude.{◌≡◌, ℤ, MatchBool, FitsSigned};
 ghost use Rattle.std.specs.Int.{w64};
-ghost use Rattle.std.specs.Fmt.{signed_decimal};
 ghost use Rattle.std.specs.List.{list_all};
-ghost use Rattle.hex.specs.Hex.{encode_lower};
-ghost use Rattle.values.specs.Faults.{Gives};
-ghost use Rattle.certificate_parts.specs.Spelled.{ReadsSpelled, SpellsTerm, is_lower_hex};
+ghost use Rattle.certificate_parts.specs.Parts.{IsRead, Reads, ReadsAny};
+ghost use Rattle.certificate_parts.specs.Spelled.{SpellsInteger, SpellsBytes, SpellsText, SpellsTerm, IsShortTerm, is_lower_hex};
 
 use crate::numbers::{is_numeral, number};
 use crate::part_fault::{PartFault, PartReason};
@@ -16,7 +14,7 @@ use values::{Literal, Text};
 
 /// Whether a word is a number with or without a minus, of any size. There is no `-0`.
 fn is_integer(word: &str) -> bool
-    ensures { (z : ℤ) → FitsSigned w64 z → word.now ≡ signed_decimal z → IsTrue result }
+    ensures { MatchBool result ((z : ℤ) × SpellsInteger word.now z) ((z : ℤ) → SpellsInteger word.now z → ⊥) }
 {
     match word.strip_prefix('-') {
         Some(digits) => is_numeral(digits) && digits != "0",
@@ -26,7 +24,7 @@ fn is_integer(word: &str) -> bool
 
 /// The number of 64 bits that a word is; `None` where it is past them.
 fn integer(word: &str) -> Result<Option<i64>, PartReason>
-    ensures { (z : ℤ) → FitsSigned w64 z → word.now ≡ signed_decimal z → result ≡ Ok (Some z) }
+    ensures { IsRead SpellsInteger (FitsSigned w64) word.now result }
 {
     if !is_integer(word) {
         return Err(PartReason::OtherForm);
@@ -48,7 +46,7 @@ fn are_lower_hex(bytes: &[u8]) -> bool
 
 /// The bytes that are spelled in lower-case hexadecimal digits.
 fn bytes(alloc: Global, digits: &str) -> Result<Vec<u8>, PartFault>
-    ensures { (t : List ℕ) → IsUtf8 t → digits.now ≡ encode_lower t → Gives (λ v. v.items) result (Ok t) }
+    ensures { ReadsAny SpellsBytes digits.now (λ v. v.items) result }
 {
     if !are_lower_hex(digits.as_bytes()) {
         return Err(PartReason::OtherForm.into());
@@ -64,7 +62,7 @@ fn bytes(alloc: Global, digits: &str) -> Result<Vec<u8>, PartFault>
 
 /// The text whose bytes in UTF-8 are spelled in lower-case hexadecimal digits.
 fn text(alloc: Global, digits: &str) -> Result<Text, PartFault>
-    ensures { (t : List ℕ) → IsUtf8 t → digits.now ≡ encode_lower t → Gives (λ x. x) result (Ok t) }
+    ensures { ReadsAny SpellsText digits.now (λ t. t) result }
 {
     match String::from_utf8(bytes(alloc, digits)?) {
         Ok(text) => Ok(Text::new(text)),
@@ -74,7 +72,7 @@ fn text(alloc: Global, digits: &str) -> Result<Text, PartFault>
 
 /// The term that a word is; `None` where its number is past its range: 32 bits of a column, 64 bits of a literal.
 pub(crate) fn term(alloc: Global, word: &str) -> Result<Option<Term>, PartFault>
-    ensures { ReadsSpelled SpellsTerm word.now (λ t. t) result }
+    ensures { Reads SpellsTerm IsShortTerm word.now (λ t. t) result }
 {
     if word == "n" {
         return Ok(Some(Term::Literal(Literal::null())));

@@ -1,17 +1,19 @@
 use Rattle.std.proofs.Common.{◌∙◌}
-use Rattle.certificate_parts.specs.declared.part_fault.PartReason.{PartReason}
-use Rattle.certificate_parts.proofs.AggregateLists.{part_refused, part_past, aggregation_next}
+use Rattle.certificate_parts.specs.PartTexts.{aggregation_text}
+use Rattle.certificate_parts.specs.Spelled.{IsShortAggregation}
+use Rattle.certificate_parts.proofs.AggregateLists.{any}
+use Rattle.certificate_parts.proofs.PartLists.{place_more, place_past, place_none}
 use Rattle.certificate_parts.proofs.aggregates.each_aggregation.Goals as goal
 use Rattle.certificate_parts.proofs.aggregates.each_aggregation.Goals.{in-Some+in_ok-push-in-Some, in-None}
 
-pub returns-in_err-column : goal.returns-in_err-column
-returns-in_err-column c = λ G s.
-    absurd (part_refused c.args.parts.now c.loop-part.part-index _ c.in_err-column.field-0.0 c.loop-part-test.true c.in_err-column.ensures G s)
+pub returns-in_err-aggregation : goal.returns-in_err-aggregation
+returns-in_err-aggregation c =
+    place_none aggregation_text IsShortAggregation any c.args.parts.now c.loop-part.part-index _ (λ a. a) c.in_err-aggregation.field-0.0 c.from_residual.result c.loop-part-test.true c.in_err-aggregation.ensures c.from_residual.ensures.1
 
 pub loop-part-preserved : goal.loop-part-preserved
-loop-part-preserved c = elim c.match-read.branch [
-  | in-Some+in_ok-push-in-Some w ↦
-      aggregation_next c.args.parts.now c.loop-part.part-index _ c.loop-part.columns.items c.push.new.self.items c.in_ok-column.column c.loop-part.added c.match-read.added w.in-Some.aggregation c.loop-part.in_range c.match-read.in_range
-      c.loop-part-test.true c.loop-part.invariant (rw w.in-Some.is at c.in_ok-column.ensures) c.in_ok-push.ensures.items (w.added-is ∙ w.in_ok-push-in-Some.ensures.ok) w.in_range-is
-  | in-None w ↦ λ G s. absurd (part_past PartReason c.args.parts.now c.loop-part.part-index _ c.in_ok-column.column c.loop-part-test.true (rw w.in-None.is at c.in_ok-column.ensures) G s)
+loop-part-preserved c = elim c.match-branch-2.branch [
+  | in-Some+in_ok-push-in-Some w ↦ place_more aggregation_text IsShortAggregation c.args.parts.now c.loop-part.part-index _ c.loop-part.in_range c.match-branch-2.in_range c.loop-part.added c.match-branch-2.added c.in_ok-aggregation.field-0 w.in-Some.aggregation
+      c.loop-part-test.true c.loop-part.invariant c.in_ok-aggregation.ensures w.in-Some.is w.in_range-is (w.added-is ∙ w.in_ok-push-in-Some.ensures.ok)
+  | in-None w ↦ place_past aggregation_text IsShortAggregation c.args.parts.now c.loop-part.part-index _ c.loop-part.in_range c.match-branch-2.in_range c.loop-part.added c.match-branch-2.added c.in_ok-aggregation.field-0
+      c.loop-part-test.true c.loop-part.invariant c.in_ok-aggregation.ensures w.in-None.is w.in_range-is
 ]

@@ -1,7 +1,10 @@
-use Rattle.certificate_parts.proofs.AggregateLists.{ReadSoFar}
+use Rattle.std.proofs.Common.{take}
+use Rattle.certificate_parts.specs.PartTexts.{aggregation_text}
+use Rattle.certificate_parts.specs.Spelled.{IsShortAggregation}
 use Rattle.certificate_parts.proofs.NumberLists.{texts}
+use Rattle.certificate_parts.proofs.PartLists.{EachSoFar}
 use Rattle.certificate_parts.proofs.aggregates.each_aggregation.Given as goal
 
 -- the parts so far are read
 abbrev pub invariant-loop-part : goal.invariant-loop-part
-invariant-loop-part l = ReadSoFar (texts l.parts) l.part-index (texts l.columns.items) l.added l.in_range
+invariant-loop-part l = EachSoFar aggregation_text IsShortAggregation (take l.part-index (texts l.parts)) l.in_range l.added

@@ -1,6 +1,10 @@
-use Rattle.std.proofs.Common.{◌∙◌, ap, Ok}
-use Rattle.certificate_parts.proofs.TermParts.{integer_given}
+use Rattle.certificate_parts.proofs.TermParts.{integer_read}
 use Rattle.certificate_parts.proofs.terms.integer.Goals as goal
 
+pub returns-then-not-is_integer : goal.returns-then-not-is_integer
+returns-then-not-is_integer c = rw c.if-not-is_integer.true at c.is_integer.ensures
+
 pub returns : goal.returns
-returns c = λ z fits e. ap Ok (c.ok.ensures.value ∙ integer_given z c.args.word.now c.parse.result fits e c.parse.ensures.value.0)
+returns c =
+    let told = rw c.if-not-is_integer.false at c.is_integer.ensures in
+    rw c.ok.ensures.value (integer_read told.0 c.args.word.now c.parse.result told.1 c.parse.ensures.value.0)
