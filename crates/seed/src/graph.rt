@@ -244,10 +244,7 @@ impl Graph {
     }
 
     pub(crate) fn leaf(&self, place: usize) -> Leaf {
-        self.leaves
-            .get(place)
-            .copied()
-            .unwrap_or(Leaf::NONE)
+        self.leaves.get(place).copied().unwrap_or(Leaf::NONE)
     }
 
     /// The leaves that are equated with some of the set.
