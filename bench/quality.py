@@ -2,9 +2,9 @@
 """Compares the join trees that are planned with the cheapest ones, over random join graphs and statistics.
 
 A second search, of this script's own: a dynamic program over all bushy trees of a query's tables, with scans, scans and joins by index,
-filters before and after joins, hash joins and nested loops, by the costs of docs/COSTS.md. It knows no orders, so no merge joins. Both plans
-are priced by one model: a join of tables has the product of their rows and of the selectivities of all conditions over them, whichever
-tree it comes from, and at least one row. (`costs` rounds up at each line, and never guesses a list to keep less than a millionth.)
+filters before and after joins, hash joins and nested loops, by the costs of docs/COSTS.md, rounded as there. It knows no orders, so no merge
+joins. Both plans are priced by their own nodes: each join has the rows that are guessed of its inputs and its conditions. So the same tables have other
+rows in other trees, and of each set all trees are kept of which none has fewer rows at no more cost.
 
 Told are, for each shape, form of FROM and number of tables, the geometric mean and the worst of the planned cost over the least one, and how often
 the canonical plan was taken. Wants the program built, or a tree in which the program of quality/main.rt.txt is tried, which proves
@@ -178,33 +178,36 @@ def statistics_of(drawn):
     )
 
 
-# ---- the one model by which plans are priced
+# ---- the formulas of docs/COSTS.md
 
 
 def share(keys):
-    return -(-MILLION // max(keys, 1)) / MILLION
+    """Millionths."""
+    return -(-MILLION // max(keys, 1))
 
 
-def column_share(table, column):
-    return share(table.keys[column]) if column in table.keys else None
+def per_million(number, part):
+    return -(-number * part // MILLION)
+
+
+def all_of(shares):
+    part = MILLION
+    for one in shares:
+        part = per_million(part, one)
+    return part
 
 
 def filter_share(table, condition):
     column, operator, _ = condition
     if operator == "=":
-        found = column_share(table, column)
-        return 0.1 if found is None else found
-    return 0.333334
+        return share(table.keys[column]) if column in table.keys else 100_000
+    return 333_334
 
 
 def edge_share(tables, edge):
     a, column_a, b, column_b = edge
     keys = [table.keys[column] for table, column in ((tables[a], column_a), (tables[b], column_b)) if column in table.keys]
-    return share(max(keys)) if keys else 0.1
-
-
-def counted(rows):
-    return max(math.ceil(rows), 1)
+    return share(max(keys)) if keys else 100_000
 
 
 def scan_cost(table):
@@ -215,39 +218,61 @@ def index_scan_cost(table, column, filters):
     """The cost of a scan by the index over a column that finds by these filters."""
     if column == "id" and any(f[0] == column and f[1] == "=" for f in filters):
         return 210
-    part = math.prod((filter_share(table, f) for f in filters if f[0] == column), start=1.0)
-    rows = table.rows * math.prod((filter_share(table, f) for f in filters), start=1.0)
-    return 100 * part * (table.index_pages + table.rows) + 10 * counted(rows)
+    part = all_of(filter_share(table, f) for f in filters if f[0] == column)
+    rows = per_million(table.rows, all_of(filter_share(table, f) for f in filters))
+    return 100 * per_million(table.index_pages + table.rows, part) + 10 * rows
 
 
 def probe_cost(table, column):
     if column == "id":
         return 210
     part = share(table.keys[column])
-    return 100 * part * (table.index_pages + table.rows) + 10 * part * table.rows
+    return 100 * per_million(table.index_pages + table.rows, part) + 10 * per_million(table.rows, part)
 
 
 def sort_cost(rows):
-    return rows * max(1, int(rows).bit_length())
+    return rows * rows.bit_length()
 
 
 # ---- the least cost
 
 
-def leaf_costs(table):
-    """The rows and cost of a table with its filters, and without."""
-    raw = (float(table.rows), scan_cost(table))
-    part = math.prod((filter_share(table, f) for f in table.filters), start=1.0)
-    whole = [raw[1] + (table.rows if table.filters else 0)]
-    if table.filters:
-        whole += [index_scan_cost(table, column, table.filters) for column in table.keys if any(f[0] == column for f in table.filters)]
-    return raw, (table.rows * part, min(whole))
+@dataclasses.dataclass
+class Side:
+    """A tree of some tables, or a table that stands without its filters, which then are the join's."""
+
+    rows: int
+    cost: int
+    shares: float  # of its filters, if they are the join's
+
+
+def leaf_sides(table):
+    """A table with its filters, and without."""
+    part = all_of(filter_share(table, f) for f in table.filters)
+    whole = [scan_cost(table) + (table.rows if table.filters else 0)]
+    whole += [index_scan_cost(table, column, table.filters) for column in table.keys if any(f[0] == column for f in table.filters)]
+    full = Side(per_million(table.rows, part), min(whole), 1.0)
+    return [full] + ([Side(table.rows, scan_cost(table), part / MILLION)] if table.filters else [])
+
+
+def joined_rows(left, right, part):
+    """The rows of two sides joined by conditions of this share: a list of them keeps a millionth at least."""
+    return per_million(left.rows * right.rows, math.ceil(part * left.shares * right.shares * MILLION - 1e-6) or 1)
+
+
+def undominated(trees):
+    """Those of which none has fewer rows at no more cost."""
+    kept, least = [], math.inf
+    for rows, cost in sorted(trees.items()):
+        if cost < least:
+            kept.append(Side(rows, cost, 1.0))
+            least = cost
+    return kept
 
 
 def least_cost(drawn):
-    """The least cost, and the rows of the join of some of the tables that has the fewest."""
+    """The least cost, and the rows of the join of some of the tables that has the fewest, before they are rounded."""
     tables, count = drawn.tables, len(drawn.tables)
-    raw, full = zip(*map(leaf_costs, tables))
     near = [0] * count
     for a, _, b, _ in drawn.edges:
         near[a] |= 1 << b
@@ -257,50 +282,48 @@ def least_cost(drawn):
         for other, place, column in ((b, a, column_a), (a, b, column_b)):
             if column in tables[place].keys:
                 probes[place].append((1 << other, probe_cost(tables[place], column)))
-    rows, cost, around = [0.0] * (1 << count), [0.0] * (1 << count), [0] * (1 << count)
-    for place in range(count):
-        rows[1 << place], cost[1 << place] = full[place]
+    sides, around, exact, inner = [None] * (1 << count), [0] * (1 << count), [1.0] * (1 << count), [1.0] * (1 << count)
+    for place, table in enumerate(tables):
+        sides[1 << place] = leaf_sides(table)
         around[1 << place] = near[place]
-    if min(rows[1 << place] for place in range(count)) < 1:
-        return math.inf, 0
-    shares = [(1 << a | 1 << b, edge_share(tables, edge)) for edge in drawn.edges for a, b in [(edge[0], edge[2])]]
+        exact[1 << place] = table.rows * math.prod((filter_share(table, f) / MILLION for f in table.filters), start=1.0)
+    shares = [(1 << edge[0] | 1 << edge[2], edge_share(tables, edge) / MILLION) for edge in drawn.edges]
     for whole in range(1, 1 << count):
-        if whole & (whole - 1) == 0:
-            continue
         low = whole & -whole
         others = whole & ~low
+        if not others:
+            continue
         around[whole] = around[low] | around[others]
-        rows[whole] = rows[low] * rows[others] * math.prod((s for both, s in shares if both & whole == both and both & low), start=1.0)
-        least, part = math.inf, others
+        new = math.prod((s for both, s in shares if both & whole == both and both & low), start=1.0)
+        inner[whole] = inner[others] * new
+        exact[whole] = exact[low] * exact[others] * new
+        trees, part = {}, others
         while part:
-            least = min(least, join_cost(part, whole & ~part, rows, cost, around, raw, probes), join_cost(whole & ~part, part, rows, cost, around, raw, probes))
+            rest = whole & ~part
+            between = inner[whole] / inner[part] / inner[rest]
+            is_equated = around[part] & rest
+            into_rest, into_part = probed_cost(rest, probes, part), probed_cost(part, probes, rest)
+            for one in sides[part]:
+                for other in sides[rest]:
+                    rows = joined_rows(one, other, between)
+                    cost = min(paired_cost(one, other, is_equated), paired_cost(other, one, is_equated))
+                    cost = min(cost, one.cost + one.rows * into_rest, other.cost + other.rows * into_part)
+                    trees[rows] = min(trees.get(rows, math.inf), cost)
             part = (part - 1) & others
-        cost[whole] = least
-    return cost[-1] + 1, min(rows[1:])
+        sides[whole] = undominated(trees)
+    return min(tree.cost for tree in sides[-1]) + 1, min(exact[1:])
 
 
-def sides_of(part, rows, cost, raw):
-    """A side's rows and cost: a table may also stand without its filters, which then are the join's."""
-    sides = [(counted(rows[part]), cost[part])]
-    if part & (part - 1) == 0:
-        place = part.bit_length() - 1
-        sides.append((counted(raw[place][0]), raw[place][1]))
-    return sides
+def paired_cost(left, right, is_equated):
+    loops = left.cost + left.rows * right.cost
+    return min(loops, left.cost + right.cost + left.rows + 2 * right.rows) if is_equated else loops
 
 
-def join_cost(left, right, rows, cost, around, raw, probes):
-    least = math.inf
-    is_equated = around[left] & right
-    for left_rows, left_cost in sides_of(left, rows, cost, raw):
-        for right_rows, right_cost in sides_of(right, rows, cost, raw):
-            least = min(least, left_cost + left_rows * right_cost)
-            if is_equated:
-                least = min(least, left_cost + right_cost + left_rows + 2 * right_rows)
-        if is_equated and right & (right - 1) == 0:
-            for other, probe in probes[right.bit_length() - 1]:
-                if other & left:
-                    least = min(least, left_cost + left_rows * probe)
-    return least
+def probed_cost(right, probes, left):
+    """The least cost of finding the matches of one row in a table by an index."""
+    if right & (right - 1):
+        return math.inf
+    return min((cost for other, cost in probes[right.bit_length() - 1] if other & left), default=math.inf)
 
 
 # ---- the cost of a plan that was made
@@ -311,7 +334,7 @@ def conditions_in(text):
 
 
 class Priced:
-    """A plan's text by the same model."""
+    """A plan's text by the same formulas."""
 
     def __init__(self, drawn, nodes):
         self.tables, self.nodes, self.columns = drawn.tables, iter(nodes), []
@@ -329,7 +352,7 @@ class Priced:
         return filter_share(self.tables[place], (column, operator, 0))
 
     def shares(self, text):
-        return math.prod((self.share(c) for c in conditions_in(text)), start=1.0)
+        return all_of(self.share(c) for c in conditions_in(text))
 
     def index_of(self, instance, index):
         table = self.tables[self.from_order[int(instance)]]
@@ -340,37 +363,36 @@ class Priced:
         name, *words = next(self.nodes).split()
         if name == "sort":
             rows, cost = self.price()
-            return rows, cost + sort_cost(counted(rows))
+            return rows, cost + sort_cost(rows)
         if name == "scan":
             table = self.tables[self.from_order[int(words[1])]]
-            return float(table.rows), scan_cost(table)
+            return table.rows, scan_cost(table)
         if name == "iscan":
             table, column = self.index_of(words[2], words[3])
             filters = []
             for condition in conditions_in(words[4]):
                 operator, first, second = re.fullmatch(r"(\S+?)\((\S+),(\S+)\)", condition).groups()
                 filters.append((self.columns[int((first if first[0] == "c" else second)[1:])][1], operator, 0))
-            return table.rows * self.shares(words[4]), index_scan_cost(table, column, filters)
+            return per_million(table.rows, self.shares(words[4])), index_scan_cost(table, column, filters)
         if name == "filter":
             rows, cost = self.price()
-            return rows * self.shares(words[1]), cost + counted(rows)
+            return per_million(rows, self.shares(words[1])), cost + rows
         if name == "cut":
             rows, cost = self.price()
             return rows, cost + 1
         if name == "iloop":
             table, column = self.index_of(words[3], words[4])
             rows, cost = self.price()
-            return rows * table.rows * self.shares(words[5]), cost + counted(rows) * probe_cost(table, column)
+            return per_million(rows * table.rows, self.shares(words[5])), cost + rows * probe_cost(table, column)
         left_rows, left_cost = self.price()
         right_rows, right_cost = self.price()
-        rows = left_rows * right_rows * self.shares(words[-1])
-        left, right = counted(left_rows), counted(right_rows)
+        rows = per_million(left_rows * right_rows, self.shares(words[-1]))
         if name == "loop":
-            return rows, left_cost + left * right_cost
+            return rows, left_cost + left_rows * right_cost
         if name == "hash":
-            return rows, left_cost + right_cost + left + 2 * right
+            return rows, left_cost + right_cost + left_rows + 2 * right_rows
         assert name == "merge", name
-        return rows, left_cost + right_cost + left + right
+        return rows, left_cost + right_cost + left_rows + right_rows
 
 
 def planned_cost(drawn, certificate):

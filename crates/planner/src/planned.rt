@@ -1,12 +1,12 @@
 //! The plan that is chosen for a query.
 
-ghost use Rattle.std.specs.Prelude.{◌≡◌, ◌≤◌, true, nat_le, length, reverse, Ok, IfOk, IfSome};
+ghost use Rattle.std.specs.Prelude.{◌≡◌, ◌≤◌, true, false, length, reverse, Ok, IfOk, IfSome};
 ghost use Rattle.query.specs.Bound.{is_bound};
 ghost use Rattle.frame.specs.Frames.{query_frame};
 ghost use Rattle.frame.specs.FormedFrames.{own_aggregates};
 ghost use Rattle.costs.specs.Costs.{plan_cost};
 ghost use Rattle.certificate.specs.Replay.{replayed};
-ghost use Rattle.planner.specs.NotDearer.{IsAsCheap, IsNotDearer};
+ghost use Rattle.planner.specs.NotDearer.{IsAsCheap, IsNotDearer, certificate_cost};
 
 use crate::certificates::certificate_of;
 use algebra::{Aggregation, Expr};
@@ -27,11 +27,15 @@ use statistics::Statistics;
 use std::alloc::{AllocError, Global};
 use values::{Fault, Items};
 
-/// A certificate, and whether its plan was searched for. The canonical one is taken where none was found that fits the query and is as cheap.
+/// A certificate, what its plan is estimated to cost, and whether this was searched for. The canonical one is taken where none was found that fits
+/// the query and is as cheap.
 #[derive(Drop)]
 pub struct Planned {
     pub certificate: Certificate,
+    pub cost: u64,
     pub is_searched: bool,
+    /// Whether all plans were looked at. Nothing explores them yet, so none is.
+    pub is_complete: bool,
 }
 
 /// A log of the lines; none where some line may not stand.
@@ -116,19 +120,24 @@ fn searched(
     Ok(Some(Certificate { lines, plan }))
 }
 
-/// Whether a plan over the log costs no more than another.
-fn is_as_cheap(
+/// What a plan over the log costs, if it is no more than another does.
+fn cost_within(
     alloc: Global,
     statistics: &Statistics,
     log: &Log<'_>,
     plan: &Plan,
     other: &Plan,
-) -> Result<bool, AllocError>
-    ensures { IfOk result (λ is. is ≡ nat_le (plan_cost statistics.now log.now.instances log.now.log plan.now) (plan_cost statistics.now log.now.instances log.now.log other.now)) }
+) -> Result<Option<u64>, AllocError>
+    ensures cost { IfOk result (λ found. IfSome found (λ own. own ≡ plan_cost statistics.now log.now.instances log.now.log plan.now)) }
+    ensures cheap { IfOk result (λ found. IfSome found (λ own. own ≤ plan_cost statistics.now log.now.instances log.now.log other.now)) }
 {
     let cardinalities = Cardinalities::of(alloc, statistics, log)?;
     let own = cost(statistics, log, &cardinalities, plan);
-    Ok(own <= cost(statistics, log, &cardinalities, other))
+    if own <= cost(statistics, log, &cardinalities, other) {
+        Ok(Some(own))
+    } else {
+        Ok(None)
+    }
 }
 
 /// The log of a certificate that replays for the query; none where it doesn't.
@@ -153,32 +162,33 @@ fn fitting_log<'q>(
     }
 }
 
-/// Whether a certificate of so many lines at most replays for the query, and its plan costs no more than the known one.
-fn is_fitting(
+/// What the plan of a certificate costs, if it has so many lines at most, replays for the query, and its plan costs no more than the known one.
+fn fitting_cost(
     alloc: Global,
     query: &Query,
     statistics: &Statistics,
     limit: usize,
     certificate: &Certificate,
     known: &Certificate,
-) -> Result<bool, AllocError>
+) -> Result<Option<u64>, AllocError>
     requires { is_bound query.now ≡ true }
-    ensures replays { IfOk result (λ is. is ≡ true → replayed query.now certificate.now ≡ Ok certificate.now) }
-    ensures cheap { IfOk result (λ is. is ≡ true → IsAsCheap statistics.now query.now certificate.now known.now) }
-    ensures within { IfOk result (λ is. is ≡ true → length certificate.now.lines ≤ limit) }
+    ensures replays { IfOk result (λ found. IfSome found (λ cost. replayed query.now certificate.now ≡ Ok certificate.now)) }
+    ensures cost { IfOk result (λ found. IfSome found (λ cost. cost ≡ certificate_cost statistics.now query.now certificate.now)) }
+    ensures cheap { IfOk result (λ found. IfSome found (λ cost. IsAsCheap statistics.now query.now certificate.now known.now)) }
+    ensures within { IfOk result (λ found. IfSome found (λ cost. length certificate.now.lines ≤ limit)) }
 {
     if certificate.lines.len() > limit {
-        return Ok(false);
+        return Ok(None);
     }
     let frame = frame_of(alloc, query)?;
     let own = own_aggregates(alloc, frame.as_slice())?;
     match fitting_log(alloc, query, frame.as_slice(), own.as_slice(), certificate)? {
-        Some(log) => is_as_cheap(alloc, statistics, &log, &certificate.plan, &known.plan),
-        None => Ok(false),
+        Some(log) => cost_within(alloc, statistics, &log, &certificate.plan, &known.plan),
+        None => Ok(None),
     }
 }
 
-/// The certificate, if it has so many lines at most, replays for the query, and its plan costs no more than the known one.
+/// The certificate with its cost, if it has so many lines at most, replays for the query, and its plan costs no more than the known one.
 fn fitting(
     alloc: Global,
     query: &Query,
@@ -186,19 +196,48 @@ fn fitting(
     limit: usize,
     found: Option<Certificate>,
     known: &Certificate,
-) -> Result<Option<Certificate>, AllocError>
+) -> Result<Option<Planned>, AllocError>
     requires { is_bound query.now ≡ true }
-    ensures replays { IfOk result (λ fitting. IfSome fitting (λ certificate. replayed query.now certificate ≡ Ok certificate)) }
-    ensures cheap { IfOk result (λ fitting. IfSome fitting (λ certificate. IsAsCheap statistics.now query.now certificate known.now)) }
-    ensures within { IfOk result (λ fitting. IfSome fitting (λ certificate. length certificate.lines ≤ limit)) }
+    ensures replays { IfOk result (λ fitting. IfSome fitting (λ planned. replayed query.now planned.certificate ≡ Ok planned.certificate)) }
+    ensures cost { IfOk result (λ fitting. IfSome fitting (λ planned. planned.cost ≡ certificate_cost statistics.now query.now planned.certificate)) }
+    ensures cheap { IfOk result (λ fitting. IfSome fitting (λ planned. IsAsCheap statistics.now query.now planned.certificate known.now)) }
+    ensures within { IfOk result (λ fitting. IfSome fitting (λ planned. length planned.certificate.lines ≤ limit)) }
+    ensures complete { IfOk result (λ fitting. IfSome fitting (λ planned. planned.is_complete ≡ false)) }
 {
     let Some(certificate) = found else {
         return Ok(None);
     };
-    if is_fitting(alloc, query, statistics, limit, &certificate, known)? {
-        Ok(Some(certificate))
-    } else {
-        Ok(None)
+    match fitting_cost(alloc, query, statistics, limit, &certificate, known)? {
+        Some(cost) => Ok(Some(Planned {
+            certificate,
+            cost,
+            is_searched: true,
+            is_complete: false,
+        })),
+        None => Ok(None),
+    }
+}
+
+/// What the plan of a certificate costs that replays.
+fn known_cost(
+    alloc: Global,
+    query: &Query,
+    statistics: &Statistics,
+    known: &Certificate,
+) -> Result<u64, AllocError>
+    requires bound { is_bound query.now ≡ true }
+    requires replays { replayed query.now known.now ≡ Ok known.now }
+    ensures { IfOk result (λ cost. cost ≡ certificate_cost statistics.now query.now known.now) }
+{
+    let frame = frame_of(alloc, query)?;
+    let own = own_aggregates(alloc, frame.as_slice())?;
+    match judged_log(alloc, query, frame.as_slice(), own.as_slice(), known) {
+        Ok(log) => {
+            let cardinalities = Cardinalities::of(alloc, statistics, &log)?;
+            Ok(cost(statistics, &log, &cardinalities, &known.plan))
+        }
+        Err(Fault::Memory) => Err(AllocError),
+        Err(Fault::Refused(_)) => unreachable!(),
     }
 }
 
@@ -210,21 +249,23 @@ fn plan_of_tree(
 ) -> Result<Planned, AllocError>
     requires { is_bound query.now ≡ true }
     ensures replays { IfOk result (λ planned. replayed query.now planned.certificate ≡ Ok planned.certificate) }
+    ensures cost { IfOk result (λ planned. planned.cost ≡ certificate_cost statistics.now query.now planned.certificate) }
     ensures cheap { IfOk result (λ planned. IsNotDearer statistics.now query.now planned.certificate) }
     ensures within { IfOk result (λ planned. planned.is_searched ≡ true → length planned.certificate.lines ≤ limit) }
+    ensures complete { IfOk result (λ planned. planned.is_complete ≡ false) }
 {
     let known = certificate_of(alloc, query)?;
     let found = searched(alloc, query, statistics, limit, &known)?;
-    match fitting(alloc, query, statistics, limit, found, &known)? {
-        Some(certificate) => Ok(Planned {
-            certificate,
-            is_searched: true,
-        }),
-        None => Ok(Planned {
-            certificate: known,
-            is_searched: false,
-        }),
+    if let Some(planned) = fitting(alloc, query, statistics, limit, found, &known)? {
+        return Ok(planned);
     }
+    let cost = known_cost(alloc, query, statistics, &known)?;
+    Ok(Planned {
+        certificate: known,
+        cost,
+        is_searched: false,
+        is_complete: false,
+    })
 }
 
 /// Plans a query: a certificate that replays for it, whose plan is the cheapest that was found by the statistics over a log of at most `limit`
@@ -236,10 +277,13 @@ pub fn plan(
     limit: usize,
 ) -> Result<Planned, AllocError>
     ensures replays { IfOk result (λ planned. replayed query.now planned.certificate ≡ Ok planned.certificate) }
+    // Its cost is that of its plan, by what is estimated over its own lines.
+    ensures cost { IfOk result (λ planned. planned.cost ≡ certificate_cost statistics.now query.now planned.certificate) }
     // It costs no more than the canonical plan, whatever was searched.
     ensures cheap { IfOk result (λ planned. IsNotDearer statistics.now query.now planned.certificate) }
     // No line is added past the limit. The canonical certificate has the lines of its query's frame, however many these are.
     ensures within { IfOk result (λ planned. planned.is_searched ≡ true → length planned.certificate.lines ≤ limit) }
+    ensures complete { IfOk result (λ planned. planned.is_complete ≡ false) }
 {
     plan_of_tree(alloc, query.query(), statistics, limit)
 }

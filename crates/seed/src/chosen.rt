@@ -23,8 +23,6 @@ pub(crate) struct Joined {
     pub right: LeafSet,
     /// Whether the right side is a leaf whose matches are found by an index.
     pub is_probed: bool,
-    /// Whether equalities lead from each leaf to each other.
-    is_connected: bool,
 }
 
 /// A set that is not looked at.
@@ -36,8 +34,14 @@ const NOTHING: Joined = Joined {
     left: LeafSet::EMPTY,
     right: LeafSet::EMPTY,
     is_probed: false,
-    is_connected: false,
 };
+
+impl Joined {
+    /// What it costs and what is still to be done with its rows.
+    fn weight(self) -> u64 {
+        self.cost.saturating_add(self.rows)
+    }
+}
 
 /// A join tree: its sets, each with its sides.
 #[derive(Drop)]
@@ -50,13 +54,12 @@ fn leaf_joined(graph: &Graph, place: usize) -> Joined {
     let set = LeafSet::single(place);
     Joined {
         set,
-        rows: leaf.rows,
-        cost: leaf.cost,
+        rows: leaf.rows(),
+        cost: leaf.cost(),
         around: graph.around(set),
         left: LeafSet::EMPTY,
         right: LeafSet::EMPTY,
         is_probed: false,
-        is_connected: true,
     }
 }
 
@@ -102,7 +105,6 @@ fn join_of(graph: &Graph, left: Joined, right: Joined, rows: u64) -> Joined {
         left: left.set,
         right: right.set,
         is_probed,
-        is_connected: left.is_connected && right.is_connected && left.around.meets(right.set),
     }
 }
 
@@ -117,52 +119,28 @@ fn joined_at(cells: &[Joined], set: LeafSet) -> Joined {
     cells.get(set.number()).copied().unwrap_or(NOTHING)
 }
 
-/// The leaf that a set's rows are counted without: the first of those that the others, hanging together, are equated with. A product of many
-/// tables has more rows than 64 bits count, so a set that hangs together is not to be counted by one that doesn't.
-fn removed_leaf(cells: &[Joined], set: LeafSet, count: usize) -> LeafSet {
-    for place in 0..count {
-        let leaf = LeafSet::single(place);
-        if leaf.is_within(set) {
-            let others = joined_at(cells, set.minus(leaf));
-            if others.is_connected && others.around.meets(leaf) {
-                return leaf;
-            }
-        }
-    }
-    LeafSet::single(set.lowest())
-}
-
-/// The rows of a set by those of the set without a leaf.
-fn rows_of(graph: &Graph, cells: &[Joined], set: LeafSet) -> u64 {
-    let first = removed_leaf(cells, set, graph.leaves.len());
-    let others = set.minus(first);
-    let one = joined_at(cells, first);
-    let rest = joined_at(cells, others);
-    graph.joined_rows(first, others, one.rows.saturating_mul(rest.rows))
-}
-
-/// The cheapest join that gives the set, whose subsets are known.
-fn best_join(graph: &Graph, cells: &[Joined], set: LeafSet) -> Joined {
-    let rows = rows_of(graph, cells, set);
-    let first = LeafSet::single(set.lowest());
-    let others = set.minus(first);
+/// The cheapest join that gives the set, whose subsets are known. Each row that it gives costs something above it, so joins that give fewer rows
+/// are preferred; but the whole has the rows that its own class is guessed to have, however it is joined.
+fn best_join(graph: &Graph, cells: &[Joined], set: LeafSet, whole: LeafSet) -> Joined {
+    let others = set.minus(LeafSet::single(set.lowest()));
     let mut part = others;
     let mut best = NOTHING;
-    let mut is_connected = false;
     for _ in 0..MOST_SUBSETS {
-        let right = part;
-        if right.is_empty() {
+        if part.is_empty() {
             break;
         }
-        let left = set.minus(right);
-        let found = cheaper_join(graph, joined_at(cells, left), joined_at(cells, right), rows);
-        is_connected = is_connected || found.is_connected;
-        if found.cost < best.cost || best.set.is_empty() {
+        let left = joined_at(cells, set.minus(part));
+        let right = joined_at(cells, part);
+        let mut found = cheaper_join(graph, left, right, 0);
+        if set != whole && found.cost < best.weight() {
+            let pairs = left.rows.saturating_mul(right.rows);
+            found.rows = graph.joined_rows(left.set, right.set, pairs);
+        }
+        if found.weight() < best.weight() || best.set.is_empty() {
             best = found;
         }
         part = part.before(others);
     }
-    best.is_connected = is_connected;
     best
 }
 
@@ -175,7 +153,7 @@ fn all_subsets(alloc: Global, graph: &Graph, count: usize) -> Result<Vec<Joined>
         let joined = if set.count() == 1 {
             leaf_joined(graph, set.lowest())
         } else {
-            best_join(graph, &cells, set)
+            best_join(graph, &cells, set, whole)
         };
         if let Some(cell) = cells.get_mut(number) {
             *cell = joined;

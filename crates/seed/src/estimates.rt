@@ -6,7 +6,7 @@ use statistics::{IndexStatistics, Statistics};
 use values::Comparison;
 
 /// All, in millionths.
-const ALL: u64 = 1_000_000;
+pub(crate) const ALL: u64 = 1_000_000;
 
 /// One row by a unique index.
 const ONE_ROW: u64 = 210;

@@ -1,6 +1,6 @@
 //! What is to be joined: leaves, and the conditions over them.
 
-use crate::estimates::{filter_cost, per_million, probed, scan_cost, share};
+use crate::estimates::{ALL, filter_cost, per_million, probed, scan_cost, share};
 use crate::regions::{Parts, Region, conditions_of};
 use crate::sets::{LeafSet, MOST_LEAVES};
 use algebra::{ClassId, Condition, Expr};
@@ -12,9 +12,13 @@ use std::alloc::{AllocError, Global};
 /// What is guessed of a leaf.
 #[derive(Clone, Copy, Drop)]
 pub(crate) struct Leaf {
-    /// Its rows that make the conditions on it alone true, and what they cost.
-    pub rows: u64,
-    pub cost: u64,
+    /// Its rows, and what they cost.
+    bare_rows: u64,
+    bare_cost: u64,
+    /// Which share of them makes the conditions on it alone true, if there are any.
+    share: Option<u64>,
+    /// What these cost by an index; the greatest number where none finds them.
+    index_cost: u64,
 }
 
 /// A condition over several leaves.
@@ -66,6 +70,35 @@ pub(crate) fn mentioned(
     Ok(set)
 }
 
+impl Leaf {
+    /// What is no leaf.
+    const NONE: Leaf = Leaf {
+        bare_rows: 0,
+        bare_cost: 0,
+        share: None,
+        index_cost: u64::MAX,
+    };
+
+    /// Its rows that make the conditions on it alone true.
+    pub(crate) fn rows(self) -> u64 {
+        match self.share {
+            Some(share) => per_million(self.bare_rows, share),
+            None => self.bare_rows,
+        }
+    }
+
+    /// What these cost.
+    pub(crate) fn cost(self) -> u64 {
+        match self.share {
+            Some(_) => {
+                let filtered = self.bare_cost.saturating_add(self.bare_rows);
+                filtered.min(self.index_cost)
+            }
+            None => self.bare_cost,
+        }
+    }
+}
+
 /// A leaf with no condition on it.
 fn bare_leaf(guesses: Guesses<'_, '_>, class: ClassId) -> Leaf {
     let rows = guesses.cardinalities.rows(class);
@@ -80,7 +113,11 @@ fn bare_leaf(guesses: Guesses<'_, '_>, class: ClassId) -> Leaf {
         Some(instance) => scan_cost(guesses.statistics, instance),
         None => rows.saturating_mul(20),
     };
-    Leaf { rows, cost }
+    Leaf {
+        bare_rows: rows,
+        bare_cost: cost,
+        ..Leaf::NONE
+    }
 }
 
 /// What a condition on a leaf alone costs by an index, if there is one.
@@ -113,9 +150,9 @@ impl Graph {
         };
         let by_index = cost_by_index(guesses, class, condition, share);
         if let Some(leaf) = self.leaves.get_mut(place) {
-            leaf.rows = per_million(leaf.rows, share);
+            leaf.share = Some(per_million(leaf.share.unwrap_or(ALL), share));
             if let Some(cost) = by_index {
-                leaf.cost = leaf.cost.min(cost);
+                leaf.index_cost = leaf.index_cost.min(cost);
             }
         }
     }
@@ -207,10 +244,7 @@ impl Graph {
     }
 
     pub(crate) fn leaf(&self, place: usize) -> Leaf {
-        self.leaves
-            .get(place)
-            .copied()
-            .unwrap_or(Leaf { rows: 0, cost: 0 })
+        self.leaves.get(place).copied().unwrap_or(Leaf::NONE)
     }
 
     /// The leaves that are equated with some of the set.
@@ -238,17 +272,18 @@ impl Graph {
         least
     }
 
-    /// The rows of two sets joined, where so many pairs are tried: by the conditions over both that are over neither alone.
+    /// The rows of two sets joined, where so many pairs are tried: by the conditions over both that are over neither alone. As the costs guess
+    /// them, so a list of conditions keeps a millionth at least.
     pub(crate) fn joined_rows(&self, first: LeafSet, second: LeafSet, pairs: u64) -> u64 {
         let both = first.union(second);
-        let mut rows = pairs;
+        let mut share = ALL;
         for edge in &self.edges {
             let leaves = edge.leaves;
             if leaves.is_within(both) && !leaves.is_within(first) && !leaves.is_within(second) {
-                rows = per_million(rows, edge.share);
+                share = per_million(share, edge.share);
             }
         }
-        rows
+        per_million(pairs, share)
     }
 }
 

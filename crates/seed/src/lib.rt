@@ -7,6 +7,7 @@
 
 mod chosen;
 mod estimates;
+mod founding;
 mod graph;
 mod nodes;
 mod reaching;

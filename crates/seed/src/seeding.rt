@@ -1,6 +1,7 @@
 //! The seed of a log.
 
 use crate::chosen::JoinTree;
+use crate::founding::found_tree;
 use crate::graph::{Graph, Guesses};
 use crate::nodes::Nodes;
 use crate::reaching::reach;
@@ -102,6 +103,7 @@ fn seed_tree(
     choice: &Choice,
 ) -> Result<(), AllocError> {
     let tree = &choice.tree;
+    found_tree(alloc, memo, region, parts, tree)?;
     let wishes = Wishes {
         leaves: &parts.leaves,
         pushed: pushed_leaves(alloc, tree, parts.leaves.len())?,

@@ -1,0 +1,146 @@
+//! The classes of the chosen tree, founded by its own joins.
+//!
+//! A class has the rows that are guessed of the line that founds it, and of classes that are the same the first line counts. So the classes of the
+//! tree are founded before steps come to them by other joins, and have the rows that the tree was chosen by.
+
+use crate::chosen::{JoinTree, Joined};
+use crate::graph::mentioned;
+use crate::regions::{Parts, Region, conditions_of};
+use crate::sets::LeafSet;
+use algebra::{ClassId, Condition, Conjuncts, Expr};
+use memo::Memo;
+use std::alloc::{AllocError, Global};
+
+/// A condition, and the leaves of which it mentions a column.
+#[derive(Drop)]
+struct Placed {
+    leaves: LeafSet,
+    condition: Condition,
+}
+
+/// The class of a set of leaves, which are filtered.
+#[derive(Clone, Copy, Drop)]
+struct SetClass {
+    set: LeafSet,
+    class: ClassId,
+}
+
+/// Adds the conditions of a line that name no class.
+fn place(
+    alloc: Global,
+    memo: &Memo<'_>,
+    parts: &Parts,
+    line: u32,
+    placed: &mut Vec<Placed>,
+) -> Result<(), AllocError> {
+    for condition in conditions_of(memo.log(), line) {
+        if condition.has_no_class() {
+            let leaves = mentioned(alloc, memo.log(), &parts.leaves, condition)?;
+            let condition = condition.copy(alloc)?;
+            placed.push(Placed { leaves, condition })?;
+        }
+    }
+    Ok(())
+}
+
+/// The conditions of a region.
+fn placed_conditions(
+    alloc: Global,
+    memo: &Memo<'_>,
+    region: Region,
+    parts: &Parts,
+) -> Result<Vec<Placed>, AllocError> {
+    let mut placed = Vec::new(alloc);
+    for line in &parts.joins {
+        place(alloc, memo, parts, *line, &mut placed)?;
+    }
+    if let Some(line) = region.select {
+        place(alloc, memo, parts, line, &mut placed)?;
+    }
+    Ok(placed)
+}
+
+/// The conditions over the set that are over neither side alone.
+fn conditions_over(
+    alloc: Global,
+    placed: &[Placed],
+    joined: Joined,
+) -> Result<Conjuncts, AllocError> {
+    let mut conditions = Vec::new(alloc);
+    for one in placed {
+        let leaves = one.leaves;
+        let is_within = !leaves.is_empty() && leaves.is_within(joined.set);
+        if is_within && !leaves.is_within(joined.left) && !leaves.is_within(joined.right) {
+            conditions.push(one.condition.copy(alloc)?)?;
+        }
+    }
+    Conjuncts::of(alloc, conditions.as_slice())
+}
+
+fn class_of(classes: &[SetClass], set: LeafSet) -> Option<ClassId> {
+    let found = classes.iter().find(|one| one.set == set)?;
+    Some(found.class)
+}
+
+/// Founds the class of a join whose sides have theirs; that of the whole is the region's own.
+fn found_join(
+    alloc: Global,
+    memo: &mut Memo<'_>,
+    placed: &[Placed],
+    classes: &[SetClass],
+    joined: Joined,
+) -> Result<Option<ClassId>, AllocError> {
+    let Some(left) = class_of(classes, joined.left) else {
+        return Ok(None);
+    };
+    let Some(right) = class_of(classes, joined.right) else {
+        return Ok(None);
+    };
+    let conditions = conditions_over(alloc, placed, joined)?;
+    memo.found(alloc, Expr::Join(conditions, left, right))
+}
+
+/// Founds the class of a leaf with the conditions on it alone.
+fn found_leaf(
+    alloc: Global,
+    memo: &mut Memo<'_>,
+    placed: &[Placed],
+    leaf: Joined,
+    class: ClassId,
+) -> Result<Option<ClassId>, AllocError> {
+    let conditions = conditions_over(alloc, placed, leaf)?;
+    if conditions.as_slice().is_empty() {
+        return Ok(Some(class));
+    }
+    memo.found(alloc, Expr::Select(conditions, class))
+}
+
+/// Founds the classes of the tree's sets, each behind those of its sides.
+pub(crate) fn found_tree(
+    alloc: Global,
+    memo: &mut Memo<'_>,
+    region: Region,
+    parts: &Parts,
+    tree: &JoinTree,
+) -> Result<(), AllocError> {
+    let placed = placed_conditions(alloc, memo, region, parts)?;
+    let mut classes = Vec::new(alloc);
+    for (place, class) in parts.leaves.iter().enumerate() {
+        let set = LeafSet::single(place);
+        let leaf = tree.joined(set);
+        if let Some(class) = found_leaf(alloc, memo, placed.as_slice(), leaf, *class)? {
+            classes.push(SetClass { set, class })?;
+        }
+    }
+    let joins = tree.joins(alloc)?;
+    for joined in joins.iter().rev() {
+        if joined.set != tree.root().set {
+            let set = joined.set;
+            let class = found_join(alloc, memo, placed.as_slice(), classes.as_slice(), *joined)?;
+            if let Some(class) = class {
+                classes.push(SetClass { set, class })?;
+            }
+        }
+    }
+    Ok(())
+}
