@@ -1,5 +1,6 @@
 pub mod Acceptance
 pub mod Answered
+pub mod Completeness
 pub mod Explaining
 pub mod Loaded
 pub mod Planning

@@ -12,9 +12,10 @@ use Rattle.certificate.specs.declared.certificate.Certificate.{Certificate}
 use Rattle.certificate.specs.Replay.{IsChecked}
 use Rattle.certificate_text.specs.declared.fault.TextRefusal.{TextRefusal}
 use Rattle.certificate_text.specs.Limits.{written}
+use Rattle.certificate_text.specs.Readable.{IsReadableCertificate}
 use Rattle.pipeline.specs.declared.refusal.Refusal.{Refusal}
 use Rattle.pipeline.specs.declared.refusal.Refusal.TheVariants as refusal
-use Rattle.pipeline.specs.Certified.{Accepts}
+use Rattle.pipeline.specs.Certified.{AcceptsReadable}
 use Rattle.pipeline.specs.EndToEnd.{Asks, IsNoQuery}
 use Rattle.pipeline.specs.Planned.{WithChecked, IsUnwritten, IsNotPlanned}
 use Rattle.pipeline.specs.Refusals.{of_statistics, of_certificate}
@@ -54,5 +55,5 @@ unwritten_planned schema text statistics S q (refusal.TableDevice n) asks h = ab
 unwritten_planned schema text statistics S q refusal.Output asks h = absurd h
 
 -- what is written is accepted
-pub planned_accepts : (schema text bytes : List ℕ) (S : Schema) (q : Query) → Asks schema text S q → WithChecked S q (λ c. written c ≡ Ok bytes) → Accepts schema text bytes
-planned_accepts schema text bytes S q asks found = record { S = S; query = q; asks = asks; checked_is = found.0; is_certificate = found.2; checked = found.1 }
+pub planned_accepts : (schema text bytes : List ℕ) (S : Schema) (q : Query) → Asks schema text S q → WithChecked S q (λ c. (written c ≡ Ok bytes) × IsReadableCertificate c) → AcceptsReadable schema text bytes
+planned_accepts schema text bytes S q asks found = (record { S = S; query = q; asks = asks; checked_is = found.0; is_certificate = found.2.0; checked = found.1 }, found.2.1)

@@ -20,7 +20,8 @@ use Rattle.pipeline.specs.EndToEnd.{Input, Asks, IsFromFiles, ByCertificate, IsU
 abbrev pub IsCertificate : List ℕ → Certificate → Type 0
 IsCertificate bytes c = written c ≡ Ok bytes
 
--- they are the text of none whose numbers are within their ranges, whose lists are in order, and whose nodes have as many inputs as they take
+-- they are the text of none whose numbers are within their ranges, whose lists are in order, whose nodes have as many inputs as they take, and whose
+-- merges are inner joins
 abbrev pub IsNoCertificate : List ℕ → Type 0
 IsNoCertificate bytes = (c : Certificate) → IsReadableCertificate c → IsCertificate bytes c → ⊥
 
@@ -32,6 +33,10 @@ pub record Accepts (schema text certificate : List ℕ) : Type 0 where
   pub checked_is : Certificate
   pub is_certificate : IsCertificate certificate checked_is
   pub checked : IsChecked S query checked_is
+
+-- and that certificate can be read
+abbrev pub AcceptsReadable : List ℕ → List ℕ → List ℕ → Type 0
+AcceptsReadable schema text certificate = (a : Accepts schema text certificate) × IsReadableCertificate a.checked_is
 
 -- ---- the answer
 

@@ -5,7 +5,8 @@ ghost use Rattle.std.specs.Io.KnownBytes.{Appends};
 ghost use Rattle.answer_text.specs.AnswerText.{HasFront};
 ghost use Rattle.query.specs.Bound.{TablesAreOver};
 ghost use Rattle.certificate.specs.Replay.{IsChecked};
-ghost use Rattle.pipeline.specs.Certified.{Accepts, ByFiles, IsCheckFault, IsNotAccepted, IsNotAnswered, IsNotRun, WithCertified};
+ghost use Rattle.pipeline.specs.declared.refusal.Refusal.TheVariants.{Memory};
+ghost use Rattle.pipeline.specs.Certified.{Accepts, AcceptsReadable, ByFiles, IsCheckFault, IsNotAccepted, IsNotAnswered, IsNotRun, WithCertified};
 ghost use Rattle.pipeline.specs.EndToEnd.{HasTables, IsBefore, IsDeviceFault, IsQuiet};
 
 use crate::answer::answer_by;
@@ -43,6 +44,8 @@ fn accept(
 pub fn check(alloc: Global, schema: &[u8], text: &[u8], certificate: &[u8]) -> Result<(), Refusal>
     ensures accepted { OnOk result (Accepts schema.now text.now certificate.now) }
     ensures refused { IfErr result (IsNotAccepted schema.now text.now certificate.now) }
+    // Each certificate that can be read and is checked against the query is accepted, unless memory runs out.
+    ensures complete { AcceptsReadable schema.now text.now certificate.now → IfErr result (λ r. r ≡ Memory) }
 {
     let schema = Schema::read(alloc, schema)?;
     let asked = bound_query(alloc, &schema, text)?;

@@ -3,7 +3,8 @@
 ghost use Rattle.std.specs.Prelude.{◌≡◌, Ok, IfOk, IfErr};
 ghost use Rattle.query.specs.Bound.{IsBoundOver};
 ghost use Rattle.certificate_text.specs.Limits.{written};
-ghost use Rattle.pipeline.specs.Certified.{Accepts};
+ghost use Rattle.certificate_text.specs.Readable.{IsReadableCertificate};
+ghost use Rattle.pipeline.specs.Certified.{AcceptsReadable};
 ghost use Rattle.pipeline.specs.Planned.{IsNotPlanned, IsUnwritten, WithChecked};
 
 use crate::preparation::bound_query;
@@ -24,7 +25,7 @@ fn planned_text(
     limit: usize,
 ) -> Result<Vec<u8>, Refusal>
     requires { IsBoundOver schema.now query.now }
-    ensures planned { IfOk result (λ text. WithChecked schema.now query.now (λ c. written c ≡ Ok text.items)) }
+    ensures planned { IfOk result (λ text. WithChecked schema.now query.now (λ c. (written c ≡ Ok text.items) × IsReadableCertificate c)) }
     ensures refused { IfErr result (IsUnwritten schema.now query.now) }
 {
     let planned = planner::plan(alloc, query, statistics, limit)?;
@@ -42,7 +43,8 @@ pub fn plan(
     statistics: &[u8],
     limit: usize,
 ) -> Result<Vec<u8>, Refusal>
-    ensures planned { IfOk result (λ certificate. Accepts schema.now text.now certificate.items) }
+    // The text is accepted by `check`, as its clause `complete` says of each certificate that can be read.
+    ensures planned { IfOk result (λ certificate. AcceptsReadable schema.now text.now certificate.items) }
     ensures refused { IfErr result (IsNotPlanned schema.now text.now statistics.now) }
 {
     let schema = Schema::read(alloc, schema)?;

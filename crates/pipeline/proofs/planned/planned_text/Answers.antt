@@ -1,6 +1,7 @@
 use Rattle.std.proofs.Common.{◌∙◌, ap, Err}
 use Rattle.std.proofs.lemmas.Result.{err_from_is_err_and}
 use Rattle.certificate.proofs.Answers.{checked}
+use Rattle.certificate.proofs.NodeInputs.{nodes_have_inputs}
 use Rattle.pipeline.specs.Refusals.{of_certificate}
 use Rattle.pipeline.proofs.Answered.{of_fault}
 use Rattle.pipeline.proofs.Planning.{unwritten}
@@ -15,4 +16,6 @@ returns-in_err-write-clause-refused c =
 
 pub returns-clause-planned : goal.returns-clause-planned
 returns-clause-planned c =
-    (c.in_ok-planned.planned.certificate, checked c.args.schema.now c.args.query.now c.requires c.in_ok-planned.planned.certificate c.in_ok-planned.ensures.replays, c.in_ok-write.ensures.text)
+    let planned = c.in_ok-planned.planned.certificate in
+    let replays = c.in_ok-planned.ensures.replays in
+    (planned, checked c.args.schema.now c.args.query.now c.requires planned replays, (c.in_ok-write.ensures.text, c.in_ok-write.ensures.readable (nodes_have_inputs c.args.schema.now c.args.query.now c.requires planned replays)))
