@@ -2,6 +2,7 @@ pub mod ConditionReading
 pub mod Conditions
 pub mod DecimalNumerals
 pub mod DifferentTexts
+pub mod ListReading
 pub mod Numerals
 pub mod Parts
 pub mod PartTexts

@@ -1,5 +1,5 @@
 -- What reading a part of the text gives.
-use Rattle.std.specs.Prelude.{◌≡◌, ℕ, ◌<◌, ◌^◌, List, map, Result, Ok, Err, Option, Some, None}
+use Rattle.std.specs.Prelude.{◌≡◌, ℕ, ◌<◌, ◌^◌, Bool, false, ◌⊎◌, List, map, Result, Ok, Err, Option, Some, None}
 use Rattle.std.specs.List.{AllByRecursion}
 use Rattle.std.specs.List.Sorted.{IsStrictlyIncreasing}
 use Rattle.std.specs.Option.{option_map}
@@ -30,6 +30,10 @@ ReadsAny Spells t view (Ok v) = Spells t (view v)
 ReadsAny Spells t view (Err Memory) = Unit {0}
 ReadsAny {X = X} Spells t view (Err (Refused OtherForm)) = (x : X) → Spells t x → ⊥
 ReadsAny Spells t view (Err (Refused OverLimit)) = ⊥
+
+-- a call has given the value where it is in range; where it isn't, that is noted, and the value says nothing
+abbrev pub Noted : Type 0 → Type 0 → Bool → Bool → Type 0
+Noted IsInRange IsGiven old new = (IsInRange × IsGiven × (new ≡ old)) ⊎ ((IsInRange → ⊥) × (new ≡ false))
 
 -- ---- numbers
 
