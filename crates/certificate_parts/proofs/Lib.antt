@@ -8,6 +8,7 @@ pub mod CursorSteps
 pub mod DecimalNumerals
 pub mod DifferentTexts
 pub mod Exits
+pub mod FrontConditions
 pub mod Lacking
 pub mod NumberLists
 pub mod NumberParts
@@ -15,5 +16,6 @@ pub mod NumeralOrder
 pub mod Numerals
 pub mod OpenConditions
 pub mod PartLists
+pub mod SameFronts
 pub mod TermParts
 pub mod WideConditions

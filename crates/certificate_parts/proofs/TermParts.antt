@@ -391,15 +391,24 @@ module _ (p : ℕ → Bool) (hex : (b : ℕ) → is_lower_hex b ≡ true → p b
   pub numeral_passes : (n : ℕ) → list_all p (numeral n) ≡ true
   numeral_passes n = pass_more is_ascii_digit p (λ b digit. hex b (ap (λ d. d || (nat_le 97 b && nat_le b 102)) digit)) (numeral n) (numeral_digits n)
 
+  pub part_term_passes : (t : Term) → HasText t → list_all p (part_term_text t) ≡ true
+  part_term_passes (term.Column k) s = pass_both p (codes "c") (numeral k) letters.1 (numeral_passes k)
+  part_term_passes (term.Literal value.Null) s = letters.0
+  part_term_passes (term.Literal (value.Int (pos n))) s = pass_both p (codes "i") (numeral n) letters.2 (numeral_passes n)
+  part_term_passes (term.Literal (value.Int (negsuc n))) s = pass_both p (codes "i") (45 ∷ numeral (suc n)) letters.2 (pass_both p (codes "-") (numeral (suc n)) letters.4 (numeral_passes (suc n)))
+  part_term_passes (term.Literal (value.Text u)) s = pass_both p (codes "t") (encode_lower u) letters.3 (pass_more is_lower_hex p hex (encode_lower u) (encoded_lower u (text_bytes u s)))
+
   pub term_passes : (t : Term) → IsReadableTerm t → list_all p (term_text t) ≡ true
-  term_passes (term.Column k) s = pass_both p (codes "c") (decimal k) letters.1 (ap (list_all p) (short_decimal k s) ∙ numeral_passes k)
-  term_passes (term.Literal value.Null) s = letters.0
-  term_passes (term.Literal (value.Int (pos n))) s = pass_both p (codes "i") (decimal n) letters.2 (ap (list_all p) (plain n s) ∙ numeral_passes n)
-  term_passes (term.Literal (value.Int (negsuc n))) s = pass_both p (codes "i") (45 ∷ decimal (suc n)) letters.2 (pass_both p (codes "-") (decimal (suc n)) letters.4 (ap (list_all p) (behind_minus n s) ∙ numeral_passes (suc n)))
-  term_passes (term.Literal (value.Text u)) s = pass_both p (codes "t") (encode_lower u) letters.3 (pass_more is_lower_hex p hex (encode_lower u) (encoded_lower u (text_bytes u s)))
+  term_passes t s = ap (list_all p) (sym (algebras_text t s)) ∙ part_term_passes t (short_term t s).1
 
-pub no_comma : (t : Term) → IsReadableTerm t → lacks 44 (term_text t) ≡ true
-no_comma = term_passes (λ b. not (b == 44)) (passes_other is_lower_hex 44 refl) (refl, refl, refl, refl, refl)
+pub no_comma : (t : Term) → HasText t → lacks 44 (part_term_text t) ≡ true
+no_comma = part_term_passes (λ b. not (b == 44)) (passes_other is_lower_hex 44 refl) (refl, refl, refl, refl, refl)
 
-pub no_parenthesis : (t : Term) → IsReadableTerm t → lacks 41 (term_text t) ≡ true
-no_parenthesis = term_passes (λ b. not (b == 41)) (passes_other is_lower_hex 41 refl) (refl, refl, refl, refl, refl)
+pub no_parenthesis : (t : Term) → HasText t → lacks 41 (part_term_text t) ≡ true
+no_parenthesis = part_term_passes (λ b. not (b == 41)) (passes_other is_lower_hex 41 refl) (refl, refl, refl, refl, refl)
+
+pub readable_no_comma : (t : Term) → IsReadableTerm t → lacks 44 (term_text t) ≡ true
+readable_no_comma t s = ap (lacks 44) (sym (algebras_text t s)) ∙ no_comma t (short_term t s).1
+
+pub readable_no_parenthesis : (t : Term) → IsReadableTerm t → lacks 41 (term_text t) ≡ true
+readable_no_parenthesis t s = ap (lacks 41) (sym (algebras_text t s)) ∙ no_parenthesis t (short_term t s).1

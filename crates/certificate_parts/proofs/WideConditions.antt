@@ -5,20 +5,20 @@ use Rattle.algebra.specs.declared.condition.Condition.{Condition, roll-Condition
 use Rattle.algebra.specs.declared.condition.Condition.TheVariants.{Compare, IsNull, Not, And, Or, Exists, In, rolls-Compare, rolls-IsNull, rolls-Not, rolls-And, rolls-Or, rolls-Exists, rolls-In}
 use Rattle.algebra.specs.declared.condition.Condition.TheOpen.{Condition-F}
 use Rattle.algebra.specs.declared.condition.Term.{Term}
-use Rattle.algebra.specs.ConjunctOrder.{comparison_text, condition_text, listed}
+use Rattle.algebra.specs.ConjunctOrder.{comparison_text, condition_text, listed, text_layer}
 use Rattle.certificate_parts.specs.declared.conditions.Form.{Form}
 use Rattle.certificate_parts.specs.declared.conditions.Form.TheVariants as form
 use Rattle.certificate_parts.specs.Conditions.{IsReadable, terms_of}
-use Rattle.certificate_parts.specs.ConditionReading.{part_text_layer, part_condition_text, IsWithin, IsShortCondition}
+use Rattle.certificate_parts.specs.ConditionReading.{part_condition_text, IsWithin, IsShortCondition}
 use Rattle.certificate_parts.specs.PartTexts.{Text}
 use Rattle.certificate_parts.specs.Spelled.{IsReadableTerm, IsShortTerm, HasText}
 use Rattle.certificate_parts.proofs.DecimalNumerals.{short_decimal}
-use Rattle.certificate_parts.proofs.OpenConditions.{Body, opened, some_room, text-at}
+use Rattle.certificate_parts.proofs.FrontConditions.{Body, opened, part-at, some_room}
 use Rattle.certificate_parts.proofs.TermParts.{algebras_text, short_term}
 
-pub part-at : (x : Condition-F Condition) (c : Condition) → roll-Condition x ≡ c → part_condition_text c ≡ part_text_layer (map-Condition Condition Text part_condition_text x)
-unfolding part_condition_text
-part-at x c is = ap part_condition_text (sym is) ∙ fold-roll-Condition Text part_text_layer x
+text-at : (x : Condition-F Condition) (c : Condition) → roll-Condition x ≡ c → condition_text c ≡ text_layer (map-Condition Condition (List ℕ) condition_text x)
+unfolding condition_text
+text-at x c is = ap condition_text (sym is) ∙ fold-roll-Condition (List ℕ) text_layer x
 
 abbrev IsAlgebras : Condition → Type 0
 IsAlgebras c = part_condition_text c ≡ condition_text c
@@ -28,7 +28,7 @@ module _ (room : ℕ) (same : (c : Condition) → IsReadable room c → IsAlgebr
   each_same [] h = refl
   each_same (c ∷ cs) h = λ i. same c h.0 i ∷ each_same cs h.1 i
 
-  body_same : (f : Form) (w : Text) (c : Condition) → Body room f w c [] → IsAlgebras c
+  body_same : (f : Form) (w : Text) (c : Condition) → Body IsReadableTerm room f w c [] → IsAlgebras c
   body_same form.Not w c b =
       ap part_condition_text b.2 ∙ part-at (Condition-F.Not b.0) (Not b.0) (rolls-Not b.0) ∙ ap (λ t. codes "not(" ++ (t ++ codes ")")) (same b.0 b.1)
       ∙ sym (ap condition_text b.2 ∙ text-at (Condition-F.Not b.0) (Not b.0) (rolls-Not b.0))
@@ -56,8 +56,8 @@ module _ (room : ℕ) (same : (c : Condition) → IsReadable room c → IsAlgebr
       ∙ sym (ap condition_text b.4 ∙ text-at (Condition-F.Compare op b.0 b.1) (Compare op b.0 b.1) (rolls-Compare op b.0 b.1))
 
 algebras_same : (room : ℕ) (c : Condition) → IsReadable room c → IsAlgebras c
-algebras_same zero c h = absurd (omega (arith, some_room zero c h))
-algebras_same (suc room) c h = let opens = opened (suc room) room c [] (omega arith) h in body_same room (algebras_same room) opens.0 opens.1 c opens.3
+algebras_same zero c h = absurd (omega (arith, some_room zero c h.0))
+algebras_same (suc room) c h = let opens = opened IsReadableTerm (suc room) room c [] (omega arith) h in body_same room (algebras_same room) opens.0 opens.1 c opens.3
 
 each_short : (ts : List Term) → AllByRecursion IsReadableTerm ts → AllByRecursion IsShortTerm ts × AllByRecursion HasText ts
 each_short [] h = (tt, tt)

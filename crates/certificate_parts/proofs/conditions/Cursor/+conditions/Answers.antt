@@ -5,7 +5,7 @@ use Rattle.algebra.specs.declared.condition.Condition.TheVariants as condition
 use Rattle.certificate_parts.specs.declared.conditions.Form.TheVariants as form
 use Rattle.certificate_parts.specs.Conditions.{more_text}
 use Rattle.certificate_parts.proofs.CursorSteps.{leaves_fault, leaves_whole}
-use Rattle.certificate_parts.proofs.TermParts.{no_parenthesis}
+use Rattle.certificate_parts.proofs.TermParts.{readable_no_parenthesis}
 use Rattle.certificate_parts.proofs.OpenConditions.{opened, at_form, some_room, more_end, more_next, more_over, so_far_more}
 use Rattle.certificate_parts.proofs.conditions.Cursor.+conditions.Goals as goal
 
@@ -66,12 +66,12 @@ pub condition-returns-in_err-term-in-IsNull : goal.condition-returns-in_err-term
 condition-returns-in_err-term-in-IsNull t c = λ d rest h e.
     let at = at_form c.args.room c.in-Some.room d rest c.args.self.now c.form.new.self c.in_ok-form.field-0 form.IsNull (omega (arith, c.in-Some.ensures.0, c.in-Some.ensures.1)) h e c.in_ok-form.ensures c.in-IsNull.is in
     leaves_fault (λ t. t) at.1.0 rest c.form.new.self c.term.new.self c.in_err-term-in-IsNull.field-0.0 (λ c. c) d rest c.args.self.now c.term.new.self c.from_residual-in_err-term-in-IsNull.result c.from_residual-in_err-term-in-IsNull.ensures.1
-    (c.in_err-term-in-IsNull.ensures at.1.0 rest (no_parenthesis at.1.0 at.1.1) at.1.1 at.1.3)
+    (c.in_err-term-in-IsNull.ensures at.1.0 rest (readable_no_parenthesis at.1.0 at.1.1) at.1.1 at.1.3)
 
 pub condition-returns-in_ok-term-in-IsNull : goal.condition-returns-in_ok-term-in-IsNull
 condition-returns-in_ok-term-in-IsNull t c = λ d rest h e.
     let at = at_form c.args.room c.in-Some.room d rest c.args.self.now c.form.new.self c.in_ok-form.field-0 form.IsNull (omega (arith, c.in-Some.ensures.0, c.in-Some.ensures.1)) h e c.in_ok-form.ensures c.in-IsNull.is in
-    let end = c.in_ok-term-in-IsNull.ensures at.1.0 rest (no_parenthesis at.1.0 at.1.1) at.1.1 at.1.3 in
+    let end = c.in_ok-term-in-IsNull.ensures at.1.0 rest (readable_no_parenthesis at.1.0 at.1.1) at.1.1 at.1.3 in
     (ap condition.IsNull end.0 ∙ sym at.1.2, end.1, end.2 ∙ at.0)
 
 pub condition-returns-in_err-number-in-Exists : goal.condition-returns-in_err-number-in-Exists
