@@ -9,13 +9,16 @@ pub mod DecimalNumerals
 pub mod DifferentTexts
 pub mod Exits
 pub mod FrontConditions
+pub mod FrontForms
 pub mod Lacking
+pub mod MoreParts
 pub mod NumberLists
 pub mod NumberParts
 pub mod NumeralOrder
 pub mod Numerals
 pub mod OpenConditions
 pub mod PartLists
+pub mod Passing
 pub mod SameFronts
 pub mod TermParts
 pub mod WideConditions

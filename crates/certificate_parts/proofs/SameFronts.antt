@@ -23,7 +23,7 @@ use Rattle.certificate_parts.proofs.TermParts.{no_comma, no_parenthesis, term_to
 -- ---- texts that are cut at a character
 
 -- before the first such character stands the same, and behind it too
-cut : (c : ℕ) (v w x y : Text) → lacks c v ≡ true → lacks c w ≡ true → v ++ (c ∷ x) ≡ w ++ (c ∷ y) → (v ≡ w) × (x ≡ y)
+pub cut : (c : ℕ) (v w x y : Text) → lacks c v ≡ true → lacks c w ≡ true → v ++ (c ∷ x) ≡ w ++ (c ∷ y) → (v ≡ w) × (x ≡ y)
 cut c [] [] x y h k e = (refl, ap (drop 1) e)
 cut c [] (b ∷ w) x y h k e = absurd (lacks_at c (b ∷ w) k 0 (omega arith) (ap (λ t. get_or t 0 0) (sym e)))
 cut c (b ∷ v) [] x y h k e = absurd (lacks_at c (b ∷ v) h 0 (omega arith) (ap (λ t. get_or t 0 0) e))
@@ -41,7 +41,7 @@ sign_lacks op.LessOrEqual = refl
 sign_lacks op.Greater = refl
 sign_lacks op.GreaterOrEqual = refl
 
-name_lacks : (f : Form) → lacks 40 (form_text f) ≡ true
+pub name_lacks : (f : Form) → lacks 40 (form_text f) ≡ true
 name_lacks form.Not = refl
 name_lacks form.And = refl
 name_lacks form.Or = refl
@@ -79,7 +79,7 @@ form_named form.Exists = refl
 form_named form.In = refl
 form_named (form.Compare o) = sign_named o
 
-same_form : (f g : Form) → form_text f ≡ form_text g → f ≡ g
+pub same_form : (f g : Form) → form_text f ≡ form_text g → f ≡ g
 same_form f g e = sym (form_named f) ∙ ap named e ∙ form_named g
 
 -- ---- terms and numbers
@@ -177,7 +177,7 @@ module _ (room : ℕ) (other : IsNotBoth room) where
       (append_assoc (44 ∷ part_condition_text x.0) (more_text (x.1 ∷ x.2)) (41 ∷ rest) ∙ ap (λ t. 44 ∷ (part_condition_text x.0 ++ (44 ∷ t))) (append_assoc (part_condition_text x.1) (more_text x.2) (41 ∷ rest)) ∙ ap (λ t. 44 ∷ t) (sym x.7 ∙ y.2)) y.4
 
 -- the form in front of a condition's text
-form_front : (room : ℕ) (w : Text) (c : Condition) (rest : Text) (f : Form) (v : Text) → BeginsWith (suc room) w c rest → w ≡ form_text f ++ (40 ∷ v) → Body HasText room f v c rest
+pub form_front : (room : ℕ) (w : Text) (c : Condition) (rest : Text) (f : Form) (v : Text) → BeginsWith (suc room) w c rest → w ≡ form_text f ++ (40 ∷ v) → Body HasText room f v c rest
 form_front room w c rest f v h e =
     let x = opened HasText (suc room) room c rest (omega arith) h.1 in
     let parts = cut 40 (form_text f) (form_text x.0) v x.1 (name_lacks f) (name_lacks x.0) (sym e ∙ h.0 ∙ x.2) in

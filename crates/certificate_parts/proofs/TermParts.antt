@@ -356,6 +356,12 @@ short_term (term.Literal value.Null) s = (tt, tt)
 short_term (term.Literal (value.Int z)) s = (s, tt)
 short_term (term.Literal (value.Text u)) s = (tt, s)
 
+pub readable_term : (t : Term) → IsShortTerm t → HasText t → IsReadableTerm t
+readable_term (term.Column k) s h = s
+readable_term (term.Literal value.Null) s h = tt
+readable_term (term.Literal (value.Int z)) s h = s
+readable_term (term.Literal (value.Text u)) s h = h
+
 pub term_told : (w : Text) (t v : Term) → SpellsTerm w t → SpellsTerm w v → v ≡ t
 term_told w (term.Column k) v s r = let word = column_word v w (numeral k) s.0 r in word.2 ∙ ap term.Column (numeral_injective word.0 k (sym word.1))
 term_told w (term.Literal value.Null) v s r = null_word v w s.0 r

@@ -1,20 +1,16 @@
 //! Conditions, read from left to right.
 
-ghost use Rattle.std.specs.Prelude.{◌≡◌, ℕ, ◌<◌, ◌++◌, ◌∷◌, List, codes, true, false, Some, MatchBool};
-ghost use Rattle.std.specs.Char.{is_ascii_digit};
-ghost use Rattle.std.specs.List.{AllByRecursion};
+ghost use Rattle.std.specs.Prelude.{◌≡◌, ◌<◌, ◌++◌, ◌⊎◌, true, MatchBool, MatchOption};
 ghost use Rattle.values.specs.declared.truth.Comparison.{Comparison};
-ghost use Rattle.algebra.specs.declared.condition.Condition.{Condition};
 ghost use Rattle.algebra.specs.declared.condition.Condition.TheVariants as condition;
-ghost use Rattle.algebra.specs.declared.condition.Term.{Term};
-ghost use Rattle.algebra.specs.ConjunctOrder.{comparison_text, condition_text, term_text};
+ghost use Rattle.algebra.specs.ConjunctOrder.{comparison_text};
 ghost use Rattle.certificate_parts.specs.declared.conditions.Form.{Form};
-ghost use Rattle.certificate_parts.specs.Conditions.{Leaves, IsReadable, form_text, more_text};
-ghost use Rattle.certificate_parts.specs.ConditionReading.{PassesWord};
-ghost use Rattle.certificate_parts.specs.Numerals.{numeral};
-ghost use Rattle.certificate_parts.specs.PartTexts.{Text, lacks};
+ghost use Rattle.certificate_parts.specs.Conditions.{form_text};
+ghost use Rattle.certificate_parts.specs.ConditionReading as spec;
+ghost use Rattle.certificate_parts.specs.PartTexts.{Text};
 ghost use Rattle.certificate_parts.specs.Parts.{IsShort};
-ghost use Rattle.certificate_parts.specs.Spelled.{IsReadableTerm};
+ghost use Rattle.certificate_parts.specs.Spelled.{IsShortTerm};
+ghost use Rattle.std.specs.List.{AllByRecursion};
 
 use crate::numbers::number;
 use crate::part_fault::{PartFault, PartReason};
@@ -36,7 +32,7 @@ enum Form {
 }
 
 fn named_comparison(name: &str) -> Option<Comparison>
-    ensures { (op : Comparison) → name.now ≡ comparison_text op → result ≡ Some op }
+    ensures { MatchOption result ((op : Comparison) → name.now ≡ comparison_text op → ⊥) (λ op. name.now ≡ comparison_text op) }
 {
     match name {
         "=" => Some(Comparison::Equal),
@@ -50,7 +46,7 @@ fn named_comparison(name: &str) -> Option<Comparison>
 }
 
 fn named_form(name: &str) -> Option<Form>
-    ensures { (form : Form) → name.now ≡ form_text form → result ≡ Some form }
+    ensures { MatchOption result ((form : Form) → name.now ≡ form_text form → ⊥) (λ form. name.now ≡ form_text form) }
 {
     match name {
         "not" => Some(Form::Not),
@@ -100,7 +96,7 @@ impl<'a> Cursor<'a> {
 
     /// Passes what has to stand there.
     fn expect(&mut self, word: &str) -> Result<(), PartFault>
-        ensures { (rest : Text) → self.old.left.now ≡ word.now ++ rest → Leaves (λ u. u) tt rest self.old self.new result }
+        ensures { spec.Passes (λ t u rest. t ≡ word.now ++ rest) spec.IsAny spec.IsNever (λ u. u) self.old self.new result }
     {
         if self.passes(word) {
             Ok(())
@@ -112,8 +108,7 @@ impl<'a> Cursor<'a> {
     /// What stands before the next such character, which is passed too.
     fn until(&mut self, end: char) -> Result<&'a str, PartFault>
         requires { end < 128 }
-        ensures passed { PassesWord (λ w. w.now) end self.old self.new result }
-        ensures spelled { (word : Text) (rest : Text) → lacks end word ≡ true → self.old.left.now ≡ word ++ (end ∷ rest) → Leaves (λ w. w.now) word rest self.old self.new result }
+        ensures { spec.PassesWord (λ w. w.now) end self.old self.new result }
     {
         match self.left.split_once(end) {
             Some((word, left)) => {
@@ -126,8 +121,8 @@ impl<'a> Cursor<'a> {
 
     /// The number up to the next such character.
     fn number(&mut self, end: char) -> Result<u32, PartFault>
-        requires { end < 128 }
-        ensures { (n : ℕ) (rest : Text) → is_ascii_digit end ≡ false → IsShort n → self.old.left.now ≡ numeral n ++ (end ∷ rest) → Leaves (λ n. n) n rest self.old self.new result }
+        requires { (end ≡ 44) ⊎ (end ≡ 41) }
+        ensures { spec.Passes (spec.BeginsNumber end) IsShort spec.IsNever (λ n. n) self.old self.new result }
     {
         let word = self.until(end)?;
         match number(word)? {
@@ -141,8 +136,8 @@ impl<'a> Cursor<'a> {
 
     /// The term up to the next such character.
     fn term(&mut self, alloc: Global, end: char) -> Result<Term, PartFault>
-        requires { end < 128 }
-        ensures { (t : Term) (rest : Text) → lacks end (term_text t) ≡ true → IsReadableTerm t → self.old.left.now ≡ term_text t ++ (end ∷ rest) → Leaves (λ t. t) t rest self.old self.new result }
+        requires { (end ≡ 44) ⊎ (end ≡ 41) }
+        ensures { spec.Passes (spec.BeginsTerm end) IsShortTerm spec.IsNever (λ t. t) self.old self.new result }
     {
         let word = self.until(end)?;
         match term(alloc, word)? {
@@ -156,7 +151,7 @@ impl<'a> Cursor<'a> {
 
     /// What stands before the parenthesis, which is passed too.
     fn form(&mut self) -> Result<Form, PartFault>
-        ensures { (form : Form) (rest : Text) → self.old.left.now ≡ form_text form ++ (40 ∷ rest) → Leaves (λ form. form) form rest self.old self.new result }
+        ensures { spec.Passes spec.BeginsForm spec.IsAny spec.IsNever (λ form. form) self.old self.new result }
     {
         let name = self.until('(')?;
         match named_form(name) {
@@ -172,9 +167,7 @@ impl<'a> Cursor<'a> {
         alloc: Global,
         room: usize,
     ) -> Result<(Boxed<Condition>, Boxed<Condition>, Items<Condition>), PartFault>
-        ensures { (a : Condition) (b : Condition) (cs : List Condition) (rest : Text) → IsReadable room a → IsReadable room b → AllByRecursion (IsReadable room) cs
-            → self.old.left.now ≡ condition_text a ++ (44 ∷ (condition_text b ++ (more_text cs ++ (41 ∷ rest))))
-            → Leaves (λ parts. parts) (a, b, cs) rest self.old self.new result }
+        ensures { spec.Passes (spec.BeginsParts room) spec.AreShortParts (spec.BehindParts room (spec.IsTooDeep room)) (λ parts. parts) self.old self.new result }
     {
         let first = Boxed::new(alloc, self.condition(alloc, room)?)?;
         self.expect(",")?;
@@ -185,7 +178,7 @@ impl<'a> Cursor<'a> {
     /// The parts behind the second one, up to the last parenthesis.
     #[cycle(conditions)]
     fn more(&mut self, alloc: Global, room: usize) -> Result<Items<Condition>, PartFault>
-        ensures { (cs : List Condition) (rest : Text) → AllByRecursion (IsReadable room) cs → self.old.left.now ≡ more_text cs ++ (41 ∷ rest) → Leaves (λ cs. cs) cs rest self.old self.new result }
+        ensures { spec.Passes (spec.BeginsMore room) (AllByRecursion spec.IsShortCondition) (spec.IsMoreTooDeep room) (λ cs. cs) self.old self.new result }
     {
         let mut more = Items::new(alloc);
         // Each takes a byte at least, and so does the parenthesis.
@@ -202,7 +195,7 @@ impl<'a> Cursor<'a> {
     /// The condition that stands there, with no more conditions in one another than there is room for.
     #[cycle(conditions)]
     pub(crate) fn condition(&mut self, alloc: Global, room: usize) -> Result<Condition, PartFault>
-        ensures { (c : Condition) (rest : Text) → IsReadable room c → self.old.left.now ≡ condition_text c ++ rest → Leaves (λ c. c) c rest self.old self.new result }
+        ensures { spec.PassesCondition room self.old self.new result }
     {
         let Some(room) = room.checked_sub(1) else {
             return Err(PartReason::OverLimit.into());
@@ -230,9 +223,7 @@ impl<'a> Cursor<'a> {
 
     /// Whether a term is among the values of a column of a class, behind the parenthesis.
     fn membership(&mut self, alloc: Global) -> Result<Condition, PartFault>
-        ensures { (a : Term) (g : ℕ) (k : ℕ) (rest : Text) → IsReadableTerm a → IsShort g → IsShort k
-            → self.old.left.now ≡ term_text a ++ (44 ∷ (numeral g ++ (44 ∷ (99 ∷ (numeral k ++ (41 ∷ rest))))))
-            → Leaves (λ c. c) (condition.In a g k) rest self.old self.new result }
+        ensures { spec.Passes spec.BeginsMembership spec.IsShortMembership spec.IsNever (λ x. condition.In x.0 x.1 x.2) self.old self.new result }
     {
         let term = self.term(alloc, ',')?;
         let class = self.number(',')?;
@@ -242,9 +233,7 @@ impl<'a> Cursor<'a> {
 
     /// The comparison of two terms, behind the parenthesis.
     fn comparison(&mut self, alloc: Global, comparison: Comparison) -> Result<Condition, PartFault>
-        ensures { (a : Term) (b : Term) (rest : Text) → IsReadableTerm a → IsReadableTerm b
-            → self.old.left.now ≡ term_text a ++ (44 ∷ (term_text b ++ (41 ∷ rest)))
-            → Leaves (λ c. c) (condition.Compare comparison a b) rest self.old self.new result }
+        ensures { spec.Passes spec.BeginsComparison spec.IsShortComparison spec.IsNever (λ x. condition.Compare comparison x.0 x.1) self.old self.new result }
     {
         let left = self.term(alloc, ',')?;
         Ok(Condition::Compare(comparison, left, self.term(alloc, ')')?))

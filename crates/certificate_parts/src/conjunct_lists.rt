@@ -1,15 +1,14 @@
 //! Lists of conjuncts: no ANDs, in rising order of their texts.
 
-ghost use Rattle.std.specs.Prelude.{◌≡◌, ℕ, ◌+◌, ◌<◌, ◌≤◌, ◌++◌, List, [], ◌==◌, codes, true, false, Ok, Some, map, IfOk};
+ghost use Rattle.std.specs.Prelude.{◌≡◌, ◌+◌, ◌<◌, ◌≤◌, ◌++◌, [], ◌==◌, codes, true, false, Ok, Some, None, map, IfOk, MatchBool};
 ghost use Rattle.std.specs.List.{slice_split};
 ghost use Rattle.std.specs.Ordering.{nat_cmp, is_lt};
 ghost use Rattle.std.specs.Cmp.Lexicographic.{slice_cmp};
 ghost use Rattle.std.specs.Option.{option_map};
 ghost use Rattle.values.specs.Faults.{Gives};
-ghost use Rattle.algebra.specs.declared.condition.Condition.{Condition};
-ghost use Rattle.algebra.specs.ConjunctOrder.{condition_text, IsPart, AreRising};
-ghost use Rattle.certificate_parts.specs.Conditions.{IsReadable, IsBefore, Adds, SpellEachConjunct, SpellsConjuncts};
-ghost use Rattle.certificate_parts.specs.Spelled.{ReadsSpelled};
+ghost use Rattle.algebra.specs.ConjunctOrder.{AreRising};
+ghost use Rattle.certificate_parts.specs.ListReading as spec;
+ghost use Rattle.certificate_parts.specs.PartTexts.{Text};
 
 use crate::conditions::Cursor;
 use crate::part_fault::{PartFault, PartReason};
@@ -17,13 +16,11 @@ use algebra::{Condition, Conjuncts};
 use std::alloc::{AllocError, Global};
 use values::Items;
 
-fn is_and(condition: &Condition) -> bool
-    ensures { IsPart condition.now → result ≡ false }
+/// Whether a condition is an AND, by its text.
+fn is_and(text: &str) -> bool
+    ensures { MatchBool result ((rest : Text) × (text.now ≡ codes "and(" ++ rest)) ((rest : Text) → text.now ≡ codes "and(" ++ rest → ⊥) }
 {
-    match condition {
-        Condition::And(_, _, _) => true,
-        _ => false,
-    }
+    text.starts_with("and(")
 }
 
 /// Whether the first of two texts is before the second.
@@ -53,7 +50,7 @@ struct Rising<'a> {
 impl<'a> Rising<'a> {
     /// Reads one more condition, behind which this stands.
     fn add(&mut self, alloc: Global, part: &'a str, end: &str, room: usize) -> Result<(), PartFault>
-        ensures { (c : Condition) → IsReadable room c → IsPart c → part.now ≡ condition_text c ++ end.now → IsBefore self.old.last.now (condition_text c) → Adds c self.old self.new result }
+        ensures { spec.AddsConjunct room part.now end.now self.old self.new result }
     {
         let mut cursor = Cursor::at(part);
         let condition = cursor.condition(alloc, room)?;
@@ -63,7 +60,7 @@ impl<'a> Rising<'a> {
         let Some(text) = part.strip_suffix(end) else {
             return Err(PartReason::OtherForm.into());
         };
-        if is_and(&condition) || !is_before(self.last, text) {
+        if is_and(text) || !is_before(self.last, text) {
             return Err(PartReason::OtherForm.into());
         }
         self.conditions.push(condition)?;
@@ -73,7 +70,8 @@ impl<'a> Rising<'a> {
     }
 
     fn into_conjuncts(self, alloc: Global) -> Result<Option<Conjuncts>, PartFault>
-        ensures { AreRising self.entry.conditions → self.entry.in_range ≡ true → Gives (option_map (λ c. c)) result (Ok (Some self.entry.conditions)) }
+        ensures whole { AreRising self.entry.conditions → self.entry.in_range ≡ true → Gives (option_map (λ c. c)) result (Ok (Some self.entry.conditions)) }
+        ensures past { self.entry.in_range ≡ false → result ≡ Ok None }
     {
         if !self.in_range {
             return Ok(None);
@@ -94,7 +92,7 @@ fn parts_of(alloc: Global, list: &str) -> Result<Vec<&str>, AllocError>
 
 /// The conjuncts of the parts of a list.
 fn each_conjunct(alloc: Global, parts: &[&str], room: usize) -> Result<Option<Conjuncts>, PartFault>
-    ensures { ReadsSpelled (SpellEachConjunct room) (map (λ part. part.now) parts.now) (λ c. c) result }
+    ensures { spec.ReadsList (spec.SpellEachAny room) (spec.IsOneTooDeep room) (map (λ part. part.now) parts.now) (λ c. c) result }
 {
     let mut read = Rising {
         conditions: Items::new(alloc),
@@ -110,7 +108,7 @@ fn each_conjunct(alloc: Global, parts: &[&str], room: usize) -> Result<Option<Co
 /// The conjuncts of a list, in each of which no more conditions stand in one another than there is room for; `None` where a number is
 /// past its range.
 pub fn conjuncts(alloc: Global, list: &str, room: usize) -> Result<Option<Conjuncts>, PartFault>
-    ensures { ReadsSpelled (SpellsConjuncts room) list.now (λ c. c) result }
+    ensures { spec.ReadsConjuncts room list.now (λ c. c) result }
 {
     if list == "[]" {
         return Ok(Some(Conjuncts::none(alloc)));

@@ -1,131 +1,213 @@
-use Rattle.std.proofs.Common.{refl, sym, ap, List, ◌∙◌, ◌∷◌, ◌++◌, arith}
-use Rattle.algebra.specs.ConjunctOrder.{condition_text}
+use Rattle.std.proofs.Common.{◌≡◌, Ok, ℕ, inl, inr, List, refl, sym, ◌∙◌, ◌∷◌, ◌++◌, ap, subst, drop, arith, Err, Bool}
+use Rattle.std.specs.List.{AllByRecursion}
 use Rattle.algebra.specs.declared.condition.Condition.{Condition}
 use Rattle.algebra.specs.declared.condition.Condition.TheVariants as condition
+use Rattle.algebra.specs.declared.condition.Term.{Term}
 use Rattle.certificate_parts.specs.declared.conditions.Form.TheVariants as form
-use Rattle.certificate_parts.specs.Conditions.{more_text}
-use Rattle.certificate_parts.proofs.CursorSteps.{leaves_fault, leaves_whole}
-use Rattle.certificate_parts.proofs.TermParts.{readable_no_parenthesis}
-use Rattle.certificate_parts.proofs.OpenConditions.{opened, at_form, some_room, more_end, more_next, more_over, so_far_more}
+use Rattle.certificate_parts.specs.ConditionReading.{part_condition_text, more_text, AreShortParts, BeginsMore, BeginsNumber, BeginsParts, BeginsTerm, BeginsWith, BehindParts, IsAny, IsMoreTooDeep, IsNever, IsShortCondition, IsShortComparison, IsShortMembership, BeginsComparison, BeginsMembership, IsTooDeep, IsWithin, Parts, Passes, PassesCondition}
+use Rattle.certificate_parts.specs.Parts.{IsShort, Noted}
+use Rattle.certificate_parts.specs.PartTexts.{Text}
+use Rattle.certificate_parts.specs.Spelled.{HasText, IsShortTerm}
+use Rattle.certificate_parts.proofs.Exits.{holds_of_fault}
+use Rattle.certificate_parts.proofs.FrontConditions.{Body}
+use Rattle.certificate_parts.proofs.FrontForms.{IsBodyTooDeep, PassesBody, and_short, compare_short, exists_short, in_short, not_short, null_short, or_short, read_behind, short_and, short_compare, short_exists, short_in, short_not, short_null, short_or, unread_form}
+use Rattle.certificate_parts.proofs.MoreParts.{before_first, behind_first, deep_more, behind_comma, behind_second, first_fails, second_fails, left_begins, left_deep, more_deep, more_end, more_over, more_unread, next_part, so_far_more, whole_deep}
+use Rattle.certificate_parts.proofs.Passing.{fails_behind, noted_any, noted_as, noted_both, passes_as}
+use Rattle.certificate_parts.proofs.SameFronts.{not_both_fronts, same_front}
 use Rattle.certificate_parts.proofs.conditions.Cursor.+conditions.Goals as goal
 
-pub condition-returns-in_default : goal.condition-returns-in_default
-condition-returns-in_default t c = λ d rest h e. absurd (c.in_default.ensures (some_room c.args.room d h))
+-- ---- condition
 
 pub condition-returns-in_err-form : goal.condition-returns-in_err-form
-condition-returns-in_err-form t c = λ d rest h e.
-    let opens = opened c.args.room c.in-Some.room d rest (omega (arith, c.in-Some.ensures.0, c.in-Some.ensures.1)) h in
-    leaves_fault (λ form. form) opens.0 opens.1 c.args.self.now c.form.new.self c.in_err-form.field-0.0 (λ c. c) d rest c.args.self.now c.form.new.self c.from_residual.result c.from_residual.ensures.1
-    (c.in_err-form.ensures opens.0 opens.1 (e ∙ opens.2))
+condition-returns-in_err-form t c =
+    holds_of_fault (PassesCondition c.args.room c.args.self.now c.form.new.self) c.from_residual.result c.in_err-form.field-0.0 c.from_residual.ensures.1
+    (unread_form c.args.room c.in-Some.room c.args.self.now c.form.new.self c.form.new.self c.in_err-form.field-0.0 (omega (arith, c.in-Some.ensures.0, c.in-Some.ensures.1)) c.in_err-form.ensures)
 
 pub condition-returns-in_err-condition-in-Not : goal.condition-returns-in_err-condition-in-Not
-condition-returns-in_err-condition-in-Not t c = λ d rest h e.
-    let at = at_form c.args.room c.in-Some.room d rest c.args.self.now c.form.new.self c.in_ok-form.field-0 form.Not (omega (arith, c.in-Some.ensures.0, c.in-Some.ensures.1)) h e c.in_ok-form.ensures c.in-Not.is in
-    leaves_fault (λ c. c) at.1.0 (41 ∷ rest) c.form.new.self c.condition.new.self c.in_err-condition-in-Not.field-0.0 (λ c. c) d rest c.args.self.now c.condition.new.self c.from_residual-in_err-condition-in-Not.result c.from_residual-in_err-condition-in-Not.ensures.1
-    (c.in_err-condition-in-Not.ensures at.1.0 (41 ∷ rest) at.1.1 at.1.3)
+condition-returns-in_err-condition-in-Not t c =
+    read_behind c.args.room c.in-Some.room c.in_ok-form.field-0 form.Not c.args.self.now c.form.new.self c.condition.new.self c.from_residual-in_err-condition-in-Not.result (omega (arith, c.in-Some.ensures.0, c.in-Some.ensures.1)) c.in_ok-form.ensures c.in-Not.is
+    (holds_of_fault (PassesBody c.in-Some.room form.Not c.form.new.self c.condition.new.self) c.from_residual-in_err-condition-in-Not.result c.in_err-condition-in-Not.field-0.0 c.from_residual-in_err-condition-in-Not.ensures.1
+    (fails_behind (Body HasText c.in-Some.room form.Not) IsShortCondition (IsTooDeep c.in-Some.room) (λ (d : Condition). d) (BeginsWith c.in-Some.room) IsShortCondition (IsTooDeep c.in-Some.room) (λ (d : Condition). d) c.form.new.self c.form.new.self c.condition.new.self c.condition.new.self c.in_err-condition-in-Not.field-0.0 c.in_err-condition-in-Not.ensures
+    (λ x rest s. (s.0, 41 ∷ rest, (s.3, s.1))) inl (λ deep. deep)))
 
 pub condition-returns-in_err-expect-in-Not : goal.condition-returns-in_err-expect-in-Not
-condition-returns-in_err-expect-in-Not t c = λ d rest h e.
-    let at = at_form c.args.room c.in-Some.room d rest c.args.self.now c.form.new.self c.in_ok-form.field-0 form.Not (omega (arith, c.in-Some.ensures.0, c.in-Some.ensures.1)) h e c.in_ok-form.ensures c.in-Not.is in
-    let part = c.in_ok-condition-in-Not.ensures at.1.0 (41 ∷ rest) at.1.1 at.1.3 in
-    leaves_fault (λ (u : Unit {0}). u) (tt {0}) rest c.condition.new.self c.expect.new.self c.in_err-expect-in-Not.field-0.0 (λ c. c) d rest c.args.self.now c.expect.new.self c.from_residual-in_err-expect-in-Not.result c.from_residual-in_err-expect-in-Not.ensures.1
-    (c.in_err-expect-in-Not.ensures rest part.1)
+condition-returns-in_err-expect-in-Not t c =
+    let part = c.in_ok-condition-in-Not.ensures in
+    read_behind c.args.room c.in-Some.room c.in_ok-form.field-0 form.Not c.args.self.now c.form.new.self c.expect.new.self c.from_residual-in_err-expect-in-Not.result (omega (arith, c.in-Some.ensures.0, c.in-Some.ensures.1)) c.in_ok-form.ensures c.in-Not.is
+    (holds_of_fault (PassesBody c.in-Some.room form.Not c.form.new.self c.expect.new.self) c.from_residual-in_err-expect-in-Not.result c.in_err-expect-in-Not.field-0.0 c.from_residual-in_err-expect-in-Not.ensures.1
+    (fails_behind (Body HasText c.in-Some.room form.Not) IsShortCondition (IsTooDeep c.in-Some.room) (λ (d : Condition). d) (λ t (u : Unit {0}) rest. t ≡ 41 ∷ rest) IsAny IsNever (λ (u : Unit {0}). u) c.form.new.self c.condition.new.self c.expect.new.self c.expect.new.self c.in_err-expect-in-Not.field-0.0 c.in_err-expect-in-Not.ensures
+    (λ x rest s. (tt, rest, (same_front c.in-Some.room c.form.new.self.left.now part.0 s.0 c.condition.new.self.left.now (41 ∷ rest) part.1 (s.3, s.1)).1)) (λ deep. absurd (not_both_fronts c.in-Some.room c.form.new.self.left.now part.0 c.condition.new.self.left.now part.1 deep)) (λ never. absurd never)))
 
 pub condition-returns-in_ok-expect-in-Not : goal.condition-returns-in_ok-expect-in-Not
-condition-returns-in_ok-expect-in-Not t c = λ d rest h e.
-    let at = at_form c.args.room c.in-Some.room d rest c.args.self.now c.form.new.self c.in_ok-form.field-0 form.Not (omega (arith, c.in-Some.ensures.0, c.in-Some.ensures.1)) h e c.in_ok-form.ensures c.in-Not.is in
-    let part = c.in_ok-condition-in-Not.ensures at.1.0 (41 ∷ rest) at.1.1 at.1.3 in
-    let end = c.in_ok-expect-in-Not.ensures rest part.1 in
-    (ap condition.Not (c.in_ok-part-in-Not.ensures ∙ part.0) ∙ sym at.1.2, end.1, end.2 ∙ (part.2 ∙ at.0))
+condition-returns-in_ok-expect-in-Not t c =
+    let part = c.in_ok-condition-in-Not.ensures in
+    let end = c.in_ok-expect-in-Not.ensures in
+    let kept = (noted_any c.condition.new.self.in_range c.expect.new.self.in_range end.2).1 in
+    let body : PassesBody c.in-Some.room form.Not c.form.new.self c.expect.new.self (Ok (condition.Not c.in_ok-part-in-Not.part)) = (
+      condition.Not part.0,
+      (part.0, part.1.1, refl, part.1.0 ∙ ap (λ t. part_condition_text part.0 ++ t) end.1),
+      subst (Noted (IsShortCondition (condition.Not part.0)) _ c.form.new.self.in_range) (sym kept)
+          (noted_as c.form.new.self.in_range c.condition.new.self.in_range (not_short part.0) (short_not part.0) (λ same. ap condition.Not (c.in_ok-part-in-Not.ensures ∙ same)) part.2),
+    ) in
+    read_behind c.args.room c.in-Some.room c.in_ok-form.field-0 form.Not c.args.self.now c.form.new.self c.expect.new.self (Ok (condition.Not c.in_ok-part-in-Not.part)) (omega (arith, c.in-Some.ensures.0, c.in-Some.ensures.1)) c.in_ok-form.ensures c.in-Not.is body
 
 pub condition-returns-in_err-first-in-And : goal.condition-returns-in_err-first-in-And
-condition-returns-in_err-first-in-And t c = λ d rest h e.
-    let at = at_form c.args.room c.in-Some.room d rest c.args.self.now c.form.new.self c.in_ok-form.field-0 form.And (omega (arith, c.in-Some.ensures.0, c.in-Some.ensures.1)) h e c.in_ok-form.ensures c.in-And.is in
-    leaves_fault (λ (parts : Condition × Condition × List Condition). parts) (at.1.0, at.1.1, at.1.2) rest c.form.new.self c.parts.new.self c.in_err-first-in-And.field-0.0 (λ c. c) d rest c.args.self.now c.parts.new.self c.from_residual-in_err-first-in-And.result c.from_residual-in_err-first-in-And.ensures.1
-    (c.in_err-first-in-And.ensures at.1.0 at.1.1 at.1.2 rest at.1.3 at.1.4 at.1.5 at.1.7)
+condition-returns-in_err-first-in-And t c =
+    read_behind c.args.room c.in-Some.room c.in_ok-form.field-0 form.And c.args.self.now c.form.new.self c.parts.new.self c.from_residual-in_err-first-in-And.result (omega (arith, c.in-Some.ensures.0, c.in-Some.ensures.1)) c.in_ok-form.ensures c.in-And.is
+    (holds_of_fault (PassesBody c.in-Some.room form.And c.form.new.self c.parts.new.self) c.from_residual-in_err-first-in-And.result c.in_err-first-in-And.field-0.0 c.from_residual-in_err-first-in-And.ensures.1
+    (fails_behind (Body HasText c.in-Some.room form.And) IsShortCondition (BehindParts c.in-Some.room (IsTooDeep c.in-Some.room)) (λ (d : Condition). d) (BeginsParts c.in-Some.room) AreShortParts (BehindParts c.in-Some.room (IsTooDeep c.in-Some.room)) (λ (p : Parts). p) c.form.new.self c.form.new.self c.parts.new.self c.parts.new.self c.in_err-first-in-And.field-0.0 c.in_err-first-in-And.ensures
+    (λ x rest s. ((s.0, s.1, s.2), rest, (s.7, s.3, s.4, s.5))) inl (λ deep. deep)))
 
 pub condition-returns-in_ok-first-in-And : goal.condition-returns-in_ok-first-in-And
-condition-returns-in_ok-first-in-And t c = λ d rest h e.
-    let at = at_form c.args.room c.in-Some.room d rest c.args.self.now c.form.new.self c.in_ok-form.field-0 form.And (omega (arith, c.in-Some.ensures.0, c.in-Some.ensures.1)) h e c.in_ok-form.ensures c.in-And.is in
-    let parts = c.in_ok-first-in-And.ensures at.1.0 at.1.1 at.1.2 rest at.1.3 at.1.4 at.1.5 at.1.7 in
-    ((λ i. condition.And (parts.0 i).0 (parts.0 i).1 (parts.0 i).2) ∙ sym at.1.6, parts.1, parts.2 ∙ at.0)
+condition-returns-in_ok-first-in-And t c =
+    let parts = c.in_ok-first-in-And.ensures in
+    let body : PassesBody c.in-Some.room form.And c.form.new.self c.parts.new.self (Ok (condition.And c.in_ok-first-in-And.first c.in_ok-first-in-And.second c.in_ok-first-in-And.more)) = (
+      condition.And parts.0.0 parts.0.1 parts.0.2,
+      (parts.0.0, parts.0.1, parts.0.2, parts.1.1, parts.1.2, parts.1.3, refl, parts.1.0),
+      noted_as c.form.new.self.in_range c.parts.new.self.in_range (and_short parts.0) (short_and parts.0) (λ same. ap (λ (p : Parts). condition.And p.0 p.1 p.2) same) parts.2,
+    ) in
+    read_behind c.args.room c.in-Some.room c.in_ok-form.field-0 form.And c.args.self.now c.form.new.self c.parts.new.self (Ok (condition.And c.in_ok-first-in-And.first c.in_ok-first-in-And.second c.in_ok-first-in-And.more)) (omega (arith, c.in-Some.ensures.0, c.in-Some.ensures.1)) c.in_ok-form.ensures c.in-And.is body
 
 pub condition-returns-in_err-first-in-Or : goal.condition-returns-in_err-first-in-Or
-condition-returns-in_err-first-in-Or t c = λ d rest h e.
-    let at = at_form c.args.room c.in-Some.room d rest c.args.self.now c.form.new.self c.in_ok-form.field-0 form.Or (omega (arith, c.in-Some.ensures.0, c.in-Some.ensures.1)) h e c.in_ok-form.ensures c.in-Or.is in
-    leaves_fault (λ (parts : Condition × Condition × List Condition). parts) (at.1.0, at.1.1, at.1.2) rest c.form.new.self c.parts-in-Or.new.self c.in_err-first-in-Or.field-0.0 (λ c. c) d rest c.args.self.now c.parts-in-Or.new.self c.from_residual-in_err-first-in-Or.result c.from_residual-in_err-first-in-Or.ensures.1
-    (c.in_err-first-in-Or.ensures at.1.0 at.1.1 at.1.2 rest at.1.3 at.1.4 at.1.5 at.1.7)
+condition-returns-in_err-first-in-Or t c =
+    read_behind c.args.room c.in-Some.room c.in_ok-form.field-0 form.Or c.args.self.now c.form.new.self c.parts-in-Or.new.self c.from_residual-in_err-first-in-Or.result (omega (arith, c.in-Some.ensures.0, c.in-Some.ensures.1)) c.in_ok-form.ensures c.in-Or.is
+    (holds_of_fault (PassesBody c.in-Some.room form.Or c.form.new.self c.parts-in-Or.new.self) c.from_residual-in_err-first-in-Or.result c.in_err-first-in-Or.field-0.0 c.from_residual-in_err-first-in-Or.ensures.1
+    (fails_behind (Body HasText c.in-Some.room form.Or) IsShortCondition (BehindParts c.in-Some.room (IsTooDeep c.in-Some.room)) (λ (d : Condition). d) (BeginsParts c.in-Some.room) AreShortParts (BehindParts c.in-Some.room (IsTooDeep c.in-Some.room)) (λ (p : Parts). p) c.form.new.self c.form.new.self c.parts-in-Or.new.self c.parts-in-Or.new.self c.in_err-first-in-Or.field-0.0 c.in_err-first-in-Or.ensures
+    (λ x rest s. ((s.0, s.1, s.2), rest, (s.7, s.3, s.4, s.5))) inl (λ deep. deep)))
 
 pub condition-returns-in_ok-first-in-Or : goal.condition-returns-in_ok-first-in-Or
-condition-returns-in_ok-first-in-Or t c = λ d rest h e.
-    let at = at_form c.args.room c.in-Some.room d rest c.args.self.now c.form.new.self c.in_ok-form.field-0 form.Or (omega (arith, c.in-Some.ensures.0, c.in-Some.ensures.1)) h e c.in_ok-form.ensures c.in-Or.is in
-    let parts = c.in_ok-first-in-Or.ensures at.1.0 at.1.1 at.1.2 rest at.1.3 at.1.4 at.1.5 at.1.7 in
-    ((λ i. condition.Or (parts.0 i).0 (parts.0 i).1 (parts.0 i).2) ∙ sym at.1.6, parts.1, parts.2 ∙ at.0)
+condition-returns-in_ok-first-in-Or t c =
+    let parts = c.in_ok-first-in-Or.ensures in
+    let body : PassesBody c.in-Some.room form.Or c.form.new.self c.parts-in-Or.new.self (Ok (condition.Or c.in_ok-first-in-Or.first c.in_ok-first-in-Or.second c.in_ok-first-in-Or.more)) = (
+      condition.Or parts.0.0 parts.0.1 parts.0.2,
+      (parts.0.0, parts.0.1, parts.0.2, parts.1.1, parts.1.2, parts.1.3, refl, parts.1.0),
+      noted_as c.form.new.self.in_range c.parts-in-Or.new.self.in_range (or_short parts.0) (short_or parts.0) (λ same. ap (λ (p : Parts). condition.Or p.0 p.1 p.2) same) parts.2,
+    ) in
+    read_behind c.args.room c.in-Some.room c.in_ok-form.field-0 form.Or c.args.self.now c.form.new.self c.parts-in-Or.new.self (Ok (condition.Or c.in_ok-first-in-Or.first c.in_ok-first-in-Or.second c.in_ok-first-in-Or.more)) (omega (arith, c.in-Some.ensures.0, c.in-Some.ensures.1)) c.in_ok-form.ensures c.in-Or.is body
 
 pub condition-returns-in_err-term-in-IsNull : goal.condition-returns-in_err-term-in-IsNull
-condition-returns-in_err-term-in-IsNull t c = λ d rest h e.
-    let at = at_form c.args.room c.in-Some.room d rest c.args.self.now c.form.new.self c.in_ok-form.field-0 form.IsNull (omega (arith, c.in-Some.ensures.0, c.in-Some.ensures.1)) h e c.in_ok-form.ensures c.in-IsNull.is in
-    leaves_fault (λ t. t) at.1.0 rest c.form.new.self c.term.new.self c.in_err-term-in-IsNull.field-0.0 (λ c. c) d rest c.args.self.now c.term.new.self c.from_residual-in_err-term-in-IsNull.result c.from_residual-in_err-term-in-IsNull.ensures.1
-    (c.in_err-term-in-IsNull.ensures at.1.0 rest (readable_no_parenthesis at.1.0 at.1.1) at.1.1 at.1.3)
+condition-returns-in_err-term-in-IsNull t c =
+    read_behind c.args.room c.in-Some.room c.in_ok-form.field-0 form.IsNull c.args.self.now c.form.new.self c.term.new.self c.from_residual-in_err-term-in-IsNull.result (omega (arith, c.in-Some.ensures.0, c.in-Some.ensures.1)) c.in_ok-form.ensures c.in-IsNull.is
+    (holds_of_fault (PassesBody c.in-Some.room form.IsNull c.form.new.self c.term.new.self) c.from_residual-in_err-term-in-IsNull.result c.in_err-term-in-IsNull.field-0.0 c.from_residual-in_err-term-in-IsNull.ensures.1
+    (fails_behind (Body HasText c.in-Some.room form.IsNull) IsShortCondition IsNever (λ (d : Condition). d) (BeginsTerm 41) IsShortTerm IsNever (λ (t : Term). t) c.form.new.self c.form.new.self c.term.new.self c.term.new.self c.in_err-term-in-IsNull.field-0.0 c.in_err-term-in-IsNull.ensures
+    (λ x rest s. (s.0, rest, (s.3, s.1))) inl (λ never. never)))
 
 pub condition-returns-in_ok-term-in-IsNull : goal.condition-returns-in_ok-term-in-IsNull
-condition-returns-in_ok-term-in-IsNull t c = λ d rest h e.
-    let at = at_form c.args.room c.in-Some.room d rest c.args.self.now c.form.new.self c.in_ok-form.field-0 form.IsNull (omega (arith, c.in-Some.ensures.0, c.in-Some.ensures.1)) h e c.in_ok-form.ensures c.in-IsNull.is in
-    let end = c.in_ok-term-in-IsNull.ensures at.1.0 rest (readable_no_parenthesis at.1.0 at.1.1) at.1.1 at.1.3 in
-    (ap condition.IsNull end.0 ∙ sym at.1.2, end.1, end.2 ∙ at.0)
+condition-returns-in_ok-term-in-IsNull t c =
+    let a = c.in_ok-term-in-IsNull.ensures in
+    let body : PassesBody c.in-Some.room form.IsNull c.form.new.self c.term.new.self (Ok (condition.IsNull c.in_ok-term-in-IsNull.field-0)) = (
+      condition.IsNull a.0,
+      (a.0, a.1.1, refl, a.1.0),
+      noted_as c.form.new.self.in_range c.term.new.self.in_range (null_short a.0) (short_null a.0) (λ same. ap condition.IsNull same) a.2,
+    ) in
+    read_behind c.args.room c.in-Some.room c.in_ok-form.field-0 form.IsNull c.args.self.now c.form.new.self c.term.new.self (Ok (condition.IsNull c.in_ok-term-in-IsNull.field-0)) (omega (arith, c.in-Some.ensures.0, c.in-Some.ensures.1)) c.in_ok-form.ensures c.in-IsNull.is body
 
 pub condition-returns-in_err-number-in-Exists : goal.condition-returns-in_err-number-in-Exists
-condition-returns-in_err-number-in-Exists t c = λ d rest h e.
-    let at = at_form c.args.room c.in-Some.room d rest c.args.self.now c.form.new.self c.in_ok-form.field-0 form.Exists (omega (arith, c.in-Some.ensures.0, c.in-Some.ensures.1)) h e c.in_ok-form.ensures c.in-Exists.is in
-    leaves_fault (λ n. n) at.1.0 rest c.form.new.self c.number.new.self c.in_err-number-in-Exists.field-0.0 (λ c. c) d rest c.args.self.now c.number.new.self c.from_residual-in_err-number-in-Exists.result c.from_residual-in_err-number-in-Exists.ensures.1
-    (c.in_err-number-in-Exists.ensures at.1.0 rest refl at.1.1 at.1.3)
+condition-returns-in_err-number-in-Exists t c =
+    read_behind c.args.room c.in-Some.room c.in_ok-form.field-0 form.Exists c.args.self.now c.form.new.self c.number.new.self c.from_residual-in_err-number-in-Exists.result (omega (arith, c.in-Some.ensures.0, c.in-Some.ensures.1)) c.in_ok-form.ensures c.in-Exists.is
+    (holds_of_fault (PassesBody c.in-Some.room form.Exists c.form.new.self c.number.new.self) c.from_residual-in_err-number-in-Exists.result c.in_err-number-in-Exists.field-0.0 c.from_residual-in_err-number-in-Exists.ensures.1
+    (fails_behind (Body HasText c.in-Some.room form.Exists) IsShortCondition IsNever (λ (d : Condition). d) (BeginsNumber 41) IsShort IsNever (λ (n : ℕ). n) c.form.new.self c.form.new.self c.number.new.self c.number.new.self c.in_err-number-in-Exists.field-0.0 c.in_err-number-in-Exists.ensures
+    (λ x rest s. (s.0, rest, s.3)) inl (λ never. never)))
 
 pub condition-returns-in_ok-number-in-Exists : goal.condition-returns-in_ok-number-in-Exists
-condition-returns-in_ok-number-in-Exists t c = λ d rest h e.
-    let at = at_form c.args.room c.in-Some.room d rest c.args.self.now c.form.new.self c.in_ok-form.field-0 form.Exists (omega (arith, c.in-Some.ensures.0, c.in-Some.ensures.1)) h e c.in_ok-form.ensures c.in-Exists.is in
-    let end = c.in_ok-number-in-Exists.ensures at.1.0 rest refl at.1.1 at.1.3 in
-    (ap condition.Exists end.0 ∙ sym at.1.2, end.1, end.2 ∙ at.0)
+condition-returns-in_ok-number-in-Exists t c =
+    let g = c.in_ok-number-in-Exists.ensures in
+    let body : PassesBody c.in-Some.room form.Exists c.form.new.self c.number.new.self (Ok (condition.Exists c.in_ok-number-in-Exists.field-0)) = (
+      condition.Exists g.0,
+      (g.0, tt, refl, g.1),
+      noted_as c.form.new.self.in_range c.number.new.self.in_range (exists_short g.0) (short_exists g.0) (λ same. ap condition.Exists same) g.2,
+    ) in
+    read_behind c.args.room c.in-Some.room c.in_ok-form.field-0 form.Exists c.args.self.now c.form.new.self c.number.new.self (Ok (condition.Exists c.in_ok-number-in-Exists.field-0)) (omega (arith, c.in-Some.ensures.0, c.in-Some.ensures.1)) c.in_ok-form.ensures c.in-Exists.is body
 
 pub condition-returns-in-In : goal.condition-returns-in-In
-condition-returns-in-In t c = λ d rest h e.
-    let at = at_form c.args.room c.in-Some.room d rest c.args.self.now c.form.new.self c.in_ok-form.field-0 form.In (omega (arith, c.in-Some.ensures.0, c.in-Some.ensures.1)) h e c.in_ok-form.ensures c.in-In.is in
-    leaves_whole (λ c. c) (condition.In at.1.0 at.1.1 at.1.2) d rest c.args.self.now c.form.new.self c.membership.new.self c.membership.result (sym at.1.6) at.0
-    (c.membership.ensures at.1.0 at.1.1 at.1.2 rest at.1.3 at.1.4 at.1.5 at.1.7)
+condition-returns-in-In t c =
+    read_behind c.args.room c.in-Some.room c.in_ok-form.field-0 form.In c.args.self.now c.form.new.self c.membership.new.self c.membership.result (omega (arith, c.in-Some.ensures.0, c.in-Some.ensures.1)) c.in_ok-form.ensures c.in-In.is
+    (passes_as BeginsMembership IsShortMembership IsNever (λ (x : Term × ℕ × ℕ). condition.In x.0 x.1 x.2) (Body HasText c.in-Some.room form.In) IsShortCondition IsNever c.form.new.self c.membership.new.self c.membership.result
+    (λ x rest s. (x.0, x.1, x.2, s.1, tt, tt, refl, s.0)) (λ d rest s. ((s.0, s.1, s.2), (s.7, s.3))) in_short short_in (λ never. never) (λ never. never) c.membership.ensures)
 
 pub condition-returns-in-Compare : goal.condition-returns-in-Compare
-condition-returns-in-Compare t c = λ d rest h e.
-    let at = at_form c.args.room c.in-Some.room d rest c.args.self.now c.form.new.self c.in_ok-form.field-0 (form.Compare c.in-Compare.comparison) (omega (arith, c.in-Some.ensures.0, c.in-Some.ensures.1)) h e c.in_ok-form.ensures c.in-Compare.is in
-    leaves_whole (λ c. c) (condition.Compare c.in-Compare.comparison at.1.0 at.1.1) d rest c.args.self.now c.form.new.self c.comparison.new.self c.comparison.result (sym at.1.4) at.0
-    (c.comparison.ensures at.1.0 at.1.1 rest at.1.2 at.1.3 at.1.5)
+condition-returns-in-Compare t c =
+    let op = c.in-Compare.comparison in
+    read_behind c.args.room c.in-Some.room c.in_ok-form.field-0 (form.Compare op) c.args.self.now c.form.new.self c.comparison.new.self c.comparison.result (omega (arith, c.in-Some.ensures.0, c.in-Some.ensures.1)) c.in_ok-form.ensures c.in-Compare.is
+    (passes_as BeginsComparison IsShortComparison IsNever (λ (x : Term × Term). condition.Compare op x.0 x.1) (Body HasText c.in-Some.room (form.Compare op)) IsShortCondition IsNever c.form.new.self c.comparison.new.self c.comparison.result
+    (λ x rest s. (x.0, x.1, s.1, s.2, refl, s.0)) (λ d rest s. ((s.0, s.1), (s.5, s.2, s.3))) (compare_short op) (short_compare op) (λ never. never) (λ never. never) c.comparison.ensures)
+
+-- ---- more
 
 pub more-returns-then-passes : goal.more-returns-then-passes
-more-returns-then-passes t c = λ cs rest h e.
-    let ends = more_end c.args.room c.args.self.now c.loop-count.self c.loop-count.more c.loop-count._count c.loop-count.invariant cs rest h e c.passes.new.self.left.now (rw c.if-passes.true at c.passes.ensures.passed) in
-    (ends.0, ends.1, c.passes.ensures.in_range ∙ ends.2)
+more-returns-then-passes t c =
+    more_end c.args.room c.args.self.now c.loop-count.self c.loop-count.more c.loop-count._count c.loop-count.invariant c.passes.new.self (rw c.if-passes.true at c.passes.ensures.passed) c.passes.ensures.in_range
 
 pub more-returns-in_err-expect : goal.more-returns-in_err-expect
-more-returns-in_err-expect t c = λ cs rest h e.
+more-returns-in_err-expect t c =
     let none = rw c.if-passes.false at c.passes.ensures.passed in
-    let next = more_next c.args.room c.args.self.now c.loop-count.self c.loop-count.more c.loop-count._count c.loop-count.invariant cs rest h e none.0 in
-    leaves_fault (λ (u : Unit {0}). u) (tt {0}) (condition_text next.0 ++ (more_text next.1 ++ (41 ∷ rest))) c.passes.new.self c.expect.new.self c.in_err-expect.field-0.0 (λ cs. cs) cs rest c.args.self.now c.expect.new.self c.from_residual.result c.from_residual.ensures.1
-    (c.in_err-expect.ensures (condition_text next.0 ++ (more_text next.1 ++ (41 ∷ rest))) (none.1 ∙ next.5))
+    holds_of_fault (Passes (BeginsMore c.args.room) (AllByRecursion IsShortCondition) (IsMoreTooDeep c.args.room) (λ (cs : List Condition). cs) c.args.self.now c.expect.new.self) c.from_residual.result c.in_err-expect.field-0.0 c.from_residual.ensures.1
+    (fails_behind (BeginsMore c.args.room) (AllByRecursion IsShortCondition) (IsMoreTooDeep c.args.room) (λ (cs : List Condition). cs) (λ t (u : Unit {0}) rest. t ≡ 44 ∷ rest) IsAny IsNever (λ (u : Unit {0}). u) c.args.self.now c.passes.new.self c.expect.new.self c.expect.new.self c.in_err-expect.field-0.0 c.in_err-expect.ensures
+    (λ ds rest s.
+    let it = left_begins c.args.room c.args.self.now c.loop-count.self c.loop-count.more c.loop-count._count c.loop-count.invariant ds rest s in
+    let next = next_part c.args.room c.loop-count.self.left.now it.0 rest it.1 none.0 in
+    (tt, next.1, none.1 ∙ next.2))
+    (λ deep.
+    let it = more_deep c.args.room c.loop-count.self.left.now (left_deep c.args.room c.args.self.now c.loop-count.self c.loop-count.more c.loop-count._count c.loop-count.invariant deep) in
+    inr (tt, it.0, none.1 ∙ it.1)) (λ never. absurd never))
 
 pub more-returns-in_err-condition : goal.more-returns-in_err-condition
-more-returns-in_err-condition t c = λ cs rest h e.
+more-returns-in_err-condition t c =
     let none = rw c.if-passes.false at c.passes.ensures.passed in
-    let next = more_next c.args.room c.args.self.now c.loop-count.self c.loop-count.more c.loop-count._count c.loop-count.invariant cs rest h e none.0 in
-    let comma = c.in_ok-expect.ensures (condition_text next.0 ++ (more_text next.1 ++ (41 ∷ rest))) (none.1 ∙ next.5) in
-    leaves_fault (λ c. c) next.0 (more_text next.1 ++ (41 ∷ rest)) c.expect.new.self c.condition.new.self c.in_err-condition.field-0.0 (λ cs. cs) cs rest c.args.self.now c.condition.new.self c.from_residual-in_err-condition.result c.from_residual-in_err-condition.ensures.1
-    (c.in_err-condition.ensures next.0 (more_text next.1 ++ (41 ∷ rest)) next.2 comma.1)
+    let comma : c.loop-count.self.left.now ≡ 44 ∷ c.expect.new.self.left.now = sym none.1 ∙ c.in_ok-expect.ensures.1 in
+    holds_of_fault (Passes (BeginsMore c.args.room) (AllByRecursion IsShortCondition) (IsMoreTooDeep c.args.room) (λ (cs : List Condition). cs) c.args.self.now c.condition.new.self) c.from_residual-in_err-condition.result c.in_err-condition.field-0.0 c.from_residual-in_err-condition.ensures.1
+    (more_unread c.args.room c.args.self.now c.loop-count.self c.loop-count.more c.loop-count._count c.loop-count.invariant c.expect.new.self c.condition.new.self c.condition.new.self c.in_err-condition.field-0.0 comma none.0 c.in_err-condition.ensures)
 
 pub more-loop-count-preserved : goal.more-loop-count-preserved
 more-loop-count-preserved t c =
     let none = rw c.if-passes.false at c.passes.ensures.passed in
-    so_far_more c.args.room c.args.self.now c.loop-count.self c.condition.new.self c.loop-count.more c.push.new.self c.loop-count._count c.in_ok-condition.field-0 c.loop-count.invariant none.0
-    (λ d after readable is.
-    let comma = c.in_ok-expect.ensures (condition_text d ++ after) (none.1 ∙ is) in
-    let part = c.in_ok-condition.ensures d after readable comma.1 in
-    (part.0, part.1, part.2 ∙ (comma.2 ∙ c.passes.ensures.in_range))) c.in_ok-push.ensures.ok
+    let comma = c.in_ok-expect.ensures in
+    let kept = (noted_any c.passes.new.self.in_range c.expect.new.self.in_range comma.2).1 ∙ c.passes.ensures.in_range in
+    let part = c.in_ok-condition.ensures in
+    so_far_more c.args.room c.args.self.now c.loop-count.self c.condition.new.self c.loop-count.more c.push.new.self c.loop-count._count c.in_ok-condition.field-0 c.expect.new.self.left.now c.loop-count.invariant (sym none.1 ∙ comma.1)
+    (part.0, part.1, subst (λ b. Noted (IsShortCondition part.0) (c.in_ok-condition.field-0 ≡ part.0) b c.condition.new.self.in_range) kept part.2) c.in_ok-push.ensures.ok
 
 pub more-returns : goal.more-returns
-more-returns t c = λ cs rest h e. absurd (more_over c.args.room c.args.self.now c.loop-count.self c.loop-count.more c.loop-count._count c.loop-count.invariant cs rest h e (omega (arith, c.loop-count-test.false)))
+more-returns t c = rw c.into.ensures (more_over c.args.room c.args.self.now c.loop-count.self c.loop-count.more c.loop-count._count c.loop-count.invariant c.loop-count.self (omega (arith, c.loop-count-test.false)))
+
+-- ---- parts
+
+pub parts-returns-in_err-condition : goal.parts-returns-in_err-condition
+parts-returns-in_err-condition t c =
+    holds_of_fault (Passes (BeginsParts c.args.room) AreShortParts (BehindParts c.args.room (IsTooDeep c.args.room)) (λ (p : Parts). p) c.args.self.now c.condition.new.self) c.from_residual.result c.in_err-condition.field-0.0 c.from_residual.ensures.1
+    (first_fails c.args.room (BeginsParts c.args.room) AreShortParts (λ (p : Parts). p) c.args.self.now c.condition.new.self c.condition.new.self c.in_err-condition.field-0.0 (λ x rest s. (x.0, 44 ∷ (part_condition_text x.1 ++ (more_text x.2 ++ (41 ∷ rest))), (s.0, s.1))) c.in_err-condition.ensures)
+
+pub parts-returns-in_err-expect : goal.parts-returns-in_err-expect
+parts-returns-in_err-expect t c =
+    let first = c.in_ok-condition.ensures in
+    holds_of_fault (Passes (BeginsParts c.args.room) AreShortParts (BehindParts c.args.room (IsTooDeep c.args.room)) (λ (p : Parts). p) c.args.self.now c.expect.new.self) c.from_residual-in_err-expect.result c.in_err-expect.field-0.0 c.from_residual-in_err-expect.ensures.1
+    (fails_behind (BeginsParts c.args.room) AreShortParts (BehindParts c.args.room (IsTooDeep c.args.room)) (λ (p : Parts). p) (λ t (u : Unit {0}) rest. t ≡ 44 ∷ rest) IsAny IsNever (λ (u : Unit {0}). u) c.args.self.now c.condition.new.self c.expect.new.self c.expect.new.self c.in_err-expect.field-0.0 c.in_err-expect.ensures
+    (λ x rest s. (tt, part_condition_text x.1 ++ (more_text x.2 ++ (41 ∷ rest)), (same_front c.args.room c.args.self.now.left.now first.0 x.0 c.condition.new.self.left.now (44 ∷ (part_condition_text x.1 ++ (more_text x.2 ++ (41 ∷ rest)))) first.1 (s.0, s.1)).1))
+    (λ deep. let it = behind_first c.args.room c.args.self.now.left.now first.0 c.condition.new.self.left.now first.1 deep in inr (tt, it.0, it.1)) (λ never. absurd never))
+
+pub parts-returns-in_err-condition-2 : goal.parts-returns-in_err-condition-2
+parts-returns-in_err-condition-2 t c =
+    holds_of_fault (Passes (BeginsParts c.args.room) AreShortParts (BehindParts c.args.room (IsTooDeep c.args.room)) (λ (p : Parts). p) c.args.self.now c.condition-2.new.self) c.from_residual-in_err-condition-2.result c.in_err-condition-2.field-0.0 c.from_residual-in_err-condition-2.ensures.1
+    (behind_comma c.args.room c.args.self.now c.condition.new.self c.expect.new.self c.condition-2.new.self c.condition-2.new.self c.in_err-condition-2.field-0.0 c.in_ok-condition.ensures.0 c.in_ok-condition.ensures.1 c.in_ok-expect.ensures.1
+    (second_fails c.args.room c.expect.new.self c.condition-2.new.self c.condition-2.new.self c.in_err-condition-2.field-0.0 c.in_err-condition-2.ensures))
+
+pub parts-returns-in_err-more : goal.parts-returns-in_err-more
+parts-returns-in_err-more t c =
+    holds_of_fault (Passes (BeginsParts c.args.room) AreShortParts (BehindParts c.args.room (IsTooDeep c.args.room)) (λ (p : Parts). p) c.args.self.now c.more.new.self) c.from_residual-in_err-more.result c.in_err-more.field-0.0 c.from_residual-in_err-more.ensures.1
+    (behind_comma c.args.room c.args.self.now c.condition.new.self c.expect.new.self c.more.new.self c.more.new.self c.in_err-more.field-0.0 c.in_ok-condition.ensures.0 c.in_ok-condition.ensures.1 c.in_ok-expect.ensures.1
+    (behind_second c.args.room c.expect.new.self c.condition-2.new.self c.more.new.self c.more.new.self c.in_err-more.field-0.0 c.in_ok-condition-2.ensures.0 c.in_ok-condition-2.ensures.1 c.in_err-more.ensures))
+
+pub parts-returns : goal.parts-returns
+parts-returns t c =
+    let first = c.in_ok-condition.ensures in
+    let comma = c.in_ok-expect.ensures in
+    let second = c.in_ok-condition-2.ensures in
+    let more = c.in_ok-more.ensures in
+    let kept = (noted_any c.condition.new.self.in_range c.expect.new.self.in_range comma.2).1 in
+    let second_noted = subst (λ b. Noted (IsShortCondition second.0) (c.in_ok-condition-2.field-0 ≡ second.0) b c.condition-2.new.self.in_range) kept second.2 in (
+      (first.0, second.0, more.0),
+      (first.1.0 ∙ ap (λ t. part_condition_text first.0 ++ t) (comma.1 ∙ ap (λ t. 44 ∷ t) (second.1.0 ∙ ap (λ t. part_condition_text second.0 ++ t) more.1.0)), first.1.1, second.1.1, more.1.1),
+      noted_as c.args.self.now.in_range c.more.new.self.in_range (λ all. (all.0, all.1.0, all.1.1)) (λ all. (all.0, (all.1, all.2)))
+          (λ same. λ i. ((c.first.view_is ∙ c.in_ok-first.ensures ∙ same.0) i, (c.in_ok-second.ensures ∙ same.1.0) i, same.1.1 i))
+          (noted_both c.args.self.now.in_range c.condition.new.self.in_range c.more.new.self.in_range first.2 (noted_both c.condition.new.self.in_range c.condition-2.new.self.in_range c.more.new.self.in_range second_noted more.2)),
+    )

@@ -1,5 +1,5 @@
 use Rattle.std.proofs.Common.{◌+◌}
-use Rattle.certificate_parts.proofs.OpenConditions.{MoreSoFar}
+use Rattle.certificate_parts.proofs.MoreParts.{MoreSoFar}
 use Rattle.certificate_parts.proofs.conditions.Cursor.+conditions.Given as goal
 
 abbrev pub decreases-condition : goal.decreases-condition

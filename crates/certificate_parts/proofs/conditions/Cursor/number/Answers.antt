@@ -1,28 +1,19 @@
-use Rattle.std.proofs.Common.{sym, ℕ, List}
+use Rattle.std.proofs.Common.{ℕ, List}
 use denote.Ref.{Bor}
+use Rattle.certificate_parts.specs.ConditionReading.{BeginsNumber, IsNever, Passes}
 use Rattle.certificate_parts.specs.Numerals.{numeral}
-use Rattle.certificate_parts.proofs.CursorSteps.{leaves_fault}
-use Rattle.certificate_parts.proofs.Exits.{not_both, same_found, found_none}
-use Rattle.certificate_parts.proofs.Lacking.{numeral_lacks}
-use Rattle.certificate_parts.proofs.NumberParts.{number_given}
+use Rattle.certificate_parts.specs.Parts.{IsShort}
+use Rattle.certificate_parts.proofs.Exits.{holds_of_fault}
+use Rattle.certificate_parts.proofs.Passing.{number_unread, spells_number, value_fails, word_fails}
 use Rattle.certificate_parts.proofs.conditions.Cursor.number.Goals as goal
 
 pub returns-in_err-word : goal.returns-in_err-word
-returns-in_err-word c = λ n rest other short e.
-    leaves_fault (λ (w : Bor (List ℕ)). w.now) (numeral n) rest c.args.self.now c.until.new.self c.in_err-word.field-0.0 (λ n. n) n rest c.args.self.now c.until.new.self c.from_residual.result c.from_residual.ensures.1
-    (c.in_err-word.ensures.spelled (numeral n) rest (numeral_lacks c.args.end n other) e)
+returns-in_err-word c =
+    holds_of_fault (Passes (BeginsNumber c.args.end) IsShort IsNever (λ (n : ℕ). n) c.args.self.now c.until.new.self) c.from_residual.result c.in_err-word.field-0.0 c.from_residual.ensures.1
+    (word_fails (BeginsNumber c.args.end) IsShort (λ (n : ℕ). n) numeral (λ (n : ℕ). Unit {0}) c.args.end (spells_number c.args.end c.requires) (λ (w : Bor (List ℕ)). w.now) c.args.self.now c.until.new.self c.until.new.self c.in_err-word.field-0.0 c.in_err-word.ensures)
 
 pub returns-in_err-number : goal.returns-in_err-number
-returns-in_err-number c = λ n rest other short e.
-    let left = c.in_ok-word.ensures.spelled (numeral n) rest (numeral_lacks c.args.end n other) e in
-    absurd (not_both c.number.result _ _ c.in_err-number.was (number_given c.in_ok-word.word.now n c.number.result c.number.ensures left.0 short))
-
-pub returns-in-Some : goal.returns-in-Some
-returns-in-Some c = λ n rest other short e.
-    let left = c.in_ok-word.ensures.spelled (numeral n) rest (numeral_lacks c.args.end n other) e in
-    (sym (same_found c.number.result c.in_ok-number.field-0 n c.in-Some.number (number_given c.in_ok-word.word.now n c.number.result c.number.ensures left.0 short) c.in_ok-number.was c.in-Some.is), left.1, left.2)
-
-pub returns-in-None : goal.returns-in-None
-returns-in-None c = λ n rest other short e.
-    let left = c.in_ok-word.ensures.spelled (numeral n) rest (numeral_lacks c.args.end n other) e in
-    absurd (found_none c.number.result c.in_ok-number.field-0 n (number_given c.in_ok-word.word.now n c.number.result c.number.ensures left.0 short) c.in_ok-number.was c.in-None.is)
+returns-in_err-number c =
+    holds_of_fault (Passes (BeginsNumber c.args.end) IsShort IsNever (λ (n : ℕ). n) c.args.self.now c.until.new.self) c.from_residual-in_err-number.result _ c.from_residual-in_err-number.ensures.1
+    (value_fails (BeginsNumber c.args.end) IsShort (λ (n : ℕ). n) numeral (λ (n : ℕ). Unit {0}) c.args.end (spells_number c.args.end c.requires) c.in_ok-word.word.now c.args.self.now c.until.new.self c.until.new.self c.in_err-number.field-0.0 c.in_ok-word.ensures.0 c.in_ok-word.ensures.1
+    (number_unread c.in_ok-word.word.now c.in_err-number.field-0.0 c.in_err-number.ensures))

@@ -4,18 +4,10 @@ use Rattle.certificate_parts.proofs.AggregateParts.{cut_at}
 use Rattle.certificate_parts.proofs.CursorSteps.{lacking_before}
 use Rattle.certificate_parts.proofs.conditions.Cursor.until.Goals as goal
 
-pub returns-in-Some-clause-passed : goal.returns-in-Some-clause-passed
-returns-in-Some-clause-passed c =
+pub returns-in-Some : goal.returns-in-Some
+returns-in-Some c =
     let parts = split_parts c.args.end c.args.self.now.left.now (Some (c.in-Some.word, c.in-Some.left)) (rw c.in-Some.is at c.split_once.ensures.cases) c.requires in
     (parts.0, lacking_before c.args.end c.in-Some.word.now parts.1, refl)
 
-pub returns-in-Some-clause-spelled : goal.returns-in-Some-clause-spelled
-returns-in-Some-clause-spelled c = λ word rest free e.
-    let cut = cut_at c.args.end c.args.self.now.left.now word rest (Some (c.in-Some.word, c.in-Some.left)) (rw c.in-Some.is at c.split_once.ensures.cases) c.requires free e in
-    (cut.0, cut.1, refl)
-
-pub returns-in-None-clause-passed : goal.returns-in-None-clause-passed
-returns-in-None-clause-passed c = rw c.into.ensures (λ word rest free e. rw c.in-None.is at (cut_at c.args.end c.args.self.now.left.now word rest c.split_once.result c.split_once.ensures.cases c.requires free e))
-
-pub returns-in-None-clause-spelled : goal.returns-in-None-clause-spelled
-returns-in-None-clause-spelled c = λ word rest free e. absurd (rw c.in-None.is at (cut_at c.args.end c.args.self.now.left.now word rest c.split_once.result c.split_once.ensures.cases c.requires free e))
+pub returns-in-None : goal.returns-in-None
+returns-in-None c = rw c.into.ensures (λ word rest free e. rw c.in-None.is at (cut_at c.args.end c.args.self.now.left.now word rest c.split_once.result c.split_once.ensures.cases c.requires free e))
