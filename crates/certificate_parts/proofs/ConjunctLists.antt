@@ -1,27 +1,25 @@
 -- The conditions of a list of conjuncts, as far as they are read.
-use Rattle.std.proofs.Common.{◌≡◌, ℕ, zero, suc, ◌+◌, ◌-◌, ◌<◌, ◌≤◌, ◌==◌, Bool, true, false, Ordering, Less, Equal, Greater, inl, inr, ◌⊎◌, List, [], ◌∷◌, ◌++◌, map, length, take, drop, get_or, refl, sym, ◌∙◌, ap, subst, arith, append-nil, append_assoc, length-append, codes, Result, Ok, Err, Option, Some, None}
+use Rattle.std.proofs.Common.{◌≡◌, ℕ, zero, suc, ◌+◌, ◌-◌, ◌<◌, ◌≤◌, ◌==◌, Bool, true, false, inl, inr, ◌⊎◌, List, [], ◌∷◌, ◌++◌, map, length, take, drop, get_or, refl, sym, ◌∙◌, ap, subst, arith, append-nil, append_assoc, length-append, codes, Result, Ok, Err, Option, Some, None}
 use denote.Ref.{Bor}
 use Rattle.std.proofs.Math.Seq.{take-suc}
-use Rattle.std.proofs.lemmas.Bool.{cases_lt, false≢true}
+use Rattle.std.proofs.lemmas.Bool.{cases_lt}
 use Rattle.std.proofs.lemmas.List.{get_or-map, length-map, map-append}
-use Rattle.std.proofs.lemmas.Result.{err_from_is_err_and}
 use Rattle.std.specs.List.{AllByRecursion, join_by, join_with_byte, slice_split}
 use Rattle.std.specs.Option.{option_map}
-use Rattle.std.specs.Result.{IsErrAnd}
 use Rattle.values.proofs.Lists.{all_append}
 use Rattle.values.specs.declared.fault.Fault.{Fault}
 use Rattle.values.specs.declared.fault.Fault.TheVariants.{Memory, Refused}
-use Rattle.values.specs.Faults.{Fails, Gives}
+use Rattle.values.specs.Faults.{Gives}
 use Rattle.algebra.specs.declared.condition.Condition.{Condition}
-use Rattle.algebra.specs.declared.condition.Condition.TheVariants.{And, Exists}
+use Rattle.algebra.specs.declared.condition.Condition.TheVariants.{Exists}
 use Rattle.algebra.specs.declared.condition.Term.{Term}
 use Rattle.algebra.specs.ConjunctOrder.{condition_text, goes_before, AreRising, IsPart, TextsRise}
 use Rattle.algebra.proofs.ConjunctLists.{and-is-no-part, one-part}
 use Rattle.certificate_parts.specs.declared.part_fault.PartReason.{PartReason}
 use Rattle.certificate_parts.specs.declared.part_fault.PartReason.TheVariants.{OtherForm, OverLimit}
 use Rattle.certificate_parts.specs.declared.conjunct_lists.Rising.{Rising}
-use Rattle.certificate_parts.specs.Conditions.{IsBefore, IsReadable, form_text, nests_within, terms_of}
-use Rattle.certificate_parts.specs.ConditionReading.{part_condition_text, BeginsWith, IsShortCondition, IsTooDeep, IsWithin}
+use Rattle.certificate_parts.specs.Conditions.{IsBefore, IsReadable, form_text, terms_of}
+use Rattle.certificate_parts.specs.ConditionReading.{part_condition_text, IsShortCondition, IsTooDeep, IsWithin}
 use Rattle.certificate_parts.specs.ListReading.{AddsConjunct, AreBehind, AreConjunctsWithin, AreShortConditions, Continues, IsListTooDeep, IsNoAnd, IsOneTooDeep, ReadsConjuncts, ReadsList, SpellEachAny, SpellsAnyConjuncts, part_conjuncts_text, part_ended, separate_text}
 use Rattle.certificate_parts.specs.Parts.{Noted}
 use Rattle.certificate_parts.specs.PartTexts.{Text}
@@ -31,7 +29,7 @@ use Rattle.certificate_parts.proofs.Exits.{not_both, not_none, same_ok, same_som
 use Rattle.certificate_parts.proofs.FrontConditions.{all_split, opened, some_room}
 use Rattle.certificate_parts.proofs.NumberLists.{texts, texts_length}
 use Rattle.certificate_parts.proofs.Passing.{noted_as, noted_both}
-use Rattle.certificate_parts.proofs.SameFronts.{not_both_fronts}
+use Rattle.certificate_parts.proofs.SameFronts.{not_both_fronts, same_to}
 use Rattle.certificate_parts.proofs.TermParts.{readable_term}
 use Rattle.certificate_parts.proofs.WideConditions.{conditions_same}
 
@@ -179,9 +177,9 @@ module _ (room : ℕ) (ts : List Text) (place : ℕ) (end : Text) (l : place < l
   deep_here (D, t, more, e, within, too) = elim (cases_lt (length D) place) [
     | inl k ↦ absurd (earlier k)
     | inr k ↦ elim (cases_lt place (length D)) [
-        | inl m ↦ inr (later m)
-        | inr m ↦ inl (subst (IsTooDeep room) (same_middle (map part_condition_text D) cut.0 t here more cut.1 (omega (arith, k, m, cut.4, length-map D part_condition_text)) (sym e ∙ cut.2)).1 too)
-      ]
+      | inl m ↦ inr (later m)
+      | inr m ↦ inl (subst (IsTooDeep room) (same_middle (map part_condition_text D) cut.0 t here more cut.1 (omega (arith, k, m, cut.4, length-map D part_condition_text)) (sym e ∙ cut.2)).1 too)
+    ]
   ] where
     earlier : length D < place → ⊥
     earlier k =
@@ -322,10 +320,10 @@ list_read {V} room list inside ts view r none bracket e = by r where
   parts_of (c ∷ C) s = (e ∙ ap (slice_split (λ b. b == 59)) (ap (drop 1) (sym bracket ∙ s.0)) ∙ list_cut room c C s.1.0, s.1)
 
   deep_list : IsOneTooDeep room ts → IsListTooDeep room list
-  deep_list (C, t, more, is, within, too) = (C, join_with_byte 59 (t ∷ more), bracket ∙ ap (λ t. 91 ∷ t) (separate_joined inside C t more (sym e ∙ is)), within, deep_joined room t more too)
+  deep_list (C, t, more, is, within, too) = (C, join_with_byte 59 (t ∷ more), bracket ∙ ap (λ t. 91 ∷ t) (separate_joined inside C t more (sym e ∙ is)), none, within, deep_joined room t more too)
 
   deep_part : IsListTooDeep room list → IsOneTooDeep room ts
-  deep_part (C, rest, is, within, too) =
+  deep_part (C, rest, is, some, within, too) =
       let first = first_part rest in
       (C, first.0, first.1, e ∙ ap (slice_split (λ b. b == 59)) (ap (drop 1) (sym bracket ∙ is)) ∙ separate_cut room C rest within.0 ∙ ap (λ ts. map part_condition_text C ++ ts) first.2, within, deep_first room rest first.0 first.1 first.2 too)
 
@@ -351,3 +349,72 @@ at_part parts place d l end inner last = (omega (arith, l, texts_length parts), 
 
 pub all_behind : (parts : List (Bor Text)) (place : ℕ) → length parts ≤ place → length (texts parts) ≤ place
 all_behind parts place l = omega (arith, l, texts_length parts)
+
+-- ---- a list that can be read, as algebra spells it
+
+told_each : (room : ℕ) (C D : List Condition) → AllByRecursion (IsWithin room) C → AllByRecursion (IsWithin room) D → part_ended C ≡ part_ended D → C ≡ D
+told_each room [] [] h k e = refl
+told_each room [] (d ∷ D) h k e = absurd (omega (arith, ap length e, ended_length (d ∷ D)))
+told_each room (c ∷ C) [] h k e = absurd (omega (arith, ap length e, ended_length (c ∷ C)))
+told_each room (c ∷ []) (d ∷ []) h k e = ap (λ c. c ∷ []) (same_to room c d (codes "]") (codes "]") h.0 k.0 (ap (λ ts. get_or ts 0 []) e)).0
+told_each room (c ∷ []) (d ∷ f ∷ D) h k e = absurd (omega (arith, ap length e, ended_length (f ∷ D)))
+told_each room (c ∷ b ∷ C) (d ∷ []) h k e = absurd (omega (arith, ap length e, ended_length (b ∷ C)))
+told_each room (c ∷ b ∷ C) (d ∷ f ∷ D) h k e =
+    let first = (same_to room c d [] [] h.0 k.0 (ap (λ ts. get_or ts 0 [] ++ []) e)).0 in
+    let more = told_each room (b ∷ C) (f ∷ D) h.1 k.1 (ap (drop 1) e) in
+    λ i. first i ∷ more i
+
+bracket_alone : (room : ℕ) (c : Condition) (C : List Condition) → IsWithin room c → part_conjuncts_text (c ∷ C) ≡ codes "[]" → ⊥
+bracket_alone room c [] h e = omega (arith, text_long room c h, ap length e, length-append (part_condition_text c ++ []) (codes "]"), length-append (part_condition_text c) [])
+bracket_alone room c (d ∷ C) h e =
+    omega (arith, text_long room c h, ap length e, length-append (part_condition_text c ++ (59 ∷ join_by part_condition_text (codes ";") (d ∷ C))) (codes "]"), length-append (part_condition_text c) (59 ∷ join_by part_condition_text (codes ";") (d ∷ C)))
+
+-- a text spells one list
+pub conjuncts_told : (room : ℕ) (t : Text) (C D : List Condition) → SpellsAnyConjuncts room t C → SpellsAnyConjuncts room t D → C ≡ D
+conjuncts_told room t [] [] s r = refl
+conjuncts_told room t [] (d ∷ D) s r = absurd (bracket_alone room d D r.1.0.0 (sym r.0 ∙ s.0))
+conjuncts_told room t (c ∷ C) [] s r = absurd (bracket_alone room c C s.1.0.0 (sym s.0 ∙ r.0))
+conjuncts_told room t (c ∷ C) (d ∷ D) s r =
+    told_each room (c ∷ C) (d ∷ D) s.1.0 r.1.0 (sym (list_cut room c C s.1.0) ∙ ap (λ t. slice_split (λ b. b == 59) (drop 1 t)) (sym s.0 ∙ r.0) ∙ list_cut room d D r.1.0)
+
+joined_algebras : (room : ℕ) (C : List Condition) → AllByRecursion (IsReadable room) C → join_by part_condition_text (codes ";") C ≡ join_by condition_text (codes ";") C
+joined_algebras room [] h = refl
+joined_algebras room (c ∷ []) h = ap (λ t. t ++ []) (conditions_same room c h.0).0
+joined_algebras room (c ∷ d ∷ C) h = let first = (conditions_same room c h.0).0 in let more = joined_algebras room (d ∷ C) h.1 in λ i. first i ++ (59 ∷ more i)
+
+-- within the ranges it is the text that certificates have
+pub conjuncts_algebras : (room : ℕ) (C : List Condition) → AllByRecursion (IsReadable room) C → part_conjuncts_text C ≡ codes "[" ++ (join_by condition_text (codes ";") C ++ codes "]")
+conjuncts_algebras room C h = ap (λ t. codes "[" ++ (t ++ codes "]")) (joined_algebras room C h)
+
+-- none of the texts of parts is too deep
+deep_ended : (room : ℕ) (C D : List Condition) (u : Text) (more : List Text) → AllByRecursion (IsWithin room) C → IsTooDeep room u → part_ended C ≡ map part_condition_text D ++ (u ∷ more) → ⊥
+deep_ended room [] D u more h too e = omega (arith, ap length e, length-append (map part_condition_text D) (u ∷ more))
+deep_ended room (c ∷ []) [] u more h too e = not_both_fronts room u c (codes "]") (ap (λ ts. get_or ts 0 []) (sym e), h.0) too
+deep_ended room (c ∷ b ∷ C) [] u more h too e = not_both_fronts room u c [] (ap (λ ts. get_or ts 0 []) (sym e) ∙ sym (append-nil (part_condition_text c)), h.0) too
+deep_ended room (c ∷ []) (d ∷ D) u more h too e = omega (arith, ap length e, length-append (map part_condition_text D) (u ∷ more))
+deep_ended room (c ∷ b ∷ C) (d ∷ D) u more h too e = deep_ended room (b ∷ C) D u more h.1 too (ap (drop 1) e)
+
+-- a list that is spelled isn't too deep
+list_shallow : (room : ℕ) (t : Text) (C : List Condition) → SpellsAnyConjuncts room t C → IsListTooDeep room t → ⊥
+list_shallow room t [] s deep = deep.3 s.0
+list_shallow room t (c ∷ C) s (D, rest, is, some, within, too) = deep_ended room (c ∷ C) D first.0 first.1 s.1.0 (deep_first room rest first.0 first.1 first.2 too) parts where
+  first : (u : Text) × (more : List Text) × (slice_split (λ b. b == 59) rest ≡ u ∷ more)
+  first = first_part rest
+
+  parts : part_ended (c ∷ C) ≡ map part_condition_text D ++ (first.0 ∷ first.1)
+  parts = sym (list_cut room c C s.1.0) ∙ ap (λ t. slice_split (λ b. b == 59) (drop 1 t)) (sym s.0 ∙ is) ∙ separate_cut room D rest within.0 ∙ ap (λ ts. map part_condition_text D ++ ts) first.2
+
+pub conjuncts_given : {V : Type 0} (room : ℕ) (t : Text) (view : V → List Condition) (r : Result (Option V) (Fault PartReason)) → ReadsConjuncts room t view r → (C : List Condition) → t ≡ codes "[" ++ (join_by condition_text (codes ";") C ++ codes "]") → AllByRecursion (IsReadable room) C → AreRising C → Gives (option_map view) r (Ok (Some C))
+conjuncts_given {V} room t view r reads C e h rise = by r reads where
+  within : AreConjunctsWithin room C × AreShortConditions C
+  within = rising_within room C h rise
+
+  spells : SpellsAnyConjuncts room t C
+  spells = (e ∙ sym (conjuncts_algebras room C h), within.0)
+
+  by : (r : Result (Option V) (Fault PartReason)) → ReadsConjuncts room t view r → Gives (option_map view) r (Ok (Some C))
+  by (Ok (Some v)) k = ap (λ C. Ok (Some C)) (conjuncts_told room t C (view v) spells k.0)
+  by (Ok None) k = absurd (k.2 (subst AreShortConditions (conjuncts_told room t C k.0 spells k.1) within.1))
+  by (Err Memory) k = tt
+  by (Err (Refused OtherForm)) k = absurd (k.0 C spells)
+  by (Err (Refused OverLimit)) k = absurd (list_shallow room t C spells k)

@@ -1,10 +1,9 @@
 -- One condition of a list of conjuncts, as it is added.
-use Rattle.std.proofs.Common.{◌≡◌, ℕ, zero, suc, ◌-◌, Bool, true, false, not, inl, inr, ◌⊎◌, List, [], ◌∷◌, ◌++◌, length, take, append-nil, append_assoc, length-append, codes, refl, sym, ◌∙◌, ap, subst, arith}
+use Rattle.std.proofs.Common.{◌≡◌, ℕ, zero, suc, ◌-◌, Bool, true, false, not, inl, inr, ◌⊎◌, List, [], ◌∷◌, ◌++◌, length, take, append-nil, length-append, codes, refl, sym, ◌∙◌, ap, subst, arith}
 use lib.Dec.{eqb}
 use lib.Pointwise.{pointwise}
 use Rattle.std.proofs.Math.Seq.{take_at}
 use Rattle.std.proofs.lemmas.Bool.{false≢true}
-use Rattle.std.specs.Bool.{MatchBool}
 use Rattle.std.specs.Cmp.Lexicographic.{slice_cmp}
 use Rattle.std.specs.Ordering.{nat_cmp, is_lt}
 use Rattle.algebra.specs.declared.condition.Condition.{Condition}

@@ -1,11 +1,11 @@
 -- A condition is read as what stands behind its form.
-use Rattle.std.proofs.Common.{◌≡◌, ℕ, zero, suc, ◌+◌, ◌-◌, nat_lt, Bool, true, ◌&&◌, inl, inr, ◌⊎◌, List, [], ◌∷◌, ◌++◌, map, flat_map, drop, Result, Ok, Err, refl, sym, ◌∙◌, ap, subst, arith, codes}
+use Rattle.std.proofs.Common.{◌≡◌, ℕ, suc, ◌+◌, ◌-◌, nat_lt, Bool, true, ◌&&◌, inl, inr, ◌⊎◌, List, [], ◌∷◌, ◌++◌, map, flat_map, Result, Ok, Err, refl, sym, ◌∙◌, ap, subst, arith}
 use Rattle.std.proofs.lemmas.Bool.Decides.{nat_tests}
 use Rattle.std.specs.List.{list_all, AllByRecursion}
 use Rattle.values.proofs.Lists.{all_append}
 use Rattle.values.specs.declared.fault.Fault.{Fault}
 use Rattle.values.specs.declared.fault.Fault.TheVariants.{Memory, Refused}
-use Rattle.algebra.specs.declared.condition.Condition.{Condition, map-Condition}
+use Rattle.algebra.specs.declared.condition.Condition.{Condition}
 use Rattle.algebra.specs.declared.condition.Condition.TheVariants.{Compare, IsNull, Not, And, Or, Exists, In, rolls-Compare, rolls-IsNull, rolls-Not, rolls-And, rolls-Or, rolls-Exists, rolls-In}
 use Rattle.algebra.specs.declared.condition.Condition.TheOpen.{Condition-F}
 use Rattle.algebra.specs.declared.condition.Term.{Term}
@@ -19,7 +19,7 @@ use Rattle.certificate_parts.specs.ConditionReading.{part_condition_text, IsWith
 use Rattle.certificate_parts.specs.Parts.{IsShort, Noted}
 use Rattle.certificate_parts.specs.PartTexts.{Text}
 use Rattle.certificate_parts.specs.Spelled.{HasText, IsShortTerm}
-use Rattle.certificate_parts.proofs.FrontConditions.{Body, Joined, all_split, opened, nests-at, terms-at, compare-text, null-text, not-text, and-text, or-text, exists-text, in-text}
+use Rattle.certificate_parts.proofs.FrontConditions.{Body, all_split, opened, nests-at, terms-at, compare-text, null-text, not-text, and-text, or-text, exists-text, in-text}
 use Rattle.certificate_parts.proofs.Passing.{fails_behind}
 use Rattle.certificate_parts.proofs.SameFronts.{cut, form_front, name_lacks, same_form}
 
@@ -74,40 +74,54 @@ closed : (room : ℕ) (f : Form) (w : Text) (c : Condition) (rest : Text) → Bo
 closed room form.Not w c rest b =
     let d = b.0 in (
       ap (λ w. form_text form.Not ++ (40 ∷ w)) b.3 ∙ sym (not-text rest d) ∙ ap (λ c. part_condition_text c ++ rest) (sym b.2),
-      (ap (λ c. nests_within c (suc room)) b.2 ∙ nests-at (Condition-F.Not d) (Not d) (suc room) (rolls-Not d) ∙ one_less room (nests_within d) b.1.0,
-        subst (AllByRecursion HasText) (sym (ap terms_of b.2 ∙ not-terms d)) b.1.1),
+      (
+        ap (λ c. nests_within c (suc room)) b.2 ∙ nests-at (Condition-F.Not d) (Not d) (suc room) (rolls-Not d) ∙ one_less room (nests_within d) b.1.0,
+        subst (AllByRecursion HasText) (sym (ap terms_of b.2 ∙ not-terms d)) b.1.1,
+      ),
     )
 closed room form.And w c rest b =
     let nests = each_within room (b.0 ∷ b.1 ∷ b.2) (b.3, (b.4, b.5)) in (
       ap (λ w. form_text form.And ++ (40 ∷ w)) b.7 ∙ sym (and-text rest b.0 b.1 b.2) ∙ ap (λ c. part_condition_text c ++ rest) (sym b.6),
-      (ap (λ c. nests_within c (suc room)) b.6 ∙ nests-at (Condition-F.And b.0 b.1 b.2) (And b.0 b.1 b.2) (suc room) (rolls-And b.0 b.1 b.2) ∙ one_less room (λ n. list_all (λ c. c n) (map nests_within (b.0 ∷ b.1 ∷ b.2))) nests.0,
-        subst (AllByRecursion HasText) (sym (ap terms_of b.6 ∙ and-terms b.0 b.1 b.2)) (joined_of HasText b.0 b.1 b.2 b.3.1 b.4.1 nests.1.1.1)),
+      (
+        ap (λ c. nests_within c (suc room)) b.6 ∙ nests-at (Condition-F.And b.0 b.1 b.2) (And b.0 b.1 b.2) (suc room) (rolls-And b.0 b.1 b.2) ∙ one_less room (λ n. list_all (λ c. c n) (map nests_within (b.0 ∷ b.1 ∷ b.2))) nests.0,
+        subst (AllByRecursion HasText) (sym (ap terms_of b.6 ∙ and-terms b.0 b.1 b.2)) (joined_of HasText b.0 b.1 b.2 b.3.1 b.4.1 nests.1.1.1),
+      ),
     )
 closed room form.Or w c rest b =
     let nests = each_within room (b.0 ∷ b.1 ∷ b.2) (b.3, (b.4, b.5)) in (
       ap (λ w. form_text form.Or ++ (40 ∷ w)) b.7 ∙ sym (or-text rest b.0 b.1 b.2) ∙ ap (λ c. part_condition_text c ++ rest) (sym b.6),
-      (ap (λ c. nests_within c (suc room)) b.6 ∙ nests-at (Condition-F.Or b.0 b.1 b.2) (Or b.0 b.1 b.2) (suc room) (rolls-Or b.0 b.1 b.2) ∙ one_less room (λ n. list_all (λ c. c n) (map nests_within (b.0 ∷ b.1 ∷ b.2))) nests.0,
-        subst (AllByRecursion HasText) (sym (ap terms_of b.6 ∙ or-terms b.0 b.1 b.2)) (joined_of HasText b.0 b.1 b.2 b.3.1 b.4.1 nests.1.1.1)),
+      (
+        ap (λ c. nests_within c (suc room)) b.6 ∙ nests-at (Condition-F.Or b.0 b.1 b.2) (Or b.0 b.1 b.2) (suc room) (rolls-Or b.0 b.1 b.2) ∙ one_less room (λ n. list_all (λ c. c n) (map nests_within (b.0 ∷ b.1 ∷ b.2))) nests.0,
+        subst (AllByRecursion HasText) (sym (ap terms_of b.6 ∙ or-terms b.0 b.1 b.2)) (joined_of HasText b.0 b.1 b.2 b.3.1 b.4.1 nests.1.1.1),
+      ),
     )
 closed room form.IsNull w c rest b = (
   ap (λ w. form_text form.IsNull ++ (40 ∷ w)) b.3 ∙ sym (null-text rest b.0) ∙ ap (λ c. part_condition_text c ++ rest) (sym b.2),
-  (ap (λ c. nests_within c (suc room)) b.2 ∙ nests-at (Condition-F.IsNull b.0) (IsNull b.0) (suc room) (rolls-IsNull b.0) ∙ some_left room,
-    subst (AllByRecursion HasText) (sym (ap terms_of b.2 ∙ terms-at (Condition-F.IsNull b.0) (IsNull b.0) (rolls-IsNull b.0))) (b.1, tt)),
+  (
+    ap (λ c. nests_within c (suc room)) b.2 ∙ nests-at (Condition-F.IsNull b.0) (IsNull b.0) (suc room) (rolls-IsNull b.0) ∙ some_left room,
+    subst (AllByRecursion HasText) (sym (ap terms_of b.2 ∙ terms-at (Condition-F.IsNull b.0) (IsNull b.0) (rolls-IsNull b.0))) (b.1, tt),
+  ),
 )
 closed room form.Exists w c rest b = (
   ap (λ w. form_text form.Exists ++ (40 ∷ w)) b.3 ∙ sym (exists-text rest b.0) ∙ ap (λ c. part_condition_text c ++ rest) (sym b.2),
-  (ap (λ c. nests_within c (suc room)) b.2 ∙ nests-at (Condition-F.Exists b.0) (Exists b.0) (suc room) (rolls-Exists b.0) ∙ some_left room,
-    subst (AllByRecursion HasText) (sym (ap terms_of b.2 ∙ terms-at (Condition-F.Exists b.0) (Exists b.0) (rolls-Exists b.0))) (tt, tt)),
+  (
+    ap (λ c. nests_within c (suc room)) b.2 ∙ nests-at (Condition-F.Exists b.0) (Exists b.0) (suc room) (rolls-Exists b.0) ∙ some_left room,
+    subst (AllByRecursion HasText) (sym (ap terms_of b.2 ∙ terms-at (Condition-F.Exists b.0) (Exists b.0) (rolls-Exists b.0))) (tt, tt),
+  ),
 )
 closed room form.In w c rest b = (
   ap (λ w. form_text form.In ++ (40 ∷ w)) b.7 ∙ sym (in-text rest b.0 b.1 b.2) ∙ ap (λ c. part_condition_text c ++ rest) (sym b.6),
-  (ap (λ c. nests_within c (suc room)) b.6 ∙ nests-at (Condition-F.In b.0 b.1 b.2) (In b.0 b.1 b.2) (suc room) (rolls-In b.0 b.1 b.2) ∙ some_left room,
-    subst (AllByRecursion HasText) (sym (ap terms_of b.6 ∙ terms-at (Condition-F.In b.0 b.1 b.2) (In b.0 b.1 b.2) (rolls-In b.0 b.1 b.2))) (b.3, (tt, (tt, tt)))),
+  (
+    ap (λ c. nests_within c (suc room)) b.6 ∙ nests-at (Condition-F.In b.0 b.1 b.2) (In b.0 b.1 b.2) (suc room) (rolls-In b.0 b.1 b.2) ∙ some_left room,
+    subst (AllByRecursion HasText) (sym (ap terms_of b.6 ∙ terms-at (Condition-F.In b.0 b.1 b.2) (In b.0 b.1 b.2) (rolls-In b.0 b.1 b.2))) (b.3, (tt, (tt, tt))),
+  ),
 )
 closed room (form.Compare op) w c rest b = (
   ap (λ w. form_text (form.Compare op) ++ (40 ∷ w)) b.5 ∙ sym (compare-text rest op b.0 b.1) ∙ ap (λ c. part_condition_text c ++ rest) (sym b.4),
-  (ap (λ c. nests_within c (suc room)) b.4 ∙ nests-at (Condition-F.Compare op b.0 b.1) (Compare op b.0 b.1) (suc room) (rolls-Compare op b.0 b.1) ∙ some_left room,
-    subst (AllByRecursion HasText) (sym (ap terms_of b.4 ∙ terms-at (Condition-F.Compare op b.0 b.1) (Compare op b.0 b.1) (rolls-Compare op b.0 b.1))) (b.2, (b.3, tt))),
+  (
+    ap (λ c. nests_within c (suc room)) b.4 ∙ nests-at (Condition-F.Compare op b.0 b.1) (Compare op b.0 b.1) (suc room) (rolls-Compare op b.0 b.1) ∙ some_left room,
+    subst (AllByRecursion HasText) (sym (ap terms_of b.4 ∙ terms-at (Condition-F.Compare op b.0 b.1) (Compare op b.0 b.1) (rolls-Compare op b.0 b.1))) (b.2, (b.3, tt)),
+  ),
 )
 
 -- ---- numbers in their ranges

@@ -16,7 +16,6 @@ pub mod NumberLists
 pub mod NumberParts
 pub mod NumeralOrder
 pub mod Numerals
-pub mod OpenConditions
 pub mod PartLists
 pub mod Passing
 pub mod SameFronts

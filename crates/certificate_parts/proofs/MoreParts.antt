@@ -1,5 +1,5 @@
 -- The parts of an AND or an OR, as far as they are read.
-use Rattle.std.proofs.Common.{◌≡◌, ℕ, zero, suc, ◌+◌, ◌≤◌, Bool, true, inl, inr, ◌⊎◌, List, [], ◌∷◌, ◌++◌, length, drop, get_or, append-nil, length-append, append_assoc, codes, Result, Ok, Err, refl, sym, ◌∙◌, ap, subst, arith}
+use Rattle.std.proofs.Common.{◌≡◌, ℕ, ◌+◌, ◌≤◌, inl, List, [], ◌∷◌, ◌++◌, length, drop, get_or, append-nil, length-append, append_assoc, codes, Ok, Err, refl, sym, ◌∙◌, ap, subst, arith}
 use Rattle.std.specs.List.{AllByRecursion}
 use Rattle.values.proofs.Lists.{all_append}
 use Rattle.values.specs.declared.fault.Fault.{Fault}

@@ -41,7 +41,7 @@ pub fails_behind : {V W X Y : Type 0} (S : Text → X → Text → Type 0) (R : 
     → (O old.left.now → N mid.left.now ⊎ ((y : Y) × (more : Text) × T mid.left.now y more)) → (N mid.left.now → O old.left.now) → Passes S R O make old end (Err fault)
 fails_behind S R O make T P N give old mid new end Memory h begins deep over = tt
 fails_behind S R O make T P N give old mid new end (Refused OtherForm) h begins deep over =
-    ((λ x rest s. let next = begins x rest s in h.0 next.0 next.1 next.2), (λ o. elim (deep o) [ | inl n ↦ h.1 n | inr t ↦ h.0 t.0 t.1 t.2 ]))
+    ((λ x rest s. let next = begins x rest s in h.0 next.0 next.1 next.2), (λ o. elim (deep o) [ inl n ↦ h.1 n | inr t ↦ h.0 t.0 t.1 t.2 ]))
 fails_behind S R O make T P N give old mid new end (Refused OverLimit) h begins deep over = over h
 
 -- what a call makes of what it passes is a value of another kind
@@ -65,10 +65,12 @@ module _ {V X : Type 0} (S : Text → X → Text → Type 0) (R : X → Type 0) 
 
   pub value_fails : (word : Text) (old new last : Cursor) (reason : PartReason) → old.left.now ≡ word ++ (end ∷ new.left.now) → lacks end word ≡ true → IsRead (λ w x. (w ≡ text x) × Is x) R word (Err reason) → Passes S R IsNever make old last (Err (Refused reason))
   value_fails word old new last OverLimit e free h = absurd h
-  value_fails word old new last OtherForm e free h =
-      ((λ x rest s.
+  value_fails word old new last OtherForm e free h = (
+    (λ x rest s.
         let it = spells old.left.now x rest s in
-        h x ((cut end word (text x) new.left.now rest free it.1 (sym e ∙ it.0)).0, it.2)), (λ never. never))
+        h x ((cut end word (text x) new.left.now rest free it.1 (sym e ∙ it.0)).0, it.2)),
+    (λ never. never),
+  )
 
 -- ---- numbers and terms
 

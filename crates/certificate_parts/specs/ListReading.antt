@@ -41,9 +41,9 @@ SpellsAnyConjuncts room t C = (t ≡ part_conjuncts_text C) × AreConjunctsWithi
 abbrev pub separate_text : List Condition → Text
 separate_text C = flat_map (λ c. part_condition_text c ++ codes ";") C
 
--- behind whole conjuncts, a condition is wanted in another one where there is no room for it
+-- behind whole conjuncts of a list that has some, a condition is wanted where there is no room for one
 abbrev pub IsListTooDeep : ℕ → Text → Type 0
-IsListTooDeep room t = (C : List Condition) × (rest : Text) × (t ≡ codes "[" ++ (separate_text C ++ rest)) × AreConjunctsWithin room C × IsTooDeep room rest
+IsListTooDeep room t = (C : List Condition) × (rest : Text) × (t ≡ codes "[" ++ (separate_text C ++ rest)) × (t ≡ codes "[]" → ⊥) × AreConjunctsWithin room C × IsTooDeep room rest
 
 -- ---- the texts of a list, as it is cut at its semicolons
 

@@ -1,12 +1,9 @@
 -- What a call gives of a text that spells a value within its ranges.
-use Rattle.std.specs.Prelude.{◌≡◌, ℕ, ◌<◌, ℤ, Bool, ◌&&◌, ◌||◌, nat_le, List, map, Result, Ok, Option, Some, FitsSigned, IsUtf8}
+use Rattle.std.specs.Prelude.{◌≡◌, ℕ, ◌<◌, ℤ, Bool, ◌&&◌, ◌||◌, nat_le, List, map, FitsSigned, IsUtf8}
 use Rattle.std.specs.Char.{is_ascii_digit}
 use Rattle.std.specs.Int.{w64}
 use Rattle.std.specs.List.{AllByRecursion}
-use Rattle.std.specs.Option.{option_map}
 use Rattle.hex.specs.Hex.{encode_lower}
-use Rattle.values.specs.declared.fault.Fault.{Fault}
-use Rattle.values.specs.Faults.{Gives}
 use Rattle.values.specs.declared.value.Value.{Value}
 use Rattle.values.specs.declared.value.Value.TheVariants as value
 use Rattle.query.specs.declared.query.Aggregate.{Aggregate}
@@ -15,13 +12,8 @@ use Rattle.algebra.specs.declared.expr.Aggregation.{Aggregation}
 use Rattle.algebra.specs.AggregateOrder.{AreByColumn}
 use Rattle.algebra.specs.declared.condition.Term.{Term}
 use Rattle.algebra.specs.declared.condition.Term.TheVariants as term
-use Rattle.certificate_parts.specs.declared.part_fault.PartReason.{PartReason}
 use Rattle.certificate_parts.specs.PartTexts.{Text, aggregate_text, aggregation_text, aggregations_text, integer_text, part_term_text}
 use Rattle.certificate_parts.specs.Parts.{IsShort}
-
--- a value that the text spells is what the call gives, as view shows it, unless memory runs out
-abbrev pub ReadsSpelled : {T X V : Type 0} → (T → X → Type 0) → T → (V → X) → Result (Option V) (Fault PartReason) → Type 0
-ReadsSpelled {X = X} Spells t view result = (x : X) → Spells t x → Gives (option_map view) result (Ok (Some x))
 
 -- ---- aggregates
 

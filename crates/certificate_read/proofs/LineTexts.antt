@@ -79,7 +79,7 @@ aggregations_graphic G s = list_graphic aggregation_text IsShortAggregation aggr
 
 pub conjuncts_graphic : (C : List Condition) → AreConjuncts C → IsGraphic (conjuncts_text C)
 conjuncts_graphic C s =
-    pass_both is_graphic (join_by condition_text (codes ";") C) (codes "]") (joined_graphic condition_text (codes ";") (IsReadable most_nested) refl (λ c h. condition_graphic c h.1) C s.0) refl
+    pass_both is_graphic (join_by condition_text (codes ";") C) (codes "]") (joined_graphic condition_text (codes ";") (IsReadable most_nested) refl (condition_graphic most_nested) C s.0) refl
 
 code_graphic : (r : RuleName) → IsGraphic (code_of r)
 code_graphic rule.JoinCommutes = refl

@@ -13,7 +13,7 @@ use Rattle.certificate_parts.specs.Conditions.{IsReadable, nests_within, terms_o
 use Rattle.certificate_parts.specs.Parts.{IsShort}
 use Rattle.certificate_parts.specs.Spelled.{IsReadableTerm}
 use Rattle.certificate_parts.proofs.DifferentTexts.{conjuncts_rise}
-use Rattle.certificate_parts.proofs.OpenConditions.{terms-at}
+use Rattle.certificate_parts.proofs.FrontConditions.{terms-at}
 use Rattle.certificate_text.specs.Limits.{all_nest_within, most_nested}
 use Rattle.certificate_text.specs.Readable.{AreConjuncts}
 

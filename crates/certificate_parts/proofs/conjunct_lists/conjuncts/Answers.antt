@@ -1,4 +1,4 @@
-use Rattle.std.proofs.Common.{◌≡◌, ◌∙◌, sym, ap, subst, refl, codes, arith, Err, List}
+use Rattle.std.proofs.Common.{◌∙◌, ap, codes, arith}
 use Rattle.std.proofs.lemmas.Str.Pattern.{strip_prefix_char}
 use Rattle.certificate_parts.proofs.ConjunctLists.{list_read, none_read, unopened}
 use Rattle.certificate_parts.proofs.NumberLists.{texts}

@@ -1,7 +1,7 @@
 use Rattle.std.proofs.Common.{List, subst, Ok, Err}
 use Rattle.algebra.specs.declared.condition.Condition.{Condition}
 use Rattle.certificate_parts.specs.ListReading.{AddsConjunct, IsOneTooDeep, ReadsList, SpellEachAny}
-use Rattle.certificate_parts.proofs.ConjunctLists.{all_behind, all_read, at_part, none_so_far, part_added, part_unread}
+use Rattle.certificate_parts.proofs.ConjunctLists.{all_behind, all_read, at_part, part_added, part_unread}
 use Rattle.certificate_parts.proofs.Exits.{holds_of_fault}
 use Rattle.certificate_parts.proofs.NumberLists.{texts}
 use Rattle.certificate_parts.proofs.conjunct_lists.each_conjunct.Goals as goal

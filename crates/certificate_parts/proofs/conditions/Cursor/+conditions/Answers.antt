@@ -1,17 +1,16 @@
-use Rattle.std.proofs.Common.{◌≡◌, Ok, ℕ, inl, inr, List, refl, sym, ◌∙◌, ◌∷◌, ◌++◌, ap, subst, drop, arith, Err, Bool}
+use Rattle.std.proofs.Common.{◌≡◌, Ok, ℕ, inl, inr, List, refl, sym, ◌∙◌, ◌∷◌, ◌++◌, ap, subst, arith}
 use Rattle.std.specs.List.{AllByRecursion}
 use Rattle.algebra.specs.declared.condition.Condition.{Condition}
 use Rattle.algebra.specs.declared.condition.Condition.TheVariants as condition
 use Rattle.algebra.specs.declared.condition.Term.{Term}
 use Rattle.certificate_parts.specs.declared.conditions.Form.TheVariants as form
-use Rattle.certificate_parts.specs.ConditionReading.{part_condition_text, more_text, AreShortParts, BeginsMore, BeginsNumber, BeginsParts, BeginsTerm, BeginsWith, BehindParts, IsAny, IsMoreTooDeep, IsNever, IsShortCondition, IsShortComparison, IsShortMembership, BeginsComparison, BeginsMembership, IsTooDeep, IsWithin, Parts, Passes, PassesCondition}
+use Rattle.certificate_parts.specs.ConditionReading.{part_condition_text, more_text, AreShortParts, BeginsMore, BeginsNumber, BeginsParts, BeginsTerm, BeginsWith, BehindParts, IsAny, IsMoreTooDeep, IsNever, IsShortCondition, IsShortComparison, IsShortMembership, BeginsComparison, BeginsMembership, IsTooDeep, Parts, Passes, PassesCondition}
 use Rattle.certificate_parts.specs.Parts.{IsShort, Noted}
-use Rattle.certificate_parts.specs.PartTexts.{Text}
 use Rattle.certificate_parts.specs.Spelled.{HasText, IsShortTerm}
 use Rattle.certificate_parts.proofs.Exits.{holds_of_fault}
 use Rattle.certificate_parts.proofs.FrontConditions.{Body}
-use Rattle.certificate_parts.proofs.FrontForms.{IsBodyTooDeep, PassesBody, and_short, compare_short, exists_short, in_short, not_short, null_short, or_short, read_behind, short_and, short_compare, short_exists, short_in, short_not, short_null, short_or, unread_form}
-use Rattle.certificate_parts.proofs.MoreParts.{before_first, behind_first, deep_more, behind_comma, behind_second, first_fails, second_fails, left_begins, left_deep, more_deep, more_end, more_over, more_unread, next_part, so_far_more, whole_deep}
+use Rattle.certificate_parts.proofs.FrontForms.{PassesBody, and_short, compare_short, exists_short, in_short, not_short, null_short, or_short, read_behind, short_and, short_compare, short_exists, short_in, short_not, short_null, short_or, unread_form}
+use Rattle.certificate_parts.proofs.MoreParts.{behind_first, behind_comma, behind_second, first_fails, second_fails, left_begins, left_deep, more_deep, more_end, more_over, more_unread, next_part, so_far_more}
 use Rattle.certificate_parts.proofs.Passing.{fails_behind, noted_any, noted_as, noted_both, passes_as}
 use Rattle.certificate_parts.proofs.SameFronts.{not_both_fronts, same_front}
 use Rattle.certificate_parts.proofs.conditions.Cursor.+conditions.Goals as goal

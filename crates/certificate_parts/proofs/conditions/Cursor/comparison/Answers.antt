@@ -1,6 +1,5 @@
-use Rattle.std.proofs.Common.{inl, sym, ◌∙◌, ap, ◌∷◌, ◌++◌, refl}
+use Rattle.std.proofs.Common.{sym, ◌∙◌, ap, ◌∷◌, ◌++◌}
 use Rattle.algebra.specs.declared.condition.Condition.TheVariants as condition
-use Rattle.algebra.specs.declared.condition.Condition.{Condition}
 use Rattle.algebra.specs.declared.condition.Term.{Term}
 use Rattle.certificate_parts.specs.ConditionReading.{BeginsComparison, BeginsTerm, IsNever, IsShortComparison, Passes}
 use Rattle.certificate_parts.specs.PartTexts.{part_term_text}

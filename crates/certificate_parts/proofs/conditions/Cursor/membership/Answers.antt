@@ -1,4 +1,4 @@
-use Rattle.std.proofs.Common.{ℕ, inl, sym, ◌∙◌, ap, subst, ◌≡◌, ◌∷◌, ◌++◌, drop, refl}
+use Rattle.std.proofs.Common.{ℕ, sym, ◌∙◌, ap, subst, ◌≡◌, ◌∷◌, ◌++◌, drop, refl}
 use Rattle.algebra.specs.declared.condition.Condition.TheVariants as condition
 use Rattle.algebra.specs.declared.condition.Term.{Term}
 use Rattle.certificate_parts.specs.ConditionReading.{BeginsMembership, BeginsNumber, IsAny, IsNever, IsShortMembership, Passes}

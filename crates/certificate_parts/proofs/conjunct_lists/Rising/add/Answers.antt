@@ -1,6 +1,5 @@
-use Rattle.std.proofs.Common.{◌≡◌, ◌∙◌, ◌++◌, sym, subst, inl, inr, ap, true, false}
+use Rattle.std.proofs.Common.{◌≡◌, ◌∙◌, ◌++◌, sym, subst, inl, inr, ap}
 use Rattle.certificate_parts.specs.ConditionReading.{part_condition_text, BeginsWith, IsShortCondition}
-use Rattle.certificate_parts.specs.ListReading.{AddsConjunct}
 use Rattle.certificate_parts.specs.Parts.{Noted}
 use Rattle.certificate_parts.proofs.ConjunctParts.{front_read, no_conjunct, not_other, not_unequal, noted_kept, one_conjunct, other_end}
 use Rattle.certificate_parts.proofs.conjunct_lists.Rising.add.Goals.{then-is_and-via-then-is_and, then-is_and-via-else-is_and+then-not-is_before, then-self, else-self}
