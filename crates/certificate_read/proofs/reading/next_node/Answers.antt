@@ -1,5 +1,6 @@
+use Rattle.std.proofs.Common.{Ok, Err}
 use Rattle.certificate_text.specs.CertificateText.{node_words}
-use Rattle.certificate_read.proofs.NodeTexts.{node_line}
+use Rattle.certificate_read.proofs.NodeTexts.{node_line, node_back}
 use Rattle.certificate_read.proofs.WordCalls.{fails}
 use Rattle.certificate_read.proofs.reading.next_node.Goals as goal
 
@@ -9,10 +10,10 @@ returns-in_err-line c = λ n inputs rest h within e. fails _ c.from_residual.res
 pub returns-in-Ok : goal.returns-in-Ok
 returns-in-Ok c = λ n inputs rest h within e.
     let line = c.in_ok-line.ensures (node_words n inputs) rest (node_line n inputs h) e in
-    let read = c.in-Ok.ensures n inputs h within line.0 in
+    let read = node_back n inputs c.args.is_within c.in_ok-line.line.now (Ok c.in-Ok.read) h within line.0 c.in-Ok.ensures in
     (read.0, read.1, line.1)
 
 pub returns-in-Err : goal.returns-in-Err
 returns-in-Err c = λ n inputs rest h within e.
     let line = c.in_ok-line.ensures (node_words n inputs) rest (node_line n inputs h) e in
-    c.fault.ensures (c.in-Err.ensures n inputs h within line.0)
+    c.fault.ensures (node_back n inputs c.args.is_within c.in_ok-line.line.now (Err c.in-Err.fault) h within line.0 c.in-Err.ensures)
