@@ -1,7 +1,8 @@
 //! Why a line isn't read.
 
-ghost use Rattle.std.specs.Prelude.{◌≡◌, None};
+ghost use Rattle.std.specs.Prelude.{◌≡◌};
 ghost use Rattle.certificate_read.specs.declared.line_fault.LineFault.{LineFault};
+ghost use Rattle.certificate_read.specs.TextFaults.{reason_of};
 ghost use Rattle.certificate_read.specs.declared.line_fault.LineFault.TheVariants.{Memory};
 ghost use Rattle.certificate_read.specs.Wordings.{line_fault_of};
 ghost use Rattle.values.specs.declared.fault.Fault.TheVariants.{Refused};
@@ -23,7 +24,7 @@ pub(crate) enum LineFault {
 impl LineFault {
     /// As a fault of the text; nothing where memory ran out.
     pub(crate) fn reason(self) -> Option<TextReason>
-        ensures { self ≡ Memory → result ≡ None }
+        ensures { result ≡ reason_of self }
     {
         match self {
             LineFault::Memory => None,
