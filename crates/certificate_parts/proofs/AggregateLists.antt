@@ -101,7 +101,7 @@ no_dash a G e = first (numeral a.column) (numeral_digits a.column) (form_nonempt
   first [] d l e = absurd (omega (arith, l))
   first (b ∷ w) d l e = false≢true (ap (λ w. is_ascii_digit (get_or w 0 0)) (sym e.1) ∙ (and_parts (is_ascii_digit b) (list_all is_ascii_digit w) d).0)
 
-aggregations_told : (G H : List Aggregation) → aggregations_text G ≡ aggregations_text H → G ≡ H
+pub aggregations_told : (G H : List Aggregation) → aggregations_text G ≡ aggregations_text H → G ≡ H
 aggregations_told [] [] e = refl
 aggregations_told [] (b ∷ H) e = absurd (no_dash b H (sym e))
 aggregations_told (a ∷ G) [] e = absurd (no_dash a G e)

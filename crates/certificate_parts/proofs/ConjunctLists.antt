@@ -250,7 +250,7 @@ before_any : (w : Text) → 0 < length w → IsBefore [] w
 before_any [] l = absurd (omega arith)
 before_any (b ∷ w) l = refl
 
-text_long : (room : ℕ) (c : Condition) → IsWithin room c → 0 < length (part_condition_text c)
+pub text_long : (room : ℕ) (c : Condition) → IsWithin room c → 0 < length (part_condition_text c)
 text_long room c h =
     let room_is = some_room room c h.0 in
     let opens = opened HasText room (room - 1) c [] (omega (arith, room_is)) h in

@@ -1,10 +1,13 @@
-pub mod FormWords
 pub mod KeyTexts
+pub mod LineLaws
 pub mod LineTexts
+pub mod NodeLaws
 pub mod NodeTexts
-pub mod NodeWords
 pub mod PartWords
 pub mod PlanNodes
 pub mod TextCuts
 pub mod TextLists
+pub mod WideConjuncts
 pub mod WordCalls
+pub mod WordLaws
+pub mod Wordings

@@ -1,9 +1,10 @@
 -- A text is cut behind a line, at the first LF.
-use Rattle.std.proofs.Common.{◌≡◌, ap, ◌∙◌, arith, ℕ, ◌+◌, ◌-◌, ◌==◌, Bool, true, cond, nat_lt, [], ◌∷◌, ◌++◌, length, take, drop, append_assoc, Option, Some, None, Result, Ok, decimal}
+use Rattle.std.proofs.Common.{◌≡◌, refl, sym, subst, inl, inr, ◌⊎◌, ap, ◌∙◌, arith, ℕ, ◌+◌, ◌-◌, ◌==◌, Bool, true, false, not, ◌&&◌, get_or, cond, nat_lt, [], ◌∷◌, ◌++◌, length, take, drop, append_assoc, Option, Some, None, Result, Ok, decimal}
 use denote.Ref.{Bor}
 use Rattle.std.proofs.Math.Seq.{take-append_seam, drop-append-add, get_or-append_seam}
-use Rattle.std.proofs.lemmas.Bool.{lt-ltb}
+use Rattle.std.proofs.lemmas.Bool.{eqb-true, lt-ltb}
 use Rattle.std.proofs.lemmas.List.{get_or_append_left, length-append, take_all}
+use Rattle.std.proofs.lemmas.List.Quantifiers.{position-Some}
 use Rattle.std.proofs.lemmas.List.Sums.{position_or_len_is}
 use Rattle.std.proofs.lemmas.Str.Pattern.{IsSplitOnceResult}
 use Rattle.std.specs.List.{position, position_or_len}
@@ -13,7 +14,7 @@ use Rattle.certificate_parts.specs.PartTexts.{lacks}
 use Rattle.certificate_parts.proofs.AggregateParts.{cut_at}
 use Rattle.certificate_parts.proofs.DecimalNumerals.{short_decimal}
 use Rattle.certificate_parts.proofs.Exits.{not_none, same_some}
-use Rattle.certificate_parts.proofs.Lacking.{each_lacks}
+use Rattle.certificate_parts.proofs.Lacking.{each_lacks, lacks_at}
 use Rattle.certificate_parts.proofs.NumberParts.{number_given}
 use Rattle.certificate_text.specs.CertificateText.{Text, ended}
 use Rattle.certificate_read.specs.TextReading.{IsLine, IsWord}
@@ -49,6 +50,30 @@ module _ (line rest now : Text) (free : lacks 10 line ≡ true) (e : now ≡ end
 
   pub line_not_missing : (r : Option ℕ) → r ≡ position is_end now → r ≡ None → ⊥
   line_not_missing r given none = not_none r (length line) none (given ∙ found)
+
+-- a text has no LF, or begins with a line
+pub first_line : (now : Text) → (lacks 10 now ≡ true) ⊎ ((line : Text) × (rest : Text) × (lacks 10 line ≡ true) × (now ≡ ended line ++ rest))
+first_line [] = inl refl
+first_line (b ∷ now) = by (b == 10) refl (first_line now) where
+  by : (same : Bool) → (b == 10) ≡ same → (lacks 10 now ≡ true) ⊎ ((line : Text) × (rest : Text) × (lacks 10 line ≡ true) × (now ≡ ended line ++ rest)) → (lacks 10 (b ∷ now) ≡ true) ⊎ ((line : Text) × (rest : Text) × (lacks 10 line ≡ true) × (b ∷ now ≡ ended line ++ rest))
+  by true e more = inr ([], now, refl, ap (λ b. b ∷ now) (eqb-true b 10 e))
+  by false e (inl free) = inl (λ i. not (e i) && free i)
+  by false e (inr it) = inr (b ∷ it.0, it.1, (λ i. not (e i) && it.2 i), ap (λ t. b ∷ t) it.3)
+
+module _ (now : Text) (r : Option ℕ) (given : r ≡ position is_end now) where
+  pub line_read : (end : ℕ) → r ≡ Some end → (now ≡ ended (take end now) ++ take (length now - (end + 1)) (drop (end + 1) now)) × (lacks 10 (take end now) ≡ true)
+  line_read end is = elim (first_line now) [
+    | inl free ↦ absurd (let at = position-Some is_end now end 0 (sym given ∙ is) in lacks_at 10 now free end at.0 (eqb-true (get_or now end 0) 10 at.1))
+    | inr it ↦
+        let cut = line_cut_off it.0 it.1 now it.2 it.3 r end given is in
+        (it.3 ∙ (λ i. ended (sym cut.0 i) ++ sym cut.1 i), subst (λ t. lacks 10 t ≡ true) (sym cut.0) it.2)
+  ]
+
+  pub line_missing : r ≡ None → lacks 10 now ≡ true
+  line_missing none = elim (first_line now) [
+    | inl free ↦ free
+    | inr it ↦ absurd (line_not_missing it.0 it.1 now it.2 it.3 r given none)
+  ]
 
 -- ---- counts
 

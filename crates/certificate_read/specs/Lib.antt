@@ -1,4 +1,6 @@
 pub mod LineReading
 pub mod NodeReading
+pub mod TextFaults
 pub mod TextReading
 pub mod WordReading
+pub mod Wordings

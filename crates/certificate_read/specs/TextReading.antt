@@ -1,12 +1,9 @@
 -- What a call reads of the lines of a text, and which plans can be read.
-use Rattle.std.specs.Prelude.{◌≡◌, ℕ, ◌≤◌, true, List, ◌∷◌, length, flat_map, Result, MatchResult, IsUtf8}
+use Rattle.std.specs.Prelude.{◌≡◌, ℕ, ◌≤◌, true, Result, MatchResult, IsUtf8}
 use Rattle.std.specs.List.{list_all, AllByRecursion}
 use Rattle.values.specs.declared.fault.Fault.{Fault}
 use Rattle.values.specs.declared.fault.Fault.TheVariants.{Memory}
-use Rattle.physical.specs.declared.plan.Node.{Node}
-use Rattle.physical.specs.declared.plan.Plan.{Plan, fold-Plan}
-use Rattle.physical.specs.declared.plan.Plan.TheOpen.{Plan-F}
-use Rattle.certificate.specs.declared.certificate.Certificate.{Certificate}
+use Rattle.physical.specs.declared.plan.Plan.{Plan}
 use Rattle.certificate_parts.specs.PartTexts.{is_graphic, lacks}
 use Rattle.certificate_text.specs.declared.fault.TextRefusal.{TextRefusal}
 use Rattle.certificate_text.specs.CertificateText.{Text}

@@ -1,8 +1,8 @@
 //! What the lines of a derivation and their parts are, by their first words.
 
-ghost use Rattle.std.specs.Prelude.{◌≡◌, Some};
+ghost use Rattle.std.specs.Prelude.{◌≡◌, MatchOption};
 ghost use Rattle.certificate_read.specs.LineReading as spec;
-ghost use Rattle.certificate_read.specs.WordReading.{ReadsWords};
+ghost use Rattle.certificate_read.specs.Wordings.{PassesName};
 ghost use Rattle.certificate_read.specs.declared.forms.ExprForm.{ExprForm};
 ghost use Rattle.certificate_read.specs.declared.forms.FactForm.{FactForm};
 ghost use Rattle.certificate_read.specs.declared.forms.LineForm.{LineForm};
@@ -40,7 +40,7 @@ pub(crate) enum LineForm {
 }
 
 fn named_expr(name: &str) -> Option<ExprForm>
-    ensures { (form : ExprForm) → name.now ≡ spec.expr_name form → result ≡ Some form }
+    ensures { MatchOption result ((form : ExprForm) → name.now ≡ spec.expr_name form → ⊥) (λ form. name.now ≡ spec.expr_name form) }
 {
     match name {
         "get" => Some(ExprForm::Get),
@@ -57,7 +57,7 @@ fn named_expr(name: &str) -> Option<ExprForm>
 }
 
 fn named_fact(name: &str) -> Option<FactForm>
-    ensures { (form : FactForm) → name.now ≡ spec.fact_name form → result ≡ Some form }
+    ensures { MatchOption result ((form : FactForm) → name.now ≡ spec.fact_name form → ⊥) (λ form. name.now ≡ spec.fact_name form) }
 {
     match name {
         "notnull" => Some(FactForm::NotNull),
@@ -68,7 +68,7 @@ fn named_fact(name: &str) -> Option<FactForm>
 }
 
 fn named_line(name: &str) -> Option<LineForm>
-    ensures { (form : LineForm) → name.now ≡ spec.line_name form → result ≡ Some form }
+    ensures { MatchOption result ((form : LineForm) → name.now ≡ spec.line_name form → ⊥) (λ form. name.now ≡ spec.line_name form) }
 {
     match name {
         "F" => Some(LineForm::Founds),
@@ -81,7 +81,7 @@ fn named_line(name: &str) -> Option<LineForm>
 }
 
 pub(crate) fn expr_form(words: &mut Words<'_>) -> Result<ExprForm, LineFault>
-    ensures { ReadsWords (spec.named spec.expr_name) spec.IsAny words.old words.new result }
+    ensures { PassesName spec.expr_name words.old words.new result }
 {
     match named_expr(words.word()?) {
         Some(form) => Ok(form),
@@ -90,7 +90,7 @@ pub(crate) fn expr_form(words: &mut Words<'_>) -> Result<ExprForm, LineFault>
 }
 
 pub(crate) fn fact_form(words: &mut Words<'_>) -> Result<FactForm, LineFault>
-    ensures { ReadsWords (spec.named spec.fact_name) spec.IsAny words.old words.new result }
+    ensures { PassesName spec.fact_name words.old words.new result }
 {
     match named_fact(words.word()?) {
         Some(form) => Ok(form),
@@ -99,7 +99,7 @@ pub(crate) fn fact_form(words: &mut Words<'_>) -> Result<FactForm, LineFault>
 }
 
 pub(crate) fn line_form(words: &mut Words<'_>) -> Result<LineForm, LineFault>
-    ensures { ReadsWords (spec.named spec.line_name) spec.IsAny words.old words.new result }
+    ensures { PassesName spec.line_name words.old words.new result }
 {
     match named_line(words.word()?) {
         Some(form) => Ok(form),

@@ -1,9 +1,11 @@
 //! Why a line isn't read.
 
-ghost use Rattle.std.specs.Prelude.{◌≡◌, None};
+ghost use Rattle.std.specs.Prelude.{◌≡◌};
 ghost use Rattle.certificate_read.specs.declared.line_fault.LineFault.{LineFault};
+ghost use Rattle.certificate_read.specs.TextFaults.{reason_of};
 ghost use Rattle.certificate_read.specs.declared.line_fault.LineFault.TheVariants.{Memory};
-ghost use Rattle.certificate_read.specs.WordReading.{line_fault_of};
+ghost use Rattle.certificate_read.specs.Wordings.{line_fault_of};
+ghost use Rattle.values.specs.declared.fault.Fault.TheVariants.{Refused};
 
 use certificate_parts::part_fault::{PartFault, PartReason};
 use certificate_text::TextReason;
@@ -22,7 +24,7 @@ pub(crate) enum LineFault {
 impl LineFault {
     /// As a fault of the text; nothing where memory ran out.
     pub(crate) fn reason(self) -> Option<TextReason>
-        ensures { self ≡ Memory → result ≡ None }
+        ensures { result ≡ reason_of self }
     {
         match self {
             LineFault::Memory => None,
@@ -50,6 +52,8 @@ impl<T: Drop> From<AllocFailed<T>> for LineFault {
 }
 
 impl From<PartReason> for LineFault {
+    ghost from_gives = { λ reason fault. fault ≡ line_fault_of (Refused reason) };
+
     fn from(reason: PartReason) -> LineFault {
         match reason {
             PartReason::OtherForm => LineFault::OtherForm,

@@ -1,9 +1,8 @@
 //! What nodes and joins are, by their names.
 
-ghost use Rattle.std.specs.Prelude.{◌≡◌, Some};
-ghost use Rattle.certificate_read.specs.LineReading.{named, IsAny};
+ghost use Rattle.std.specs.Prelude.{◌≡◌, MatchOption};
 ghost use Rattle.certificate_read.specs.NodeReading as spec;
-ghost use Rattle.certificate_read.specs.WordReading.{ReadsWords};
+ghost use Rattle.certificate_read.specs.Wordings.{PassesName};
 ghost use Rattle.certificate_read.specs.declared.node_forms.KindForm.{KindForm};
 ghost use Rattle.certificate_read.specs.declared.node_forms.OperatorForm.{OperatorForm};
 ghost use Rattle.certificate_read.specs.declared.node_forms.NodeForm.{NodeForm};
@@ -44,7 +43,7 @@ pub(crate) enum NodeForm {
 }
 
 fn named_kind(name: &str) -> Option<KindForm>
-    ensures { (form : KindForm) → name.now ≡ spec.kind_name form → result ≡ Some form }
+    ensures { MatchOption result ((form : KindForm) → name.now ≡ spec.kind_name form → ⊥) (λ form. name.now ≡ spec.kind_name form) }
 {
     match name {
         "inner" => Some(KindForm::Inner),
@@ -56,7 +55,7 @@ fn named_kind(name: &str) -> Option<KindForm>
 }
 
 fn named_operator(name: &str) -> Option<OperatorForm>
-    ensures { (form : OperatorForm) → name.now ≡ spec.operator_name form → result ≡ Some form }
+    ensures { MatchOption result ((form : OperatorForm) → name.now ≡ spec.operator_name form → ⊥) (λ form. name.now ≡ spec.operator_name form) }
 {
     match name {
         "scan" => Some(OperatorForm::Scan),
@@ -77,7 +76,7 @@ fn named_operator(name: &str) -> Option<OperatorForm>
 }
 
 fn named_node(name: &str) -> Option<NodeForm>
-    ensures { (form : NodeForm) → name.now ≡ spec.node_name form → result ≡ Some form }
+    ensures { MatchOption result ((form : NodeForm) → name.now ≡ spec.node_name form → ⊥) (λ form. name.now ≡ spec.node_name form) }
 {
     match name {
         "sort" => Some(NodeForm::Sort),
@@ -89,7 +88,7 @@ fn named_node(name: &str) -> Option<NodeForm>
 }
 
 pub(crate) fn kind_form(words: &mut Words<'_>) -> Result<KindForm, LineFault>
-    ensures { ReadsWords (named spec.kind_name) IsAny words.old words.new result }
+    ensures { PassesName spec.kind_name words.old words.new result }
 {
     match named_kind(words.word()?) {
         Some(form) => Ok(form),
@@ -98,7 +97,7 @@ pub(crate) fn kind_form(words: &mut Words<'_>) -> Result<KindForm, LineFault>
 }
 
 pub(crate) fn node_form(words: &mut Words<'_>) -> Result<NodeForm, LineFault>
-    ensures { ReadsWords (named spec.node_name) IsAny words.old words.new result }
+    ensures { PassesName spec.node_name words.old words.new result }
 {
     match named_node(words.word()?) {
         Some(form) => Ok(form),

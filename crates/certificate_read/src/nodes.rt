@@ -1,22 +1,14 @@
 //! The nodes of a plan.
 
-ghost use Rattle.std.specs.Prelude.{◌≡◌, ◌+◌, ◌∷◌, ◌++◌, ℕ, List, decimal, true};
-ghost use Rattle.algebra.specs.declared.condition.Condition.{Condition};
-ghost use Rattle.algebra.specs.declared.expr.Aggregation.{Aggregation};
-ghost use Rattle.physical.specs.declared.plan.IndexAccess.{IndexAccess};
 ghost use Rattle.physical.specs.declared.plan.JoinMethod.TheVariants as method;
-ghost use Rattle.physical.specs.declared.plan.Matching.{Matching};
 ghost use Rattle.physical.specs.declared.plan.Matching.TheVariants as matching;
-ghost use Rattle.physical.specs.declared.plan.Node.{Node};
-ghost use Rattle.physical.specs.declared.plan.Node.TheVariants as plan;
-ghost use Rattle.physical.specs.declared.plan.OrderKey.{OrderKey};
-ghost use Rattle.physical.specs.declared.plan.Operator.{Operator};
 ghost use Rattle.physical.specs.declared.plan.Operator.TheVariants as physical;
-ghost use Rattle.certificate_parts.specs.Parts.{IsShort};
-ghost use Rattle.certificate_text.specs.CertificateText.{Text, keys_text, kind_text, node_words, conjuncts_text, numbers_text, aggregations_text};
-ghost use Rattle.certificate_text.specs.Readable.{AreAggregations, AreColumns, AreConjuncts, AreShortKeys, IsReadableAccess, IsReadableMatching, IsReadableNode, IsReadableOperator};
 ghost use Rattle.certificate_read.specs.NodeReading as spec;
-ghost use Rattle.certificate_read.specs.WordReading.{left_words, Leaves, UnlessMemory};
+ghost use Rattle.certificate_read.specs.WordReading.{words_in};
+ghost use Rattle.certificate_read.specs.Wordings.{ReadsLine, ReadsWords, deep};
+ghost use Rattle.certificate_read.specs.declared.node_forms.KindForm.TheVariants as kinds;
+ghost use Rattle.certificate_read.specs.declared.node_forms.NodeForm.TheVariants as node;
+ghost use Rattle.certificate_read.specs.declared.node_forms.OperatorForm.TheVariants as operator;
 
 use crate::line_fault::LineFault;
 use crate::node_forms::{KindForm, NodeForm, OperatorForm, kind_form, node_form};
@@ -34,7 +26,7 @@ pub(crate) struct ReadNode {
 
 /// The lists of an antijoin.
 fn anti(alloc: Global, words: &mut Words<'_>) -> Result<Matching, LineFault>
-    ensures { (S : List Condition) (M : List Condition) (rest : List Text) → AreConjuncts S → AreConjuncts M → left_words words.old ≡ conjuncts_text S ∷ conjuncts_text M ∷ rest → Leaves (λ j. j) (matching.Anti S M) rest words.old words.new result }
+    ensures { ReadsWords (spec.lists_behind kinds.Anti) (spec.matching_of kinds.Anti) words.old words.new result }
 {
     let ordinary = words.conjuncts(alloc)?;
     Ok(Matching::Anti(ordinary, words.conjuncts(alloc)?))
@@ -42,7 +34,7 @@ fn anti(alloc: Global, words: &mut Words<'_>) -> Result<Matching, LineFault>
 
 /// The lists of a join of this kind.
 fn matching(alloc: Global, kind: KindForm, words: &mut Words<'_>) -> Result<Matching, LineFault>
-    ensures { (j : Matching) (rest : List Text) → spec.kind_of j ≡ kind → IsReadableMatching j → left_words words.old ≡ spec.lists_words j ++ rest → Leaves (λ j. j) j rest words.old words.new result }
+    ensures { ReadsWords (spec.lists_behind kind) (spec.matching_of kind) words.old words.new result }
 {
     match kind {
         KindForm::Inner => Ok(Matching::Inner(words.conjuncts(alloc)?)),
@@ -54,7 +46,7 @@ fn matching(alloc: Global, kind: KindForm, words: &mut Words<'_>) -> Result<Matc
 
 /// A join whose kind is named.
 fn join(alloc: Global, words: &mut Words<'_>) -> Result<Matching, LineFault>
-    ensures { (j : Matching) (rest : List Text) → IsReadableMatching j → left_words words.old ≡ kind_text j ∷ (spec.lists_words j ++ rest) → Leaves (λ j. j) j rest words.old words.new result }
+    ensures { ReadsWords spec.matching_wording (λ j. spec.matching_of j.0 j.1) words.old words.new result }
 {
     let kind = kind_form(words)?;
     matching(alloc, kind, words)
@@ -62,7 +54,7 @@ fn join(alloc: Global, words: &mut Words<'_>) -> Result<Matching, LineFault>
 
 /// A merge join, which is an inner one.
 fn merge(alloc: Global, words: &mut Words<'_>) -> Result<Operator, LineFault>
-    ensures { (a : ℕ) (b : ℕ) (C : List Condition) (rest : List Text) → IsShort a → IsShort b → AreConjuncts C → left_words words.old ≡ decimal a ∷ decimal b ∷ conjuncts_text C ∷ rest → Leaves (λ o. o) (physical.JoinRows (method.Merge a b) (matching.Inner C)) rest words.old words.new result }
+    ensures { ReadsWords (spec.operator_behind operator.MergeJoin) (λ p. physical.JoinRows (method.Merge p.0 p.1.0) (matching.Inner p.1.1)) words.old words.new result }
 {
     let left = words.number()?;
     let right = words.number()?;
@@ -72,7 +64,7 @@ fn merge(alloc: Global, words: &mut Words<'_>) -> Result<Operator, LineFault>
 }
 
 fn index_scan(alloc: Global, words: &mut Words<'_>) -> Result<Operator, LineFault>
-    ensures { (a : IndexAccess) (C : List Condition) (rest : List Text) → IsReadableAccess a → AreConjuncts C → left_words words.old ≡ decimal a.line ∷ decimal a.instance ∷ decimal a.index ∷ conjuncts_text C ∷ rest → Leaves (λ o. o) (physical.IndexScan a C) rest words.old words.new result }
+    ensures { ReadsWords (spec.operator_behind operator.IndexScan) (λ p. (spec.operator_of operator.IndexScan p).0) words.old words.new result }
 {
     let line = words.number()?;
     let instance = words.number()?;
@@ -87,7 +79,7 @@ fn index_scan(alloc: Global, words: &mut Words<'_>) -> Result<Operator, LineFaul
 }
 
 fn index_join(alloc: Global, words: &mut Words<'_>) -> Result<Operator, LineFault>
-    ensures { (a : IndexAccess) (j : Matching) (rest : List Text) → IsReadableAccess a → IsReadableMatching j → left_words words.old ≡ decimal a.line ∷ kind_text j ∷ decimal a.instance ∷ decimal a.index ∷ (spec.lists_words j ++ rest) → Leaves (λ o. o) (physical.IndexJoin a j) rest words.old words.new result }
+    ensures { ReadsWords (spec.operator_behind operator.IndexJoin) (λ p. (spec.operator_of operator.IndexJoin p).0) words.old words.new result }
 {
     let line = words.number()?;
     let kind = kind_form(words)?;
@@ -104,7 +96,7 @@ fn index_join(alloc: Global, words: &mut Words<'_>) -> Result<Operator, LineFaul
 
 /// A filter with subqueries, and how many inputs follow the first.
 fn filter_subqueries(alloc: Global, words: &mut Words<'_>) -> Result<(Operator, u64), LineFault>
-    ensures { (C : List Condition) (more : ℕ) (rest : List Text) → AreConjuncts C → IsShort more → left_words words.old ≡ conjuncts_text C ∷ decimal more ∷ rest → Leaves (λ o. o) (physical.FilterSubqueries C, more + 1) rest words.old words.new result }
+    ensures { ReadsWords (spec.operator_behind operator.FilterSubqueries) (spec.operator_of operator.FilterSubqueries) words.old words.new result }
 {
     let conjuncts = words.conjuncts(alloc)?;
     let more = words.number()?;
@@ -115,7 +107,7 @@ fn filter_subqueries(alloc: Global, words: &mut Words<'_>) -> Result<(Operator, 
 }
 
 fn group(alloc: Global, method: GroupMethod, words: &mut Words<'_>) -> Result<Operator, LineFault>
-    ensures { (K : List ℕ) (G : List Aggregation) (rest : List Text) → AreColumns K → AreAggregations G → left_words words.old ≡ numbers_text K ∷ aggregations_text G ∷ rest → Leaves (λ o. o) (physical.GroupRows method K G) rest words.old words.new result }
+    ensures { ReadsWords (spec.operator_behind operator.HashGroup) (λ p. physical.GroupRows method p.0 p.1) words.old words.new result }
 {
     let keys = words.columns(alloc)?;
     let added = words.aggregations(alloc)?;
@@ -132,7 +124,7 @@ fn operator(
     form: OperatorForm,
     words: &mut Words<'_>,
 ) -> Result<(Operator, u64), LineFault>
-    ensures { (o : Operator) (inputs : ℕ) (rest : List Text) → spec.operator_form o ≡ form → IsReadableOperator o inputs → left_words words.old ≡ spec.operator_words o inputs ++ rest → Leaves (λ o. o) (o, inputs) rest words.old words.new result }
+    ensures { ReadsWords (spec.operator_behind form) (spec.operator_of form) words.old words.new result }
 {
     match form {
         OperatorForm::Scan => {
@@ -175,7 +167,7 @@ fn operator(
 }
 
 fn sort(alloc: Global, words: &mut Words<'_>) -> Result<ReadNode, LineFault>
-    ensures { (K : List OrderKey) (rest : List Text) → AreShortKeys K → left_words words.old ≡ keys_text K ∷ rest → spec.LeavesNode (plan.Sort K) 1 rest words.old words.new result }
+    ensures { ReadsWords (spec.node_behind node.Sort) (spec.node_of node.Sort) words.old words.new result }
 {
     let keys = keys(alloc, words)?;
     Ok(ReadNode {
@@ -189,7 +181,7 @@ fn implementation(
     form: OperatorForm,
     words: &mut Words<'_>,
 ) -> Result<ReadNode, LineFault>
-    ensures { (line : ℕ) (o : Operator) (inputs : ℕ) (rest : List Text) → IsShort line → spec.operator_form o ≡ form → IsReadableOperator o inputs → left_words words.old ≡ decimal line ∷ (spec.operator_words o inputs ++ rest) → spec.LeavesNode (plan.Implements line o) inputs rest words.old words.new result }
+    ensures { ReadsWords (spec.node_behind (node.Implements form)) (spec.node_of (node.Implements form)) words.old words.new result }
 {
     let line = words.number()?;
     let (operator, inputs) = operator(alloc, form, words)?;
@@ -200,7 +192,7 @@ fn implementation(
 }
 
 fn node_of(alloc: Global, words: &mut Words<'_>) -> Result<ReadNode, LineFault>
-    ensures { (n : Node) (inputs : ℕ) (rest : List Text) → IsReadableNode n inputs → left_words words.old ≡ spec.words_of n inputs ++ rest → spec.LeavesNode n inputs rest words.old words.new result }
+    ensures { ReadsWords spec.node_wording (λ x. spec.node_of x.0 x.1) words.old words.new result }
 {
     match node_form(words)? {
         NodeForm::Sort => sort(alloc, words),
@@ -210,7 +202,7 @@ fn node_of(alloc: Global, words: &mut Words<'_>) -> Result<ReadNode, LineFault>
 
 /// The node that a line of the text is. It is refused where it stands too deep.
 pub(crate) fn node(alloc: Global, text: &str, is_within: bool) -> Result<ReadNode, LineFault>
-    ensures { (n : Node) (inputs : ℕ) → IsReadableNode n inputs → is_within ≡ true → text.now ≡ node_words n inputs → UnlessMemory (λ r. (r.node ≡ n) × (r.inputs ≡ inputs)) result }
+    ensures { ReadsLine (deep is_within spec.node_wording) (λ x. spec.node_of x.0 x.1) (words_in text.now) result }
 {
     let parts = words_of(alloc, text)?;
     let mut words = Words::of(parts.as_slice());

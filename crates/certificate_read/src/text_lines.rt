@@ -1,11 +1,11 @@
 //! The lines of a text, one after the other.
 
-ghost use Rattle.std.specs.Prelude.{◌≡◌, ◌==◌, ◌++◌, [], codes, Ok, true};
+ghost use Rattle.std.specs.Prelude.{◌≡◌, ◌==◌, ◌++◌, [], codes, Ok, true, MatchResult};
 ghost use Rattle.std.specs.List.{position};
-ghost use Rattle.values.specs.declared.fault.Fault.TheVariants.{Memory};
 ghost use Rattle.certificate_parts.specs.PartTexts.{lacks};
 ghost use Rattle.certificate_text.specs.CertificateText.{Text, ended};
-ghost use Rattle.certificate_read.specs.declared.line_fault.LineFault.TheVariants as line_fault;
+ghost use Rattle.certificate_text.specs.declared.fault.TextReason.TheVariants.{OtherForm};
+ghost use Rattle.certificate_read.specs.TextFaults as spec;
 ghost use Rattle.certificate_read.specs.TextReading.{IsLine, LeavesText, UnlessMemory};
 
 use crate::line_fault::LineFault;
@@ -29,7 +29,8 @@ pub(crate) struct TextLines<'a> {
 
 impl<'a> TextLines<'a> {
     pub(crate) fn of(text: &'a [u8]) -> TextLines<'a>
-        ensures { result.left.now ≡ text.now }
+        ensures left { result.left.now ≡ text.now }
+        ensures number { result.number ≡ 0 }
     {
         TextLines {
             left: text,
@@ -38,14 +39,16 @@ impl<'a> TextLines<'a> {
     }
 
     /// The fault of the line that was read last.
-    pub(crate) fn refused(&self, reason: TextReason) -> TextFault {
+    pub(crate) fn refused(&self, reason: TextReason) -> TextFault
+        ensures { result ≡ spec.refused self.now.number reason }
+    {
         let line = self.number;
         Fault::Refused(TextRefusal { line, reason })
     }
 
     /// Why the line that was read last isn't of its form.
     pub(crate) fn fault(&self, fault: LineFault) -> TextFault
-        ensures { fault ≡ line_fault.Memory → result ≡ Memory }
+        ensures { result ≡ spec.text_fault_of fault self.now.number }
     {
         match fault.reason() {
             Some(reason) => self.refused(reason),
@@ -55,7 +58,8 @@ impl<'a> TextLines<'a> {
 
     /// The next line, without its end.
     pub(crate) fn bytes(&mut self) -> Result<&'a [u8], TextFault>
-        ensures { (line : Text) (rest : Text) → lacks 10 line ≡ true → self.old.left.now ≡ ended line ++ rest → LeavesText (λ l. l.now) line rest self.new result }
+        ensures complete { (line : Text) (rest : Text) → lacks 10 line ≡ true → self.old.left.now ≡ ended line ++ rest → LeavesText (λ l. l.now) line rest self.new result }
+        ensures exact { spec.ReadsBytes (λ l. l.now) self.old self.new result }
     {
         self.number = self.number.saturating_add(1);
         match first_end(self.left) {
@@ -70,7 +74,8 @@ impl<'a> TextLines<'a> {
 
     /// The next line, which is to be text.
     pub(crate) fn line(&mut self) -> Result<&'a str, TextFault>
-        ensures { (line : Text) (rest : Text) → IsLine line → self.old.left.now ≡ ended line ++ rest → LeavesText (λ l. l.now) line rest self.new result }
+        ensures complete { (line : Text) (rest : Text) → IsLine line → self.old.left.now ≡ ended line ++ rest → LeavesText (λ l. l.now) line rest self.new result }
+        ensures exact { spec.ReadsText (λ l. l.now) self.old self.new result }
     {
         match str::from_utf8(self.bytes()?) {
             Ok(line) => Ok(line),
@@ -80,7 +85,8 @@ impl<'a> TextLines<'a> {
 
     /// That the next line is this one, for else it is refused so.
     pub(crate) fn expect(&mut self, line: &[u8], reason: TextReason) -> Result<(), TextFault>
-        ensures { (rest : Text) → lacks 10 line.now ≡ true → self.old.left.now ≡ ended line.now ++ rest → LeavesText (λ u. u) tt rest self.new result }
+        ensures complete { (rest : Text) → lacks 10 line.now ≡ true → self.old.left.now ≡ ended line.now ++ rest → LeavesText (λ u. u) tt rest self.new result }
+        ensures exact { spec.Finds line.now reason self.old self.new result }
     {
         if self.bytes()? == line {
             Ok(())
@@ -91,7 +97,8 @@ impl<'a> TextLines<'a> {
 
     /// That no byte is left; the line behind the last is refused for it.
     fn end(&mut self) -> Result<(), TextFault>
-        ensures { self.old.left.now ≡ [] → result ≡ Ok tt }
+        ensures complete { self.old.left.now ≡ [] → result ≡ Ok tt }
+        ensures exact { MatchResult result (λ u. self.old.left.now ≡ []) (λ fault. (self.old.left.now ≡ [] → ⊥) × (fault ≡ spec.refused (spec.counted_on self.old.number 1) OtherForm)) }
     {
         if self.left.is_empty() {
             return Ok(());
@@ -102,7 +109,8 @@ impl<'a> TextLines<'a> {
 
     /// That the next line is the last, and says that the text ends.
     pub(crate) fn finish(&mut self) -> Result<(), TextFault>
-        ensures { self.old.left.now ≡ ended (codes "end") → UnlessMemory (λ u. u ≡ tt) result }
+        ensures complete { self.old.left.now ≡ ended (codes "end") → UnlessMemory (λ u. u ≡ tt) result }
+        ensures exact { spec.Ends self.old result }
     {
         self.expect(b"end", TextReason::OtherForm)?;
         self.end()

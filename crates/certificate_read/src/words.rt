@@ -1,11 +1,8 @@
 //! The words of a line, read one after the other.
 
-ghost use Rattle.std.specs.Prelude.{◌≡◌, ◌==◌, ◌∷◌, [], List, map, Ok, true, IfOk};
-ghost use Rattle.std.specs.List.{slice_split};
-ghost use Rattle.certificate_parts.specs.Parts.{IsShort, AreShort};
-ghost use Rattle.certificate_text.specs.CertificateText.{Text};
-ghost use Rattle.certificate_text.specs.Readable.{AreAggregations, AreColumns, AreConjuncts};
+ghost use Rattle.std.specs.Prelude.{◌≡◌, List, map, true, false, IfOk};
 ghost use Rattle.certificate_read.specs.WordReading as spec;
+ghost use Rattle.certificate_read.specs.Wordings.{left_words, EndsLine, PassesWord, ReadsWords};
 
 use crate::line_fault::LineFault;
 use algebra::{Aggregations, Columns, Conjuncts};
@@ -19,7 +16,7 @@ use std::alloc::{AllocError, Global};
 
 /// The words of a line, which single spaces stand between.
 pub(crate) fn words_of(alloc: Global, line: &str) -> Result<Vec<&str>, AllocError>
-    ensures { IfOk result (λ words. map (λ word. word.now) words.items ≡ slice_split (λ b. b == 32) line.now) }
+    ensures { IfOk result (λ words. map (λ word. word.now) words.items ≡ spec.words_in line.now) }
 {
     line.split(' ').collect(alloc)
 }
@@ -34,7 +31,7 @@ pub(crate) struct Words<'a> {
 
 impl<'a> Words<'a> {
     pub(crate) fn of(words: &'a [&'a str]) -> Words<'a>
-        ensures left { spec.left_words result ≡ map (λ word. word.now) words.now }
+        ensures left { left_words result ≡ map (λ word. word.now) words.now }
         ensures in_range { result.in_range ≡ true }
     {
         Words {
@@ -44,7 +41,7 @@ impl<'a> Words<'a> {
     }
 
     pub(crate) fn word(&mut self) -> Result<&'a str, LineFault>
-        ensures { (word : Text) (rest : List Text) → spec.left_words self.old ≡ word ∷ rest → spec.Leaves (λ w. w.now) word rest self.old self.new result }
+        ensures { PassesWord (λ w. w.now) self.old self.new result }
     {
         match self.left {
             [word, left @ ..] => {
@@ -57,7 +54,7 @@ impl<'a> Words<'a> {
 
     /// That the line ends here. It is refused for the limit that it isn't within, and else for a number past its range.
     pub(crate) fn end(self, is_within: bool) -> Result<(), LineFault>
-        ensures { spec.left_words self.entry ≡ [] → self.entry.in_range ≡ true → is_within ≡ true → result ≡ Ok tt }
+        ensures { EndsLine self.entry is_within result }
     {
         if !self.left.is_empty() {
             return Err(LineFault::OtherForm);
@@ -73,12 +70,15 @@ impl<'a> Words<'a> {
     }
 
     /// Notes that a number is past its range.
-    pub(crate) fn passes_range(&mut self) {
+    pub(crate) fn passes_range(&mut self)
+        ensures left { left_words self.new ≡ left_words self.old }
+        ensures in_range { self.new.in_range ≡ false }
+    {
         self.in_range = false;
     }
 
     pub(crate) fn number(&mut self) -> Result<u32, LineFault>
-        ensures { spec.ReadsWords spec.number_words IsShort self.old self.new result }
+        ensures { ReadsWords spec.number_wording (λ x. x) self.old self.new result }
     {
         match number(self.word()?)? {
             Some(number) => Ok(number),
@@ -90,7 +90,7 @@ impl<'a> Words<'a> {
     }
 
     pub(crate) fn numbers(&mut self, alloc: Global) -> Result<Numbers, LineFault>
-        ensures { spec.ReadsWords spec.numbers_words AreShort self.old self.new result }
+        ensures { ReadsWords spec.numbers_wording (λ x. x) self.old self.new result }
     {
         match numbers(alloc, self.word()?)? {
             Some(numbers) => Ok(Numbers::from_slice(alloc, numbers.as_slice())?),
@@ -102,7 +102,7 @@ impl<'a> Words<'a> {
     }
 
     pub(crate) fn columns(&mut self, alloc: Global) -> Result<Columns, LineFault>
-        ensures { spec.ReadsWords spec.numbers_words AreColumns self.old self.new result }
+        ensures { ReadsWords spec.columns_wording (λ x. x) self.old self.new result }
     {
         match columns(alloc, self.word()?)? {
             Some(columns) => Ok(columns),
@@ -114,7 +114,7 @@ impl<'a> Words<'a> {
     }
 
     pub(crate) fn aggregations(&mut self, alloc: Global) -> Result<Aggregations, LineFault>
-        ensures { spec.ReadsWords spec.aggregations_words AreAggregations self.old self.new result }
+        ensures { ReadsWords spec.aggregations_wording (λ x. x) self.old self.new result }
     {
         match aggregations(alloc, self.word()?)? {
             Some(added) => Ok(added),
@@ -126,7 +126,7 @@ impl<'a> Words<'a> {
     }
 
     pub(crate) fn conjuncts(&mut self, alloc: Global) -> Result<Conjuncts, LineFault>
-        ensures { spec.ReadsWords spec.conjuncts_words AreConjuncts self.old self.new result }
+        ensures { ReadsWords spec.conjuncts_wording (λ x. x) self.old self.new result }
     {
         match conjuncts(alloc, self.word()?, MOST_NESTED)? {
             Some(conjuncts) => Ok(conjuncts),
@@ -139,7 +139,7 @@ impl<'a> Words<'a> {
 
     /// The conditions and the two classes of a join.
     pub(crate) fn sides(&mut self, alloc: Global) -> Result<(Conjuncts, u32, u32), LineFault>
-        ensures { spec.ReadsWords spec.sides_words spec.AreSides self.old self.new result }
+        ensures { ReadsWords spec.sides_wording (λ s. (s.0, s.1.0, s.1.1)) self.old self.new result }
     {
         let conjuncts = self.conjuncts(alloc)?;
         let left = self.number()?;

@@ -1,24 +1,19 @@
-use Rattle.std.proofs.Common.{◌∙◌, ◌==◌, [], ap, refl}
-use Rattle.std.specs.List.{slice_split}
-use Rattle.certificate_parts.proofs.Exits.{not_both}
+use Rattle.std.proofs.Common.{◌∙◌, ap, subst, true}
 use Rattle.certificate_parts.proofs.NumberLists.{texts}
-use Rattle.certificate_read.proofs.LineTexts.{line_cut}
-use Rattle.certificate_read.proofs.WordCalls.{fails}
+use Rattle.certificate_read.specs.LineReading.{line_wording}
+use Rattle.certificate_read.specs.Wordings.{ReadsLine}
+use Rattle.certificate_read.proofs.LineLaws.{line_told}
+use Rattle.certificate_read.proofs.Wordings.{line_refused, end_refused, not_deep}
 use Rattle.certificate_read.proofs.derivation_lines.derivation_line.Goals as goal
 
 pub returns-in_err-line : goal.returns-in_err-line
-returns-in_err-line c = λ l h e.
-    let cut = c.of-words.ensures.left ∙ ap texts c.as_slice.ensures.value ∙ c.in_ok-parts.ensures ∙ ap (slice_split (λ b. b == 32)) e ∙ line_cut l h in
-    fails _ c.from_residual-in_err-line.result c.in_err-line.field-0.0 c.from_residual-in_err-line.ensures.1 (c.in_err-line.ensures l [] h cut)
+returns-in_err-line c =
+    let cut = c.of-words.ensures.left ∙ ap texts c.as_slice.ensures.value ∙ c.in_ok-parts.ensures in
+    subst (λ ws. ReadsLine line_wording (λ l. l) ws c.from_residual-in_err-line.result) cut
+    (not_deep line_wording (λ l. l) _ c.from_residual-in_err-line.result (line_refused line_wording true (λ l. l) c.of-words.result c.of-words.ensures.in_range c.from_residual-in_err-line.result c.in_err-line.field-0.0 c.from_residual-in_err-line.ensures.1 c.in_err-line.ensures))
 
 pub returns-in_err-end : goal.returns-in_err-end
-returns-in_err-end c = λ l h e.
-    let cut = c.of-words.ensures.left ∙ ap texts c.as_slice.ensures.value ∙ c.in_ok-parts.ensures ∙ ap (slice_split (λ b. b == 32)) e ∙ line_cut l h in
-    let read = c.in_ok-line.ensures l [] h cut in
-    absurd (not_both c.end.result _ _ c.in_err-end.was (c.end.ensures read.1 (read.2 ∙ c.of-words.ensures.in_range) refl))
-
-pub returns : goal.returns
-returns c = λ l h e.
-    let cut = c.of-words.ensures.left ∙ ap texts c.as_slice.ensures.value ∙ c.in_ok-parts.ensures ∙ ap (slice_split (λ b. b == 32)) e ∙ line_cut l h in
-    let read = c.in_ok-line.ensures l [] h cut in
-    read.0
+returns-in_err-end c =
+    let cut = c.of-words.ensures.left ∙ ap texts c.as_slice.ensures.value ∙ c.in_ok-parts.ensures in
+    subst (λ ws. ReadsLine line_wording (λ l. l) ws c.from_residual-in_err-end.result) cut
+    (not_deep line_wording (λ l. l) _ c.from_residual-in_err-end.result (end_refused line_wording true (λ l. l) c.of-words.result c.of-words.ensures.in_range line_told c.line_of.new.words c.in_ok-line.line c.in_ok-line.ensures c.from_residual-in_err-end.result c.in_err-end.field-0.0 c.from_residual-in_err-end.ensures.1 c.in_err-end.ensures))

@@ -1,47 +1,41 @@
-use Rattle.std.proofs.Common.{◌∙◌, ◌∷◌, ◌++◌, sym, ap, decimal}
+use Rattle.std.proofs.Common.{◌≡◌, refl}
 use Rattle.physical.specs.declared.plan.Operator.TheVariants.{IndexJoin}
-use Rattle.certificate_text.specs.CertificateText.{kind_text}
-use Rattle.certificate_read.specs.NodeReading.{kind_of, lists_words}
-use Rattle.certificate_read.proofs.NodeWords.{kind_same}
-use Rattle.certificate_read.proofs.WordCalls.{fails}
+use Rattle.certificate_read.specs.declared.node_forms.OperatorForm.TheVariants as operator
+use Rattle.certificate_read.specs.NodeReading.{kind_name, operator_of, lists_behind, matching_of, index_join_behind}
+use Rattle.certificate_read.specs.WordReading.{number_wording}
+use Rattle.certificate_read.specs.Wordings.{◌␣◌, left_words, named}
+use Rattle.certificate_read.proofs.NodeLaws.{kind_names}
+use Rattle.certificate_read.proofs.WordLaws.{number_told}
+use Rattle.certificate_read.proofs.Wordings.{first_refused, second_refused, handed_on, behind_passes, behind_refused, passes_both}
 use Rattle.certificate_read.proofs.nodes.index_join.Goals as goal
 
-pub returns-in_err-kind : goal.returns-in_err-kind
-returns-in_err-kind c = λ a j rest ha hj e.
-    let first = c.in_ok-line.ensures a.line (kind_text j ∷ decimal a.instance ∷ decimal a.index ∷ (lists_words j ++ rest)) ha.0 e in
-    let begins = first.1 ∙ ap (λ k. k ∷ (decimal a.instance ∷ decimal a.index ∷ (lists_words j ++ rest))) (kind_same j) in
-    fails _ c.from_residual-in_err-kind.result c.in_err-kind.field-0.0 c.from_residual-in_err-kind.ensures.1 (c.in_err-kind.ensures (kind_of j) (decimal a.instance ∷ decimal a.index ∷ (lists_words j ++ rest)) tt begins)
-
 pub returns-in_err-instance : goal.returns-in_err-instance
-returns-in_err-instance c = λ a j rest ha hj e.
-    let first = c.in_ok-line.ensures a.line (kind_text j ∷ decimal a.instance ∷ decimal a.index ∷ (lists_words j ++ rest)) ha.0 e in
-    let begins = first.1 ∙ ap (λ k. k ∷ (decimal a.instance ∷ decimal a.index ∷ (lists_words j ++ rest))) (kind_same j) in
-    let second = c.in_ok-kind.ensures (kind_of j) (decimal a.instance ∷ decimal a.index ∷ (lists_words j ++ rest)) tt begins in
-    fails _ c.from_residual-in_err-instance.result c.in_err-instance.field-0.0 c.from_residual-in_err-instance.ensures.1 (c.in_err-instance.ensures a.instance (decimal a.index ∷ (lists_words j ++ rest)) ha.1 second.1)
+returns-in_err-instance c =
+    handed_on (number_wording ␣ named kind_name index_join_behind) (λ p. (operator_of operator.IndexJoin p).0) c.args.words.now c.number-2.new.self c.from_residual-in_err-instance.result c.in_err-instance.field-0.0 c.from_residual-in_err-instance.ensures.1
+    (second_refused number_wording (named kind_name index_join_behind) number_told (λ x. c.in_ok-line.line ≡ x) c.args.words.now c.number.new.self c.in_err-instance.field-0.0 c.in_ok-line.ensures
+    (behind_refused kind_name index_join_behind c.number.new.self c.kind_form.new.words c.in_ok-kind.kind c.in_ok-kind.kind refl c.in_ok-kind.ensures.0 c.in_ok-kind.ensures.1 kind_names c.in_err-instance.field-0.0
+    (first_refused number_wording (number_wording ␣ lists_behind c.in_ok-kind.kind) (left_words c.kind_form.new.words) c.in_err-instance.field-0.0 c.in_err-instance.ensures)))
 
 pub returns-in_err-index : goal.returns-in_err-index
-returns-in_err-index c = λ a j rest ha hj e.
-    let first = c.in_ok-line.ensures a.line (kind_text j ∷ decimal a.instance ∷ decimal a.index ∷ (lists_words j ++ rest)) ha.0 e in
-    let begins = first.1 ∙ ap (λ k. k ∷ (decimal a.instance ∷ decimal a.index ∷ (lists_words j ++ rest))) (kind_same j) in
-    let second = c.in_ok-kind.ensures (kind_of j) (decimal a.instance ∷ decimal a.index ∷ (lists_words j ++ rest)) tt begins in
-    let third = c.in_ok-instance.ensures a.instance (decimal a.index ∷ (lists_words j ++ rest)) ha.1 second.1 in
-    fails _ c.from_residual-in_err-index.result c.in_err-index.field-0.0 c.from_residual-in_err-index.ensures.1 (c.in_err-index.ensures a.index (lists_words j ++ rest) ha.2 third.1)
+returns-in_err-index c =
+    handed_on (number_wording ␣ named kind_name index_join_behind) (λ p. (operator_of operator.IndexJoin p).0) c.args.words.now c.number-3.new.self c.from_residual-in_err-index.result c.in_err-index.field-0.0 c.from_residual-in_err-index.ensures.1
+    (second_refused number_wording (named kind_name index_join_behind) number_told (λ x. c.in_ok-line.line ≡ x) c.args.words.now c.number.new.self c.in_err-index.field-0.0 c.in_ok-line.ensures
+    (behind_refused kind_name index_join_behind c.number.new.self c.kind_form.new.words c.in_ok-kind.kind c.in_ok-kind.kind refl c.in_ok-kind.ensures.0 c.in_ok-kind.ensures.1 kind_names c.in_err-index.field-0.0
+    (second_refused number_wording (number_wording ␣ lists_behind c.in_ok-kind.kind) number_told (λ x. c.in_ok-instance.instance ≡ x) c.kind_form.new.words c.number-2.new.self c.in_err-index.field-0.0 c.in_ok-instance.ensures
+    (first_refused number_wording (lists_behind c.in_ok-kind.kind) (left_words c.number-2.new.self) c.in_err-index.field-0.0 c.in_err-index.ensures))))
 
 pub returns-in_err-matching : goal.returns-in_err-matching
-returns-in_err-matching c = λ a j rest ha hj e.
-    let first = c.in_ok-line.ensures a.line (kind_text j ∷ decimal a.instance ∷ decimal a.index ∷ (lists_words j ++ rest)) ha.0 e in
-    let begins = first.1 ∙ ap (λ k. k ∷ (decimal a.instance ∷ decimal a.index ∷ (lists_words j ++ rest))) (kind_same j) in
-    let second = c.in_ok-kind.ensures (kind_of j) (decimal a.instance ∷ decimal a.index ∷ (lists_words j ++ rest)) tt begins in
-    let third = c.in_ok-instance.ensures a.instance (decimal a.index ∷ (lists_words j ++ rest)) ha.1 second.1 in
-    let fourth = c.in_ok-index.ensures a.index (lists_words j ++ rest) ha.2 third.1 in
-    fails _ c.from_residual-in_err-matching.result c.in_err-matching.field-0.0 c.from_residual-in_err-matching.ensures.1 (c.in_err-matching.ensures j rest (sym second.0) hj fourth.1)
+returns-in_err-matching c =
+    handed_on (number_wording ␣ named kind_name index_join_behind) (λ p. (operator_of operator.IndexJoin p).0) c.args.words.now c.matching.new.words c.from_residual-in_err-matching.result c.in_err-matching.field-0.0 c.from_residual-in_err-matching.ensures.1
+    (second_refused number_wording (named kind_name index_join_behind) number_told (λ x. c.in_ok-line.line ≡ x) c.args.words.now c.number.new.self c.in_err-matching.field-0.0 c.in_ok-line.ensures
+    (behind_refused kind_name index_join_behind c.number.new.self c.kind_form.new.words c.in_ok-kind.kind c.in_ok-kind.kind refl c.in_ok-kind.ensures.0 c.in_ok-kind.ensures.1 kind_names c.in_err-matching.field-0.0
+    (second_refused number_wording (number_wording ␣ lists_behind c.in_ok-kind.kind) number_told (λ x. c.in_ok-instance.instance ≡ x) c.kind_form.new.words c.number-2.new.self c.in_err-matching.field-0.0 c.in_ok-instance.ensures
+    (second_refused number_wording (lists_behind c.in_ok-kind.kind) number_told (λ x. c.in_ok-index.index ≡ x) c.number-2.new.self c.number-3.new.self c.in_err-matching.field-0.0 c.in_ok-index.ensures c.in_err-matching.ensures))))
 
 pub returns : goal.returns
-returns c = λ a j rest ha hj e.
-    let first = c.in_ok-line.ensures a.line (kind_text j ∷ decimal a.instance ∷ decimal a.index ∷ (lists_words j ++ rest)) ha.0 e in
-    let begins = first.1 ∙ ap (λ k. k ∷ (decimal a.instance ∷ decimal a.index ∷ (lists_words j ++ rest))) (kind_same j) in
-    let second = c.in_ok-kind.ensures (kind_of j) (decimal a.instance ∷ decimal a.index ∷ (lists_words j ++ rest)) tt begins in
-    let third = c.in_ok-instance.ensures a.instance (decimal a.index ∷ (lists_words j ++ rest)) ha.1 second.1 in
-    let fourth = c.in_ok-index.ensures a.index (lists_words j ++ rest) ha.2 third.1 in
-    let fifth = c.in_ok-matching.ensures j rest (sym second.0) hj fourth.1 in
-    (λ i. IndexJoin (record { line = first.0 i; instance = third.0 i; index = fourth.0 i }) (fifth.0 i), fifth.1, fifth.2 ∙ fourth.2 ∙ third.2 ∙ second.2 ∙ first.2)
+returns c =
+    passes_both number_wording (named kind_name index_join_behind) (λ x. c.in_ok-line.line ≡ x) (λ j. (c.in_ok-instance.instance ≡ j.1.0) × (c.in_ok-index.index ≡ j.1.1.0) × (c.in_ok-matching.matching ≡ matching_of j.0 j.1.1.1))
+    (λ p. IndexJoin (record { line = c.in_ok-line.line; instance = c.in_ok-instance.instance; index = c.in_ok-index.index }) c.in_ok-matching.matching ≡ (operator_of operator.IndexJoin p).0) c.args.words.now c.number.new.self c.matching.new.words (λ x j e f i. IndexJoin (record { line = e i; instance = f.0 i; index = f.1 i }) (f.2 i)) c.in_ok-line.ensures
+    (behind_passes kind_name index_join_behind c.number.new.self c.kind_form.new.words c.in_ok-kind.kind c.in_ok-kind.kind refl c.in_ok-kind.ensures.0 c.in_ok-kind.ensures.1 (λ p. (c.in_ok-instance.instance ≡ p.0) × (c.in_ok-index.index ≡ p.1.0) × (c.in_ok-matching.matching ≡ matching_of c.in_ok-kind.kind p.1.1)) (λ j. (c.in_ok-instance.instance ≡ j.1.0) × (c.in_ok-index.index ≡ j.1.1.0) × (c.in_ok-matching.matching ≡ matching_of j.0 j.1.1.1)) c.matching.new.words (λ p e. e)
+    (passes_both number_wording (number_wording ␣ lists_behind c.in_ok-kind.kind) (λ x. c.in_ok-instance.instance ≡ x) (λ q. (c.in_ok-index.index ≡ q.0) × (c.in_ok-matching.matching ≡ matching_of c.in_ok-kind.kind q.1)) (λ p. (c.in_ok-instance.instance ≡ p.0) × (c.in_ok-index.index ≡ p.1.0) × (c.in_ok-matching.matching ≡ matching_of c.in_ok-kind.kind p.1.1)) c.kind_form.new.words c.number-2.new.self c.matching.new.words (λ x q e f. (e, f.0, f.1)) c.in_ok-instance.ensures
+    (passes_both number_wording (lists_behind c.in_ok-kind.kind) (λ x. c.in_ok-index.index ≡ x) (λ l. c.in_ok-matching.matching ≡ matching_of c.in_ok-kind.kind l) (λ q. (c.in_ok-index.index ≡ q.0) × (c.in_ok-matching.matching ≡ matching_of c.in_ok-kind.kind q.1)) c.number-2.new.self c.number-3.new.self c.matching.new.words (λ x l e f. (e, f)) c.in_ok-index.ensures c.in_ok-matching.ensures)))

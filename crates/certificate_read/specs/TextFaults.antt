@@ -1,0 +1,193 @@
+-- The first faulty line of a text, and why it is refused.
+use Rattle.std.specs.Prelude.{◌≡◌, ◌⊎◌, ℕ, zero, suc, ◌+◌, ◌-◌, ◌<◌, ◌≤◌, ◌^◌, min, nat_le, true, List, [], ◌∷◌, ◌++◌, length, map, flat_map, sum, codes, decimal, Result, Ok, Err, Option, Some, None, MatchResult, IsUtf8}
+use Rattle.std.specs.List.{AllByRecursion}
+use Rattle.values.specs.declared.fault.Fault.{Fault}
+use Rattle.values.specs.declared.fault.Fault.TheVariants.{Memory, Refused}
+use Rattle.derivation.specs.declared.line.Line.{Line}
+use Rattle.physical.specs.declared.plan.Node.{Node}
+use Rattle.certificate_parts.specs.Numerals.{numeral}
+use Rattle.certificate_parts.specs.PartTexts.{lacks}
+use Rattle.certificate_text.specs.declared.fault.TextReason.{TextReason}
+use Rattle.certificate_text.specs.declared.fault.TextReason.TheVariants.{OtherVersion, OtherForm, OutOfRange, BrokenOff, OverLimit}
+use Rattle.certificate_text.specs.declared.fault.TextRefusal.{TextRefusal}
+use Rattle.certificate_text.specs.CertificateText.{Text, ◌␣◌, ended, line_words, node_words}
+use Rattle.certificate_text.specs.Limits.{most_lines, most_nodes, most_deep}
+use Rattle.certificate_text.specs.Readable.{IsReadableLine, IsReadableNode}
+use Rattle.certificate_read.specs.declared.line_fault.LineFault.{LineFault}
+use Rattle.certificate_read.specs.declared.line_fault.LineFault.TheVariants as line_fault
+use Rattle.certificate_read.specs.declared.text_lines.TextLines.{TextLines}
+use Rattle.certificate_read.specs.LineReading.{line_wording}
+use Rattle.certificate_read.specs.NodeReading.{node_wording}
+use Rattle.certificate_read.specs.TextReading.{IsBalanced}
+use Rattle.certificate_read.specs.WordReading.{words_in}
+use Rattle.certificate_read.specs.Wordings as wordings
+use Rattle.certificate_read.specs.Wordings.{Wording}
+
+-- ---- lines
+
+-- the number of the line so many behind another, as far as it can be counted
+abbrev pub counted_on : ℕ → ℕ → ℕ
+counted_on number lines = min (number + lines) (2 ^ 64 - 1)
+
+-- the call passes this line
+abbrev pub PassesLine : Text → TextLines → TextLines → Type 0
+PassesLine line old new = (old.left.now ≡ ended line ++ new.left.now) × (new.number ≡ counted_on old.number 1)
+
+-- the call passes these lines
+abbrev pub PassesLines : List Text → TextLines → TextLines → Type 0
+PassesLines lines old new = (old.left.now ≡ flat_map ended lines ++ new.left.now) × (new.number ≡ counted_on old.number (length lines))
+
+-- the next line of what is left is broken off, or it is refused so
+abbrev pub IsNextFault : (Text → TextReason → Type 0) → Text → ℕ → TextRefusal → Type 0
+IsNextFault IsRefused left number r =
+    (r.line ≡ counted_on number 1)
+    × (((lacks 10 left ≡ true) × (r.reason ≡ BrokenOff)) ⊎ ((line : Text) × (rest : Text) × (left ≡ ended line ++ rest) × (lacks 10 line ≡ true) × IsRefused line r.reason))
+
+-- so is the one behind these lines
+abbrev pub IsFaultBehind : List Text → (Text → TextReason → Type 0) → Text → ℕ → TextRefusal → Type 0
+IsFaultBehind lines IsRefused left number r = (rest : Text) × (left ≡ flat_map ended lines ++ rest) × IsNextFault IsRefused rest (counted_on number (length lines)) r
+
+-- ---- why a line is refused
+
+abbrev pub refused : ℕ → TextReason → Fault TextRefusal
+refused line reason = Refused (record { line = line; reason = reason })
+
+-- nothing where memory ran out
+abbrev pub reason_of : LineFault → Option TextReason
+reason_of line_fault.Memory = None
+reason_of line_fault.OtherForm = Some OtherForm
+reason_of line_fault.OutOfRange = Some OutOfRange
+reason_of line_fault.OverLimit = Some OverLimit
+
+-- the fault of a line as one of the text
+abbrev pub fault_for : Option TextReason → ℕ → Fault TextRefusal
+fault_for None line = Memory
+fault_for (Some reason) line = refused line reason
+
+abbrev pub text_fault_of : LineFault → ℕ → Fault TextRefusal
+text_fault_of fault line = fault_for (reason_of fault) line
+
+-- it isn't the line that is wanted there
+abbrev pub IsNot : Text → TextReason → Text → TextReason → Type 0
+IsNot wanted why line reason = (line ≡ wanted → ⊥) × (reason ≡ why)
+
+-- its words aren't those of a value, or they are over a limit, or they are those of a value with a number past its range
+abbrev pub RefusesLine : {X : Type 0} → Wording X → List Text → TextReason → Type 0
+RefusesLine {X = X} W ws OtherForm = ((x : X) → W.Is x → ws ≡ W.words x → ⊥) × (W.IsOver ws → ⊥)
+RefusesLine W ws OverLimit = W.IsOver ws
+RefusesLine {X = X} W ws OutOfRange = (x : X) × (ws ≡ W.words x) × W.Is x × (W.IsInRange x → ⊥)
+RefusesLine W ws OtherVersion = ⊥
+RefusesLine W ws BrokenOff = ⊥
+
+-- it is no text, or its words are refused
+abbrev pub IsOther : {X : Type 0} → Wording X → Text → TextReason → Type 0
+IsOther W line reason = ((IsUtf8 line → ⊥) × (reason ≡ OtherForm)) ⊎ (IsUtf8 line × RefusesLine W (words_in line) reason)
+
+-- it isn't the word and a number that is at least so large, or the number is larger than may be
+abbrev pub IsOtherCount : Text → ℕ → ℕ → Text → TextReason → Type 0
+IsOtherCount word least most line reason =
+    (((n : ℕ) → least ≤ n → line ≡ word ␣ numeral n → ⊥) × (reason ≡ OtherForm)) ⊎ ((n : ℕ) × (line ≡ word ␣ numeral n) × (most < n) × (reason ≡ OverLimit))
+
+-- ---- what a call reads of the next line
+
+-- the call refuses the next line so, and does nothing else
+abbrev pub RefusesNext : (Text → TextReason → Type 0) → TextLines → Fault TextRefusal → Type 0
+RefusesNext IsRefused old Memory = ⊥
+RefusesNext IsRefused old (Refused r) = IsNextFault IsRefused old.left.now old.number r
+
+-- the call passes the next line, as view shows it, which may only be broken off
+abbrev pub ReadsBytes : {V : Type 0} → (V → Text) → TextLines → TextLines → Result V (Fault TextRefusal) → Type 0
+ReadsBytes view old new result = MatchResult result (λ l. PassesLine (view l) old new × (lacks 10 (view l) ≡ true)) (λ fault. RefusesNext (λ line reason. ⊥) old fault)
+
+-- the same of a line that is to be text
+abbrev pub ReadsText : {V : Type 0} → (V → Text) → TextLines → TextLines → Result V (Fault TextRefusal) → Type 0
+ReadsText view old new result = MatchResult result (λ l. PassesLine (view l) old new × (lacks 10 (view l) ≡ true) × IsUtf8 (view l)) (λ fault. RefusesNext (λ line reason. (IsUtf8 line → ⊥) × (reason ≡ OtherForm)) old fault)
+
+-- the call passes a line that is known
+abbrev pub Finds : Text → TextReason → TextLines → TextLines → Result Unit (Fault TextRefusal) → Type 0
+Finds line why old new result = MatchResult result (λ u. PassesLine line old new) (λ fault. RefusesNext (IsNot line why) old fault)
+
+-- ---- the nodes of a plan, each before its inputs
+
+-- How many inputs are wanted on each level, the deepest first, where some are. So many levels are from the root down to the next node.
+abbrev pub some_wanted : List ℕ → List ℕ
+some_wanted [] = []
+some_wanted (zero ∷ ws) = some_wanted ws
+some_wanted (suc w ∷ ws) = suc w ∷ ws
+
+-- behind a node with so many inputs, which is an input on the deepest level
+abbrev pub wanted_behind : ℕ → List ℕ → List ℕ
+wanted_behind inputs [] = []
+wanted_behind inputs (w ∷ ws) = some_wanted (inputs ∷ (w - 1) ∷ ws)
+
+-- from so many nodes that are counted and inputs that are wanted, nodes lead to others. Each is within the limits, and behind it the plan can have its size
+abbrev pub LeadsTo : List ℕ → ℕ → List (Node × ℕ) → List ℕ → ℕ → Type 0
+LeadsTo ws counted [] after left = (ws ≡ after) × (counted ≡ left)
+LeadsTo ws counted (n ∷ ns) after left =
+    IsReadableNode n.0 n.1 × (0 < length ws) × (length ws ≤ most_deep) × IsBalanced (counted - 1) (sum (wanted_behind n.1 ws)) × LeadsTo (wanted_behind n.1 ws) (counted - 1) ns after left
+
+abbrev pub nodes_words : List (Node × ℕ) → List Text
+nodes_words ns = map (λ n. node_words n.0 n.1) ns
+
+-- the next node isn't one, or isn't within the limits, or the plan can't have its size behind it
+abbrev pub IsOtherNode : List ℕ → ℕ → Text → TextReason → Type 0
+IsOtherNode ws counted line reason =
+    IsOther (wordings.deep (nat_le (length ws) most_deep) node_wording) line reason
+    ⊎ ((n : Node) × (inputs : ℕ) × (line ≡ node_words n inputs) × IsReadableNode n inputs × (length ws ≤ most_deep) × (IsBalanced (counted - 1) (sum (wanted_behind inputs ws)) → ⊥) × (reason ≡ OtherForm))
+
+-- behind nodes of a plan
+abbrev pub IsFaultOfNodes : List ℕ → ℕ → Text → ℕ → TextRefusal → Type 0
+IsFaultOfNodes ws counted left number r = (ns : List (Node × ℕ)) × (after : List ℕ) × (more : ℕ) × LeadsTo ws counted ns after more × (0 < length after) × IsFaultBehind (nodes_words ns) (IsOtherNode after more) left number r
+
+-- ---- the sections of a text
+
+abbrev pub version : Text
+version = codes "SQLPLAN 1"
+
+abbrev pub derivation_lines : ℕ → List Line → List Text
+derivation_lines count ls = (codes "lines" ␣ decimal count) ∷ map line_words ls
+
+abbrev pub AreDerivation : List Line → Type 0
+AreDerivation ls = AllByRecursion IsReadableLine ls × (length ls ≤ most_lines)
+
+abbrev pub IsFaultOfDerivation : Text → ℕ → TextRefusal → Type 0
+IsFaultOfDerivation left number r =
+    IsNextFault (IsOtherCount (codes "lines") 0 most_lines) left number r
+    ⊎ ((count : ℕ) × (ls : List Line) × AllByRecursion IsReadableLine ls × (length ls < count) × (count ≤ most_lines) × IsFaultBehind (derivation_lines count ls) (IsOther line_wording) left number r)
+
+abbrev pub plan_lines : ℕ → List (Node × ℕ) → List Text
+plan_lines count ns = (codes "plan" ␣ decimal count) ∷ nodes_words ns
+
+-- nodes of a whole plan
+abbrev pub ArePlan : ℕ → List (Node × ℕ) → Type 0
+ArePlan count ns = (0 < count) × (count ≤ most_nodes) × LeadsTo (1 ∷ []) count ns [] 0
+
+abbrev pub IsFaultOfPlan : Text → ℕ → TextRefusal → Type 0
+IsFaultOfPlan left number r =
+    IsNextFault (IsOtherCount (codes "plan") 1 most_nodes) left number r
+    ⊎ ((count : ℕ) × (rest : Text) × (0 < count) × (count ≤ most_nodes) × (left ≡ ended (codes "plan" ␣ decimal count) ++ rest) × IsFaultOfNodes (1 ∷ []) count rest (counted_on number 1) r)
+
+-- behind the plan stands the line that ends the text, and behind that nothing
+abbrev pub IsFaultOfEnd : Text → ℕ → TextRefusal → Type 0
+IsFaultOfEnd left number r =
+    IsNextFault (IsNot (codes "end") OtherForm) left number r
+    ⊎ ((rest : Text) × (left ≡ ended (codes "end") ++ rest) × (rest ≡ [] → ⊥) × (r ≡ record { line = counted_on number 2; reason = OtherForm }))
+
+-- what is told of the text behind these lines
+abbrev pub Behind : List Text → (Text → ℕ → TextRefusal → Type 0) → Text → ℕ → TextRefusal → Type 0
+Behind lines Is left number r = (rest : Text) × (left ≡ flat_map ended lines ++ rest) × Is rest (counted_on number (length lines)) r
+
+-- The first faulty line: that of the version, one of the derivation behind it, one of the plan behind these, or that of the end or what is behind it.
+abbrev pub IsFirstFault : Text → TextRefusal → Type 0
+IsFirstFault text r =
+    IsNextFault (IsNot version OtherVersion) text 0 r
+    ⊎ (Behind (version ∷ []) IsFaultOfDerivation text 0 r
+    ⊎ ((ls : List Line) × AreDerivation ls
+    × (Behind (version ∷ derivation_lines (length ls) ls) IsFaultOfPlan text 0 r
+    ⊎ ((count : ℕ) × (ns : List (Node × ℕ)) × ArePlan count ns × Behind ((version ∷ derivation_lines (length ls) ls) ++ plan_lines count ns) IsFaultOfEnd text 0 r))))
+
+-- the text ends where the call is made
+abbrev pub Ends : TextLines → Result Unit (Fault TextRefusal) → Type 0
+Ends old (Ok u) = old.left.now ≡ ended (codes "end")
+Ends old (Err Memory) = ⊥
+Ends old (Err (Refused r)) = IsFaultOfEnd old.left.now old.number r
