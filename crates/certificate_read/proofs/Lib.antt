@@ -1,3 +1,4 @@
+pub mod DerivationLines
 pub mod KeyTexts
 pub mod LineLaws
 pub mod LineTexts
@@ -5,8 +6,11 @@ pub mod NodeLaws
 pub mod NodeTexts
 pub mod PartWords
 pub mod PlanNodes
+pub mod ReadBack
+pub mod TextCounts
 pub mod TextCuts
 pub mod TextLists
+pub mod TextSteps
 pub mod WideConjuncts
 pub mod WordCalls
 pub mod WordLaws

@@ -12,14 +12,14 @@ pub inputs_within-loop-done-init : goal.inputs_within-loop-done-init
 inputs_within-loop-done-init t c = λ ps k w rest h count wanted balanced e.
     ((ps, (h, ap (λ inputs. inputs ++ ps) (sym c.new-inputs.ensures), e, ap length c.new-inputs.ensures)), wanted)
 
-pub inputs_within-returns-in_err-plan_within : goal.inputs_within-returns-in_err-plan_within
-inputs_within-returns-in_err-plan_within t c = λ ps k w rest h count room wanted balanced e.
+pub inputs_within-returns-in_err-plan_within-clause-complete : goal.inputs_within-returns-in_err-plan_within-clause-complete
+inputs_within-returns-in_err-plan_within-clause-complete t c = λ ps k w rest h count room wanted balanced e.
     let within = subst (λ room. AllByRecursion (IsReadablePlan room) ps) (sym c.in-Some.ensures.1) h in
     let left = c.loop-done.invariant ps k w rest within count wanted balanced e in
     let below : c.loop-done._done < length ps = omega (arith, c.loop-done-test.true, count) in
     let next = so_far_next plan_text (IsReadablePlan c.in-Some.below) ps rest c.loop-done.text.left.now c.loop-done.inputs c.loop-done._done left.0 below in
     fails _ c.from_residual.result c.in_err-plan_within.field-0.0 c.from_residual.ensures.1
-    (c.in_err-plan_within.ensures next.0 (sum (map node_count next.1) + k) (w + length next.1) (flat_map plan_text next.1 ++ rest) next.3
+    (c.in_err-plan_within.ensures.complete next.0 (sum (map node_count next.1) + k) (w + length next.1) (flat_map plan_text next.1 ++ rest) next.3
     (next_wanted k w left.0.0 next.1 next.0 c.loop-done.wanted next.2 left.1) (inputs_balanced k w next.1 balanced) next.6)
 
 pub inputs_within-loop-done-preserved : goal.inputs_within-loop-done-preserved
@@ -27,7 +27,7 @@ inputs_within-loop-done-preserved t c = λ ps k w rest within count wanted balan
     let left = c.loop-done.invariant ps k w rest within count wanted balanced e in
     let below : c.loop-done._done < length ps = omega (arith, c.loop-done-test.true, count) in
     let next = so_far_next plan_text (IsReadablePlan c.in-Some.below) ps rest c.loop-done.text.left.now c.loop-done.inputs c.loop-done._done left.0 below in
-    let read = c.in_ok-plan_within.ensures next.0 (sum (map node_count next.1) + k) (w + length next.1) (flat_map plan_text next.1 ++ rest) next.3
+    let read = c.in_ok-plan_within.ensures.complete next.0 (sum (map node_count next.1) + k) (w + length next.1) (flat_map plan_text next.1 ++ rest) next.3
     (next_wanted k w left.0.0 next.1 next.0 c.loop-done.wanted next.2 left.1) (inputs_balanced k w next.1 balanced) next.6 in (
       (
         next.1,
@@ -37,34 +37,34 @@ inputs_within-loop-done-preserved t c = λ ps k w rest within count wanted balan
       read.2,
     )
 
-pub inputs_within-returns : goal.inputs_within-returns
-inputs_within-returns t c = λ ps k w rest h count room wanted balanced e.
+pub inputs_within-returns-clause-complete : goal.inputs_within-returns-clause-complete
+inputs_within-returns-clause-complete t c = λ ps k w rest h count room wanted balanced e.
     let within = subst (λ room. AllByRecursion (IsReadablePlan room) ps) (sym c.in-Some.ensures.1) h in
     let left = c.loop-done.invariant ps k w rest within count wanted balanced e in
     let whole = so_far_whole plan_text (IsReadablePlan c.in-Some.below) ps rest c.loop-done.text.left.now c.loop-done.inputs c.loop-done._done left.0 (omega (arith, c.loop-done-test.false, count)) in
     (whole.0, whole.1, none_wanted k w left.0.0 c.loop-done.wanted whole.2 left.1)
 
-pub plan_within-returns-in_err-node : goal.plan_within-returns-in_err-node
-plan_within-returns-in_err-node t c = λ p k w rest h wanted balanced e.
+pub plan_within-returns-in_err-node-clause-complete : goal.plan_within-returns-in_err-node-clause-complete
+plan_within-returns-in_err-node-clause-complete t c = λ p k w rest h wanted balanced e.
     let opened = plan_opened c.args.room p h in
     let inputs = (out-Plan p).inputs in
     fails _ c.from_residual.result c.in_err-node.field-0.0 c.from_residual.ensures.1
-    (c.in_err-node.ensures (out-Plan p).node (length inputs) (sum (map node_count inputs) + k) w (flat_map plan_text inputs ++ rest) opened.1 opened.0 (root_wanted k w p c.args.wanted.now wanted) (inputs_balanced k w inputs balanced) (e ∙ root_text p rest))
+    (c.in_err-node.ensures.complete (out-Plan p).node (length inputs) (sum (map node_count inputs) + k) w (flat_map plan_text inputs ++ rest) opened.1 opened.0 (root_wanted k w p c.args.wanted.now wanted) (inputs_balanced k w inputs balanced) (e ∙ root_text p rest))
 
-pub plan_within-returns-in_err-inputs : goal.plan_within-returns-in_err-inputs
-plan_within-returns-in_err-inputs t c = λ p k w rest h wanted balanced e.
+pub plan_within-returns-in_err-inputs-clause-complete : goal.plan_within-returns-in_err-inputs-clause-complete
+plan_within-returns-in_err-inputs-clause-complete t c = λ p k w rest h wanted balanced e.
     let opened = plan_opened c.args.room p h in
     let inputs = (out-Plan p).inputs in
-    let read = c.in_ok-node.ensures (out-Plan p).node (length inputs) (sum (map node_count inputs) + k) w (flat_map plan_text inputs ++ rest) opened.1 opened.0 (root_wanted k w p c.args.wanted.now wanted)
+    let read = c.in_ok-node.ensures.complete (out-Plan p).node (length inputs) (sum (map node_count inputs) + k) w (flat_map plan_text inputs ++ rest) opened.1 opened.0 (root_wanted k w p c.args.wanted.now wanted)
     (inputs_balanced k w inputs balanced) (e ∙ root_text p rest) in
     fails _ c.from_residual-in_err-inputs.result c.in_err-inputs.field-0.0 c.from_residual-in_err-inputs.ensures.1
-    (c.in_err-inputs.ensures inputs k w rest opened.2 (sym read.1) opened.0 read.3 balanced read.2)
+    (c.in_err-inputs.ensures.complete inputs k w rest opened.2 (sym read.1) opened.0 read.3 balanced read.2)
 
-pub plan_within-returns : goal.plan_within-returns
-plan_within-returns t c = λ p k w rest h wanted balanced e.
+pub plan_within-returns-clause-complete : goal.plan_within-returns-clause-complete
+plan_within-returns-clause-complete t c = λ p k w rest h wanted balanced e.
     let opened = plan_opened c.args.room p h in
     let inputs = (out-Plan p).inputs in
-    let read = c.in_ok-node.ensures (out-Plan p).node (length inputs) (sum (map node_count inputs) + k) w (flat_map plan_text inputs ++ rest) opened.1 opened.0 (root_wanted k w p c.args.wanted.now wanted)
+    let read = c.in_ok-node.ensures.complete (out-Plan p).node (length inputs) (sum (map node_count inputs) + k) w (flat_map plan_text inputs ++ rest) opened.1 opened.0 (root_wanted k w p c.args.wanted.now wanted)
     (inputs_balanced k w inputs balanced) (e ∙ root_text p rest) in
-    let behind = c.in_ok-inputs.ensures inputs k w rest opened.2 (sym read.1) opened.0 read.3 balanced read.2 in
+    let behind = c.in_ok-inputs.ensures.complete inputs k w rest opened.2 (sym read.1) opened.0 read.3 balanced read.2 in
     ((λ i. roll-Plan (record { node = read.0 i; inputs = behind.0 i })) ∙ roll-out-Plan p, behind.1, behind.2)
