@@ -1,7 +1,5 @@
 -- Sort keys and nodes are told by their words.
-use Rattle.std.proofs.Common.{◌≡◌, Bool, if◌then◌else◌, refl, sym, ◌∙◌, ap, codes}
-use lib.Dec.{eqb}
-use lib.Pointwise.{pointwise}
+use Rattle.std.proofs.Common.{◌≡◌, if◌then◌else◌, refl, sym, ◌∙◌, ap, codes}
 use Rattle.certificate_text.specs.CertificateText.{Text}
 use Rattle.certificate_read.specs.declared.node_forms.KindForm.{KindForm}
 use Rattle.certificate_read.specs.declared.node_forms.KindForm.TheVariants as kind
@@ -11,14 +9,12 @@ use Rattle.certificate_read.specs.declared.node_forms.NodeForm.{NodeForm}
 use Rattle.certificate_read.specs.declared.node_forms.NodeForm.TheVariants as node
 use Rattle.certificate_read.specs.NodeReading.{kind_name, node_name, lists_behind, matching_wording, index_join_behind, nothing_wording, operator_behind, node_behind, node_wording}
 use Rattle.certificate_read.proofs.KeyTexts.{keys_told}
+use Rattle.certificate_read.proofs.LineLaws.{is_text}
 use Rattle.certificate_read.proofs.WideConjuncts.{conjuncts_told}
 use Rattle.certificate_read.proofs.WordLaws.{number_told, columns_told, added_told}
 use Rattle.certificate_read.proofs.Wordings.{AreTold, both_told, named_told}
 
 -- ---- names
-
-abbrev is_text : Text → Text → Bool
-is_text v w = pointwise eqb v w
 
 abbrev kind_at : Text → KindForm
 kind_at w = if is_text w (codes "inner") then kind.Inner else if is_text w (codes "left") then kind.Left else if is_text w (codes "semi") then kind.Semi else kind.Anti

@@ -1,4 +1,4 @@
--- Numbers and lists as words of a line, and what a call gives of readable ones.
+-- Numbers and lists as words of a line, with numbers of any size.
 use Rattle.std.specs.Prelude.{◌≡◌, ◌==◌, ℕ, List, Result, MatchResult}
 use Rattle.std.specs.List.{slice_split}
 use Rattle.std.specs.List.Sorted.{IsStrictlyIncreasing}
