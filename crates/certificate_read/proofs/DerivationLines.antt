@@ -1,6 +1,6 @@
 -- The lines of a derivation, as far as they are read of any text.
-use Rattle.std.proofs.Common.{◌≡◌, refl, sym, ap, subst, ◌∙◌, arith, ℕ, ◌+◌, ◌<◌, ◌≤◌, ◌^◌, inl, inr, List, [], ◌∷◌, ◌++◌, length, map, length-append, codes, decimal}
-use Rattle.std.proofs.lemmas.List.{map-append, length-map}
+use Rattle.std.proofs.Common.{◌≡◌, refl, sym, subst, arith, ℕ, ◌+◌, ◌<◌, ◌≤◌, inr, List, [], ◌∷◌, ◌++◌, length, map, length-append, codes, decimal}
+use Rattle.std.proofs.lemmas.List.{map-append}
 use Rattle.std.specs.List.{AllByRecursion}
 use Rattle.values.proofs.Lists.{all_append}
 use Rattle.derivation.specs.declared.line.Line.{Line}
@@ -8,7 +8,7 @@ use Rattle.certificate_parts.proofs.DecimalNumerals.{short_decimal}
 use Rattle.certificate_parts.specs.Numerals.{numeral}
 use Rattle.certificate_parts.specs.Parts.{IsShort}
 use Rattle.certificate_text.specs.declared.fault.TextRefusal.{TextRefusal}
-use Rattle.certificate_text.specs.CertificateText.{Text, ◌␣◌, line_words}
+use Rattle.certificate_text.specs.CertificateText.{◌␣◌, line_words}
 use Rattle.certificate_text.specs.Limits.{most_lines}
 use Rattle.certificate_text.specs.Readable.{IsReadableLine}
 use Rattle.certificate_read.specs.declared.text_lines.TextLines.{TextLines}

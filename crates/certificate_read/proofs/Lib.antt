@@ -5,12 +5,16 @@ pub mod LineTexts
 pub mod NodeLaws
 pub mod NodeTexts
 pub mod PartWords
+pub mod PlanCounts
+pub mod PlanFaults
 pub mod PlanNodes
 pub mod ReadBack
 pub mod TextCounts
 pub mod TextCuts
+pub mod TextEnds
 pub mod TextLists
 pub mod TextSteps
+pub mod WholePlans
 pub mod WideConjuncts
 pub mod WordCalls
 pub mod WordLaws

@@ -1,14 +1,11 @@
 -- Counts, and why a line isn't one.
-use Rattle.std.proofs.Common.{◌≡◌, refl, sym, ap, subst, ◌∙◌, arith, ℕ, ◌<◌, ◌≤◌, ◌^◌, inl, inr, ◌⊎◌, ◌∷◌, ◌++◌, Result, Ok, Err}
+use Rattle.std.proofs.Common.{◌≡◌, true, refl, sym, subst, arith, ℕ, ◌<◌, ◌^◌, inl, inr, Err}
 use Rattle.std.proofs.lemmas.Bool.{cases_lt}
 use Rattle.std.specs.Prelude.{IsUtf8}
-use Rattle.values.specs.declared.fault.Fault.{Fault}
-use Rattle.certificate_parts.specs.Numerals.{numeral}
 use Rattle.certificate_parts.specs.Parts.{IsShort}
 use Rattle.certificate_parts.specs.PartTexts.{lacks}
 use Rattle.certificate_text.specs.declared.fault.TextReason.{TextReason}
 use Rattle.certificate_text.specs.declared.fault.TextReason.TheVariants.{OtherForm}
-use Rattle.certificate_text.specs.declared.fault.TextRefusal.{TextRefusal}
 use Rattle.certificate_text.specs.CertificateText.{Text}
 use Rattle.certificate_read.specs.declared.line_fault.LineFault.{LineFault}
 use Rattle.certificate_read.specs.declared.line_fault.LineFault.TheVariants as line_fault

@@ -1,7 +1,6 @@
 -- Lines and nodes that are passed one after the other, and faults behind them.
-use Rattle.std.proofs.Common.{◌≡◌, refl, sym, ap, subst, ◌∙◌, arith, ℕ, zero, suc, ◌+◌, ◌-◌, ◌<◌, ◌≤◌, ◌^◌, min, inl, inr, ◌⊎◌, List, [], ◌∷◌, ◌++◌, length, map, flat_map, sum, append-nil, append_assoc, length-append, Result, Ok, Err}
-use Rattle.std.proofs.lemmas.Bool.{cases_lt}
-use Rattle.std.proofs.lemmas.List.{map-append, length-map}
+use Rattle.std.proofs.Common.{◌≡◌, refl, sym, ap, subst, ◌∙◌, arith, ℕ, zero, suc, ◌+◌, ◌-◌, ◌<◌, ◌≤◌, ◌^◌, min, inl, inr, List, [], ◌∷◌, ◌++◌, length, flat_map, sum, append-nil, append_assoc, length-append}
+use Rattle.std.proofs.lemmas.List.{map-append}
 use Rattle.std.proofs.lemmas.List.Sums.{sum_by-cons}
 use Rattle.values.specs.declared.fault.Fault.{Fault}
 use Rattle.values.specs.declared.fault.Fault.TheVariants.{Memory, Refused}
@@ -9,12 +8,9 @@ use Rattle.physical.specs.declared.plan.Node.{Node}
 use Rattle.certificate_text.specs.declared.fault.TextReason.{TextReason}
 use Rattle.certificate_text.specs.declared.fault.TextRefusal.{TextRefusal}
 use Rattle.certificate_text.specs.CertificateText.{Text, ended, node_words}
-use Rattle.certificate_text.specs.Limits.{most_deep}
-use Rattle.certificate_text.specs.Readable.{IsReadableNode}
 use Rattle.certificate_read.specs.declared.text_lines.TextLines.{TextLines}
 use Rattle.certificate_read.specs.TextCalls.{PassesLine, PassesLines, RefusesFrom, RefusesNext}
 use Rattle.certificate_read.specs.TextFaults.{counted_on, nodes_words, some_wanted, wanted_behind, IsFaultBehind, IsFaultOfNodes, IsNextFault, IsOtherNode, LeadsTo}
-use Rattle.certificate_read.specs.TextReading.{IsBalanced}
 
 -- ---- numbers of lines
 

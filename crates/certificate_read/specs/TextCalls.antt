@@ -1,5 +1,5 @@
 -- What a call reads of the lines of any text.
-use Rattle.std.specs.Prelude.{◌≡◌, ◌⊎◌, ℕ, zero, suc, ◌+◌, ◌-◌, ◌<◌, ◌≤◌, ◌^◌, min, nat_le, true, List, [], ◌∷◌, ◌++◌, length, map, flat_map, sum, codes, decimal, Result, Ok, Err, Bool, Option, Some, None, MatchBool, MatchResult, IsUtf8}
+use Rattle.std.specs.Prelude.{◌≡◌, ℕ, suc, ◌+◌, ◌-◌, ◌<◌, ◌≤◌, true, List, ◌∷◌, ◌++◌, length, flat_map, sum, codes, Result, Ok, Err, Bool, Option, Some, None, MatchBool, MatchResult, IsUtf8}
 use Rattle.std.specs.List.{AllByRecursion}
 use Rattle.values.specs.declared.fault.Fault.{Fault}
 use Rattle.values.specs.declared.fault.Fault.TheVariants.{Memory, Refused}
@@ -10,10 +10,10 @@ use Rattle.certificate.specs.NodeInputs.{nodes_of}
 use Rattle.certificate_parts.specs.Numerals.{numeral}
 use Rattle.certificate_parts.specs.PartTexts.{lacks}
 use Rattle.certificate_text.specs.declared.fault.TextReason.{TextReason}
-use Rattle.certificate_text.specs.declared.fault.TextReason.TheVariants.{OtherVersion, OtherForm, OutOfRange, BrokenOff, OverLimit}
+use Rattle.certificate_text.specs.declared.fault.TextReason.TheVariants.{OtherForm, OutOfRange, OverLimit}
 use Rattle.certificate_text.specs.declared.fault.TextRefusal.{TextRefusal}
 use Rattle.certificate_text.specs.CertificateText.{Text, ◌␣◌, ended, line_words, node_count, node_words}
-use Rattle.certificate_text.specs.Limits.{most_lines, most_nodes, most_deep}
+use Rattle.certificate_text.specs.Limits.{most_nodes, most_deep}
 use Rattle.certificate_text.specs.Readable.{IsReadableLine, IsReadableNode}
 use Rattle.certificate_read.specs.declared.line_fault.LineFault.{LineFault}
 use Rattle.certificate_read.specs.declared.line_fault.LineFault.TheVariants as line_fault
@@ -22,9 +22,8 @@ use Rattle.certificate_read.specs.declared.reading.Wanted.{Wanted}
 use Rattle.certificate_read.specs.declared.text_lines.TextLines.{TextLines}
 use Rattle.certificate_read.specs.LineReading.{line_wording}
 use Rattle.certificate_read.specs.NodeReading.{node_wording}
-use Rattle.certificate_read.specs.TextFaults.{counted_on, derivation_lines, nodes_words, plan_lines, some_wanted, wanted_behind, AreDerivation, ArePlan, IsFaultOfDerivation, IsFaultOfEnd, IsFaultOfNodes, IsFaultOfPlan, IsNextFault, IsNot, IsOther, IsOtherCount, IsOtherNode, LeadsTo}
+use Rattle.certificate_read.specs.TextFaults.{counted_on, derivation_lines, nodes_words, plan_lines, some_wanted, wanted_behind, AreDerivation, ArePlan, IsFaultOfDerivation, IsFaultOfEnd, IsFaultOfNodes, IsFaultOfPlan, IsFaultToEnd, IsFirstFault, IsNextFault, IsNot, IsOther, IsOtherCount, IsOtherNode, LeadsTo}
 use Rattle.certificate_read.specs.TextReading.{IsBalanced, IsReadablePlan}
-use Rattle.certificate_read.specs.WordReading.{words_in}
 use Rattle.certificate_read.specs.Wordings as wordings
 use Rattle.certificate_read.specs.Wordings.{Wording}
 
@@ -153,3 +152,13 @@ abbrev pub Ends : TextLines → Result Unit (Fault TextRefusal) → Type 0
 Ends old (Ok u) = old.left.now ≡ ended (codes "end")
 Ends old (Err Memory) = ⊥
 Ends old (Err (Refused r)) = IsFaultOfEnd old.left.now old.number r
+
+-- the plan behind which the text ends
+abbrev pub PassesLastPlan : TextLines → Result Plan (Fault TextRefusal) → Type 0
+PassesLastPlan old result =
+    MatchResult result (λ p. (old.left.now ≡ flat_map ended (plan_lines (node_count p) (nodes_of p)) ++ ended (codes "end")) × ArePlan (node_count p) (nodes_of p) × IsReadablePlan most_deep p) (λ fault. RefusesFrom IsFaultToEnd old fault)
+
+-- the text is refused at its first faulty line, unless memory runs out
+abbrev pub RefusesText : Text → Fault TextRefusal → Type 0
+RefusesText text Memory = Unit {0}
+RefusesText text (Refused r) = IsFirstFault text r

@@ -1,8 +1,6 @@
 -- The first faulty line of a text, and why it is refused.
-use Rattle.std.specs.Prelude.{◌≡◌, ◌⊎◌, ℕ, zero, suc, ◌+◌, ◌-◌, ◌<◌, ◌≤◌, ◌^◌, min, nat_le, true, List, [], ◌∷◌, ◌++◌, length, map, flat_map, sum, codes, decimal, Result, Ok, Err, Option, Some, None, MatchResult, IsUtf8}
+use Rattle.std.specs.Prelude.{◌≡◌, ◌⊎◌, ℕ, zero, suc, ◌+◌, ◌-◌, ◌<◌, ◌≤◌, ◌^◌, min, nat_le, true, List, [], ◌∷◌, ◌++◌, length, map, flat_map, sum, codes, decimal, IsUtf8}
 use Rattle.std.specs.List.{AllByRecursion}
-use Rattle.values.specs.declared.fault.Fault.{Fault}
-use Rattle.values.specs.declared.fault.Fault.TheVariants.{Memory, Refused}
 use Rattle.derivation.specs.declared.line.Line.{Line}
 use Rattle.physical.specs.declared.plan.Node.{Node}
 use Rattle.certificate_parts.specs.Numerals.{numeral}
@@ -13,9 +11,6 @@ use Rattle.certificate_text.specs.declared.fault.TextRefusal.{TextRefusal}
 use Rattle.certificate_text.specs.CertificateText.{Text, ◌␣◌, ended, line_words, node_words}
 use Rattle.certificate_text.specs.Limits.{most_lines, most_nodes, most_deep}
 use Rattle.certificate_text.specs.Readable.{IsReadableLine, IsReadableNode}
-use Rattle.certificate_read.specs.declared.line_fault.LineFault.{LineFault}
-use Rattle.certificate_read.specs.declared.line_fault.LineFault.TheVariants as line_fault
-use Rattle.certificate_read.specs.declared.text_lines.TextLines.{TextLines}
 use Rattle.certificate_read.specs.LineReading.{line_wording}
 use Rattle.certificate_read.specs.NodeReading.{node_wording}
 use Rattle.certificate_read.specs.TextReading.{IsBalanced}
@@ -134,11 +129,14 @@ IsFaultOfEnd left number r =
 abbrev pub Behind : List Text → (Text → ℕ → TextRefusal → Type 0) → Text → ℕ → TextRefusal → Type 0
 Behind lines Is left number r = (rest : Text) × (left ≡ flat_map ended lines ++ rest) × Is rest (counted_on number (length lines)) r
 
--- The first faulty line: that of the version, one of the derivation behind it, one of the plan behind these, or that of the end or what is behind it.
+-- a fault of the plan or behind it
+abbrev pub IsFaultToEnd : Text → ℕ → TextRefusal → Type 0
+IsFaultToEnd left number r = IsFaultOfPlan left number r ⊎ ((count : ℕ) × (ns : List (Node × ℕ)) × ArePlan count ns × Behind (plan_lines count ns) IsFaultOfEnd left number r)
+
+-- a fault of the derivation or behind it
+abbrev pub IsFaultBehindVersion : Text → ℕ → TextRefusal → Type 0
+IsFaultBehindVersion left number r = IsFaultOfDerivation left number r ⊎ ((ls : List Line) × AreDerivation ls × Behind (derivation_lines (length ls) ls) IsFaultToEnd left number r)
+
+-- The first faulty line of a text: that of its version, or one behind it.
 abbrev pub IsFirstFault : Text → TextRefusal → Type 0
-IsFirstFault text r =
-    IsNextFault (IsNot version OtherVersion) text 0 r
-    ⊎ (Behind (version ∷ []) IsFaultOfDerivation text 0 r
-    ⊎ ((ls : List Line) × AreDerivation ls
-    × (Behind (version ∷ derivation_lines (length ls) ls) IsFaultOfPlan text 0 r
-    ⊎ ((count : ℕ) × (ns : List (Node × ℕ)) × ArePlan count ns × Behind ((version ∷ derivation_lines (length ls) ls) ++ plan_lines count ns) IsFaultOfEnd text 0 r))))
+IsFirstFault text r = IsNextFault (IsNot version OtherVersion) text 0 r ⊎ Behind (version ∷ []) IsFaultBehindVersion text 0 r

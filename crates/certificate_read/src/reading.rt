@@ -1,6 +1,6 @@
 //! Certificates from their text.
 
-ghost use Rattle.std.specs.Prelude.{◌≡◌, ◌≤◌, ◌<◌, ◌+◌, ◌-◌, ◌^◌, ◌++◌, ◌∷◌, ℕ, suc, List, [], length, map, flat_map, sum, codes, decimal, Ok, IfOk, true};
+ghost use Rattle.std.specs.Prelude.{◌≡◌, ◌≤◌, ◌<◌, ◌+◌, ◌-◌, ◌^◌, ◌++◌, ◌∷◌, ℕ, suc, List, [], length, map, flat_map, sum, codes, decimal, Ok, IfOk, IfErr, true};
 ghost use Rattle.std.specs.List.{AllByRecursion};
 ghost use Rattle.derivation.specs.declared.line.Line.{Line};
 ghost use Rattle.physical.specs.declared.plan.Node.{Node};
@@ -12,7 +12,6 @@ ghost use Rattle.certificate_text.specs.CertificateText.{Text, ◌␣◌, ended,
 ghost use Rattle.certificate_text.specs.Limits.{written, most_lines, most_nodes, most_deep};
 ghost use Rattle.certificate_text.specs.Readable.{IsReadableCertificate, IsReadableLine, IsReadableNode};
 ghost use Rattle.certificate_read.specs.TextCalls as calls;
-ghost use Rattle.certificate_read.specs.TextFaults as faults;
 ghost use Rattle.certificate_read.specs.TextReading as spec;
 ghost use Rattle.certificate_read.specs.WordReading.{UnlessMemory};
 
@@ -22,7 +21,7 @@ use crate::nodes::{ReadNode, node};
 use crate::text_lines::TextLines;
 use certificate::Certificate;
 use certificate_parts::numbers::number;
-use certificate_text::{MOST_DEEP, MOST_LINES, MOST_NODES, TextFault, TextReason, write};
+use certificate_text::{MOST_DEEP, MOST_LINES, MOST_NODES, TextFault, TextReason};
 use derivation::Line;
 use physical::Plan;
 use std::alloc::Global;
@@ -208,42 +207,29 @@ fn plan(alloc: Global, text: &mut TextLines<'_>) -> Result<Plan, TextFault>
 
 /// The plan, which the text ends behind.
 fn last_plan(alloc: Global, text: &mut TextLines<'_>) -> Result<Plan, TextFault>
-    ensures { (p : Plan) → spec.IsReadablePlan most_deep p → node_count p ≤ most_nodes
+    ensures complete { (p : Plan) → spec.IsReadablePlan most_deep p → node_count p ≤ most_nodes
         → text.old.left.now ≡ ended (codes "plan" ␣ decimal (node_count p)) ++ (plan_text p ++ ended (codes "end"))
         → spec.UnlessMemory (λ read. read ≡ p) result }
+    ensures exact { calls.PassesLastPlan text.old result }
 {
     let plan = plan(alloc, text)?;
     text.finish()?;
     Ok(plan)
 }
 
-/// What is read before it is judged.
-fn candidate(alloc: Global, bytes: &[u8]) -> Result<Certificate, TextFault>
-    ensures { (c : Certificate) → IsReadableCertificate c → written c ≡ Ok bytes.now → spec.UnlessMemory (λ read. read ≡ c) result }
+/// The certificate that the bytes are the text of, within the limits of certificates. Else the first faulty line is reported: of a line's
+/// faults first that it is broken off, then that its version or its form is another, that it is over a limit, and that a number is past
+/// its range.
+pub fn read(alloc: Global, bytes: &[u8]) -> Result<Certificate, TextFault>
+    ensures sound { IfOk result (λ certificate. written certificate ≡ Ok bytes.now) }
+    // The text of each certificate that can be read is read as that certificate.
+    ensures complete { (c : Certificate) → IsReadableCertificate c → written c ≡ Ok bytes.now → spec.UnlessMemory (λ read. read ≡ c) result }
+    // What is refused has a faulty line; the first of them is reported, and why.
+    ensures refused { IfErr result (λ fault. calls.RefusesText bytes.now fault) }
 {
     let mut text = TextLines::of(bytes);
     text.expect(b"SQLPLAN 1", TextReason::OtherVersion)?;
     let lines = derivation(alloc, &mut text)?;
     let plan = last_plan(alloc, &mut text)?;
     Ok(Certificate { lines, plan })
-}
-
-/// The certificate that the bytes are the text of, within the limits of certificates. Else the first faulty line is reported: of a line's
-/// faults first that it is broken off, then that its version or its form is another, that it is over a limit, and that a number is past
-/// its range.
-///
-/// What was read is written again and compared with the bytes. That the comparison fails is no fault of a line; it would be reported of
-/// the first one, as another form.
-pub fn read(alloc: Global, bytes: &[u8]) -> Result<Certificate, TextFault>
-    ensures sound { IfOk result (λ certificate. written certificate ≡ Ok bytes.now) }
-    // The text of each certificate that can be read is read as that certificate.
-    ensures complete { (c : Certificate) → IsReadableCertificate c → written c ≡ Ok bytes.now → spec.UnlessMemory (λ read. read ≡ c) result }
-{
-    let certificate = candidate(alloc, bytes)?;
-    let text = write(alloc, &certificate)?;
-    if text.as_slice() == bytes {
-        Ok(certificate)
-    } else {
-        Err(TextLines::of(bytes).refused(TextReason::OtherForm))
-    }
 }

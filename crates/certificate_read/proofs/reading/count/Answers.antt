@@ -4,7 +4,7 @@ use Rattle.certificate_parts.proofs.Lacking.{passing_lack}
 use Rattle.certificate_read.proofs.TextCuts.{count_line}
 use Rattle.certificate_read.specs.TextCalls.{text_fault_of}
 use Rattle.certificate_read.proofs.WordCalls.{fails}
-use Rattle.std.proofs.Common.{ℕ, Err, subst, sym}
+use Rattle.std.proofs.Common.{◌≡◌, subst}
 use Rattle.std.specs.Prelude.{IsUtf8}
 use Rattle.certificate_parts.proofs.Exits.{holds_of_fault}
 use Rattle.certificate_text.specs.declared.fault.TextReason.TheVariants.{OtherForm}

@@ -3,17 +3,12 @@ use Rattle.certificate_text.specs.CertificateText.{line_text}
 use Rattle.certificate_text.specs.Readable.{IsReadableLine}
 use Rattle.certificate_read.proofs.TextLists.{so_far_whole, so_far_next, so_far_read}
 use Rattle.certificate_read.proofs.WordCalls.{fails}
-use Rattle.std.proofs.Common.{◌∙◌, List, ◌∷◌, inl, inr, map, subst, codes, decimal}
-use Rattle.derivation.specs.declared.line.Line.{Line}
-use Rattle.certificate_parts.proofs.DecimalNumerals.{short_decimal}
 use Rattle.certificate_parts.proofs.Exits.{holds_of_fault}
-use Rattle.certificate_text.specs.CertificateText.{◌␣◌, line_words}
-use Rattle.certificate_text.specs.Limits.{most_lines}
 use Rattle.certificate_read.specs.LineReading.{line_wording}
-use Rattle.certificate_read.specs.TextCalls.{PassesDerivation, PassesLine, PassesLines}
-use Rattle.certificate_read.specs.TextFaults.{IsFaultOfDerivation, IsNextFault, IsOther, IsOtherCount}
+use Rattle.certificate_read.specs.TextCalls.{PassesDerivation}
+use Rattle.certificate_read.specs.TextFaults.{IsFaultOfDerivation, IsNextFault, IsOther}
 use Rattle.certificate_read.proofs.DerivationLines.{derivation_fault, derivation_passed, line_more, no_lines}
-use Rattle.certificate_read.proofs.TextSteps.{from_as, from_next, none_passed}
+use Rattle.certificate_read.proofs.TextSteps.{from_as}
 use Rattle.certificate_read.proofs.reading.derivation.Goals as goal
 
 pub loop-done-init : goal.loop-done-init
@@ -28,15 +23,18 @@ returns-in_err-next_line-clause-complete c = λ ls rest h le e.
     fails _ c.from_residual-in_err-next_line.result c.in_err-next_line.field-0.0 c.from_residual-in_err-next_line.ensures.1 (c.in_err-next_line.ensures.complete next.0 (flat_map line_text next.1 ++ rest) next.3 next.6)
 
 pub loop-done-preserved : goal.loop-done-preserved
-loop-done-preserved c = ((λ ls rest h count e.
-    let so_far = c.loop-done.invariant.0 ls rest h count e in
-    let below : c.loop-done._done < length ls = omega (arith, c.loop-done-test.true, count) in
-    let next = so_far_next line_text IsReadableLine ls rest c.loop-done.text.left.now c.loop-done.lines c.loop-done._done so_far below in
-    let read = c.in_ok-next_line.ensures.complete next.0 (flat_map line_text next.1 ++ rest) next.3 next.6 in (
-      next.1,
-      so_far_read line_text IsReadableLine ls rest c.loop-done.text.left.now c.loop-done.lines c.loop-done._done so_far below c.in_ok-next_line.field-0 c.next_line.new.text.left.now c.push.new.self read.0 read.1
-          c.in_ok-push.ensures.ok,
-    )), line_more c.count.new.text c.loop-done.text c.next_line.new.text c.loop-done.lines c.push.new.self c.in_ok-next_line.field-0 c.in_ok-count.count c.loop-done._done c.loop-done.invariant.1 c.loop-done-test.true c.in_ok-next_line.ensures.exact c.in_ok-push.ensures.ok)
+loop-done-preserved c = (
+  (λ ls rest h count e.
+      let so_far = c.loop-done.invariant.0 ls rest h count e in
+      let below : c.loop-done._done < length ls = omega (arith, c.loop-done-test.true, count) in
+      let next = so_far_next line_text IsReadableLine ls rest c.loop-done.text.left.now c.loop-done.lines c.loop-done._done so_far below in
+      let read = c.in_ok-next_line.ensures.complete next.0 (flat_map line_text next.1 ++ rest) next.3 next.6 in (
+        next.1,
+        so_far_read line_text IsReadableLine ls rest c.loop-done.text.left.now c.loop-done.lines c.loop-done._done so_far below c.in_ok-next_line.field-0 c.next_line.new.text.left.now c.push.new.self read.0 read.1
+            c.in_ok-push.ensures.ok,
+      )),
+  line_more c.count.new.text c.loop-done.text c.next_line.new.text c.loop-done.lines c.push.new.self c.in_ok-next_line.field-0 c.in_ok-count.count c.loop-done._done c.loop-done.invariant.1 c.loop-done-test.true c.in_ok-next_line.ensures.exact c.in_ok-push.ensures.ok,
+)
 
 pub returns-clause-complete : goal.returns-clause-complete
 returns-clause-complete c = λ ls rest h le e.
