@@ -77,10 +77,6 @@ column_short (by.Sum c) name k n s = subst IsShort (sym n.1) s
 column_short (by.Min c) name k n s = subst IsShort (sym n.1) s
 column_short (by.Max c) name k n s = subst IsShort (sym n.1) s
 
--- without a colon it is the one over rows
-pub aggregate_uncut : (w : Text) (r : Cut) → IsSplitOnceResult 58 w r → r ≡ None → (w ≡ codes "count" → ⊥) → (a : Aggregate) → SpellsAggregate w a → ⊥
-aggregate_uncut w r h none other a e = let rows : a ≡ by.CountRows = subst (λ r. MatchOption r (a ≡ by.CountRows) (λ x. IsNamed a x.0.now (column_of a) × (x.1.now ≡ numeral (column_of a)))) none (aggregate_cut a w r h e) in other (e ∙ ap aggregate_text rows)
-
 module _ (w : Text) (x : Bor Text × Bor Text) (h : IsSplitOnceResult 58 w (Some x)) where
   whole : (a : Aggregate) (k : ℕ) → IsNamed a x.0.now k → x.1.now ≡ numeral k → SpellsAggregate w a
   whole a k n e = (split_parts 58 w (Some x) h (omega arith)).0 ∙ ap (λ t. x.0.now ++ (58 ∷ t)) e ∙ sym (named_text a x.0.now k n).0

@@ -107,9 +107,6 @@ SoFar room ts place conditions last in_range =
     (C : List Condition) × AreConjunctsWithin room C × (length C ≡ place) × (place < length ts → take place ts ≡ map part_condition_text C) × (length ts ≤ place → ts ≡ part_ended C)
     × (last ≡ last_of [] C) × Noted (AreShortConditions C) (conditions ≡ C) true in_range
 
-pub none_so_far : (room : ℕ) (ts : List Text) → SoFar room ts 0 [] [] true
-none_so_far room ts = ([], (tt, tt, tt), refl, (λ l. refl), (λ l. nothing_long ts l), refl, inl (tt, refl, refl))
-
 short_longer : (C : List Condition) (c : Condition) → AreShortConditions (C ++ (c ∷ [])) → AreShortConditions C × IsShortCondition c
 short_longer C c h = let parts = all_split IsShortCondition C (c ∷ []) h in (parts.0, parts.1.0)
 
@@ -395,7 +392,7 @@ deep_ended room (c ∷ []) (d ∷ D) u more h too e = omega (arith, ap length e,
 deep_ended room (c ∷ b ∷ C) (d ∷ D) u more h too e = deep_ended room (b ∷ C) D u more h.1 too (ap (drop 1) e)
 
 -- a list that is spelled isn't too deep
-list_shallow : (room : ℕ) (t : Text) (C : List Condition) → SpellsAnyConjuncts room t C → IsListTooDeep room t → ⊥
+pub list_shallow : (room : ℕ) (t : Text) (C : List Condition) → SpellsAnyConjuncts room t C → IsListTooDeep room t → ⊥
 list_shallow room t [] s deep = deep.3 s.0
 list_shallow room t (c ∷ C) s (D, rest, is, some, within, too) = deep_ended room (c ∷ C) D first.0 first.1 s.1.0 (deep_first room rest first.0 first.1 first.2 too) parts where
   first : (u : Text) × (more : List Text) × (slice_split (λ b. b == 59) rest ≡ u ∷ more)
@@ -403,18 +400,3 @@ list_shallow room t (c ∷ C) s (D, rest, is, some, within, too) = deep_ended ro
 
   parts : part_ended (c ∷ C) ≡ map part_condition_text D ++ (first.0 ∷ first.1)
   parts = sym (list_cut room c C s.1.0) ∙ ap (λ t. slice_split (λ b. b == 59) (drop 1 t)) (sym s.0 ∙ is) ∙ separate_cut room D rest within.0 ∙ ap (λ ts. map part_condition_text D ++ ts) first.2
-
-pub conjuncts_given : {V : Type 0} (room : ℕ) (t : Text) (view : V → List Condition) (r : Result (Option V) (Fault PartReason)) → ReadsConjuncts room t view r → (C : List Condition) → t ≡ codes "[" ++ (join_by condition_text (codes ";") C ++ codes "]") → AllByRecursion (IsReadable room) C → AreRising C → Gives (option_map view) r (Ok (Some C))
-conjuncts_given {V} room t view r reads C e h rise = by r reads where
-  within : AreConjunctsWithin room C × AreShortConditions C
-  within = rising_within room C h rise
-
-  spells : SpellsAnyConjuncts room t C
-  spells = (e ∙ sym (conjuncts_algebras room C h), within.0)
-
-  by : (r : Result (Option V) (Fault PartReason)) → ReadsConjuncts room t view r → Gives (option_map view) r (Ok (Some C))
-  by (Ok (Some v)) k = ap (λ C. Ok (Some C)) (conjuncts_told room t C (view v) spells k.0)
-  by (Ok None) k = absurd (k.2 (subst AreShortConditions (conjuncts_told room t C k.0 spells k.1) within.1))
-  by (Err Memory) k = tt
-  by (Err (Refused OtherForm)) k = absurd (k.0 C spells)
-  by (Err (Refused OverLimit)) k = absurd (list_shallow room t C spells k)

@@ -10,7 +10,6 @@ use Rattle.std.proofs.lemmas.Bool.Decides.{nat_tests}
 use Rattle.values.proofs.Lists.{all_append}
 use Rattle.std.specs.Char.{is_ascii_digit}
 use Rattle.std.specs.Int.{w64}
-use Rattle.std.specs.Option.{option_map}
 use Rattle.std.specs.List.{list_all, AllByRecursion}
 use Rattle.std.specs.Prelude.{IsUtf8}
 use Rattle.std.specs.Result.{result_ok, OkIff}
@@ -21,7 +20,6 @@ use Rattle.hex.specs.declared.error.FromHexError.TheVariants.{OutOfMemory}
 use Rattle.hex.proofs.HexLemmas.{decode_of-encode_lower, decode_of-ok, decode_of-same}
 use Rattle.values.specs.declared.fault.Fault.{Fault}
 use Rattle.values.specs.declared.fault.Fault.TheVariants.{Memory, Refused}
-use Rattle.values.specs.Faults.{Gives}
 use Rattle.values.specs.declared.value.Value.TheVariants as value
 use Rattle.algebra.specs.declared.condition.Term.{Term}
 use Rattle.algebra.specs.declared.condition.Term.TheVariants as term
@@ -193,9 +191,6 @@ at_each : (t : Text) → AllByRecursion (λ b. b < 256) t → IsBytes t
 at_each [] h i = omega arith
 at_each (b ∷ t) h zero = h.0
 at_each (b ∷ t) h (suc i) = at_each t h.1 i
-
-pub hex_read : (t w : Text) → IsUtf8 t → w ≡ encode_lower t → (list_all is_lower_hex w ≡ true) × (decode_of w ≡ Ok t)
-hex_read t w u e = let bytes = text_bytes t u in (ap (list_all is_lower_hex) e ∙ encoded_lower t bytes, ap decode_of e ∙ decode_of-encode_lower t (at_each t bytes))
 
 -- ---- texts that are spelled in hexadecimal digits
 
@@ -370,19 +365,6 @@ term_told w (term.Literal (value.Text u)) v s r =
     let word = text_word v w (encode_lower u) s.0 r in
     word.2 ∙ ap (λ u. term.Literal (value.Text u)) (decode_of-same (encode_lower u) word.0 u (bytes_decode (encode_lower u) word.0 (text_spells_bytes (encode_lower u) word.0 word.1)) (bytes_decode (encode_lower u) u (refl, text_bytes u s.1)))
 
--- a term within its ranges is read as algebra spells it
-pub term_given : (w : Text) (r : Result (Option Term) (Fault PartReason)) → Reads SpellsTerm IsShortTerm w (λ t. t) r → (t : Term) → w ≡ term_text t → IsReadableTerm t → Gives (option_map (λ t. t)) r (Ok (Some t))
-term_given w r reads t e s = by r reads where
-  spells : SpellsTerm w t
-  spells = (e ∙ sym (algebras_text t s), (short_term t s).1)
-
-  by : (r : Result (Option Term) (Fault PartReason)) → Reads SpellsTerm IsShortTerm w (λ t. t) r → Gives (option_map (λ t. t)) r (Ok (Some t))
-  by (Ok (Some v)) h = ap (λ t. Ok (Some t)) (sym (term_told w t v spells h.0))
-  by (Ok None) h = absurd (h.2 (subst IsShortTerm (sym (term_told w t h.0 spells h.1)) (short_term t s).0))
-  by (Err Memory) h = tt
-  by (Err (Refused OtherForm)) h = absurd (h t spells)
-  by (Err (Refused OverLimit)) h = absurd h
-
 -- a word that the test finds to be another text
 pub no_text : (w v : Text) (same : Bool) → same ≡ false → same ≡ pointwise eqb w v → w ≡ v → ⊥
 no_text w v same e f g = false≢true (sym e ∙ f ∙ ap (λ w. pointwise eqb w v) g ∙ pointwise-same v)
@@ -412,9 +394,3 @@ no_comma = part_term_passes (λ b. not (b == 44)) (passes_other is_lower_hex 44 
 
 pub no_parenthesis : (t : Term) → HasText t → lacks 41 (part_term_text t) ≡ true
 no_parenthesis = part_term_passes (λ b. not (b == 41)) (passes_other is_lower_hex 41 refl) (refl, refl, refl, refl, refl)
-
-pub readable_no_comma : (t : Term) → IsReadableTerm t → lacks 44 (term_text t) ≡ true
-readable_no_comma t s = ap (lacks 44) (sym (algebras_text t s)) ∙ no_comma t (short_term t s).1
-
-pub readable_no_parenthesis : (t : Term) → IsReadableTerm t → lacks 41 (term_text t) ≡ true
-readable_no_parenthesis t s = ap (lacks 41) (sym (algebras_text t s)) ∙ no_parenthesis t (short_term t s).1

@@ -59,18 +59,6 @@ module _ (w x : Text) (is_descending : Bool) (cut : w ≡ x ++ direction_text is
   key_read (Err OtherForm) h = λ k s. h k (only k.column k.descending (sym cut ∙ s))
   key_read (Err OverLimit) h = absurd h
 
-pub ascending_read : (w x : Text) (r : Result (Option OrderKey) PartReason) → w ≡ x ++ (97 ∷ []) → IsRead (SpellsColumn false) IsShortKey x r → IsRead SpellsKey IsShortKey w r
-ascending_read w x r cut h = key_read w x false cut (λ n b e. ascending n b x e) r h
-
-pub descending_read : (w x : Text) (r : Result (Option OrderKey) PartReason) → w ≡ x ++ (100 ∷ []) → IsRead (SpellsColumn true) IsShortKey x r → IsRead SpellsKey IsShortKey w r
-descending_read w x r cut h = key_read w x true cut (λ n b e. descending n b x e) r h
-
-pub no_direction : (w : Text) → ((x : Text) → w ≢ x ++ (97 ∷ [])) → ((x : Text) → w ≢ x ++ (100 ∷ [])) → (k : OrderKey) → SpellsKey w k → ⊥
-no_direction w up down k s = by k.descending s where
-  by : (b : Bool) → w ≡ directed k.column b → ⊥
-  by false e = up (numeral k.column) e
-  by true e = down (numeral k.column) e
-
 key_told : (j k : OrderKey) → key_text j ≡ key_text k → j ≡ k
 key_told j k e = by j.descending k.descending e where
   by : (b c : Bool) → directed j.column b ≡ directed k.column c → ◌≡◌ {A = OrderKey} (record { column = j.column; descending = b }) (record { column = k.column; descending = c })

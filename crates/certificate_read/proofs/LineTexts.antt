@@ -55,10 +55,13 @@ use Rattle.certificate_read.proofs.Wordings.{read_back}
 abbrev pub IsGraphic : Text → Type 0
 IsGraphic w = list_all is_graphic w ≡ true
 
-pub number_graphic : (n : ℕ) → IsShort n → IsGraphic (decimal n)
-number_graphic n s = ap (list_all is_graphic) (short_decimal n s) ∙ pass_more is_ascii_digit is_graphic digit_graphic (numeral n) (numeral_digits n) where
+pub numeral_graphic : (n : ℕ) → IsGraphic (numeral n)
+numeral_graphic n = pass_more is_ascii_digit is_graphic digit_graphic (numeral n) (numeral_digits n) where
   digit_graphic : (b : ℕ) → is_ascii_digit b ≡ true → is_graphic b ≡ true
   digit_graphic b h = grind (arith, nat_tests)
+
+pub number_graphic : (n : ℕ) → IsShort n → IsGraphic (decimal n)
+number_graphic n s = ap (list_all is_graphic) (short_decimal n s) ∙ numeral_graphic n
 
 more_graphic : {X : Type 0} (f : X → Text) (separator : Text) (P : X → Type 0) → IsGraphic separator → ((x : X) → P x → IsGraphic (f x)) → (xs : List X) → AllByRecursion P xs → IsGraphic (flat_map (λ x. separator ++ f x) xs)
 more_graphic f separator P free h [] all = refl
@@ -200,7 +203,7 @@ fact_part (StrongKey K) h = both_parts _ _ _ _ (one_word (codes "strong") refl) 
 
 -- ---- lines
 
-line_part : (l : Line) → IsReadableLine l → IsPart (line_words l) (line_wording.words l)
+pub line_part : (l : Line) → IsReadableLine l → IsPart (line_words l) (line_wording.words l)
 line_part (Founds x) h = both_parts _ _ _ _ (one_word (codes "F") refl) (expr_part x h)
 line_part (Adds g s x) h = both_parts _ _ _ _ (one_word (codes "A") refl) (both_parts _ _ _ _ (number_part g h.0) (both_parts _ _ _ _ (step_part s h.1) (expr_part x h.2)))
 line_part (Unites g i s) h = both_parts _ _ _ _ (one_word (codes "S") refl) (both_parts _ _ _ _ (number_part g h.0) (both_parts _ _ _ _ (number_part i h.1) (step_part s h.2)))

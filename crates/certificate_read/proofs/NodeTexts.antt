@@ -50,7 +50,7 @@ lists_of (matching.Anti S M) h =
     let second = conjuncts_taken M h.1 in
     (kind.Anti, (S, M), (refl, ((first.0, second.0), (first.1, second.1)), refl, both_parts _ _ _ _ (conjuncts_part S h.0) (conjuncts_part M h.1)))
 
-kind_part : (j : Matching) (form : KindForm) → kind_text j ≡ kind_name form → IsPart (kind_text j) (kind_name form ∷ [])
+pub kind_part : (j : Matching) (form : KindForm) → kind_text j ≡ kind_name form → IsPart (kind_text j) (kind_name form ∷ [])
 kind_part j form e = other_word (kind_text j) (kind_name form) e (kind_graphic j)
 
 -- ---- operators
@@ -60,11 +60,11 @@ abbrev AreParts : Operator → ℕ → ℕ → (form : OperatorForm) → Operato
 AreParts o line inputs form p = (operator_of form p ≡ (o, inputs)) × IsTaken (operator_behind form) p × IsPart (operator_text o line inputs) (operator_name form ∷ numeral line ∷ (operator_behind form).words p)
 
 -- the name and the line
-head_part : (name : Text) (line : ℕ) → IsGraphic name → IsShort line → IsPart (name ␣ decimal line) (name ∷ numeral line ∷ [])
+pub head_part : (name : Text) (line : ℕ) → IsGraphic name → IsShort line → IsPart (name ␣ decimal line) (name ∷ numeral line ∷ [])
 head_part name line free s = both_parts _ _ _ _ (one_word name free) (number_part line s)
 
 -- and what stands behind them
-named_part : (name : Text) (line : ℕ) (t : Text) (ws : List Text) → IsGraphic name → IsShort line → IsPart t ws → IsPart (name ␣ decimal line ␣ t) (name ∷ numeral line ∷ ws)
+pub named_part : (name : Text) (line : ℕ) (t : Text) (ws : List Text) → IsGraphic name → IsShort line → IsPart t ws → IsPart (name ␣ decimal line ␣ t) (name ∷ numeral line ∷ ws)
 named_part name line t ws free s h = both_parts _ _ _ _ (one_word name free) (both_parts _ _ _ _ (number_part line s) h)
 
 parts_of : (o : Operator) (line inputs : ℕ) → IsShort line → IsReadableOperator o inputs → (form : OperatorForm) × (p : OperatorParts form) × AreParts o line inputs form p

@@ -6,9 +6,10 @@ use Rattle.std.proofs.lemmas.Bool.{eqb-true, lt-ltb}
 use Rattle.std.proofs.lemmas.List.{get_or_append_left, length-append, take_all}
 use Rattle.std.proofs.lemmas.List.Quantifiers.{position-Some}
 use Rattle.std.proofs.lemmas.List.Sums.{position_or_len_is}
-use Rattle.std.proofs.lemmas.Str.Pattern.{IsSplitOnceResult}
+use Rattle.std.proofs.lemmas.Str.Pattern.{IsSplitOnceResult, split_parts}
 use Rattle.std.specs.List.{position, position_or_len}
 use Rattle.certificate_parts.specs.declared.part_fault.PartReason.{PartReason}
+use Rattle.certificate_parts.specs.Numerals.{numeral}
 use Rattle.certificate_parts.specs.Parts.{IsRead, IsShort, SpellsNumber}
 use Rattle.certificate_parts.specs.PartTexts.{lacks}
 use Rattle.certificate_parts.proofs.AggregateParts.{cut_at}
@@ -18,7 +19,7 @@ use Rattle.certificate_parts.proofs.Lacking.{each_lacks, lacks_at}
 use Rattle.certificate_parts.proofs.NumberParts.{number_given}
 use Rattle.certificate_text.specs.CertificateText.{Text, ended}
 use Rattle.certificate_read.specs.TextReading.{IsLine, IsWord}
-use Rattle.certificate_read.proofs.LineTexts.{both_parts, one_word, number_part, part_line}
+use Rattle.certificate_read.proofs.LineTexts.{numeral_graphic, both_parts, one_word, number_part, part_line}
 
 abbrev is_end : ℕ → Bool
 is_end b = b == 10
@@ -89,3 +90,20 @@ module _ (word : Text) (n : ℕ) (line : Text) (free : lacks 32 word ≡ true) (
 
   pub count_read : (x : Bor Text × Bor Text) (r : Result (Option ℕ) PartReason) → IsSplitOnceResult 32 line (Some x) → IsRead SpellsNumber IsShort x.1.now r → r ≡ Ok (Some n)
   count_read x r cut h = number_given x.1.now n r h ((cut_at 32 line word (decimal n) (Some x) cut (omega arith) free e).1 ∙ short_decimal n short) short
+
+-- ---- a line that is a word and a number, or none
+
+module _ (word line : Text) (free : lacks 32 word ≡ true) where
+  pub no_count : IsSplitOnceResult 32 line None → (n : ℕ) → line ≡ word ++ (32 ∷ numeral n) → ⊥
+  no_count cut n e = cut_at 32 line word (numeral n) None cut (omega arith) free e
+
+  module _ (x : Bor Text × Bor Text) (cut : IsSplitOnceResult 32 line (Some x)) where
+    pub count_first : (n : ℕ) → line ≡ word ++ (32 ∷ numeral n) → (x.0.now ≡ word) × (x.1.now ≡ numeral n)
+    count_first n e = cut_at 32 line word (numeral n) (Some x) cut (omega arith) free e
+
+    pub count_is : x.0.now ≡ word → (n : ℕ) → x.1.now ≡ numeral n → line ≡ word ++ (32 ∷ numeral n)
+    count_is same n e = (split_parts 32 line (Some x) cut (omega arith)).0 ∙ (λ i. same i ++ (32 ∷ e i))
+
+-- such a line is text
+pub wide_count_line : (word : Text) (n : ℕ) → IsWord word → IsLine (word ++ (32 ∷ numeral n))
+wide_count_line word n h = part_line _ _ (both_parts _ _ _ _ (one_word word h) (one_word (numeral n) (numeral_graphic n)))

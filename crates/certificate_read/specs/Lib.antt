@@ -1,5 +1,6 @@
 pub mod LineReading
 pub mod NodeReading
+pub mod TextCalls
 pub mod TextFaults
 pub mod TextReading
 pub mod WordReading

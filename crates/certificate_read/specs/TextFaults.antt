@@ -1,8 +1,6 @@
 -- The first faulty line of a text, and why it is refused.
-use Rattle.std.specs.Prelude.{◌≡◌, ◌⊎◌, ℕ, zero, suc, ◌+◌, ◌-◌, ◌<◌, ◌≤◌, ◌^◌, min, nat_le, true, List, [], ◌∷◌, ◌++◌, length, map, flat_map, sum, codes, decimal, Result, Ok, Err, Option, Some, None, MatchResult, IsUtf8}
+use Rattle.std.specs.Prelude.{◌≡◌, ◌⊎◌, ℕ, zero, suc, ◌+◌, ◌-◌, ◌<◌, ◌≤◌, ◌^◌, min, nat_le, true, List, [], ◌∷◌, ◌++◌, length, map, flat_map, sum, codes, decimal, IsUtf8}
 use Rattle.std.specs.List.{AllByRecursion}
-use Rattle.values.specs.declared.fault.Fault.{Fault}
-use Rattle.values.specs.declared.fault.Fault.TheVariants.{Memory, Refused}
 use Rattle.derivation.specs.declared.line.Line.{Line}
 use Rattle.physical.specs.declared.plan.Node.{Node}
 use Rattle.certificate_parts.specs.Numerals.{numeral}
@@ -13,9 +11,6 @@ use Rattle.certificate_text.specs.declared.fault.TextRefusal.{TextRefusal}
 use Rattle.certificate_text.specs.CertificateText.{Text, ◌␣◌, ended, line_words, node_words}
 use Rattle.certificate_text.specs.Limits.{most_lines, most_nodes, most_deep}
 use Rattle.certificate_text.specs.Readable.{IsReadableLine, IsReadableNode}
-use Rattle.certificate_read.specs.declared.line_fault.LineFault.{LineFault}
-use Rattle.certificate_read.specs.declared.line_fault.LineFault.TheVariants as line_fault
-use Rattle.certificate_read.specs.declared.text_lines.TextLines.{TextLines}
 use Rattle.certificate_read.specs.LineReading.{line_wording}
 use Rattle.certificate_read.specs.NodeReading.{node_wording}
 use Rattle.certificate_read.specs.TextReading.{IsBalanced}
@@ -25,17 +20,10 @@ use Rattle.certificate_read.specs.Wordings.{Wording}
 
 -- ---- lines
 
--- the number of the line so many behind another, as far as it can be counted
+-- the number of the line so many behind another, as far as 64 bits count
 abbrev pub counted_on : ℕ → ℕ → ℕ
-counted_on number lines = min (number + lines) (2 ^ 64 - 1)
-
--- the call passes this line
-abbrev pub PassesLine : Text → TextLines → TextLines → Type 0
-PassesLine line old new = (old.left.now ≡ ended line ++ new.left.now) × (new.number ≡ counted_on old.number 1)
-
--- the call passes these lines
-abbrev pub PassesLines : List Text → TextLines → TextLines → Type 0
-PassesLines lines old new = (old.left.now ≡ flat_map ended lines ++ new.left.now) × (new.number ≡ counted_on old.number (length lines))
+counted_on number zero = number
+counted_on number (suc lines) = min (number + suc lines) (2 ^ 64 - 1)
 
 -- the next line of what is left is broken off, or it is refused so
 abbrev pub IsNextFault : (Text → TextReason → Type 0) → Text → ℕ → TextRefusal → Type 0
@@ -48,24 +36,6 @@ abbrev pub IsFaultBehind : List Text → (Text → TextReason → Type 0) → Te
 IsFaultBehind lines IsRefused left number r = (rest : Text) × (left ≡ flat_map ended lines ++ rest) × IsNextFault IsRefused rest (counted_on number (length lines)) r
 
 -- ---- why a line is refused
-
-abbrev pub refused : ℕ → TextReason → Fault TextRefusal
-refused line reason = Refused (record { line = line; reason = reason })
-
--- nothing where memory ran out
-abbrev pub reason_of : LineFault → Option TextReason
-reason_of line_fault.Memory = None
-reason_of line_fault.OtherForm = Some OtherForm
-reason_of line_fault.OutOfRange = Some OutOfRange
-reason_of line_fault.OverLimit = Some OverLimit
-
--- the fault of a line as one of the text
-abbrev pub fault_for : Option TextReason → ℕ → Fault TextRefusal
-fault_for None line = Memory
-fault_for (Some reason) line = refused line reason
-
-abbrev pub text_fault_of : LineFault → ℕ → Fault TextRefusal
-text_fault_of fault line = fault_for (reason_of fault) line
 
 -- it isn't the line that is wanted there
 abbrev pub IsNot : Text → TextReason → Text → TextReason → Type 0
@@ -88,25 +58,6 @@ abbrev pub IsOtherCount : Text → ℕ → ℕ → Text → TextReason → Type 
 IsOtherCount word least most line reason =
     (((n : ℕ) → least ≤ n → line ≡ word ␣ numeral n → ⊥) × (reason ≡ OtherForm)) ⊎ ((n : ℕ) × (line ≡ word ␣ numeral n) × (most < n) × (reason ≡ OverLimit))
 
--- ---- what a call reads of the next line
-
--- the call refuses the next line so, and does nothing else
-abbrev pub RefusesNext : (Text → TextReason → Type 0) → TextLines → Fault TextRefusal → Type 0
-RefusesNext IsRefused old Memory = ⊥
-RefusesNext IsRefused old (Refused r) = IsNextFault IsRefused old.left.now old.number r
-
--- the call passes the next line, as view shows it, which may only be broken off
-abbrev pub ReadsBytes : {V : Type 0} → (V → Text) → TextLines → TextLines → Result V (Fault TextRefusal) → Type 0
-ReadsBytes view old new result = MatchResult result (λ l. PassesLine (view l) old new × (lacks 10 (view l) ≡ true)) (λ fault. RefusesNext (λ line reason. ⊥) old fault)
-
--- the same of a line that is to be text
-abbrev pub ReadsText : {V : Type 0} → (V → Text) → TextLines → TextLines → Result V (Fault TextRefusal) → Type 0
-ReadsText view old new result = MatchResult result (λ l. PassesLine (view l) old new × (lacks 10 (view l) ≡ true) × IsUtf8 (view l)) (λ fault. RefusesNext (λ line reason. (IsUtf8 line → ⊥) × (reason ≡ OtherForm)) old fault)
-
--- the call passes a line that is known
-abbrev pub Finds : Text → TextReason → TextLines → TextLines → Result Unit (Fault TextRefusal) → Type 0
-Finds line why old new result = MatchResult result (λ u. PassesLine line old new) (λ fault. RefusesNext (IsNot line why) old fault)
-
 -- ---- the nodes of a plan, each before its inputs
 
 -- How many inputs are wanted on each level, the deepest first, where some are. So many levels are from the root down to the next node.
@@ -118,7 +69,8 @@ some_wanted (suc w ∷ ws) = suc w ∷ ws
 -- behind a node with so many inputs, which is an input on the deepest level
 abbrev pub wanted_behind : ℕ → List ℕ → List ℕ
 wanted_behind inputs [] = []
-wanted_behind inputs (w ∷ ws) = some_wanted (inputs ∷ (w - 1) ∷ ws)
+wanted_behind inputs (zero ∷ ws) = some_wanted (inputs ∷ zero ∷ ws)
+wanted_behind inputs (suc w ∷ ws) = some_wanted (inputs ∷ w ∷ ws)
 
 -- from so many nodes that are counted and inputs that are wanted, nodes lead to others. Each is within the limits, and behind it the plan can have its size
 abbrev pub LeadsTo : List ℕ → ℕ → List (Node × ℕ) → List ℕ → ℕ → Type 0
@@ -177,17 +129,14 @@ IsFaultOfEnd left number r =
 abbrev pub Behind : List Text → (Text → ℕ → TextRefusal → Type 0) → Text → ℕ → TextRefusal → Type 0
 Behind lines Is left number r = (rest : Text) × (left ≡ flat_map ended lines ++ rest) × Is rest (counted_on number (length lines)) r
 
--- The first faulty line: that of the version, one of the derivation behind it, one of the plan behind these, or that of the end or what is behind it.
-abbrev pub IsFirstFault : Text → TextRefusal → Type 0
-IsFirstFault text r =
-    IsNextFault (IsNot version OtherVersion) text 0 r
-    ⊎ (Behind (version ∷ []) IsFaultOfDerivation text 0 r
-    ⊎ ((ls : List Line) × AreDerivation ls
-    × (Behind (version ∷ derivation_lines (length ls) ls) IsFaultOfPlan text 0 r
-    ⊎ ((count : ℕ) × (ns : List (Node × ℕ)) × ArePlan count ns × Behind ((version ∷ derivation_lines (length ls) ls) ++ plan_lines count ns) IsFaultOfEnd text 0 r))))
+-- a fault of the plan or behind it
+abbrev pub IsFaultToEnd : Text → ℕ → TextRefusal → Type 0
+IsFaultToEnd left number r = IsFaultOfPlan left number r ⊎ ((count : ℕ) × (ns : List (Node × ℕ)) × ArePlan count ns × Behind (plan_lines count ns) IsFaultOfEnd left number r)
 
--- the text ends where the call is made
-abbrev pub Ends : TextLines → Result Unit (Fault TextRefusal) → Type 0
-Ends old (Ok u) = old.left.now ≡ ended (codes "end")
-Ends old (Err Memory) = ⊥
-Ends old (Err (Refused r)) = IsFaultOfEnd old.left.now old.number r
+-- a fault of the derivation or behind it
+abbrev pub IsFaultBehindVersion : Text → ℕ → TextRefusal → Type 0
+IsFaultBehindVersion left number r = IsFaultOfDerivation left number r ⊎ ((ls : List Line) × AreDerivation ls × Behind (derivation_lines (length ls) ls) IsFaultToEnd left number r)
+
+-- The first faulty line of a text: that of its version, or one behind it.
+abbrev pub IsFirstFault : Text → TextRefusal → Type 0
+IsFirstFault text r = IsNextFault (IsNot version OtherVersion) text 0 r ⊎ Behind (version ∷ []) IsFaultBehindVersion text 0 r

@@ -2,7 +2,7 @@
 
 ghost use Rattle.std.specs.Prelude.{◌≡◌};
 ghost use Rattle.certificate_read.specs.declared.line_fault.LineFault.{LineFault};
-ghost use Rattle.certificate_read.specs.TextFaults.{reason_of};
+ghost use Rattle.certificate_read.specs.TextCalls.{reason_of};
 ghost use Rattle.certificate_read.specs.declared.line_fault.LineFault.TheVariants.{Memory};
 ghost use Rattle.certificate_read.specs.Wordings.{line_fault_of};
 ghost use Rattle.values.specs.declared.fault.Fault.TheVariants.{Refused};

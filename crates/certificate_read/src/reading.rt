@@ -1,6 +1,6 @@
 //! Certificates from their text.
 
-ghost use Rattle.std.specs.Prelude.{◌≡◌, ◌≤◌, ◌<◌, ◌+◌, ◌-◌, ◌++◌, ℕ, List, [], length, map, flat_map, sum, codes, decimal, Ok, IfOk, true};
+ghost use Rattle.std.specs.Prelude.{◌≡◌, ◌≤◌, ◌<◌, ◌+◌, ◌-◌, ◌^◌, ◌++◌, ◌∷◌, ℕ, suc, List, [], length, map, flat_map, sum, codes, decimal, Ok, IfOk, IfErr, true};
 ghost use Rattle.std.specs.List.{AllByRecursion};
 ghost use Rattle.derivation.specs.declared.line.Line.{Line};
 ghost use Rattle.physical.specs.declared.plan.Node.{Node};
@@ -11,6 +11,7 @@ ghost use Rattle.certificate_parts.specs.Parts.{IsShort};
 ghost use Rattle.certificate_text.specs.CertificateText.{Text, ◌␣◌, ended, line_text, node_text, plan_text, node_count, certificate_text};
 ghost use Rattle.certificate_text.specs.Limits.{written, most_lines, most_nodes, most_deep};
 ghost use Rattle.certificate_text.specs.Readable.{IsReadableCertificate, IsReadableLine, IsReadableNode};
+ghost use Rattle.certificate_read.specs.TextCalls as calls;
 ghost use Rattle.certificate_read.specs.TextReading as spec;
 ghost use Rattle.certificate_read.specs.WordReading.{UnlessMemory};
 
@@ -20,7 +21,7 @@ use crate::nodes::{ReadNode, node};
 use crate::text_lines::TextLines;
 use certificate::Certificate;
 use certificate_parts::numbers::number;
-use certificate_text::{MOST_DEEP, MOST_LINES, MOST_NODES, TextFault, TextReason, write};
+use certificate_text::{MOST_DEEP, MOST_LINES, MOST_NODES, TextFault, TextReason};
 use derivation::Line;
 use physical::Plan;
 use std::alloc::Global;
@@ -28,7 +29,8 @@ use values::Items;
 
 /// The number behind a word and a space, which is at most so large.
 fn count_of(line: &str, word: &str, most: usize) -> Result<usize, LineFault>
-    ensures { (n : ℕ) → n ≤ most → IsShort n → lacks 32 word.now ≡ true → line.now ≡ word.now ␣ decimal n → UnlessMemory (λ count. count ≡ n) result }
+    ensures complete { (n : ℕ) → n ≤ most → IsShort n → lacks 32 word.now ≡ true → line.now ≡ word.now ␣ decimal n → UnlessMemory (λ count. count ≡ n) result }
+    ensures exact { IsShort most → lacks 32 word.now ≡ true → calls.ReadsCount word.now most line.now result }
 {
     let Some((first, text)) = line.split_once(' ') else {
         return Err(LineFault::OtherForm);
@@ -48,7 +50,8 @@ fn count_of(line: &str, word: &str, most: usize) -> Result<usize, LineFault>
 
 /// The count of what follows, on a line of its own.
 fn count(text: &mut TextLines<'_>, word: &str, most: usize) -> Result<usize, TextFault>
-    ensures { (n : ℕ) (rest : Text) → n ≤ most → IsShort n → spec.IsWord word.now → text.old.left.now ≡ ended (word.now ␣ decimal n) ++ rest → spec.LeavesText (λ count. count) n rest text.new result }
+    ensures complete { (n : ℕ) (rest : Text) → n ≤ most → IsShort n → spec.IsWord word.now → text.old.left.now ≡ ended (word.now ␣ decimal n) ++ rest → spec.LeavesText (λ count. count) n rest text.new result }
+    ensures exact { IsShort most → spec.IsWord word.now → calls.PassesCount word.now most text.old text.new result }
 {
     let line = text.line()?;
     match count_of(line, word, most) {
@@ -59,7 +62,8 @@ fn count(text: &mut TextLines<'_>, word: &str, most: usize) -> Result<usize, Tex
 
 /// The line of the derivation that is the next line of the text.
 fn next_line(alloc: Global, text: &mut TextLines<'_>) -> Result<Line, TextFault>
-    ensures { (l : Line) (rest : Text) → IsReadableLine l → text.old.left.now ≡ line_text l ++ rest → spec.LeavesText (λ l. l) l rest text.new result }
+    ensures complete { (l : Line) (rest : Text) → IsReadableLine l → text.old.left.now ≡ line_text l ++ rest → spec.LeavesText (λ l. l) l rest text.new result }
+    ensures exact { calls.PassesDerivationLine text.old text.new result }
 {
     let line = text.line()?;
     match derivation_line(alloc, line) {
@@ -69,9 +73,10 @@ fn next_line(alloc: Global, text: &mut TextLines<'_>) -> Result<Line, TextFault>
 }
 
 fn derivation(alloc: Global, text: &mut TextLines<'_>) -> Result<Items<Line>, TextFault>
-    ensures { (ls : List Line) (rest : Text) → AllByRecursion IsReadableLine ls → length ls ≤ most_lines
+    ensures complete { (ls : List Line) (rest : Text) → AllByRecursion IsReadableLine ls → length ls ≤ most_lines
         → text.old.left.now ≡ ended (codes "lines" ␣ decimal (length ls)) ++ (flat_map line_text ls ++ rest)
         → spec.LeavesText (λ ls. ls) ls rest text.new result }
+    ensures exact { calls.PassesDerivation text.old text.new result }
 {
     let count = count(text, "lines", MOST_LINES)?;
     let mut lines = Items::new(alloc);
@@ -91,7 +96,8 @@ struct Wanted {
 impl Wanted {
     /// Takes a node with so many inputs, behind which as many nodes are counted as inputs are wanted at least, and none where none is.
     fn take(&mut self, inputs: u64) -> bool
-        ensures { (k : ℕ) (w : ℕ) → spec.IsWanted (k + 1) (w + 1) self.old → spec.IsBalanced k (w + inputs) → (result ≡ true) × spec.IsWanted k (w + inputs) self.new }
+        ensures complete { (k : ℕ) (w : ℕ) → spec.IsWanted (k + 1) (w + 1) self.old → spec.IsBalanced k (w + inputs) → (result ≡ true) × spec.IsWanted k (w + inputs) self.new }
+        ensures exact { (self.old.inputs - 1) + inputs < 2 ^ 64 → calls.Takes inputs self.old self.new result }
     {
         self.counted = self.counted.saturating_sub(1);
         self.inputs = self.inputs.saturating_sub(1).saturating_add(inputs);
@@ -105,8 +111,9 @@ fn next_node(
     text: &mut TextLines<'_>,
     is_within: bool,
 ) -> Result<ReadNode, TextFault>
-    ensures { (n : Node) (inputs : ℕ) (rest : Text) → IsReadableNode n inputs → is_within ≡ true → text.old.left.now ≡ node_text n inputs ++ rest
+    ensures complete { (n : Node) (inputs : ℕ) (rest : Text) → IsReadableNode n inputs → is_within ≡ true → text.old.left.now ≡ node_text n inputs ++ rest
         → spec.UnlessMemory (λ r. (r.node ≡ n) × (r.inputs ≡ inputs) × (text.new.left.now ≡ rest)) result }
+    ensures exact { calls.PassesNode is_within text.old text.new result }
 {
     let line = text.line()?;
     match node(alloc, line, is_within) {
@@ -122,10 +129,11 @@ fn node_within(
     wanted: &mut Wanted,
     room: usize,
 ) -> Result<ReadNode, TextFault>
-    ensures { (n : Node) (inputs : ℕ) (k : ℕ) (w : ℕ) (rest : Text) → IsReadableNode n inputs → 0 < room
+    ensures complete { (n : Node) (inputs : ℕ) (k : ℕ) (w : ℕ) (rest : Text) → IsReadableNode n inputs → 0 < room
         → spec.IsWanted (k + 1) (w + 1) wanted.old → spec.IsBalanced k (w + inputs)
         → text.old.left.now ≡ node_text n inputs ++ rest
         → spec.UnlessMemory (λ r. (r.node ≡ n) × (r.inputs ≡ inputs) × (text.new.left.now ≡ rest) × spec.IsWanted k (w + inputs) wanted.new) result }
+    ensures exact { (w : ℕ) (ws : List ℕ) → calls.IsBefore (suc w ∷ ws) room wanted.old → calls.PassesNodeOf w ws wanted.old wanted.new text.old text.new result }
 {
     let read = next_node(alloc, text, room > 0)?;
     if wanted.take(read.inputs) {
@@ -144,10 +152,12 @@ fn inputs_within(
     count: u64,
     room: usize,
 ) -> Result<Items<Plan>, TextFault>
-    ensures { (ps : List Plan) (k : ℕ) (w : ℕ) (rest : Text) → AllByRecursion (spec.IsReadablePlan (room - 1)) ps → length ps ≡ count → 0 < room
+    ensures complete { (ps : List Plan) (k : ℕ) (w : ℕ) (rest : Text) → AllByRecursion (spec.IsReadablePlan (room - 1)) ps → length ps ≡ count → 0 < room
         → spec.IsWanted (sum (map node_count ps) + k) (w + length ps) wanted.old → spec.IsBalanced k w
         → text.old.left.now ≡ flat_map plan_text ps ++ rest
         → spec.UnlessMemory (λ read. (read ≡ ps) × (text.new.left.now ≡ rest) × spec.IsWanted k w wanted.new) result }
+    ensures exact { (w : ℕ) (ws : List ℕ) → 0 < room → (room + length (w ∷ ws) ≡ most_deep + 1) → (wanted.old.inputs ≡ sum (count ∷ w ∷ ws)) → wanted.old.inputs ≤ wanted.old.counted → wanted.old.counted ≤ most_nodes
+        → calls.PassesInputs room count w ws wanted.old wanted.new text.old text.new result }
 {
     let Some(below) = room.checked_sub(1) else {
         return Err(text.refused(TextReason::OverLimit));
@@ -167,10 +177,11 @@ fn plan_within(
     wanted: &mut Wanted,
     room: usize,
 ) -> Result<Plan, TextFault>
-    ensures { (p : Plan) (k : ℕ) (w : ℕ) (rest : Text) → spec.IsReadablePlan room p
+    ensures complete { (p : Plan) (k : ℕ) (w : ℕ) (rest : Text) → spec.IsReadablePlan room p
         → spec.IsWanted (node_count p + k) (w + 1) wanted.old → spec.IsBalanced k w
         → text.old.left.now ≡ plan_text p ++ rest
         → spec.UnlessMemory (λ read. (read ≡ p) × (text.new.left.now ≡ rest) × spec.IsWanted k w wanted.new) result }
+    ensures exact { (w : ℕ) (ws : List ℕ) → calls.IsBefore (suc w ∷ ws) room wanted.old → calls.PassesPlan room w ws wanted.old wanted.new text.old text.new result }
 {
     let ReadNode { node, inputs } = node_within(alloc, text, wanted, room)?;
     let inputs = inputs_within(alloc, text, wanted, inputs, room)?;
@@ -178,9 +189,10 @@ fn plan_within(
 }
 
 fn plan(alloc: Global, text: &mut TextLines<'_>) -> Result<Plan, TextFault>
-    ensures { (p : Plan) (rest : Text) → spec.IsReadablePlan most_deep p → node_count p ≤ most_nodes
+    ensures complete { (p : Plan) (rest : Text) → spec.IsReadablePlan most_deep p → node_count p ≤ most_nodes
         → text.old.left.now ≡ ended (codes "plan" ␣ decimal (node_count p)) ++ (plan_text p ++ rest)
         → spec.LeavesText (λ p. p) p rest text.new result }
+    ensures exact { calls.PassesWholePlan text.old text.new result }
 {
     let count = count(text, "plan", MOST_NODES)?;
     if count == 0 {
@@ -195,42 +207,29 @@ fn plan(alloc: Global, text: &mut TextLines<'_>) -> Result<Plan, TextFault>
 
 /// The plan, which the text ends behind.
 fn last_plan(alloc: Global, text: &mut TextLines<'_>) -> Result<Plan, TextFault>
-    ensures { (p : Plan) → spec.IsReadablePlan most_deep p → node_count p ≤ most_nodes
+    ensures complete { (p : Plan) → spec.IsReadablePlan most_deep p → node_count p ≤ most_nodes
         → text.old.left.now ≡ ended (codes "plan" ␣ decimal (node_count p)) ++ (plan_text p ++ ended (codes "end"))
         → spec.UnlessMemory (λ read. read ≡ p) result }
+    ensures exact { calls.PassesLastPlan text.old result }
 {
     let plan = plan(alloc, text)?;
     text.finish()?;
     Ok(plan)
 }
 
-/// What is read before it is judged.
-fn candidate(alloc: Global, bytes: &[u8]) -> Result<Certificate, TextFault>
-    ensures { (c : Certificate) → IsReadableCertificate c → written c ≡ Ok bytes.now → spec.UnlessMemory (λ read. read ≡ c) result }
+/// The certificate that the bytes are the text of, within the limits of certificates. Else the first faulty line is reported: of a line's
+/// faults first that it is broken off, then that its version or its form is another, that it is over a limit, and that a number is past
+/// its range.
+pub fn read(alloc: Global, bytes: &[u8]) -> Result<Certificate, TextFault>
+    ensures sound { IfOk result (λ certificate. written certificate ≡ Ok bytes.now) }
+    // The text of each certificate that can be read is read as that certificate.
+    ensures complete { (c : Certificate) → IsReadableCertificate c → written c ≡ Ok bytes.now → spec.UnlessMemory (λ read. read ≡ c) result }
+    // What is refused has a faulty line; the first of them is reported, and why.
+    ensures refused { IfErr result (λ fault. calls.RefusesText bytes.now fault) }
 {
     let mut text = TextLines::of(bytes);
     text.expect(b"SQLPLAN 1", TextReason::OtherVersion)?;
     let lines = derivation(alloc, &mut text)?;
     let plan = last_plan(alloc, &mut text)?;
     Ok(Certificate { lines, plan })
-}
-
-/// The certificate that the bytes are the text of, within the limits of certificates. Else the first faulty line is reported: of a line's
-/// faults first that it is broken off, then that its version or its form is another, that it is over a limit, and that a number is past
-/// its range.
-///
-/// What was read is written again and compared with the bytes. That the comparison fails is no fault of a line; it would be reported of
-/// the first one, as another form.
-pub fn read(alloc: Global, bytes: &[u8]) -> Result<Certificate, TextFault>
-    ensures sound { IfOk result (λ certificate. written certificate ≡ Ok bytes.now) }
-    // The text of each certificate that can be read is read as that certificate.
-    ensures complete { (c : Certificate) → IsReadableCertificate c → written c ≡ Ok bytes.now → spec.UnlessMemory (λ read. read ≡ c) result }
-{
-    let certificate = candidate(alloc, bytes)?;
-    let text = write(alloc, &certificate)?;
-    if text.as_slice() == bytes {
-        Ok(certificate)
-    } else {
-        Err(TextLines::of(bytes).refused(TextReason::OtherForm))
-    }
 }

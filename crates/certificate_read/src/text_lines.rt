@@ -5,7 +5,8 @@ ghost use Rattle.std.specs.List.{position};
 ghost use Rattle.certificate_parts.specs.PartTexts.{lacks};
 ghost use Rattle.certificate_text.specs.CertificateText.{Text, ended};
 ghost use Rattle.certificate_text.specs.declared.fault.TextReason.TheVariants.{OtherForm};
-ghost use Rattle.certificate_read.specs.TextFaults as spec;
+ghost use Rattle.certificate_read.specs.TextCalls as spec;
+ghost use Rattle.certificate_read.specs.TextFaults.{counted_on};
 ghost use Rattle.certificate_read.specs.TextReading.{IsLine, LeavesText, UnlessMemory};
 
 use crate::line_fault::LineFault;
@@ -98,7 +99,7 @@ impl<'a> TextLines<'a> {
     /// That no byte is left; the line behind the last is refused for it.
     fn end(&mut self) -> Result<(), TextFault>
         ensures complete { self.old.left.now ≡ [] → result ≡ Ok tt }
-        ensures exact { MatchResult result (λ u. self.old.left.now ≡ []) (λ fault. (self.old.left.now ≡ [] → ⊥) × (fault ≡ spec.refused (spec.counted_on self.old.number 1) OtherForm)) }
+        ensures exact { MatchResult result (λ u. self.old.left.now ≡ []) (λ fault. (self.old.left.now ≡ [] → ⊥) × (fault ≡ spec.refused (counted_on self.old.number 1) OtherForm)) }
     {
         if self.left.is_empty() {
             return Ok(());

@@ -1,19 +1,28 @@
 use Rattle.std.proofs.Common.{◌∙◌, ap, Ok, Err}
 use Rattle.certificate_text.specs.CertificateText.{line_words}
 use Rattle.certificate_read.proofs.LineTexts.{line_line, line_back}
-use Rattle.certificate_read.specs.TextFaults.{text_fault_of}
+use Rattle.certificate_read.specs.TextCalls.{text_fault_of}
 use Rattle.certificate_read.proofs.WordCalls.{fails}
+use Rattle.std.proofs.Common.{subst}
+use Rattle.certificate_read.specs.TextCalls.{PassesLine}
+use Rattle.certificate_read.proofs.ReadBack.{line_read_back}
 use Rattle.certificate_read.proofs.reading.next_line.Goals as goal
 
-pub returns-in_err-line : goal.returns-in_err-line
-returns-in_err-line c = λ l rest h e. fails _ c.from_residual.result c.in_err-line.field-0.0 c.from_residual.ensures.1 (c.in_err-line.ensures.complete (line_words l) rest (line_line l h) e)
+pub returns-in_err-line-clause-complete : goal.returns-in_err-line-clause-complete
+returns-in_err-line-clause-complete c = λ l rest h e. fails _ c.from_residual.result c.in_err-line.field-0.0 c.from_residual.ensures.1 (c.in_err-line.ensures.complete (line_words l) rest (line_line l h) e)
 
-pub returns-in-Ok : goal.returns-in-Ok
-returns-in-Ok c = λ l rest h e.
+pub returns-in-Ok-clause-complete : goal.returns-in-Ok-clause-complete
+returns-in-Ok-clause-complete c = λ l rest h e.
     let line = c.in_ok-line.ensures.complete (line_words l) rest (line_line l h) e in
     (line_back l c.in_ok-line.line.now (Ok c.in-Ok.read) h line.0 c.in-Ok.ensures, line.1)
 
-pub returns-in-Err : goal.returns-in-Err
-returns-in-Err c = λ l rest h e.
+pub returns-in-Err-clause-complete : goal.returns-in-Err-clause-complete
+returns-in-Err-clause-complete c = λ l rest h e.
     let line = c.in_ok-line.ensures.complete (line_words l) rest (line_line l h) e in
     c.fault.ensures ∙ ap (λ fault. text_fault_of fault c.line.new.self.number) (line_back l c.in_ok-line.line.now (Err c.in-Err.fault) h line.0 c.in-Err.ensures)
+
+pub returns-in-Ok-clause-exact : goal.returns-in-Ok-clause-exact
+returns-in-Ok-clause-exact c =
+    let read = c.in-Ok.ensures in
+    let back = line_read_back c.in_ok-line.line.now c.in-Ok.read read.0 read.1 read.2 read.3 read.4 in
+    (subst (λ line. PassesLine line c.args.text.now c.line.new.self) back.0 c.in_ok-line.ensures.exact.0, back.1)
