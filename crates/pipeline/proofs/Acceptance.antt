@@ -15,6 +15,7 @@ use Rattle.certificate.specs.declared.certificate.CheckRefusal.{CheckRefusal}
 use Rattle.certificate.specs.QueryOrders.{answer}
 use Rattle.certificate.specs.Replay.{lines_replay, fitted_plan, replayed, IsChecked}
 use Rattle.certificate_text.specs.declared.fault.TextRefusal.{TextRefusal}
+use Rattle.certificate_read.specs.TextCalls.{RefusesText}
 use Rattle.certificate_text.specs.Readable.{IsReadableCertificate}
 use Rattle.answer_text.specs.AnswerText.{answer_text}
 use Rattle.checker.specs.Accepted.{Accepted}
@@ -42,11 +43,11 @@ abbrev is_memory : {R : Type 0} → Fault R → Bool
 is_memory fault.Memory = true
 is_memory (fault.Refused r) = false
 
--- each text that a certificate has is read, unless memory runs out
-pub text_not_accepted : (schema text certificate : List ℕ) (S : Schema) (q : Query) (f : Fault TextRefusal) → Asks schema text S q → ((c : Certificate) → IsReadableCertificate c → IsCertificate certificate c → f ≡ fault.Memory)
+-- each text that a certificate has is read, unless memory runs out; another is refused at its first faulty line
+pub text_not_accepted : (schema text certificate : List ℕ) (S : Schema) (q : Query) (f : Fault TextRefusal) → Asks schema text S q → ((c : Certificate) → IsReadableCertificate c → IsCertificate certificate c → f ≡ fault.Memory) → RefusesText certificate f
     → IsNotAccepted schema text certificate (of_certificate f)
-text_not_accepted schema text certificate S q fault.Memory asks memory = tt
-text_not_accepted schema text certificate S q (fault.Refused r) asks memory = (S, q, asks, λ c readable is. false≢true (ap is_memory (memory c readable is)))
+text_not_accepted schema text certificate S q fault.Memory asks memory first = tt
+text_not_accepted schema text certificate S q (fault.Refused r) asks memory first = (S, q, asks, ((λ c readable is. false≢true (ap is_memory (memory c readable is))), first))
 
 pub check_refused : (q : Query) (c : Certificate) (f : Fault CheckRefusal) → Fails f (replayed q c) → IsCheckFault q c (of_check f)
 check_refused q c fault.Memory fails = tt

@@ -8,8 +8,10 @@ use Rattle.query.specs.declared.query.Query.{Query}
 use Rattle.certificate.specs.declared.certificate.Certificate.{Certificate}
 use Rattle.certificate.specs.declared.certificate.CheckRefusal.{CheckRefusal}
 use Rattle.certificate.specs.Replay.{replayed, IsChecked}
+use Rattle.certificate_text.specs.declared.fault.TextRefusal.{TextRefusal}
 use Rattle.certificate_text.specs.Limits.{written}
 use Rattle.certificate_text.specs.Readable.{IsReadableCertificate}
+use Rattle.certificate_read.specs.TextFaults.{IsFirstFault}
 use Rattle.pipeline.specs.declared.refusal.Refusal.{Refusal}
 use Rattle.pipeline.specs.declared.refusal.Refusal.TheVariants as refusal
 use Rattle.pipeline.specs.EndToEnd.{Input, Asks, IsFromFiles, ByCertificate, IsUnbound, IsReached, IsTableRefused, AllReported, IsAnswerText, IsByPlan, WithQuery}
@@ -70,9 +72,9 @@ IsNotAnswered S q c inputs (refusal.Scope r) = ⊥
 IsNotAnswered S q c inputs (refusal.Statistics r) = ⊥
 IsNotAnswered S q c inputs (refusal.Certificate r) = ⊥
 
--- a query is asked, and the bytes are no certificate's text
-abbrev pub IsTextRefused : List ℕ → List ℕ → List ℕ → Type 0
-IsTextRefused schema text certificate = WithQuery schema text (λ S. IsNoCertificate certificate)
+-- a query is asked, and the bytes are no certificate's text: this is their first faulty line, and why
+abbrev pub IsTextRefused : List ℕ → List ℕ → List ℕ → TextRefusal → Type 0
+IsTextRefused schema text certificate r = WithQuery schema text (λ S. IsNoCertificate certificate × IsFirstFault certificate r)
 
 -- a query is asked, against which the certificate that the bytes are the text of is refused
 abbrev pub IsCheckRefused : List ℕ → List ℕ → List ℕ → CheckRefusal → Type 0
@@ -89,7 +91,7 @@ IsNotAccepted schema text certificate (refusal.Schema r) = schema_of schema ≡ 
 IsNotAccepted schema text certificate (refusal.Text r) = (S : Schema) × (schema_of schema ≡ Ok S) × IsStatementFault text r
 IsNotAccepted schema text certificate (refusal.Scope r) = (S : Schema) × (schema_of schema ≡ Ok S) × IsUnbound text S r
 IsNotAccepted schema text certificate (refusal.Statistics r) = ⊥
-IsNotAccepted schema text certificate (refusal.Certificate r) = IsTextRefused schema text certificate
+IsNotAccepted schema text certificate (refusal.Certificate r) = IsTextRefused schema text certificate r
 IsNotAccepted schema text certificate (refusal.Check r) = IsCheckRefused schema text certificate r
 IsNotAccepted schema text certificate (refusal.Table n r) = ⊥
 IsNotAccepted schema text certificate (refusal.TableDevice n) = ⊥

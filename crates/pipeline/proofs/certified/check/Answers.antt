@@ -13,7 +13,7 @@ returns-in_err-certificate-clause-refused c =
     let p = err_from_is_err_and c.from_residual-in_err-certificate.result c.from_residual-in_err-certificate.ensures.1 in
     of_fault c.from_residual-in_err-certificate.result (of_certificate c.in_err-certificate.field-0.0) _ (p.1 ∙ ap Err p.2)
     (text_not_accepted c.args.schema.now c.args.text.now c.args.certificate.now c.in_ok-schema.schema c.in_ok-asked.asked c.in_err-certificate.field-0.0
-    (record { is_schema = c.in_ok-schema.ensures.exact; is_query = c.in_ok-asked.ensures.ok }) c.in_err-certificate.ensures.complete)
+    (record { is_schema = c.in_ok-schema.ensures.exact; is_query = c.in_ok-asked.ensures.ok }) c.in_err-certificate.ensures.complete c.in_err-certificate.ensures.refused)
 
 pub accept-requires : goal.accept-requires
 accept-requires c = (query_bound c.args.text.now c.in_ok-schema.schema c.in_ok-asked.asked c.in_ok-asked.ensures.ok).over

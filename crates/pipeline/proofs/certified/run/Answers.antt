@@ -14,7 +14,7 @@ returns-in_err-certificate-clause-refused g c =
     of_fault c.from_residual-in_err-certificate.result (of_certificate c.in_err-certificate.field-0.0) _ (p.1 ∙ ap Err p.2)
     (not_accepted_run c.args.schema.now c.args.text.now c.args.certificate.now (map g.R.TableInput.remaining c.args.tables.now) (of_certificate c.in_err-certificate.field-0.0)
     (text_not_accepted c.args.schema.now c.args.text.now c.args.certificate.now c.in_ok-schema.schema c.in_ok-query.query c.in_err-certificate.field-0.0
-    (record { is_schema = c.in_ok-schema.ensures.exact; is_query = c.in_ok-query.ensures.ok }) c.in_err-certificate.ensures.complete))
+    (record { is_schema = c.in_ok-schema.ensures.exact; is_query = c.in_ok-query.ensures.ok }) c.in_err-certificate.ensures.complete c.in_err-certificate.ensures.refused))
 
 pub answer_by_certificate-requires-clause-over : goal.answer_by_certificate-requires-clause-over
 answer_by_certificate-requires-clause-over g c = (query_bound c.args.text.now c.in_ok-schema.schema c.in_ok-query.query c.in_ok-query.ensures.ok).over
