@@ -13,10 +13,10 @@ use std::alloc::{AllocError, Global};
 #[derive(Clone, Copy, Drop)]
 pub(crate) struct Leaf {
     /// Its rows, and what they cost.
-    bare_rows: u64,
-    bare_cost: u64,
+    pub bare_rows: u64,
+    pub bare_cost: u64,
     /// Which share of them makes the conditions on it alone true, if there are any.
-    share: Option<u64>,
+    pub share: Option<u64>,
     /// What these cost by an index; the greatest number where none finds them.
     index_cost: u64,
 }
@@ -272,9 +272,9 @@ impl Graph {
         least
     }
 
-    /// The rows of two sets joined, where so many pairs are tried: by the conditions over both that are over neither alone. As the costs guess
-    /// them, so a list of conditions keeps a millionth at least.
-    pub(crate) fn joined_rows(&self, first: LeafSet, second: LeafSet, pairs: u64) -> u64 {
+    /// Which share of the pairs of two sets makes the conditions true that are over both and over neither alone. As the costs guess them, so a list
+    /// of conditions keeps a millionth at least.
+    pub(crate) fn joined_share(&self, first: LeafSet, second: LeafSet) -> u64 {
         let both = first.union(second);
         let mut share = ALL;
         for edge in &self.edges {
@@ -283,7 +283,12 @@ impl Graph {
                 share = per_million(share, edge.share);
             }
         }
-        per_million(pairs, share)
+        share
+    }
+
+    /// The rows of two sets joined, where so many pairs are tried.
+    pub(crate) fn joined_rows(&self, first: LeafSet, second: LeafSet, pairs: u64) -> u64 {
+        per_million(pairs, self.joined_share(first, second))
     }
 }
 

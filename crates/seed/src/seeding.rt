@@ -41,9 +41,13 @@ fn choose(
     Ok(Choice { tree, order })
 }
 
-/// The leaves that are filtered before they are joined: all but those whose matches are found by an index.
+/// The leaves that are filtered before they are joined: all but those whose matches are found by an index, and those that stand without their
+/// conditions in the tree.
 fn pushed_leaves(alloc: Global, tree: &JoinTree, count: usize) -> Result<LeafSet, AllocError> {
-    let mut pushed = LeafSet::first(count);
+    let mut pushed = LeafSet::EMPTY;
+    for place in 0..count {
+        pushed = pushed.union(tree.conditioned(LeafSet::single(place)));
+    }
     for joined in tree.joins(alloc)? {
         if joined.is_probed {
             pushed = pushed.minus(joined.right);
