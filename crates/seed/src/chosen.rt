@@ -201,8 +201,8 @@ struct Sides<'a> {
     graph: &'a Graph,
     left: Kept,
     right: Kept,
-    /// Whether they are joined to the whole, which has the rows that its own class is guessed to have, however it is joined.
-    is_whole: bool,
+    /// How many rows they have together, where that is known, however they are joined.
+    rows: Option<u64>,
     /// Which share of their pairs makes the conditions over both true, once it was asked.
     share: Option<u64>,
 }
@@ -227,18 +227,21 @@ impl Sides<'_> {
         if !best.is_beaten_by(found.cost) {
             return;
         }
-        if !self.is_whole {
-            let share = per_million(self.joined_share(), left.share);
-            let pairs = left.rows.saturating_mul(right.rows);
-            found.rows = per_million(pairs, per_million(share, right.share));
-        }
+        found.rows = match self.rows {
+            Some(rows) => rows,
+            None => {
+                let share = per_million(self.joined_share(), left.share);
+                let pairs = left.rows.saturating_mul(right.rows);
+                per_million(pairs, per_million(share, right.share))
+            }
+        };
         best.keep(found);
     }
 
-    /// The second tree of a side, if it is looked at. A leaf of the whole's join has its conditions in any case.
+    /// The second tree of a side, if it is looked at. A leaf without its conditions gives no fewer rows where these are known.
     fn narrow(&self, side: Kept) -> Option<Joined> {
         let narrow = side.narrow;
-        if narrow.rows < side.cheap.rows || (narrow.is_bare && !self.is_whole) {
+        if narrow.rows < side.cheap.rows || (narrow.is_bare && self.rows.is_none()) {
             Some(narrow)
         } else {
             None
@@ -266,6 +269,12 @@ impl Sides<'_> {
 /// The joins that are kept of the set, whose subsets are known.
 fn best_joins(graph: &Graph, cells: &[Kept], set: LeafSet, whole: LeafSet) -> Kept {
     let others = set.minus(LeafSet::single(set.lowest()));
+    // Nothing stands above the whole that its rows cost.
+    let rows = if set == whole {
+        Some(0)
+    } else {
+        graph.known_rows(set)
+    };
     let mut part = others;
     let mut best = NONE_KEPT;
     for _ in 0..MOST_SUBSETS {
@@ -276,7 +285,7 @@ fn best_joins(graph: &Graph, cells: &[Kept], set: LeafSet, whole: LeafSet) -> Ke
             graph,
             left: kept_at(cells, set.minus(part)),
             right: kept_at(cells, part),
-            is_whole: set == whole,
+            rows,
             share: None,
         };
         sides.look_at_all(&mut best);

@@ -5,7 +5,7 @@ use crate::founding::found_tree;
 use crate::graph::{Graph, Guesses};
 use crate::nodes::Nodes;
 use crate::reaching::reach;
-use crate::regions::{Parts, Region, founding_sides, parts_of, regions};
+use crate::regions::{Parts, Region, founding_sides, parts_of, place_of, regions};
 use crate::sets::{LeafSet, MOST_LEAVES};
 use crate::sinking::{Wishes, combed, lowered, sunk};
 use algebra::ClassId;
@@ -54,11 +54,6 @@ fn pushed_leaves(alloc: Global, tree: &JoinTree, count: usize) -> Result<LeafSet
         }
     }
     Ok(pushed)
-}
-
-/// The place of a class in a list.
-fn place_of(classes: &[ClassId], class: ClassId) -> Option<usize> {
-    classes.iter().position(|other| *other == class)
 }
 
 /// The number of the node of a class: leaves have the first numbers, and those of joins are listed.
