@@ -3,11 +3,13 @@
 
 A second search, of this script's own: a dynamic program over all bushy trees of a query's tables, with scans, scans and joins by index,
 filters before and after joins, hash joins and nested loops, by the costs of docs/COSTS.md, rounded as there. It knows no orders, so no merge
-joins. Both plans are priced by their own nodes: each join has the rows that are guessed of its inputs and its conditions. So the same tables have other
-rows in other trees, and of each set all trees are kept of which none has fewer rows at no more cost.
+joins. Each join of its trees has the rows that are guessed of its inputs and its conditions. So the same tables have other rows in other trees, and of
+each set all trees are kept of which none has fewer rows at no more cost.
 
-Told are, for each shape, form of FROM and number of tables, the geometric mean and the worst of the planned cost over the least one, and how often
-the canonical plan was taken. Wants the program built, or a tree in which the program of quality/main.rt.txt is tried, which proves
+Told are, for each shape, form of FROM and number of tables, the geometric mean and the worst of the planned cost over the least one. The planned cost
+is what the program says, by which it chooses: there a set of tables is a class, whose rows are guessed once, by the line that founds it. Behind it
+stands the same for the plan's own nodes, priced as those of the search: its joins may round otherwise than the lines that found their classes. Where
+the canonical plan is taken, the run ends. Wants the program built, or a tree in which the program of quality/main.rt.txt is tried, which proves
 nothing. The seed is fixed, so each run asks the same.
 
 usage: quality.py [--tree PATH] [--program PATH] [--worst] [DRAWS [FEWEST MOST [SEED]]]
@@ -395,7 +397,8 @@ class Priced:
         return rows, left_cost + right_cost + left_rows + right_rows
 
 
-def planned_cost(drawn, certificate):
+def own_cost(drawn, certificate):
+    """The cost of its plan by its own nodes, and how many lines it has."""
     lines, nodes = certificate.split("\nplan ")
     return Priced(drawn, nodes.split("\n")[1:-2]).price()[1], int(lines.split("\n")[1].split()[1])
 
@@ -404,7 +407,7 @@ def planned_cost(drawn, certificate):
 
 
 def tried(tree, draws):
-    """The certificates, by the program that is tried in a tree."""
+    """The costs and certificates, by the program that is tried in a tree."""
     crate = tree / "crates" / NAME
     (crate / "src").mkdir(parents=True, exist_ok=True)
     shutil.copy(ROOT / "bench/quality/main.rt.txt", crate / "src/main.rt")
@@ -417,7 +420,8 @@ def tried(tree, draws):
         parts = [part.encode() for drawn in draws[start : start + BATCH] for part in (schema_of(drawn), drawn.text, statistics_of(drawn))]
         asked = b"".join(b"%d\n%b" % (len(part), part) for part in parts)
         run = subprocess.run(["rt", "try", "--seconds", "900"], cwd=crate, input=asked, capture_output=True, check=False)
-        texts += [text for text in run.stdout.decode().split("----\n") if text.startswith("SQLPLAN")]
+        said = [text.partition("\n") for text in run.stdout.decode().split("----\n")]
+        texts += [(int(cost), text) for cost, _, text in said if text.startswith("SQLPLAN")]
         if len(texts) < min(len(draws), start + BATCH):
             sys.exit(run.stdout.decode()[-2000:] + run.stderr.decode()[-3000:])
     return texts
@@ -432,9 +436,15 @@ def planned(program, draws):
             (folder / "query.sql").write_text(drawn.text)
             (folder / "stats.json").write_text(statistics_of(drawn))
             files = [folder / file for file in ("schema.json", "query.sql", "stats.json")]
-            run = subprocess.run([program, "plan", *files], capture_output=True, text=True, check=True)
-            texts.append(run.stdout)
+            wrote = {word: subprocess.run([program, word, *files], capture_output=True, text=True, check=True).stdout for word in ("plan", "explain")}
+            cost = re.search(r" cost=(\d+)", wrote["explain"])
+            texts.append((int(cost[1]), wrote["plan"]))
     return texts
+
+
+def told(ratios):
+    mean = math.exp(sum(math.log(ratio) for ratio in ratios) / len(ratios))
+    return f"mean {mean:.3f}, worst {max(ratios):.3f}"
 
 
 def main():
@@ -454,23 +464,23 @@ def main():
     rng = random.Random(seed)
     kinds = [(shape, form, size) for shape in SHAPES for form in FORMS for size in range(fewest, most + 1)]
     draws, least = zip(*(fair(rng, *kind) for kind in kinds for _ in range(count)))
-    certificates = tried(tree, draws) if tree else planned(program, draws)
-    everything = []
+    plans = tried(tree, draws) if tree else planned(program, draws)
+    everything, own_everything = [], []
     for number, kind in enumerate(kinds):
-        ratios, lines = [], []
+        ratios, own, lines = [], [], []
         for place in range(number * count, (number + 1) * count):
-            cost, length = planned_cost(draws[place], certificates[place])
-            ratios.append((cost / least[place], place))
+            cost, certificate = plans[place]
+            own_price, length = own_cost(draws[place], certificate)
+            ratios.append(cost / least[place])
+            own.append(own_price / least[place])
             lines.append(length)
-        worst, place = max(ratios)
-        mean = math.exp(sum(math.log(ratio) for ratio, _ in ratios) / count)
+            if tells_worst and ratios[-1] > 1.5:
+                print(draws[place].text, statistics_of(draws[place]), certificate, sep="\n")
         everything += ratios
-        print(f"{kind[0]:7} {kind[1]:5} {kind[2]:2} tables: mean {mean:.3f}, worst {worst:.3f}; lines {min(lines)} to {max(lines)}")
-        if tells_worst and worst > 1.5:
-            drawn = draws[place]
-            print(drawn.text, statistics_of(drawn), certificates[place], sep="\n")
-    logs = [math.log(ratio) for ratio, _ in everything]
-    print(f"all: mean {math.exp(sum(logs) / len(logs)):.3f}, worst {math.exp(max(logs)):.3f}, over 1.5: {sum(log > math.log(1.5) for log in logs)} of {len(logs)}")
+        own_everything += own
+        print(f"{kind[0]:7} {kind[1]:5} {kind[2]:2} tables: {told(ratios)}; by own nodes {told(own)}; lines {min(lines)} to {max(lines)}")
+    over = sum(ratio > 1.5 for ratio in everything)
+    print(f"all: {told(everything)}, over 1.5: {over} of {len(everything)}; by own nodes {told(own_everything)}")
 
 
 if __name__ == "__main__":

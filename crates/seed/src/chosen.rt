@@ -1,5 +1,6 @@
 //! The join tree that is chosen for a region.
 
+use crate::estimates::{ALL, per_million};
 use crate::graph::Graph;
 use crate::sets::{LeafSet, MOST_LEAVES};
 use std::alloc::{AllocError, Global};
@@ -9,6 +10,9 @@ const MOST_EXHAUSTIVE: usize = 12;
 
 /// As many subsets as so many leaves have.
 const MOST_SUBSETS: usize = 4096;
+
+/// What a row costs above its set, where its matches are found by an index that isn't unique. By this weight a tree is kept for its few rows.
+const NARROW: u64 = 3_000;
 
 /// What is guessed of a set of leaves joined.
 #[derive(Clone, Copy, Drop)]
@@ -23,6 +27,13 @@ pub(crate) struct Joined {
     pub right: LeafSet,
     /// Whether the right side is a leaf whose matches are found by an index.
     pub is_probed: bool,
+    /// Whether it is a leaf without the conditions on it alone, which are those of the join above it; and which share of its rows makes them true.
+    pub is_bare: bool,
+    share: u64,
+    /// Whether it is the second tree that is kept of its set, and whether those of its sides are.
+    is_narrow: bool,
+    is_left_narrow: bool,
+    is_right_narrow: bool,
 }
 
 /// A set that is not looked at.
@@ -34,16 +45,60 @@ const NOTHING: Joined = Joined {
     left: LeafSet::EMPTY,
     right: LeafSet::EMPTY,
     is_probed: false,
+    is_bare: false,
+    share: ALL,
+    is_narrow: false,
+    is_left_narrow: false,
+    is_right_narrow: false,
 };
 
 impl Joined {
-    /// What it costs and what is still to be done with its rows.
-    fn weight(self) -> u64 {
-        self.cost.saturating_add(self.rows)
+    /// What it costs and what is still to be done with its rows, if each costs so much.
+    fn weight(self, each: u64) -> u64 {
+        self.cost.saturating_add(self.rows.saturating_mul(each))
     }
 }
 
-/// A join tree: its sets, each with its sides.
+/// The trees that are kept of a set. How many rows it has depends on how it is joined, since those of each join are rounded up. So beside the
+/// least sum of cost and rows one is kept with few rows: above it they may cost more than they save below. The second one of a leaf is the leaf
+/// without its conditions: joined with those in the join, it may have fewer rows than by rounding twice.
+#[derive(Clone, Copy, Drop)]
+struct Kept {
+    cheap: Joined,
+    narrow: Joined,
+}
+
+/// Of a set that is not looked at.
+const NONE_KEPT: Kept = Kept {
+    cheap: NOTHING,
+    narrow: NOTHING,
+};
+
+impl Kept {
+    fn tree(self, is_narrow: bool) -> Joined {
+        if is_narrow { self.narrow } else { self.cheap }
+    }
+
+    /// Whether a tree of this cost may be better than one that is kept. The first has no greater weight than the second.
+    fn is_beaten_by(self, cost: u64) -> bool {
+        self.narrow.set.is_empty() || cost < self.narrow.weight(NARROW)
+    }
+
+    /// Keeps the tree where it is better than one that is kept.
+    fn keep(&mut self, found: Joined) {
+        if found.weight(1) < self.cheap.weight(1) || self.cheap.set.is_empty() {
+            self.cheap = found;
+        }
+        if found.weight(NARROW) < self.narrow.weight(NARROW) || self.narrow.set.is_empty() {
+            self.narrow = Joined {
+                is_narrow: true,
+                ..found
+            };
+        }
+    }
+}
+
+/// A join tree: its sets, each with its sides, the whole last.
 #[derive(Drop)]
 pub(crate) struct JoinTree {
     joined: Vec<Joined>,
@@ -57,10 +112,26 @@ fn leaf_joined(graph: &Graph, place: usize) -> Joined {
         rows: leaf.rows(),
         cost: leaf.cost(),
         around: graph.around(set),
-        left: LeafSet::EMPTY,
-        right: LeafSet::EMPTY,
-        is_probed: false,
+        ..NOTHING
     }
+}
+
+/// A leaf with the conditions on it alone, and without them, if there are any.
+fn kept_leaf(graph: &Graph, place: usize) -> Kept {
+    let cheap = leaf_joined(graph, place);
+    let leaf = graph.leaf(place);
+    let narrow = match leaf.share {
+        Some(share) => Joined {
+            rows: leaf.bare_rows,
+            cost: leaf.bare_cost,
+            is_bare: true,
+            share,
+            is_narrow: true,
+            ..cheap
+        },
+        None => cheap,
+    };
+    Kept { cheap, narrow }
 }
 
 /// The cost of a hash join or a nested loop, whichever is less.
@@ -105,6 +176,11 @@ fn join_of(graph: &Graph, left: Joined, right: Joined, rows: u64) -> Joined {
         left: left.set,
         right: right.set,
         is_probed,
+        is_bare: false,
+        share: ALL,
+        is_narrow: false,
+        is_left_narrow: left.is_narrow,
+        is_right_narrow: right.is_narrow,
     }
 }
 
@@ -115,51 +191,145 @@ fn cheaper_join(graph: &Graph, first: Joined, second: Joined, rows: u64) -> Join
     if other.cost < one.cost { other } else { one }
 }
 
-fn joined_at(cells: &[Joined], set: LeafSet) -> Joined {
-    cells.get(set.number()).copied().unwrap_or(NOTHING)
+fn kept_at(cells: &[Kept], set: LeafSet) -> Kept {
+    cells.get(set.number()).copied().unwrap_or(NONE_KEPT)
 }
 
-/// The cheapest join that gives the set, whose subsets are known. Each row that it gives costs something above it, so joins that give fewer rows
-/// are preferred; but the whole has the rows that its own class is guessed to have, however it is joined.
-fn best_join(graph: &Graph, cells: &[Joined], set: LeafSet, whole: LeafSet) -> Joined {
+/// Two sides that are joined, each by one of the trees that are kept of it.
+#[derive(Drop)]
+struct Sides<'a> {
+    graph: &'a Graph,
+    left: Kept,
+    right: Kept,
+    /// How many rows they have together, where that is known, however they are joined.
+    rows: Option<u64>,
+    /// Which share of their pairs makes the conditions over both true, once it was asked.
+    share: Option<u64>,
+}
+
+impl Sides<'_> {
+    fn joined_share(&mut self) -> u64 {
+        match self.share {
+            Some(share) => share,
+            None => {
+                let share = self
+                    .graph
+                    .joined_share(self.left.cheap.set, self.right.cheap.set);
+                self.share = Some(share);
+                share
+            }
+        }
+    }
+
+    /// Looks at the join of these trees of the sides.
+    fn look(&mut self, left: Joined, right: Joined, best: &mut Kept) {
+        let mut found = cheaper_join(self.graph, left, right, 0);
+        if !best.is_beaten_by(found.cost) {
+            return;
+        }
+        found.rows = match self.rows {
+            Some(rows) => rows,
+            None => {
+                let share = per_million(self.joined_share(), left.share);
+                let pairs = left.rows.saturating_mul(right.rows);
+                per_million(pairs, per_million(share, right.share))
+            }
+        };
+        best.keep(found);
+    }
+
+    /// The second tree of a side, if it is looked at. A leaf without its conditions gives no fewer rows where these are known.
+    fn narrow(&self, side: Kept) -> Option<Joined> {
+        let narrow = side.narrow;
+        if narrow.rows < side.cheap.rows || (narrow.is_bare && self.rows.is_none()) {
+            Some(narrow)
+        } else {
+            None
+        }
+    }
+
+    /// Looks at the joins of all trees of the sides.
+    fn look_at_all(&mut self, best: &mut Kept) {
+        let left = self.left.cheap;
+        let right = self.right.cheap;
+        self.look(left, right, best);
+        let narrow_right = self.narrow(self.right);
+        if let Some(right) = narrow_right {
+            self.look(left, right, best);
+        }
+        if let Some(left) = self.narrow(self.left) {
+            self.look(left, right, best);
+            if let Some(right) = narrow_right {
+                self.look(left, right, best);
+            }
+        }
+    }
+}
+
+/// The joins that are kept of the set, whose subsets are known.
+fn best_joins(graph: &Graph, cells: &[Kept], set: LeafSet, whole: LeafSet) -> Kept {
     let others = set.minus(LeafSet::single(set.lowest()));
+    // Nothing stands above the whole that its rows cost.
+    let rows = if set == whole {
+        Some(0)
+    } else {
+        graph.known_rows(set)
+    };
     let mut part = others;
-    let mut best = NOTHING;
+    let mut best = NONE_KEPT;
     for _ in 0..MOST_SUBSETS {
         if part.is_empty() {
             break;
         }
-        let left = joined_at(cells, set.minus(part));
-        let right = joined_at(cells, part);
-        let mut found = cheaper_join(graph, left, right, 0);
-        if set != whole && found.cost < best.weight() {
-            let pairs = left.rows.saturating_mul(right.rows);
-            found.rows = graph.joined_rows(left.set, right.set, pairs);
-        }
-        if found.weight() < best.weight() || best.set.is_empty() {
-            best = found;
-        }
+        let mut sides = Sides {
+            graph,
+            left: kept_at(cells, set.minus(part)),
+            right: kept_at(cells, part),
+            rows,
+            share: None,
+        };
+        sides.look_at_all(&mut best);
         part = part.before(others);
     }
     best
 }
 
-/// All subsets of a few leaves, each joined at the least cost.
-fn all_subsets(alloc: Global, graph: &Graph, count: usize) -> Result<Vec<Joined>, AllocError> {
-    let whole = LeafSet::first(count);
-    let mut cells = Vec::from_elem(alloc, NOTHING, whole.number().saturating_add(1))?;
+/// What is kept of all subsets of a few leaves.
+fn all_subsets(alloc: Global, graph: &Graph, whole: LeafSet) -> Result<Vec<Kept>, AllocError> {
+    let mut cells = Vec::from_elem(alloc, NONE_KEPT, whole.number().saturating_add(1))?;
     for number in 1..cells.len() {
         let set = LeafSet(number as u64);
-        let joined = if set.count() == 1 {
-            leaf_joined(graph, set.lowest())
+        let kept = if set.count() == 1 {
+            kept_leaf(graph, set.lowest())
         } else {
-            best_join(graph, &cells, set, whole)
+            best_joins(graph, &cells, set, whole)
         };
         if let Some(cell) = cells.get_mut(number) {
-            *cell = joined;
+            *cell = kept;
         }
     }
     Ok(cells)
+}
+
+/// The sets of the tree of least cost.
+fn least_sets(alloc: Global, graph: &Graph, count: usize) -> Result<Vec<Joined>, AllocError> {
+    let whole = LeafSet::first(count);
+    let cells = all_subsets(alloc, graph, whole)?;
+    let mut sets = Vec::new(alloc);
+    let mut open = Vec::new(alloc);
+    open.push(kept_at(&cells, whole).cheap)?;
+    for _ in 0..MOST_SUBSETS {
+        let Some(joined) = open.pop() else {
+            break;
+        };
+        sets.push(joined)?;
+        if joined.set.count() > 1 {
+            open.push(kept_at(&cells, joined.left).tree(joined.is_left_narrow))?;
+            open.push(kept_at(&cells, joined.right).tree(joined.is_right_narrow))?;
+        }
+    }
+    sets.reverse();
+    Ok(sets)
 }
 
 /// Two of the parts, by their places.
@@ -242,7 +412,7 @@ impl JoinTree {
     pub(crate) fn of(alloc: Global, graph: &Graph) -> Result<JoinTree, AllocError> {
         let count = graph.leaves.len();
         let joined = if count <= MOST_EXHAUSTIVE {
-            all_subsets(alloc, graph, count)?
+            least_sets(alloc, graph, count)?
         } else {
             greedy_sets(alloc, graph, count)?
         };
@@ -251,16 +421,22 @@ impl JoinTree {
 
     /// How a set of the tree is joined.
     pub(crate) fn joined(&self, set: LeafSet) -> Joined {
-        let mut found = joined_at(&self.joined, set);
-        if found.set != set {
-            found = NOTHING;
-            for joined in &self.joined {
-                if joined.set == set {
-                    found = *joined;
-                }
+        let mut found = NOTHING;
+        for joined in &self.joined {
+            if joined.set == set {
+                found = *joined;
             }
         }
         found
+    }
+
+    /// The leaves of a side whose conditions stand in it: of a leaf that stands without them none.
+    pub(crate) fn conditioned(&self, side: LeafSet) -> LeafSet {
+        if self.joined(side).is_bare {
+            LeafSet::EMPTY
+        } else {
+            side
+        }
     }
 
     /// The whole.

@@ -18,7 +18,7 @@ struct Placed {
     condition: Condition,
 }
 
-/// The class of a set of leaves, which are filtered.
+/// The class of a set of leaves.
 #[derive(Clone, Copy, Drop)]
 struct SetClass {
     set: LeafSet,
@@ -60,17 +60,20 @@ fn placed_conditions(
     Ok(placed)
 }
 
-/// The conditions over the set that are over neither side alone.
+/// The conditions over the set that stand in neither side.
 fn conditions_over(
     alloc: Global,
     placed: &[Placed],
+    tree: &JoinTree,
     joined: Joined,
 ) -> Result<Conjuncts, AllocError> {
+    let left = tree.conditioned(joined.left);
+    let right = tree.conditioned(joined.right);
     let mut conditions = Vec::new(alloc);
     for one in placed {
         let leaves = one.leaves;
         let is_within = !leaves.is_empty() && leaves.is_within(joined.set);
-        if is_within && !leaves.is_within(joined.left) && !leaves.is_within(joined.right) {
+        if is_within && !leaves.is_within(left) && !leaves.is_within(right) {
             conditions.push(one.condition.copy(alloc)?)?;
         }
     }
@@ -87,6 +90,7 @@ fn found_join(
     alloc: Global,
     memo: &mut Memo<'_>,
     placed: &[Placed],
+    tree: &JoinTree,
     classes: &[SetClass],
     joined: Joined,
 ) -> Result<Option<ClassId>, AllocError> {
@@ -96,20 +100,21 @@ fn found_join(
     let Some(right) = class_of(classes, joined.right) else {
         return Ok(None);
     };
-    let conditions = conditions_over(alloc, placed, joined)?;
+    let conditions = conditions_over(alloc, placed, tree, joined)?;
     memo.found(alloc, Expr::Join(conditions, left, right))
 }
 
-/// Founds the class of a leaf with the conditions on it alone.
+/// Founds the class of a leaf with the conditions on it alone, unless it stands without them.
 fn found_leaf(
     alloc: Global,
     memo: &mut Memo<'_>,
     placed: &[Placed],
+    tree: &JoinTree,
     leaf: Joined,
     class: ClassId,
 ) -> Result<Option<ClassId>, AllocError> {
-    let conditions = conditions_over(alloc, placed, leaf)?;
-    if conditions.as_slice().is_empty() {
+    let conditions = conditions_over(alloc, placed, tree, leaf)?;
+    if leaf.is_bare || conditions.as_slice().is_empty() {
         return Ok(Some(class));
     }
     memo.found(alloc, Expr::Select(conditions, class))
@@ -128,7 +133,7 @@ pub(crate) fn found_tree(
     for (place, class) in parts.leaves.iter().enumerate() {
         let set = LeafSet::single(place);
         let leaf = tree.joined(set);
-        if let Some(class) = found_leaf(alloc, memo, placed.as_slice(), leaf, *class)? {
+        if let Some(class) = found_leaf(alloc, memo, placed.as_slice(), tree, leaf, *class)? {
             classes.push(SetClass { set, class })?;
         }
     }
@@ -136,7 +141,14 @@ pub(crate) fn found_tree(
     for joined in joins.iter().rev() {
         if joined.set != tree.root().set {
             let set = joined.set;
-            let class = found_join(alloc, memo, placed.as_slice(), classes.as_slice(), *joined)?;
+            let class = found_join(
+                alloc,
+                memo,
+                placed.as_slice(),
+                tree,
+                classes.as_slice(),
+                *joined,
+            )?;
             if let Some(class) = class {
                 classes.push(SetClass { set, class })?;
             }

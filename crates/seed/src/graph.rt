@@ -13,10 +13,10 @@ use std::alloc::{AllocError, Global};
 #[derive(Clone, Copy, Drop)]
 pub(crate) struct Leaf {
     /// Its rows, and what they cost.
-    bare_rows: u64,
-    bare_cost: u64,
+    pub bare_rows: u64,
+    pub bare_cost: u64,
     /// Which share of them makes the conditions on it alone true, if there are any.
-    share: Option<u64>,
+    pub share: Option<u64>,
     /// What these cost by an index; the greatest number where none finds them.
     index_cost: u64,
 }
@@ -36,6 +36,13 @@ pub(crate) struct Probe {
     pub cost: u64,
 }
 
+/// The leaves of a join of the region, and the rows of its class, unless that has other conditions than the leaves have in a tree.
+#[derive(Clone, Copy, Drop)]
+struct Known {
+    set: LeafSet,
+    rows: Option<u64>,
+}
+
 #[derive(Drop)]
 pub(crate) struct Graph {
     pub leaves: Vec<Leaf>,
@@ -43,6 +50,8 @@ pub(crate) struct Graph {
     pub probes: Vec<Probe>,
     /// For each leaf those of which some column is equal to one of its own.
     pub equated: Vec<LeafSet>,
+    /// The region's own joins. Their classes are founded already, so they have their rows in each tree.
+    known: Vec<Known>,
 }
 
 /// What is known of the whole before a region is looked at.
@@ -190,18 +199,33 @@ impl Graph {
         Ok(())
     }
 
-    /// Notes a condition of the region.
+    /// Forgets the rows of those of the region's joins that have a condition in a tree and not in their class, or the other way round. It stands in
+    /// a join of the region, or above all of them.
+    fn forget(&mut self, leaves: LeafSet, stands_over: LeafSet) {
+        for known in &mut self.known {
+            let is_in_class = stands_over.is_within(known.set);
+            let is_in_tree = !leaves.is_empty() && leaves.is_within(known.set);
+            if is_in_class != is_in_tree {
+                known.rows = None;
+            }
+        }
+    }
+
+    /// Notes a condition of the region, which stands in a join of these leaves, or above the join of all.
     fn note(
         &mut self,
         alloc: Global,
         guesses: Guesses<'_, '_>,
         classes: &[ClassId],
+        stands_over: LeafSet,
         condition: &Condition,
     ) -> Result<(), AllocError> {
         if !condition.has_no_class() {
+            self.forget(LeafSet::EMPTY, stands_over);
             return Ok(());
         }
         let leaves = mentioned(alloc, guesses.log, classes, condition)?;
+        self.forget(leaves, stands_over);
         let share = share(guesses.statistics, guesses.log.instances(), condition);
         if leaves.count() == 1 {
             self.note_filter(guesses, classes, leaves.lowest(), condition, share);
@@ -226,18 +250,21 @@ impl Graph {
             edges: Vec::new(alloc),
             probes: Vec::new(alloc),
             equated: Vec::from_elem(alloc, LeafSet::EMPTY, parts.leaves.len())?,
+            known: known_joins(alloc, guesses, parts)?,
         };
         for class in &parts.leaves {
             graph.leaves.push(bare_leaf(guesses, *class))?;
         }
-        for line in &parts.joins {
+        for (place, line) in parts.joins.iter().enumerate() {
+            let set = graph.known_set(place);
             for condition in conditions_of(guesses.log, *line) {
-                graph.note(alloc, guesses, &parts.leaves, condition)?;
+                graph.note(alloc, guesses, &parts.leaves, set, condition)?;
             }
         }
         if let Some(line) = region.select {
+            let whole = LeafSet::first(parts.leaves.len());
             for condition in conditions_of(guesses.log, line) {
-                graph.note(alloc, guesses, &parts.leaves, condition)?;
+                graph.note(alloc, guesses, &parts.leaves, whole, condition)?;
             }
         }
         Ok(graph)
@@ -272,9 +299,9 @@ impl Graph {
         least
     }
 
-    /// The rows of two sets joined, where so many pairs are tried: by the conditions over both that are over neither alone. As the costs guess
-    /// them, so a list of conditions keeps a millionth at least.
-    pub(crate) fn joined_rows(&self, first: LeafSet, second: LeafSet, pairs: u64) -> u64 {
+    /// Which share of the pairs of two sets makes the conditions true that are over both and over neither alone. As the costs guess them, so a list
+    /// of conditions keeps a millionth at least.
+    pub(crate) fn joined_share(&self, first: LeafSet, second: LeafSet) -> u64 {
         let both = first.union(second);
         let mut share = ALL;
         for edge in &self.edges {
@@ -283,8 +310,46 @@ impl Graph {
                 share = per_million(share, edge.share);
             }
         }
-        per_million(pairs, share)
+        share
     }
+
+    /// The leaves of a join of the region's own.
+    fn known_set(&self, place: usize) -> LeafSet {
+        match self.known.get(place) {
+            Some(known) => known.set,
+            None => LeafSet::EMPTY,
+        }
+    }
+
+    /// The rows of a set that is a join of the region's own.
+    pub(crate) fn known_rows(&self, set: LeafSet) -> Option<u64> {
+        let known = self.known.iter().find(|known| known.set == set)?;
+        known.rows
+    }
+
+    /// The rows of two sets joined, where so many pairs are tried.
+    pub(crate) fn joined_rows(&self, first: LeafSet, second: LeafSet, pairs: u64) -> u64 {
+        match self.known_rows(first.union(second)) {
+            Some(rows) => rows,
+            None => per_million(pairs, self.joined_share(first, second)),
+        }
+    }
+}
+
+/// The region's own joins, with the rows of their classes.
+fn known_joins(
+    alloc: Global,
+    guesses: Guesses<'_, '_>,
+    parts: &Parts,
+) -> Result<Vec<Known>, AllocError> {
+    let sets = parts.sets(alloc, guesses.log)?;
+    let mut known = Vec::new(alloc);
+    for (place, class) in parts.joins.iter().enumerate() {
+        let set = sets.get(place).copied().unwrap_or(LeafSet::EMPTY);
+        let rows = Some(guesses.cardinalities.rows(*class));
+        known.push(Known { set, rows })?;
+    }
+    Ok(known)
 }
 
 /// The leaf of the set whose column it is.

@@ -1,5 +1,6 @@
 //! Regions: inner joins that hang together.
 
+use crate::sets::LeafSet;
 use algebra::{ClassId, Condition, Expr, LineId};
 use derivation::Line;
 use logs::Log;
@@ -124,6 +125,38 @@ pub(crate) fn parts_of(alloc: Global, log: &Log<'_>, join: LineId) -> Result<Par
         }
     }
     Ok(Parts { joins, leaves })
+}
+
+/// The place of a class in a list.
+pub(crate) fn place_of(classes: &[ClassId], class: ClassId) -> Option<usize> {
+    classes.iter().position(|other| *other == class)
+}
+
+impl Parts {
+    /// The leaves of a class of the region, where those of its first joins are known.
+    fn leaves_of(&self, sets: &[LeafSet], class: ClassId) -> LeafSet {
+        match place_of(&self.leaves, class) {
+            Some(place) => LeafSet::single(place),
+            None => match place_of(&self.joins, class) {
+                Some(place) => sets.get(place).copied().unwrap_or(LeafSet::EMPTY),
+                None => LeafSet::EMPTY,
+            },
+        }
+    }
+
+    /// The leaves of each join.
+    pub(crate) fn sets(&self, alloc: Global, log: &Log<'_>) -> Result<Vec<LeafSet>, AllocError> {
+        let mut sets = Vec::new(alloc);
+        for line in &self.joins {
+            let mut set = LeafSet::EMPTY;
+            if let Some(sides) = founding_sides(log, *line) {
+                let left = self.leaves_of(&sets, sides.left);
+                set = left.union(self.leaves_of(&sets, sides.right));
+            }
+            sets.push(set)?;
+        }
+        Ok(sets)
+    }
 }
 
 /// The conditions of the expression of a line, where it has one list of them.

@@ -5,7 +5,7 @@ use crate::founding::found_tree;
 use crate::graph::{Graph, Guesses};
 use crate::nodes::Nodes;
 use crate::reaching::reach;
-use crate::regions::{Parts, Region, founding_sides, parts_of, regions};
+use crate::regions::{Parts, Region, founding_sides, parts_of, place_of, regions};
 use crate::sets::{LeafSet, MOST_LEAVES};
 use crate::sinking::{Wishes, combed, lowered, sunk};
 use algebra::ClassId;
@@ -41,20 +41,19 @@ fn choose(
     Ok(Choice { tree, order })
 }
 
-/// The leaves that are filtered before they are joined: all but those whose matches are found by an index.
+/// The leaves that are filtered before they are joined: all but those whose matches are found by an index, and those that stand without their
+/// conditions in the tree.
 fn pushed_leaves(alloc: Global, tree: &JoinTree, count: usize) -> Result<LeafSet, AllocError> {
-    let mut pushed = LeafSet::first(count);
+    let mut pushed = LeafSet::EMPTY;
+    for place in 0..count {
+        pushed = pushed.union(tree.conditioned(LeafSet::single(place)));
+    }
     for joined in tree.joins(alloc)? {
         if joined.is_probed {
             pushed = pushed.minus(joined.right);
         }
     }
     Ok(pushed)
-}
-
-/// The place of a class in a list.
-fn place_of(classes: &[ClassId], class: ClassId) -> Option<usize> {
-    classes.iter().position(|other| *other == class)
 }
 
 /// The number of the node of a class: leaves have the first numbers, and those of joins are listed.
