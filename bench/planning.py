@@ -7,7 +7,10 @@ tells of its planning, over empty tables whose statistics are set to the same nu
 tables and without its genetic search. Of each the least of RUNS, at the first draw of quality.py for that shape, form and size. Where PostgreSQL takes longer than
 LIMIT, it is left out. Wants the program built; PostgreSQL is left out where it isn't there.
 
-usage: planning.py [--program PATH] [--runs N]
+With --instructions, instead: how many instructions the planner's `plan` and the checker's `check` execute, as callgrind counts them, and the reader of
+the certificate's text; and how many these are of those of `plan`. No other work on the machine changes these.
+
+usage: planning.py [--program PATH] [--runs N | --instructions]
 """
 import argparse
 import contextlib
@@ -37,6 +40,41 @@ def least_clock(runs, words, wanted=0):
     return best * 1000, run.stdout
 
 
+def instructions(folder, words, names):
+    """Millions of instructions within the functions whose names begin so, with all that they call."""
+    counts = folder / "callgrind"
+    subprocess.run(["valgrind", "--tool=callgrind", f"--callgrind-out-file={counts}", *words], capture_output=True, check=True)
+    told = subprocess.run(["callgrind_annotate", "--inclusive=yes", "--threshold=100", counts], capture_output=True, text=True, check=True).stdout
+    found = []
+    for name in names:
+        line = next(line for line in told.splitlines() if f":{name}" in line)
+        found.append(int(line.split()[0].replace(",", "")) / 1e6)
+    return found
+
+
+def written(folder, drawn):
+    """The files of the schema, the text and the statistics."""
+    files = [folder / "schema.json", folder / "query.sql", folder / "stats.json"]
+    for file, text in zip(files, (schema_of(drawn), drawn.text, statistics_of(drawn))):
+        file.write_text(text)
+    return files
+
+
+def tell_instructions(program):
+    print("| Query | lines | plan | check | reading | check of plan | with reading |\n|---|---|---|---|---|---|---|")
+    with tempfile.TemporaryDirectory() as name:
+        folder = pathlib.Path(name)
+        for shape, form, size, _ in CASES:
+            files = written(folder, draw(random.Random(40), shape, form, size))
+            text = subprocess.run([program, "plan", *files], capture_output=True, text=True, check=True).stdout
+            (folder / "plan.cert").write_text(text)
+            (plan,) = instructions(folder, [program, "plan", *files], ["planner::planned::plan"])
+            check, read = instructions(folder, [program, "check", *files[:2], folder / "plan.cert"], ["checker::checked::check", "certificate_read::reading::read"])
+            lines = text.split("\n")[1].split()[1]
+            shares = f"{check / plan:.2f} | {(check + read) / plan:.2f}"
+            print(f"| {shape} of {size}, {form} | {lines} | {plan:.2f} | {check:.2f} | {read:.2f} | {shares} |", flush=True)
+
+
 def tables_of(drawn):
     """The tables for PostgreSQL, which takes the numbers of rows from its catalogue."""
     lines = ["SET client_min_messages = warning;", "DROP SCHEMA IF EXISTS public CASCADE; CREATE SCHEMA public;"]
@@ -64,7 +102,11 @@ def main():
     parser = argparse.ArgumentParser()
     parser.add_argument("--runs", type=int, default=9)
     parser.add_argument("--program", default=ROOT / "crates/sqlplan/out/sqlplan")
+    parser.add_argument("--instructions", action="store_true")
     wanted = parser.parse_args()
+    if wanted.instructions:
+        tell_instructions(wanted.program)
+        return
     print("| Query | plan | lines | target | check | PostgreSQL |\n|---|---|---|---|---|---|")
     with contextlib.ExitStack() as held:
         folder = pathlib.Path(held.enter_context(tempfile.TemporaryDirectory()))
@@ -73,9 +115,7 @@ def main():
         start, _ = least_clock(wanted.runs, [wanted.program], 2)
         for shape, form, size, target in CASES:
             drawn = draw(random.Random(40), shape, form, size)
-            files = [folder / "schema.json", folder / "query.sql", folder / "stats.json"]
-            for file, text in zip(files, (schema_of(drawn), drawn.text, statistics_of(drawn))):
-                file.write_text(text)
+            files = written(folder, drawn)
             took, certificate = least_clock(wanted.runs, [wanted.program, "plan", *files])
             (folder / "plan.cert").write_bytes(certificate)
             checked, _ = least_clock(wanted.runs, [wanted.program, "check", *files[:2], folder / "plan.cert"])
