@@ -1,2 +1,3 @@
 pub mod Canonical
+pub mod Framed
 pub mod NotDearer

@@ -2,10 +2,9 @@
 
 ghost use Rattle.std.specs.Prelude.{◌≡◌, ◌≤◌, true, false, length, reverse, Ok, IfOk, IfSome};
 ghost use Rattle.query.specs.Bound.{is_bound};
-ghost use Rattle.frame.specs.Frames.{query_frame};
-ghost use Rattle.frame.specs.FormedFrames.{own_aggregates};
 ghost use Rattle.costs.specs.Costs.{plan_cost};
 ghost use Rattle.certificate.specs.Replay.{replayed};
+ghost use Rattle.planner.specs.Framed.{IsFramed};
 ghost use Rattle.planner.specs.NotDearer.{IsAsCheap, IsNotDearer, certificate_cost};
 
 use crate::certificates::certificate_of;
@@ -38,14 +37,24 @@ pub struct Planned {
     pub is_complete: bool,
 }
 
+/// A query that is planned, with its frame and the aggregates of that, and what it is planned by.
+#[derive(Clone, Copy)]
+struct Planning<'q> {
+    query: &'q Query,
+    frame: &'q [Expr],
+    own: &'q [Aggregation],
+    statistics: &'q Statistics,
+    /// So many lines a log may have at most.
+    limit: usize,
+}
+
 /// A log of the lines; none where some line may not stand.
 fn log_of<'q>(
     alloc: Global,
-    query: &'q Query,
-    own: &'q [Aggregation],
+    planning: Planning<'q>,
     lines: &[Line],
 ) -> Result<Option<Log<'q>>, AllocError> {
-    let mut log = Log::new(alloc, query.tables.as_slice(), own);
+    let mut log = Log::new(alloc, planning.query.tables.as_slice(), planning.own);
     for line in lines {
         match log.push(alloc, line.copy(alloc)?) {
             Ok(()) => {}
@@ -56,24 +65,22 @@ fn log_of<'q>(
     Ok(Some(log))
 }
 
-/// The cheapest plan that is found of the known certificate's class in the query's order.
+/// The cheapest plan that is found of the query's class in its order.
 fn cheapest(
     alloc: Global,
-    query: &Query,
-    statistics: &Statistics,
+    planning: Planning<'_>,
     log: &Log<'_>,
-    known: &Certificate,
 ) -> Result<Option<Plan>, AllocError> {
-    let Some(last) = known.lines.len().checked_sub(1) else {
+    let Some(last) = planning.frame.len().checked_sub(1) else {
         return Ok(None);
     };
     let root = id_of(last)?;
-    let order = query_order(alloc, query)?;
-    let cardinalities = Cardinalities::of(alloc, statistics, log)?;
+    let order = query_order(alloc, planning.query)?;
+    let cardinalities = Cardinalities::of(alloc, planning.statistics, log)?;
     let found = best(
         alloc,
         log,
-        statistics,
+        planning.statistics,
         &cardinalities,
         root,
         order.as_slice(),
@@ -88,13 +95,12 @@ fn cheapest(
 /// selections, so it is simplified again.
 fn grown<'q>(
     alloc: Global,
+    planning: Planning<'_>,
     log: Log<'q>,
-    statistics: &Statistics,
-    limit: usize,
 ) -> Result<Log<'q>, AllocError> {
-    let mut memo = Memo::of(alloc, log, limit)?;
+    let mut memo = Memo::of(alloc, log, planning.limit)?;
     simplify(alloc, &mut memo)?;
-    seed(alloc, &mut memo, statistics)?;
+    seed(alloc, &mut memo, planning.statistics)?;
     simplify(alloc, &mut memo)?;
     Ok(memo.into_log())
 }
@@ -102,18 +108,14 @@ fn grown<'q>(
 /// A certificate whose plan is searched for over the lines of a known one and others behind them, if a plan is found.
 fn searched(
     alloc: Global,
-    query: &Query,
-    statistics: &Statistics,
-    limit: usize,
+    planning: Planning<'_>,
     known: &Certificate,
 ) -> Result<Option<Certificate>, AllocError> {
-    let frame = frame_of(alloc, query)?;
-    let own = own_aggregates(alloc, frame.as_slice())?;
-    let Some(log) = log_of(alloc, query, own.as_slice(), known.lines.as_slice())? else {
+    let Some(log) = log_of(alloc, planning, known.lines.as_slice())? else {
         return Ok(None);
     };
-    let log = grown(alloc, log, statistics, limit)?;
-    let Some(plan) = cheapest(alloc, query, statistics, &log, known)? else {
+    let log = grown(alloc, planning, log)?;
+    let Some(plan) = cheapest(alloc, planning, &log)? else {
         return Ok(None);
     };
     let lines = Items::from_vec(log.into_lines());
@@ -143,18 +145,17 @@ fn cost_within(
 /// The log of a certificate that replays for the query; none where it doesn't.
 fn fitting_log<'q>(
     alloc: Global,
-    query: &'q Query,
-    frame: &[Expr],
-    own: &'q [Aggregation],
+    planning: Planning<'q>,
     certificate: &Certificate,
 ) -> Result<Option<Log<'q>>, AllocError>
-    requires bound { is_bound query.now ≡ true }
-    requires frame { frame.now ≡ query_frame query.now }
-    requires own { own.now ≡ own_aggregates query.now }
-    ensures replays { IfOk result (λ log. IfSome log (λ l. replayed query.now certificate.now ≡ Ok certificate.now)) }
+    requires { IsFramed planning.query.now planning.frame.now planning.own.now }
+    ensures replays { IfOk result (λ log. IfSome log (λ l. replayed planning.query.now certificate.now ≡ Ok certificate.now)) }
     ensures lines { IfOk result (λ log. IfSome log (λ l. l.log ≡ reverse certificate.now.lines)) }
-    ensures instances { IfOk result (λ log. IfSome log (λ l. l.instances ≡ query.now.tables)) }
+    ensures instances { IfOk result (λ log. IfSome log (λ l. l.instances ≡ planning.query.now.tables)) }
 {
+    let Planning {
+        query, frame, own, ..
+    } = planning;
     match judged_log(alloc, query, frame, own, certificate) {
         Ok(log) => Ok(Some(log)),
         Err(Fault::Memory) => Err(AllocError),
@@ -162,52 +163,53 @@ fn fitting_log<'q>(
     }
 }
 
-/// What the plan of a certificate costs, if it has so many lines at most, replays for the query, and its plan costs no more than the known one.
+/// What the plan of a certificate costs, if it has no more lines than a log may have, replays for the query, and its plan costs no more than the known
+/// one.
 fn fitting_cost(
     alloc: Global,
-    query: &Query,
-    statistics: &Statistics,
-    limit: usize,
+    planning: Planning<'_>,
     certificate: &Certificate,
     known: &Certificate,
 ) -> Result<Option<u64>, AllocError>
-    requires { is_bound query.now ≡ true }
-    ensures replays { IfOk result (λ found. IfSome found (λ cost. replayed query.now certificate.now ≡ Ok certificate.now)) }
-    ensures cost { IfOk result (λ found. IfSome found (λ cost. cost ≡ certificate_cost statistics.now query.now certificate.now)) }
-    ensures cheap { IfOk result (λ found. IfSome found (λ cost. IsAsCheap statistics.now query.now certificate.now known.now)) }
-    ensures within { IfOk result (λ found. IfSome found (λ cost. length certificate.now.lines ≤ limit)) }
+    requires { IsFramed planning.query.now planning.frame.now planning.own.now }
+    ensures replays { IfOk result (λ found. IfSome found (λ cost. replayed planning.query.now certificate.now ≡ Ok certificate.now)) }
+    ensures cost { IfOk result (λ found. IfSome found (λ cost. cost ≡ certificate_cost planning.statistics.now planning.query.now certificate.now)) }
+    ensures cheap { IfOk result (λ found. IfSome found (λ cost. IsAsCheap planning.statistics.now planning.query.now certificate.now known.now)) }
+    ensures within { IfOk result (λ found. IfSome found (λ cost. length certificate.now.lines ≤ planning.limit)) }
 {
-    if certificate.lines.len() > limit {
+    if certificate.lines.len() > planning.limit {
         return Ok(None);
     }
-    let frame = frame_of(alloc, query)?;
-    let own = own_aggregates(alloc, frame.as_slice())?;
-    match fitting_log(alloc, query, frame.as_slice(), own.as_slice(), certificate)? {
-        Some(log) => cost_within(alloc, statistics, &log, &certificate.plan, &known.plan),
+    match fitting_log(alloc, planning, certificate)? {
+        Some(log) => cost_within(
+            alloc,
+            planning.statistics,
+            &log,
+            &certificate.plan,
+            &known.plan,
+        ),
         None => Ok(None),
     }
 }
 
-/// The certificate with its cost, if it has so many lines at most, replays for the query, and its plan costs no more than the known one.
+/// The certificate with its cost, if it has no more lines than a log may have, replays for the query, and its plan costs no more than the known one.
 fn fitting(
     alloc: Global,
-    query: &Query,
-    statistics: &Statistics,
-    limit: usize,
+    planning: Planning<'_>,
     found: Option<Certificate>,
     known: &Certificate,
 ) -> Result<Option<Planned>, AllocError>
-    requires { is_bound query.now ≡ true }
-    ensures replays { IfOk result (λ fitting. IfSome fitting (λ planned. replayed query.now planned.certificate ≡ Ok planned.certificate)) }
-    ensures cost { IfOk result (λ fitting. IfSome fitting (λ planned. planned.cost ≡ certificate_cost statistics.now query.now planned.certificate)) }
-    ensures cheap { IfOk result (λ fitting. IfSome fitting (λ planned. IsAsCheap statistics.now query.now planned.certificate known.now)) }
-    ensures within { IfOk result (λ fitting. IfSome fitting (λ planned. length planned.certificate.lines ≤ limit)) }
+    requires { IsFramed planning.query.now planning.frame.now planning.own.now }
+    ensures replays { IfOk result (λ fitting. IfSome fitting (λ planned. replayed planning.query.now planned.certificate ≡ Ok planned.certificate)) }
+    ensures cost { IfOk result (λ fitting. IfSome fitting (λ planned. planned.cost ≡ certificate_cost planning.statistics.now planning.query.now planned.certificate)) }
+    ensures cheap { IfOk result (λ fitting. IfSome fitting (λ planned. IsAsCheap planning.statistics.now planning.query.now planned.certificate known.now)) }
+    ensures within { IfOk result (λ fitting. IfSome fitting (λ planned. length planned.certificate.lines ≤ planning.limit)) }
     ensures complete { IfOk result (λ fitting. IfSome fitting (λ planned. planned.is_complete ≡ false)) }
 {
     let Some(certificate) = found else {
         return Ok(None);
     };
-    match fitting_cost(alloc, query, statistics, limit, &certificate, known)? {
+    match fitting_cost(alloc, planning, &certificate, known)? {
         Some(cost) => Ok(Some(Planned {
             certificate,
             cost,
@@ -221,17 +223,21 @@ fn fitting(
 /// What the plan of a certificate costs that replays.
 fn known_cost(
     alloc: Global,
-    query: &Query,
-    statistics: &Statistics,
+    planning: Planning<'_>,
     known: &Certificate,
 ) -> Result<u64, AllocError>
-    requires bound { is_bound query.now ≡ true }
-    requires replays { replayed query.now known.now ≡ Ok known.now }
-    ensures { IfOk result (λ cost. cost ≡ certificate_cost statistics.now query.now known.now) }
+    requires framed { IsFramed planning.query.now planning.frame.now planning.own.now }
+    requires replays { replayed planning.query.now known.now ≡ Ok known.now }
+    ensures { IfOk result (λ cost. cost ≡ certificate_cost planning.statistics.now planning.query.now known.now) }
 {
-    let frame = frame_of(alloc, query)?;
-    let own = own_aggregates(alloc, frame.as_slice())?;
-    match judged_log(alloc, query, frame.as_slice(), own.as_slice(), known) {
+    let Planning {
+        query,
+        frame,
+        own,
+        statistics,
+        ..
+    } = planning;
+    match judged_log(alloc, query, frame, own, known) {
         Ok(log) => {
             let cardinalities = Cardinalities::of(alloc, statistics, &log)?;
             Ok(cost(statistics, &log, &cardinalities, &known.plan))
@@ -239,6 +245,29 @@ fn known_cost(
         Err(Fault::Memory) => Err(AllocError),
         Err(Fault::Refused(_)) => unreachable!(),
     }
+}
+
+/// The best certificate that was found of a query with its frame, or the canonical one.
+fn plan_of_frame(alloc: Global, planning: Planning<'_>) -> Result<Planned, AllocError>
+    requires { IsFramed planning.query.now planning.frame.now planning.own.now }
+    ensures replays { IfOk result (λ planned. replayed planning.query.now planned.certificate ≡ Ok planned.certificate) }
+    ensures cost { IfOk result (λ planned. planned.cost ≡ certificate_cost planning.statistics.now planning.query.now planned.certificate) }
+    ensures cheap { IfOk result (λ planned. IsNotDearer planning.statistics.now planning.query.now planned.certificate) }
+    ensures within { IfOk result (λ planned. planned.is_searched ≡ true → length planned.certificate.lines ≤ planning.limit) }
+    ensures complete { IfOk result (λ planned. planned.is_complete ≡ false) }
+{
+    let known = certificate_of(alloc, planning.query, planning.frame)?;
+    let found = searched(alloc, planning, &known)?;
+    if let Some(planned) = fitting(alloc, planning, found, &known)? {
+        return Ok(planned);
+    }
+    let cost = known_cost(alloc, planning, &known)?;
+    Ok(Planned {
+        certificate: known,
+        cost,
+        is_searched: false,
+        is_complete: false,
+    })
 }
 
 fn plan_of_tree(
@@ -254,18 +283,16 @@ fn plan_of_tree(
     ensures within { IfOk result (λ planned. planned.is_searched ≡ true → length planned.certificate.lines ≤ limit) }
     ensures complete { IfOk result (λ planned. planned.is_complete ≡ false) }
 {
-    let known = certificate_of(alloc, query)?;
-    let found = searched(alloc, query, statistics, limit, &known)?;
-    if let Some(planned) = fitting(alloc, query, statistics, limit, found, &known)? {
-        return Ok(planned);
-    }
-    let cost = known_cost(alloc, query, statistics, &known)?;
-    Ok(Planned {
-        certificate: known,
-        cost,
-        is_searched: false,
-        is_complete: false,
-    })
+    let frame = frame_of(alloc, query)?;
+    let own = own_aggregates(alloc, frame.as_slice())?;
+    let planning = Planning {
+        query,
+        frame: frame.as_slice(),
+        own: own.as_slice(),
+        statistics,
+        limit,
+    };
+    plan_of_frame(alloc, planning)
 }
 
 /// Plans a query: a certificate that replays for it, whose plan is the cheapest that was found by the statistics over a log of at most `limit`
