@@ -1,7 +1,7 @@
 -- Lists of columns as sets.
 use Rattle.std.proofs.Common.{◌≡◌, refl, zero, suc, ap, sym, ◌∙◌, inl, inr, ℕ, ◌+◌, ◌-◌, ◌<◌, ◌≤◌, Bool, true, false, ◌||◌, ◌&&◌, nat_le, cond, nat_lt, ◌==◌, List, [], ◌∷◌, ◌++◌, length, get_or, Result, Ok, Err, MatchResult, is_ok, arith}
 use Rattle.std.specs.List.{AllByRecursion, Contains, range_with_len}
-use Rattle.std.specs.List.Sorted.{IsStrictlyIncreasing, IsStrictlySortedBy, IsBinarySearchResult}
+use Rattle.std.specs.List.Sorted.{IsPermutation, IsStrictlyIncreasing, IsStrictlySortedBy, IsBinarySearchResult}
 use Rattle.std.specs.Cmp.{both_ways}
 use Rattle.std.specs.Ordering.{nat_cmp}
 use Rattle.std.specs.declared.cmp.Ordering.TheVariants.{Less, Equal, Greater}
@@ -9,7 +9,7 @@ use Rattle.std.proofs.lemmas.Bool.{cases_order, cases_lt, eqb-true, eqb-false, e
 use Rattle.std.proofs.lemmas.Map.Keys.{below_from_sorted, sorted_from_strictly_increasing}
 use Rattle.std.proofs.lemmas.List.{get_or_default, map-id}
 use Rattle.std.proofs.lemmas.List.FromFn.{length-range_with_len, get_or-range_with_len, map-range_with_len_more}
-use Rattle.std.proofs.lemmas.List.Sorted.{searched}
+use Rattle.std.proofs.lemmas.List.Sorted.{searched, Contains-permutation, IsPermutation-sym}
 use Rattle.algebra.specs.Columns.{has, insert, rising}
 use Rattle.algebra.specs.Expressions.{are_different}
 use Rattle.algebra.proofs.Lists.{cons-same}
@@ -160,6 +160,11 @@ has-contains (x ∷ xs) c e = elim (or_cases (x == c) (has xs c) e) [
 -- lists with the same elements are the same set
 pub same-has : (xs ys : List ℕ) → ((c : ℕ) → Contains xs c → Contains ys c) → ((c : ℕ) → Contains ys c → Contains xs c) → (c : ℕ) → has xs c ≡ has ys c
 same-has xs ys to from c = both_ways (has xs c) (has ys c) (λ e. contains-has ys c (to c (has-contains xs c e))) (λ e. contains-has xs c (from c (has-contains ys c e)))
+
+-- lists with the same elements in another order are one set
+pub rising-moved : (xs ys : List ℕ) → IsPermutation xs ys → rising xs ≡ rising ys
+rising-moved xs ys moved = one-rising (rising xs) (rising ys) (rises-rising xs) (rises-rising ys) (λ k.
+    has-rising k xs ∙ same-has xs ys (λ c. Contains-permutation xs ys c moved) (λ c. Contains-permutation ys xs c (IsPermutation-sym xs ys moved)) k ∙ sym (has-rising k ys))
 
 -- what a binary search says of a rising list
 pub found-has : (xs : List ℕ) (c : ℕ) (r : Result ℕ ℕ) → IsStrictlyIncreasing xs → IsBinarySearchResult (λ y. nat_cmp y c) xs r → is_ok r ≡ has xs c

@@ -58,6 +58,8 @@ impl Columns {
         let mut columns = Vec::new(alloc);
         columns.extend_from_slice(self.as_slice())?;
         columns.extend_from_slice(other.as_slice())?;
+        // Two runs that rise, which this sort merges.
+        columns.sort()?;
         Ok(Columns::from_vec(columns))
     }
 
