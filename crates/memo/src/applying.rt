@@ -1,5 +1,8 @@
 //! A log grows by rules.
 
+ghost use Rattle.std.specs.Prelude.{◌≡◌};
+ghost use Rattle.memo.specs.Growth.{Extends, Grows, IsWithin};
+
 use crate::keys::{Operation, Operator};
 use crate::lines::{Member, Memo};
 use crate::unadded::{Unadded, unless_refused};
@@ -83,7 +86,10 @@ impl<'q> Memo<'q> {
         alloc: Global,
         operation: Operation<'_>,
         input: Option<ClassId>,
-    ) -> Result<Option<Member>, AllocError> {
+    ) -> Result<Option<Member>, AllocError>
+        ensures log { self.new.log ≡ self.old.log }
+        ensures limit { self.new.limit ≡ self.old.limit }
+    {
         match input {
             Some(_) => self.alike(
                 alloc,
@@ -103,7 +109,10 @@ impl<'q> Memo<'q> {
         operation: Operation<'_>,
         left: Option<ClassId>,
         right: Option<ClassId>,
-    ) -> Result<Option<Member>, AllocError> {
+    ) -> Result<Option<Member>, AllocError>
+        ensures log { self.new.log ≡ self.old.log }
+        ensures limit { self.new.limit ≡ self.old.limit }
+    {
         match right {
             Some(_) => self.line_over(alloc, Operation { right, ..operation }, left),
             None => Ok(None),
@@ -112,7 +121,10 @@ impl<'q> Memo<'q> {
 
     /// A line with the expression that a shape is, up to which classes are the same, if there is one. Nothing is added.
     #[cycle(looking)]
-    fn line_there(&mut self, alloc: Global, shape: &Shape) -> Result<Option<Member>, AllocError> {
+    fn line_there(&mut self, alloc: Global, shape: &Shape) -> Result<Option<Member>, AllocError>
+        ensures log { self.new.log ≡ self.old.log }
+        ensures limit { self.new.limit ≡ self.old.limit }
+    {
         match shape {
             Shape::Class(_) => Ok(None),
             Shape::Select(c, x) => {
@@ -157,7 +169,10 @@ impl<'q> Memo<'q> {
         &mut self,
         alloc: Global,
         shape: &Boxed<Shape>,
-    ) -> Result<Option<ClassId>, AllocError> {
+    ) -> Result<Option<ClassId>, AllocError>
+        ensures log { self.new.log ≡ self.old.log }
+        ensures limit { self.new.limit ≡ self.old.limit }
+    {
         let shape = shape.get();
         if let Shape::Class(class) = shape {
             return Ok(Some(*class));
@@ -170,13 +185,17 @@ impl<'q> Memo<'q> {
 
     /// The expression that a shape is over classes. The lines that have its inner expressions are found or founded, and are added to the
     /// list, outer before inner, left before right: a step names lines that have just these expressions.
+    #[tactic(auto, using(crate::proofs::Growth::extended_along))]
     #[cycle(spelling)]
     fn expr_of(
         &mut self,
         alloc: Global,
         shape: Shape,
         makes: &mut Vec<LineId>,
-    ) -> Result<Expr, Unadded> {
+    ) -> Result<Expr, Unadded>
+        ensures extends { Extends self.old.limit self.old.log self.new.log }
+        ensures limit { self.new.limit ≡ self.old.limit }
+    {
         match shape {
             Shape::Class(_) => Err(Unadded::Refused),
             Shape::Select(c, x) => {
@@ -215,13 +234,17 @@ impl<'q> Memo<'q> {
     }
 
     /// The class that a shape is, in the same way.
+    #[tactic(auto, using(crate::proofs::Growth::extended_along))]
     #[cycle(spelling)]
     fn class_of(
         &mut self,
         alloc: Global,
         shape: Shape,
         makes: &mut Vec<LineId>,
-    ) -> Result<ClassId, Unadded> {
+    ) -> Result<ClassId, Unadded>
+        ensures extends { Extends self.old.limit self.old.log self.new.log }
+        ensures limit { self.new.limit ≡ self.old.limit }
+    {
         if let Shape::Class(class) = shape {
             return Ok(class);
         }
@@ -243,7 +266,10 @@ impl<'q> Memo<'q> {
         other: ClassId,
         applied: Applied<'_>,
         makes: &[LineId],
-    ) -> Result<Option<LineId>, Unadded> {
+    ) -> Result<Option<LineId>, Unadded>
+        ensures extends { Extends self.old.limit self.old.log self.new.log }
+        ensures limit { self.new.limit ≡ self.old.limit }
+    {
         if self.log().are_same(class, other) {
             return Ok(None);
         }
@@ -260,7 +286,10 @@ impl<'q> Memo<'q> {
         applied: Applied<'_>,
         expr: Expr,
         makes: &[LineId],
-    ) -> Result<LineId, Unadded> {
+    ) -> Result<LineId, Unadded>
+        ensures extends { Extends self.old.limit self.old.log self.new.log }
+        ensures limit { self.new.limit ≡ self.old.limit }
+    {
         match self.named(alloc, &expr)? {
             Some(found) => {
                 let mut spelt = Vec::new(alloc);
@@ -276,7 +305,11 @@ impl<'q> Memo<'q> {
         }
     }
 
-    fn applied(&mut self, alloc: Global, applied: Applied<'_>) -> Result<LineId, Unadded> {
+    #[tactic(auto, using(crate::proofs::Growth::extended_along))]
+    fn applied(&mut self, alloc: Global, applied: Applied<'_>) -> Result<LineId, Unadded>
+        ensures extends { Extends self.old.limit self.old.log self.new.log }
+        ensures limit { self.new.limit ≡ self.old.limit }
+    {
         let Given { class, shape } = self.given(alloc, applied)?;
         if let Shape::Class(other) = shape {
             let line = self.united(alloc, class, other, applied, &[])?;
@@ -301,7 +334,11 @@ impl<'q> Memo<'q> {
         alloc: Global,
         rule: RuleName,
         uses: &[LineId],
-    ) -> Result<Option<LineId>, AllocError> {
+    ) -> Result<Option<LineId>, AllocError>
+        ensures grows { Grows self.old.log self.new.log }
+        ensures within { IsWithin self.old.limit self.old.log self.new.log }
+        ensures limit { self.new.limit ≡ self.old.limit }
+    {
         unless_refused(self.applied(alloc, Applied { rule, uses }))
     }
 }

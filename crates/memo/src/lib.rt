@@ -1,7 +1,6 @@
 //! A log whose lines are found by their expressions up to which classes are the same, and grows by rules.
 //!
-//! Nothing is promised of which lines are added: the log takes only lines that may stand, so the code here is kept from panics and endless
-//! loops alone.
+//! A log that grows keeps the lines that it has. Of those that are added nothing is promised: the log takes only lines that may stand.
 #![tactic(auto)]
 
 mod applying;

@@ -5,6 +5,7 @@ ghost use Rattle.std.specs.List.Sorted.{IsSorted};
 ghost use Rattle.std.specs.Ordering.{nat_cmp};
 ghost use Rattle.logs.specs.Members.{is_member, once_if};
 ghost use Rattle.logs.specs.Sets.{times};
+ghost use Rattle.memo.specs.Growth.{Extends, Grows, IsWithin};
 
 use crate::groups::Groups;
 use crate::keys::{ConditionNumbers, Key, Keys, Operation, operation_of};
@@ -63,9 +64,13 @@ enum Said {
 }
 
 impl<'q> Memo<'q> {
-    /// The lines of a log, and others behind them by which lines that have one expression are of one class. No line is ever added to a log that
-    /// holds `limit` lines. It takes the time of all conditions, and of what has other groups as classes become the same.
-    pub fn of(alloc: Global, log: Log<'q>, limit: usize) -> Result<Memo<'q>, AllocError> {
+    /// The lines of a log, and others behind them by which lines that have one expression are of one class. It takes the time of
+    /// all conditions, and of what has other groups as classes become the same.
+    pub fn of(alloc: Global, log: Log<'q>, limit: usize) -> Result<Memo<'q>, AllocError>
+        ensures grows { IfOk result (λ memo. Grows log.entry memo.log) }
+        ensures within { IfOk result (λ memo. IsWithin limit log.entry memo.log) }
+        ensures limit { IfOk result (λ memo. memo.limit ≡ limit) }
+    {
         let count = id_of(log.len())?;
         let mut memo = Memo {
             log,
@@ -83,11 +88,15 @@ impl<'q> Memo<'q> {
         Ok(memo)
     }
 
-    pub fn log(&self) -> &Log<'q> {
+    pub fn log(&self) -> &Log<'q>
+        ensures { result.now ≡ self.now.log }
+    {
         &self.log
     }
 
-    pub fn into_log(self) -> Log<'q> {
+    pub fn into_log(self) -> Log<'q>
+        ensures { result ≡ self.entry.log }
+    {
         let Memo { log, .. } = self;
         log
     }
@@ -113,7 +122,10 @@ impl<'q> Memo<'q> {
     }
 
     /// Enters the next line of the log.
-    fn note(&mut self, alloc: Global, line: LineId) -> Result<(), AllocError> {
+    fn note(&mut self, alloc: Global, line: LineId) -> Result<(), AllocError>
+        ensures log { self.new.log ≡ self.old.log }
+        ensures limit { self.new.limit ≡ self.old.limit }
+    {
         self.groups.add()?;
         match self.said(line) {
             Said::Member => self.note_member(alloc, line),
@@ -123,7 +135,10 @@ impl<'q> Memo<'q> {
     }
 
     /// Enters a line that has an expression.
-    fn note_member(&mut self, alloc: Global, line: LineId) -> Result<(), AllocError> {
+    fn note_member(&mut self, alloc: Global, line: LineId) -> Result<(), AllocError>
+        ensures log { self.new.log ≡ self.old.log }
+        ensures limit { self.new.limit ≡ self.old.limit }
+    {
         let Some(member) = self.log.member(line) else {
             return Ok(());
         };
@@ -139,7 +154,10 @@ impl<'q> Memo<'q> {
     }
 
     /// Enters a line by its key of groups, unless another one has that.
-    fn enter(&mut self, key: Key, line: LineId) -> Result<(), AllocError> {
+    fn enter(&mut self, key: Key, line: LineId) -> Result<(), AllocError>
+        ensures log { self.new.log ≡ self.old.log }
+        ensures limit { self.new.limit ≡ self.old.limit }
+    {
         match self.alike.get(&key).copied() {
             Some(other) => {
                 self.congruent.push(Congruence {
@@ -155,7 +173,10 @@ impl<'q> Memo<'q> {
     }
 
     /// Makes the groups of two classes one, and enters again the lines over classes whose group changes.
-    fn unite(&mut self, alloc: Global, first: ClassId, second: ClassId) -> Result<(), AllocError> {
+    fn unite(&mut self, alloc: Global, first: ClassId, second: ClassId) -> Result<(), AllocError>
+        ensures log { self.new.log ≡ self.old.log }
+        ensures limit { self.new.limit ≡ self.old.limit }
+    {
         for line in &self.groups.unite(first, second)? {
             if let Some(member) = self.log.member(*line) {
                 let operation = operation_of(member.expr);
@@ -167,7 +188,10 @@ impl<'q> Memo<'q> {
     }
 
     /// Adds a line, if it may stand and there is room for it.
-    fn append(&mut self, alloc: Global, line: Line) -> Result<LineId, Unadded> {
+    fn append(&mut self, alloc: Global, line: Line) -> Result<LineId, Unadded>
+        ensures extends { Extends self.old.limit self.old.log self.new.log }
+        ensures limit { self.new.limit ≡ self.old.limit }
+    {
         if self.log.len() >= self.limit {
             return Err(Unadded::Refused);
         }
@@ -178,7 +202,11 @@ impl<'q> Memo<'q> {
     }
 
     /// Adds lines that say of two lines with one expression that their classes are the same, and so on for the lines over these.
-    fn close(&mut self, alloc: Global) -> Result<(), AllocError> {
+    #[tactic(auto, using(crate::proofs::Growth::extended_along))]
+    fn close(&mut self, alloc: Global) -> Result<(), AllocError>
+        ensures extends { Extends self.old.limit self.old.log self.new.log }
+        ensures limit { self.new.limit ≡ self.old.limit }
+    {
         for _ in 0..MOST_ALIKE {
             let Some(Congruence { first, second }) = self.congruent.pop() else {
                 break;
@@ -194,7 +222,11 @@ impl<'q> Memo<'q> {
     }
 
     /// Adds a line, if it may stand, and what follows from it of which classes are the same.
-    pub(crate) fn push(&mut self, alloc: Global, line: Line) -> Result<LineId, Unadded> {
+    #[tactic(auto, using(crate::proofs::Growth::extended_along))]
+    pub(crate) fn push(&mut self, alloc: Global, line: Line) -> Result<LineId, Unadded>
+        ensures extends { Extends self.old.limit self.old.log self.new.log }
+        ensures limit { self.new.limit ≡ self.old.limit }
+    {
         let number = self.append(alloc, line)?;
         self.close(alloc)?;
         Ok(number)
@@ -208,11 +240,10 @@ impl<'q> Memo<'q> {
     }
 
     /// The first line with an expression, its classes being named as here.
-    pub(crate) fn named(
-        &mut self,
-        alloc: Global,
-        expr: &Expr,
-    ) -> Result<Option<Member>, AllocError> {
+    pub(crate) fn named(&mut self, alloc: Global, expr: &Expr) -> Result<Option<Member>, AllocError>
+        ensures log { self.new.log ≡ self.old.log }
+        ensures limit { self.new.limit ≡ self.old.limit }
+    {
         let keys = self
             .conditions
             .keys(alloc, operation_of(expr), &self.groups)?;
@@ -224,13 +255,19 @@ impl<'q> Memo<'q> {
         &mut self,
         alloc: Global,
         operation: Operation<'_>,
-    ) -> Result<Option<Member>, AllocError> {
+    ) -> Result<Option<Member>, AllocError>
+        ensures log { self.new.log ≡ self.old.log }
+        ensures limit { self.new.limit ≡ self.old.limit }
+    {
         let key = self.conditions.alike_key(alloc, operation, &self.groups)?;
         Ok(self.member(self.alike.get(&key).copied()))
     }
 
     /// The first line with an expression, its classes being named as here: a new one where there is none.
-    pub(crate) fn founded(&mut self, alloc: Global, expr: Expr) -> Result<Member, Unadded> {
+    pub(crate) fn founded(&mut self, alloc: Global, expr: Expr) -> Result<Member, Unadded>
+        ensures extends { Extends self.old.limit self.old.log self.new.log }
+        ensures limit { self.new.limit ≡ self.old.limit }
+    {
         if let Some(found) = self.named(alloc, &expr)? {
             return Ok(found);
         }
@@ -239,7 +276,11 @@ impl<'q> Memo<'q> {
     }
 
     /// The class of an expression, up to which classes are the same; a new one where no line has it, none where the log refuses it.
-    pub fn found(&mut self, alloc: Global, expr: Expr) -> Result<Option<ClassId>, AllocError> {
+    pub fn found(&mut self, alloc: Global, expr: Expr) -> Result<Option<ClassId>, AllocError>
+        ensures grows { Grows self.old.log self.new.log }
+        ensures within { IsWithin self.old.limit self.old.log self.new.log }
+        ensures limit { self.new.limit ≡ self.old.limit }
+    {
         if let Some(member) = self.alike(alloc, operation_of(&expr))? {
             return Ok(Some(member.class));
         }
@@ -255,7 +296,10 @@ impl<'q> Memo<'q> {
         alloc: Global,
         class: ClassId,
         expr: &Expr,
-    ) -> Result<Option<LineId>, AllocError> {
+    ) -> Result<Option<LineId>, AllocError>
+        ensures log { self.new.log ≡ self.old.log }
+        ensures limit { self.new.limit ≡ self.old.limit }
+    {
         match self.alike(alloc, operation_of(expr))? {
             Some(member) if self.log.are_same(member.class, class) => Ok(Some(member.line)),
             _ => Ok(None),
@@ -278,7 +322,11 @@ impl<'q> Memo<'q> {
     }
 
     /// Adds that the fact holds of a class by the line that founds it, unless it is known. Whether it is known now.
-    pub fn learn(&mut self, alloc: Global, class: ClassId, fact: Fact) -> Result<bool, AllocError> {
+    pub fn learn(&mut self, alloc: Global, class: ClassId, fact: Fact) -> Result<bool, AllocError>
+        ensures grows { Grows self.old.log self.new.log }
+        ensures within { IsWithin self.old.limit self.old.log self.new.log }
+        ensures limit { self.new.limit ≡ self.old.limit }
+    {
         if self.log.classes().knows(class, &fact) {
             return Ok(true);
         }
