@@ -1,24 +1,26 @@
 //! Answers queries over tables in files, by checked plans.
 #![tactic(auto)]
 
-ghost use Rattle.std.specs.Prelude.{◌≡◌, Ok, length, vec_len, IfOk, IfErr};
+ghost use Rattle.std.specs.Prelude.{◌≡◌, Ok, length, vec_len, string_bytes, IfOk, IfErr};
 ghost use Rattle.schema.specs.Reading.{schema_of};
-ghost use Rattle.sqlplan.specs.Stops.{SaysFile, SaysTable};
+ghost use Rattle.sqlplan.specs.Stops.{SaysFile, SaysTable, table_path};
 
+mod arguments;
 mod command;
 mod stop;
 
 use answer_text::CountedOutput;
+use arguments::arguments;
 use clap::ArgMatches;
 use clap::error::ErrorKind;
 use command::command;
 use pipeline::{PlanForm, Refusal, check, evaluate, explain, plan, query, run};
 use schema::Schema;
-use std::alloc::Global;
+use std::alloc::{AllocError, Global};
 use std::fs::File;
 use std::io::{BufWriter, Printer, Write};
 use std::process::ExitCode;
-use std::{env, fs, io};
+use std::{fs, io};
 use stop::Stop;
 use store::CountedInput;
 
@@ -29,6 +31,18 @@ fn bytes_of(rt: &HostRuntime, path: &str) -> Result<Vec<u8>, Stop>
     match fs::read(rt, path) {
         Ok(bytes) => Ok(bytes),
         Err(error) => Err(Stop::of_file(rt.alloc(), path, &error)),
+    }
+}
+
+/// The path of a table's file. No folder is the current one.
+#[tactic(auto, unfolding(crate::specs::Stops::table_path))]
+fn path_of(alloc: Global, folder: &str, name: &str) -> Result<String, AllocError>
+    ensures { IfOk result (λ path. string_bytes path ≡ table_path folder.now name.now) }
+{
+    if folder.is_empty() {
+        format!(in alloc; "{name}.csv")
+    } else {
+        format!(in alloc; "{folder}/{name}.csv")
     }
 }
 
@@ -44,8 +58,7 @@ fn open_tables(
     let alloc = rt.alloc();
     let mut tables = Vec::new(alloc);
     for table in schema.tables.as_slice() {
-        let name = table.name.as_str();
-        let path = format!(in alloc; "{folder}/{name}.csv")?;
+        let path = path_of(alloc, folder, table.name.as_str())?;
         match fs::open(rt, path.as_str()) {
             Ok(file) => tables.push(CountedInput::new(file))?,
             Err(error) => return Err(Stop::of_file(alloc, path.as_str(), &error)),
@@ -288,7 +301,7 @@ fn obey(rt: &HostRuntime, command: &str, arguments: &ArgMatches<'_>) -> Result<(
 /// Reads the command line and does what it says.
 fn start(rt: &HostRuntime) -> Result<(), Stop> {
     let alloc = rt.alloc();
-    let words: Vec<String> = env::args(rt)?.collect(alloc)?;
+    let words = arguments(rt)?;
     match command(alloc)?.try_get_matches_from(words.as_slice()) {
         Ok(matches) => match matches.subcommand() {
             Some((command, arguments)) => obey(rt, command, arguments),

@@ -1,15 +1,17 @@
 //! Why the program stops early, and what it says.
 
-ghost use Rattle.std.specs.Prelude.{◌≡◌};
+ghost use Rattle.std.specs.Prelude.{◌≡◌, ◌++◌, codes, string_bytes, IfOk};
 ghost use Rattle.std.specs.Option.{option_copied};
 ghost use Rattle.pipeline.specs.Lines.{line_of};
 ghost use Rattle.pipeline.specs.Refusals as refusals;
 ghost use Rattle.sqlplan.specs.Stops as spec;
+ghost use Rattle.words.specs.Spelling.{spelled as path_text};
 
 use pipeline::{Refusal, fault_line};
 use schema::Schema;
 use std::alloc::{AllocError, AllocFailed, Global};
 use std::io;
+use words::spelled;
 
 /// Why the program stops early.
 #[derive(Debug, Drop)]
@@ -19,6 +21,13 @@ pub enum Stop {
     Memory,
     /// A line to say, and the exit status.
     Line(String, u8),
+}
+
+fn device_line(alloc: Global, path: &str) -> Result<String, AllocError>
+    ensures { IfOk result (λ line. string_bytes line ≡ codes "device " ++ path_text path.now) }
+{
+    let spelling = spelled(alloc, path)?;
+    format!(in alloc; "device {spelling}")
 }
 
 impl Stop {
@@ -39,9 +48,9 @@ impl Stop {
         if error.kind() == io::ErrorKind::OutOfMemory {
             return Stop::Memory;
         }
-        match format!(in alloc; "device {path}") {
+        match device_line(alloc, path) {
             Ok(line) => Stop::Line(line, 3),
-            Err(_) => Stop::Memory,
+            Err(AllocError) => Stop::Memory,
         }
     }
 
