@@ -4,6 +4,20 @@ use clap::builder::ValueParser;
 use clap::{Arg, ArgAction, Command};
 use std::alloc::{AllocError, Global};
 
+/// What `--version` says behind the name: the program's version, and the kit that it is proved and built with, as `rt version` has it.
+const VERSION: &str = "0.1.0 (rattle-kit-13f logic dac8208d650f15bf)";
+
+/// An example of each command, at the end of the help.
+const EXAMPLES: &str = "\
+Examples:
+  sqlplan query schema.json query.sql data
+  sqlplan meaning schema.json query.sql data
+  sqlplan plan schema.json query.sql stats.json > query.cert
+  sqlplan explain schema.json query.sql stats.json --format dot
+  sqlplan check schema.json query.sql query.cert
+  sqlplan run schema.json query.sql query.cert data
+  sqlplan help query";
+
 /// How a plan may be shown.
 const FORMATS: &[&str] = &["text", "dot"];
 
@@ -103,6 +117,8 @@ pub fn command<'a>(alloc: Global) -> Result<Command<'a>, AllocError> {
     .arg(folder(alloc))?;
     Command::new(alloc, "sqlplan")
         .about("Plans queries, checks the plans, and runs what was checked")
+        .version(VERSION)
+        .after_help(EXAMPLES)
         .subcommand_required(true)
         .subcommand(query)?
         .subcommand(meaning)?

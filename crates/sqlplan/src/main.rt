@@ -193,12 +193,17 @@ fn answer_by_certificate(
     ended(rt.alloc(), given.schema, outcome)
 }
 
+/// The end of a write to standard output.
+fn written(alloc: Global, outcome: io::Result<()>) -> Result<(), Stop> {
+    match outcome {
+        Ok(()) => Ok(()),
+        Err(_) => Err(Stop::of_refusal(alloc, &Refusal::Output, None)),
+    }
+}
+
 /// Writes on standard output.
 fn print_bytes(rt: &HostRuntime, bytes: &[u8]) -> Result<(), Stop> {
-    match io::writer(rt).write_all(bytes) {
-        Ok(()) => Ok(()),
-        Err(_) => Err(Stop::of_refusal(rt.alloc(), &Refusal::Output, None)),
-    }
+    written(rt.alloc(), io::writer(rt).write_all(bytes))
 }
 
 /// Writes on standard output the certificate of a plan, by the statistics of a file.
@@ -248,10 +253,7 @@ fn accept(rt: &HostRuntime, given: Given<'_>, certificate: &str) -> Result<(), S
     let certificate = bytes_of(rt, certificate)?;
     let outcome = check(rt.alloc(), given.bytes, given.text, certificate.as_slice());
     ended(rt.alloc(), given.schema, outcome)?;
-    match rt.println("accepted") {
-        Ok(()) => Ok(()),
-        Err(_) => Err(Stop::of_refusal(rt.alloc(), &Refusal::Output, None)),
-    }
+    written(rt.alloc(), rt.println("accepted"))
 }
 
 /// Reads the query's text and does what is asked.
@@ -298,22 +300,27 @@ fn obey(rt: &HostRuntime, command: &str, arguments: &ArgMatches<'_>) -> Result<(
     }
 }
 
+/// What the parser of the command line has to say in place of a command. The version was asked for, and goes to standard output.
+fn say(rt: &HostRuntime, error: &clap::Error) -> Result<(), Stop> {
+    match error.kind() {
+        ErrorKind::OutOfMemory => Err(Stop::Memory),
+        ErrorKind::DisplayVersion => written(rt.alloc(), rt.print(error)),
+        _ => {
+            let _ = rt.eprint(error);
+            Err(Stop::Usage)
+        }
+    }
+}
+
 /// Reads the command line and does what it says.
 fn start(rt: &HostRuntime) -> Result<(), Stop> {
-    let alloc = rt.alloc();
     let words = arguments(rt)?;
-    match command(alloc)?.try_get_matches_from(words.as_slice()) {
+    match command(rt.alloc())?.try_get_matches_from(words.as_slice()) {
         Ok(matches) => match matches.subcommand() {
             Some((command, arguments)) => obey(rt, command, arguments),
             None => Err(Stop::Usage),
         },
-        Err(error) => {
-            if error.kind() == ErrorKind::OutOfMemory {
-                return Err(Stop::Memory);
-            }
-            let _ = rt.eprint(&error);
-            Err(Stop::Usage)
-        }
+        Err(error) => say(rt, &error),
     }
 }
 
