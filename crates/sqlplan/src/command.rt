@@ -16,6 +16,7 @@ Examples:
   sqlplan explain schema.json query.sql stats.json --format dot
   sqlplan check schema.json query.sql query.cert
   sqlplan run schema.json query.sql query.cert data
+  sqlplan codes
   sqlplan help query";
 
 /// How a plan may be shown.
@@ -73,57 +74,82 @@ fn folder(alloc: Global) -> Arg<'static> {
     place(alloc, "DIR", "the folder with <table>.csv for each table")
 }
 
-pub fn command<'a>(alloc: Global) -> Result<Command<'a>, AllocError> {
-    let query = of_query(
+fn query<'a>(alloc: Global) -> Result<Command<'a>, AllocError> {
+    of_query(
         alloc,
         "query",
         "Answers a query over tables in CSV files, by a plan that was checked",
     )?
     .arg(folder(alloc))?
-    .arg(limit(alloc))?;
-    let meaning = of_query(
+    .arg(limit(alloc))
+}
+
+fn meaning<'a>(alloc: Global) -> Result<Command<'a>, AllocError> {
+    of_query(
         alloc,
         "meaning",
         "Answers a query over tables in CSV files, as its meaning says: slowly, with no plan",
     )?
-    .arg(folder(alloc))?;
-    let plan = of_query(
+    .arg(folder(alloc))
+}
+
+fn plan<'a>(alloc: Global) -> Result<Command<'a>, AllocError> {
+    of_query(
         alloc,
         "plan",
         "Plans a query by statistics, and writes the certificate of its plan",
     )?
     .arg(statistics(alloc))?
-    .arg(limit(alloc))?;
-    let explain = of_query(
+    .arg(limit(alloc))
+}
+
+fn explain<'a>(alloc: Global) -> Result<Command<'a>, AllocError> {
+    of_query(
         alloc,
         "explain",
         "Plans a query by statistics, and shows its plan with rows and costs",
     )?
     .arg(statistics(alloc))?
     .arg(format(alloc))?
-    .arg(limit(alloc))?;
-    let check = of_query(
+    .arg(limit(alloc))
+}
+
+fn check<'a>(alloc: Global) -> Result<Command<'a>, AllocError> {
+    of_query(
         alloc,
         "check",
         "Checks that a certificate's plan answers a query, and says accepted where it does",
     )?
-    .arg(certificate(alloc))?;
-    let run = of_query(
+    .arg(certificate(alloc))
+}
+
+fn run<'a>(alloc: Global) -> Result<Command<'a>, AllocError> {
+    of_query(
         alloc,
         "run",
         "Answers a query over tables in CSV files, by the plan of a certificate that is accepted",
     )?
     .arg(certificate(alloc))?
-    .arg(folder(alloc))?;
+    .arg(folder(alloc))
+}
+
+fn codes<'a>(alloc: Global) -> Command<'a> {
+    Command::new(alloc, "codes").about(
+        "Lists the codes of refusals, each with what it means and an example",
+    )
+}
+
+pub fn command<'a>(alloc: Global) -> Result<Command<'a>, AllocError> {
     Command::new(alloc, "sqlplan")
         .about("Plans queries, checks the plans, and runs what was checked")
         .version(VERSION)
         .after_help(EXAMPLES)
         .subcommand_required(true)
-        .subcommand(query)?
-        .subcommand(meaning)?
-        .subcommand(plan)?
-        .subcommand(explain)?
-        .subcommand(check)?
-        .subcommand(run)
+        .subcommand(query(alloc)?)?
+        .subcommand(meaning(alloc)?)?
+        .subcommand(plan(alloc)?)?
+        .subcommand(explain(alloc)?)?
+        .subcommand(check(alloc)?)?
+        .subcommand(run(alloc)?)?
+        .subcommand(codes(alloc))
 }

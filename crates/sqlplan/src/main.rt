@@ -23,6 +23,7 @@ use std::process::ExitCode;
 use std::{fs, io};
 use stop::Stop;
 use store::CountedInput;
+use words::list_of_codes;
 
 /// The bytes of a file.
 fn bytes_of(rt: &HostRuntime, path: &str) -> Result<Vec<u8>, Stop>
@@ -256,6 +257,12 @@ fn accept(rt: &HostRuntime, given: Given<'_>, certificate: &str) -> Result<(), S
     written(rt.alloc(), rt.println("accepted"))
 }
 
+/// Lists on standard output the codes of refusals.
+fn explain_codes(rt: &HostRuntime) -> Result<(), Stop> {
+    let list = list_of_codes(rt.alloc())?;
+    print_bytes(rt, list.as_bytes())
+}
+
 /// Reads the query's text and does what is asked.
 fn serve(
     rt: &HostRuntime,
@@ -286,6 +293,9 @@ fn serve(
 
 /// A command. The schema is read and tested before any other file is opened.
 fn obey(rt: &HostRuntime, command: &str, arguments: &ArgMatches<'_>) -> Result<(), Stop> {
+    if command == "codes" {
+        return explain_codes(rt);
+    }
     let Some(asked) = Asked::of(command, arguments) else {
         return Err(Stop::Usage);
     };
