@@ -5,11 +5,11 @@ use Rattle.schema.specs.declared.schema.Schema.{Schema}
 use Rattle.sqlplan.specs.declared.stop.Stop.{Stop}
 use Rattle.sqlplan.specs.declared.stop.Stop.TheVariants.{Usage, Memory, Line}
 
--- the line with this status, or out of memory for it
+-- the line with this status, whatever is said behind it for people; or out of memory for it
 abbrev pub Says : List ℕ → ℕ → Stop → Type 0
 Says line status Usage = ⊥
 Says line status Memory = Unit {0}
-Says line status (Line text own) = (string_bytes text ≡ line) × (own ≡ status)
+Says line status (Line text own words) = (string_bytes text ≡ line) × (own ≡ status)
 
 -- a file fails: the machine did. A path that would break the line or steer a terminal stands between quotes
 abbrev pub SaysFile : List ℕ → Stop → Type 0
@@ -27,4 +27,4 @@ SaysTable S folder stop = (n : ℕ) × (n < length S.tables) × SaysFile (table_
 abbrev pub status_of : Stop → ℕ
 status_of Usage = 2
 status_of Memory = 3
-status_of (Line text status) = status
+status_of (Line text status words) = status

@@ -30,12 +30,21 @@ fn place<'a>(alloc: Global, name: &'a str, help: &'a str) -> Arg<'a> {
         .help(help)
 }
 
+/// Whether a refusal is put in words.
+fn words(alloc: Global) -> Arg<'static> {
+    Arg::new(alloc, "words")
+        .long("words")
+        .action(ArgAction::SetTrue)
+        .help("says behind the line of a refusal what is meant, and where")
+}
+
 /// A command over a schema and the text of a query.
 fn of_query<'a>(alloc: Global, name: &'a str, about: &'a str) -> Result<Command<'a>, AllocError> {
     Command::new(alloc, name)
         .about(about)
         .arg(place(alloc, "SCHEMA", "the tables and their columns, a JSON file"))?
-        .arg(place(alloc, "QUERY", "the text of the query, a file"))
+        .arg(place(alloc, "QUERY", "the text of the query, a file"))?
+        .arg(words(alloc))
 }
 
 /// The place of statistics.

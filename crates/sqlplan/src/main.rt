@@ -7,6 +7,7 @@ ghost use Rattle.sqlplan.specs.Stops.{SaysFile, SaysTable, table_path};
 
 mod arguments;
 mod command;
+mod explained;
 mod stop;
 
 use answer_text::CountedOutput;
@@ -14,6 +15,7 @@ use arguments::arguments;
 use clap::ArgMatches;
 use clap::error::ErrorKind;
 use command::command;
+use explained::in_words;
 use pipeline::{PlanForm, Refusal, check, evaluate, explain, plan, query, run};
 use schema::Schema;
 use std::alloc::{AllocError, Global};
@@ -124,13 +126,27 @@ struct Given<'a> {
     bytes: &'a [u8],
     schema: &'a Schema,
     text: &'a [u8],
+    /// Whether a refusal is put in words.
+    words: bool,
 }
 
-/// The end of a command.
-fn ended(alloc: Global, schema: &Schema, outcome: Result<(), Refusal>) -> Result<(), Stop> {
-    match outcome {
-        Ok(()) => Ok(()),
-        Err(refusal) => Err(Stop::of_refusal(alloc, &refusal, Some(schema))),
+impl Given<'_> {
+    /// The stop of a refusal.
+    fn refused(&self, alloc: Global, refusal: &Refusal) -> Stop {
+        let stop = Stop::of_refusal(alloc, refusal, Some(self.schema));
+        if self.words {
+            in_words(alloc, stop, refusal, self.text)
+        } else {
+            stop
+        }
+    }
+
+    /// The end of a command.
+    fn ended(&self, alloc: Global, outcome: Result<(), Refusal>) -> Result<(), Stop> {
+        match outcome {
+            Ok(()) => Ok(()),
+            Err(refusal) => Err(self.refused(alloc, &refusal)),
+        }
     }
 }
 
@@ -153,7 +169,7 @@ fn answer(rt: &HostRuntime, given: Given<'_>, folder: &str, limit: usize) -> Res
         limit,
         &mut output(rt)?,
     );
-    ended(rt.alloc(), given.schema, outcome)
+    given.ended(rt.alloc(), outcome)
 }
 
 /// The same by the slow evaluator.
@@ -169,7 +185,7 @@ fn answer_by_meaning(rt: &HostRuntime, given: Given<'_>, folder: &str) -> Result
         tables,
         &mut output(rt)?,
     );
-    ended(rt.alloc(), given.schema, outcome)
+    given.ended(rt.alloc(), outcome)
 }
 
 /// The same by the plan of a certificate.
@@ -191,7 +207,7 @@ fn answer_by_certificate(
         tables.as_mut_slice(),
         &mut output(rt)?,
     );
-    ended(rt.alloc(), given.schema, outcome)
+    given.ended(rt.alloc(), outcome)
 }
 
 /// The end of a write to standard output.
@@ -223,7 +239,7 @@ fn plan_by_statistics(
         limit,
     ) {
         Ok(certificate) => print_bytes(rt, certificate.as_slice()),
-        Err(refusal) => Err(Stop::of_refusal(rt.alloc(), &refusal, Some(given.schema))),
+        Err(refusal) => Err(given.refused(rt.alloc(), &refusal)),
     }
 }
 
@@ -245,7 +261,7 @@ fn explain_by_statistics(
         limit,
     ) {
         Ok(text) => print_bytes(rt, text.as_slice()),
-        Err(refusal) => Err(Stop::of_refusal(rt.alloc(), &refusal, Some(given.schema))),
+        Err(refusal) => Err(given.refused(rt.alloc(), &refusal)),
     }
 }
 
@@ -253,7 +269,7 @@ fn explain_by_statistics(
 fn accept(rt: &HostRuntime, given: Given<'_>, certificate: &str) -> Result<(), Stop> {
     let certificate = bytes_of(rt, certificate)?;
     let outcome = check(rt.alloc(), given.bytes, given.text, certificate.as_slice());
-    ended(rt.alloc(), given.schema, outcome)?;
+    given.ended(rt.alloc(), outcome)?;
     written(rt.alloc(), rt.println("accepted"))
 }
 
@@ -263,22 +279,10 @@ fn explain_codes(rt: &HostRuntime) -> Result<(), Stop> {
     print_bytes(rt, list.as_bytes())
 }
 
-/// Reads the query's text and does what is asked.
-fn serve(
-    rt: &HostRuntime,
-    asked: Asked<'_>,
-    bytes: &[u8],
-    schema: &Schema,
-    query: &str,
-) -> Result<(), Stop>
-    requires { schema_of bytes.now ≡ Ok schema.now }
+/// Does what is asked, once the schema and the query's text have been read.
+fn serve(rt: &HostRuntime, asked: Asked<'_>, given: Given<'_>) -> Result<(), Stop>
+    requires { schema_of given.bytes.now ≡ Ok given.schema.now }
 {
-    let text = bytes_of(rt, query)?;
-    let given = Given {
-        bytes,
-        schema,
-        text: text.as_slice(),
-    };
     match asked {
         Asked::Query(folder, limit) => answer(rt, given, folder, limit),
         Asked::Meaning(folder) => answer_by_meaning(rt, given, folder),
@@ -288,6 +292,16 @@ fn serve(
         }
         Asked::Check(certificate) => accept(rt, given, certificate),
         Asked::Run(certificate, folder) => answer_by_certificate(rt, given, certificate, folder),
+    }
+}
+
+/// The stop of a schema that is refused.
+fn refused_schema(alloc: Global, refusal: &Refusal, words: bool) -> Stop {
+    let stop = Stop::of_refusal(alloc, refusal, None);
+    if words {
+        in_words(alloc, stop, refusal, &[])
+    } else {
+        stop
     }
 }
 
@@ -303,10 +317,21 @@ fn obey(rt: &HostRuntime, command: &str, arguments: &ArgMatches<'_>) -> Result<(
     else {
         return Err(Stop::Usage);
     };
+    let words = arguments.get_flag("words");
     let bytes = bytes_of(rt, schema)?;
-    match Schema::read(rt.alloc(), bytes.as_slice()) {
-        Ok(schema) => serve(rt, asked, bytes.as_slice(), &schema, query),
-        Err(fault) => Err(Stop::of_refusal(rt.alloc(), &Refusal::from(fault), None)),
+    let bytes = bytes.as_slice();
+    match Schema::read(rt.alloc(), bytes) {
+        Ok(schema) => {
+            let text = bytes_of(rt, query)?;
+            let given = Given {
+                bytes,
+                schema: &schema,
+                text: text.as_slice(),
+                words,
+            };
+            serve(rt, asked, given)
+        }
+        Err(fault) => Err(refused_schema(rt.alloc(), &Refusal::from(fault), words)),
     }
 }
 
