@@ -4,6 +4,21 @@ use clap::builder::ValueParser;
 use clap::{Arg, ArgAction, Command};
 use std::alloc::{AllocError, Global};
 
+/// What `--version` says behind the name: the program's version, and the kit that it is proved and built with, as `rt version` has it.
+const VERSION: &str = "0.1.0 (rattle-kit-13f logic dac8208d650f15bf)";
+
+/// An example of each command, at the end of the help.
+const EXAMPLES: &str = "\
+Examples:
+  sqlplan query schema.json query.sql data
+  sqlplan meaning schema.json query.sql data
+  sqlplan plan schema.json query.sql stats.json > query.cert
+  sqlplan explain schema.json query.sql stats.json --format dot
+  sqlplan check schema.json query.sql query.cert
+  sqlplan run schema.json query.sql query.cert data
+  sqlplan codes
+  sqlplan help query";
+
 /// How a plan may be shown.
 const FORMATS: &[&str] = &["text", "dot"];
 
@@ -15,12 +30,21 @@ fn place<'a>(alloc: Global, name: &'a str, help: &'a str) -> Arg<'a> {
         .help(help)
 }
 
+/// Whether a refusal is put in words.
+fn words(alloc: Global) -> Arg<'static> {
+    Arg::new(alloc, "words")
+        .long("words")
+        .action(ArgAction::SetTrue)
+        .help("says behind the line of a refusal what is meant, and where")
+}
+
 /// A command over a schema and the text of a query.
 fn of_query<'a>(alloc: Global, name: &'a str, about: &'a str) -> Result<Command<'a>, AllocError> {
     Command::new(alloc, name)
         .about(about)
         .arg(place(alloc, "SCHEMA", "the tables and their columns, a JSON file"))?
-        .arg(place(alloc, "QUERY", "the text of the query, a file"))
+        .arg(place(alloc, "QUERY", "the text of the query, a file"))?
+        .arg(words(alloc))
 }
 
 /// The place of statistics.
@@ -59,55 +83,82 @@ fn folder(alloc: Global) -> Arg<'static> {
     place(alloc, "DIR", "the folder with <table>.csv for each table")
 }
 
-pub fn command<'a>(alloc: Global) -> Result<Command<'a>, AllocError> {
-    let query = of_query(
+fn query<'a>(alloc: Global) -> Result<Command<'a>, AllocError> {
+    of_query(
         alloc,
         "query",
         "Answers a query over tables in CSV files, by a plan that was checked",
     )?
     .arg(folder(alloc))?
-    .arg(limit(alloc))?;
-    let meaning = of_query(
+    .arg(limit(alloc))
+}
+
+fn meaning<'a>(alloc: Global) -> Result<Command<'a>, AllocError> {
+    of_query(
         alloc,
         "meaning",
         "Answers a query over tables in CSV files, as its meaning says: slowly, with no plan",
     )?
-    .arg(folder(alloc))?;
-    let plan = of_query(
+    .arg(folder(alloc))
+}
+
+fn plan<'a>(alloc: Global) -> Result<Command<'a>, AllocError> {
+    of_query(
         alloc,
         "plan",
         "Plans a query by statistics, and writes the certificate of its plan",
     )?
     .arg(statistics(alloc))?
-    .arg(limit(alloc))?;
-    let explain = of_query(
+    .arg(limit(alloc))
+}
+
+fn explain<'a>(alloc: Global) -> Result<Command<'a>, AllocError> {
+    of_query(
         alloc,
         "explain",
         "Plans a query by statistics, and shows its plan with rows and costs",
     )?
     .arg(statistics(alloc))?
     .arg(format(alloc))?
-    .arg(limit(alloc))?;
-    let check = of_query(
+    .arg(limit(alloc))
+}
+
+fn check<'a>(alloc: Global) -> Result<Command<'a>, AllocError> {
+    of_query(
         alloc,
         "check",
         "Checks that a certificate's plan answers a query, and says accepted where it does",
     )?
-    .arg(certificate(alloc))?;
-    let run = of_query(
+    .arg(certificate(alloc))
+}
+
+fn run<'a>(alloc: Global) -> Result<Command<'a>, AllocError> {
+    of_query(
         alloc,
         "run",
         "Answers a query over tables in CSV files, by the plan of a certificate that is accepted",
     )?
     .arg(certificate(alloc))?
-    .arg(folder(alloc))?;
+    .arg(folder(alloc))
+}
+
+fn codes<'a>(alloc: Global) -> Command<'a> {
+    Command::new(alloc, "codes").about(
+        "Lists the codes of refusals, each with what it means and an example",
+    )
+}
+
+pub fn command<'a>(alloc: Global) -> Result<Command<'a>, AllocError> {
     Command::new(alloc, "sqlplan")
         .about("Plans queries, checks the plans, and runs what was checked")
+        .version(VERSION)
+        .after_help(EXAMPLES)
         .subcommand_required(true)
-        .subcommand(query)?
-        .subcommand(meaning)?
-        .subcommand(plan)?
-        .subcommand(explain)?
-        .subcommand(check)?
-        .subcommand(run)
+        .subcommand(query(alloc)?)?
+        .subcommand(meaning(alloc)?)?
+        .subcommand(plan(alloc)?)?
+        .subcommand(explain(alloc)?)?
+        .subcommand(check(alloc)?)?
+        .subcommand(run(alloc)?)?
+        .subcommand(codes(alloc))
 }

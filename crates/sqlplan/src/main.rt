@@ -1,26 +1,31 @@
 //! Answers queries over tables in files, by checked plans.
 #![tactic(auto)]
 
-ghost use Rattle.std.specs.Prelude.{◌≡◌, Ok, length, vec_len, IfOk, IfErr};
+ghost use Rattle.std.specs.Prelude.{◌≡◌, Ok, length, vec_len, string_bytes, IfOk, IfErr};
 ghost use Rattle.schema.specs.Reading.{schema_of};
-ghost use Rattle.sqlplan.specs.Stops.{SaysFile, SaysTable};
+ghost use Rattle.sqlplan.specs.Stops.{SaysFile, SaysTable, table_path};
 
+mod arguments;
 mod command;
+mod explained;
 mod stop;
 
 use answer_text::CountedOutput;
+use arguments::arguments;
 use clap::ArgMatches;
 use clap::error::ErrorKind;
 use command::command;
+use explained::in_words;
 use pipeline::{PlanForm, Refusal, check, evaluate, explain, plan, query, run};
 use schema::Schema;
-use std::alloc::Global;
+use std::alloc::{AllocError, Global};
 use std::fs::File;
 use std::io::{BufWriter, Printer, Write};
 use std::process::ExitCode;
-use std::{env, fs, io};
+use std::{fs, io};
 use stop::Stop;
 use store::CountedInput;
+use words::list_of_codes;
 
 /// The bytes of a file.
 fn bytes_of(rt: &HostRuntime, path: &str) -> Result<Vec<u8>, Stop>
@@ -29,6 +34,18 @@ fn bytes_of(rt: &HostRuntime, path: &str) -> Result<Vec<u8>, Stop>
     match fs::read(rt, path) {
         Ok(bytes) => Ok(bytes),
         Err(error) => Err(Stop::of_file(rt.alloc(), path, &error)),
+    }
+}
+
+/// The path of a table's file. No folder is the current one.
+#[tactic(auto, unfolding(crate::specs::Stops::table_path))]
+fn path_of(alloc: Global, folder: &str, name: &str) -> Result<String, AllocError>
+    ensures { IfOk result (λ path. string_bytes path ≡ table_path folder.now name.now) }
+{
+    if folder.is_empty() {
+        format!(in alloc; "{name}.csv")
+    } else {
+        format!(in alloc; "{folder}/{name}.csv")
     }
 }
 
@@ -44,8 +61,7 @@ fn open_tables(
     let alloc = rt.alloc();
     let mut tables = Vec::new(alloc);
     for table in schema.tables.as_slice() {
-        let name = table.name.as_str();
-        let path = format!(in alloc; "{folder}/{name}.csv")?;
+        let path = path_of(alloc, folder, table.name.as_str())?;
         match fs::open(rt, path.as_str()) {
             Ok(file) => tables.push(CountedInput::new(file))?,
             Err(error) => return Err(Stop::of_file(alloc, path.as_str(), &error)),
@@ -110,13 +126,27 @@ struct Given<'a> {
     bytes: &'a [u8],
     schema: &'a Schema,
     text: &'a [u8],
+    /// Whether a refusal is put in words.
+    words: bool,
 }
 
-/// The end of a command.
-fn ended(alloc: Global, schema: &Schema, outcome: Result<(), Refusal>) -> Result<(), Stop> {
-    match outcome {
-        Ok(()) => Ok(()),
-        Err(refusal) => Err(Stop::of_refusal(alloc, &refusal, Some(schema))),
+impl Given<'_> {
+    /// The stop of a refusal.
+    fn refused(&self, alloc: Global, refusal: &Refusal) -> Stop {
+        let stop = Stop::of_refusal(alloc, refusal, Some(self.schema));
+        if self.words {
+            in_words(alloc, stop, refusal, self.text)
+        } else {
+            stop
+        }
+    }
+
+    /// The end of a command.
+    fn ended(&self, alloc: Global, outcome: Result<(), Refusal>) -> Result<(), Stop> {
+        match outcome {
+            Ok(()) => Ok(()),
+            Err(refusal) => Err(self.refused(alloc, &refusal)),
+        }
     }
 }
 
@@ -139,7 +169,7 @@ fn answer(rt: &HostRuntime, given: Given<'_>, folder: &str, limit: usize) -> Res
         limit,
         &mut output(rt)?,
     );
-    ended(rt.alloc(), given.schema, outcome)
+    given.ended(rt.alloc(), outcome)
 }
 
 /// The same by the slow evaluator.
@@ -155,7 +185,7 @@ fn answer_by_meaning(rt: &HostRuntime, given: Given<'_>, folder: &str) -> Result
         tables,
         &mut output(rt)?,
     );
-    ended(rt.alloc(), given.schema, outcome)
+    given.ended(rt.alloc(), outcome)
 }
 
 /// The same by the plan of a certificate.
@@ -177,15 +207,20 @@ fn answer_by_certificate(
         tables.as_mut_slice(),
         &mut output(rt)?,
     );
-    ended(rt.alloc(), given.schema, outcome)
+    given.ended(rt.alloc(), outcome)
+}
+
+/// The end of a write to standard output.
+fn written(alloc: Global, outcome: io::Result<()>) -> Result<(), Stop> {
+    match outcome {
+        Ok(()) => Ok(()),
+        Err(_) => Err(Stop::of_refusal(alloc, &Refusal::Output, None)),
+    }
 }
 
 /// Writes on standard output.
 fn print_bytes(rt: &HostRuntime, bytes: &[u8]) -> Result<(), Stop> {
-    match io::writer(rt).write_all(bytes) {
-        Ok(()) => Ok(()),
-        Err(_) => Err(Stop::of_refusal(rt.alloc(), &Refusal::Output, None)),
-    }
+    written(rt.alloc(), io::writer(rt).write_all(bytes))
 }
 
 /// Writes on standard output the certificate of a plan, by the statistics of a file.
@@ -204,7 +239,7 @@ fn plan_by_statistics(
         limit,
     ) {
         Ok(certificate) => print_bytes(rt, certificate.as_slice()),
-        Err(refusal) => Err(Stop::of_refusal(rt.alloc(), &refusal, Some(given.schema))),
+        Err(refusal) => Err(given.refused(rt.alloc(), &refusal)),
     }
 }
 
@@ -226,7 +261,7 @@ fn explain_by_statistics(
         limit,
     ) {
         Ok(text) => print_bytes(rt, text.as_slice()),
-        Err(refusal) => Err(Stop::of_refusal(rt.alloc(), &refusal, Some(given.schema))),
+        Err(refusal) => Err(given.refused(rt.alloc(), &refusal)),
     }
 }
 
@@ -234,29 +269,20 @@ fn explain_by_statistics(
 fn accept(rt: &HostRuntime, given: Given<'_>, certificate: &str) -> Result<(), Stop> {
     let certificate = bytes_of(rt, certificate)?;
     let outcome = check(rt.alloc(), given.bytes, given.text, certificate.as_slice());
-    ended(rt.alloc(), given.schema, outcome)?;
-    match rt.println("accepted") {
-        Ok(()) => Ok(()),
-        Err(_) => Err(Stop::of_refusal(rt.alloc(), &Refusal::Output, None)),
-    }
+    given.ended(rt.alloc(), outcome)?;
+    written(rt.alloc(), rt.println("accepted"))
 }
 
-/// Reads the query's text and does what is asked.
-fn serve(
-    rt: &HostRuntime,
-    asked: Asked<'_>,
-    bytes: &[u8],
-    schema: &Schema,
-    query: &str,
-) -> Result<(), Stop>
-    requires { schema_of bytes.now ≡ Ok schema.now }
+/// Lists on standard output the codes of refusals.
+fn explain_codes(rt: &HostRuntime) -> Result<(), Stop> {
+    let list = list_of_codes(rt.alloc())?;
+    print_bytes(rt, list.as_bytes())
+}
+
+/// Does what is asked, once the schema and the query's text have been read.
+fn serve(rt: &HostRuntime, asked: Asked<'_>, given: Given<'_>) -> Result<(), Stop>
+    requires { schema_of given.bytes.now ≡ Ok given.schema.now }
 {
-    let text = bytes_of(rt, query)?;
-    let given = Given {
-        bytes,
-        schema,
-        text: text.as_slice(),
-    };
     match asked {
         Asked::Query(folder, limit) => answer(rt, given, folder, limit),
         Asked::Meaning(folder) => answer_by_meaning(rt, given, folder),
@@ -269,8 +295,21 @@ fn serve(
     }
 }
 
+/// The stop of a schema that is refused.
+fn refused_schema(alloc: Global, refusal: &Refusal, words: bool) -> Stop {
+    let stop = Stop::of_refusal(alloc, refusal, None);
+    if words {
+        in_words(alloc, stop, refusal, &[])
+    } else {
+        stop
+    }
+}
+
 /// A command. The schema is read and tested before any other file is opened.
 fn obey(rt: &HostRuntime, command: &str, arguments: &ArgMatches<'_>) -> Result<(), Stop> {
+    if command == "codes" {
+        return explain_codes(rt);
+    }
     let Some(asked) = Asked::of(command, arguments) else {
         return Err(Stop::Usage);
     };
@@ -278,29 +317,45 @@ fn obey(rt: &HostRuntime, command: &str, arguments: &ArgMatches<'_>) -> Result<(
     else {
         return Err(Stop::Usage);
     };
+    let words = arguments.get_flag("words");
     let bytes = bytes_of(rt, schema)?;
-    match Schema::read(rt.alloc(), bytes.as_slice()) {
-        Ok(schema) => serve(rt, asked, bytes.as_slice(), &schema, query),
-        Err(fault) => Err(Stop::of_refusal(rt.alloc(), &Refusal::from(fault), None)),
+    let bytes = bytes.as_slice();
+    match Schema::read(rt.alloc(), bytes) {
+        Ok(schema) => {
+            let text = bytes_of(rt, query)?;
+            let given = Given {
+                bytes,
+                schema: &schema,
+                text: text.as_slice(),
+                words,
+            };
+            serve(rt, asked, given)
+        }
+        Err(fault) => Err(refused_schema(rt.alloc(), &Refusal::from(fault), words)),
+    }
+}
+
+/// What the parser of the command line has to say in place of a command. The version was asked for, and goes to standard output.
+fn say(rt: &HostRuntime, error: &clap::Error) -> Result<(), Stop> {
+    match error.kind() {
+        ErrorKind::OutOfMemory => Err(Stop::Memory),
+        ErrorKind::DisplayVersion => written(rt.alloc(), rt.print(error)),
+        _ => {
+            let _ = rt.eprint(error);
+            Err(Stop::Usage)
+        }
     }
 }
 
 /// Reads the command line and does what it says.
 fn start(rt: &HostRuntime) -> Result<(), Stop> {
-    let alloc = rt.alloc();
-    let words: Vec<String> = env::args(rt)?.collect(alloc)?;
-    match command(alloc)?.try_get_matches_from(words.as_slice()) {
+    let words = arguments(rt)?;
+    match command(rt.alloc())?.try_get_matches_from(words.as_slice()) {
         Ok(matches) => match matches.subcommand() {
             Some((command, arguments)) => obey(rt, command, arguments),
             None => Err(Stop::Usage),
         },
-        Err(error) => {
-            if error.kind() == ErrorKind::OutOfMemory {
-                return Err(Stop::Memory);
-            }
-            let _ = rt.eprint(&error);
-            Err(Stop::Usage)
-        }
+        Err(error) => say(rt, &error),
     }
 }
 

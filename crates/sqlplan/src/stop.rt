@@ -1,15 +1,17 @@
 //! Why the program stops early, and what it says.
 
-ghost use Rattle.std.specs.Prelude.{◌≡◌};
+ghost use Rattle.std.specs.Prelude.{◌≡◌, ◌++◌, ℕ, List, codes, string_bytes, IfOk};
 ghost use Rattle.std.specs.Option.{option_copied};
 ghost use Rattle.pipeline.specs.Lines.{line_of};
 ghost use Rattle.pipeline.specs.Refusals as refusals;
 ghost use Rattle.sqlplan.specs.Stops as spec;
+ghost use Rattle.words.specs.Spelling.{spelled as path_text};
 
 use pipeline::{Refusal, fault_line};
 use schema::Schema;
 use std::alloc::{AllocError, AllocFailed, Global};
 use std::io;
+use words::spelled;
 
 /// Why the program stops early.
 #[derive(Debug, Drop)]
@@ -17,8 +19,15 @@ pub enum Stop {
     /// The command line was reported to be wrong, or its help was shown.
     Usage,
     Memory,
-    /// A line to say, and the exit status.
-    Line(String, u8),
+    /// A line to say, the exit status, and what is said behind the line for people, if anything.
+    Line(String, u8, String),
+}
+
+fn device_line(alloc: Global, path: &str) -> Result<String, AllocError>
+    ensures { IfOk result (λ line. string_bytes line ≡ codes "device " ++ path_text path.now) }
+{
+    let spelling = spelled(alloc, path)?;
+    format!(in alloc; "device {spelling}")
 }
 
 impl Stop {
@@ -27,7 +36,7 @@ impl Stop {
         ensures { spec.Says (line_of (option_copied schema.entry) refusal.now) (refusals.status_of refusal.now) result }
     {
         match fault_line(alloc, refusal, schema) {
-            Ok(line) => Stop::Line(line, refusal.status()),
+            Ok(line) => Stop::Line(line, refusal.status(), String::new(alloc)),
             Err(AllocError) => Stop::Memory,
         }
     }
@@ -39,19 +48,33 @@ impl Stop {
         if error.kind() == io::ErrorKind::OutOfMemory {
             return Stop::Memory;
         }
-        match format!(in alloc; "device {path}") {
-            Ok(line) => Stop::Line(line, 3),
-            Err(_) => Stop::Memory,
+        match device_line(alloc, path) {
+            Ok(line) => Stop::Line(line, 3, String::new(alloc)),
+            Err(AllocError) => Stop::Memory,
         }
     }
 
-    /// Says the line on standard error. That it can't be said changes nothing.
+    /// Says the line on standard error, and the words behind it. That it can't be said changes nothing.
     pub fn report(&self, rt: &impl Eprint) {
         let _ = match self {
             Stop::Usage => Ok(()),
             Stop::Memory => rt.eprintln("memory"),
-            Stop::Line(line, _) => rt.eprintln(line.as_str()),
+            Stop::Line(line, _, words) => {
+                let words = words.as_str();
+                eprint!(rt; "{line}\n{words}")
+            }
         };
+    }
+
+    /// The same stop with words behind its line.
+    pub fn with_words(self, words: String) -> Stop
+        ensures { (line : List ℕ) (status : ℕ) → spec.Says line status self → spec.Says line status result }
+    {
+        match self {
+            Stop::Usage => Stop::Usage,
+            Stop::Memory => Stop::Memory,
+            Stop::Line(line, status, _) => Stop::Line(line, status, words),
+        }
     }
 
     pub fn status(&self) -> u8
@@ -60,7 +83,7 @@ impl Stop {
         match self {
             Stop::Usage => 2,
             Stop::Memory => 3,
-            Stop::Line(_, status) => *status,
+            Stop::Line(_, status, _) => *status,
         }
     }
 }

@@ -1,0 +1,42 @@
+//! The words of the command line.
+
+use crate::stop::Stop;
+use std::env;
+use std::io::ErrorKind;
+use std::rt::Env;
+use words::quoted;
+
+/// How many bytes the system lets an argument have, with the zero that ends it.
+const LONGEST_ARGUMENT: usize = 131_072;
+
+/// Says the first argument that isn't UTF-8.
+fn say_unreadable(rt: &HostRuntime) -> Result<(), Stop> {
+    let mut buffer = vec![in rt.alloc(); 0u8; LONGEST_ARGUMENT]?;
+    for place in 0..usize::MAX {
+        let Ok(length) = rt.arg(place, buffer.as_mut_slice()) else {
+            let _ = rt.eprintln("error: an argument is not UTF-8");
+            break;
+        };
+        let bytes = &buffer.as_slice()[..length];
+        if str::from_utf8(bytes).is_err() {
+            let spelling = quoted(rt.alloc(), bytes)?;
+            let _ = eprintln!(rt; "error: argument {place} is not UTF-8: {spelling}");
+            break;
+        }
+    }
+    Ok(())
+}
+
+/// The program's name and the arguments, all of them UTF-8: no other path can be opened. What isn't is said on standard error.
+pub fn arguments(rt: &HostRuntime) -> Result<Vec<String>, Stop> {
+    match env::args(rt) {
+        Ok(words) => Ok(words.collect(rt.alloc())?),
+        Err(error) => {
+            if error.kind() != ErrorKind::InvalidData {
+                return Err(Stop::Memory);
+            }
+            say_unreadable(rt)?;
+            Err(Stop::Usage)
+        }
+    }
+}
