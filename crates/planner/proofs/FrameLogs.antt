@@ -1,11 +1,10 @@
 -- The log whose lines found the classes of a list of expressions: its members, and that no classes are the same.
-use Rattle.std.proofs.Common.{◌≡◌, refl, ap, sym, ◌∙◌, subst, ℕ, ◌<◌, Bool, true, List, [], ◌∷◌, ◌++◌, map, length, reverse, Option, Some, None, slice_get, option_map}
+use Rattle.std.proofs.Common.{◌≡◌, refl, ap, sym, ◌∙◌, subst, ℕ, ◌<◌, true, List, [], ◌∷◌, map, length, reverse, Option, Some, None, slice_get, option_map}
 use Rattle.std.proofs.lemmas.Bool.{eq-eqb, eqb-true}
-use Rattle.std.proofs.lemmas.List.{map-append, reverse-append, length-map, length-reverse}
+use Rattle.std.proofs.lemmas.List.{length-map, length-reverse}
 use Rattle.std.proofs.lemmas.Option.{slice_get-map}
 use Rattle.algebra.specs.declared.expr.Expr.{Expr}
 use Rattle.rules.specs.Matches as matches
-use Rattle.derivation.specs.declared.line.Line.{Line}
 use Rattle.derivation.specs.declared.line.Line.TheVariants.{Founds}
 use Rattle.derivation.specs.Logs.{as_member, founds, least, are_same, member}
 use Rattle.logs.proofs.LogLines.{member_at}

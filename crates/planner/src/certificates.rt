@@ -1,8 +1,8 @@
 //! The certificate that follows a query's frame, operator by operator.
 
-ghost use Rattle.std.specs.Prelude.{◌≡◌, ◌<◌, IfOk, Ok, true, length, map};
+ghost use Rattle.std.specs.Prelude.{◌≡◌, ◌<◌, IfOk, Ok, true, length, map, reverse};
 ghost use Rattle.query.specs.Bound.{is_bound};
-ghost use Rattle.frame.specs.Frames.{is_framed, query_frame};
+ghost use Rattle.frame.specs.Frames.{is_framed};
 ghost use Rattle.derivation.specs.declared.line.Line.TheVariants.{Founds};
 ghost use Rattle.certificate.specs.Replay.{replayed};
 ghost use Rattle.planner.specs.Canonical as spec;
@@ -93,33 +93,42 @@ fn sorted(alloc: Global, keys: Items<OrderKey>, plan: Plan) -> Result<Plan, Allo
     })
 }
 
+/// The expressions of a frame, the last one first.
+fn last_first(alloc: Global, frame: Items<Expr>) -> Result<Items<Expr>, AllocError>
+    ensures { IfOk result (λ turned. turned ≡ reverse frame) }
+{
+    let mut turned = Items::new(alloc);
+    let mut left = frame;
+    while let Some(expr) = left.pop() {
+        turned.push(expr)?;
+    }
+    Ok(turned)
+}
+
 /// The lines that found a query's classes.
-fn lines_of(alloc: Global, frame: &[Expr]) -> Result<Items<Line>, AllocError>
-    ensures { IfOk result (λ lines. lines ≡ map Founds frame.now) }
+fn lines_of(alloc: Global, frame: Items<Expr>) -> Result<Items<Line>, AllocError>
+    ensures { IfOk result (λ lines. lines ≡ map Founds frame) }
 {
     let mut lines = Items::new(alloc);
-    for expr in frame {
-        lines.push(Line::Founds(expr.copy(alloc)?))?;
+    let mut last_first = last_first(alloc, frame)?;
+    while let Some(expr) = last_first.pop() {
+        lines.push(Line::Founds(expr))?;
     }
     Ok(lines)
 }
 
-/// The canonical certificate of a query's tree, whose frame this is.
-pub(crate) fn certificate_of(
-    alloc: Global,
-    query: &Query,
-    frame: &[Expr],
-) -> Result<Certificate, AllocError>
-    requires bound { is_bound query.now ≡ true }
-    requires frame { frame.now ≡ query_frame query.now }
+/// The canonical certificate of a query's tree.
+pub(crate) fn certificate_of(alloc: Global, query: &Query) -> Result<Certificate, AllocError>
+    requires { is_bound query.now ≡ true }
     ensures canonical { IfOk result (spec.IsCanonical query.now) }
     ensures replays { IfOk result (λ certificate. replayed query.now certificate ≡ Ok certificate) }
     ensures only { IfOk result (spec.IsOnlyCanonical query.now) }
 {
     let order = query_order(alloc, query)?;
+    let frame = frame_of(alloc, query)?;
     let last = frame.len() - 1;
     let root = id_of(last)?;
-    let below = plan_of(alloc, frame, root)?;
+    let below = plan_of(alloc, frame.as_slice(), root)?;
     let plan = sorted(alloc, Items::from_vec(order), below)?;
     let lines = lines_of(alloc, frame)?;
     Ok(Certificate { lines, plan })
@@ -131,6 +140,5 @@ pub fn canonical(alloc: Global, query: &BoundQuery) -> Result<Certificate, Alloc
     ensures replays { IfOk result (λ certificate. replayed query.now certificate ≡ Ok certificate) }
     ensures only { IfOk result (spec.IsOnlyCanonical query.now) }
 {
-    let frame = frame_of(alloc, query.query())?;
-    certificate_of(alloc, query.query(), frame.as_slice())
+    certificate_of(alloc, query.query())
 }

@@ -93,11 +93,7 @@ fn cheapest(
 
 /// The log with what is simpler, and with lines by which good join trees are among its plans, up to so many lines. These put selections over
 /// selections, so it is simplified again.
-fn grown<'q>(
-    alloc: Global,
-    planning: Planning<'_>,
-    log: Log<'q>,
-) -> Result<Log<'q>, AllocError> {
+fn grown<'q>(alloc: Global, planning: Planning<'_>, log: Log<'q>) -> Result<Log<'q>, AllocError> {
     let mut memo = Memo::of(alloc, log, planning.limit)?;
     simplify(alloc, &mut memo)?;
     seed(alloc, &mut memo, planning.statistics)?;
@@ -149,12 +145,15 @@ fn fitting_log<'q>(
     certificate: &Certificate,
 ) -> Result<Option<Log<'q>>, AllocError>
     requires { IsFramed planning.query.now planning.frame.now planning.own.now }
-    ensures replays { IfOk result (λ log. IfSome log (λ l. replayed planning.query.now certificate.now ≡ Ok certificate.now)) }
+    ensures replays { IfOk result (λ log. IfSome log (λ l. replayed planning.entry.query.now certificate.now ≡ Ok certificate.now)) }
     ensures lines { IfOk result (λ log. IfSome log (λ l. l.log ≡ reverse certificate.now.lines)) }
-    ensures instances { IfOk result (λ log. IfSome log (λ l. l.instances ≡ planning.query.now.tables)) }
+    ensures instances { IfOk result (λ log. IfSome log (λ l. l.instances ≡ planning.entry.query.now.tables)) }
 {
     let Planning {
-        query, frame, own, ..
+        query,
+        frame,
+        own,
+        ..
     } = planning;
     match judged_log(alloc, query, frame, own, certificate) {
         Ok(log) => Ok(Some(log)),
@@ -172,10 +171,10 @@ fn fitting_cost(
     known: &Certificate,
 ) -> Result<Option<u64>, AllocError>
     requires { IsFramed planning.query.now planning.frame.now planning.own.now }
-    ensures replays { IfOk result (λ found. IfSome found (λ cost. replayed planning.query.now certificate.now ≡ Ok certificate.now)) }
-    ensures cost { IfOk result (λ found. IfSome found (λ cost. cost ≡ certificate_cost planning.statistics.now planning.query.now certificate.now)) }
-    ensures cheap { IfOk result (λ found. IfSome found (λ cost. IsAsCheap planning.statistics.now planning.query.now certificate.now known.now)) }
-    ensures within { IfOk result (λ found. IfSome found (λ cost. length certificate.now.lines ≤ planning.limit)) }
+    ensures replays { IfOk result (λ found. IfSome found (λ cost. replayed planning.entry.query.now certificate.now ≡ Ok certificate.now)) }
+    ensures cost { IfOk result (λ found. IfSome found (λ cost. cost ≡ certificate_cost planning.entry.statistics.now planning.entry.query.now certificate.now)) }
+    ensures cheap { IfOk result (λ found. IfSome found (λ cost. IsAsCheap planning.entry.statistics.now planning.entry.query.now certificate.now known.now)) }
+    ensures within { IfOk result (λ found. IfSome found (λ cost. length certificate.now.lines ≤ planning.entry.limit)) }
 {
     if certificate.lines.len() > planning.limit {
         return Ok(None);
@@ -200,10 +199,10 @@ fn fitting(
     known: &Certificate,
 ) -> Result<Option<Planned>, AllocError>
     requires { IsFramed planning.query.now planning.frame.now planning.own.now }
-    ensures replays { IfOk result (λ fitting. IfSome fitting (λ planned. replayed planning.query.now planned.certificate ≡ Ok planned.certificate)) }
-    ensures cost { IfOk result (λ fitting. IfSome fitting (λ planned. planned.cost ≡ certificate_cost planning.statistics.now planning.query.now planned.certificate)) }
-    ensures cheap { IfOk result (λ fitting. IfSome fitting (λ planned. IsAsCheap planning.statistics.now planning.query.now planned.certificate known.now)) }
-    ensures within { IfOk result (λ fitting. IfSome fitting (λ planned. length planned.certificate.lines ≤ planning.limit)) }
+    ensures replays { IfOk result (λ fitting. IfSome fitting (λ planned. replayed planning.entry.query.now planned.certificate ≡ Ok planned.certificate)) }
+    ensures cost { IfOk result (λ fitting. IfSome fitting (λ planned. planned.cost ≡ certificate_cost planning.entry.statistics.now planning.entry.query.now planned.certificate)) }
+    ensures cheap { IfOk result (λ fitting. IfSome fitting (λ planned. IsAsCheap planning.entry.statistics.now planning.entry.query.now planned.certificate known.now)) }
+    ensures within { IfOk result (λ fitting. IfSome fitting (λ planned. length planned.certificate.lines ≤ planning.entry.limit)) }
     ensures complete { IfOk result (λ fitting. IfSome fitting (λ planned. planned.is_complete ≡ false)) }
 {
     let Some(certificate) = found else {
@@ -221,14 +220,10 @@ fn fitting(
 }
 
 /// What the plan of a certificate costs that replays.
-fn known_cost(
-    alloc: Global,
-    planning: Planning<'_>,
-    known: &Certificate,
-) -> Result<u64, AllocError>
+fn known_cost(alloc: Global, planning: Planning<'_>, known: &Certificate) -> Result<u64, AllocError>
     requires framed { IsFramed planning.query.now planning.frame.now planning.own.now }
     requires replays { replayed planning.query.now known.now ≡ Ok known.now }
-    ensures { IfOk result (λ cost. cost ≡ certificate_cost planning.statistics.now planning.query.now known.now) }
+    ensures { IfOk result (λ cost. cost ≡ certificate_cost planning.entry.statistics.now planning.entry.query.now known.now) }
 {
     let Planning {
         query,
@@ -250,13 +245,13 @@ fn known_cost(
 /// The best certificate that was found of a query with its frame, or the canonical one.
 fn plan_of_frame(alloc: Global, planning: Planning<'_>) -> Result<Planned, AllocError>
     requires { IsFramed planning.query.now planning.frame.now planning.own.now }
-    ensures replays { IfOk result (λ planned. replayed planning.query.now planned.certificate ≡ Ok planned.certificate) }
-    ensures cost { IfOk result (λ planned. planned.cost ≡ certificate_cost planning.statistics.now planning.query.now planned.certificate) }
-    ensures cheap { IfOk result (λ planned. IsNotDearer planning.statistics.now planning.query.now planned.certificate) }
-    ensures within { IfOk result (λ planned. planned.is_searched ≡ true → length planned.certificate.lines ≤ planning.limit) }
+    ensures replays { IfOk result (λ planned. replayed planning.entry.query.now planned.certificate ≡ Ok planned.certificate) }
+    ensures cost { IfOk result (λ planned. planned.cost ≡ certificate_cost planning.entry.statistics.now planning.entry.query.now planned.certificate) }
+    ensures cheap { IfOk result (λ planned. IsNotDearer planning.entry.statistics.now planning.entry.query.now planned.certificate) }
+    ensures within { IfOk result (λ planned. planned.is_searched ≡ true → length planned.certificate.lines ≤ planning.entry.limit) }
     ensures complete { IfOk result (λ planned. planned.is_complete ≡ false) }
 {
-    let known = certificate_of(alloc, planning.query, planning.frame)?;
+    let known = certificate_of(alloc, planning.query)?;
     let found = searched(alloc, planning, &known)?;
     if let Some(planned) = fitting(alloc, planning, found, &known)? {
         return Ok(planned);

@@ -11,26 +11,26 @@ use Rattle.planner.proofs.certificates.certificate_of.Goals as goal
 
 pub overflow_sub-last : goal.overflow_sub-last
 overflow_sub-last c =
-    let some : 0 < length (query_frame c.args.query.now) = (frames_formed c.args.query.now c.requires.bound).some in
-    rw (c.len-last.ensures, c.requires.frame) (omega (arith, some))
+    let some : 0 < length (query_frame c.args.query.now) = (frames_formed c.args.query.now c.requires).some in
+    rw (c.len-last.ensures, c.in_ok-frame.ensures.lines) (omega (arith, some))
 
 pub plan_of-requires-clause-earlier : goal.plan_of-requires-clause-earlier
-plan_of-requires-clause-earlier c = subst NameEarlier (sym (c.requires.frame)) (names_earlier c.args.query.now c.requires.bound)
+plan_of-requires-clause-earlier c = subst NameEarlier (sym (c.as_slice.ensures ∙ c.in_ok-frame.ensures.lines)) (names_earlier c.args.query.now c.requires)
 
 pub plan_of-requires-clause-class : goal.plan_of-requires-clause-class
 plan_of-requires-clause-class c =
-    let some : 0 < length (query_frame c.args.query.now) = (frames_formed c.args.query.now c.requires.bound).some in
-    subst (λ k. k < length c.args.frame.now) (sym c.in_ok-root.ensures) (rw (c.len-last.ensures, c.requires.frame) (omega (arith, some)))
+    let some : 0 < length (query_frame c.args.query.now) = (frames_formed c.args.query.now c.requires).some in
+    subst (λ k. k < length c.as_slice.result.now) (sym c.in_ok-root.ensures) (rw (c.len-last.ensures, c.as_slice.ensures, c.in_ok-frame.ensures.lines) (omega (arith, some)))
 
 pub returns-clause-replays : goal.returns-clause-replays
 returns-clause-replays c =
     let q = c.args.query.now in
-    let frame : c.args.frame.now ≡ query_frame q = c.requires.frame in
-    let below : IsPlanOf (query_frame q) (root q) c.in_ok-below.below = subst (λ g. IsPlanOf (query_frame q) g c.in_ok-below.below) (c.in_ok-root.ensures ∙ ap (λ n. n - 1) (c.len-last.ensures ∙ ap length c.requires.frame)) (subst (λ L. IsPlanOf L c.in_ok-root.root c.in_ok-below.below) frame c.in_ok-below.ensures) in
-    canonical_replays q c.requires.bound (record { lines = c.in_ok-lines.lines; plan = c.in_ok-plan.plan }) c.in_ok-below.below (c.in_ok-lines.ensures ∙ ap (map Founds) c.requires.frame) (c.in_ok-plan.ensures ∙ ap (λ ks. top ks c.in_ok-below.below) (c.from_vec.ensures ∙ c.in_ok-order.ensures)) below
+    let frame : c.as_slice.result.now ≡ query_frame q = c.as_slice.ensures ∙ c.in_ok-frame.ensures.lines in
+    let below : IsPlanOf (query_frame q) (root q) c.in_ok-below.below = subst (λ g. IsPlanOf (query_frame q) g c.in_ok-below.below) (c.in_ok-root.ensures ∙ ap (λ n. n - 1) (c.len-last.ensures ∙ ap length c.in_ok-frame.ensures.lines)) (subst (λ L. IsPlanOf L c.in_ok-root.root c.in_ok-below.below) frame c.in_ok-below.ensures) in
+    canonical_replays q c.requires (record { lines = c.in_ok-lines.lines; plan = c.in_ok-plan.plan }) c.in_ok-below.below (c.in_ok-lines.ensures ∙ ap (map Founds) c.in_ok-frame.ensures.lines) (c.in_ok-plan.ensures ∙ ap (λ ks. top ks c.in_ok-below.below) (c.from_vec.ensures ∙ c.in_ok-order.ensures)) below
 
 pub returns-clause-only : goal.returns-clause-only
 returns-clause-only c =
     one_certificate c.args.query.now (record { lines = c.in_ok-lines.lines; plan = c.in_ok-plan.plan })
-    (record { lines = c.in_ok-lines.ensures ∙ ap (map Founds) c.requires.frame; below = c.in_ok-below.below; basic = c.in_ok-below.ensures.basic; plan = c.in_ok-plan.ensures ∙ ap (λ ks. top ks c.in_ok-below.below) (c.from_vec.ensures ∙ c.in_ok-order.ensures) })
+    (record { lines = c.in_ok-lines.ensures ∙ ap (map Founds) c.in_ok-frame.ensures.lines; below = c.in_ok-below.below; basic = c.in_ok-below.ensures.basic; plan = c.in_ok-plan.ensures ∙ ap (λ ks. top ks c.in_ok-below.below) (c.from_vec.ensures ∙ c.in_ok-order.ensures) })
     (returns-clause-replays c)
