@@ -135,7 +135,7 @@ impl Given<'_> {
     fn refused(&self, alloc: Global, refusal: &Refusal) -> Stop {
         let stop = Stop::of_refusal(alloc, refusal, Some(self.schema));
         if self.words {
-            in_words(alloc, stop, refusal, self.text)
+            in_words(alloc, stop, refusal, Some(self.schema), self.text)
         } else {
             stop
         }
@@ -299,7 +299,7 @@ fn serve(rt: &HostRuntime, asked: Asked<'_>, given: Given<'_>) -> Result<(), Sto
 fn refused_schema(alloc: Global, refusal: &Refusal, words: bool) -> Stop {
     let stop = Stop::of_refusal(alloc, refusal, None);
     if words {
-        in_words(alloc, stop, refusal, &[])
+        in_words(alloc, stop, refusal, None, &[])
     } else {
         stop
     }

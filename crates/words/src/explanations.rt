@@ -58,12 +58,14 @@ pub fn explanation(alloc: Global, meaning: Meaning) -> Result<String, AllocError
     format!(in alloc; "{what}\nfor example {example}\n")
 }
 
-/// The same of a refusal at a byte of a text: its line and column, and the line with a caret under it.
+/// The same of a refusal at a byte of a text: its line and column, the line with a caret under it, and what more there is to say of it,
+/// in lines of its own.
 pub fn explanation_at(
     alloc: Global,
     meaning: Meaning,
     text: &[u8],
     at: usize,
+    more: &str,
 ) -> Result<String, AllocError> {
     let place = place_of(text, at);
     let row = place.line;
@@ -72,6 +74,6 @@ pub fn explanation_at(
     let example = meaning.example;
     let mut shown = format!(in alloc; "line {row}, column {column} (byte {at}): {what}\n")?;
     push_excerpt(alloc, &mut shown, text, place)?;
-    write!(&mut shown, "for example {example}\n")?;
+    write!(&mut shown, "{more}for example {example}\n")?;
     Ok(shown)
 }

@@ -5,11 +5,14 @@ pub mod certificates;
 mod codes;
 pub mod explanations;
 pub mod meanings;
+mod names;
 pub mod places;
+mod search;
 pub mod spelling;
 
 pub use codes::list_of_codes;
 pub use explanations::{explanation, explanation_at};
 pub use meanings::Meaning;
 pub use places::{Place, place_of};
+pub use search::names_there;
 pub use spelling::{quoted, spelled};
