@@ -8,7 +8,7 @@ use words::certificates::{of_certificate, of_check};
 use words::meanings::{
     OUTPUT_FAILED, TABLE_UNREAD, of_schema, of_scope, of_statistics, of_table, of_text,
 };
-use words::{Meaning, explanation, explanation_at, names_there};
+use words::{Meaning, explanation, explanation_at, habits_there, names_there};
 
 /// What a refusal means. Out of memory needs no words.
 fn meaning(refusal: &Refusal) -> Option<Meaning> {
@@ -43,6 +43,7 @@ fn more(
     text: &[u8],
 ) -> Result<String, AllocError> {
     match (refusal, schema) {
+        (Refusal::Text(refusal), _) => habits_there(alloc, text, *refusal),
         (Refusal::Scope(refusal), Some(schema)) => names_there(alloc, schema, text, *refusal),
         _ => Ok(String::new(alloc)),
     }

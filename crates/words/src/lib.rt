@@ -4,6 +4,7 @@
 pub mod certificates;
 mod codes;
 pub mod explanations;
+mod habits;
 pub mod meanings;
 mod names;
 pub mod places;
@@ -12,6 +13,7 @@ pub mod spelling;
 
 pub use codes::list_of_codes;
 pub use explanations::{explanation, explanation_at};
+pub use habits::habits_there;
 pub use meanings::Meaning;
 pub use places::{Place, place_of};
 pub use search::names_there;
