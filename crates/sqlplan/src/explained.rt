@@ -1,14 +1,22 @@
 //! Refusals in words.
 
+ghost use Rattle.std.specs.Prelude.{ℕ, List};
+ghost use Rattle.sqlplan.specs.Stops.{Says};
+
+use crate::path_of;
 use crate::stop::Stop;
 use pipeline::Refusal;
 use schema::Schema;
 use std::alloc::{AllocError, Global};
+use std::io;
 use words::certificates::{of_certificate, of_check};
 use words::meanings::{
     OUTPUT_FAILED, TABLE_UNREAD, of_schema, of_scope, of_statistics, of_table, of_text,
 };
-use words::{Meaning, explanation, explanation_at, habits_there, names_there};
+use words::{
+    Meaning, explanation, explanation_at, file_explanation, habits_there, names_there, row_there,
+    table_there,
+};
 
 /// What a refusal means. Out of memory needs no words.
 fn meaning(refusal: &Refusal) -> Option<Meaning> {
@@ -35,46 +43,73 @@ fn byte_of(refusal: &Refusal) -> Option<usize> {
     }
 }
 
-/// What can be said of a refusal of this text besides its code's meaning.
-fn more(
-    alloc: Global,
-    refusal: &Refusal,
-    schema: Option<&Schema>,
-    text: &[u8],
-) -> Result<String, AllocError> {
-    match (refusal, schema) {
-        (Refusal::Text(refusal), _) => habits_there(alloc, text, *refusal),
-        (Refusal::Scope(refusal), Some(schema)) => names_there(alloc, schema, text, *refusal),
+/// What a command was given, by which a refusal is explained.
+#[derive(Clone, Copy)]
+pub struct Inputs<'a> {
+    pub schema: &'a Schema,
+    pub text: &'a [u8],
+    /// The folder of the tables; nothing where a command reads none.
+    pub folder: &'a str,
+}
+
+/// What can be said of a refusal besides its code's meaning, in lines of its own.
+fn more(alloc: Global, refusal: &Refusal, inputs: Inputs<'_>) -> Result<String, AllocError> {
+    let tables = inputs.schema.tables.as_slice();
+    match refusal {
+        Refusal::Text(refusal) => habits_there(alloc, inputs.text, *refusal),
+        Refusal::Scope(refusal) => names_there(alloc, inputs.schema, inputs.text, *refusal),
+        Refusal::Table(place, refusal) => match tables.get(*place) {
+            Some(table) => {
+                let path = path_of(alloc, inputs.folder, table.name.as_str())?;
+                row_there(alloc, path.as_str(), table, *refusal)
+            }
+            None => Ok(String::new(alloc)),
+        },
+        Refusal::TableDevice(place) => match tables.get(*place) {
+            Some(table) => {
+                let path = path_of(alloc, inputs.folder, table.name.as_str())?;
+                table_there(alloc, path.as_str())
+            }
+            None => Ok(String::new(alloc)),
+        },
         _ => Ok(String::new(alloc)),
     }
 }
 
-/// A refusal in words: nothing where it needs none.
+/// A refusal in words: nothing where it needs none. A schema's refusal has no inputs.
 fn words_of(
     alloc: Global,
     refusal: &Refusal,
-    schema: Option<&Schema>,
-    text: &[u8],
+    inputs: Option<Inputs<'_>>,
 ) -> Result<String, AllocError> {
     let Some(meaning) = meaning(refusal) else {
         return Ok(String::new(alloc));
     };
-    let more = more(alloc, refusal, schema, text)?;
+    let Some(inputs) = inputs else {
+        return explanation(alloc, meaning, "");
+    };
+    let more = more(alloc, refusal, inputs)?;
     match byte_of(refusal) {
-        Some(at) => explanation_at(alloc, meaning, text, at, more.as_str()),
-        None => explanation(alloc, meaning),
+        Some(at) => explanation_at(alloc, meaning, inputs.text, at, more.as_str()),
+        None => explanation(alloc, meaning, more.as_str()),
     }
 }
 
 /// The stop of a refusal with its words behind the line. Without memory for them the line stands alone.
-pub fn in_words(
-    alloc: Global,
-    stop: Stop,
-    refusal: &Refusal,
-    schema: Option<&Schema>,
-    text: &[u8],
-) -> Stop {
-    match words_of(alloc, refusal, schema, text) {
+pub fn in_words(alloc: Global, stop: Stop, refusal: &Refusal, inputs: Option<Inputs<'_>>) -> Stop
+    ensures { (line : List ℕ) (status : ℕ) → Says line status stop → Says line status result }
+{
+    match words_of(alloc, refusal, inputs) {
+        Ok(words) => stop.with_words(words),
+        Err(AllocError) => stop,
+    }
+}
+
+/// The stop of a file with why it can't be opened or read behind its line.
+pub fn file_in_words(alloc: Global, stop: Stop, error: &io::Error) -> Stop
+    ensures { (line : List ℕ) (status : ℕ) → Says line status stop → Says line status result }
+{
+    match file_explanation(alloc, error) {
         Ok(words) => stop.with_words(words),
         Err(AllocError) => stop,
     }

@@ -15,7 +15,7 @@ use arguments::arguments;
 use clap::ArgMatches;
 use clap::error::ErrorKind;
 use command::command;
-use explained::in_words;
+use explained::{Inputs, file_in_words, in_words};
 use pipeline::{PlanForm, Refusal, check, evaluate, explain, plan, query, run};
 use schema::Schema;
 use std::alloc::{AllocError, Global};
@@ -27,13 +27,25 @@ use stop::Stop;
 use store::CountedInput;
 use words::list_of_codes;
 
+/// The stop of a file that can't be opened or read, in words if they are asked for.
+fn failed_file(alloc: Global, path: &str, error: &io::Error, words: bool) -> Stop
+    ensures { SaysFile path.now result }
+{
+    let stop = Stop::of_file(alloc, path, error);
+    if words {
+        file_in_words(alloc, stop, error)
+    } else {
+        stop
+    }
+}
+
 /// The bytes of a file.
-fn bytes_of(rt: &HostRuntime, path: &str) -> Result<Vec<u8>, Stop>
+fn bytes_of(rt: &HostRuntime, path: &str, words: bool) -> Result<Vec<u8>, Stop>
     ensures { IfErr result (SaysFile path.now) }
 {
     match fs::read(rt, path) {
         Ok(bytes) => Ok(bytes),
-        Err(error) => Err(Stop::of_file(rt.alloc(), path, &error)),
+        Err(error) => Err(failed_file(rt.alloc(), path, &error, words)),
     }
 }
 
@@ -54,6 +66,7 @@ fn open_tables(
     rt: &HostRuntime,
     schema: &Schema,
     folder: &str,
+    words: bool,
 ) -> Result<Vec<CountedInput<File>>, Stop>
     ensures each { IfOk result (λ tables. vec_len tables ≡ length schema.now.tables) }
     ensures fails { IfErr result (SaysTable schema.now folder.now) }
@@ -64,7 +77,7 @@ fn open_tables(
         let path = path_of(alloc, folder, table.name.as_str())?;
         match fs::open(rt, path.as_str()) {
             Ok(file) => tables.push(CountedInput::new(file))?,
-            Err(error) => return Err(Stop::of_file(alloc, path.as_str(), &error)),
+            Err(error) => return Err(failed_file(alloc, path.as_str(), &error, words)),
         }
     }
     Ok(tables)
@@ -117,6 +130,14 @@ impl<'a> Asked<'a> {
             _ => None,
         }
     }
+
+    /// The folder of the tables; nothing where a command reads none.
+    fn folder(self) -> &'a str {
+        match self {
+            Asked::Query(folder, _) | Asked::Meaning(folder) | Asked::Run(_, folder) => folder,
+            Asked::Plan(_, _) | Asked::Explain(_, _, _) | Asked::Check(_) => "",
+        }
+    }
 }
 
 /// What has been read before a command begins.
@@ -126,6 +147,8 @@ struct Given<'a> {
     bytes: &'a [u8],
     schema: &'a Schema,
     text: &'a [u8],
+    /// The folder of the tables; nothing where a command reads none.
+    folder: &'a str,
     /// Whether a refusal is put in words.
     words: bool,
 }
@@ -135,7 +158,12 @@ impl Given<'_> {
     fn refused(&self, alloc: Global, refusal: &Refusal) -> Stop {
         let stop = Stop::of_refusal(alloc, refusal, Some(self.schema));
         if self.words {
-            in_words(alloc, stop, refusal, Some(self.schema), self.text)
+            let inputs = Inputs {
+                schema: self.schema,
+                text: self.text,
+                folder: self.folder,
+            };
+            in_words(alloc, stop, refusal, Some(inputs))
         } else {
             stop
         }
@@ -159,7 +187,7 @@ fn output(rt: &HostRuntime) -> Result<CountedOutput<BufWriter<Printer<'_, HostRu
 fn answer(rt: &HostRuntime, given: Given<'_>, folder: &str, limit: usize) -> Result<(), Stop>
     requires { schema_of given.bytes.now ≡ Ok given.schema.now }
 {
-    let mut tables = open_tables(rt, given.schema, folder)?;
+    let mut tables = open_tables(rt, given.schema, folder, given.words)?;
     let tables = tables.as_mut_slice();
     let outcome = query(
         rt.alloc(),
@@ -176,7 +204,7 @@ fn answer(rt: &HostRuntime, given: Given<'_>, folder: &str, limit: usize) -> Res
 fn answer_by_meaning(rt: &HostRuntime, given: Given<'_>, folder: &str) -> Result<(), Stop>
     requires { schema_of given.bytes.now ≡ Ok given.schema.now }
 {
-    let mut tables = open_tables(rt, given.schema, folder)?;
+    let mut tables = open_tables(rt, given.schema, folder, given.words)?;
     let tables = tables.as_mut_slice();
     let outcome = evaluate(
         rt.alloc(),
@@ -197,8 +225,8 @@ fn answer_by_certificate(
 ) -> Result<(), Stop>
     requires { schema_of given.bytes.now ≡ Ok given.schema.now }
 {
-    let certificate = bytes_of(rt, certificate)?;
-    let mut tables = open_tables(rt, given.schema, folder)?;
+    let certificate = bytes_of(rt, certificate, given.words)?;
+    let mut tables = open_tables(rt, given.schema, folder, given.words)?;
     let outcome = run(
         rt.alloc(),
         given.bytes,
@@ -230,7 +258,7 @@ fn plan_by_statistics(
     statistics: &str,
     limit: usize,
 ) -> Result<(), Stop> {
-    let statistics = bytes_of(rt, statistics)?;
+    let statistics = bytes_of(rt, statistics, given.words)?;
     match plan(
         rt.alloc(),
         given.bytes,
@@ -251,7 +279,7 @@ fn explain_by_statistics(
     form: PlanForm,
     limit: usize,
 ) -> Result<(), Stop> {
-    let statistics = bytes_of(rt, statistics)?;
+    let statistics = bytes_of(rt, statistics, given.words)?;
     match explain(
         rt.alloc(),
         form,
@@ -267,7 +295,7 @@ fn explain_by_statistics(
 
 /// Says on standard output that a certificate is accepted, where it is.
 fn accept(rt: &HostRuntime, given: Given<'_>, certificate: &str) -> Result<(), Stop> {
-    let certificate = bytes_of(rt, certificate)?;
+    let certificate = bytes_of(rt, certificate, given.words)?;
     let outcome = check(rt.alloc(), given.bytes, given.text, certificate.as_slice());
     given.ended(rt.alloc(), outcome)?;
     written(rt.alloc(), rt.println("accepted"))
@@ -299,7 +327,7 @@ fn serve(rt: &HostRuntime, asked: Asked<'_>, given: Given<'_>) -> Result<(), Sto
 fn refused_schema(alloc: Global, refusal: &Refusal, words: bool) -> Stop {
     let stop = Stop::of_refusal(alloc, refusal, None);
     if words {
-        in_words(alloc, stop, refusal, None, &[])
+        in_words(alloc, stop, refusal, None)
     } else {
         stop
     }
@@ -318,15 +346,16 @@ fn obey(rt: &HostRuntime, command: &str, arguments: &ArgMatches<'_>) -> Result<(
         return Err(Stop::Usage);
     };
     let words = arguments.get_flag("words");
-    let bytes = bytes_of(rt, schema)?;
+    let bytes = bytes_of(rt, schema, words)?;
     let bytes = bytes.as_slice();
     match Schema::read(rt.alloc(), bytes) {
         Ok(schema) => {
-            let text = bytes_of(rt, query)?;
+            let text = bytes_of(rt, query, words)?;
             let given = Given {
                 bytes,
                 schema: &schema,
                 text: text.as_slice(),
+                folder: asked.folder(),
                 words,
             };
             serve(rt, asked, given)

@@ -51,11 +51,11 @@ fn push_excerpt(
     shown.push_str("^\n")
 }
 
-/// What a refusal means and an example of one, without a place.
-pub fn explanation(alloc: Global, meaning: Meaning) -> Result<String, AllocError> {
+/// What a refusal means and an example of one, without a place, and what more there is to say of it, in lines of its own.
+pub fn explanation(alloc: Global, meaning: Meaning, more: &str) -> Result<String, AllocError> {
     let what = meaning.text;
     let example = meaning.example;
-    format!(in alloc; "{what}\nfor example {example}\n")
+    format!(in alloc; "{what}\n{more}for example {example}\n")
 }
 
 /// The same of a refusal at a byte of a text: its line and column, the line with a caret under it, and what more there is to say of it,

@@ -4,6 +4,7 @@
 pub mod certificates;
 mod codes;
 pub mod explanations;
+mod files;
 mod habits;
 pub mod meanings;
 mod names;
@@ -13,6 +14,7 @@ pub mod spelling;
 
 pub use codes::list_of_codes;
 pub use explanations::{explanation, explanation_at};
+pub use files::{file_explanation, row_there, table_there};
 pub use habits::habits_there;
 pub use meanings::Meaning;
 pub use places::{Place, place_of};

@@ -1,0 +1,144 @@
+//! Why a file fails, and what a row of a table's file is to be.
+
+use crate::spelling::spelled;
+use schema::{Column, Kind, Table};
+use std::alloc::{AllocError, Global};
+use std::io;
+use std::io::ErrorKind;
+use store::{TableCause, TableRefusal};
+
+/// Why a file can't be opened or read, where that can be put in words.
+fn reason(kind: ErrorKind) -> Option<&'static str> {
+    match kind {
+        ErrorKind::NotFound => Some("there is no such file, or no such folder on the way to it"),
+        ErrorKind::PermissionDenied => Some(
+            "it may not be read: its permissions or those of a folder on the way to it forbid it",
+        ),
+        ErrorKind::IsADirectory => Some("it is a folder, and a file is wanted"),
+        ErrorKind::NotADirectory => Some("what stands before a / of the path is no folder"),
+        ErrorKind::InvalidFilename => Some("the path or a name in it is too long"),
+        ErrorKind::FilesystemLoop => Some("the links on the way to it go in a circle"),
+        _ => None,
+    }
+}
+
+/// Why a file can't be opened or read: in words, or what the system says.
+pub fn file_explanation(alloc: Global, error: &io::Error) -> Result<String, AllocError> {
+    match reason(error.kind()) {
+        Some(reason) => format!(in alloc; "{reason}\n"),
+        None => format!(in alloc; "the system says: {error}\n"),
+    }
+}
+
+/// What a value of a column looks like.
+fn push_values(said: &mut String, column: &Column) -> Result<(), AllocError> {
+    said.push_str(match column.kind {
+        Kind::Int =>
+            "INT, a whole number from -9223372036854775808 to 9223372036854775807, as 0, 12 or -7",
+        Kind::Text => "TEXT, any text in UTF-8, with one more backslash before one at its front",
+    })?;
+    said.push_str(if column.not_null {
+        ", and never Null"
+    } else {
+        "; or \\N for Null"
+    })
+}
+
+/// Adds names with commas between them, as a header has them.
+fn push_header(said: &mut String, names: &[&str]) -> Result<(), AllocError> {
+    for (place, name) in names.iter().enumerate() {
+        said.push_str(if place > 0 { "," } else { "" })?;
+        said.push_str(name)?;
+    }
+    Ok(())
+}
+
+/// Adds the names of all columns.
+fn push_names(alloc: Global, said: &mut String, columns: &[Column]) -> Result<(), AllocError> {
+    let mut names = Vec::new(alloc);
+    for column in columns {
+        names.push(column.name.as_str())?;
+    }
+    push_header(said, names.as_slice())
+}
+
+/// Adds the unique lists of a table.
+fn push_unique(alloc: Global, said: &mut String, table: &Table) -> Result<(), AllocError> {
+    let columns = table.columns.as_slice();
+    for (place, list) in table.unique.as_slice().iter().enumerate() {
+        let mut names = Vec::new(alloc);
+        for column in list.as_slice() {
+            if let Some(column) = columns.get(*column) {
+                names.push(column.name.as_str())?;
+            }
+        }
+        said.push_str(if place > 0 { ", (" } else { "(" })?;
+        push_header(said, names.as_slice())?;
+        said.push(')')?;
+    }
+    Ok(())
+}
+
+/// Adds what is wanted of a row in place of what stands there.
+fn push_wanted(
+    alloc: Global,
+    said: &mut String,
+    table: &Table,
+    cause: TableCause,
+) -> Result<(), AllocError> {
+    let columns = table.columns.as_slice();
+    match cause {
+        TableCause::OtherHeader => {
+            push_names(alloc, said, columns)?;
+            said.push_str(" is wanted")
+        }
+        TableCause::OtherLength => {
+            said.push_str("the fields ")?;
+            push_names(alloc, said, columns)?;
+            said.push_str(" are wanted")
+        }
+        TableCause::Field(place, _) => match columns.get(place) {
+            Some(column) => {
+                let name = column.name.as_str();
+                write!(said, "column {name} is ")?;
+                push_values(said, column)
+            }
+            None => Ok(()),
+        },
+        TableCause::Repeated(earlier) => {
+            write!(
+                said,
+                "row {earlier} has the same values in one of the unique lists "
+            )?;
+            push_unique(alloc, said, table)
+        }
+        TableCause::TooMany => said.push_str("no further row is wanted"),
+    }
+}
+
+/// Which row of a table's file is refused, and what is wanted of it: a line of its own.
+pub fn row_there(
+    alloc: Global,
+    path: &str,
+    table: &Table,
+    refusal: TableRefusal,
+) -> Result<String, AllocError> {
+    let path = spelled(alloc, path)?;
+    let mut said = String::new(alloc);
+    match refusal.row {
+        0 => write!(&mut said, "{path}, its header: ")?,
+        row => write!(
+            &mut said,
+            "{path}, row {row}, its header and empty lines not counted"
+        )?,
+    }
+    push_wanted(alloc, &mut said, table, refusal.cause)?;
+    said.push('\n')?;
+    Ok(said)
+}
+
+/// Which file of a table could not be read to its end: a line of its own.
+pub fn table_there(alloc: Global, path: &str) -> Result<String, AllocError> {
+    let path = spelled(alloc, path)?;
+    format!(in alloc; "the file is {path}\n")
+}
