@@ -25,7 +25,7 @@ use std::process::ExitCode;
 use std::{fs, io};
 use stop::Stop;
 use store::CountedInput;
-use words::list_of_codes;
+use words::{list_of_codes, readable};
 
 /// The stop of a file that can't be opened or read, in words if they are asked for.
 fn failed_file(alloc: Global, path: &str, error: &io::Error, words: bool) -> Stop
@@ -370,7 +370,8 @@ fn say(rt: &HostRuntime, error: &clap::Error) -> Result<(), Stop> {
         ErrorKind::OutOfMemory => Err(Stop::Memory),
         ErrorKind::DisplayVersion => written(rt.alloc(), rt.print(error)),
         _ => {
-            let _ = rt.eprint(error);
+            let text = format!(in rt.alloc(); "{error}")?;
+            let _ = rt.eprint(readable(rt.alloc(), text.as_str())?);
             Err(Stop::Usage)
         }
     }

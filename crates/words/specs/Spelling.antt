@@ -4,7 +4,7 @@ use Rattle.std.specs.Int.{is_in_range}
 pub use Rattle.std.specs.List.{flat_map}
 use Rattle.std.specs.List.{list_any}
 use Rattle.std.specs.Str.{chars}
-use Rattle.std.specs.Char.{is_control}
+use Rattle.std.specs.Char.{is_control, encode_utf8}
 use Rattle.std.specs.Fmt.{digit_glyph}
 
 -- ---- what is said as it is
@@ -41,3 +41,12 @@ quoted bytes = codes "\"" ++ (flat_map spelled_byte bytes ++ codes "\"")
 
 unfoldable pub spelled : List ℕ → List ℕ
 spelled path = if is_plain path then path else quoted path
+
+-- ---- a text of several lines
+
+-- a character that steers a terminal, but for a line feed, is said by its bytes as between quotes, any other as it is
+abbrev pub readable_character : ℕ → List ℕ
+readable_character character = if is_control character && not (character == 10) then flat_map spelled_byte (encode_utf8 character) else encode_utf8 character
+
+abbrev pub readable : List ℕ → List ℕ
+readable text = flat_map readable_character (chars text)

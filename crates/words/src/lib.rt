@@ -19,4 +19,4 @@ pub use habits::habits_there;
 pub use meanings::Meaning;
 pub use places::{Place, place_of};
 pub use search::names_there;
-pub use spelling::{quoted, spelled};
+pub use spelling::{quoted, readable, spelled};

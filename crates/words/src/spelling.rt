@@ -1,6 +1,7 @@
 //! Paths and arguments on one line, without a character that steers a terminal.
 
 ghost use Rattle.std.specs.Prelude.{◌≡◌, ◌++◌, string_bytes, OnOk, IfOk};
+ghost use Rattle.std.specs.Char.{encode_utf8};
 ghost use Rattle.words.specs.Spelling as spec;
 ghost use Rattle.words.specs.Spelling.{flat_map};
 
@@ -63,4 +64,30 @@ pub fn spelled(alloc: Global, path: &str) -> Result<String, AllocError>
     } else {
         quoted(alloc, path.as_bytes())
     }
+}
+
+fn push_control(text: &mut String, character: char) -> Result<(), AllocError>
+    ensures { OnOk result (string_bytes text.new ≡ string_bytes text.old ++ flat_map spec.spelled_byte (encode_utf8 character)) }
+{
+    let mut buffer = [0u8; 4];
+    let bytes = character.encode_utf8(&mut buffer).as_bytes();
+    for byte in bytes {
+        push_byte(text, *byte)?;
+    }
+    Ok(())
+}
+
+/// A text of several lines, with what would steer a terminal spelled as in a path between quotes.
+pub fn readable(alloc: Global, text: &str) -> Result<String, AllocError>
+    ensures { IfOk result (λ said. string_bytes said ≡ spec.readable text.now) }
+{
+    let mut said = String::new(alloc);
+    for character in text.chars() {
+        if character.is_control() && character != '\n' {
+            push_control(&mut said, character)?;
+        } else {
+            said.push(character)?;
+        }
+    }
+    Ok(said)
 }
