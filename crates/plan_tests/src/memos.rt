@@ -3,6 +3,7 @@
 use crate::derived::{expr_of, fact_of, lines_of, numbers_of, rule_of};
 use crate::plans::{cut, id};
 use derivation::Line;
+use explore::explore;
 use fixtures::{COMPANY, DEPT, EMP, QueryReporting, Tables, push_number, query_differences};
 use logs::Log;
 use memo::Memo;
@@ -40,7 +41,7 @@ fn push_numbers(reported: &mut String, numbers: &[u32]) -> Result<(), AllocError
 }
 
 /// Does what the words say, and adds what comes of it: `found EXPR` the class, `line CLASS EXPR` and `apply RULE LINES` the line,
-/// `learn CLASS FACT` whether it is known, `members CLASS` and `parents CLASS` lines.
+/// `learn CLASS FACT` whether it is known, `members CLASS` and `parents CLASS` lines, `explore LIMIT` whether nothing more can be added.
 fn push_done(
     alloc: Global,
     reported: &mut String,
@@ -65,6 +66,10 @@ fn push_done(
         "learn" => {
             let is_known = memo.learn(alloc, id(first), fact_of(alloc, rest)?)?;
             reported.push_str(if is_known { "known" } else { "not known" })
+        }
+        "explore" => {
+            let is_whole = explore(alloc, memo, id(first) as usize)?;
+            reported.push_str(if is_whole { "whole" } else { "not whole" })
         }
         "members" => push_numbers(reported, memo.members(alloc, id(first))?.as_slice()),
         "parents" => push_numbers(reported, memo.parents(id(first))?.as_slice()),
@@ -197,6 +202,37 @@ fn full_logs_stay(rt: HostRuntime) {
         "SELECT d.id FROM dept d, emp e => F get 0; F get 1; F join [] 0 1 / apply J1 2; found select [>(c0,i5)] 0; learn 0 notnull 0; found get 1; apply J1 3 => 3; none; not known; 1; 2; lines F F F A2";
     assert_eq!(rt;
         query_differences(rt.alloc(), TABLES, &[CASES], &Grown { limit: 4 }).as_deref(),
+        Ok("")
+    );
+}
+
+/// Each rule is applied at each binding, also at those of lines that were added meanwhile. A join of three sides has three ways to split them, and the
+/// one that has both sides of its condition on the left asks it above or below; each of these four stands in both orders.
+#[test]
+fn logs_are_explored(rt: HostRuntime) {
+    const SELECTED: &str =
+        "SELECT d.id FROM dept d, emp e => F get 0; F get 1; F join [] 0 1; F select [>(c0,i5)] 2 / explore 20000; members 2; members 3; explore 20000 => whole; 2 8; 3 5 6 7 9; whole; lines F F F F F A3 A3 A3 A2 A3";
+    const JOINED: &str =
+        "SELECT d.id FROM dept d, emp e, emp f => F get 0; F get 1; F get 2; F join [] 0 1; F join [=(c0,c4)] 3 2 / explore 20000; members 3; members 4; explore 20000 => whole; 3 10; 4 5 7 12 13 15 17 18; whole; lines F F F F F A4 F A4 A6 A6 A3 F A4 A4 A11 A4 F A4 A4 A16";
+    assert_eq!(rt;
+        query_differences(
+            rt.alloc(),
+            TABLES,
+            &[SELECTED, JOINED],
+            &Grown { limit: LIMIT }
+        )
+        .as_deref(),
+        Ok("")
+    );
+}
+
+/// A log that is full isn't whole.
+#[test]
+fn full_logs_are_not_explored(rt: HostRuntime) {
+    const CASES: &str =
+        "SELECT d.id FROM dept d, emp e => F get 0; F get 1; F join [] 0 1; F select [>(c0,i5)] 2 / explore 6 => not whole; lines F F F F F A3";
+    assert_eq!(rt;
+        query_differences(rt.alloc(), TABLES, &[CASES], &Grown { limit: 6 }).as_deref(),
         Ok("")
     );
 }

@@ -1,0 +1,182 @@
+//! Each rule at each binding.
+
+ghost use Rattle.std.specs.Prelude.{◌≡◌};
+ghost use Rattle.memo.specs.Growth.{Grows, IsWithin, Extends};
+
+use crate::bindings::{Binding, level_of, rules_of_one, rules_of_two};
+use crate::queue::Queue;
+use algebra::{Expr, LineId};
+use memo::Memo;
+use query::ids::id_of;
+use rules::RuleName;
+use std::alloc::{AllocError, Global};
+
+/// So many bindings are tried at most in one pass.
+const MOST_BINDINGS: usize = 20_000_000;
+
+/// A log is gone through so often at most.
+const MOST_PASSES: usize = 100;
+
+/// How many columns the rows have that a line is about.
+fn width_of(memo: &Memo<'_>, line: LineId) -> usize {
+    match memo.log().member(line) {
+        Some(member) => memo.log().classes().columns.columns_of(member.class).len(),
+        None => 0,
+    }
+}
+
+/// The class that an expression takes first.
+fn first_input(expr: &Expr) -> Option<u32> {
+    let (first, _) = expr.children();
+    first
+}
+
+/// Puts a rule into the queue, at a line and one below it, if there is one.
+fn enqueue(
+    alloc: Global,
+    memo: &Memo<'_>,
+    queue: &mut Queue,
+    binding: Binding,
+) -> Result<(), AllocError> {
+    let Some(top) = memo.log().member(binding.top) else {
+        return Ok(());
+    };
+    let below = match binding.below {
+        Some(line) => memo.log().member(line).map(|member| member.expr),
+        None => None,
+    };
+    let level = level_of(alloc, memo, binding.rule, top.expr, below)?;
+    queue.add(binding, level.number(), width_of(memo, binding.top))
+}
+
+/// Puts what may fit into the queue where one line stands over another.
+fn enqueue_pair(
+    alloc: Global,
+    memo: &Memo<'_>,
+    queue: &mut Queue,
+    top: LineId,
+    below: LineId,
+) -> Result<(), AllocError> {
+    let (Some(upper), Some(lower)) = (memo.log().member(top), memo.log().member(below)) else {
+        return Ok(());
+    };
+    for rule in rules_of_two(upper.expr, lower.expr) {
+        let binding = Binding {
+            rule: *rule,
+            top,
+            below: Some(below),
+        };
+        enqueue(alloc, memo, queue, binding)?;
+    }
+    Ok(())
+}
+
+/// Puts into the queue what may fit at a line alone, over earlier lines and itself, and below earlier ones. So each pair is put there once, by
+/// the later of the two.
+fn enter(
+    alloc: Global,
+    memo: &Memo<'_>,
+    queue: &mut Queue,
+    line: LineId,
+) -> Result<(), AllocError> {
+    let Some(member) = memo.log().member(line) else {
+        return Ok(());
+    };
+    for rule in rules_of_one(member.expr) {
+        let binding = Binding {
+            rule: *rule,
+            top: line,
+            below: None,
+        };
+        enqueue(alloc, memo, queue, binding)?;
+    }
+    if let Some(input) = first_input(member.expr) {
+        for below in memo.log().members(alloc, input)? {
+            if below <= line {
+                enqueue_pair(alloc, memo, queue, line, below)?;
+            }
+        }
+    }
+    for top in memo.parents(member.class)? {
+        let is_over = match memo.log().member(top) {
+            Some(parent) => match first_input(parent.expr) {
+                Some(input) => memo.log().are_same(input, member.class),
+                None => false,
+            },
+            None => false,
+        };
+        if is_over && top < line {
+            enqueue_pair(alloc, memo, queue, top, line)?;
+        }
+    }
+    Ok(())
+}
+
+/// Applies a rule at the lines of a binding.
+fn apply(alloc: Global, memo: &mut Memo<'_>, binding: Binding) -> Result<(), AllocError>
+    ensures extends { Extends memo.old.limit memo.old.log memo.new.log }
+    ensures limit { memo.new.limit ≡ memo.old.limit }
+{
+    let Binding { rule, top, below } = binding;
+    let _ = match below {
+        Some(below) => memo.apply(alloc, rule, [top, below].as_slice())?,
+        None => memo.apply(alloc, rule, [top].as_slice())?,
+    };
+    Ok(())
+}
+
+/// Enters the lines that were added since the last time, so many are entered.
+fn enter_new(
+    alloc: Global,
+    memo: &Memo<'_>,
+    queue: &mut Queue,
+    entered: usize,
+) -> Result<usize, AllocError> {
+    let count = memo.log().len();
+    for line in entered..count {
+        enter(alloc, memo, queue, id_of(line)?)?;
+    }
+    Ok(count)
+}
+
+/// Goes through all bindings, those of lines that are added meanwhile among them, until the log has so many lines.
+#[tactic(auto, using(memo::proofs::Growth::extended_along))]
+fn pass(alloc: Global, memo: &mut Memo<'_>, limit: usize) -> Result<(), AllocError>
+    ensures extends { Extends memo.old.limit memo.old.log memo.new.log }
+    ensures limit { memo.new.limit ≡ memo.old.limit }
+{
+    let mut queue = Queue::new(alloc);
+    let mut entered = 0;
+    for _ in 0..MOST_BINDINGS {
+        entered = enter_new(alloc, memo, &mut queue, entered)?;
+        if memo.log().len() >= limit {
+            break;
+        }
+        let Some(binding) = queue.next() else {
+            break;
+        };
+        apply(alloc, memo, binding)?;
+    }
+    Ok(())
+}
+
+/// Adds what each rule gives at each binding, until the log has so many lines or nothing more can be added; the limit is the memo's own. Whether the
+/// last pass went through all bindings and added nothing.
+#[tactic(auto, using(memo::proofs::Growth::extended_along))]
+pub fn explore(alloc: Global, memo: &mut Memo<'_>, limit: usize) -> Result<bool, AllocError>
+    ensures grows { Grows memo.old.log memo.new.log }
+    ensures within { IsWithin memo.old.limit memo.old.log memo.new.log }
+    ensures limit { memo.new.limit ≡ memo.old.limit }
+{
+    for _ in 0..MOST_PASSES {
+        let before = memo.log().len();
+        if before >= limit {
+            return Ok(false);
+        }
+        pass(alloc, memo, limit)?;
+        if memo.log().len() == before {
+            return Ok(true);
+        }
+    }
+    Ok(false)
+}
