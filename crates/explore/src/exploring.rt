@@ -139,9 +139,9 @@ fn enter_new(
     Ok(count)
 }
 
-/// Goes through all bindings, those of lines that are added meanwhile among them, until the log has so many lines.
+/// Goes through all bindings, those of lines that are added meanwhile among them, until the log is full.
 #[tactic(auto, using(memo::proofs::Growth::extended_along))]
-fn pass(alloc: Global, memo: &mut Memo<'_>, limit: usize) -> Result<(), AllocError>
+fn pass(alloc: Global, memo: &mut Memo<'_>) -> Result<(), AllocError>
     ensures extends { Extends memo.old.limit memo.old.log memo.new.log }
     ensures limit { memo.new.limit ≡ memo.old.limit }
 {
@@ -149,7 +149,7 @@ fn pass(alloc: Global, memo: &mut Memo<'_>, limit: usize) -> Result<(), AllocErr
     let mut entered = 0;
     for _ in 0..MOST_BINDINGS {
         entered = enter_new(alloc, memo, &mut queue, entered)?;
-        if memo.log().len() >= limit {
+        if memo.is_full() {
             break;
         }
         let Some(binding) = queue.next() else {
@@ -160,20 +160,20 @@ fn pass(alloc: Global, memo: &mut Memo<'_>, limit: usize) -> Result<(), AllocErr
     Ok(())
 }
 
-/// Adds what each rule gives at each binding, until the log has so many lines or nothing more can be added; the limit is the memo's own. Whether the
-/// last pass went through all bindings and added nothing.
+/// Adds what each rule gives at each binding, until the log is full or nothing more can be added. Whether the last pass went through all bindings and
+/// added nothing.
 #[tactic(auto, using(memo::proofs::Growth::extended_along))]
-pub fn explore(alloc: Global, memo: &mut Memo<'_>, limit: usize) -> Result<bool, AllocError>
+pub fn explore(alloc: Global, memo: &mut Memo<'_>) -> Result<bool, AllocError>
     ensures grows { Grows memo.old.log memo.new.log }
     ensures within { IsWithin memo.old.limit memo.old.log memo.new.log }
     ensures limit { memo.new.limit ≡ memo.old.limit }
 {
     for _ in 0..MOST_PASSES {
         let before = memo.log().len();
-        if before >= limit {
+        if memo.is_full() {
             return Ok(false);
         }
-        pass(alloc, memo, limit)?;
+        pass(alloc, memo)?;
         if memo.log().len() == before {
             return Ok(true);
         }

@@ -12,5 +12,6 @@ mod lookups;
 mod sets;
 mod spelling;
 
+pub use alike::are_alike;
 pub use judge::LineFault;
 pub use log::Log;

@@ -1,6 +1,6 @@
 //! The lines of a log, found by their expressions up to which classes are the same.
 
-ghost use Rattle.std.specs.Prelude.{◌≡◌, ℕ, IfOk};
+ghost use Rattle.std.specs.Prelude.{◌≡◌, ℕ, nat_le, length, IfOk};
 ghost use Rattle.std.specs.List.Sorted.{IsSorted};
 ghost use Rattle.std.specs.Ordering.{nat_cmp};
 ghost use Rattle.logs.specs.Members.{is_member, once_if};
@@ -101,6 +101,13 @@ impl<'q> Memo<'q> {
         log
     }
 
+    /// Whether the log has as many lines as it may have.
+    pub fn is_full(&self) -> bool
+        ensures { result ≡ nat_le self.now.limit (length self.now.log.log) }
+    {
+        self.limit <= self.log.len()
+    }
+
     /// The class of a line; the line itself where it has no expression.
     fn class_at(&self, line: LineId) -> ClassId {
         match self.log.member(line) {
@@ -192,7 +199,7 @@ impl<'q> Memo<'q> {
         ensures extends { Extends self.old.limit self.old.log self.new.log }
         ensures limit { self.new.limit ≡ self.old.limit }
     {
-        if self.log.len() >= self.limit {
+        if self.is_full() {
             return Err(Unadded::Refused);
         }
         let number = id_of(self.log.len())?;

@@ -41,7 +41,7 @@ fn push_numbers(reported: &mut String, numbers: &[u32]) -> Result<(), AllocError
 }
 
 /// Does what the words say, and adds what comes of it: `found EXPR` the class, `line CLASS EXPR` and `apply RULE LINES` the line,
-/// `learn CLASS FACT` whether it is known, `members CLASS` and `parents CLASS` lines, `explore LIMIT` whether nothing more can be added.
+/// `learn CLASS FACT` whether it is known, `members CLASS` and `parents CLASS` lines, `explore` whether nothing more can be added.
 fn push_done(
     alloc: Global,
     reported: &mut String,
@@ -68,7 +68,7 @@ fn push_done(
             reported.push_str(if is_known { "known" } else { "not known" })
         }
         "explore" => {
-            let is_whole = explore(alloc, memo, id(first) as usize)?;
+            let is_whole = explore(alloc, memo)?;
             reported.push_str(if is_whole { "whole" } else { "not whole" })
         }
         "members" => push_numbers(reported, memo.members(alloc, id(first))?.as_slice()),
@@ -211,9 +211,9 @@ fn full_logs_stay(rt: HostRuntime) {
 #[test]
 fn logs_are_explored(rt: HostRuntime) {
     const SELECTED: &str =
-        "SELECT d.id FROM dept d, emp e => F get 0; F get 1; F join [] 0 1; F select [>(c0,i5)] 2 / explore 20000; members 2; members 3; explore 20000 => whole; 2 8; 3 5 6 7 9; whole; lines F F F F F A3 A3 A3 A2 A3";
+        "SELECT d.id FROM dept d, emp e => F get 0; F get 1; F join [] 0 1; F select [>(c0,i5)] 2 / explore; members 2; members 3; explore => whole; 2 8; 3 5 6 7 9; whole; lines F F F F F A3 A3 A3 A2 A3";
     const JOINED: &str =
-        "SELECT d.id FROM dept d, emp e, emp f => F get 0; F get 1; F get 2; F join [] 0 1; F join [=(c0,c4)] 3 2 / explore 20000; members 3; members 4; explore 20000 => whole; 3 10; 4 5 7 12 13 15 17 18; whole; lines F F F F F A4 F A4 A6 A6 A3 F A4 A4 A11 A4 F A4 A4 A16";
+        "SELECT d.id FROM dept d, emp e, emp f => F get 0; F get 1; F get 2; F join [] 0 1; F join [=(c0,c4)] 3 2 / explore; members 3; members 4; explore => whole; 3 10; 4 5 7 12 13 15 17 18; whole; lines F F F F F A4 F A4 A6 A6 A3 F A4 A4 A11 A4 F A4 A4 A16";
     assert_eq!(rt;
         query_differences(
             rt.alloc(),
@@ -230,7 +230,7 @@ fn logs_are_explored(rt: HostRuntime) {
 #[test]
 fn full_logs_are_not_explored(rt: HostRuntime) {
     const CASES: &str =
-        "SELECT d.id FROM dept d, emp e => F get 0; F get 1; F join [] 0 1; F select [>(c0,i5)] 2 / explore 6 => not whole; lines F F F F F A3";
+        "SELECT d.id FROM dept d, emp e => F get 0; F get 1; F join [] 0 1; F select [>(c0,i5)] 2 / explore => not whole; lines F F F F F A3";
     assert_eq!(rt;
         query_differences(rt.alloc(), TABLES, &[CASES], &Grown { limit: 6 }).as_deref(),
         Ok("")
