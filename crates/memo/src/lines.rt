@@ -88,6 +88,16 @@ impl<'q> Memo<'q> {
         Ok(memo)
     }
 
+    /// The same memo with another limit.
+    pub fn with_limit(self, limit: usize) -> Memo<'q>
+        ensures log { result.log ≡ self.entry.log }
+        ensures limit { result.limit ≡ limit }
+    {
+        let mut memo = self;
+        memo.limit = limit;
+        memo
+    }
+
     pub fn log(&self) -> &Log<'q>
         ensures { result.now ≡ self.now.log }
     {
