@@ -209,7 +209,7 @@ impl<'q> Memo<'q> {
         ensures extends { Extends self.old.limit self.old.log self.new.log }
         ensures limit { self.new.limit ≡ self.old.limit }
     {
-        if self.is_full() {
+        if self.log.len() >= self.limit {
             return Err(Unadded::Refused);
         }
         let number = id_of(self.log.len())?;
