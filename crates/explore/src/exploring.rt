@@ -1,11 +1,13 @@
 //! Each rule at each binding.
 
-ghost use Rattle.std.specs.Prelude.{◌≡◌};
+ghost use Rattle.std.specs.Prelude.{◌≡◌, ◌↔◌, IsTrue, IfOk};
+ghost use Rattle.closure.specs.Closed.{IsClosed};
 ghost use Rattle.memo.specs.Growth.{Grows, IsWithin, Extends};
 
 use crate::bindings::{Binding, level_of, rules_of_one, rules_of_two};
 use crate::queue::Queue;
 use algebra::{Expr, LineId};
+use closure::is_closed;
 use memo::Memo;
 use query::ids::id_of;
 use rules::RuleName;
@@ -160,23 +162,30 @@ fn pass(alloc: Global, memo: &mut Memo<'_>) -> Result<(), AllocError>
     Ok(())
 }
 
-/// Adds what each rule gives at each binding, until the log is full or nothing more can be added. Whether the last pass went through all bindings and
-/// added nothing.
+/// Adds what each rule gives at each binding, until the log is full or a pass adds nothing.
 #[tactic(auto, using(memo::proofs::Growth::extended_along))]
-pub fn explore(alloc: Global, memo: &mut Memo<'_>) -> Result<bool, AllocError>
-    ensures grows { Grows memo.old.log memo.new.log }
-    ensures within { IsWithin memo.old.limit memo.old.log memo.new.log }
+fn passes(alloc: Global, memo: &mut Memo<'_>) -> Result<(), AllocError>
+    ensures extends { Extends memo.old.limit memo.old.log memo.new.log }
     ensures limit { memo.new.limit ≡ memo.old.limit }
 {
     for _ in 0..MOST_PASSES {
         let before = memo.log().len();
-        if memo.is_full() {
-            return Ok(false);
-        }
         pass(alloc, memo)?;
         if memo.log().len() == before {
-            return Ok(true);
+            break;
         }
     }
-    Ok(false)
+    Ok(())
+}
+
+/// Adds what each rule gives at each binding, until the log is full or nothing more can be added. Whether the log is closed then: whether no rule adds
+/// anything.
+pub fn explore(alloc: Global, memo: &mut Memo<'_>) -> Result<bool, AllocError>
+    ensures closed { IfOk result (λ closed. IsTrue closed ↔ IsClosed memo.new.log.instances memo.new.log.log) }
+    ensures grows { Grows memo.old.log memo.new.log }
+    ensures within { IsWithin memo.old.limit memo.old.log memo.new.log }
+    ensures limit { memo.new.limit ≡ memo.old.limit }
+{
+    passes(alloc, memo)?;
+    is_closed(alloc, memo.log())
 }

@@ -3,6 +3,7 @@
 use crate::derived::{expr_of, fact_of, lines_of, numbers_of, rule_of};
 use crate::plans::{cut, id};
 use derivation::Line;
+use closure::is_closed;
 use explore::explore;
 use fixtures::{COMPANY, DEPT, EMP, QueryReporting, Tables, push_number, query_differences};
 use logs::Log;
@@ -41,7 +42,7 @@ fn push_numbers(reported: &mut String, numbers: &[u32]) -> Result<(), AllocError
 }
 
 /// Does what the words say, and adds what comes of it: `found EXPR` the class, `line CLASS EXPR` and `apply RULE LINES` the line,
-/// `learn CLASS FACT` whether it is known, `members CLASS` and `parents CLASS` lines, `explore` whether nothing more can be added.
+/// `learn CLASS FACT` whether it is known, `members CLASS` and `parents CLASS` lines, `explore` and `closed` whether nothing more can be added.
 fn push_done(
     alloc: Global,
     reported: &mut String,
@@ -70,6 +71,10 @@ fn push_done(
         "explore" => {
             let is_whole = explore(alloc, memo)?;
             reported.push_str(if is_whole { "whole" } else { "not whole" })
+        }
+        "closed" => {
+            let is_closed = is_closed(alloc, memo.log())?;
+            reported.push_str(if is_closed { "closed" } else { "open" })
         }
         "members" => push_numbers(reported, memo.members(alloc, id(first))?.as_slice()),
         "parents" => push_numbers(reported, memo.parents(id(first))?.as_slice()),
@@ -211,7 +216,7 @@ fn full_logs_stay(rt: HostRuntime) {
 #[test]
 fn logs_are_explored(rt: HostRuntime) {
     const SELECTED: &str =
-        "SELECT d.id FROM dept d, emp e => F get 0; F get 1; F join [] 0 1; F select [>(c0,i5)] 2 / explore; members 2; members 3; explore => whole; 2 8; 3 5 6 7 9; whole; lines F F F F F A3 A3 A3 A2 A3";
+        "SELECT d.id FROM dept d, emp e => F get 0; F get 1; F join [] 0 1; F select [>(c0,i5)] 2 / closed; explore; closed; members 2; members 3; explore => open; whole; closed; 2 8; 3 5 6 7 9; whole; lines F F F F F A3 A3 A3 A2 A3";
     const JOINED: &str =
         "SELECT d.id FROM dept d, emp e, emp f => F get 0; F get 1; F get 2; F join [] 0 1; F join [=(c0,c4)] 3 2 / explore; members 3; members 4; explore => whole; 3 10; 4 5 7 12 13 15 17 18; whole; lines F F F F F A4 F A4 A6 A6 A3 F A4 A4 A11 A4 F A4 A4 A16";
     assert_eq!(rt;

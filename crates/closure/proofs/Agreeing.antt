@@ -1,0 +1,162 @@
+-- Lines that are alike take the same classes, so they stand in one place.
+use Rattle.std.proofs.Common.{◌≡◌, ◌≢◌, ◌↔◌, refl, ap, sym, ◌∙◌, subst, ℕ, ◌<◌, ◌≤◌, Bool, true, false, not, ◌||◌, ◌==◌, nat_lt, if◌then◌else◌, List, [], ◌∷◌, ◌++◌, length, map, set, get_or, slice_get, option_map, Option, Some, None, IsTrue, Vec, Global, arith}
+use Rattle.std.specs.List.{AllByRecursion}
+use Rattle.std.proofs.lemmas.Bool.{lt-ltb, ltb-true, eq-eqb, eqb-true}
+use Rattle.std.proofs.lemmas.List.{map-set, get_or-set_same, get_or-set_other, length-map}
+use Rattle.std.proofs.Math.Bool.{or-true}
+use Rattle.query.specs.declared.query.TableInstance.{TableInstance}
+use Rattle.algebra.specs.declared.expr.Expr.{Expr}
+use Rattle.algebra.specs.declared.expr.Expr.TheVariants.{Get, Select, Join, LeftJoin, Semi, Anti, Keep, Distinct, Group}
+use Rattle.algebra.specs.Alike.{AreAlike, rooted}
+use Rattle.algebra.specs.Columns.{has, columns_at}
+use Rattle.algebra.specs.Equality.{same_expr}
+use Rattle.algebra.specs.Expressions.{children}
+use Rattle.algebra.proofs.Same.{same-expr, equal_expr}
+use Rattle.props.specs.Knowledge.{Knowledge}
+use Rattle.rules.specs.Matches as matches
+use Rattle.derivation.specs.Logs.{Log, member, are_same, least, knowledge}
+use Rattle.derivation.proofs.Lookups.{member-within}
+use Rattle.closure.specs.Closed.{alike}
+use Rattle.closure.specs.Places.{place, place_by, AreEntered, AgreesAt, AgreesWithAll}
+
+-- ---- the test
+
+pub alike-are : (instances : List TableInstance) (E : Log) (x y : Expr) → alike (knowledge instances E) x y ≡ true → AreAlike (least E) x y
+alike-are instances E x y is = equal_expr _ _ is
+
+pub are-alike : (instances : List TableInstance) (E : Log) (x y : Expr) → AreAlike (least E) x y → alike (knowledge instances E) x y ≡ true
+are-alike instances E x y is = ap (λ z. alike_to z) is ∙ same-expr (rooted (least E) y)
+  where
+    alike_to : Expr → Bool
+    alike_to z = same_expr z (rooted (least E) y)
+
+pub same_agree : (P Q : Type 0) → Q → IsTrue true ↔ (P → Q)
+same_agree P Q q = (λ _ _. q, λ _. refl)
+
+pub unlike_agree : (t : Bool) (P Q : Type 0) → (P → IsTrue t) → t ≡ false → IsTrue true ↔ (P → Q)
+unlike_agree true P Q to is = cc
+unlike_agree false P Q to is = (λ _ p. absurd (let never : false ≡ true = to p in cc), λ _. refl)
+
+pub alike_agree : (instances : List TableInstance) (E : Log) (x y : Expr) (b : Bool) (s : Bool) → b ≡ alike (knowledge instances E) x y → s ≡ false → IsTrue (not b) ↔ (AreAlike (least E) x y → s ≡ true)
+alike_agree instances E x y true s is other = (λ never. absurd (let e : false ≡ true = never in cc), λ same. absurd (let e : true ≡ false = sym (same (alike-are instances E x y (sym is))) ∙ other in cc))
+alike_agree instances E x y false s is other = (λ _ are. absurd (let e : false ≡ true = is ∙ are-alike instances E x y are in cc), λ _. refl)
+
+-- ---- places
+
+pub place_within : (instances : List TableInstance) (E : Log) (K : Knowledge) (x : Expr) (g r : ℕ) → K ≡ knowledge instances E → slice_get (children x) 0 ≡ Some g → r ≡ K.root g → r < length E → r ≡ place E x
+place_within instances E K x g r known first root within =
+    let least_is : r ≡ least E g = root ∙ ap (λ (K : Knowledge). K.root g) known in
+    least_is ∙ sym (ap (place_by E) first ∙ ap (λ b. if b then least E g else length E) (lt-ltb _ _ (subst (λ n. n < length E) least_is within)))
+
+pub place_past : (instances : List TableInstance) (E : Log) (K : Knowledge) (x : Expr) (g r : ℕ) → K ≡ knowledge instances E → slice_get (children x) 0 ≡ Some g → r ≡ K.root g → length E ≤ r → length E ≡ place E x
+place_past instances E K x g r known first root past =
+    let least_is : r ≡ least E g = root ∙ ap (λ (K : Knowledge). K.root g) known in
+    sym (ap (place_by E) first ∙ ap (λ b. if b then least E g else length E) (not-below (nat_lt (least E g) (length E)) refl (subst (λ n. length E ≤ n) least_is past)))
+  where
+    not-below : (b : Bool) → nat_lt (least E g) (length E) ≡ b → length E ≤ least E g → nat_lt (least E g) (length E) ≡ false
+    not-below true is past = absurd (let lt : least E g < length E = ltb-true _ _ is in omega (arith, lt, past))
+    not-below false is past = is
+
+pub place-bound : (E : Log) (x : Expr) → place E x ≤ length E
+place-bound E x = by (slice_get (children x) 0)
+  where
+    or : (g : ℕ) (b : Bool) → nat_lt (least E g) (length E) ≡ b → (if b then least E g else length E) ≤ length E
+    or g true is = let lt : least E g < length E = ltb-true _ _ is in omega (arith, lt)
+    or g false is = omega arith
+
+    by : (o : Option ℕ) → place_by E o ≤ length E
+    by None = omega arith
+    by (Some g) = or g (nat_lt (least E g) (length E)) refl
+
+pub place-of-same : (E : Log) (l m : matches.Line) (p : ℕ) → ◌≡◌ {A = Option matches.Line} (Some l) (Some m) → p ≡ place E m.expr → place E l.expr ≡ p
+place-of-same E l m p is at = let same : l ≡ m = cc in ap (λ (l : matches.Line). place E l.expr) same ∙ sym at
+
+-- expressions that are alike take the same classes
+first-root : (root : ℕ → ℕ) (x : Expr) → slice_get (children (rooted root x)) 0 ≡ option_map root (slice_get (children x) 0)
+first-root root (Get o) = refl
+first-root root (Select C x) = refl
+first-root root (Join C a b) = refl
+first-root root (LeftJoin C a b) = refl
+first-root root (Semi C a b) = refl
+first-root root (Anti S M a b) = refl
+first-root root (Keep L x) = refl
+first-root root (Distinct x) = refl
+first-root root (Group L G x) = refl
+
+place-by-root : (E : Log) (o p : Option ℕ) → option_map (least E) o ≡ option_map (least E) p → place_by E o ≡ place_by E p
+place-by-root E None None is = refl
+place-by-root E None (Some h) is = cc
+place-by-root E (Some g) None is = cc
+place-by-root E (Some g) (Some h) is = let e : least E g ≡ least E h = cc in ap (λ n. if nat_lt n (length E) then n else length E) e
+
+pub alike-place : (E : Log) (x y : Expr) → AreAlike (least E) x y → place E x ≡ place E y
+alike-place E x y are = place-by-root E _ _ (sym (first-root (least E) x) ∙ ap (λ z. slice_get (children z) 0) are ∙ first-root (least E) y)
+
+-- ---- lists
+
+pub first-of : (P : ℕ → Type 0) (ns : List ℕ) (d : ℕ) → 1 ≤ length ns → AllByRecursion P ns → P (get_or ns 0 d)
+first-of P [] d some all = absurd (omega (arith, some))
+first-of P (n ∷ ns) d some all = all.0
+
+pub each-of : (P : ℕ → Type 0) (ns : List ℕ) → AllByRecursion P ns → (n : ℕ) → has ns n ≡ true → P n
+each-of P [] all n is = cc
+each-of P (k ∷ ns) all n is = by (each-of P ns all.1 n) (k == n) refl is
+  where
+    by : (has ns n ≡ true → P n) → (b : Bool) → (k == n) ≡ b → (b || has ns n) ≡ true → P n
+    by later true e is = subst P (eqb-true k n e) all.0
+    by later false e is = later is
+
+all-of : (P : ℕ → Type 0) → ((n : ℕ) → P n) → (ns : List ℕ) → AllByRecursion P ns
+all-of P each [] = tt
+all-of P each (n ∷ ns) = (each n, all-of P each ns)
+
+-- ---- lines in their places
+
+-- a list where one of those in it is another
+pub set-there : (xs : List (Vec ℕ Global)) (p : ℕ) (w : Vec ℕ Global) → p < length xs → columns_at (map (λ v. v.items) (set xs p w)) p ≡ w.items
+set-there xs p w lt = ap (λ l. columns_at l p) (map-set (λ v. v.items) xs p w) ∙ get_or-set_same (map (λ v. v.items) xs) p w.items [] (omega (arith, lt, length-map xs (λ v. v.items)))
+
+pub set-elsewhere : (xs : List (Vec ℕ Global)) (p q : ℕ) (w : Vec ℕ Global) → q ≢ p → columns_at (map (λ v. v.items) (set xs p w)) q ≡ columns_at (map (λ v. v.items) xs) q
+set-elsewhere xs p q w other = ap (λ l. columns_at l q) (map-set (λ v. v.items) xs p w) ∙ get_or-set_other (map (λ v. v.items) xs) p q w.items [] other
+
+has-last : (ns : List ℕ) (n : ℕ) → has (ns ++ n ∷ []) n ≡ true
+has-last [] n = ap (λ b. b || false) (eq-eqb n n refl)
+has-last (k ∷ ns) n = ap (λ b. (k == n) || b) (has-last ns n) ∙ or-true _
+
+has-more : (ns : List ℕ) (k n : ℕ) → has ns n ≡ true → has (ns ++ k ∷ []) n ≡ true
+has-more [] k n is = cc
+has-more (j ∷ ns) k n is = by (has-more ns k n) (j == n) is
+  where
+    by : (has ns n ≡ true → has (ns ++ k ∷ []) n ≡ true) → (b : Bool) → (b || has ns n) ≡ true → (b || has (ns ++ k ∷ []) n) ≡ true
+    by more true is = refl
+    by more false is = more is
+
+-- a line that is put to those of its place
+module _ (xs : List (Vec ℕ Global)) (p line : ℕ) (old : List ℕ) (w : Vec ℕ Global) (lt : p < length xs) (was : columns_at (map (λ v. v.items) xs) p ≡ old) (new : w.items ≡ old ++ line ∷ []) where
+  pub line-entered : has (columns_at (map (λ v. v.items) (set xs p w)) p) line ≡ true
+  line-entered = ap (λ ns. has ns line) (set-there xs p w lt ∙ new) ∙ has-last old line
+
+  pub lines-stay : (n q : ℕ) → has (columns_at (map (λ v. v.items) xs) q) n ≡ true → has (columns_at (map (λ v. v.items) (set xs p w)) q) n ≡ true
+  lines-stay n q is = by (q == p) refl
+    where
+      by : (b : Bool) → (q == p) ≡ b → has (columns_at (map (λ v. v.items) (set xs p w)) q) n ≡ true
+      by true e =
+          let here : q ≡ p = eqb-true q p e in
+          ap (λ q. has (columns_at (map (λ v. v.items) (set xs p w)) q) n) here ∙ ap (λ ns. has ns n) (set-there xs p w lt ∙ new)
+          ∙ has-more old line n (ap (λ ns. has ns n) (sym was) ∙ sym (ap (λ q. has (columns_at (map (λ v. v.items) xs) q) n) here) ∙ is)
+      by false e = ap (λ ns. has ns n) (set-elsewhere xs p q w (λ here. let never : true ≡ false = sym (eq-eqb q p here) ∙ e in cc)) ∙ is
+
+pub all_agree : (E : Log) (over : List (List ℕ)) (line : ℕ) (k : matches.Line) (lines : List ℕ) (b : Bool) → AreEntered E (length E) over → member E line ≡ Some k → lines ≡ columns_at over (place E k.expr)
+    → IsTrue b ↔ AllByRecursion (AgreesAt E k) lines → IsTrue b ↔ AgreesWithAll E line
+all_agree E over line k lines b entered there is agree = (to, from)
+  where
+    to : IsTrue b → AgreesWithAll E line
+    to yes_ m at j l other are =
+        let same : m ≡ k = let e : Some m ≡ Some k = sym at ∙ there in cc in
+        let alike_ : AreAlike (least E) k.expr l.expr = subst (λ (m : matches.Line). AreAlike (least E) m.expr l.expr) same are in
+        let listed : has lines j ≡ true =
+        ap (λ ns. has ns j) is ∙ ap (λ q. has (columns_at over q) j) (alike-place E k.expr l.expr alike_) ∙ entered.entered j l (member-within E j l other) other in
+        subst (λ (m : matches.Line). are_same E m.class l.class ≡ true) (sym same) (each-of (AgreesAt E k) lines (agree.0 yes_) j listed l other alike_)
+
+    from : AgreesWithAll E line → IsTrue b
+    from all = agree.1 (all-of (AgreesAt E k) (λ j. all k there j) lines)

@@ -1,0 +1,5 @@
+pub mod Agreeing
+pub mod AnyLine
+pub mod Fits
+pub mod Shapes
+pub mod Taking

@@ -1,0 +1,4 @@
+pub mod Closed
+pub mod Lines
+pub mod Operators
+pub mod Places
