@@ -11,7 +11,7 @@ use answer_text::{AnswerOutput, write_rows};
 use checker::{Checked, check};
 use executor::write_answer;
 use oracle::meaning;
-use planner::plan;
+use planner::{Exploration, plan};
 use query::BoundQuery;
 use schema::Schema;
 use statistics::Statistics;
@@ -38,14 +38,15 @@ pub(crate) fn answer_by<W: AnswerOutput>(
     Ok(())
 }
 
-/// Writes what the plan gives that is chosen for the query by the statistics of the database, over a log of at most `limit` lines. The check
-/// accepts its certificate.
+/// Writes what the plan gives that is chosen for the query by the statistics of the database, over a log of at most `limit` lines, explored so
+/// far. The check accepts its certificate.
 pub(crate) fn answer_by_plan<W: AnswerOutput>(
     alloc: Global,
     schema: &Schema,
     query: &BoundQuery,
     database: &Database<'_>,
     limit: usize,
+    exploration: Exploration,
     out: &mut W,
 ) -> Result<(), Refusal>
     requires bound { IsBoundOver schema.now query.now }
@@ -57,7 +58,7 @@ pub(crate) fn answer_by_plan<W: AnswerOutput>(
     ensures quiet { OnOk result (W.failures out.new ≡ W.failures out.old) }
 {
     let statistics = Statistics::of(alloc, database)?;
-    let planned = plan(alloc, query, &statistics, limit)?;
+    let planned = plan(alloc, query, &statistics, limit, exploration)?;
     let checked = check(alloc, schema, query, &planned.certificate)?;
     answer_by(alloc, &checked, database, out)
 }

@@ -9,12 +9,14 @@ use crate::answer::{answer_by_meaning, answer_by_plan};
 use crate::preparation::prepare;
 use crate::refusal::Refusal;
 use answer_text::AnswerOutput;
+use planner::Exploration;
 use schema::Schema;
 use std::alloc::Global;
 use store::TableInput;
 
 /// Answers a query: reads the schema, the text and the tables' files, checks a plan and writes what it gives. The tables are
-/// one input each, in the order of the schema. The plan is searched for over a log of at most `limit` lines.
+/// one input each, in the order of the schema. The plan is searched for over a log of at most `limit` lines,
+/// which is explored so far.
 ///
 /// The first fault is reported, in the order schema, text, scope, tables, and `out` is then as it was. During the answer
 /// memory or the output may fail, and then a beginning of the answer has been written.
@@ -24,6 +26,7 @@ pub fn query<R: TableInput, W: AnswerOutput>(
     text: &[u8],
     tables: &mut [R],
     limit: usize,
+    exploration: Exploration,
     out: &mut W,
 ) -> Result<(), Refusal>
     requires { HasTables schema.now (length tables.old) }
@@ -41,7 +44,15 @@ pub fn query<R: TableInput, W: AnswerOutput>(
 {
     let schema = Schema::read(alloc, schema)?;
     let ready = prepare(alloc, &schema, text, tables)?;
-    answer_by_plan(alloc, &schema, &ready.query, &ready.database, limit, out)
+    answer_by_plan(
+        alloc,
+        &schema,
+        &ready.query,
+        &ready.database,
+        limit,
+        exploration,
+        out,
+    )
 }
 
 /// Answers a query by the slow evaluator, with no plan: reads the schema, the text and the tables'

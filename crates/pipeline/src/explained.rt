@@ -17,6 +17,7 @@ use frame::frame_of;
 use logs::Log;
 use physical::Plan;
 use planner;
+use planner::Exploration;
 use query::{BoundQuery, Query};
 use schema::Schema;
 use statistics::Statistics;
@@ -88,7 +89,7 @@ fn explained_query(
     ensures text { IfOk result (λ text. WithChecked schema.now query.now (λ c. text.items ≡ plan_in form statistics.now query.now c)) }
     ensures memory { IfErr result (λ r. r ≡ Memory) }
 {
-    let planned = planner::plan(alloc, query, statistics, limit)?;
+    let planned = planner::plan(alloc, query, statistics, limit, Exploration::ToLimit)?;
     plan_in(alloc, form, query.query(), statistics, &planned.certificate)
 }
 

@@ -13,4 +13,5 @@ pub use certified::{check, run};
 pub use commands::{evaluate, query};
 pub use explained::{PlanForm, explain};
 pub use planned::plan;
+pub use planner::Exploration;
 pub use refusal::{Refusal, fault_line};

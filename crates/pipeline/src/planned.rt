@@ -11,6 +11,7 @@ use crate::preparation::bound_query;
 use crate::refusal::Refusal;
 use certificate_text::write;
 use planner;
+use planner::Exploration;
 use query::BoundQuery;
 use schema::Schema;
 use statistics::Statistics;
@@ -28,7 +29,7 @@ fn planned_text(
     ensures planned { IfOk result (λ text. WithChecked schema.now query.now (λ c. (written c ≡ Ok text.items) × IsReadableCertificate c)) }
     ensures refused { IfErr result (IsUnwritten schema.now query.now) }
 {
-    let planned = planner::plan(alloc, query, statistics, limit)?;
+    let planned = planner::plan(alloc, query, statistics, limit, Exploration::ToLimit)?;
     Ok(write(alloc, &planned.certificate)?)
 }
 

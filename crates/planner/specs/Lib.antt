@@ -1,3 +1,4 @@
 pub mod Canonical
+pub mod Complete
 pub mod Framed
 pub mod NotDearer

@@ -5,4 +5,4 @@ mod certificates;
 mod planned;
 
 pub use certificates::canonical;
-pub use planned::{Planned, plan};
+pub use planned::{Exploration, Planned, plan};

@@ -4,6 +4,8 @@ ghost use Rattle.std.specs.Prelude.{◌≡◌, ◌≤◌, true, false, length, r
 ghost use Rattle.query.specs.Bound.{is_bound};
 ghost use Rattle.costs.specs.Costs.{plan_cost};
 ghost use Rattle.certificate.specs.Replay.{replayed};
+ghost use Rattle.closure.specs.Closed.{IsClosed};
+ghost use Rattle.planner.specs.Complete.{IsComplete};
 ghost use Rattle.planner.specs.Framed.{IsFramed};
 ghost use Rattle.planner.specs.NotDearer.{IsAsCheap, IsNotDearer, certificate_cost};
 
@@ -11,15 +13,17 @@ use crate::certificates::certificate_of;
 use algebra::{Aggregation, Expr};
 use certificate::judging::{judged_log, own_aggregates};
 use certificate::{Certificate, query_order};
+use closure::is_closed;
 use costs::{Cardinalities, cost};
 use derivation::Line;
+use explore::explore;
 use frame::frame_of;
 use logs::Log;
 use memo::Memo;
 use physical::Plan;
 use query::ids::id_of;
 use query::{BoundQuery, Query};
-use search::best;
+use search::{BestPlan, best};
 use seed::seed;
 use simplify::simplify;
 use statistics::Statistics;
@@ -33,8 +37,17 @@ pub struct Planned {
     pub certificate: Certificate,
     pub cost: u64,
     pub is_searched: bool,
-    /// Whether all plans were looked at. Nothing explores them yet, so none is.
+    /// Whether the certificate's lines are closed: whether no rule adds anything to them.
     pub is_complete: bool,
+}
+
+/// How far the plans of a query are explored.
+#[derive(Clone, Copy)]
+pub enum Exploration {
+    /// As long as that takes little beside what the plan is estimated to cost.
+    WhileWorthwhile,
+    /// Until the log is full, or no rule adds anything to it.
+    ToLimit,
 }
 
 /// A query that is planned, with its frame and the aggregates of that, and what it is planned by.
@@ -46,7 +59,25 @@ struct Planning<'q> {
     statistics: &'q Statistics,
     /// So many lines a log may have at most.
     limit: usize,
+    exploration: Exploration,
 }
+
+/// Lines of a log and a plan over them, and whether no rule adds anything to these.
+#[derive(Drop)]
+struct Found {
+    certificate: Certificate,
+    is_closed: bool,
+}
+
+/// What is known of a certificate that fits.
+#[derive(Clone, Copy)]
+struct Verdict {
+    cost: u64,
+    is_complete: bool,
+}
+
+/// So much a plan has to cost for each line that its log may have. A line takes about as long to explore as a twentieth of what is estimated at so much.
+const COST_OF_LINE: u64 = 50_000;
 
 /// A log of the lines; none where some line may not stand.
 fn log_of<'q>(
@@ -70,35 +101,94 @@ fn cheapest(
     alloc: Global,
     planning: Planning<'_>,
     log: &Log<'_>,
-) -> Result<Option<Plan>, AllocError> {
+) -> Result<Option<BestPlan>, AllocError> {
     let Some(last) = planning.frame.len().checked_sub(1) else {
         return Ok(None);
     };
     let root = id_of(last)?;
     let order = query_order(alloc, planning.query)?;
     let cardinalities = Cardinalities::of(alloc, planning.statistics, log)?;
-    let found = best(
+    best(
         alloc,
         log,
         planning.statistics,
         &cardinalities,
         root,
         order.as_slice(),
-    )?;
-    match found {
-        Some(found) => Ok(Some(found.plan)),
-        None => Ok(None),
-    }
+    )
 }
 
 /// The log with what is simpler, and with lines by which good join trees are among its plans, up to so many lines. These put selections over
 /// selections, so it is simplified again.
-fn grown<'q>(alloc: Global, planning: Planning<'_>, log: Log<'q>) -> Result<Log<'q>, AllocError> {
+fn seeded<'q>(alloc: Global, planning: Planning<'_>, log: Log<'q>) -> Result<Memo<'q>, AllocError> {
     let mut memo = Memo::of(alloc, log, planning.limit)?;
     simplify(alloc, &mut memo)?;
     seed(alloc, &mut memo, planning.statistics)?;
     simplify(alloc, &mut memo)?;
-    Ok(memo.into_log())
+    Ok(memo)
+}
+
+/// How many lines a log may have for it to be worth exploring where a plan is estimated to cost so much.
+fn worthwhile(planning: Planning<'_>, cost: u64) -> usize {
+    match planning.exploration {
+        Exploration::WhileWorthwhile => match usize::try_from(cost / COST_OF_LINE) {
+            Ok(lines) => lines.min(planning.limit),
+            Err(_) => planning.limit,
+        },
+        Exploration::ToLimit => planning.limit,
+    }
+}
+
+/// All lines of a log, with a plan over them.
+fn found_over(memo: Memo<'_>, plan: Plan, is_closed: bool) -> Found {
+    let lines = Items::from_vec(memo.into_log().into_lines());
+    Found {
+        certificate: Certificate { lines, plan },
+        is_closed,
+    }
+}
+
+/// The cheapest plan that is found over a log's lines and all others that its limit leaves room for.
+fn explored(
+    alloc: Global,
+    planning: Planning<'_>,
+    memo: Memo<'_>,
+) -> Result<Option<Found>, AllocError> {
+    let mut memo = memo;
+    let is_closed = explore(alloc, &mut memo)?;
+    match cheapest(alloc, planning, memo.log())? {
+        Some(best) => Ok(Some(found_over(memo, best.plan, is_closed))),
+        None => Ok(None),
+    }
+}
+
+/// The same where there is room; else the plan that is known.
+fn explored_or_known(
+    alloc: Global,
+    planning: Planning<'_>,
+    memo: Memo<'_>,
+    plan: Plan,
+) -> Result<Option<Found>, AllocError> {
+    if memo.is_full() {
+        return Ok(Some(found_over(memo, plan, false)));
+    }
+    explored(alloc, planning, memo)
+}
+
+/// The cheapest plan that is found over a log's lines and others behind them, as far as these are worth exploring.
+fn found_by_log(
+    alloc: Global,
+    planning: Planning<'_>,
+    log: Log<'_>,
+) -> Result<Option<Found>, AllocError> {
+    let memo = seeded(alloc, planning, log)?;
+    match cheapest(alloc, planning, memo.log())? {
+        Some(BestPlan { plan, cost }) => {
+            let memo = memo.with_limit(worthwhile(planning, cost));
+            explored_or_known(alloc, planning, memo, plan)
+        }
+        None => Ok(None),
+    }
 }
 
 /// A certificate whose plan is searched for over the lines of a known one and others behind them, if a plan is found.
@@ -106,16 +196,11 @@ fn searched(
     alloc: Global,
     planning: Planning<'_>,
     known: &Certificate,
-) -> Result<Option<Certificate>, AllocError> {
-    let Some(log) = log_of(alloc, planning, known.lines.as_slice())? else {
-        return Ok(None);
-    };
-    let log = grown(alloc, planning, log)?;
-    let Some(plan) = cheapest(alloc, planning, &log)? else {
-        return Ok(None);
-    };
-    let lines = Items::from_vec(log.into_lines());
-    Ok(Some(Certificate { lines, plan }))
+) -> Result<Option<Found>, AllocError> {
+    match log_of(alloc, planning, known.lines.as_slice())? {
+        Some(log) => found_by_log(alloc, planning, log),
+        None => Ok(None),
+    }
 }
 
 /// What a plan over the log costs, if it is no more than another does.
@@ -163,39 +248,46 @@ fn fitting_log<'q>(
 }
 
 /// What the plan of a certificate costs, if it has no more lines than a log may have, replays for the query, and its plan costs no more than the known
-/// one.
-fn fitting_cost(
+/// one; and whether its lines are closed, if they are said to be.
+fn fitting_verdict(
     alloc: Global,
     planning: Planning<'_>,
-    certificate: &Certificate,
+    found: &Found,
     known: &Certificate,
-) -> Result<Option<u64>, AllocError>
+) -> Result<Option<Verdict>, AllocError>
     requires { IsFramed planning.query.now planning.frame.now planning.own.now }
-    ensures replays { IfOk result (λ found. IfSome found (λ cost. replayed planning.entry.query.now certificate.now ≡ Ok certificate.now)) }
-    ensures cost { IfOk result (λ found. IfSome found (λ cost. cost ≡ certificate_cost planning.entry.statistics.now planning.entry.query.now certificate.now)) }
-    ensures cheap { IfOk result (λ found. IfSome found (λ cost. IsAsCheap planning.entry.statistics.now planning.entry.query.now certificate.now known.now)) }
-    ensures within { IfOk result (λ found. IfSome found (λ cost. length certificate.now.lines ≤ planning.entry.limit)) }
+    ensures replays { IfOk result (λ verdict. IfSome verdict (λ v. replayed planning.entry.query.now found.now.certificate ≡ Ok found.now.certificate)) }
+    ensures cost { IfOk result (λ verdict. IfSome verdict (λ v. v.cost ≡ certificate_cost planning.entry.statistics.now planning.entry.query.now found.now.certificate)) }
+    ensures cheap { IfOk result (λ verdict. IfSome verdict (λ v. IsAsCheap planning.entry.statistics.now planning.entry.query.now found.now.certificate known.now)) }
+    ensures within { IfOk result (λ verdict. IfSome verdict (λ v. length found.now.certificate.lines ≤ planning.entry.limit)) }
+    ensures complete { IfOk result (λ verdict. IfSome verdict (λ v. v.is_complete ≡ true → IsClosed planning.entry.query.now.tables (reverse found.now.certificate.lines))) }
 {
+    let certificate = &found.certificate;
     if certificate.lines.len() > planning.limit {
         return Ok(None);
     }
-    match fitting_log(alloc, planning, certificate)? {
-        Some(log) => cost_within(
-            alloc,
-            planning.statistics,
-            &log,
-            &certificate.plan,
-            &known.plan,
-        ),
-        None => Ok(None),
-    }
+    let Some(log) = fitting_log(alloc, planning, certificate)? else {
+        return Ok(None);
+    };
+    let Some(cost) = cost_within(
+        alloc,
+        planning.statistics,
+        &log,
+        &certificate.plan,
+        &known.plan,
+    )?
+    else {
+        return Ok(None);
+    };
+    let is_complete = found.is_closed && is_closed(alloc, &log)?;
+    Ok(Some(Verdict { cost, is_complete }))
 }
 
 /// The certificate with its cost, if it has no more lines than a log may have, replays for the query, and its plan costs no more than the known one.
 fn fitting(
     alloc: Global,
     planning: Planning<'_>,
-    found: Option<Certificate>,
+    found: Option<Found>,
     known: &Certificate,
 ) -> Result<Option<Planned>, AllocError>
     requires { IsFramed planning.query.now planning.frame.now planning.own.now }
@@ -203,17 +295,17 @@ fn fitting(
     ensures cost { IfOk result (λ fitting. IfSome fitting (λ planned. planned.cost ≡ certificate_cost planning.entry.statistics.now planning.entry.query.now planned.certificate)) }
     ensures cheap { IfOk result (λ fitting. IfSome fitting (λ planned. IsAsCheap planning.entry.statistics.now planning.entry.query.now planned.certificate known.now)) }
     ensures within { IfOk result (λ fitting. IfSome fitting (λ planned. length planned.certificate.lines ≤ planning.entry.limit)) }
-    ensures complete { IfOk result (λ fitting. IfSome fitting (λ planned. planned.is_complete ≡ false)) }
+    ensures complete { IfOk result (λ fitting. IfSome fitting (λ planned. IsComplete planning.entry.query.now planned)) }
 {
-    let Some(certificate) = found else {
+    let Some(found) = found else {
         return Ok(None);
     };
-    match fitting_cost(alloc, planning, &certificate, known)? {
-        Some(cost) => Ok(Some(Planned {
-            certificate,
+    match fitting_verdict(alloc, planning, &found, known)? {
+        Some(Verdict { cost, is_complete }) => Ok(Some(Planned {
+            certificate: found.certificate,
             cost,
             is_searched: true,
-            is_complete: false,
+            is_complete,
         })),
         None => Ok(None),
     }
@@ -249,7 +341,7 @@ fn plan_of_frame(alloc: Global, planning: Planning<'_>) -> Result<Planned, Alloc
     ensures cost { IfOk result (λ planned. planned.cost ≡ certificate_cost planning.entry.statistics.now planning.entry.query.now planned.certificate) }
     ensures cheap { IfOk result (λ planned. IsNotDearer planning.entry.statistics.now planning.entry.query.now planned.certificate) }
     ensures within { IfOk result (λ planned. planned.is_searched ≡ true → length planned.certificate.lines ≤ planning.entry.limit) }
-    ensures complete { IfOk result (λ planned. planned.is_complete ≡ false) }
+    ensures complete { IfOk result (λ planned. IsComplete planning.entry.query.now planned) }
 {
     let known = certificate_of(alloc, planning.query)?;
     let found = searched(alloc, planning, &known)?;
@@ -270,13 +362,14 @@ fn plan_of_tree(
     query: &Query,
     statistics: &Statistics,
     limit: usize,
+    exploration: Exploration,
 ) -> Result<Planned, AllocError>
     requires { is_bound query.now ≡ true }
     ensures replays { IfOk result (λ planned. replayed query.now planned.certificate ≡ Ok planned.certificate) }
     ensures cost { IfOk result (λ planned. planned.cost ≡ certificate_cost statistics.now query.now planned.certificate) }
     ensures cheap { IfOk result (λ planned. IsNotDearer statistics.now query.now planned.certificate) }
     ensures within { IfOk result (λ planned. planned.is_searched ≡ true → length planned.certificate.lines ≤ limit) }
-    ensures complete { IfOk result (λ planned. planned.is_complete ≡ false) }
+    ensures complete { IfOk result (λ planned. IsComplete query.now planned) }
 {
     let frame = frame_of(alloc, query)?;
     let own = own_aggregates(alloc, frame.as_slice())?;
@@ -286,6 +379,7 @@ fn plan_of_tree(
         own: own.as_slice(),
         statistics,
         limit,
+        exploration,
     };
     plan_of_frame(alloc, planning)
 }
@@ -297,6 +391,7 @@ pub fn plan(
     query: &BoundQuery,
     statistics: &Statistics,
     limit: usize,
+    exploration: Exploration,
 ) -> Result<Planned, AllocError>
     ensures replays { IfOk result (λ planned. replayed query.now planned.certificate ≡ Ok planned.certificate) }
     // Its cost is that of its plan, by what is estimated over its own lines.
@@ -305,7 +400,7 @@ pub fn plan(
     ensures cheap { IfOk result (λ planned. IsNotDearer statistics.now query.now planned.certificate) }
     // No line is added past the limit. The canonical certificate has the lines of its query's frame, however many these are.
     ensures within { IfOk result (λ planned. planned.is_searched ≡ true → length planned.certificate.lines ≤ limit) }
-    ensures complete { IfOk result (λ planned. planned.is_complete ≡ false) }
+    ensures complete { IfOk result (λ planned. IsComplete query.now planned) }
 {
-    plan_of_tree(alloc, query.query(), statistics, limit)
+    plan_of_tree(alloc, query.query(), statistics, limit, exploration)
 }

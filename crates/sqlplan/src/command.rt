@@ -58,9 +58,8 @@ fn limit(alloc: Global) -> Arg<'static> {
         .long("limit")
         .value_name("LINES")
         .value_parser(ValueParser::unsigned(2_000, 100_000))
-        .default_value("20000")
         .action(ArgAction::Set)
-        .help("so many lines the derivation has at most, 2000 to 100000")
+        .help("so many lines the derivation has at most, 2000 to 100000 [default: 20000]")
 }
 
 /// How a plan is shown.

@@ -16,7 +16,7 @@ use clap::ArgMatches;
 use clap::error::ErrorKind;
 use command::command;
 use explained::{Inputs, file_in_words, in_words};
-use pipeline::{PlanForm, Refusal, check, evaluate, explain, plan, query, run};
+use pipeline::{Exploration, PlanForm, Refusal, check, evaluate, explain, plan, query, run};
 use schema::Schema;
 use std::alloc::{AllocError, Global};
 use std::fs::File;
@@ -86,8 +86,8 @@ fn open_tables(
 /// What is asked of a query, with the paths of the files besides its schema and its text.
 #[derive(Clone, Copy)]
 enum Asked<'a> {
-    /// Its answer by a plan that was checked, over the tables of a folder; and how many lines the plan's log may have.
-    Query(&'a str, usize),
+    /// Its answer by a plan that was checked, over the tables of a folder; how many lines the plan's log may have, and how far it is explored.
+    Query(&'a str, usize, Exploration),
     /// Its answer by the slow evaluator, over the tables of a folder.
     Meaning(&'a str),
     /// The certificate of a plan, by statistics, with so many lines at most.
@@ -109,21 +109,38 @@ fn form(arguments: &ArgMatches<'_>) -> Option<PlanForm> {
     }
 }
 
+/// So many lines a log may have where no limit is given.
+const DEFAULT_LIMIT: usize = 20_000;
+
 /// How many lines a log may have.
-fn limit(arguments: &ArgMatches<'_>) -> Option<usize> {
-    arguments.get_one::<usize>("limit")
+fn limit(arguments: &ArgMatches<'_>) -> usize {
+    match arguments.get_one::<usize>("limit") {
+        Some(limit) => limit,
+        None => DEFAULT_LIMIT,
+    }
+}
+
+/// How far a log is explored for an answer: to the limit, where one is given.
+fn exploration(arguments: &ArgMatches<'_>) -> Exploration {
+    match arguments.get_one::<usize>("limit") {
+        Some(_) => Exploration::ToLimit,
+        None => Exploration::WhileWorthwhile,
+    }
 }
 
 impl<'a> Asked<'a> {
     /// What a command asks.
     fn of(command: &str, arguments: &'a ArgMatches<'_>) -> Option<Asked<'a>> {
         match command {
-            "query" => Some(Asked::Query(arguments.get_str("DIR")?, limit(arguments)?)),
+            "query" => {
+                let folder = arguments.get_str("DIR")?;
+                Some(Asked::Query(folder, limit(arguments), exploration(arguments)))
+            }
             "meaning" => Some(Asked::Meaning(arguments.get_str("DIR")?)),
-            "plan" => Some(Asked::Plan(arguments.get_str("STATS")?, limit(arguments)?)),
+            "plan" => Some(Asked::Plan(arguments.get_str("STATS")?, limit(arguments))),
             "explain" => {
                 let statistics = arguments.get_str("STATS")?;
-                Some(Asked::Explain(statistics, form(arguments)?, limit(arguments)?))
+                Some(Asked::Explain(statistics, form(arguments)?, limit(arguments)))
             }
             "check" => Some(Asked::Check(arguments.get_str("CERT")?)),
             "run" => Some(Asked::Run(arguments.get_str("CERT")?, arguments.get_str("DIR")?)),
@@ -134,7 +151,7 @@ impl<'a> Asked<'a> {
     /// The folder of the tables; nothing where a command reads none.
     fn folder(self) -> &'a str {
         match self {
-            Asked::Query(folder, _) | Asked::Meaning(folder) | Asked::Run(_, folder) => folder,
+            Asked::Query(folder, _, _) | Asked::Meaning(folder) | Asked::Run(_, folder) => folder,
             Asked::Plan(_, _) | Asked::Explain(_, _, _) | Asked::Check(_) => "",
         }
     }
@@ -184,7 +201,13 @@ fn output(rt: &HostRuntime) -> Result<CountedOutput<BufWriter<Printer<'_, HostRu
 }
 
 /// Answers a query on standard output by a plan that was checked. The schema is that of the bytes.
-fn answer(rt: &HostRuntime, given: Given<'_>, folder: &str, limit: usize) -> Result<(), Stop>
+fn answer(
+    rt: &HostRuntime,
+    given: Given<'_>,
+    folder: &str,
+    limit: usize,
+    exploration: Exploration,
+) -> Result<(), Stop>
     requires { schema_of given.bytes.now ≡ Ok given.schema.now }
 {
     let mut tables = open_tables(rt, given.schema, folder, given.words)?;
@@ -195,6 +218,7 @@ fn answer(rt: &HostRuntime, given: Given<'_>, folder: &str, limit: usize) -> Res
         given.text,
         tables,
         limit,
+        exploration,
         &mut output(rt)?,
     );
     given.ended(rt.alloc(), outcome)
@@ -312,7 +336,9 @@ fn serve(rt: &HostRuntime, asked: Asked<'_>, given: Given<'_>) -> Result<(), Sto
     requires { schema_of given.bytes.now ≡ Ok given.schema.now }
 {
     match asked {
-        Asked::Query(folder, limit) => answer(rt, given, folder, limit),
+        Asked::Query(folder, limit, exploration) => {
+            answer(rt, given, folder, limit, exploration)
+        }
         Asked::Meaning(folder) => answer_by_meaning(rt, given, folder),
         Asked::Plan(statistics, limit) => plan_by_statistics(rt, given, statistics, limit),
         Asked::Explain(statistics, form, limit) => {
