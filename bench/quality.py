@@ -12,7 +12,7 @@ stands the same for the plan's own nodes, priced as those of the search: its joi
 the canonical plan is taken, the run ends. Wants the program built, or a tree in which the program of quality/main.rt.txt is tried, which proves
 nothing. The seed is fixed, so each run asks the same.
 
-usage: quality.py [--tree PATH] [--program PATH] [--worst] [DRAWS [FEWEST MOST [SEED]]]
+usage: quality.py [--tree PATH] [--program PATH] [--limit LINES] [--worst] [DRAWS [FEWEST MOST [SEED]]]
 """
 import dataclasses
 import json
@@ -427,7 +427,7 @@ def tried(tree, draws):
     return texts
 
 
-def planned(program, draws):
+def planned(program, limit, draws):
     texts = []
     with tempfile.TemporaryDirectory() as name:
         folder = pathlib.Path(name)
@@ -436,7 +436,7 @@ def planned(program, draws):
             (folder / "query.sql").write_text(drawn.text)
             (folder / "stats.json").write_text(statistics_of(drawn))
             files = [folder / file for file in ("schema.json", "query.sql", "stats.json")]
-            wrote = {word: subprocess.run([program, word, *files], capture_output=True, text=True, check=True).stdout for word in ("plan", "explain")}
+            wrote = {word: subprocess.run([program, word, *files, "--limit", limit], capture_output=True, text=True, check=True).stdout for word in ("plan", "explain")}
             cost = re.search(r" cost=(\d+)", wrote["explain"])
             texts.append((int(cost[1]), wrote["plan"]))
     return texts
@@ -458,13 +458,18 @@ def main():
         place = words.index("--program")
         program = pathlib.Path(words[place + 1])
         del words[place : place + 2]
+    limit = "20000"
+    if "--limit" in words:
+        place = words.index("--limit")
+        limit = words[place + 1]
+        del words[place : place + 2]
     tells_worst = "--worst" in words
     numbers = [int(word) for word in words if word.isdigit()]
     count, fewest, most, seed = numbers + [20, 4, 10, 40][len(numbers) :]
     rng = random.Random(seed)
     kinds = [(shape, form, size) for shape in SHAPES for form in FORMS for size in range(fewest, most + 1)]
     draws, least = zip(*(fair(rng, *kind) for kind in kinds for _ in range(count)))
-    plans = tried(tree, draws) if tree else planned(program, draws)
+    plans = tried(tree, draws) if tree else planned(program, limit, draws)
     everything, own_everything = [], []
     for number, kind in enumerate(kinds):
         ratios, own, lines = [], [], []

@@ -4,7 +4,7 @@ ghost use Rattle.pipeline.specs.EndToEnd.{HasTables};
 
 use answer_text::CountedOutput;
 use fixtures::push_lines;
-use pipeline::{Refusal, check, evaluate, fault_line, query, run};
+use pipeline::{Exploration, Refusal, check, evaluate, fault_line, query, run};
 use schema::Schema;
 use std::alloc::{AllocError, Global};
 use std::io::BufWriter;
@@ -41,7 +41,7 @@ fn answer(
 {
     let mut tables = [CountedInput::new(files.dept), CountedInput::new(files.emp)];
     match way {
-        Way::Plan => query(alloc, files.schema, files.text, &mut tables, 20_000, Exploration::ToLimit, out),
+        Way::Plan => query(alloc, files.schema, files.text, &mut tables, 2_000, Exploration::ToLimit, out),
         Way::Meaning => evaluate(alloc, files.schema, files.text, &mut tables, out),
         Way::Certificate(certificate) => run(
             alloc,
