@@ -47,6 +47,14 @@ fn of_query<'a>(alloc: Global, name: &'a str, about: &'a str) -> Result<Command<
         .arg(words(alloc))
 }
 
+/// Whether lines say how far the work is.
+fn progress(alloc: Global) -> Arg<'static> {
+    Arg::new(alloc, "progress")
+        .long("progress")
+        .action(ArgAction::SetTrue)
+        .help("says on standard error how far the work is, every two seconds at most")
+}
+
 /// The place of statistics.
 fn statistics(alloc: Global) -> Arg<'static> {
     place(alloc, "STATS", "the statistics of the tables, a JSON file")
@@ -89,6 +97,7 @@ fn query<'a>(alloc: Global) -> Result<Command<'a>, AllocError> {
         "query",
         "Answers a query over tables in CSV files, by a plan that was checked",
     )?
+    .arg(progress(alloc))?
     .arg(folder(alloc))?
     .arg(limit(alloc))
 }
@@ -99,6 +108,7 @@ fn meaning<'a>(alloc: Global) -> Result<Command<'a>, AllocError> {
         "meaning",
         "Answers a query over tables in CSV files, as its meaning says: slowly, with no plan",
     )?
+    .arg(progress(alloc))?
     .arg(folder(alloc))
 }
 
@@ -138,6 +148,7 @@ fn run<'a>(alloc: Global) -> Result<Command<'a>, AllocError> {
         "run",
         "Answers a query over tables in CSV files, by the plan of a certificate that is accepted",
     )?
+    .arg(progress(alloc))?
     .arg(certificate(alloc))?
     .arg(folder(alloc))
 }

@@ -3,19 +3,19 @@
 ghost use Rattle.std.specs.Prelude.{ℕ, List};
 ghost use Rattle.sqlplan.specs.Stops.{Says};
 
+use crate::input::ReadFailure;
 use crate::path_of;
 use crate::stop::Stop;
 use pipeline::Refusal;
 use schema::Schema;
 use std::alloc::{AllocError, Global};
-use std::io;
 use words::certificates::{of_certificate, of_check};
 use words::meanings::{
     OUTPUT_FAILED, TABLE_UNREAD, of_schema, of_scope, of_statistics, of_table, of_text,
 };
 use words::{
-    Meaning, explanation, explanation_at, file_explanation, habits_there, names_there, row_there,
-    table_there,
+    Meaning, explanation, explanation_at, file_explanation, habits_there, line_explanation,
+    names_there, row_there, size_explanation, table_there,
 };
 
 /// What a refusal means. Out of memory needs no words.
@@ -50,6 +50,30 @@ pub struct Inputs<'a> {
     pub text: &'a [u8],
     /// The folder of the tables; nothing where a command reads none.
     pub folder: &'a str,
+    /// Why a table's file was not read to its end, if one was not.
+    pub failure: Option<&'a ReadFailure>,
+}
+
+/// Why a file was not read to its end: a line of its own.
+fn failure_explanation(alloc: Global, failure: &ReadFailure) -> Result<String, AllocError> {
+    match failure {
+        ReadFailure::System(error) => file_explanation(alloc, error),
+        ReadFailure::TooLong(most) => size_explanation(alloc, *most),
+        ReadFailure::LongLine(most) => line_explanation(alloc, *most),
+    }
+}
+
+/// Which file of a table was not read to its end, and why: a line for each.
+fn unread_table(
+    alloc: Global,
+    path: &str,
+    failure: Option<&ReadFailure>,
+) -> Result<String, AllocError> {
+    let mut said = table_there(alloc, path)?;
+    if let Some(failure) = failure {
+        said.push_str(failure_explanation(alloc, failure)?.as_str())?;
+    }
+    Ok(said)
 }
 
 /// What can be said of a refusal besides its code's meaning, in lines of its own.
@@ -68,7 +92,7 @@ fn more(alloc: Global, refusal: &Refusal, inputs: Inputs<'_>) -> Result<String, 
         Refusal::TableDevice(place) => match tables.get(*place) {
             Some(table) => {
                 let path = path_of(alloc, inputs.folder, table.name.as_str())?;
-                table_there(alloc, path.as_str())
+                unread_table(alloc, path.as_str(), inputs.failure)
             }
             None => Ok(String::new(alloc)),
         },
@@ -106,10 +130,10 @@ pub fn in_words(alloc: Global, stop: Stop, refusal: &Refusal, inputs: Option<Inp
 }
 
 /// The stop of a file with why it can't be opened or read behind its line.
-pub fn file_in_words(alloc: Global, stop: Stop, error: &io::Error) -> Stop
+pub fn file_in_words(alloc: Global, stop: Stop, failure: &ReadFailure) -> Stop
     ensures { (line : List ℕ) (status : ℕ) → Says line status stop → Says line status result }
 {
-    match file_explanation(alloc, error) {
+    match failure_explanation(alloc, failure) {
         Ok(words) => stop.with_words(words),
         Err(AllocError) => stop,
     }

@@ -8,6 +8,8 @@ ghost use Rattle.sqlplan.specs.Stops.{SaysFile, SaysTable, table_path};
 mod arguments;
 mod command;
 mod explained;
+mod input;
+mod progress;
 mod stop;
 
 use answer_text::CountedOutput;
@@ -16,24 +18,25 @@ use clap::ArgMatches;
 use clap::error::ErrorKind;
 use command::command;
 use explained::{Inputs, file_in_words, in_words};
+use input::{ReadFailure, TableFile, TableWatch, read_file};
 use pipeline::{PlanForm, Refusal, check, evaluate, explain, plan, query, run};
+use progress::{Progress, WatchedOutput};
 use schema::Schema;
 use std::alloc::{AllocError, Global};
 use std::fs::File;
-use std::io::{BufWriter, Printer, Write};
+use std::io::{BufWriter, IsTerminal, Printer, Write};
 use std::process::ExitCode;
 use std::{fs, io};
 use stop::Stop;
-use store::CountedInput;
 use words::{list_of_codes, readable};
 
 /// The stop of a file that can't be opened or read, in words if they are asked for.
-fn failed_file(alloc: Global, path: &str, error: &io::Error, words: bool) -> Stop
+fn failed_file(alloc: Global, path: &str, failure: &ReadFailure, words: bool) -> Stop
     ensures { SaysFile path.now result }
 {
-    let stop = Stop::of_file(alloc, path, error);
+    let stop = Stop::of_file(alloc, path, failure);
     if words {
-        file_in_words(alloc, stop, error)
+        file_in_words(alloc, stop, failure)
     } else {
         stop
     }
@@ -43,9 +46,9 @@ fn failed_file(alloc: Global, path: &str, error: &io::Error, words: bool) -> Sto
 fn bytes_of(rt: &HostRuntime, path: &str, words: bool) -> Result<Vec<u8>, Stop>
     ensures { IfErr result (SaysFile path.now) }
 {
-    match fs::read(rt, path) {
+    match read_file(rt, path) {
         Ok(bytes) => Ok(bytes),
-        Err(error) => Err(failed_file(rt.alloc(), path, &error, words)),
+        Err(failure) => Err(failed_file(rt.alloc(), path, &failure, words)),
     }
 }
 
@@ -61,23 +64,43 @@ fn path_of(alloc: Global, folder: &str, name: &str) -> Result<String, AllocError
     }
 }
 
+/// Who is told how far the file of the table with this number has been read.
+fn watch_of<'a>(
+    schema: &'a Schema,
+    number: usize,
+    progress: Option<&'a Progress<'a>>,
+) -> Option<TableWatch<'a>> {
+    let progress = progress?;
+    let tables = schema.tables.as_slice();
+    Some(TableWatch {
+        progress,
+        table: tables.get(number)?.name.as_str(),
+        is_last: number.saturating_add(1) == tables.len(),
+    })
+}
+
 /// The tables' files, opened in the order of the schema.
-fn open_tables(
+fn open_tables<'a>(
     rt: &HostRuntime,
-    schema: &Schema,
+    schema: &'a Schema,
     folder: &str,
     words: bool,
-) -> Result<Vec<CountedInput<File>>, Stop>
+    progress: Option<&'a Progress<'a>>,
+) -> Result<Vec<TableFile<'a, File>>, Stop>
     ensures each { IfOk result (λ tables. vec_len tables ≡ length schema.now.tables) }
     ensures fails { IfErr result (SaysTable schema.now folder.now) }
 {
     let alloc = rt.alloc();
     let mut tables = Vec::new(alloc);
     for table in schema.tables.as_slice() {
+        let watch = watch_of(schema, tables.len(), progress);
         let path = path_of(alloc, folder, table.name.as_str())?;
         match fs::open(rt, path.as_str()) {
-            Ok(file) => tables.push(CountedInput::new(file))?,
-            Err(error) => return Err(failed_file(alloc, path.as_str(), &error, words)),
+            Ok(file) => tables.push(TableFile::new(file, watch))?,
+            Err(error) => {
+                let failure = ReadFailure::from(error);
+                return Err(failed_file(alloc, path.as_str(), &failure, words));
+            }
         }
     }
     Ok(tables)
@@ -140,6 +163,14 @@ impl<'a> Asked<'a> {
     }
 }
 
+/// What says how far a command is. Those that read no table are soon done.
+fn progress_of<'a>(rt: &'a HostRuntime, asked: Asked<'_>, lines: bool) -> Option<Progress<'a>> {
+    match asked {
+        Asked::Query(_, _) | Asked::Meaning(_) | Asked::Run(_, _) => Progress::new(rt, lines),
+        Asked::Plan(_, _) | Asked::Explain(_, _, _) | Asked::Check(_) => None,
+    }
+}
+
 /// What has been read before a command begins.
 #[derive(Clone, Copy)]
 struct Given<'a> {
@@ -151,17 +182,28 @@ struct Given<'a> {
     folder: &'a str,
     /// Whether a refusal is put in words.
     words: bool,
+    /// What is told how far the work is, where lines are wanted.
+    progress: Option<&'a Progress<'a>>,
+}
+
+/// Why the table's file was not read to its end that a refusal reports.
+fn failure_of<'t>(refusal: &Refusal, tables: &'t [TableFile<'_, File>]) -> Option<&'t ReadFailure> {
+    match refusal {
+        Refusal::TableDevice(place) => tables.get(*place)?.failure(),
+        _ => None,
+    }
 }
 
 impl Given<'_> {
-    /// The stop of a refusal.
-    fn refused(&self, alloc: Global, refusal: &Refusal) -> Stop {
+    /// The stop of a refusal, and of the failure of a table's file that it reports, if it does.
+    fn refused(&self, alloc: Global, refusal: &Refusal, failure: Option<&ReadFailure>) -> Stop {
         let stop = Stop::of_refusal(alloc, refusal, Some(self.schema));
         if self.words {
             let inputs = Inputs {
                 schema: self.schema,
                 text: self.text,
                 folder: self.folder,
+                failure,
             };
             in_words(alloc, stop, refusal, Some(inputs))
         } else {
@@ -173,47 +215,71 @@ impl Given<'_> {
     fn ended(&self, alloc: Global, outcome: Result<(), Refusal>) -> Result<(), Stop> {
         match outcome {
             Ok(()) => Ok(()),
-            Err(refusal) => Err(self.refused(alloc, &refusal)),
+            Err(refusal) => Err(self.refused(alloc, &refusal, None)),
         }
+    }
+
+    /// The end of a command over the files of tables.
+    fn ended_over(
+        &self,
+        alloc: Global,
+        outcome: Result<(), Refusal>,
+        tables: &[TableFile<'_, File>],
+    ) -> Result<(), Stop> {
+        let Err(refusal) = outcome else {
+            return Ok(());
+        };
+        let failure = failure_of(&refusal, tables);
+        if failure.is_some_and(|failure| failure.is_memory()) {
+            return Err(Stop::Memory);
+        }
+        Err(self.refused(alloc, &refusal, failure))
     }
 }
 
 /// Standard output, through a buffer.
-fn output(rt: &HostRuntime) -> Result<CountedOutput<BufWriter<Printer<'_, HostRuntime>>>, Stop> {
-    Ok(CountedOutput::new(BufWriter::new(rt.alloc(), io::writer(rt))?))
+type Output<'a> = WatchedOutput<'a, CountedOutput<BufWriter<Printer<'a, HostRuntime>>>>;
+
+/// Standard output, watched unless it is a terminal: there the rows themselves show how far they are, and lines would stand among them.
+fn output<'a>(rt: &'a HostRuntime, progress: Option<&'a Progress<'a>>) -> Result<Output<'a>, Stop> {
+    let buffered = BufWriter::new(rt.alloc(), io::writer(rt))?;
+    let progress = if rt.stdout().is_terminal() {
+        None
+    } else {
+        progress
+    };
+    Ok(WatchedOutput::new(CountedOutput::new(buffered), progress))
 }
 
 /// Answers a query on standard output by a plan that was checked. The schema is that of the bytes.
 fn answer(rt: &HostRuntime, given: Given<'_>, folder: &str, limit: usize) -> Result<(), Stop>
     requires { schema_of given.bytes.now ≡ Ok given.schema.now }
 {
-    let mut tables = open_tables(rt, given.schema, folder, given.words)?;
-    let tables = tables.as_mut_slice();
+    let mut tables = open_tables(rt, given.schema, folder, given.words, given.progress)?;
     let outcome = query(
         rt.alloc(),
         given.bytes,
         given.text,
-        tables,
+        tables.as_mut_slice(),
         limit,
-        &mut output(rt)?,
+        &mut output(rt, given.progress)?,
     );
-    given.ended(rt.alloc(), outcome)
+    given.ended_over(rt.alloc(), outcome, tables.as_slice())
 }
 
 /// The same by the slow evaluator.
 fn answer_by_meaning(rt: &HostRuntime, given: Given<'_>, folder: &str) -> Result<(), Stop>
     requires { schema_of given.bytes.now ≡ Ok given.schema.now }
 {
-    let mut tables = open_tables(rt, given.schema, folder, given.words)?;
-    let tables = tables.as_mut_slice();
+    let mut tables = open_tables(rt, given.schema, folder, given.words, given.progress)?;
     let outcome = evaluate(
         rt.alloc(),
         given.bytes,
         given.text,
-        tables,
-        &mut output(rt)?,
+        tables.as_mut_slice(),
+        &mut output(rt, given.progress)?,
     );
-    given.ended(rt.alloc(), outcome)
+    given.ended_over(rt.alloc(), outcome, tables.as_slice())
 }
 
 /// The same by the plan of a certificate.
@@ -226,16 +292,16 @@ fn answer_by_certificate(
     requires { schema_of given.bytes.now ≡ Ok given.schema.now }
 {
     let certificate = bytes_of(rt, certificate, given.words)?;
-    let mut tables = open_tables(rt, given.schema, folder, given.words)?;
+    let mut tables = open_tables(rt, given.schema, folder, given.words, given.progress)?;
     let outcome = run(
         rt.alloc(),
         given.bytes,
         given.text,
         certificate.as_slice(),
         tables.as_mut_slice(),
-        &mut output(rt)?,
+        &mut output(rt, given.progress)?,
     );
-    given.ended(rt.alloc(), outcome)
+    given.ended_over(rt.alloc(), outcome, tables.as_slice())
 }
 
 /// The end of a write to standard output.
@@ -267,7 +333,7 @@ fn plan_by_statistics(
         limit,
     ) {
         Ok(certificate) => print_bytes(rt, certificate.as_slice()),
-        Err(refusal) => Err(given.refused(rt.alloc(), &refusal)),
+        Err(refusal) => Err(given.refused(rt.alloc(), &refusal, None)),
     }
 }
 
@@ -289,7 +355,7 @@ fn explain_by_statistics(
         limit,
     ) {
         Ok(text) => print_bytes(rt, text.as_slice()),
-        Err(refusal) => Err(given.refused(rt.alloc(), &refusal)),
+        Err(refusal) => Err(given.refused(rt.alloc(), &refusal, None)),
     }
 }
 
@@ -351,12 +417,14 @@ fn obey(rt: &HostRuntime, command: &str, arguments: &ArgMatches<'_>) -> Result<(
     match Schema::read(rt.alloc(), bytes) {
         Ok(schema) => {
             let text = bytes_of(rt, query, words)?;
+            let progress = progress_of(rt, asked, arguments.get_flag("progress"));
             let given = Given {
                 bytes,
                 schema: &schema,
                 text: text.as_slice(),
                 folder: asked.folder(),
                 words,
+                progress: progress.as_ref(),
             };
             serve(rt, asked, given)
         }

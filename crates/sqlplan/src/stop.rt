@@ -7,6 +7,7 @@ ghost use Rattle.pipeline.specs.Refusals as refusals;
 ghost use Rattle.sqlplan.specs.Stops as spec;
 ghost use Rattle.words.specs.Spelling.{spelled as path_text};
 
+use crate::input::ReadFailure;
 use pipeline::{Refusal, fault_line};
 use schema::Schema;
 use std::alloc::{AllocError, AllocFailed, Global};
@@ -42,10 +43,10 @@ impl Stop {
     }
 
     /// The stop of a file that can't be opened or read.
-    pub fn of_file(alloc: Global, path: &str, error: &io::Error) -> Stop
+    pub fn of_file(alloc: Global, path: &str, failure: &ReadFailure) -> Stop
         ensures { spec.SaysFile path.now result }
     {
-        if error.kind() == io::ErrorKind::OutOfMemory {
+        if failure.is_memory() {
             return Stop::Memory;
         }
         match device_line(alloc, path) {

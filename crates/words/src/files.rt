@@ -30,6 +30,20 @@ pub fn file_explanation(alloc: Global, error: &io::Error) -> Result<String, Allo
     }
 }
 
+/// Why a file is refused that has more bytes than are read of it.
+pub fn size_explanation(alloc: Global, most: u64) -> Result<String, AllocError> {
+    format!(in alloc;
+        "it goes on for more than {most} bytes, and no more are read of such a file\n"
+    )
+}
+
+/// Why a file is refused that has more bytes without a line break than are read of it.
+pub fn line_explanation(alloc: Global, most: u64) -> Result<String, AllocError> {
+    format!(in alloc;
+        "it goes on for more than {most} bytes without a line break, and no more are read\n"
+    )
+}
+
 /// What a value of a column looks like.
 fn push_values(said: &mut String, column: &Column) -> Result<(), AllocError> {
     said.push_str(match column.kind {

@@ -14,7 +14,7 @@ pub mod spelling;
 
 pub use codes::list_of_codes;
 pub use explanations::{explanation, explanation_at};
-pub use files::{file_explanation, row_there, table_there};
+pub use files::{file_explanation, line_explanation, row_there, size_explanation, table_there};
 pub use habits::habits_there;
 pub use meanings::Meaning;
 pub use places::{Place, place_of};
