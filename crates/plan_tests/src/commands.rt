@@ -41,7 +41,15 @@ fn answer(
 {
     let mut tables = [CountedInput::new(files.dept), CountedInput::new(files.emp)];
     match way {
-        Way::Plan => query(alloc, files.schema, files.text, &mut tables, 2_000, Exploration::ToLimit, out),
+        Way::Plan => query(
+            alloc,
+            files.schema,
+            files.text,
+            &mut tables,
+            2_000,
+            Exploration::ToLimit,
+            out,
+        ),
         Way::Meaning => evaluate(alloc, files.schema, files.text, &mut tables, out),
         Way::Certificate(certificate) => run(
             alloc,

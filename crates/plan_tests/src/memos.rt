@@ -2,8 +2,8 @@
 
 use crate::derived::{expr_of, fact_of, lines_of, numbers_of, rule_of};
 use crate::plans::{cut, id};
-use derivation::Line;
 use closure::is_closed;
+use derivation::Line;
 use explore::explore;
 use fixtures::{COMPANY, DEPT, EMP, QueryReporting, Tables, push_number, query_differences};
 use logs::Log;
