@@ -162,10 +162,11 @@ fn pass(alloc: Global, memo: &mut Memo<'_>) -> Result<(), AllocError>
     Ok(())
 }
 
-/// Adds what each rule gives at each binding, until the log is full or a pass adds nothing.
+/// Adds what each rule gives at each binding, until the log is full or a pass adds nothing. Nothing is said of what it leaves out.
 #[tactic(auto, using(memo::proofs::Growth::extended_along))]
-fn passes(alloc: Global, memo: &mut Memo<'_>) -> Result<(), AllocError>
-    ensures extends { Extends memo.old.limit memo.old.log memo.new.log }
+pub fn apply_all(alloc: Global, memo: &mut Memo<'_>) -> Result<(), AllocError>
+    ensures grows { Grows memo.old.log memo.new.log }
+    ensures within { IsWithin memo.old.limit memo.old.log memo.new.log }
     ensures limit { memo.new.limit ≡ memo.old.limit }
 {
     for _ in 0..MOST_PASSES {
@@ -186,6 +187,6 @@ pub fn explore(alloc: Global, memo: &mut Memo<'_>) -> Result<bool, AllocError>
     ensures within { IsWithin memo.old.limit memo.old.log memo.new.log }
     ensures limit { memo.new.limit ≡ memo.old.limit }
 {
-    passes(alloc, memo)?;
+    apply_all(alloc, memo)?;
     is_closed(alloc, memo.log())
 }

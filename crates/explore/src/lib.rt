@@ -5,4 +5,4 @@ mod bindings;
 mod exploring;
 mod queue;
 
-pub use exploring::explore;
+pub use exploring::{apply_all, explore};

@@ -16,7 +16,7 @@ use certificate::{Certificate, query_order};
 use closure::is_closed;
 use costs::{Cardinalities, cost};
 use derivation::Line;
-use explore::explore;
+use explore::apply_all;
 use frame::frame_of;
 use logs::Log;
 use memo::Memo;
@@ -62,12 +62,15 @@ struct Planning<'q> {
     exploration: Exploration,
 }
 
-/// Lines of a log and a plan over them, and whether no rule adds anything to these.
+/// Lines of a log and a plan over them, and whether these were explored with room for more.
 #[derive(Drop)]
 struct Found {
     certificate: Certificate,
-    is_closed: bool,
+    is_explored: bool,
 }
+
+/// Of more lines nobody asks whether they are closed: that takes longer than to explore them, where classes have many.
+const MOST_JUDGED: usize = 100;
 
 /// What is known of a certificate that fits.
 #[derive(Clone, Copy)]
@@ -140,11 +143,11 @@ fn worthwhile(planning: Planning<'_>, cost: u64) -> usize {
 }
 
 /// All lines of a log, with a plan over them.
-fn found_over(memo: Memo<'_>, plan: Plan, is_closed: bool) -> Found {
+fn found_over(memo: Memo<'_>, plan: Plan, is_explored: bool) -> Found {
     let lines = Items::from_vec(memo.into_log().into_lines());
     Found {
         certificate: Certificate { lines, plan },
-        is_closed,
+        is_explored,
     }
 }
 
@@ -155,9 +158,10 @@ fn explored(
     memo: Memo<'_>,
 ) -> Result<Option<Found>, AllocError> {
     let mut memo = memo;
-    let is_closed = explore(alloc, &mut memo)?;
+    apply_all(alloc, &mut memo)?;
+    let has_room = !memo.is_full();
     match cheapest(alloc, planning, memo.log())? {
-        Some(best) => Ok(Some(found_over(memo, best.plan, is_closed))),
+        Some(best) => Ok(Some(found_over(memo, best.plan, has_room))),
         None => Ok(None),
     }
 }
@@ -248,7 +252,7 @@ fn fitting_log<'q>(
 }
 
 /// What the plan of a certificate costs, if it has no more lines than a log may have, replays for the query, and its plan costs no more than the known
-/// one; and whether its lines are closed, if they are said to be.
+/// one; and whether its lines are closed, if they are few and were explored.
 fn fitting_verdict(
     alloc: Global,
     planning: Planning<'_>,
@@ -279,7 +283,7 @@ fn fitting_verdict(
     else {
         return Ok(None);
     };
-    let is_complete = found.is_closed && is_closed(alloc, &log)?;
+    let is_complete = found.is_explored && log.len() <= MOST_JUDGED && is_closed(alloc, &log)?;
     Ok(Some(Verdict { cost, is_complete }))
 }
 

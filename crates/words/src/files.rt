@@ -143,7 +143,7 @@ pub fn row_there(
         0 => write!(&mut said, "{path}, its header: ")?,
         row => write!(
             &mut said,
-            "{path}, row {row}, its header and empty lines not counted"
+            "{path}, row {row} (its header and empty lines are not counted): "
         )?,
     }
     push_wanted(alloc, &mut said, table, refusal.cause)?;

@@ -19,6 +19,11 @@ const STAR_OF_AGGREGATE: &str = "an aggregate of * but COUNT";
 
 const IN_LIST: &str = "IN over a list; write x = 1 OR x = 2, since IN is over a subquery";
 
+const NOT_IN_LIST: &str =
+    "NOT IN over a list; write x <> 1 AND x <> 2, since NOT IN is over a subquery";
+
+const FOR_UPDATE: &str = "FOR UPDATE; the tables are files, which are only read";
+
 const COUNT_DISTINCT: &str =
     "DISTINCT in an aggregate; SELECT DISTINCT shows the values, whose lines can be counted";
 
@@ -82,6 +87,7 @@ const HABITS: &[(&str, &str, &str)] = &[
     ("SELECT *", ",", STAR_ALONE),
     ("DISTINCT *", ",", STAR_ALONE),
     ("(", "*", STAR_OF_AGGREGATE),
+    ("NOT IN (", "1", NOT_IN_LIST),
     ("IN (", "1", IN_LIST),
     ("(", "DISTINCT", COUNT_DISTINCT),
     ("SELECT", "1", CONSTANT),
@@ -126,6 +132,7 @@ const HABITS: &[(&str, &str, &str)] = &[
     ("", "$", PARAMETER),
     ("", "@", PARAMETER),
     ("", "INSERT", OTHER_STATEMENT),
+    ("FOR", "UPDATE", FOR_UPDATE),
     ("", "UPDATE", OTHER_STATEMENT),
     ("", "DELETE", OTHER_STATEMENT),
     ("", "CREATE", OTHER_STATEMENT),
