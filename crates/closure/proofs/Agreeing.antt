@@ -1,8 +1,8 @@
 -- Lines that are alike take the same classes, so they stand in one place.
-use Rattle.std.proofs.Common.{◌≡◌, ◌≢◌, ◌↔◌, refl, ap, sym, ◌∙◌, subst, ℕ, ◌<◌, ◌≤◌, Bool, true, false, not, ◌||◌, ◌==◌, nat_lt, if◌then◌else◌, List, [], ◌∷◌, ◌++◌, length, map, set, get_or, slice_get, option_map, Option, Some, None, IsTrue, Vec, Global, arith}
+use Rattle.std.proofs.Common.{◌≡◌, ◌≢◌, ◌↔◌, refl, ap, sym, ◌∙◌, subst, ℕ, ◌<◌, ◌≤◌, Bool, true, false, not, ◌||◌, ◌==◌, nat_lt, if◌then◌else◌, List, [], ◌∷◌, ◌++◌, length, map, set, take, drop, get_or, ◌-◌, slice_get, option_map, Option, Some, None, IsTrue, Vec, Global, arith}
 use Rattle.std.specs.List.{AllByRecursion}
 use Rattle.std.proofs.lemmas.Bool.{lt-ltb, ltb-true, eq-eqb, eqb-true}
-use Rattle.std.proofs.lemmas.List.{map-set, get_or-set_same, get_or-set_other, length-map}
+use Rattle.std.proofs.lemmas.List.{map-set, get_or-set_same, get_or-set_other, length-map, take_all}
 use Rattle.std.proofs.Math.Bool.{or-true}
 use Rattle.query.specs.declared.query.TableInstance.{TableInstance}
 use Rattle.algebra.specs.declared.expr.Expr.{Expr}
@@ -17,6 +17,7 @@ use Rattle.rules.specs.Matches as matches
 use Rattle.derivation.specs.Logs.{Log, member, are_same, least, knowledge}
 use Rattle.derivation.proofs.Lookups.{member-within}
 use Rattle.closure.specs.Closed.{alike}
+use Rattle.closure.specs.Operators.{IsUnlike, LineAnswers, ListAnswers, Answers}
 use Rattle.closure.specs.Places.{place, place_by, AreEntered, AgreesAt, AgreesWithAll}
 
 -- ---- the test
@@ -98,6 +99,17 @@ pub first-of : (P : ℕ → Type 0) (ns : List ℕ) (d : ℕ) → 1 ≤ length n
 first-of P [] d some all = absurd (omega (arith, some))
 first-of P (n ∷ ns) d some all = all.0
 
+whole : (n : ℕ) (ns : List ℕ) → take (length (n ∷ ns) - 1) (drop 1 (n ∷ ns)) ≡ ns
+whole n ns = take_all (length (n ∷ ns) - 1) ns (omega arith)
+
+pub rest-of : (P : ℕ → Type 0) (ns : List ℕ) (d : ℕ) → 1 ≤ length ns → P (get_or ns 0 d) → AllByRecursion P (take (length ns - 1) (drop 1 ns)) → AllByRecursion P ns
+rest-of P [] d some first rest = absurd (omega (arith, some))
+rest-of P (n ∷ ns) d some first rest = (first, subst (AllByRecursion P) (whole n ns) rest)
+
+pub to-rest : (P : ℕ → Type 0) (ns : List ℕ) → 1 ≤ length ns → AllByRecursion P ns → AllByRecursion P (take (length ns - 1) (drop 1 ns))
+to-rest P [] some all = absurd (omega (arith, some))
+to-rest P (n ∷ ns) some all = subst (AllByRecursion P) (sym (whole n ns)) all.1
+
 pub each-of : (P : ℕ → Type 0) (ns : List ℕ) → AllByRecursion P ns → (n : ℕ) → has ns n ≡ true → P n
 each-of P [] all n is = cc
 each-of P (k ∷ ns) all n is = by (each-of P ns all.1 n) (k == n) refl is
@@ -160,3 +172,27 @@ all_agree E over line k lines b entered there is agree = (to, from)
 
     from : AgreesWithAll E line → IsTrue b
     from all = agree.1 (all-of (AgreesAt E k) (λ j. all k there j) lines)
+
+-- ---- the class of a line with an expression
+
+pub alike_found : (instances : List TableInstance) (E : Log) (x : Expr) (line : ℕ) (l : matches.Line) (b : Bool) → member E line ≡ Some l → b ≡ alike (knowledge instances E) x l.expr → b ≡ true → LineAnswers E x line (Some l.class)
+alike_found instances E x line l b there is yes_ = record { number = line; line = l; stands = there; class_is = refl; alike = alike-are instances E x l.expr (sym is ∙ yes_) }
+
+pub alike_not : (instances : List TableInstance) (E : Log) (x : Expr) (line : ℕ) (l : matches.Line) (b : Bool) → member E line ≡ Some l → b ≡ alike (knowledge instances E) x l.expr → b ≡ false → LineAnswers E x line None
+alike_not instances E x line l b there is no_ = λ m at are.
+    let same : m ≡ l = let e : Some m ≡ Some l = sym at ∙ there in cc in
+    sym (are-alike instances E x l.expr (subst (λ (m : matches.Line). AreAlike (least E) x m.expr) same are)) ∙ sym is ∙ no_
+
+pub unlike_taken : (E : Log) (x : Expr) (line : ℕ) (l : matches.Line) (b : Bool) → member E line ≡ Some l → (AreAlike (least E) x l.expr → IsTrue b) → b ≡ false → LineAnswers E x line None
+unlike_taken E x line l b there to no_ = λ m at are.
+    let same : m ≡ l = let e : Some m ≡ Some l = sym at ∙ there in cc in
+    sym (to (subst (λ (m : matches.Line). AreAlike (least E) x m.expr) same are)) ∙ no_
+
+pub unlike_none : (E : Log) (x : Expr) (line : ℕ) → member E line ≡ None → LineAnswers E x line None
+unlike_none E x line there = λ m at are. absurd (let never : Some m ≡ None = sym at ∙ there in cc)
+
+pub answers-from : (E : Log) (over : List (List ℕ)) (x : Expr) (lines : List ℕ) (found : Option ℕ) → AreEntered E (length E) over → lines ≡ columns_at over (place E x) → ListAnswers E x lines found → Answers E x found
+answers-from E over x lines (Some g) entered is found = found
+answers-from E over x lines None entered is none = λ n l there are.
+    let listed : has lines n ≡ true = ap (λ ns. has ns n) is ∙ ap (λ q. has (columns_at over q) n) (alike-place E x l.expr are) ∙ entered.entered n l (member-within E n l there) there in
+    each-of (IsUnlike E x) lines none n listed l there are

@@ -2,4 +2,4 @@ pub mod Agreeing
 pub mod AnyLine
 pub mod Fits
 pub mod Shapes
-pub mod Taking
+pub mod Unique

@@ -1,15 +1,14 @@
 -- What the rules give at each line of a log, and over each line of the class that it takes first.
-use Rattle.std.specs.Prelude.{◌≡◌, ℕ, Bool, true, List, [], ◌∷◌, slice_get, Some}
+use Rattle.std.specs.Prelude.{◌≡◌, ℕ, true, List, [], ◌∷◌, slice_get, Some}
 use Rattle.std.specs.List.{AllByRecursion}
 use Rattle.query.specs.declared.query.TableInstance.{TableInstance}
-use Rattle.algebra.specs.declared.expr.Expr.{Expr}
 use Rattle.algebra.specs.Expressions.{children}
 use Rattle.rules.specs.declared.book.RuleName.{RuleName}
 use Rattle.rules.specs.declared.book.RuleName.TheVariants.{JoinCommutes, JoinAssociates, SelectsMerge, SelectBelowJoin, SelectIntoJoin, ConditionBelowJoin, SelectBelowSemi, KeepsMerge, KeepOfAll, KeepBelowJoin, DistinctOfKeyed, GroupIsDistinct}
 use Rattle.rules.specs.Matches as matches
 use Rattle.derivation.specs.Logs.{Log, member}
 use Rattle.logs.specs.Members.{is_member}
-use Rattle.closure.specs.Closed.{passes, HasResult}
+use Rattle.closure.specs.Closed.{HasResult}
 
 -- the rules that are applied to one line
 abbrev pub one_line : List RuleName
@@ -18,10 +17,6 @@ one_line = JoinCommutes ∷ ConditionBelowJoin ∷ KeepOfAll ∷ DistinctOfKeyed
 -- and to two, of which the second is of the class that the first takes first
 abbrev pub two_lines : List RuleName
 two_lines = JoinAssociates ∷ SelectsMerge ∷ SelectBelowJoin ∷ SelectIntoJoin ∷ SelectBelowSemi ∷ KeepsMerge ∷ KeepBelowJoin ∷ []
-
--- whether the line of a number has an expression that passes
-abbrev pub line_passes : Log → (Expr → Bool) → ℕ → Bool
-line_passes E p n = passes (λ l. p l.expr) (member E n)
 
 module _ (instances : List TableInstance) (E : Log) where
   abbrev pub HasResultsOver : matches.Line → ℕ → Type 0

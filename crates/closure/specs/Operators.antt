@@ -1,18 +1,18 @@
--- Operators over inputs that are still to be found, as code takes them out of shapes.
-use Rattle.std.specs.Prelude.{◌≡◌, ℕ, Bool, false, List, filter, slice_get, Option, Some, None}
+-- Operators over inputs that are still to be found, and what it means that a class is found.
+use Rattle.std.specs.Prelude.{◌≡◌, ℕ, true, false, List, Option, Some, None}
+use Rattle.std.specs.List.{AllByRecursion}
 use Rattle.algebra.specs.declared.expr.Expr.{Expr}
 use Rattle.algebra.specs.declared.expr.Expr.TheVariants as expr
-use Rattle.algebra.specs.Expressions.{children}
+use Rattle.algebra.specs.Alike.{AreAlike}
+use Rattle.props.specs.Knowledge.{Knowledge}
+use Rattle.rules.specs.declared.shape.Shape.{Shape}
 use Rattle.rules.specs.Matches as matches
-use Rattle.derivation.specs.Logs.{Log, member}
-use Rattle.logs.specs.Members.{is_member, once_if}
-use Rattle.logs.specs.Sets.{times}
-use Rattle.closure.specs.declared.standing.Side.{Side}
-use Rattle.closure.specs.declared.standing.Side.TheVariants as side
+use Rattle.derivation.specs.Logs.{Log, member, least}
 use Rattle.closure.specs.declared.standing.OverOne.{OverOne}
 use Rattle.closure.specs.declared.standing.OverOne.TheVariants as one
 use Rattle.closure.specs.declared.standing.OverTwo.{OverTwo}
 use Rattle.closure.specs.declared.standing.OverTwo.TheVariants as two
+use Rattle.closure.specs.Closed.{is_there}
 
 abbrev pub over_one : OverOne → ℕ → Expr
 over_one (one.Select C) = expr.Select C.now
@@ -25,29 +25,44 @@ over_two (two.LeftJoin C) = expr.LeftJoin C.now
 over_two (two.Semi C) = expr.Semi C.now
 over_two (two.Anti S M) = expr.Anti S.now M.now
 
--- ---- the classes that a line takes
+-- ---- lines with an expression, up to which classes are the same
 
-abbrev pub place_of : Side → ℕ
-place_of side.First = 0
-place_of side.Second = 1
+-- a line of this class has it
+pub record HasAlike (E : Log) (x : Expr) (g : ℕ) : Type 0 where
+  pub number : ℕ
+  pub line : matches.Line
+  pub stands : member E number ≡ Some line
+  pub class_is : line.class ≡ g
+  pub alike : AreAlike (least E) x line.expr
 
-abbrev pub taken_at : ℕ → Option matches.Line → Option ℕ
-taken_at place None = None
-taken_at place (Some l) = slice_get (children l.expr) place
+-- the line of this number hasn't it
+abbrev pub IsUnlike : Log → Expr → ℕ → Type 0
+IsUnlike E x n = (l : matches.Line) → member E n ≡ Some l → AreAlike (least E) x l.expr → true ≡ false
 
-abbrev pub input_of : Log → Side → ℕ → Option ℕ
-input_of E s n = taken_at (place_of s) (member E n)
+abbrev pub LineAnswers : Log → Expr → ℕ → Option ℕ → Type 0
+LineAnswers E x n (Some g) = HasAlike E x g
+LineAnswers E x n None = IsUnlike E x n
 
-abbrev pub passes_if : (ℕ → Bool) → Option ℕ → Bool
-passes_if p None = false
-passes_if p (Some g) = p g
+abbrev pub ListAnswers : Log → Expr → List ℕ → Option ℕ → Type 0
+ListAnswers E x lines (Some g) = HasAlike E x g
+ListAnswers E x lines None = AllByRecursion (IsUnlike E x) lines
 
--- whether a line takes a class on this side of which something is so
-abbrev pub takes_on : Log → Side → (ℕ → Bool) → ℕ → Bool
-takes_on E s p n = passes_if p (input_of E s n)
+-- a class that has it, or that no line has it
+abbrev pub Answers : Log → Expr → Option ℕ → Type 0
+Answers E x (Some g) = HasAlike E x g
+Answers E x None = (n : ℕ) → IsUnlike E x n
 
--- the lines of a class that take a class first of which something is so
-pub record AreOver (E : Log) (g : ℕ) (p : ℕ → Bool) (lines : List ℕ) : Type 0 where
-  pub found : List ℕ
-  pub exact : (n : ℕ) → times n found ≡ once_if (is_member E g n)
-  pub kept : lines ≡ filter (takes_on E side.First p) found
+-- the same of an operator over a class, if there is one
+abbrev pub OneAnswers : Log → (ℕ → Expr) → Option ℕ → Option ℕ → Type 0
+OneAnswers E f None found = found ≡ None
+OneAnswers E f (Some g) found = Answers E (f g) found
+
+abbrev pub TwoAnswers : Log → (ℕ → ℕ → Expr) → Option ℕ → Option ℕ → Option ℕ → Type 0
+TwoAnswers E f None right found = found ≡ None
+TwoAnswers E f (Some g) None found = found ≡ None
+TwoAnswers E f (Some g) (Some h) found = Answers E (f g h) found
+
+-- a class in which a shape stands, or that it stands in none
+abbrev pub StandsAs : Knowledge → Log → Shape → Option ℕ → Type 0
+StandsAs K E s (Some g) = is_there K E s g ≡ true
+StandsAs K E s None = (g : ℕ) → is_there K E s g ≡ false

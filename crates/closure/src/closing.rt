@@ -1,6 +1,6 @@
 //! Whether each rule's result is there.
 
-ghost use Rattle.std.specs.Prelude.{◌≡◌, ◌↔◌, ◌∷◌, [], ℕ, true, map, slice_get, IsTrue, IfOk, Some, Ok};
+ghost use Rattle.std.specs.Prelude.{◌≡◌, ◌↔◌, ◌∷◌, [], ℕ, true, length, map, slice_get, IsTrue, IfOk, Some, Ok};
 ghost use Rattle.std.specs.List.{AllByRecursion};
 ghost use Rattle.rules.specs.declared.shape.Shape.{Shape};
 ghost use Rattle.rules.specs.Book.{given_by};
@@ -8,9 +8,10 @@ ghost use Rattle.rules.specs.Matches.{line_in};
 ghost use Rattle.derivation.specs.Logs.{knowledge};
 ghost use Rattle.closure.specs.Closed as spec;
 ghost use Rattle.closure.specs.Lines as lines_;
+ghost use Rattle.closure.specs.Places.{AreEntered};
 
 use crate::inputs::inputs;
-use crate::pairs::are_united;
+use crate::pairs::{are_united, lines_over};
 use crate::standing::is_there;
 use algebra::LineId;
 use logs::Log;
@@ -43,10 +44,13 @@ const TWO_LINES: [RuleName; 7] = [
 fn has_result(
     alloc: Global,
     log: &Log<'_>,
+    over: &[Vec<LineId>],
     rule: RuleName,
     lines: &[MatchedLine<'_>],
     top: MatchedLine<'_>,
 ) -> Result<bool, AllocError>
+    requires entered { AreEntered log.now.log (length log.now.log) (map (λ v. v.items) over.now) }
+    requires united { spec.AreUnited log.now.log }
     ensures { IfOk result (λ has. IsTrue has ↔ ((s : Shape) → given_by rule (record { lines = map line_in lines.now; pick = 0; classes = knowledge log.now.instances log.now.log }) ≡ Ok s → spec.is_there (knowledge log.now.instances log.now.log) log.now.log s top.entry.class ≡ true)) }
 {
     let at = Match {
@@ -56,7 +60,7 @@ fn has_result(
     };
     match rule.apply(alloc, at) {
         Ok(shape) => {
-            let has = is_there(alloc, log, &shape, top.class)?;
+            let has = is_there(alloc, log, over, &shape, top.class)?;
             Ok(has)
         }
         Err(Fault::Refused(_)) => Ok(true),
@@ -68,13 +72,16 @@ fn has_result(
 fn has_results_at(
     alloc: Global,
     log: &Log<'_>,
+    over: &[Vec<LineId>],
     mut rules: &[RuleName],
     top: MatchedLine<'_>,
 ) -> Result<bool, AllocError>
+    requires entered { AreEntered log.now.log (length log.now.log) (map (λ v. v.items) over.now) }
+    requires united { spec.AreUnited log.now.log }
     ensures { IfOk result (λ has. IsTrue has ↔ AllByRecursion (λ rule. spec.HasResult log.now.instances log.now.log rule 0 (line_in top.entry) []) rules.entry.now) }
 {
     'rules: while let [rule, rest @ ..] = rules {
-        if !has_result(alloc, log, *rule, &[top], top)? {
+        if !has_result(alloc, log, over, *rule, &[top], top)? {
             return Ok(false);
         }
         rules = rest;
@@ -86,14 +93,17 @@ fn has_results_at(
 fn has_results_at_two(
     alloc: Global,
     log: &Log<'_>,
+    over: &[Vec<LineId>],
     mut rules: &[RuleName],
     top: MatchedLine<'_>,
     below: MatchedLine<'_>,
 ) -> Result<bool, AllocError>
+    requires entered { AreEntered log.now.log (length log.now.log) (map (λ v. v.items) over.now) }
+    requires united { spec.AreUnited log.now.log }
     ensures { IfOk result (λ has. IsTrue has ↔ AllByRecursion (λ rule. spec.HasResult log.now.instances log.now.log rule 0 (line_in top.entry) (line_in below.entry ∷ [])) rules.entry.now) }
 {
     'rules: while let [rule, rest @ ..] = rules {
-        if !has_result(alloc, log, *rule, &[top, below], top)? {
+        if !has_result(alloc, log, over, *rule, &[top, below], top)? {
             return Ok(false);
         }
         rules = rest;
@@ -105,14 +115,17 @@ fn has_results_at_two(
 fn has_results_over_line(
     alloc: Global,
     log: &Log<'_>,
+    over: &[Vec<LineId>],
     top: MatchedLine<'_>,
     line: LineId,
 ) -> Result<bool, AllocError>
+    requires entered { AreEntered log.now.log (length log.now.log) (map (λ v. v.items) over.now) }
+    requires united { spec.AreUnited log.now.log }
     ensures { IfOk result (λ has. IsTrue has ↔ lines_.HasResultsOver log.now.instances log.now.log (line_in top.entry) line) }
 {
     match log.member(line) {
         Some(below) => {
-            let has = has_results_at_two(alloc, log, &TWO_LINES, top, below)?;
+            let has = has_results_at_two(alloc, log, over, &TWO_LINES, top, below)?;
             Ok(has)
         }
         None => Ok(true),
@@ -123,13 +136,16 @@ fn has_results_over_line(
 fn has_results_over(
     alloc: Global,
     log: &Log<'_>,
+    over: &[Vec<LineId>],
     top: MatchedLine<'_>,
     mut lines: &[LineId],
 ) -> Result<bool, AllocError>
+    requires entered { AreEntered log.now.log (length log.now.log) (map (λ v. v.items) over.now) }
+    requires united { spec.AreUnited log.now.log }
     ensures { IfOk result (λ has. IsTrue has ↔ AllByRecursion (lines_.HasResultsOver log.now.instances log.now.log (line_in top.entry)) lines.entry.now) }
 {
     'lines: while let [line, rest @ ..] = lines {
-        if !has_results_over_line(alloc, log, top, *line)? {
+        if !has_results_over_line(alloc, log, over, top, *line)? {
             return Ok(false);
         }
         lines = rest;
@@ -141,14 +157,17 @@ fn has_results_over(
 fn has_results_over_class(
     alloc: Global,
     log: &Log<'_>,
+    over: &[Vec<LineId>],
     top: MatchedLine<'_>,
 ) -> Result<bool, AllocError>
+    requires entered { AreEntered log.now.log (length log.now.log) (map (λ v. v.items) over.now) }
+    requires united { spec.AreUnited log.now.log }
     ensures { IfOk result (λ has. IsTrue has ↔ lines_.HasResultsOverClass log.now.instances log.now.log (line_in top.entry)) }
 {
     match inputs(top.expr) {
         (Some(input), _) => {
             let lines = log.members(alloc, input)?;
-            let has = has_results_over(alloc, log, top, lines.as_slice())?;
+            let has = has_results_over(alloc, log, over, top, lines.as_slice())?;
             Ok(has)
         }
         (None, _) => Ok(true),
@@ -156,25 +175,34 @@ fn has_results_over_class(
 }
 
 /// Whether what each rule gives at a line, alone or over another one, stands in its class.
-fn has_results_of(alloc: Global, log: &Log<'_>, line: LineId) -> Result<bool, AllocError>
+fn has_results_of(
+    alloc: Global,
+    log: &Log<'_>,
+    over: &[Vec<LineId>],
+    line: LineId,
+) -> Result<bool, AllocError>
+    requires entered { AreEntered log.now.log (length log.now.log) (map (λ v. v.items) over.now) }
+    requires united { spec.AreUnited log.now.log }
     ensures { IfOk result (λ has. IsTrue has ↔ lines_.HasResultsOf log.now.instances log.now.log line) }
 {
     let Some(top) = log.member(line) else {
         return Ok(true);
     };
-    if !has_results_at(alloc, log, &ONE_LINE, top)? {
+    if !has_results_at(alloc, log, over, &ONE_LINE, top)? {
         return Ok(false);
     }
-    let has = has_results_over_class(alloc, log, top)?;
+    let has = has_results_over_class(alloc, log, over, top)?;
     Ok(has)
 }
 
 /// Whether what each rule gives at lines stands in the class of the top one.
-fn has_results(alloc: Global, log: &Log<'_>) -> Result<bool, AllocError>
+fn has_results(alloc: Global, log: &Log<'_>, over: &[Vec<LineId>]) -> Result<bool, AllocError>
+    requires entered { AreEntered log.now.log (length log.now.log) (map (λ v. v.items) over.now) }
+    requires united { spec.AreUnited log.now.log }
     ensures { IfOk result (λ has. IsTrue has ↔ spec.HasResults log.now.instances log.now.log) }
 {
     for line in 0..id_of(log.len())? {
-        if !has_results_of(alloc, log, line)? {
+        if !has_results_of(alloc, log, over, line)? {
             return Ok(false);
         }
     }
@@ -185,9 +213,10 @@ fn has_results(alloc: Global, log: &Log<'_>) -> Result<bool, AllocError>
 pub fn is_closed(alloc: Global, log: &Log<'_>) -> Result<bool, AllocError>
     ensures { IfOk result (λ closed. IsTrue closed ↔ spec.IsClosed log.now.instances log.now.log) }
 {
-    if !are_united(alloc, log)? {
+    let over = lines_over(alloc, log)?;
+    if !are_united(alloc, log, over.as_slice())? {
         return Ok(false);
     }
-    let has = has_results(alloc, log)?;
+    let has = has_results(alloc, log, over.as_slice())?;
     Ok(has)
 }

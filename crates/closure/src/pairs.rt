@@ -11,16 +11,27 @@ ghost use Rattle.closure.specs.Closed as spec;
 ghost use Rattle.closure.specs.Places as places;
 
 use crate::inputs::inputs;
-use crate::standing::alike;
 use algebra::{ClassId, Expr, LineId};
-use logs::Log;
+use logs::{Log, are_alike};
 use query::ids::id_of;
 use rules::MatchedLine;
 use std::alloc::{AllocError, Global};
 
+/// Whether an expression is another up to which classes are the same.
+pub(crate) fn alike(
+    alloc: Global,
+    log: &Log<'_>,
+    expr: &Expr,
+    other: &Expr,
+) -> Result<bool, AllocError>
+    ensures { IfOk result (λ same. same ≡ spec.alike (logs_.knowledge log.now.instances log.now.log) expr.now other.now) }
+{
+    are_alike(alloc, expr, other, log.classes())
+}
+
 /// Where the lines are that take the same class first.
 #[tactic(auto, using(crate::proofs::Agreeing::place_within, crate::proofs::Agreeing::place_past))]
-fn place_of(log: &Log<'_>, expr: &Expr) -> usize
+pub(crate) fn place_of(log: &Log<'_>, expr: &Expr) -> usize
     ensures { result ≡ places.place log.now.log expr.now }
 {
     let count = log.len();
@@ -46,7 +57,7 @@ fn are_same_inputs(log: &Log<'_>, first: Option<ClassId>, second: Option<ClassId
 }
 
 /// Whether two expressions take classes that are the same: those that are alike do.
-fn take_same(log: &Log<'_>, expr: &Expr, other: &Expr) -> bool
+pub(crate) fn take_same(log: &Log<'_>, expr: &Expr, other: &Expr) -> bool
     ensures { AreAlike (logs_.least log.now.log) expr.now other.now → IsTrue result }
 {
     let (first, second) = inputs(expr);
@@ -88,7 +99,7 @@ fn enter(log: &Log<'_>, over: &mut Vec<Vec<LineId>>, line: LineId) -> Result<(),
 
 /// For each class that stands for those that are the same, the lines whose expressions take one of these first; behind them, those of expressions that
 /// take none.
-fn lines_over(alloc: Global, log: &Log<'_>) -> Result<Vec<Vec<LineId>>, AllocError>
+pub(crate) fn lines_over(alloc: Global, log: &Log<'_>) -> Result<Vec<Vec<LineId>>, AllocError>
     ensures { IfOk result (λ over. places.AreEntered log.now.log (length log.now.log) (map (λ v. v.items) over.items)) }
 {
     let count = id_of(log.len())?;
@@ -144,12 +155,16 @@ fn agrees_at(
 }
 
 /// Whether lines that are alike are of classes that are the same.
-pub(crate) fn are_united(alloc: Global, log: &Log<'_>) -> Result<bool, AllocError>
+pub(crate) fn are_united(
+    alloc: Global,
+    log: &Log<'_>,
+    over: &[Vec<LineId>],
+) -> Result<bool, AllocError>
+    requires { places.AreEntered log.now.log (length log.now.log) (map (λ v. v.items) over.now) }
     ensures { IfOk result (λ are. IsTrue are ↔ spec.AreUnited log.now.log) }
 {
-    let over = lines_over(alloc, log)?;
     for line in 0..id_of(log.len())? {
-        if !agrees_at(alloc, log, over.as_slice(), line)? {
+        if !agrees_at(alloc, log, over, line)? {
             return Ok(false);
         }
     }

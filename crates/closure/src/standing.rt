@@ -1,25 +1,16 @@
 //! Whether what a rule gives stands in a class.
 
-ghost use Rattle.std.specs.Prelude.{◌≡◌, ℕ, Bool, true, filter, IfOk};
-ghost use Rattle.std.specs.List.{list_any};
+ghost use Rattle.std.specs.Prelude.{◌≡◌, ℕ, length, map, IfOk};
 ghost use Rattle.derivation.specs.Logs.{knowledge};
-ghost use Rattle.closure.specs.Lines.{line_passes};
 ghost use Rattle.closure.specs.Closed as spec;
 ghost use Rattle.closure.specs.Operators as operators;
+ghost use Rattle.closure.specs.Places as places;
 
-use crate::inputs::inputs;
+use crate::pairs::{alike, place_of, take_same};
 use algebra::{ClassId, Columns, Conjuncts, Expr, LineId};
-use logs::{Log, are_alike};
+use logs::Log;
 use rules::Shape;
 use std::alloc::{AllocError, Global};
-use values::Boxed;
-
-/// Which of the classes that an expression takes is meant.
-#[derive(Clone, Copy)]
-enum Side {
-    First,
-    Second,
-}
 
 /// An operator over one input, which is still to be found.
 #[derive(Clone, Copy)]
@@ -38,18 +29,6 @@ enum OverTwo<'a> {
     Anti(&'a Conjuncts, &'a Conjuncts),
 }
 
-/// Whether an expression is another up to which classes are the same.
-pub(crate) fn alike(
-    alloc: Global,
-    log: &Log<'_>,
-    expr: &Expr,
-    other: &Expr,
-) -> Result<bool, AllocError>
-    ensures { IfOk result (λ same. same ≡ spec.alike (knowledge log.now.instances log.now.log) expr.now other.now) }
-{
-    are_alike(alloc, expr, other, log.classes())
-}
-
 impl OverOne<'_> {
     /// The operator over a class.
     fn over(self, alloc: Global, class: ClassId) -> Result<Expr, AllocError>
@@ -60,20 +39,6 @@ impl OverOne<'_> {
             OverOne::Keep(k) => Ok(Expr::Keep(k.copy(alloc)?, class)),
             OverOne::Distinct => Ok(Expr::Distinct(class)),
         }
-    }
-
-    /// Whether an expression is the operator over a class, up to which classes are the same.
-    fn is(
-        self,
-        alloc: Global,
-        log: &Log<'_>,
-        class: ClassId,
-        expr: &Expr,
-    ) -> Result<bool, AllocError>
-        ensures { IfOk result (λ is. is ≡ spec.alike (knowledge log.now.instances log.now.log) (operators.over_one self.entry class) expr.now) }
-    {
-        let own = self.over(alloc, class)?;
-        alike(alloc, log, &own, expr)
     }
 }
 
@@ -89,224 +54,174 @@ impl OverTwo<'_> {
             OverTwo::Anti(s, m) => Ok(Expr::Anti(s.copy(alloc)?, m.copy(alloc)?, left, right)),
         }
     }
-
-    /// Whether an expression is the operator over two classes, up to which classes are the same.
-    fn is(
-        self,
-        alloc: Global,
-        log: &Log<'_>,
-        left: ClassId,
-        right: ClassId,
-        expr: &Expr,
-    ) -> Result<bool, AllocError>
-        ensures { IfOk result (λ is. is ≡ spec.alike (knowledge log.now.instances log.now.log) (operators.over_two self.entry left right) expr.now) }
-    {
-        let own = self.over(alloc, left, right)?;
-        alike(alloc, log, &own, expr)
-    }
 }
 
-/// Whether one of the lines has the operator over one class.
-fn any_one(
+/// The class of a line whose expression is this one up to which classes are the same; none where it is another.
+#[tactic(auto, using(crate::proofs::Agreeing::alike_found, crate::proofs::Agreeing::alike_not, crate::proofs::Agreeing::unlike_taken, crate::proofs::Agreeing::unlike_none))]
+fn class_if_alike(
     alloc: Global,
     log: &Log<'_>,
-    operator: OverOne<'_>,
+    expr: &Expr,
+    line: LineId,
+) -> Result<Option<ClassId>, AllocError>
+    ensures { IfOk result (λ found. operators.LineAnswers log.now.log expr.now line found) }
+{
+    let Some(member) = log.member(line) else {
+        return Ok(None);
+    };
+    if !take_same(log, expr, member.expr) {
+        return Ok(None);
+    }
+    if !alike(alloc, log, expr, member.expr)? {
+        return Ok(None);
+    }
+    Ok(Some(member.class))
+}
+
+/// The class of the first of the lines whose expression is this one; none where each has another.
+fn class_among(
+    alloc: Global,
+    log: &Log<'_>,
+    expr: &Expr,
     mut lines: &[LineId],
-) -> Result<bool, AllocError>
-    ensures { IfOk result (λ any. any ≡ list_any (line_passes log.now.log (spec.is_over_one (knowledge log.now.instances log.now.log) (operators.over_one operator.entry) (λ g. true))) lines.entry.now) }
+) -> Result<Option<ClassId>, AllocError>
+    ensures { IfOk result (λ found. operators.ListAnswers log.now.log expr.now lines.entry.now found) }
 {
     'lines: while let [line, rest @ ..] = lines {
-        if is_one(alloc, log, operator, *line)? {
-            return Ok(true);
+        if let Some(class) = class_if_alike(alloc, log, expr, *line)? {
+            return Ok(Some(class));
         }
         lines = rest;
     }
-    Ok(false)
+    Ok(None)
 }
 
-/// Whether a line has the operator over one class.
-#[tactic(auto, using(crate::proofs::Taking::one_is, crate::proofs::Taking::one_unlike, crate::proofs::Taking::one_more))]
-fn is_one(
+/// The class of a line whose expression is this one up to which classes are the same, if there is one.
+fn class_with(
     alloc: Global,
     log: &Log<'_>,
+    over: &[Vec<LineId>],
+    expr: &Expr,
+) -> Result<Option<ClassId>, AllocError>
+    requires { places.AreEntered log.now.log (length log.now.log) (map (λ v. v.items) over.now) }
+    ensures { IfOk result (λ found. operators.Answers log.now.log expr.now found) }
+{
+    let lines = over[place_of(log, expr)].as_slice();
+    let found = class_among(alloc, log, expr, lines)?;
+    Ok(found)
+}
+
+/// The class of a line with the operator over a class, if there are both.
+fn with_one(
+    alloc: Global,
+    log: &Log<'_>,
+    over: &[Vec<LineId>],
     operator: OverOne<'_>,
-    line: LineId,
-) -> Result<bool, AllocError>
-    ensures { IfOk result (λ is. is ≡ line_passes log.now.log (spec.is_over_one (knowledge log.now.instances log.now.log) (operators.over_one operator.entry) (λ g. true)) line) }
+    input: Option<ClassId>,
+) -> Result<Option<ClassId>, AllocError>
+    requires { places.AreEntered log.now.log (length log.now.log) (map (λ v. v.items) over.now) }
+    ensures { IfOk result (λ found. operators.OneAnswers log.now.log (operators.over_one operator.entry) input found) }
 {
-    let Some(member) = log.member(line) else {
-        return Ok(false);
+    let Some(class) = input else {
+        return Ok(None);
     };
-    let (Some(class), None) = inputs(member.expr) else {
-        return Ok(false);
-    };
-    operator.is(alloc, log, class, member.expr)
+    let expr = operator.over(alloc, class)?;
+    let found = class_with(alloc, log, over, &expr)?;
+    Ok(found)
 }
 
-/// Whether one of the lines has the operator over two classes.
-fn any_two(
+/// The class of a line with the operator over two classes, if there are all.
+fn with_two(
     alloc: Global,
     log: &Log<'_>,
+    over: &[Vec<LineId>],
     operator: OverTwo<'_>,
-    mut lines: &[LineId],
-) -> Result<bool, AllocError>
-    ensures { IfOk result (λ any. any ≡ list_any (line_passes log.now.log (spec.is_over_two (knowledge log.now.instances log.now.log) (operators.over_two operator.entry) (λ g. true) (λ g. true))) lines.entry.now) }
+    left: Option<ClassId>,
+    right: Option<ClassId>,
+) -> Result<Option<ClassId>, AllocError>
+    requires { places.AreEntered log.now.log (length log.now.log) (map (λ v. v.items) over.now) }
+    ensures { IfOk result (λ found. operators.TwoAnswers log.now.log (operators.over_two operator.entry) left right found) }
 {
-    'lines: while let [line, rest @ ..] = lines {
-        if is_two(alloc, log, operator, *line)? {
-            return Ok(true);
+    let Some(left) = left else {
+        return Ok(None);
+    };
+    let Some(right) = right else {
+        return Ok(None);
+    };
+    let expr = operator.over(alloc, left, right)?;
+    let found = class_with(alloc, log, over, &expr)?;
+    Ok(found)
+}
+
+/// A class in which a shape stands, if there is one. It stands in those that are the same, and in no other.
+fn class_of(
+    alloc: Global,
+    log: &Log<'_>,
+    over: &[Vec<LineId>],
+    shape: &Shape,
+) -> Result<Option<ClassId>, AllocError>
+    requires entered { places.AreEntered log.now.log (length log.now.log) (map (λ v. v.items) over.now) }
+    requires united { spec.AreUnited log.now.log }
+    ensures { IfOk result (λ found. operators.StandsAs (knowledge log.now.instances log.now.log) log.now.log shape.now found) }
+{
+    match shape {
+        Shape::Class(class) => Ok(Some(*class)),
+        Shape::Select(c, x) => {
+            let x = class_of(alloc, log, over, x.get())?;
+            let found = with_one(alloc, log, over, OverOne::Select(c), x)?;
+            Ok(found)
         }
-        lines = rest;
-    }
-    Ok(false)
-}
-
-/// Whether a line has the operator over two classes.
-#[tactic(auto, using(crate::proofs::Taking::two_is, crate::proofs::Taking::two_unlike, crate::proofs::Taking::two_fewer))]
-fn is_two(
-    alloc: Global,
-    log: &Log<'_>,
-    operator: OverTwo<'_>,
-    line: LineId,
-) -> Result<bool, AllocError>
-    ensures { IfOk result (λ is. is ≡ line_passes log.now.log (spec.is_over_two (knowledge log.now.instances log.now.log) (operators.over_two operator.entry) (λ g. true) (λ g. true)) line) }
-{
-    let Some(member) = log.member(line) else {
-        return Ok(false);
-    };
-    let (Some(left), Some(right)) = inputs(member.expr) else {
-        return Ok(false);
-    };
-    operator.is(alloc, log, left, right, member.expr)
-}
-
-/// The class that a line takes on a side, if there is one.
-fn input_of(log: &Log<'_>, side: Side, line: LineId) -> Option<ClassId>
-    ensures { result ≡ operators.input_of log.now.log side line }
-{
-    let (first, second) = inputs(log.member(line)?.expr);
-    match side {
-        Side::First => first,
-        Side::Second => second,
-    }
-}
-
-/// Whether a line takes a class on a side in which a shape stands.
-#[cycle(standing)]
-fn takes_there(
-    alloc: Global,
-    log: &Log<'_>,
-    side: Side,
-    input: &Boxed<Shape>,
-    line: LineId,
-) -> Result<bool, AllocError>
-    ensures { IfOk result (λ takes. takes ≡ operators.takes_on log.now.log side (spec.is_there (knowledge log.now.instances log.now.log) log.now.log input.now) line) }
-{
-    match input_of(log, side, line) {
-        Some(class) => is_there(alloc, log, input.get(), class),
-        None => Ok(false),
-    }
-}
-
-/// Those of the lines that take a class on a side in which a shape stands.
-#[cycle(standing)]
-fn over_input(
-    alloc: Global,
-    log: &Log<'_>,
-    side: Side,
-    input: &Boxed<Shape>,
-    lines: &[LineId],
-) -> Result<Vec<LineId>, AllocError>
-    ensures { IfOk result (λ kept. kept.items ≡ filter (operators.takes_on log.now.log side (spec.is_there (knowledge log.now.instances log.now.log) log.now.log input.now)) lines.now) }
-{
-    let mut kept = Vec::new(alloc);
-    for line in lines {
-        if takes_there(alloc, log, side, input, *line)? {
-            kept.push(*line)?;
+        Shape::Join(c, a, b) => {
+            let a = class_of(alloc, log, over, a.get())?;
+            let b = class_of(alloc, log, over, b.get())?;
+            let found = with_two(alloc, log, over, OverTwo::Join(c), a, b)?;
+            Ok(found)
+        }
+        Shape::LeftJoin(c, a, b) => {
+            let a = class_of(alloc, log, over, a.get())?;
+            let b = class_of(alloc, log, over, b.get())?;
+            let found = with_two(alloc, log, over, OverTwo::LeftJoin(c), a, b)?;
+            Ok(found)
+        }
+        Shape::Semi(c, a, b) => {
+            let a = class_of(alloc, log, over, a.get())?;
+            let b = class_of(alloc, log, over, b.get())?;
+            let found = with_two(alloc, log, over, OverTwo::Semi(c), a, b)?;
+            Ok(found)
+        }
+        Shape::Anti(s, m, a, b) => {
+            let a = class_of(alloc, log, over, a.get())?;
+            let b = class_of(alloc, log, over, b.get())?;
+            let found = with_two(alloc, log, over, OverTwo::Anti(s, m), a, b)?;
+            Ok(found)
+        }
+        Shape::Keep(k, x) => {
+            let x = class_of(alloc, log, over, x.get())?;
+            let found = with_one(alloc, log, over, OverOne::Keep(k), x)?;
+            Ok(found)
+        }
+        Shape::Distinct(x) => {
+            let x = class_of(alloc, log, over, x.get())?;
+            let found = with_one(alloc, log, over, OverOne::Distinct, x)?;
+            Ok(found)
         }
     }
-    Ok(kept)
-}
-
-/// The lines of a class that take a class first in which a shape stands.
-#[cycle(standing)]
-fn over_class(
-    alloc: Global,
-    log: &Log<'_>,
-    input: &Boxed<Shape>,
-    class: ClassId,
-) -> Result<Vec<LineId>, AllocError>
-    ensures { IfOk result (λ kept. operators.AreOver log.now.log class (spec.is_there (knowledge log.now.instances log.now.log) log.now.log input.now) kept.items) }
-{
-    let members = log.members(alloc, class)?;
-    let kept = over_input(alloc, log, Side::First, input, members.as_slice())?;
-    Ok(kept)
-}
-
-/// Whether a class has a line with the operator over a class in which a shape stands.
-#[cycle(standing)]
-fn has_one(
-    alloc: Global,
-    log: &Log<'_>,
-    operator: OverOne<'_>,
-    input: &Boxed<Shape>,
-    class: ClassId,
-) -> Result<bool, AllocError>
-    ensures { IfOk result (λ has. has ≡ spec.has_line (knowledge log.now.instances log.now.log) log.now.log (spec.is_over_one (knowledge log.now.instances log.now.log) (operators.over_one operator.entry) (spec.is_there (knowledge log.now.instances log.now.log) log.now.log input.now)) class) }
-{
-    let lines = over_class(alloc, log, input, class)?;
-    let has = any_one(alloc, log, operator, lines.as_slice())?;
-    Ok(has)
-}
-
-/// Whether one of the lines, which are those of a class that take a class first of which something is so, has the operator over it and a class in which
-/// a shape stands.
-#[cycle(standing)]
-fn has_two(
-    alloc: Global,
-    log: &Log<'_>,
-    operator: OverTwo<'_>,
-    lines: &[LineId],
-    right: &Boxed<Shape>,
-) -> Result<bool, AllocError>
-    ensures { IfOk result (λ has. (g : ℕ) (p : ℕ → Bool) → operators.AreOver log.now.log g p lines.now → has ≡ spec.has_line (knowledge log.now.instances log.now.log) log.now.log (spec.is_over_two (knowledge log.now.instances log.now.log) (operators.over_two operator.entry) p (spec.is_there (knowledge log.now.instances log.now.log) log.now.log right.now)) g) }
-{
-    let lines = over_input(alloc, log, Side::Second, right, lines)?;
-    let has = any_two(alloc, log, operator, lines.as_slice())?;
-    Ok(has)
 }
 
 /// Whether a shape stands in a class.
-#[cycle(standing)]
-#[tactic(auto, using(crate::proofs::Shapes::there_class, crate::proofs::Shapes::there_select, crate::proofs::Shapes::there_join, crate::proofs::Shapes::there_left_join, crate::proofs::Shapes::there_semi, crate::proofs::Shapes::there_anti, crate::proofs::Shapes::there_keep, crate::proofs::Shapes::there_distinct))]
 pub(crate) fn is_there(
     alloc: Global,
     log: &Log<'_>,
+    over: &[Vec<LineId>],
     shape: &Shape,
     class: ClassId,
 ) -> Result<bool, AllocError>
+    requires entered { places.AreEntered log.now.log (length log.now.log) (map (λ v. v.items) over.now) }
+    requires united { spec.AreUnited log.now.log }
     ensures { IfOk result (λ there. there ≡ spec.is_there (knowledge log.now.instances log.now.log) log.now.log shape.now class) }
 {
-    match shape {
-        Shape::Class(other) => Ok(log.are_same(*other, class)),
-        Shape::Select(c, x) => has_one(alloc, log, OverOne::Select(c), x, class),
-        Shape::Join(c, a, b) => {
-            let lines = over_class(alloc, log, a, class)?;
-            Ok(has_two(alloc, log, OverTwo::Join(c), lines.as_slice(), b)?)
-        }
-        Shape::LeftJoin(c, a, b) => {
-            let lines = over_class(alloc, log, a, class)?;
-            Ok(has_two(alloc, log, OverTwo::LeftJoin(c), lines.as_slice(), b)?)
-        }
-        Shape::Semi(c, a, b) => {
-            let lines = over_class(alloc, log, a, class)?;
-            Ok(has_two(alloc, log, OverTwo::Semi(c), lines.as_slice(), b)?)
-        }
-        Shape::Anti(s, m, a, b) => {
-            let lines = over_class(alloc, log, a, class)?;
-            Ok(has_two(alloc, log, OverTwo::Anti(s, m), lines.as_slice(), b)?)
-        }
-        Shape::Keep(k, x) => has_one(alloc, log, OverOne::Keep(k), x, class),
-        Shape::Distinct(x) => has_one(alloc, log, OverOne::Distinct, x, class),
+    match class_of(alloc, log, over, shape)? {
+        Some(found) => Ok(log.are_same(found, class)),
+        None => Ok(false),
     }
 }
