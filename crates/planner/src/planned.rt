@@ -70,7 +70,7 @@ struct Found {
 }
 
 /// Of more lines nobody asks whether they are closed: that takes longer than to explore them, where classes have many.
-const MOST_JUDGED: usize = 100;
+const MOST_JUDGED: usize = 1_000;
 
 /// What is known of a certificate that fits.
 #[derive(Clone, Copy)]
