@@ -3,16 +3,16 @@
 rows that `run` gives by it aren't sqlite3's.
 
 The queries and tables are those of random_queries.py; the statistics are of tables of any size, so plans of every kind come up. How often each
-node stands in a plan is told at the end. Wants the program built. The seed is fixed, so each run asks the same.
+node stands in a plan is told at the end, and how many lines the certificates have. Wants the program built. The seed is fixed, so each run asks the same.
 
-usage: planned_queries.py [COUNT [SEED]]
+usage: planned_queries.py [--program PATH] [--limit LINES] [COUNT [SEED]]
 """
+import argparse
 import collections
 import json
 import pathlib
 import random
 import subprocess
-import sys
 import tempfile
 
 from random_queries import INDEXES, PROGRAM, TABLES, Maker, agree, rows_of, theirs, write_inputs
@@ -28,8 +28,8 @@ def statistics(rng):
     return json.dumps({"tables": tables})
 
 
-def said(*words):
-    run = subprocess.run([PROGRAM, *words], capture_output=True, text=True, check=False)
+def said(program, *words):
+    run = subprocess.run([program, *words], capture_output=True, text=True, check=False)
     return run.returncode, run.stdout if run.returncode == 0 else run.stderr.strip()
 
 
@@ -37,41 +37,47 @@ def rows_in(text):
     return [tuple(field.strip('"') for field in line.split(",")) for line in text.split("\n")[1:-1]]
 
 
-def fault(folder, query, wanted, nodes):
+def fault(options, folder, query, wanted, nodes):
     """What is wrong with the plan of a query, if something is; None where it is too large to be taken."""
     asked = [folder / "schema.json", folder / "query.sql"]
-    status, certificate = said("plan", *asked, folder / "stats.json")
+    status, certificate = said(options.program, "plan", *asked, folder / "stats.json", "--limit", options.limit)
     if status:
         return None if certificate == "refused B10 at 0" else certificate
     (folder / "plan.cert").write_text(certificate)
+    nodes["lines"] += int(certificate.split("\n")[1].split()[1])
     nodes.update(line.split()[0] for line in certificate.split("\nplan ")[1].split("\n")[1:-2])
-    if said("check", *asked, folder / "plan.cert") != (0, "accepted\n"):
+    if said(options.program, "check", *asked, folder / "plan.cert") != (0, "accepted\n"):
         return "not accepted"
-    status, answer = said("run", *asked, folder / "plan.cert", folder)
+    status, answer = said(options.program, "run", *asked, folder / "plan.cert", folder)
     if status:
         return answer
     return "" if agree(query, wanted, rows_in(answer)) else f"other rows: {answer}"
 
 
 def main():
-    count = int(sys.argv[1]) if len(sys.argv) > 1 else 1000
-    rng = random.Random(int(sys.argv[2]) if len(sys.argv) > 2 else 40)
+    parser = argparse.ArgumentParser(usage=__doc__)
+    parser.add_argument("--program", default=PROGRAM)
+    parser.add_argument("--limit", default="20000")
+    parser.add_argument("count", nargs="?", type=int, default=1000)
+    parser.add_argument("seed", nargs="?", type=int, default=40)
+    options = parser.parse_args()
+    rng = random.Random(options.seed)
     wrong, too_large, nodes = 0, 0, collections.Counter()
     with tempfile.TemporaryDirectory() as name:
         folder = pathlib.Path(name)
-        for _ in range(count):
+        for _ in range(options.count):
             tables = {name: rows_of(rng, kinds.values()) for name, kinds in TABLES.items()}
             query = Maker(rng).select(outermost=True)
             write_inputs(folder, tables)
             (folder / "query.sql").write_text(query)
             (folder / "stats.json").write_text(statistics(rng))
-            found = fault(folder, query, theirs(tables, query), nodes)
+            found = fault(options, folder, query, theirs(tables, query), nodes)
             if found is None:
                 too_large += 1
             elif found:
                 wrong += 1
                 print(f"{query}\n  {found}\n{(folder / 'stats.json').read_text()}")
-    print(f"{count} queries planned, {too_large} too large to be taken, {wrong} wrong; nodes {dict(sorted(nodes.items()))}")
+    print(f"{options.count} queries planned, {too_large} too large to be taken, {wrong} wrong; nodes {dict(sorted(nodes.items()))}")
 
 
 if __name__ == "__main__":
