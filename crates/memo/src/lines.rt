@@ -8,7 +8,7 @@ ghost use Rattle.logs.specs.Sets.{times};
 ghost use Rattle.memo.specs.Growth.{Extends, Grows, IsWithin};
 
 use crate::groups::Groups;
-use crate::keys::{ConditionNumbers, Key, Keys, Operation, operation_of};
+use crate::keys::{ConditionNumbers, Key, Keys, Operation, named_key, operation_of};
 use crate::unadded::{Unadded, unless_refused};
 use algebra::{ClassId, Expr, LineId};
 use derivation::Line;
@@ -257,14 +257,9 @@ impl<'q> Memo<'q> {
     }
 
     /// The first line with an expression, its classes being named as here.
-    pub(crate) fn named(&mut self, alloc: Global, expr: &Expr) -> Result<Option<Member>, AllocError>
-        ensures log { self.new.log ≡ self.old.log }
-        ensures limit { self.new.limit ≡ self.old.limit }
-    {
-        let keys = self
-            .conditions
-            .keys(alloc, operation_of(expr), &self.groups)?;
-        Ok(self.member(self.named.get(&keys.named).copied()))
+    pub(crate) fn named(&self, alloc: Global, expr: &Expr) -> Result<Option<Member>, AllocError> {
+        let key = named_key(alloc, operation_of(expr))?;
+        Ok(self.member(self.named.get(&key).copied()))
     }
 
     /// A line with the expression that does this, up to which classes are the same.
