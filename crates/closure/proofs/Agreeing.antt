@@ -1,5 +1,5 @@
 -- Lines that are alike take the same classes, so they stand in one place.
-use Rattle.std.proofs.Common.{◌≡◌, ◌≢◌, ◌↔◌, refl, ap, sym, ◌∙◌, subst, ℕ, ◌<◌, ◌≤◌, Bool, true, false, not, ◌||◌, ◌==◌, nat_lt, if◌then◌else◌, List, [], ◌∷◌, ◌++◌, length, map, set, take, drop, get_or, ◌-◌, slice_get, option_map, Option, Some, None, IsTrue, Vec, Global, arith}
+use Rattle.std.proofs.Common.{◌≡◌, ◌≢◌, refl, ap, sym, ◌∙◌, subst, ℕ, ◌<◌, ◌≤◌, Bool, true, false, ◌||◌, ◌==◌, nat_lt, if◌then◌else◌, List, [], ◌∷◌, ◌++◌, length, map, set, take, drop, get_or, ◌-◌, slice_get, option_map, Option, Some, None, IsTrue, Vec, Global, arith}
 use Rattle.std.specs.List.{AllByRecursion}
 use Rattle.std.proofs.lemmas.Bool.{lt-ltb, ltb-true, eq-eqb, eqb-true}
 use Rattle.std.proofs.lemmas.List.{map-set, get_or-set_same, get_or-set_other, length-map, take_all}
@@ -14,11 +14,11 @@ use Rattle.algebra.specs.Expressions.{children}
 use Rattle.algebra.proofs.Same.{same-expr, equal_expr}
 use Rattle.props.specs.Knowledge.{Knowledge}
 use Rattle.rules.specs.Matches as matches
-use Rattle.derivation.specs.Logs.{Log, member, are_same, least, knowledge}
+use Rattle.derivation.specs.Logs.{Log, member, least, knowledge}
 use Rattle.derivation.proofs.Lookups.{member-within}
 use Rattle.closure.specs.Closed.{alike}
 use Rattle.closure.specs.Operators.{IsUnlike, LineAnswers, ListAnswers, Answers}
-use Rattle.closure.specs.Places.{place, place_by, AreEntered, AgreesAt, AgreesWithAll}
+use Rattle.closure.specs.Places.{place, place_by, AreEntered}
 
 -- ---- the test
 
@@ -30,17 +30,6 @@ are-alike instances E x y is = ap (λ z. alike_to z) is ∙ same-expr (rooted (l
   where
     alike_to : Expr → Bool
     alike_to z = same_expr z (rooted (least E) y)
-
-pub same_agree : (P Q : Type 0) → Q → IsTrue true ↔ (P → Q)
-same_agree P Q q = (λ _ _. q, λ _. refl)
-
-pub unlike_agree : (t : Bool) (P Q : Type 0) → (P → IsTrue t) → t ≡ false → IsTrue true ↔ (P → Q)
-unlike_agree true P Q to is = cc
-unlike_agree false P Q to is = (λ _ p. absurd (let never : false ≡ true = to p in cc), λ _. refl)
-
-pub alike_agree : (instances : List TableInstance) (E : Log) (x y : Expr) (b : Bool) (s : Bool) → b ≡ alike (knowledge instances E) x y → s ≡ false → IsTrue (not b) ↔ (AreAlike (least E) x y → s ≡ true)
-alike_agree instances E x y true s is other = (λ never. absurd (let e : false ≡ true = never in cc), λ same. absurd (let e : true ≡ false = sym (same (alike-are instances E x y (sym is))) ∙ other in cc))
-alike_agree instances E x y false s is other = (λ _ are. absurd (let e : false ≡ true = is ∙ are-alike instances E x y are in cc), λ _. refl)
 
 -- ---- places
 
@@ -118,10 +107,6 @@ each-of P (k ∷ ns) all n is = by (each-of P ns all.1 n) (k == n) refl is
     by later true e is = subst P (eqb-true k n e) all.0
     by later false e is = later is
 
-all-of : (P : ℕ → Type 0) → ((n : ℕ) → P n) → (ns : List ℕ) → AllByRecursion P ns
-all-of P each [] = tt
-all-of P each (n ∷ ns) = (each n, all-of P each ns)
-
 -- ---- lines in their places
 
 -- a list where one of those in it is another
@@ -157,21 +142,6 @@ module _ (xs : List (Vec ℕ Global)) (p line : ℕ) (old : List ℕ) (w : Vec �
           ap (λ q. has (columns_at (map (λ v. v.items) (set xs p w)) q) n) here ∙ ap (λ ns. has ns n) (set-there xs p w lt ∙ new)
           ∙ has-more old line n (ap (λ ns. has ns n) (sym was) ∙ sym (ap (λ q. has (columns_at (map (λ v. v.items) xs) q) n) here) ∙ is)
       by false e = ap (λ ns. has ns n) (set-elsewhere xs p q w (λ here. let never : true ≡ false = sym (eq-eqb q p here) ∙ e in cc)) ∙ is
-
-pub all_agree : (E : Log) (over : List (List ℕ)) (line : ℕ) (k : matches.Line) (lines : List ℕ) (b : Bool) → AreEntered E (length E) over → member E line ≡ Some k → lines ≡ columns_at over (place E k.expr)
-    → IsTrue b ↔ AllByRecursion (AgreesAt E k) lines → IsTrue b ↔ AgreesWithAll E line
-all_agree E over line k lines b entered there is agree = (to, from)
-  where
-    to : IsTrue b → AgreesWithAll E line
-    to yes_ m at j l other are =
-        let same : m ≡ k = let e : Some m ≡ Some k = sym at ∙ there in cc in
-        let alike_ : AreAlike (least E) k.expr l.expr = subst (λ (m : matches.Line). AreAlike (least E) m.expr l.expr) same are in
-        let listed : has lines j ≡ true =
-        ap (λ ns. has ns j) is ∙ ap (λ q. has (columns_at over q) j) (alike-place E k.expr l.expr alike_) ∙ entered.entered j l (member-within E j l other) other in
-        subst (λ (m : matches.Line). are_same E m.class l.class ≡ true) (sym same) (each-of (AgreesAt E k) lines (agree.0 yes_) j listed l other alike_)
-
-    from : AgreesWithAll E line → IsTrue b
-    from all = agree.1 (all-of (AgreesAt E k) (λ j. all k there j) lines)
 
 -- ---- the class of a line with an expression
 

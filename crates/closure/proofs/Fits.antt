@@ -1,6 +1,5 @@
 -- Each rule is applied to one line or to two, of which the second is of the class that the first takes first.
-use Rattle.std.proofs.Common.{◌≡◌, ◌≢◌, ◌↔◌, refl, ap, sym, ◌∙◌, subst, ℕ, ◌+◌, ◌<◌, Bool, true, false, ◌==◌, if◌then◌else◌, List, [], ◌∷◌, slice_get, Result, Ok, Err, IsTrue, Option, Some, None, arith}
-use Rattle.std.specs.List.{AllByRecursion}
+use Rattle.std.proofs.Common.{◌≡◌, ◌≢◌, refl, ap, sym, ◌∙◌, subst, ℕ, ◌+◌, ◌<◌, Bool, true, false, ◌==◌, if◌then◌else◌, List, [], ◌∷◌, slice_get, Result, Ok, Option, Some, None, arith}
 use Rattle.std.proofs.lemmas.Bool.{eqb-true, eq-eqb}
 use Rattle.values.specs.Faults.{◌>>=◌, wanted}
 use Rattle.query.specs.declared.query.TableInstance.{TableInstance}
@@ -19,13 +18,9 @@ use Rattle.rules.specs.Matches.{Matched, one_line, two_lines, the_two, takes, is
 use Rattle.derivation.specs.Logs as logs
 use Rattle.derivation.specs.Logs.{Log, member}
 use Rattle.derivation.specs.Replay.{both_lines, members}
-use Rattle.logs.specs.Members.{is_member, is_of, once_if}
-use Rattle.logs.specs.Sets.{times}
-use Rattle.logs.proofs.Relabelled.{all-from-has}
+use Rattle.logs.specs.Members.{is_member, is_of}
 use Rattle.closure.specs.Closed.{HasResult, HasResults, is_there}
-use Rattle.closure.specs.Lines.{HasResultsOver, HasResultsOverClass, HasResultsAt, HasResultsOf}
-use Rattle.closure.proofs.Agreeing.{each-of}
-use Rattle.closure.proofs.AnyLine.{is-listed, listed-is}
+use Rattle.closure.specs.Lines.{HasResultsAt, HasResultsOf}
 
 -- lines of which the first has an expression, and the others
 record Cited (E : Log) (uses : List ℕ) (top : matches.Line) (others : List matches.Line) : Type 0 where
@@ -165,10 +160,10 @@ module _ (instances : List TableInstance) (E : Log) where
   pub results-from : ((i : ℕ) → HasResultsOf instances E i) → HasResults instances E
   results-from each rule pick uses top others is = all-results each pick uses top others is rule
 
-  cited-one : (i : ℕ) (top : matches.Line) → member E i ≡ Some top → members E (i ∷ []) ≡ Some (top ∷ [])
+  pub cited-one : (i : ℕ) (top : matches.Line) → member E i ≡ Some top → members E (i ∷ []) ≡ Some (top ∷ [])
   cited-one i top there = ap (λ o. both_lines o (Some [])) there
 
-  cited-two : (i n : ℕ) (top l : matches.Line) → member E i ≡ Some top → member E n ≡ Some l → members E (i ∷ n ∷ []) ≡ Some (top ∷ l ∷ [])
+  pub cited-two : (i n : ℕ) (top l : matches.Line) → member E i ≡ Some top → member E n ≡ Some l → members E (i ∷ n ∷ []) ≡ Some (top ∷ l ∷ [])
   cited-two i n top l there other = ap (λ o. both_lines o (members E (n ∷ []))) there ∙ ap (both_lines (Some top)) (cited-one n l other)
 
   -- and the other way round
@@ -180,31 +175,7 @@ module _ (instances : List TableInstance) (E : Log) where
         (it JoinAssociates, (it SelectsMerge, (it SelectBelowJoin, (it SelectIntoJoin, (it SelectBelowSemi, (it KeepsMerge, (it KeepBelowJoin, tt)))))));
   }
 
--- ---- one result
-
-pub result_there : (K : Knowledge) (E : Log) (given : Result Shape Unfit) (shape : Shape) (class : ℕ) (b : Bool) → given ≡ Ok shape → b ≡ is_there K E shape class
-    → IsTrue b ↔ ((s : Shape) → given ≡ Ok s → is_there K E s class ≡ true)
-result_there K E given shape class b is there = (
-  λ yes_ s at. let same : shape ≡ s = let e : Ok shape ≡ Ok s = sym is ∙ at in cc in ap (λ s. is_there K E s class) (sym same) ∙ sym there ∙ yes_,
-  λ all. there ∙ all shape is,
-)
-
-pub result_none : (K : Knowledge) (E : Log) (given : Result Shape Unfit) (u : Unfit) (class : ℕ) → given ≡ Err u → IsTrue true ↔ ((s : Shape) → given ≡ Ok s → is_there K E s class ≡ true)
-result_none K E given u class is = (λ _ s at. absurd (let never : Err u ≡ Ok s = sym is ∙ at in cc), λ _. refl)
-
--- ---- over the lines of a class
-
-pub over_class_results : (instances : List TableInstance) (E : Log) (top : matches.Line) (input : ℕ) (found : List ℕ) (b : Bool) → slice_get (children top.expr) 0 ≡ Some input
-    → ((n : ℕ) → times n found ≡ once_if (is_member E input n)) → IsTrue b ↔ AllByRecursion (HasResultsOver instances E top) found → IsTrue b ↔ HasResultsOverClass instances E top
-over_class_results instances E top input found b first exact all = (to, from)
-  where
-    to : IsTrue b → HasResultsOverClass instances E top
-    to yes_ g n at of =
-        let same : g ≡ input = let e : Some g ≡ Some input = sym at ∙ first in cc in
-        each-of (HasResultsOver instances E top) found (all.0 yes_) n (is-listed E input found exact n (ap (λ g. is_member E g n) (sym same) ∙ of))
-
-    from : HasResultsOverClass instances E top → IsTrue b
-    from over = all.1 (all-from-has (HasResultsOver instances E top) found (λ n listed. over input n first (listed-is E input found exact n listed)))
+-- ---- so far
 
 -- what is so of each number so far, and of the next
 pub so-far : (P : ℕ → Type 0) (n : ℕ) → ((i : ℕ) → i < n → P i) → P n → (i : ℕ) → i < n + 1 → P i

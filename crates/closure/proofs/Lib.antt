@@ -1,5 +1,11 @@
 pub mod Agreeing
 pub mod AnyLine
 pub mod Fits
+pub mod FormedLogs
+pub mod FormedResults
+pub mod FormedShapes
+pub mod Lacking
+pub mod Results
 pub mod Shapes
+pub mod SpeltShapes
 pub mod Unique

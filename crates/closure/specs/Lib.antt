@@ -1,4 +1,8 @@
 pub mod Closed
+pub mod Formed
+pub mod Lacking
 pub mod Lines
 pub mod Operators
 pub mod Places
+pub mod Results
+pub mod Spelt

@@ -1,5 +1,5 @@
 -- Lines by the classes that their expressions take first.
-use Rattle.std.specs.Prelude.{◌≡◌, ℕ, ◌+◌, ◌<◌, true, nat_lt, if◌then◌else◌, List, length, slice_get, Option, Some, None}
+use Rattle.std.specs.Prelude.{◌≡◌, ℕ, ◌+◌, ◌<◌, Bool, true, false, nat_lt, if◌then◌else◌, List, length, slice_get, Option, Some, None}
 use Rattle.algebra.specs.declared.expr.Expr.{Expr}
 use Rattle.algebra.specs.Alike.{AreAlike}
 use Rattle.algebra.specs.Columns.{has, columns_at}
@@ -28,3 +28,8 @@ AgreesAt E k j = (l : matches.Line) → member E j ≡ Some l → AreAlike (leas
 -- so it is with each line, whether it has an expression or not
 abbrev pub AgreesWithAll : Log → ℕ → Type 0
 AgreesWithAll E i = (k : matches.Line) → member E i ≡ Some k → (j : ℕ) → AgreesAt E k j
+
+-- whether two lines are alike, and of classes that aren't the same
+abbrev pub Disagree : Log → matches.Line → matches.Line → Bool → Type 0
+Disagree E k l true = AreAlike (least E) k.expr l.expr × (are_same E k.class l.class ≡ false)
+Disagree E k l false = AreAlike (least E) k.expr l.expr → are_same E k.class l.class ≡ true

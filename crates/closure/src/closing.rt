@@ -1,17 +1,15 @@
-//! Whether each rule's result is there.
+//! What a log lacks to be closed.
 
-ghost use Rattle.std.specs.Prelude.{◌≡◌, ◌↔◌, ◌∷◌, [], ℕ, true, length, map, slice_get, IsTrue, IfOk, Some, Ok};
-ghost use Rattle.std.specs.List.{AllByRecursion};
-ghost use Rattle.rules.specs.declared.shape.Shape.{Shape};
-ghost use Rattle.rules.specs.Book.{given_by};
+ghost use Rattle.std.specs.Prelude.{◌≡◌, ◌↔◌, ◌∷◌, [], length, map, IsTrue, IfOk, IfSome, None};
 ghost use Rattle.rules.specs.Matches.{line_in};
-ghost use Rattle.derivation.specs.Logs.{knowledge};
 ghost use Rattle.closure.specs.Closed as spec;
-ghost use Rattle.closure.specs.Lines as lines_;
+ghost use Rattle.closure.specs.Closed.{AreUnited};
+ghost use Rattle.closure.specs.Lacking as lacking_;
 ghost use Rattle.closure.specs.Places.{AreEntered};
 
 use crate::inputs::inputs;
-use crate::pairs::{are_united, lines_over};
+use crate::lacks::{Binding, Missing};
+use crate::pairs::{disagreeing, lines_over};
 use crate::standing::is_there;
 use algebra::LineId;
 use logs::Log;
@@ -50,8 +48,8 @@ fn has_result(
     top: MatchedLine<'_>,
 ) -> Result<bool, AllocError>
     requires entered { AreEntered log.now.log (length log.now.log) (map (λ v. v.items) over.now) }
-    requires united { spec.AreUnited log.now.log }
-    ensures { IfOk result (λ has. IsTrue has ↔ ((s : Shape) → given_by rule (record { lines = map line_in lines.now; pick = 0; classes = knowledge log.now.instances log.now.log }) ≡ Ok s → spec.is_there (knowledge log.now.instances log.now.log) log.now.log s top.entry.class ≡ true)) }
+    requires united { AreUnited log.now.log }
+    ensures { IfOk result (λ has. lacking_.ResultTold log.now.instances log.now.log rule (map line_in lines.now) top.entry.class has) }
 {
     let at = Match {
         lines,
@@ -68,155 +66,184 @@ fn has_result(
     }
 }
 
-/// Whether what the rules give at a line stands in its class.
-fn has_results_at(
+/// The first of the rules whose result at a line doesn't stand in its class, if there is one.
+fn lacking_at(
     alloc: Global,
     log: &Log<'_>,
     over: &[Vec<LineId>],
     mut rules: &[RuleName],
     top: MatchedLine<'_>,
-) -> Result<bool, AllocError>
+) -> Result<Option<RuleName>, AllocError>
     requires entered { AreEntered log.now.log (length log.now.log) (map (λ v. v.items) over.now) }
-    requires united { spec.AreUnited log.now.log }
-    ensures { IfOk result (λ has. IsTrue has ↔ AllByRecursion (λ rule. spec.HasResult log.now.instances log.now.log rule 0 (line_in top.entry) []) rules.entry.now) }
+    requires united { AreUnited log.now.log }
+    ensures { IfOk result (λ found. lacking_.LackingAmong log.now.instances log.now.log rules.entry.now (line_in top.entry) [] found) }
 {
     'rules: while let [rule, rest @ ..] = rules {
         if !has_result(alloc, log, over, *rule, &[top], top)? {
-            return Ok(false);
+            return Ok(Some(*rule));
         }
         rules = rest;
     }
-    Ok(true)
+    Ok(None)
 }
 
-/// Whether what the rules give at two lines stands in the class of the first.
-fn has_results_at_two(
+/// The first of the rules whose result at two lines doesn't stand in the class of the first, if there is one.
+fn lacking_at_two(
     alloc: Global,
     log: &Log<'_>,
     over: &[Vec<LineId>],
     mut rules: &[RuleName],
     top: MatchedLine<'_>,
     below: MatchedLine<'_>,
-) -> Result<bool, AllocError>
+) -> Result<Option<RuleName>, AllocError>
     requires entered { AreEntered log.now.log (length log.now.log) (map (λ v. v.items) over.now) }
-    requires united { spec.AreUnited log.now.log }
-    ensures { IfOk result (λ has. IsTrue has ↔ AllByRecursion (λ rule. spec.HasResult log.now.instances log.now.log rule 0 (line_in top.entry) (line_in below.entry ∷ [])) rules.entry.now) }
+    requires united { AreUnited log.now.log }
+    ensures { IfOk result (λ found. lacking_.LackingAmong log.now.instances log.now.log rules.entry.now (line_in top.entry) (line_in below.entry ∷ []) found) }
 {
     'rules: while let [rule, rest @ ..] = rules {
         if !has_result(alloc, log, over, *rule, &[top, below], top)? {
-            return Ok(false);
+            return Ok(Some(*rule));
         }
         rules = rest;
     }
-    Ok(true)
+    Ok(None)
 }
 
-/// Whether what the rules for two lines give at a line and another one stands in its class.
-fn has_results_over_line(
+/// A rule for two lines whose result at a line and another one doesn't stand in its class, if there is one.
+fn lacking_over_line(
     alloc: Global,
     log: &Log<'_>,
     over: &[Vec<LineId>],
     top: MatchedLine<'_>,
     line: LineId,
-) -> Result<bool, AllocError>
+) -> Result<Option<RuleName>, AllocError>
     requires entered { AreEntered log.now.log (length log.now.log) (map (λ v. v.items) over.now) }
-    requires united { spec.AreUnited log.now.log }
-    ensures { IfOk result (λ has. IsTrue has ↔ lines_.HasResultsOver log.now.instances log.now.log (line_in top.entry) line) }
+    requires united { AreUnited log.now.log }
+    ensures { IfOk result (λ found. lacking_.LackingOverLine log.now.instances log.now.log (line_in top.entry) line found) }
 {
     match log.member(line) {
         Some(below) => {
-            let has = has_results_at_two(alloc, log, over, &TWO_LINES, top, below)?;
-            Ok(has)
+            let found = lacking_at_two(alloc, log, over, &TWO_LINES, top, below)?;
+            Ok(found)
         }
-        None => Ok(true),
+        None => Ok(None),
     }
 }
 
-/// Whether it is so over each of the lines.
-fn has_results_over(
+/// Such a rule, and the line, among lines.
+fn lacking_over(
     alloc: Global,
     log: &Log<'_>,
     over: &[Vec<LineId>],
     top: MatchedLine<'_>,
     mut lines: &[LineId],
-) -> Result<bool, AllocError>
+) -> Result<Option<(RuleName, LineId)>, AllocError>
     requires entered { AreEntered log.now.log (length log.now.log) (map (λ v. v.items) over.now) }
-    requires united { spec.AreUnited log.now.log }
-    ensures { IfOk result (λ has. IsTrue has ↔ AllByRecursion (lines_.HasResultsOver log.now.instances log.now.log (line_in top.entry)) lines.entry.now) }
+    requires united { AreUnited log.now.log }
+    ensures { IfOk result (λ found. lacking_.LackingOver log.now.instances log.now.log (line_in top.entry) lines.entry.now found) }
 {
     'lines: while let [line, rest @ ..] = lines {
-        if !has_results_over_line(alloc, log, over, top, *line)? {
-            return Ok(false);
+        if let Some(rule) = lacking_over_line(alloc, log, over, top, *line)? {
+            return Ok(Some((rule, *line)));
         }
         lines = rest;
     }
-    Ok(true)
+    Ok(None)
 }
 
-/// Whether it is so over each line of the class that the line takes first.
-fn has_results_over_class(
+/// Such a rule, and the line, among those of the class that the line takes first.
+fn lacking_over_class(
     alloc: Global,
     log: &Log<'_>,
     over: &[Vec<LineId>],
     top: MatchedLine<'_>,
-) -> Result<bool, AllocError>
+) -> Result<Option<(RuleName, LineId)>, AllocError>
     requires entered { AreEntered log.now.log (length log.now.log) (map (λ v. v.items) over.now) }
-    requires united { spec.AreUnited log.now.log }
-    ensures { IfOk result (λ has. IsTrue has ↔ lines_.HasResultsOverClass log.now.instances log.now.log (line_in top.entry)) }
+    requires united { AreUnited log.now.log }
+    ensures { IfOk result (λ found. lacking_.LackingOverClass log.now.instances log.now.log (line_in top.entry) found) }
 {
     match inputs(top.expr) {
         (Some(input), _) => {
             let lines = log.members(alloc, input)?;
-            let has = has_results_over(alloc, log, over, top, lines.as_slice())?;
-            Ok(has)
+            let found = lacking_over(alloc, log, over, top, lines.as_slice())?;
+            Ok(found)
         }
-        (None, _) => Ok(true),
+        (None, _) => Ok(None),
     }
 }
 
-/// Whether what each rule gives at a line, alone or over another one, stands in its class.
-fn has_results_of(
+/// A rule with a line, alone or over another one, whose result doesn't stand in the line's class, if there is one.
+fn lacking_of(
     alloc: Global,
     log: &Log<'_>,
     over: &[Vec<LineId>],
     line: LineId,
-) -> Result<bool, AllocError>
+) -> Result<Option<Binding>, AllocError>
     requires entered { AreEntered log.now.log (length log.now.log) (map (λ v. v.items) over.now) }
-    requires united { spec.AreUnited log.now.log }
-    ensures { IfOk result (λ has. IsTrue has ↔ lines_.HasResultsOf log.now.instances log.now.log line) }
+    requires united { AreUnited log.now.log }
+    ensures { IfOk result (λ found. lacking_.LackingAt log.now.instances log.now.log line found) }
 {
     let Some(top) = log.member(line) else {
-        return Ok(true);
+        return Ok(None);
     };
-    if !has_results_at(alloc, log, over, &ONE_LINE, top)? {
-        return Ok(false);
+    if let Some(rule) = lacking_at(alloc, log, over, &ONE_LINE, top)? {
+        return Ok(Some(Binding {
+            rule,
+            top: line,
+            below: None,
+        }));
     }
-    let has = has_results_over_class(alloc, log, over, top)?;
-    Ok(has)
+    match lacking_over_class(alloc, log, over, top)? {
+        Some((rule, below)) => Ok(Some(Binding {
+            rule,
+            top: line,
+            below: Some(below),
+        })),
+        None => Ok(None),
+    }
 }
 
-/// Whether what each rule gives at lines stands in the class of the top one.
-fn has_results(alloc: Global, log: &Log<'_>, over: &[Vec<LineId>]) -> Result<bool, AllocError>
+/// A rule with lines whose result doesn't stand in the class of the top one, if there is one.
+fn lacking(
+    alloc: Global,
+    log: &Log<'_>,
+    over: &[Vec<LineId>],
+) -> Result<Option<Binding>, AllocError>
     requires entered { AreEntered log.now.log (length log.now.log) (map (λ v. v.items) over.now) }
-    requires united { spec.AreUnited log.now.log }
-    ensures { IfOk result (λ has. IsTrue has ↔ spec.HasResults log.now.instances log.now.log) }
+    requires united { AreUnited log.now.log }
+    ensures { IfOk result (λ found. lacking_.Lacking log.now.instances log.now.log found) }
 {
     for line in 0..id_of(log.len())? {
-        if !has_results_of(alloc, log, over, line)? {
-            return Ok(false);
+        if let Some(binding) = lacking_of(alloc, log, over, line)? {
+            return Ok(Some(binding));
         }
     }
-    Ok(true)
+    Ok(None)
+}
+
+/// What a log lacks to be closed: two lines that are alike and of classes that aren't the same, else a rule with lines whose result doesn't stand in the
+/// class of the top one. None where the log is closed.
+pub fn missing(alloc: Global, log: &Log<'_>) -> Result<Option<Missing>, AllocError>
+    ensures none { IfOk result (λ found. found ≡ None → spec.IsClosed log.now.instances log.now.log) }
+    ensures some { IfOk result (λ found. IfSome found (λ m. lacking_.IsMissing log.now.instances log.now.log m)) }
+{
+    let over = lines_over(alloc, log)?;
+    if let Some((first, second)) = disagreeing(alloc, log, over.as_slice())? {
+        return Ok(Some(Missing::Alike(first, second)));
+    }
+    match lacking(alloc, log, over.as_slice())? {
+        Some(binding) => Ok(Some(Missing::Result(binding))),
+        None => Ok(None),
+    }
 }
 
 /// Whether a log is closed: whether whatever rules give at its lines stands there already, and lines that are alike are of classes that are the same.
+#[tactic(auto, using(crate::proofs::Lacking::missing_open))]
 pub fn is_closed(alloc: Global, log: &Log<'_>) -> Result<bool, AllocError>
     ensures { IfOk result (λ closed. IsTrue closed ↔ spec.IsClosed log.now.instances log.now.log) }
 {
-    let over = lines_over(alloc, log)?;
-    if !are_united(alloc, log, over.as_slice())? {
-        return Ok(false);
+    match missing(alloc, log)? {
+        Some(_) => Ok(false),
+        None => Ok(true),
     }
-    let has = has_results(alloc, log, over.as_slice())?;
-    Ok(has)
 }

@@ -1,9 +1,14 @@
-//! Whether a log is closed: whether each rule's result at each of its lines stands there already.
+//! Whether a log is closed: whether each rule's result at each of its lines stands there already; and what it lacks, if it isn't.
 #![tactic(auto)]
 
 mod closing;
 mod inputs;
+mod lacks;
+mod nearer;
 mod pairs;
+mod spelt;
 mod standing;
 
-pub use closing::is_closed;
+pub use closing::{is_closed, missing};
+pub use lacks::{Binding, Missing};
+pub use nearer::{next_line, results_may_stand};

@@ -1,4 +1,4 @@
-//! Whether lines that are alike are of classes that are the same.
+//! Lines that are alike, and of classes that aren't the same.
 
 ghost use Rattle.std.specs.Prelude.{◌≡◌, ◌+◌, ◌<◌, ◌↔◌, ℕ, true, length, map, option_map, IsTrue, IfOk, OnOk, Some};
 ghost use Rattle.std.specs.List.{AllByRecursion};
@@ -8,6 +8,7 @@ ghost use Rattle.rules.specs.Matches as matches;
 ghost use Rattle.rules.specs.Matches.{line_in};
 ghost use Rattle.derivation.specs.Logs as logs_;
 ghost use Rattle.closure.specs.Closed as spec;
+ghost use Rattle.closure.specs.Lacking as lacking_;
 ghost use Rattle.closure.specs.Places as places;
 
 use crate::inputs::inputs;
@@ -65,23 +66,24 @@ pub(crate) fn take_same(log: &Log<'_>, expr: &Expr, other: &Expr) -> bool
     are_same_inputs(log, first, other_first) && are_same_inputs(log, second, other_second)
 }
 
-/// Whether two lines are of classes that are the same, or aren't alike.
-#[tactic(auto, using(crate::proofs::Agreeing::same_agree, crate::proofs::Agreeing::unlike_agree, crate::proofs::Agreeing::alike_agree))]
-fn agree(
+/// Whether two lines are alike, and of classes that aren't the same.
+#[tactic(auto, using(crate::proofs::Lacking::same_agree, crate::proofs::Lacking::untaken_agree, crate::proofs::Lacking::alike_disagree))]
+fn disagree(
     alloc: Global,
     log: &Log<'_>,
     one: MatchedLine<'_>,
     other: MatchedLine<'_>,
 ) -> Result<bool, AllocError>
-    ensures { IfOk result (λ agree. IsTrue agree ↔ (AreAlike (logs_.least log.now.log) one.entry.expr.now other.entry.expr.now → logs_.are_same log.now.log one.entry.class other.entry.class ≡ true)) }
+    ensures { IfOk result (λ disagree. places.Disagree log.now.log (line_in one.entry) (line_in other.entry) disagree) }
 {
     if log.are_same(one.class, other.class) {
-        return Ok(true);
+        return Ok(false);
     }
     if !take_same(log, one.expr, other.expr) {
-        return Ok(true);
+        return Ok(false);
     }
-    Ok(!alike(alloc, log, one.expr, other.expr)?)
+    let disagree = alike(alloc, log, one.expr, other.expr)?;
+    Ok(disagree)
 }
 
 /// Adds a line to those that take the same class first.
@@ -114,59 +116,59 @@ pub(crate) fn lines_over(alloc: Global, log: &Log<'_>) -> Result<Vec<Vec<LineId>
     Ok(over)
 }
 
-/// Whether a line agrees with each of others.
-fn agrees_with(
+/// The first of the lines that is alike and of another class than the one, if there is one.
+fn disagreeing_among(
     alloc: Global,
     log: &Log<'_>,
     one: MatchedLine<'_>,
     mut lines: &[LineId],
-) -> Result<bool, AllocError>
-    ensures { IfOk result (λ agrees. IsTrue agrees ↔ AllByRecursion (places.AgreesAt log.now.log (line_in one.entry)) lines.entry.now) }
+) -> Result<Option<LineId>, AllocError>
+    ensures { IfOk result (λ found. lacking_.DisagreeingAmong log.now.log (line_in one.entry) lines.entry.now found) }
 {
     'lines: while let [line, rest @ ..] = lines {
         if let Some(other) = log.member(*line) {
-            if !agree(alloc, log, one, other)? {
-                return Ok(false);
+            if disagree(alloc, log, one, other)? {
+                return Ok(Some(*line));
             }
         }
         lines = rest;
     }
-    Ok(true)
+    Ok(None)
 }
 
-/// Whether a line agrees with each that stands over the same class, and so with each that is alike.
-fn agrees_at(
+/// A line that is alike and of another class than this one, if there is one. It takes the same class first.
+fn disagreeing_with(
     alloc: Global,
     log: &Log<'_>,
     over: &[Vec<LineId>],
     line: LineId,
-) -> Result<bool, AllocError>
+) -> Result<Option<LineId>, AllocError>
     requires { places.AreEntered log.now.log (length log.now.log) (map (λ v. v.items) over.now) }
-    ensures { IfOk result (λ agrees. IsTrue agrees ↔ places.AgreesWithAll log.now.log line) }
+    ensures { IfOk result (λ found. lacking_.DisagreeingWith log.now.log line found) }
 {
     match log.member(line) {
         Some(one) => {
             let others = over[place_of(log, one.expr)].as_slice();
-            let agrees = agrees_with(alloc, log, one, others)?;
-            Ok(agrees)
+            let found = disagreeing_among(alloc, log, one, others)?;
+            Ok(found)
         }
-        None => Ok(true),
+        None => Ok(None),
     }
 }
 
-/// Whether lines that are alike are of classes that are the same.
-pub(crate) fn are_united(
+/// Two lines that are alike, and of classes that aren't the same, if there are such.
+pub(crate) fn disagreeing(
     alloc: Global,
     log: &Log<'_>,
     over: &[Vec<LineId>],
-) -> Result<bool, AllocError>
+) -> Result<Option<(LineId, LineId)>, AllocError>
     requires { places.AreEntered log.now.log (length log.now.log) (map (λ v. v.items) over.now) }
-    ensures { IfOk result (λ are. IsTrue are ↔ spec.AreUnited log.now.log) }
+    ensures { IfOk result (λ found. lacking_.Disagreeing log.now.log found) }
 {
     for line in 0..id_of(log.len())? {
-        if !agrees_at(alloc, log, over, line)? {
-            return Ok(false);
+        if let Some(other) = disagreeing_with(alloc, log, over, line)? {
+            return Ok(Some((line, other)));
         }
     }
-    Ok(true)
+    Ok(None)
 }

@@ -14,7 +14,7 @@ use std::alloc::{AllocError, Global};
 
 /// An operator over one input, which is still to be found.
 #[derive(Clone, Copy)]
-enum OverOne<'a> {
+pub(crate) enum OverOne<'a> {
     Select(&'a Conjuncts),
     Keep(&'a Columns),
     Distinct,
@@ -22,7 +22,7 @@ enum OverOne<'a> {
 
 /// An operator over two.
 #[derive(Clone, Copy)]
-enum OverTwo<'a> {
+pub(crate) enum OverTwo<'a> {
     Join(&'a Conjuncts),
     LeftJoin(&'a Conjuncts),
     Semi(&'a Conjuncts),
@@ -31,7 +31,7 @@ enum OverTwo<'a> {
 
 impl OverOne<'_> {
     /// The operator over a class.
-    fn over(self, alloc: Global, class: ClassId) -> Result<Expr, AllocError>
+    pub(crate) fn over(self, alloc: Global, class: ClassId) -> Result<Expr, AllocError>
         ensures { IfOk result (λ expr. expr ≡ operators.over_one self.entry class) }
     {
         match self {
@@ -44,7 +44,12 @@ impl OverOne<'_> {
 
 impl OverTwo<'_> {
     /// The operator over two classes.
-    fn over(self, alloc: Global, left: ClassId, right: ClassId) -> Result<Expr, AllocError>
+    pub(crate) fn over(
+        self,
+        alloc: Global,
+        left: ClassId,
+        right: ClassId,
+    ) -> Result<Expr, AllocError>
         ensures { IfOk result (λ expr. expr ≡ operators.over_two self.entry left right) }
     {
         match self {
