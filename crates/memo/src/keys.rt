@@ -1,8 +1,7 @@
 //! Expressions by numbers, so that equal ones are found.
 
-use crate::grouped::grouped_condition;
 use crate::groups::Groups;
-use algebra::condition_text::condition_text;
+use crate::spelt::{push_class, push_condition};
 use algebra::{Aggregation, ClassId, Condition, Expr};
 use indexmap::IndexSet;
 use query::ids::id_of;
@@ -49,17 +48,10 @@ pub(crate) struct Keys {
     pub alike: Key,
 }
 
-/// The numbers of conditions, by their texts.
+/// The numbers of conditions that name classes, by what they are with the groups of these.
 #[derive(Drop)]
 pub(crate) struct ConditionNumbers {
-    texts: IndexSet<String>,
-}
-
-/// The numbers of an operation's conditions: each list rising, each number once.
-#[derive(Drop)]
-struct ConditionLists {
-    conditions: Vec<u32>,
-    null_aware: Vec<u32>,
+    conditions: IndexSet<Key>,
 }
 
 /// Which operator it is.
@@ -104,23 +96,25 @@ pub(crate) fn operation_of(expr: &Expr) -> Operation<'_> {
     }
 }
 
-/// Adds the number of a class, or of its group where groups are given.
+/// Adds an input, if there is one.
 fn push_input(
     numbers: &mut Vec<u32>,
     input: Option<ClassId>,
     groups: Option<&Groups>,
 ) -> Result<(), AllocError> {
-    match (input, groups) {
-        (Some(class), Some(groups)) => {
-            numbers.push(groups.of(class))?;
-            Ok(())
-        }
-        (Some(class), None) => {
-            numbers.push(class)?;
-            Ok(())
-        }
-        (None, _) => Ok(()),
+    match input {
+        Some(class) => push_class(numbers, class, groups),
+        None => Ok(()),
     }
+}
+
+/// Adds conditions behind their count. They stand in the order of their texts, each once, so that equal lists are spelt alike.
+fn push_conditions(numbers: &mut Vec<u32>, conditions: &[Condition]) -> Result<(), AllocError> {
+    numbers.push(id_of(conditions.len())?)?;
+    for condition in conditions {
+        push_condition(numbers, condition, None)?;
+    }
+    Ok(())
 }
 
 /// Adds a list behind its length.
@@ -184,19 +178,20 @@ impl Operation<'_> {
                 .all(|condition| condition.has_no_class())
     }
 
-    /// Its key, by groups where they are given.
-    fn key(
-        self,
-        alloc: Global,
-        lists: &ConditionLists,
-        groups: Option<&Groups>,
-    ) -> Result<Key, AllocError> {
-        let mut numbers = Vec::with_capacity(alloc, 8)?;
+    /// What its key begins with.
+    fn begun(self, alloc: Global, groups: Option<&Groups>) -> Result<Vec<u32>, AllocError> {
+        let mut numbers = Vec::with_capacity(alloc, 24)?;
         numbers.push(operator_number(self.operator))?;
         push_input(&mut numbers, self.left, groups)?;
         push_input(&mut numbers, self.right, groups)?;
-        push_list(&mut numbers, lists.conditions.as_slice())?;
-        push_list(&mut numbers, lists.null_aware.as_slice())?;
+        Ok(numbers)
+    }
+
+    /// Its key, with the groups of its inputs where they are given, and its conditions as they stand.
+    fn key(self, alloc: Global, groups: Option<&Groups>) -> Result<Key, AllocError> {
+        let mut numbers = self.begun(alloc, groups)?;
+        push_conditions(&mut numbers, self.conditions)?;
+        push_conditions(&mut numbers, self.null_aware)?;
         push_own(&mut numbers, self.operator)?;
         Ok(Key { numbers })
     }
@@ -205,67 +200,46 @@ impl Operation<'_> {
 impl ConditionNumbers {
     pub(crate) fn none(alloc: Global) -> ConditionNumbers {
         ConditionNumbers {
-            texts: IndexSet::new(alloc),
+            conditions: IndexSet::new(alloc),
         }
     }
 
-    /// The number of a condition, with its classes as they are named, or with their groups where these are given.
-    fn number(
-        &mut self,
-        alloc: Global,
-        condition: &Condition,
-        groups: Option<&Groups>,
-    ) -> Result<u32, AllocError> {
-        let text = match groups {
-            Some(groups) => condition_text(alloc, &grouped_condition(alloc, condition, groups)?)?,
-            None => condition_text(alloc, condition)?,
-        };
-        let (number, _) = self.texts.insert_full(text)?;
-        id_of(number)
-    }
-
+    /// The numbers of conditions with the groups of their classes: rising, each once, since conditions may have become equal, or of another order.
     fn numbers(
         &mut self,
         alloc: Global,
         conditions: &[Condition],
-        groups: Option<&Groups>,
+        groups: &Groups,
     ) -> Result<Vec<u32>, AllocError> {
         let mut numbers = Vec::new(alloc);
         for condition in conditions {
-            numbers.push(self.number(alloc, condition, groups)?)?;
+            let mut spelt = Vec::new(alloc);
+            push_condition(&mut spelt, condition, Some(groups))?;
+            let (number, _) = self.conditions.insert_full(Key { numbers: spelt })?;
+            numbers.push(id_of(number)?)?;
         }
         numbers.sort_unstable();
         numbers.dedup();
         Ok(numbers)
     }
 
-    fn lists(
-        &mut self,
-        alloc: Global,
-        operation: Operation<'_>,
-        groups: Option<&Groups>,
-    ) -> Result<ConditionLists, AllocError> {
-        Ok(ConditionLists {
-            conditions: self.numbers(alloc, operation.conditions, groups)?,
-            null_aware: self.numbers(alloc, operation.null_aware, groups)?,
-        })
-    }
-
-    /// The key by groups.
+    /// The key by groups. Most conditions name no class, and then nothing in them is to be renamed.
     pub(crate) fn alike_key(
         &mut self,
         alloc: Global,
         operation: Operation<'_>,
         groups: &Groups,
     ) -> Result<Key, AllocError> {
-        // Most conditions name no class, and then nothing in them is to be renamed.
-        let renamed = if operation.is_plain() {
-            None
-        } else {
-            Some(groups)
-        };
-        let lists = self.lists(alloc, operation, renamed)?;
-        operation.key(alloc, &lists, Some(groups))
+        if operation.is_plain() {
+            return operation.key(alloc, Some(groups));
+        }
+        let mut numbers = operation.begun(alloc, Some(groups))?;
+        let conditions = self.numbers(alloc, operation.conditions, groups)?;
+        push_list(&mut numbers, conditions.as_slice())?;
+        let null_aware = self.numbers(alloc, operation.null_aware, groups)?;
+        push_list(&mut numbers, null_aware.as_slice())?;
+        push_own(&mut numbers, operation.operator)?;
+        Ok(Key { numbers })
     }
 
     /// Both keys.
@@ -275,13 +249,13 @@ impl ConditionNumbers {
         operation: Operation<'_>,
         groups: &Groups,
     ) -> Result<Keys, AllocError> {
-        let lists = self.lists(alloc, operation, None)?;
-        let named = operation.key(alloc, &lists, None)?;
-        let alike = if operation.is_plain() {
-            operation.key(alloc, &lists, Some(groups))?
-        } else {
-            self.alike_key(alloc, operation, groups)?
-        };
+        let named = named_key(alloc, operation)?;
+        let alike = self.alike_key(alloc, operation, groups)?;
         Ok(Keys { named, alike })
     }
+}
+
+/// The key with classes as they are named.
+pub(crate) fn named_key(alloc: Global, operation: Operation<'_>) -> Result<Key, AllocError> {
+    operation.key(alloc, None)
 }

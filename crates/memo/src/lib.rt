@@ -4,10 +4,10 @@
 #![tactic(auto)]
 
 mod applying;
-mod grouped;
 mod groups;
 mod keys;
 mod lines;
+mod spelt;
 mod unadded;
 
 pub use lines::Memo;
