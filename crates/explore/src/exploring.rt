@@ -181,7 +181,7 @@ pub fn apply_all(alloc: Global, memo: &mut Memo<'_>) -> Result<(), AllocError>
 
 /// Adds what each rule gives at each binding, until nothing more can be added or the log is full. Whether nothing can be added: false only where the log
 /// is full. What passes left out is added line by line, each time with what follows from it.
-#[tactic(auto, using(memo::proofs::Growth::extended_along, memo::proofs::Growth::grown_along))]
+#[tactic(auto, using(crate::proofs::Along::grown_along, crate::proofs::Along::not_closed, crate::proofs::Along::room_falls))]
 pub fn explore(alloc: Global, memo: &mut Memo<'_>) -> Result<bool, AllocError>
     ensures closed { IfOk result (λ closed. IsTrue closed ↔ IsClosed memo.new.log.instances memo.new.log.log) }
     ensures full { IfOk result (λ closed. closed ≡ false → memo.new.limit ≤ length memo.new.log.log) }
