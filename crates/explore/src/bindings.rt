@@ -1,6 +1,6 @@
 //! Which rules may fit lines, by their operators, and when they are worth trying.
 
-use algebra::{ClassId, Conjuncts, Expr, LineId};
+use algebra::{ClassId, Conjuncts, Expr};
 use memo::Memo;
 use rules::RuleName;
 use std::alloc::{AllocError, Global};
@@ -25,14 +25,6 @@ impl Level {
             Level::Projections => 3,
         }
     }
-}
-
-/// A rule, and the lines that it is applied to: one, or the top one and one of the class that it takes first.
-#[derive(Clone, Copy, Drop)]
-pub(crate) struct Binding {
-    pub rule: RuleName,
-    pub top: LineId,
-    pub below: Option<LineId>,
 }
 
 /// The rules that may fit a line with this expression alone.

@@ -1,13 +1,13 @@
 //! Each rule at each binding.
 
-ghost use Rattle.std.specs.Prelude.{◌≡◌, ◌↔◌, IsTrue, IfOk};
+ghost use Rattle.std.specs.Prelude.{◌≡◌, ◌≤◌, ◌↔◌, false, length, IsTrue, IfOk};
 ghost use Rattle.closure.specs.Closed.{IsClosed};
 ghost use Rattle.memo.specs.Growth.{Grows, IsWithin, Extends};
 
-use crate::bindings::{Binding, level_of, rules_of_one, rules_of_two};
+use crate::bindings::{level_of, rules_of_one, rules_of_two};
 use crate::queue::Queue;
 use algebra::{Expr, LineId};
-use closure::is_closed;
+use closure::{Binding, missing, next_line};
 use memo::Memo;
 use query::ids::id_of;
 use rules::RuleName;
@@ -179,14 +179,26 @@ pub fn apply_all(alloc: Global, memo: &mut Memo<'_>) -> Result<(), AllocError>
     Ok(())
 }
 
-/// Adds what each rule gives at each binding, until the log is full or nothing more can be added. Whether the log is closed then: whether no rule adds
-/// anything.
+/// Adds what each rule gives at each binding, until nothing more can be added or the log is full. Whether nothing can be added: false only where the log
+/// is full. What passes left out is added line by line, each time with what follows from it.
+#[tactic(auto, using(crate::proofs::Along::grown_along, crate::proofs::Along::not_closed, crate::proofs::Along::room_falls))]
 pub fn explore(alloc: Global, memo: &mut Memo<'_>) -> Result<bool, AllocError>
     ensures closed { IfOk result (λ closed. IsTrue closed ↔ IsClosed memo.new.log.instances memo.new.log.log) }
+    ensures full { IfOk result (λ closed. closed ≡ false → memo.new.limit ≤ length memo.new.log.log) }
     ensures grows { Grows memo.old.log memo.new.log }
     ensures within { IsWithin memo.old.limit memo.old.log memo.new.log }
     ensures limit { memo.new.limit ≡ memo.old.limit }
 {
-    apply_all(alloc, memo)?;
-    is_closed(alloc, memo.log())
+    'adding: loop {
+        apply_all(alloc, memo)?;
+        let Some(lacking) = missing(alloc, memo.log())? else {
+            return Ok(true);
+        };
+        let is_full = memo.is_full();
+        if is_full {
+            return Ok(false);
+        }
+        let line = next_line(alloc, memo.log(), lacking)?;
+        memo.add(alloc, line)?;
+    }
 }

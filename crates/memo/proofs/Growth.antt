@@ -1,5 +1,6 @@
 -- What each of several calls does to a log, they do to it together.
-use Rattle.std.proofs.Common.{◌≡◌, refl, ap, sym, ◌∙◌, subst, ℕ, ◌<◌, List, [], ◌∷◌, ◌++◌, length, append_assoc, arith}
+use Rattle.std.proofs.Common.{◌≡◌, refl, ap, sym, ◌∙◌, subst, ℕ, ◌+◌, ◌<◌, List, [], ◌∷◌, ◌++◌, length, append_assoc, arith}
+use Rattle.std.proofs.lemmas.List.{length-append}
 use Rattle.derivation.specs.declared.line.Line.{Line}
 use Rattle.logs.specs.Logged.{Logged, with_line}
 use Rattle.memo.specs.Growth.{Grows, Extends}
@@ -26,3 +27,10 @@ extended_along limit a b c first next = record {
   grows = grows-along first.grows next.grows;
   within = let one = first.within in let other = next.within in omega arith;
 }
+
+-- what is longer by a line is longer after whatever comes then
+pub longer_then : (limit : ℕ) (a b c : Logged) (line : Line) → b ≡ with_line a line → Extends limit b c → length a.log < length c.log
+longer_then limit a b c line added next =
+    let one : length b.log ≡ length (line ∷ a.log) = ap (λ (l : Logged). length l.log) added in
+    let more : length c.log ≡ length next.grows.more + length b.log = ap length next.grows.log ∙ length-append next.grows.more b.log in
+    omega (arith, one, more)

@@ -1,8 +1,9 @@
 //! The lines of a log, found by their expressions up to which classes are the same.
 
-ghost use Rattle.std.specs.Prelude.{◌≡◌, ℕ, nat_le, length, IfOk};
+ghost use Rattle.std.specs.Prelude.{◌≡◌, ℕ, ◌<◌, nat_le, length, Ok, IfOk, OnOk};
 ghost use Rattle.std.specs.List.Sorted.{IsSorted};
 ghost use Rattle.std.specs.Ordering.{nat_cmp};
+ghost use Rattle.derivation.specs.Replay.{stands};
 ghost use Rattle.logs.specs.Members.{is_member, once_if};
 ghost use Rattle.logs.specs.Sets.{times};
 ghost use Rattle.memo.specs.Growth.{Extends, Grows, IsWithin};
@@ -17,6 +18,7 @@ use logs::Log;
 use props::Fact;
 use query::ids::id_of;
 use std::alloc::{AllocError, Global};
+use values::Fault;
 
 /// So many lines are added at most at once that say of two lines that their classes are the same. Others wait for the next line.
 const MOST_ALIKE: usize = 100_000;
@@ -247,6 +249,28 @@ impl<'q> Memo<'q> {
         let number = self.append(alloc, line)?;
         self.close(alloc)?;
         Ok(number)
+    }
+
+    /// Adds a line, if it may stand and there is room for it, and what follows from it of which classes are the same.
+    #[tactic(auto, using(crate::proofs::Growth::extended_along, crate::proofs::Growth::extended_by_one, crate::proofs::Growth::longer_then))]
+    pub fn add(&mut self, alloc: Global, line: Line) -> Result<(), AllocError>
+        ensures grows { Grows self.old.log self.new.log }
+        ensures within { IsWithin self.old.limit self.old.log self.new.log }
+        ensures limit { self.new.limit ≡ self.old.limit }
+        ensures added { OnOk result (length self.old.log.log < self.old.limit → stands self.old.log.instances self.old.log.own self.old.log.log line ≡ Ok line → length self.old.log.log < length self.new.log.log) }
+    {
+        if self.is_full() {
+            return Ok(());
+        }
+        let number = id_of(self.log.len())?;
+        match self.log.push(alloc, line) {
+            Ok(()) => {
+                self.note(alloc, number)?;
+                self.close(alloc)
+            }
+            Err(Fault::Refused(_)) => Ok(()),
+            Err(Fault::Memory) => Err(AllocError),
+        }
     }
 
     /// A line of this number with an expression, and its class.
