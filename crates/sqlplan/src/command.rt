@@ -35,7 +35,9 @@ fn words(alloc: Global) -> Arg<'static> {
     Arg::new(alloc, "words")
         .long("words")
         .action(ArgAction::SetTrue)
-        .help("says behind the line of a refusal what is meant, and where")
+        .help(
+            "says behind the line of a refusal what is meant, and where, as on a terminal it does by itself",
+        )
 }
 
 /// A command over a schema and the text of a query.

@@ -225,23 +225,27 @@ fn found_again(
     found_row(alloc, tables.get_mut(*place)?.reader_mut(), table, *refusal)
 }
 
-impl<'a> Given<'a> {
-    /// What a refusal is explained by, before any table is read.
-    fn inputs(&self) -> Inputs<'a> {
-        Inputs {
-            schema: self.schema,
-            text: self.text,
-            statistics: &[],
-            folder: self.folder,
-            failure: None,
-            row: None,
-        }
-    }
-
-    /// The stop of a refusal, explained by these inputs if words are asked for.
-    fn refused(&self, alloc: Global, refusal: &Refusal, inputs: Inputs<'_>) -> Stop {
+impl Given<'_> {
+    /// The stop of a refusal, explained if words are asked for: by the statistics, by why a table's file was not read to its end, and by the row
+    /// that was found again, where these are at hand.
+    fn refused(
+        &self,
+        alloc: Global,
+        refusal: &Refusal,
+        statistics: &[u8],
+        failure: Option<&ReadFailure>,
+        row: Option<&FoundRow>,
+    ) -> Stop {
         let stop = Stop::of_refusal(alloc, refusal, Some(self.schema));
         if self.words {
+            let inputs = Inputs {
+                schema: self.schema,
+                text: self.text,
+                statistics,
+                folder: self.folder,
+                failure,
+                row,
+            };
             in_words(alloc, stop, refusal, inputs)
         } else {
             stop
@@ -267,12 +271,7 @@ impl<'a> Given<'a> {
         if failure.is_some_and(|failure| failure.is_memory()) {
             return Err(Stop::Memory);
         }
-        let inputs = Inputs {
-            failure,
-            row: row.as_ref(),
-            ..self.inputs()
-        };
-        Err(self.refused(alloc, &refusal, inputs))
+        Err(self.refused(alloc, &refusal, &[], failure, row.as_ref()))
     }
 
     /// The end of a command that writes this on standard output.
@@ -282,17 +281,14 @@ impl<'a> Given<'a> {
         outcome: Result<Vec<u8>, Refusal>,
         statistics: &[u8],
     ) -> Result<(), Stop> {
-        let inputs = Inputs {
-            statistics,
-            ..self.inputs()
-        };
-        match outcome {
+        let refusal = match outcome {
             Ok(bytes) => match io::writer(rt).write_all(bytes.as_slice()) {
-                Ok(()) => Ok(()),
-                Err(_) => Err(self.refused(rt.alloc(), &Refusal::Output, inputs)),
+                Ok(()) => return Ok(()),
+                Err(_) => Refusal::Output,
             },
-            Err(refusal) => Err(self.refused(rt.alloc(), &refusal, inputs)),
-        }
+            Err(refusal) => refusal,
+        };
+        Err(self.refused(rt.alloc(), &refusal, statistics, None, None))
     }
 }
 
@@ -472,7 +468,7 @@ fn obey(rt: &HostRuntime, command: &str, arguments: &ArgMatches<'_>) -> Result<(
     else {
         return Err(Stop::Usage);
     };
-    let words = arguments.get_flag("words");
+    let words = arguments.get_flag("words") || rt.stderr().is_terminal();
     let bytes = bytes_of(rt, schema, words)?;
     let bytes = bytes.as_slice();
     match Schema::read(rt.alloc(), bytes) {

@@ -1,6 +1,7 @@
 //! Where in a JSON text something else stands than is wanted.
 
-ghost use Rattle.std.specs.Prelude.{◌≤◌, IfSome, length};
+ghost use Rattle.std.specs.Prelude.{◌≤◌, IfOk, IfSome, length, string_bytes};
+ghost use Rattle.words.specs.Lines.{AreLines};
 
 use crate::spelling::quoted_front;
 use serde_json::{Map, Value};
@@ -10,7 +11,7 @@ use std::alloc::{AllocError, AllocFailed, Global};
 #[derive(Debug, Drop)]
 pub(crate) enum Halt {
     Memory,
-    /// At a place where something else stands than is wanted, with what is said of it: a line.
+    /// At a place where something else stands than is wanted, with what is said of it.
     Fault(String),
 }
 
@@ -26,12 +27,38 @@ impl<T: Drop> From<AllocFailed<T>> for Halt {
     }
 }
 
-/// What is said where a walk stopped: nothing where it came to its end.
-pub(crate) fn said_of(alloc: Global, walk: Result<(), Halt>) -> Result<String, AllocError> {
+/// A text as a line.
+fn line_of(text: String) -> Result<String, AllocError>
+    ensures { IfOk result (λ line. AreLines (string_bytes line)) }
+{
+    let mut line = text;
+    line.push_str("\n")?;
+    Ok(line)
+}
+
+/// What is said where a walk stopped, a line: nothing where it came to its end.
+#[tactic(auto, unfolding(crate::specs::Lines::AreLines))]
+pub(crate) fn said_of(alloc: Global, walk: Result<(), Halt>) -> Result<String, AllocError>
+    ensures { IfOk result (λ said. AreLines (string_bytes said)) }
+{
     match walk {
         Ok(()) => Ok(String::new(alloc)),
         Err(Halt::Memory) => Err(AllocError),
-        Err(Halt::Fault(said)) => Ok(said),
+        Err(Halt::Fault(said)) => line_of(said),
+    }
+}
+
+/// The value of a text, if it is JSON.
+pub(crate) fn value_of(alloc: Global, text: &[u8]) -> Result<Option<Value>, AllocError> {
+    match Value::from_slice(alloc, text) {
+        Ok(value) => Ok(Some(value)),
+        Err(error) => {
+            if error.is_memory() {
+                Err(AllocError)
+            } else {
+                Ok(None)
+            }
+        }
     }
 }
 
@@ -83,14 +110,14 @@ pub(crate) fn element_place(
     format!(in alloc; "{place}[{number}]")
 }
 
-/// What is said of a place: a line.
+/// Halts at a place, of which this is said.
 pub(crate) fn fault_at(alloc: Global, place: &str, what: &str) -> Halt {
     let place = if place.is_empty() {
         "the whole text"
     } else {
         place
     };
-    match format!(in alloc; "{place}: {what}\n") {
+    match format!(in alloc; "{place}: {what}") {
         Ok(said) => Halt::Fault(said),
         Err(_) => Halt::Memory,
     }

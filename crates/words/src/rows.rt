@@ -1,5 +1,8 @@
 //! A refused row as its table's file has it, which is read again for that.
 
+ghost use Rattle.std.specs.Prelude.{◌↔◌, IfSome, IsSome};
+ghost use Rattle.store.specs.Faults.{earlier_of};
+
 use csv::{ByteRecord, Reader, ReaderBuilder};
 use schema::{Column, Table};
 use std::alloc::Global;
@@ -134,7 +137,9 @@ fn read_rows<R: Read + Drop>(
     refusal: TableRefusal,
     fields: &mut ByteRecord,
     earlier_fields: &mut ByteRecord,
-) -> Option<Bytes> {
+) -> Option<Bytes>
+    ensures { IfSome result (λ bytes. IsSome bytes.earlier ↔ IsSome (earlier_of refusal.cause)) }
+{
     let mut reader = ReaderBuilder::new()
         .has_headers(false)
         .flexible(true)
@@ -145,10 +150,10 @@ fn read_rows<R: Read + Drop>(
             earlier: None,
         });
     };
-    let earlier = read_on(&mut reader, row.saturating_add(1), earlier_fields)?;
+    let at = read_on(&mut reader, row.saturating_add(1), earlier_fields)?;
     Some(Bytes {
         row: read_on(&mut reader, refusal.row.saturating_sub(row), fields)?,
-        earlier: Some(earlier),
+        earlier: Some(at),
     })
 }
 
@@ -158,7 +163,9 @@ pub fn found_row<R: Read + Seek>(
     file: &mut R,
     table: &Table,
     refusal: TableRefusal,
-) -> Option<FoundRow> {
+) -> Option<FoundRow>
+    ensures { IfSome result (λ row. IsSome row.earlier ↔ IsSome (earlier_of refusal.cause)) }
+{
     let mut fields = ByteRecord::new(alloc);
     let mut earlier_fields = ByteRecord::new(alloc);
     file.rewind().ok()?;

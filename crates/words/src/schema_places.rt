@@ -1,8 +1,11 @@
 //! Where in its text a schema is refused.
 
+ghost use Rattle.std.specs.Prelude.{IfOk, string_bytes};
+ghost use Rattle.words.specs.Lines.{AreLines};
+
 use crate::json::{
     Halt, element_place, elements, expect_array, expect_keys, expect_member, fault_at,
-    member_place, said_of, unwanted,
+    member_place, said_of, unwanted, value_of,
 };
 use crate::spelling::quoted_front;
 use schema::{Schema, SchemaRefusal};
@@ -262,18 +265,16 @@ fn walk(alloc: Global, schema: &Value, refusal: SchemaRefusal) -> Result<(), Hal
 
 /// Where in its text a schema is refused for this reason: the first place, with what stands there and what is wanted, in a line of its own.
 /// Nothing of a text that is no JSON, or where no place is found.
+#[tactic(auto, unfolding(crate::specs::Lines::AreLines))]
 pub fn schema_there(
     alloc: Global,
     text: &[u8],
     refusal: SchemaRefusal,
-) -> Result<String, AllocError> {
-    match Value::from_slice(alloc, text) {
-        Ok(schema) => said_of(alloc, walk(alloc, &schema, refusal)),
-        Err(error) => {
-            if error.is_memory() {
-                return Err(AllocError);
-            }
-            Ok(String::new(alloc))
-        }
+) -> Result<String, AllocError>
+    ensures { IfOk result (λ said. AreLines (string_bytes said)) }
+{
+    match value_of(alloc, text)? {
+        Some(schema) => said_of(alloc, walk(alloc, &schema, refusal)),
+        None => Ok(String::new(alloc)),
     }
 }

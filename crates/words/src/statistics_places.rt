@@ -1,8 +1,11 @@
 //! Where in their text statistics are refused.
 
+ghost use Rattle.std.specs.Prelude.{IfOk, string_bytes};
+ghost use Rattle.words.specs.Lines.{AreLines};
+
 use crate::json::{
     Halt, element_place, expect_array, expect_keys, expect_member, fault_at, member_place, said_of,
-    unwanted,
+    unwanted, value_of,
 };
 use schema::{Schema, Table};
 use serde_json::Value;
@@ -81,22 +84,20 @@ fn expect_statistics(alloc: Global, schema: &Schema, statistics: &Value) -> Resu
 
 /// Where in their text statistics are refused for this reason: the first place, with what stands there and what is wanted, in a line of its
 /// own. Nothing of a text that is no JSON, or where no place is found.
+#[tactic(auto, unfolding(crate::specs::Lines::AreLines))]
 pub fn statistics_there(
     alloc: Global,
     schema: &Schema,
     text: &[u8],
     refusal: StatisticsRefusal,
-) -> Result<String, AllocError> {
+) -> Result<String, AllocError>
+    ensures { IfOk result (λ said. AreLines (string_bytes said)) }
+{
     match refusal {
         StatisticsRefusal::NotJson => Ok(String::new(alloc)),
-        StatisticsRefusal::Shape => match Value::from_slice(alloc, text) {
-            Ok(statistics) => said_of(alloc, expect_statistics(alloc, schema, &statistics)),
-            Err(error) => {
-                if error.is_memory() {
-                    return Err(AllocError);
-                }
-                Ok(String::new(alloc))
-            }
+        StatisticsRefusal::Shape => match value_of(alloc, text)? {
+            Some(statistics) => said_of(alloc, expect_statistics(alloc, schema, &statistics)),
+            None => Ok(String::new(alloc)),
         },
     }
 }
