@@ -5,7 +5,7 @@ use clap::{Arg, ArgAction, Command};
 use std::alloc::{AllocError, Global};
 
 /// What `--version` says behind the name: the program's version, and the kit that it is proved and built with, as `rt version` has it.
-const VERSION: &str = "0.1.0 (rattle-kit-13f logic dac8208d650f15bf)";
+const VERSION: &str = "0.1.0 (rattle-kit-13b logic dac8208d650f15bf)";
 
 /// An example of each command, at the end of the help.
 const EXAMPLES: &str = "\
@@ -35,7 +35,9 @@ fn words(alloc: Global) -> Arg<'static> {
     Arg::new(alloc, "words")
         .long("words")
         .action(ArgAction::SetTrue)
-        .help("says behind the line of a refusal what is meant, and where")
+        .help(
+            "says behind the line of a refusal what is meant, and where, as on a terminal it does by itself",
+        )
 }
 
 /// A command over a schema and the text of a query.

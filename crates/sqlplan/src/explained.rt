@@ -7,15 +7,16 @@ use crate::input::ReadFailure;
 use crate::path_of;
 use crate::stop::Stop;
 use pipeline::Refusal;
-use schema::Schema;
+use schema::{Schema, SchemaRefusal};
 use std::alloc::{AllocError, Global};
 use words::certificates::{of_certificate, of_check};
 use words::meanings::{
     OUTPUT_FAILED, TABLE_UNREAD, of_schema, of_scope, of_statistics, of_table, of_text,
 };
 use words::{
-    Meaning, explanation, explanation_at, file_explanation, habits_there, line_explanation,
-    names_there, row_there, size_explanation, table_there,
+    FoundRow, Meaning, explanation, explanation_at, file_explanation, habits_there, json_fault,
+    line_explanation, names_there, row_there, schema_there, size_explanation, statistics_there,
+    table_there,
 };
 
 /// What a refusal means. Out of memory needs no words.
@@ -34,24 +35,32 @@ fn meaning(refusal: &Refusal) -> Option<Meaning> {
     }
 }
 
-/// The byte of the query's text at which a refusal is reported.
-fn byte_of(refusal: &Refusal) -> Option<usize> {
-    match refusal {
-        Refusal::Text(refusal) => Some(refusal.at),
-        Refusal::Scope(refusal) => Some(refusal.at),
-        _ => None,
-    }
-}
-
 /// What a command was given, by which a refusal is explained.
 #[derive(Clone, Copy)]
 pub struct Inputs<'a> {
     pub schema: &'a Schema,
     pub text: &'a [u8],
+    /// The statistics; nothing where a command reads none.
+    pub statistics: &'a [u8],
     /// The folder of the tables; nothing where a command reads none.
     pub folder: &'a str,
     /// Why a table's file was not read to its end, if one was not.
     pub failure: Option<&'a ReadFailure>,
+    /// The row of a table's file that is refused, if it was found again.
+    pub row: Option<&'a FoundRow>,
+}
+
+/// The text in which a refusal is reported at a byte, and that byte.
+fn place_of<'a>(alloc: Global, refusal: &Refusal, inputs: Inputs<'a>) -> Option<(&'a [u8], usize)> {
+    match refusal {
+        Refusal::Text(refusal) => Some((inputs.text, refusal.at)),
+        Refusal::Scope(refusal) => Some((inputs.text, refusal.at)),
+        Refusal::Statistics(_) => {
+            let at = json_fault(alloc, inputs.statistics)?;
+            Some((inputs.statistics, at))
+        }
+        _ => None,
+    }
 }
 
 /// Why a file was not read to its end: a line of its own.
@@ -82,10 +91,13 @@ fn more(alloc: Global, refusal: &Refusal, inputs: Inputs<'_>) -> Result<String, 
     match refusal {
         Refusal::Text(refusal) => habits_there(alloc, inputs.text, *refusal),
         Refusal::Scope(refusal) => names_there(alloc, inputs.schema, inputs.text, *refusal),
+        Refusal::Statistics(refusal) => {
+            statistics_there(alloc, inputs.schema, inputs.statistics, *refusal)
+        }
         Refusal::Table(place, refusal) => match tables.get(*place) {
             Some(table) => {
                 let path = path_of(alloc, inputs.folder, table.name.as_str())?;
-                row_there(alloc, path.as_str(), table, *refusal)
+                row_there(alloc, path.as_str(), table, *refusal, inputs.row)
             }
             None => Ok(String::new(alloc)),
         },
@@ -100,41 +112,59 @@ fn more(alloc: Global, refusal: &Refusal, inputs: Inputs<'_>) -> Result<String, 
     }
 }
 
-/// A refusal in words: nothing where it needs none. A schema's refusal has no inputs.
-fn words_of(
-    alloc: Global,
-    refusal: &Refusal,
-    inputs: Option<Inputs<'_>>,
-) -> Result<String, AllocError> {
+/// A refusal in words: nothing where it needs none.
+fn words_of(alloc: Global, refusal: &Refusal, inputs: Inputs<'_>) -> Result<String, AllocError> {
     let Some(meaning) = meaning(refusal) else {
         return Ok(String::new(alloc));
     };
-    let Some(inputs) = inputs else {
-        return explanation(alloc, meaning, "");
-    };
     let more = more(alloc, refusal, inputs)?;
-    match byte_of(refusal) {
-        Some(at) => explanation_at(alloc, meaning, inputs.text, at, more.as_str()),
+    match place_of(alloc, refusal, inputs) {
+        Some((text, at)) => explanation_at(alloc, meaning, text, at, more.as_str()),
         None => explanation(alloc, meaning, more.as_str()),
     }
 }
 
-/// The stop of a refusal with its words behind the line. Without memory for them the line stands alone.
-pub fn in_words(alloc: Global, stop: Stop, refusal: &Refusal, inputs: Option<Inputs<'_>>) -> Stop
+/// The refusal of a schema in words, by its text.
+fn words_of_schema(
+    alloc: Global,
+    refusal: SchemaRefusal,
+    text: &[u8],
+) -> Result<String, AllocError> {
+    let meaning = of_schema(refusal);
+    let more = schema_there(alloc, text, refusal)?;
+    match json_fault(alloc, text) {
+        Some(at) => explanation_at(alloc, meaning, text, at, more.as_str()),
+        None => explanation(alloc, meaning, more.as_str()),
+    }
+}
+
+/// A stop with words behind its line. Without memory for them the line stands alone.
+fn said(stop: Stop, words: Result<String, AllocError>) -> Stop
     ensures { (line : List ℕ) (status : ℕ) → Says line status stop → Says line status result }
 {
-    match words_of(alloc, refusal, inputs) {
+    match words {
         Ok(words) => stop.with_words(words),
         Err(AllocError) => stop,
     }
+}
+
+/// The stop of a refusal with its words behind the line.
+pub fn in_words(alloc: Global, stop: Stop, refusal: &Refusal, inputs: Inputs<'_>) -> Stop
+    ensures { (line : List ℕ) (status : ℕ) → Says line status stop → Says line status result }
+{
+    said(stop, words_of(alloc, refusal, inputs))
+}
+
+/// The stop of a schema that is refused, with its words behind the line.
+pub fn schema_in_words(alloc: Global, stop: Stop, refusal: SchemaRefusal, text: &[u8]) -> Stop
+    ensures { (line : List ℕ) (status : ℕ) → Says line status stop → Says line status result }
+{
+    said(stop, words_of_schema(alloc, refusal, text))
 }
 
 /// The stop of a file with why it can't be opened or read behind its line.
 pub fn file_in_words(alloc: Global, stop: Stop, failure: &ReadFailure) -> Stop
     ensures { (line : List ℕ) (status : ℕ) → Says line status stop → Says line status result }
 {
-    match failure_explanation(alloc, failure) {
-        Ok(words) => stop.with_words(words),
-        Err(AllocError) => stop,
-    }
+    said(stop, failure_explanation(alloc, failure))
 }

@@ -8,7 +8,7 @@ ghost use Rattle.sqlplan.specs.Inputs.{IsWithin, IsBehindBreak, counted};
 use crate::progress::Progress;
 use memchr::memrchr2;
 use std::alloc::{AllocError, Global};
-use std::io::{ErrorKind, Read};
+use std::io::{ErrorKind, Read, Seek, SeekFrom};
 use std::{fs, io};
 use store::{DeviceFailed, TableInput};
 
@@ -49,6 +49,17 @@ impl ReadFailure {
         match self {
             ReadFailure::System(error) => error.kind() == ErrorKind::OutOfMemory,
             ReadFailure::TooLong(_) | ReadFailure::LongLine(_) => false,
+        }
+    }
+}
+
+impl From<ReadFailure> for io::Error {
+    fn from(failure: ReadFailure) -> io::Error {
+        match failure {
+            ReadFailure::System(error) => error,
+            ReadFailure::TooLong(_) | ReadFailure::LongLine(_) => {
+                io::Error::from(ErrorKind::FileTooLarge)
+            }
         }
     }
 }
@@ -112,7 +123,7 @@ impl<R: Read> BoundedReader<R> {
     }
 
     /// How many bytes it gave.
-    pub fn bytes(&self) -> u64
+    pub fn byte_count(&self) -> u64
         ensures { result ≡ self.now.bytes }
     {
         self.bytes
@@ -147,6 +158,24 @@ impl<R: Read> BoundedReader<R> {
         self.bytes = self.bytes.saturating_add(count as u64);
         self.behind = bytes_behind_break(self.behind, &buffer[..count]);
         Ok(count)
+    }
+}
+
+impl<R: Read> Read for BoundedReader<R> {
+    ghost remaining = { λ r. R.remaining r.reader };
+
+    fn read(&mut self, buffer: &mut [u8]) -> io::Result<usize> {
+        Ok(self.read_some(buffer)?)
+    }
+}
+
+/// From where it goes on, the bytes count anew.
+impl<R: Seek> Seek for BoundedReader<R> {
+    fn seek(&mut self, to: SeekFrom) -> io::Result<u64> {
+        let at = self.reader.seek(to)?;
+        self.bytes = 0;
+        self.behind = 0;
+        Ok(at)
     }
 }
 
@@ -191,6 +220,11 @@ impl<'a, R: Read> TableFile<'a, R> {
         }
     }
 
+    /// The file, to be read again for words: what is read by it is told to nobody.
+    pub fn reader_mut(&mut self) -> &mut BoundedReader<R> {
+        &mut self.reader
+    }
+
     /// Why it could not be read to its end, once a call failed.
     pub fn failure(&self) -> Option<&ReadFailure> {
         self.failure.as_ref()
@@ -206,7 +240,7 @@ impl<R: Read> TableInput for TableFile<'_, R> {
         match self.reader.read_some(buffer) {
             Ok(count) => {
                 if let Some(watch) = self.watch {
-                    watch.tell(count, self.reader.bytes());
+                    watch.tell(count, self.reader.byte_count());
                 }
                 Ok(count)
             }

@@ -17,18 +17,18 @@ use arguments::arguments;
 use clap::ArgMatches;
 use clap::error::ErrorKind;
 use command::command;
-use explained::{Inputs, file_in_words, in_words};
+use explained::{Inputs, file_in_words, in_words, schema_in_words};
 use input::{ReadFailure, TableFile, TableWatch, read_file};
 use pipeline::{Exploration, PlanForm, Refusal, check, evaluate, explain, plan, query, run};
 use progress::{Progress, WatchedOutput};
-use schema::Schema;
+use schema::{Schema, SchemaFault};
 use std::alloc::{AllocError, Global};
 use std::fs::File;
 use std::io::{BufWriter, IsTerminal, Printer, Write};
 use std::process::ExitCode;
 use std::{fs, io};
 use stop::Stop;
-use words::{list_of_codes, readable};
+use words::{FoundRow, found_row, list_of_codes, readable};
 
 /// The stop of a file that can't be opened or read, in words if they are asked for.
 fn failed_file(alloc: Global, path: &str, failure: &ReadFailure, words: bool) -> Stop
@@ -211,28 +211,44 @@ fn failure_of<'t>(refusal: &Refusal, tables: &'t [TableFile<'_, File>]) -> Optio
     }
 }
 
+/// The row that a refusal reports, as the table's file has it where that can be read again.
+fn found_again(
+    alloc: Global,
+    refusal: &Refusal,
+    schema: &Schema,
+    tables: &mut [TableFile<'_, File>],
+) -> Option<FoundRow> {
+    let Refusal::Table(place, refusal) = refusal else {
+        return None;
+    };
+    let table = schema.tables.as_slice().get(*place)?;
+    found_row(alloc, tables.get_mut(*place)?.reader_mut(), table, *refusal)
+}
+
 impl Given<'_> {
-    /// The stop of a refusal, and of the failure of a table's file that it reports, if it does.
-    fn refused(&self, alloc: Global, refusal: &Refusal, failure: Option<&ReadFailure>) -> Stop {
+    /// The stop of a refusal, explained if words are asked for: by the statistics, by why a table's file was not read to its end, and by the row
+    /// that was found again, where these are at hand.
+    fn refused(
+        &self,
+        alloc: Global,
+        refusal: &Refusal,
+        statistics: &[u8],
+        failure: Option<&ReadFailure>,
+        row: Option<&FoundRow>,
+    ) -> Stop {
         let stop = Stop::of_refusal(alloc, refusal, Some(self.schema));
         if self.words {
             let inputs = Inputs {
                 schema: self.schema,
                 text: self.text,
+                statistics,
                 folder: self.folder,
                 failure,
+                row,
             };
-            in_words(alloc, stop, refusal, Some(inputs))
+            in_words(alloc, stop, refusal, inputs)
         } else {
             stop
-        }
-    }
-
-    /// The end of a command.
-    fn ended(&self, alloc: Global, outcome: Result<(), Refusal>) -> Result<(), Stop> {
-        match outcome {
-            Ok(()) => Ok(()),
-            Err(refusal) => Err(self.refused(alloc, &refusal, None)),
         }
     }
 
@@ -241,16 +257,38 @@ impl Given<'_> {
         &self,
         alloc: Global,
         outcome: Result<(), Refusal>,
-        tables: &[TableFile<'_, File>],
+        tables: &mut [TableFile<'_, File>],
     ) -> Result<(), Stop> {
         let Err(refusal) = outcome else {
             return Ok(());
+        };
+        let row = if self.words {
+            found_again(alloc, &refusal, self.schema, tables)
+        } else {
+            None
         };
         let failure = failure_of(&refusal, tables);
         if failure.is_some_and(|failure| failure.is_memory()) {
             return Err(Stop::Memory);
         }
-        Err(self.refused(alloc, &refusal, failure))
+        Err(self.refused(alloc, &refusal, &[], failure, row.as_ref()))
+    }
+
+    /// The end of a command that writes this on standard output.
+    fn ended_by(
+        &self,
+        rt: &HostRuntime,
+        outcome: Result<Vec<u8>, Refusal>,
+        statistics: &[u8],
+    ) -> Result<(), Stop> {
+        let refusal = match outcome {
+            Ok(bytes) => match io::writer(rt).write_all(bytes.as_slice()) {
+                Ok(()) => return Ok(()),
+                Err(_) => Refusal::Output,
+            },
+            Err(refusal) => refusal,
+        };
+        Err(self.refused(rt.alloc(), &refusal, statistics, None, None))
     }
 }
 
@@ -288,7 +326,7 @@ fn answer(
         exploration,
         &mut output(rt, given.progress)?,
     );
-    given.ended_over(rt.alloc(), outcome, tables.as_slice())
+    given.ended_over(rt.alloc(), outcome, tables.as_mut_slice())
 }
 
 /// The same by the slow evaluator.
@@ -303,7 +341,7 @@ fn answer_by_meaning(rt: &HostRuntime, given: Given<'_>, folder: &str) -> Result
         tables.as_mut_slice(),
         &mut output(rt, given.progress)?,
     );
-    given.ended_over(rt.alloc(), outcome, tables.as_slice())
+    given.ended_over(rt.alloc(), outcome, tables.as_mut_slice())
 }
 
 /// The same by the plan of a certificate.
@@ -325,7 +363,7 @@ fn answer_by_certificate(
         tables.as_mut_slice(),
         &mut output(rt, given.progress)?,
     );
-    given.ended_over(rt.alloc(), outcome, tables.as_slice())
+    given.ended_over(rt.alloc(), outcome, tables.as_mut_slice())
 }
 
 /// The end of a write to standard output.
@@ -349,16 +387,9 @@ fn plan_by_statistics(
     limit: usize,
 ) -> Result<(), Stop> {
     let statistics = bytes_of(rt, statistics, given.words)?;
-    match plan(
-        rt.alloc(),
-        given.bytes,
-        given.text,
-        statistics.as_slice(),
-        limit,
-    ) {
-        Ok(certificate) => print_bytes(rt, certificate.as_slice()),
-        Err(refusal) => Err(given.refused(rt.alloc(), &refusal, None)),
-    }
+    let statistics = statistics.as_slice();
+    let outcome = plan(rt.alloc(), given.bytes, given.text, statistics, limit);
+    given.ended_by(rt, outcome, statistics)
 }
 
 /// Writes on standard output a plan, with what the statistics of a file say of it.
@@ -370,25 +401,20 @@ fn explain_by_statistics(
     limit: usize,
 ) -> Result<(), Stop> {
     let statistics = bytes_of(rt, statistics, given.words)?;
-    match explain(
-        rt.alloc(),
-        form,
-        given.bytes,
-        given.text,
-        statistics.as_slice(),
-        limit,
-    ) {
-        Ok(text) => print_bytes(rt, text.as_slice()),
-        Err(refusal) => Err(given.refused(rt.alloc(), &refusal, None)),
-    }
+    let statistics = statistics.as_slice();
+    let outcome = explain(rt.alloc(), form, given.bytes, given.text, statistics, limit);
+    given.ended_by(rt, outcome, statistics)
 }
 
 /// Says on standard output that a certificate is accepted, where it is.
 fn accept(rt: &HostRuntime, given: Given<'_>, certificate: &str) -> Result<(), Stop> {
     let certificate = bytes_of(rt, certificate, given.words)?;
     let outcome = check(rt.alloc(), given.bytes, given.text, certificate.as_slice());
-    given.ended(rt.alloc(), outcome)?;
-    written(rt.alloc(), rt.println("accepted"))
+    let outcome = match outcome {
+        Ok(()) => Ok(Vec::from_slice(rt.alloc(), b"accepted\n")?),
+        Err(refusal) => Err(refusal),
+    };
+    given.ended_by(rt, outcome, &[])
 }
 
 /// Lists on standard output the codes of refusals.
@@ -415,13 +441,18 @@ fn serve(rt: &HostRuntime, asked: Asked<'_>, given: Given<'_>) -> Result<(), Sto
     }
 }
 
-/// The stop of a schema that is refused.
-fn refused_schema(alloc: Global, refusal: &Refusal, words: bool) -> Stop {
-    let stop = Stop::of_refusal(alloc, refusal, None);
-    if words {
-        in_words(alloc, stop, refusal, None)
-    } else {
-        stop
+/// The stop of a schema that is refused. Its text is at hand for the words.
+fn refused_schema(alloc: Global, fault: SchemaFault, text: &[u8], words: bool) -> Stop {
+    match fault {
+        SchemaFault::Memory => Stop::Memory,
+        SchemaFault::Refused(refusal) => {
+            let stop = Stop::of_refusal(alloc, &Refusal::Schema(refusal), None);
+            if words {
+                schema_in_words(alloc, stop, refusal, text)
+            } else {
+                stop
+            }
+        }
     }
 }
 
@@ -437,7 +468,7 @@ fn obey(rt: &HostRuntime, command: &str, arguments: &ArgMatches<'_>) -> Result<(
     else {
         return Err(Stop::Usage);
     };
-    let words = arguments.get_flag("words");
+    let words = arguments.get_flag("words") || rt.stderr().is_terminal();
     let bytes = bytes_of(rt, schema, words)?;
     let bytes = bytes.as_slice();
     match Schema::read(rt.alloc(), bytes) {
@@ -454,7 +485,7 @@ fn obey(rt: &HostRuntime, command: &str, arguments: &ArgMatches<'_>) -> Result<(
             };
             serve(rt, asked, given)
         }
-        Err(fault) => Err(refused_schema(rt.alloc(), &Refusal::from(fault), words)),
+        Err(fault) => Err(refused_schema(rt.alloc(), fault, bytes, words)),
     }
 }
 

@@ -1,5 +1,5 @@
 -- How the program spells a path: on one line, and without a character that steers a terminal.
-use Rattle.std.specs.Prelude.{ℕ, ◌/◌, ◌%◌, Bool, false, List, [], ◌∷◌, ◌++◌, ◌==◌, ◌&&◌, if◌then◌else◌, not, length, slice_index_or, codes}
+use Rattle.std.specs.Prelude.{ℕ, ◌/◌, ◌%◌, ◌-◌, take, decimal, Bool, false, List, [], ◌∷◌, ◌++◌, ◌==◌, ◌&&◌, if◌then◌else◌, not, length, slice_index_or, codes}
 use Rattle.std.specs.Int.{is_in_range}
 pub use Rattle.std.specs.List.{flat_map}
 use Rattle.std.specs.List.{list_any}
@@ -36,6 +36,14 @@ spelled_byte byte =
 
 abbrev pub quoted : List ℕ → List ℕ
 quoted bytes = codes "\"" ++ (flat_map spelled_byte bytes ++ codes "\"")
+
+-- how many more bytes there are, if any
+unfoldable pub more_text : ℕ → List ℕ
+more_text more = if more == 0 then [] else codes " and " ++ (decimal more ++ codes " more bytes")
+
+-- the first 60 bytes, and how many more there are
+abbrev pub quoted_front : List ℕ → List ℕ
+quoted_front bytes = quoted (take 60 bytes) ++ more_text (length bytes - 60)
 
 -- ---- the whole
 

@@ -1,6 +1,6 @@
 //! Paths and arguments on one line, without a character that steers a terminal.
 
-ghost use Rattle.std.specs.Prelude.{◌≡◌, ◌++◌, string_bytes, OnOk, IfOk};
+ghost use Rattle.std.specs.Prelude.{◌≡◌, ◌++◌, string_bytes, take, OnOk, IfOk};
 ghost use Rattle.std.specs.Char.{encode_utf8};
 ghost use Rattle.words.specs.Spelling as spec;
 ghost use Rattle.words.specs.Spelling.{flat_map};
@@ -50,6 +50,40 @@ pub fn quoted(alloc: Global, bytes: &[u8]) -> Result<String, AllocError>
         push_byte(&mut line, *byte)?;
     }
     line.push_str("\"")?;
+    Ok(line)
+}
+
+/// So many bytes are shown of what may be long.
+const MOST_SHOWN: usize = 60;
+
+/// The first bytes.
+fn front(bytes: &[u8]) -> &[u8]
+    ensures { result.now ≡ take 60 bytes.now }
+{
+    if bytes.len() <= MOST_SHOWN {
+        bytes
+    } else {
+        &bytes[..MOST_SHOWN]
+    }
+}
+
+/// Adds how many more bytes there are, if any.
+#[tactic(auto, unfolding(crate::specs::Spelling::more_text))]
+fn push_more(line: &mut String, more: usize) -> Result<(), AllocError>
+    ensures { OnOk result (string_bytes line.new ≡ string_bytes line.old ++ spec.more_text more) }
+{
+    if more == 0 {
+        return Ok(());
+    }
+    write!(line, " and {more} more bytes")
+}
+
+/// The first bytes between quotes, and how many more there are.
+pub fn quoted_front(alloc: Global, bytes: &[u8]) -> Result<String, AllocError>
+    ensures { IfOk result (λ line. string_bytes line ≡ spec.quoted_front bytes.now) }
+{
+    let mut line = quoted(alloc, front(bytes))?;
+    push_more(&mut line, bytes.len().saturating_sub(MOST_SHOWN))?;
     Ok(line)
 }
 
