@@ -59,6 +59,7 @@ SELECT a.id FROM dept a JOIN emp b ON b.dept = a.id WHERE EXISTS (SELECT DISTINC
 struct Planning<'q> {
     query: &'q BoundQuery,
     own: &'q [Aggregation],
+    frame_lines: usize,
     statistics: &'q Statistics,
 }
 
@@ -87,14 +88,13 @@ fn cost_over(
     Ok(cost(statistics, log, &cardinalities, plan))
 }
 
-/// The cheapest plan over a log of the class of a frame of so many lines.
+/// The cheapest plan over a log of the class of the frame.
 fn cheapest(
     alloc: Global,
     planning: Planning<'_>,
     log: &Log<'_>,
-    frame_lines: usize,
 ) -> Result<Option<Plan>, AllocError> {
-    let root = id_of(frame_lines.saturating_sub(1))?;
+    let root = id_of(planning.frame_lines.saturating_sub(1))?;
     let order = query_order(alloc, planning.query.query())?;
     let cardinalities = Cardinalities::of(alloc, planning.statistics, log)?;
     let found = best(
@@ -108,28 +108,35 @@ fn cheapest(
     Ok(found.map(|best| best.plan))
 }
 
-/// Adds what is wrong of the certificate with the lines that a plan needs: a fault of the check, another cost, more lines than a plan of five tables
-/// needs, or others once more trimmed. Whether nothing is.
+/// Whether a part of a log is as short as a plan of five tables needs, and no other once more trimmed, and its plan costs what it does over the log.
+fn is_least(
+    alloc: Global,
+    planning: Planning<'_>,
+    log: &Log<'_>,
+    plan: &Plan,
+    part: &Log<'_>,
+    own: &Plan,
+) -> Result<bool, AllocError> {
+    let again = trimmed(alloc, part, planning.frame_lines, own)?.lines.len();
+    let cost = cost_over(alloc, planning.statistics, part, own)?;
+    let known = cost_over(alloc, planning.statistics, log, plan)?;
+    Ok(part.len() <= MOST && again == part.len() && cost == known)
+}
+
+/// Adds the fault of the certificate with the lines that a plan needs, if the check has one. Whether it is as a reader expects.
 fn push_faults(
     alloc: Global,
     found: &mut String,
     planning: Planning<'_>,
     log: &Log<'_>,
     plan: &Plan,
-    frame_lines: usize,
 ) -> Result<bool, AllocError> {
-    let certificate = trimmed(alloc, log, frame_lines, plan)?;
     let query = planning.query.query();
+    let certificate = trimmed(alloc, log, planning.frame_lines, plan)?;
     let frame = frame_of(alloc, query)?;
     let own = own_aggregates(alloc, frame.as_slice())?;
-    let judged = judged_log(alloc, query, frame.as_slice(), own.as_slice(), &certificate);
-    match &judged {
-        Ok(part) => {
-            let own = cost_over(alloc, planning.statistics, part, &certificate.plan)?;
-            let known = cost_over(alloc, planning.statistics, log, plan)?;
-            let again = trimmed(alloc, part, frame_lines, &certificate.plan)?;
-            Ok(own == known && part.len() <= MOST && again.lines.len() == part.len())
-        }
+    match &judged_log(alloc, query, frame.as_slice(), own.as_slice(), &certificate) {
+        Ok(part) => is_least(alloc, planning, log, plan, part, &certificate.plan),
         Err(fault) => {
             writeln!(found, "{fault}")?;
             Ok(false)
@@ -149,11 +156,12 @@ fn push_trimmed(
     let planning = Planning {
         query,
         own: own.as_slice(),
+        frame_lines: frame.len(),
         statistics,
     };
     let log = explored(alloc, planning)?;
-    match cheapest(alloc, planning, &log, frame.len())? {
-        Some(plan) => push_faults(alloc, found, planning, &log, &plan, frame.len()),
+    match cheapest(alloc, planning, &log)? {
+        Some(plan) => push_faults(alloc, found, planning, &log, &plan),
         None => {
             writeln!(found, "no plan")?;
             Ok(false)
