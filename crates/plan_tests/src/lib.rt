@@ -33,3 +33,5 @@ mod plans;
 mod tables;
 #[cfg(test)]
 mod texts;
+#[cfg(test)]
+mod trimmed_logs;

@@ -1,0 +1,13 @@
+//! Certificates that have a part of a log's lines: those that a plan needs.
+#![tactic(auto)]
+
+mod facts;
+mod kept;
+mod needed;
+mod part;
+mod plan_lines;
+mod renumbered;
+mod renumbered_plans;
+mod sameness;
+
+pub use part::trimmed;
