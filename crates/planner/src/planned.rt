@@ -289,16 +289,17 @@ fn fitting_cost(
     Ok(cost)
 }
 
-/// Whether lines are closed, which is asked of few.
+/// Whether lines that were explored with room for more are closed, which is asked of few.
 fn are_closed(
     alloc: Global,
     planning: Planning<'_>,
     certificate: &Certificate,
+    is_explored: bool,
 ) -> Result<bool, AllocError>
     requires { IsFramed planning.query.now planning.frame.now planning.own.now }
     ensures { IfOk result (λ closed. closed ≡ true → IsClosed planning.entry.query.now.tables (reverse certificate.now.lines)) }
 {
-    if certificate.lines.len() > MOST_JUDGED {
+    if !is_explored || certificate.lines.len() > MOST_JUDGED {
         return Ok(false);
     }
     match fitting_log(alloc, planning, certificate)? {
@@ -310,12 +311,35 @@ fn are_closed(
     }
 }
 
-/// The certificate with its cost, if it has no more lines than a log may have, replays for the query, and its plan costs no more than the known one. Where
-/// the lines that its plan was found to need don't suffice, it has all.
-fn fitting(
+/// What is planned by a certificate that fits, at this cost, with lines that its plan needs of these.
+fn planned_by_part(
     alloc: Global,
     planning: Planning<'_>,
-    found: Option<Found>,
+    certificate: Certificate,
+    whole: Certificate,
+    is_explored: bool,
+    cost: u64,
+) -> Result<Planned, AllocError>
+    requires { IsFramed planning.query.now planning.frame.now planning.own.now }
+    ensures certificate { IfOk result (λ planned. planned.certificate ≡ certificate) }
+    ensures cost { IfOk result (λ planned. planned.cost ≡ cost) }
+    ensures complete { IfOk result (λ planned. IsComplete planning.entry.query.now planned) }
+{
+    let is_complete = are_closed(alloc, planning, &whole, is_explored)?;
+    Ok(Planned {
+        certificate,
+        log: whole.lines,
+        cost,
+        is_searched: true,
+        is_complete,
+    })
+}
+
+/// What is planned by a certificate, if it has no more lines than a log may have, replays for the query, and its plan costs no more than the known one.
+fn planned_by_all(
+    alloc: Global,
+    planning: Planning<'_>,
+    certificate: Certificate,
     known: &Certificate,
 ) -> Result<Option<Planned>, AllocError>
     requires { IsFramed planning.query.now planning.frame.now planning.own.now }
@@ -325,33 +349,43 @@ fn fitting(
     ensures within { IfOk result (λ fitting. IfSome fitting (λ planned. length planned.certificate.lines ≤ planning.entry.limit)) }
     ensures complete { IfOk result (λ fitting. IfSome fitting (λ planned. IsComplete planning.entry.query.now planned)) }
 {
-    let Some(Found {
-        certificate,
-        whole,
-        is_explored,
-    }) = found
-    else {
-        return Ok(None);
-    };
-    if let Some(cost) = fitting_cost(alloc, planning, &certificate, known)? {
-        let is_complete = is_explored && are_closed(alloc, planning, &whole)?;
-        return Ok(Some(Planned {
-            certificate,
-            log: whole.lines,
-            cost,
-            is_searched: true,
-            is_complete,
-        }));
-    }
-    match fitting_cost(alloc, planning, &whole, known)? {
+    match fitting_cost(alloc, planning, &certificate, known)? {
         Some(cost) => Ok(Some(Planned {
-            certificate: whole,
+            certificate,
             log: Items::new(alloc),
             cost,
             is_searched: true,
             is_complete: false,
         })),
         None => Ok(None),
+    }
+}
+
+/// What is planned by what a search found, if that fits: by a certificate with the lines that its plan needs, or else with all.
+fn fitting(
+    alloc: Global,
+    planning: Planning<'_>,
+    found: Found,
+    known: &Certificate,
+) -> Result<Option<Planned>, AllocError>
+    requires { IsFramed planning.query.now planning.frame.now planning.own.now }
+    ensures replays { IfOk result (λ fitting. IfSome fitting (λ planned. replayed planning.entry.query.now planned.certificate ≡ Ok planned.certificate)) }
+    ensures cost { IfOk result (λ fitting. IfSome fitting (λ planned. planned.cost ≡ certificate_cost planning.entry.statistics.now planning.entry.query.now planned.certificate)) }
+    ensures cheap { IfOk result (λ fitting. IfSome fitting (λ planned. IsAsCheap planning.entry.statistics.now planning.entry.query.now planned.certificate known.now)) }
+    ensures within { IfOk result (λ fitting. IfSome fitting (λ planned. length planned.certificate.lines ≤ planning.entry.limit)) }
+    ensures complete { IfOk result (λ fitting. IfSome fitting (λ planned. IsComplete planning.entry.query.now planned)) }
+{
+    let Found {
+        certificate,
+        whole,
+        is_explored,
+    } = found;
+    match fitting_cost(alloc, planning, &certificate, known)? {
+        Some(cost) => {
+            let planned = planned_by_part(alloc, planning, certificate, whole, is_explored, cost)?;
+            Ok(Some(planned))
+        }
+        None => planned_by_all(alloc, planning, whole, known),
     }
 }
 
@@ -388,9 +422,10 @@ fn plan_of_frame(alloc: Global, planning: Planning<'_>) -> Result<Planned, Alloc
     ensures complete { IfOk result (λ planned. IsComplete planning.entry.query.now planned) }
 {
     let known = certificate_of(alloc, planning.query)?;
-    let found = searched(alloc, planning, &known)?;
-    if let Some(planned) = fitting(alloc, planning, found, &known)? {
-        return Ok(planned);
+    if let Some(found) = searched(alloc, planning, &known)? {
+        if let Some(planned) = fitting(alloc, planning, found, &known)? {
+            return Ok(planned);
+        }
     }
     let cost = known_cost(alloc, planning, &known)?;
     Ok(Planned {
