@@ -28,6 +28,7 @@ use seed::seed;
 use simplify::simplify;
 use statistics::Statistics;
 use std::alloc::{AllocError, Global};
+use trimming::trimmed;
 use values::{Fault, Items};
 
 /// A certificate, what its plan is estimated to cost, and whether this was searched for. The canonical one is taken where none was found that fits
@@ -35,9 +36,11 @@ use values::{Fault, Items};
 #[derive(Drop)]
 pub struct Planned {
     pub certificate: Certificate,
+    /// The lines of the search, of which the certificate has those that its plan needs. None where the certificate has all of them, or is the canonical one.
+    pub log: Items<Line>,
     pub cost: u64,
     pub is_searched: bool,
-    /// Whether the certificate's lines are closed: whether no rule adds anything to them.
+    /// Whether the lines of the search are closed: whether no rule adds anything to them.
     pub is_complete: bool,
 }
 
@@ -62,24 +65,19 @@ struct Planning<'q> {
     exploration: Exploration,
 }
 
-/// Lines of a log and a plan over them, and whether these were explored with room for more.
+/// What a search found: a plan over all lines of its log, the certificate of that plan with the lines that it needs, and whether the log was explored
+/// with room for more.
 #[derive(Drop)]
 struct Found {
     certificate: Certificate,
+    whole: Certificate,
     is_explored: bool,
 }
 
-/// Of more lines nobody asks whether they are closed: that takes longer than to explore them, where classes have many.
+/// Of more lines nobody asks whether they are closed. For so many it takes some tens of milliseconds.
 const MOST_JUDGED: usize = 1_000;
 
-/// What is known of a certificate that fits.
-#[derive(Clone, Copy)]
-struct Verdict {
-    cost: u64,
-    is_complete: bool,
-}
-
-/// So much a plan has to cost for each line that its log may have. A line takes about as long to explore as a twentieth of what is estimated at so much.
+/// So much a plan has to cost for each line that its log may have: a line takes a small part of the time to explore that is estimated at so much.
 const COST_OF_LINE: u64 = 50_000;
 
 /// A log of the lines; none where some line may not stand.
@@ -131,24 +129,29 @@ fn seeded<'q>(alloc: Global, planning: Planning<'_>, log: Log<'q>) -> Result<Mem
     Ok(memo)
 }
 
-/// How many lines a log may have for it to be worth exploring where a plan is estimated to cost so much.
-fn worthwhile(planning: Planning<'_>, cost: u64) -> usize {
-    match planning.exploration {
-        Exploration::WhileWorthwhile => match usize::try_from(cost / COST_OF_LINE) {
-            Ok(lines) => lines.min(planning.limit),
-            Err(_) => planning.limit,
-        },
-        Exploration::ToLimit => planning.limit,
+/// How many lines a log may have, so many at most, for it to be worth exploring where a plan is estimated to cost so much.
+fn worthwhile(limit: usize, cost: u64) -> usize {
+    match usize::try_from(cost / COST_OF_LINE) {
+        Ok(lines) => lines.min(limit),
+        Err(_) => limit,
     }
 }
 
-/// All lines of a log, with a plan over them.
-fn found_over(memo: Memo<'_>, plan: Plan, is_explored: bool) -> Found {
+/// A plan over a log, with all its lines and with those that it needs.
+fn found_over(
+    alloc: Global,
+    planning: Planning<'_>,
+    memo: Memo<'_>,
+    plan: Plan,
+    is_explored: bool,
+) -> Result<Found, AllocError> {
+    let certificate = trimmed(alloc, memo.log(), planning.frame.len(), &plan)?;
     let lines = Items::from_vec(memo.into_log().into_lines());
-    Found {
-        certificate: Certificate { lines, plan },
+    Ok(Found {
+        certificate,
+        whole: Certificate { lines, plan },
         is_explored,
-    }
+    })
 }
 
 /// The cheapest plan that is found over a log's lines and all others that its limit leaves room for.
@@ -158,40 +161,45 @@ fn explored(
     memo: Memo<'_>,
 ) -> Result<Option<Found>, AllocError> {
     let mut memo = memo;
-    apply_all(alloc, &mut memo)?;
+    if !memo.is_full() {
+        apply_all(alloc, &mut memo)?;
+    }
     let has_room = !memo.is_full();
     match cheapest(alloc, planning, memo.log())? {
-        Some(best) => Ok(Some(found_over(memo, best.plan, has_room))),
+        Some(best) => Ok(Some(found_over(alloc, planning, memo, best.plan, has_room)?)),
         None => Ok(None),
     }
 }
 
-/// The same where there is room; else the plan that is known.
-fn explored_or_known(
+/// The cheapest plan that is found over a log's lines; where it is dear enough, over others behind them as well.
+fn explored_if_worthwhile(
     alloc: Global,
     planning: Planning<'_>,
     memo: Memo<'_>,
-    plan: Plan,
 ) -> Result<Option<Found>, AllocError> {
-    if memo.is_full() {
-        return Ok(Some(found_over(memo, plan, false)));
+    match cheapest(alloc, planning, memo.log())? {
+        Some(BestPlan { plan, cost }) => {
+            let memo = memo.with_limit(worthwhile(planning.limit, cost));
+            if memo.is_full() {
+                Ok(Some(found_over(alloc, planning, memo, plan, false)?))
+            } else {
+                explored(alloc, planning, memo)
+            }
+        }
+        None => Ok(None),
     }
-    explored(alloc, planning, memo)
 }
 
-/// The cheapest plan that is found over a log's lines and others behind them, as far as these are worth exploring.
+/// The cheapest plan that is found over a log's lines and others behind them, as far as these are to be explored.
 fn found_by_log(
     alloc: Global,
     planning: Planning<'_>,
     log: Log<'_>,
 ) -> Result<Option<Found>, AllocError> {
     let memo = seeded(alloc, planning, log)?;
-    match cheapest(alloc, planning, memo.log())? {
-        Some(BestPlan { plan, cost }) => {
-            let memo = memo.with_limit(worthwhile(planning, cost));
-            explored_or_known(alloc, planning, memo, plan)
-        }
-        None => Ok(None),
+    match planning.exploration {
+        Exploration::WhileWorthwhile => explored_if_worthwhile(alloc, planning, memo),
+        Exploration::ToLimit => explored(alloc, planning, memo),
     }
 }
 
@@ -252,46 +260,86 @@ fn fitting_log<'q>(
 }
 
 /// What the plan of a certificate costs, if it has no more lines than a log may have, replays for the query, and its plan costs no more than the known
-/// one; and whether its lines are closed, if they are few and were explored.
-fn fitting_verdict(
+/// one.
+fn fitting_cost(
     alloc: Global,
     planning: Planning<'_>,
-    found: &Found,
+    certificate: &Certificate,
     known: &Certificate,
-) -> Result<Option<Verdict>, AllocError>
+) -> Result<Option<u64>, AllocError>
     requires { IsFramed planning.query.now planning.frame.now planning.own.now }
-    ensures replays { IfOk result (λ verdict. IfSome verdict (λ v. replayed planning.entry.query.now found.now.certificate ≡ Ok found.now.certificate)) }
-    ensures cost { IfOk result (λ verdict. IfSome verdict (λ v. v.cost ≡ certificate_cost planning.entry.statistics.now planning.entry.query.now found.now.certificate)) }
-    ensures cheap { IfOk result (λ verdict. IfSome verdict (λ v. IsAsCheap planning.entry.statistics.now planning.entry.query.now found.now.certificate known.now)) }
-    ensures within { IfOk result (λ verdict. IfSome verdict (λ v. length found.now.certificate.lines ≤ planning.entry.limit)) }
-    ensures complete { IfOk result (λ verdict. IfSome verdict (λ v. v.is_complete ≡ true → IsClosed planning.entry.query.now.tables (reverse found.now.certificate.lines))) }
+    ensures replays { IfOk result (λ cost. IfSome cost (λ c. replayed planning.entry.query.now certificate.now ≡ Ok certificate.now)) }
+    ensures cost { IfOk result (λ cost. IfSome cost (λ c. c ≡ certificate_cost planning.entry.statistics.now planning.entry.query.now certificate.now)) }
+    ensures cheap { IfOk result (λ cost. IfSome cost (λ c. IsAsCheap planning.entry.statistics.now planning.entry.query.now certificate.now known.now)) }
+    ensures within { IfOk result (λ cost. IfSome cost (λ c. length certificate.now.lines ≤ planning.entry.limit)) }
 {
-    let certificate = &found.certificate;
     if certificate.lines.len() > planning.limit {
         return Ok(None);
     }
     let Some(log) = fitting_log(alloc, planning, certificate)? else {
         return Ok(None);
     };
-    let Some(cost) = cost_within(
+    let cost = cost_within(
         alloc,
         planning.statistics,
         &log,
         &certificate.plan,
         &known.plan,
-    )?
-    else {
-        return Ok(None);
-    };
-    let is_complete = found.is_explored && log.len() <= MOST_JUDGED && is_closed(alloc, &log)?;
-    Ok(Some(Verdict { cost, is_complete }))
+    )?;
+    Ok(cost)
 }
 
-/// The certificate with its cost, if it has no more lines than a log may have, replays for the query, and its plan costs no more than the known one.
-fn fitting(
+/// Whether lines that were explored with room for more are closed, which is asked of few.
+fn are_closed(
     alloc: Global,
     planning: Planning<'_>,
-    found: Option<Found>,
+    certificate: &Certificate,
+    is_explored: bool,
+) -> Result<bool, AllocError>
+    requires { IsFramed planning.query.now planning.frame.now planning.own.now }
+    ensures { IfOk result (λ closed. closed ≡ true → IsClosed planning.entry.query.now.tables (reverse certificate.now.lines)) }
+{
+    if !is_explored || certificate.lines.len() > MOST_JUDGED {
+        return Ok(false);
+    }
+    match fitting_log(alloc, planning, certificate)? {
+        Some(log) => {
+            let closed = is_closed(alloc, &log)?;
+            Ok(closed)
+        }
+        None => Ok(false),
+    }
+}
+
+/// What is planned by a certificate that fits, at this cost, with lines that its plan needs of these.
+fn planned_by_part(
+    alloc: Global,
+    planning: Planning<'_>,
+    certificate: Certificate,
+    whole: Certificate,
+    is_explored: bool,
+    cost: u64,
+) -> Result<Planned, AllocError>
+    requires { IsFramed planning.query.now planning.frame.now planning.own.now }
+    ensures certificate { IfOk result (λ planned. planned.certificate ≡ certificate) }
+    ensures cost { IfOk result (λ planned. planned.cost ≡ cost) }
+    ensures complete { IfOk result (λ planned. IsComplete planning.entry.query.now planned) }
+{
+    let is_complete = are_closed(alloc, planning, &whole, is_explored)?;
+    Ok(Planned {
+        certificate,
+        log: whole.lines,
+        cost,
+        is_searched: true,
+        is_complete,
+    })
+}
+
+/// What is planned by a certificate, if it has no more lines than a log may have, replays for the query, and its plan costs no more than the known one.
+fn planned_by_all(
+    alloc: Global,
+    planning: Planning<'_>,
+    certificate: Certificate,
     known: &Certificate,
 ) -> Result<Option<Planned>, AllocError>
     requires { IsFramed planning.query.now planning.frame.now planning.own.now }
@@ -301,17 +349,43 @@ fn fitting(
     ensures within { IfOk result (λ fitting. IfSome fitting (λ planned. length planned.certificate.lines ≤ planning.entry.limit)) }
     ensures complete { IfOk result (λ fitting. IfSome fitting (λ planned. IsComplete planning.entry.query.now planned)) }
 {
-    let Some(found) = found else {
-        return Ok(None);
-    };
-    match fitting_verdict(alloc, planning, &found, known)? {
-        Some(Verdict { cost, is_complete }) => Ok(Some(Planned {
-            certificate: found.certificate,
+    match fitting_cost(alloc, planning, &certificate, known)? {
+        Some(cost) => Ok(Some(Planned {
+            certificate,
+            log: Items::new(alloc),
             cost,
             is_searched: true,
-            is_complete,
+            is_complete: false,
         })),
         None => Ok(None),
+    }
+}
+
+/// What is planned by what a search found, if that fits: by a certificate with the lines that its plan needs, or else with all.
+fn fitting(
+    alloc: Global,
+    planning: Planning<'_>,
+    found: Found,
+    known: &Certificate,
+) -> Result<Option<Planned>, AllocError>
+    requires { IsFramed planning.query.now planning.frame.now planning.own.now }
+    ensures replays { IfOk result (λ fitting. IfSome fitting (λ planned. replayed planning.entry.query.now planned.certificate ≡ Ok planned.certificate)) }
+    ensures cost { IfOk result (λ fitting. IfSome fitting (λ planned. planned.cost ≡ certificate_cost planning.entry.statistics.now planning.entry.query.now planned.certificate)) }
+    ensures cheap { IfOk result (λ fitting. IfSome fitting (λ planned. IsAsCheap planning.entry.statistics.now planning.entry.query.now planned.certificate known.now)) }
+    ensures within { IfOk result (λ fitting. IfSome fitting (λ planned. length planned.certificate.lines ≤ planning.entry.limit)) }
+    ensures complete { IfOk result (λ fitting. IfSome fitting (λ planned. IsComplete planning.entry.query.now planned)) }
+{
+    let Found {
+        certificate,
+        whole,
+        is_explored,
+    } = found;
+    match fitting_cost(alloc, planning, &certificate, known)? {
+        Some(cost) => {
+            let planned = planned_by_part(alloc, planning, certificate, whole, is_explored, cost)?;
+            Ok(Some(planned))
+        }
+        None => planned_by_all(alloc, planning, whole, known),
     }
 }
 
@@ -348,13 +422,15 @@ fn plan_of_frame(alloc: Global, planning: Planning<'_>) -> Result<Planned, Alloc
     ensures complete { IfOk result (λ planned. IsComplete planning.entry.query.now planned) }
 {
     let known = certificate_of(alloc, planning.query)?;
-    let found = searched(alloc, planning, &known)?;
-    if let Some(planned) = fitting(alloc, planning, found, &known)? {
-        return Ok(planned);
+    if let Some(found) = searched(alloc, planning, &known)? {
+        if let Some(planned) = fitting(alloc, planning, found, &known)? {
+            return Ok(planned);
+        }
     }
     let cost = known_cost(alloc, planning, &known)?;
     Ok(Planned {
         certificate: known,
+        log: Items::new(alloc),
         cost,
         is_searched: false,
         is_complete: false,
