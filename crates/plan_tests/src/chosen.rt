@@ -50,7 +50,7 @@ fn plans_are_the_cheapest(rt: HostRuntime) {
     const CASES: &str =
         r#"SELECT d.id, e.id FROM dept d LEFT JOIN emp e ON e.dept = d.id WHERE e.pay > 0 => SQLPLAN 1/lines 5/F get 0/F get 1/F left [=(c4,c0)] 0 1/F select [>(c5,i0)] 2/F keep 0,3 3/plan 5/cut 4 0,3/filter 3 [>(c5,i0)]/hash 2 left [=(c4,c0)]/scan 0 0/scan 1 1/end/
 SELECT id FROM emp WHERE pay <> 500 => SQLPLAN 1/lines 3/F get 0/F select [<>(c2,i500)] 0/F keep 0 1/plan 3/cut 2 0/filter 1 [<>(c2,i500)]/scan 0 0/end/
-SELECT d.id FROM dept d JOIN emp e ON e.pay < d.id => SQLPLAN 1/lines 16/F get 0/F get 1/F join [<(c5,c0)] 0 1/F keep 0 2/A 2 J1 0 2 - join [<(c5,c0)] 1 0/F keep 0 0/F join [<(c5,c0)] 5 1/A 3 K3 0 3,2 6,5 keep 0 6/A 6 J1 0 6 - join [<(c5,c0)] 1 5/F keep 5 1/F join [<(c5,c0)] 9 0/A 3 K3 0 3,4 10,9 keep 0 10/A 10 J1 0 10 - join [<(c5,c0)] 0 9/F join [<(c5,c0)] 9 5/A 3 K3 0 7,8 13,9 keep 0 13/A 13 J1 0 13 - join [<(c5,c0)] 5 9/plan 4/cut 3 0/loop 2 inner [<(c5,c0)]/scan 0 0/scan 1 1/end/
+SELECT d.id FROM dept d JOIN emp e ON e.pay < d.id => SQLPLAN 1/lines 4/F get 0/F get 1/F join [<(c5,c0)] 0 1/F keep 0 2/plan 4/cut 3 0/loop 2 inner [<(c5,c0)]/scan 0 0/scan 1 1/end/
 SELECT DISTINCT d.id FROM dept d => SQLPLAN 1/lines 8/F get 0/F keep 0 0/F distinct 1/L 0 0 notnull 0/L 0 0 weak 0/L 0 0 strong 0/L 1 1 strong 0/S 2 1 D1 0 2 -/plan 2/cut 1 0/scan 0 0/end/
 SELECT nothing FROM emp => [] => refused B02 at 7
 SELECT id FROM emp => [ => refused N01

@@ -2,7 +2,7 @@
 
 use crate::derived::{expr_of, fact_of, lines_of, numbers_of, rule_of};
 use crate::plans::{cut, id};
-use closure::is_closed;
+use closure::{is_closed, missing, next_line};
 use derivation::Line;
 use explore::explore;
 use fixtures::{COMPANY, DEPT, EMP, QueryReporting, Tables, push_number, query_differences};
@@ -41,8 +41,24 @@ fn push_numbers(reported: &mut String, numbers: &[u32]) -> Result<(), AllocError
     Ok(())
 }
 
+/// So many lines a log gets at most by what it lacks.
+const MOST_LACKING: usize = 100;
+
+/// Gives a log line by line what it lacks, and adds how many lines these were.
+fn push_given(alloc: Global, reported: &mut String, memo: &mut Memo<'_>) -> Result<(), AllocError> {
+    for count in 0..MOST_LACKING {
+        let Some(lacking) = missing(alloc, memo.log())? else {
+            return push_number(reported, "", count);
+        };
+        let line = next_line(alloc, memo.log(), lacking)?;
+        memo.add(alloc, line)?;
+    }
+    reported.push_str("too many")
+}
+
 /// Does what the words say, and adds what comes of it: `found EXPR` the class, `line CLASS EXPR` and `apply RULE LINES` the line,
-/// `learn CLASS FACT` whether it is known, `members CLASS` and `parents CLASS` lines, `explore` and `closed` whether nothing more can be added.
+/// `learn CLASS FACT` whether it is known, `members CLASS` and `parents CLASS` lines, `explore` and `closed` whether nothing more can be added,
+/// `give` how many lines the log lacked.
 fn push_done(
     alloc: Global,
     reported: &mut String,
@@ -72,6 +88,7 @@ fn push_done(
             let is_whole = explore(alloc, memo)?;
             reported.push_str(if is_whole { "whole" } else { "not whole" })
         }
+        "give" => push_given(alloc, reported, memo),
         "closed" => {
             let is_closed = is_closed(alloc, memo.log())?;
             reported.push_str(if is_closed { "closed" } else { "open" })
@@ -224,6 +241,25 @@ fn logs_are_explored(rt: HostRuntime) {
             rt.alloc(),
             TABLES,
             &[SELECTED, JOINED],
+            &Grown { limit: LIMIT }
+        )
+        .as_deref(),
+        Ok("")
+    );
+}
+
+/// What a log lacks, given line by line, closes it as exploring does: with as many expressions, in another order.
+#[test]
+fn logs_are_given_what_they_lack(rt: HostRuntime) {
+    const SELECTED: &str =
+        "SELECT d.id FROM dept d, emp e => F get 0; F get 1; F join [] 0 1; F select [>(c0,i5)] 2 / closed; give; closed; explore; give => open; 6; closed; whole; 0; lines F F F F A2 A3 F A3 A3 A3";
+    const ALIKE: &str =
+        "SELECT d.id FROM dept d, emp e => F get 0; F get 1; F get 0; F join [] 0 1; F join [] 1 0 / give; closed; explore => 1; closed; whole; lines F F F F F G0,2 A3 G4,6";
+    assert_eq!(rt;
+        query_differences(
+            rt.alloc(),
+            TABLES,
+            &[SELECTED, ALIKE],
             &Grown { limit: LIMIT }
         )
         .as_deref(),
