@@ -29,7 +29,7 @@ ROOT = pathlib.Path(__file__).resolve().parent.parent
 NAME = "plan_quality"
 LIBRARIES = (
     "values schema store statistics sql_parse query binder algebra laws props rules derivation logs frame physical costs memo closure explore simplify seed search"
-    " certificate certificate_text planner anyhow"
+    " certificate trimming certificate_text planner anyhow"
 )
 BATCH = 60
 SHAPES = ("chain", "star", "cycle", "clique")
