@@ -5,7 +5,7 @@ use clap::{Arg, ArgAction, Command};
 use std::alloc::{AllocError, Global};
 
 /// What `--version` says behind the name: the program's version, and the kit that it is proved and built with, as `rt version` has it.
-const VERSION: &str = "0.1.0 (rattle-kit-13b logic dac8208d650f15bf)";
+const VERSION: &str = "0.1.0 (rattle-kit-13f logic dac8208d650f15bf)";
 
 /// An example of each command, at the end of the help.
 const EXAMPLES: &str = "\
