@@ -4,6 +4,7 @@ pub mod Fits
 pub mod FormedLogs
 pub mod FormedResults
 pub mod FormedShapes
+pub mod Founding
 pub mod Lacking
 pub mod Results
 pub mod Shapes

@@ -30,7 +30,7 @@ use Rattle.derivation.proofs.Standing.{StandsFounds, founds-stands}
 use Rattle.logs.proofs.Equations.{class_Class}
 use Rattle.closure.specs.declared.lacks.Binding.{Binding}
 use Rattle.closure.specs.Formed.{formed, IsFormedLine, Rises}
-use Rattle.closure.specs.Lacking.{LacksAlike, LacksBinding}
+use Rattle.closure.specs.Lacking.{LacksAlike, GivesBinding, LacksBinding}
 use Rattle.closure.specs.Results.{uses_of, step_of, AreMatched, IsResult}
 use Rattle.closure.specs.Spelt.{cols, MayStand, shape_columns, IsSpelt}
 use Rattle.closure.proofs.Agreeing.{are-alike}
@@ -175,22 +175,26 @@ module _ (instances : List TableInstance) (own : List Aggregation) (E : Log) whe
       formed : MayStand instances own E s × (shape_columns instances own E s ≡ cols instances E top.class)
       formed = book_gives_formed b.rule instances own K (founds E) (λ g h same. kept.same g h (eqb-true (least E g) (least E h) same)) 0 top matched.others s given_ (all-lines kept (uses_of b) (top ∷ matched.others) there) rise
 
-  pub result_fits : (b : Binding) (lines : List matches.Line) (top : matches.Line) (u : Unfit) → AreMatched E b lines top → LacksBinding instances E b
+  pub result_fits : (b : Binding) (lines : List matches.Line) (top : matches.Line) (u : Unfit) → AreMatched E b lines top → GivesBinding instances E b
       → given_by b.rule (record { lines = lines; pick = 0; classes = K }) ≡ Err u → ⊥
-  result_fits b lines top u matched lacks fails =
-      let same : lines ≡ lacks.top ∷ lacks.others = let e : Some lines ≡ Some (lacks.top ∷ lacks.others) = sym matched.there ∙ lacks.lines in cc in
-      let never : Err u ≡ Ok lacks.result.shape = sym fails ∙ ap (λ ls. given_by b.rule (record { lines = ls; pick = 0; classes = K })) same ∙ lacks.result.given in
+  result_fits b lines top u matched gives fails =
+      let same : lines ≡ gives.top ∷ gives.others = let e : Some lines ≡ Some (gives.top ∷ gives.others) = sym matched.there ∙ gives.lines in cc in
+      let never : Err u ≡ Ok gives.shape = sym fails ∙ ap (λ ls. given_by b.rule (record { lines = ls; pick = 0; classes = K })) same ∙ gives.given in
       cc
 
-  pub top_there : (b : Binding) → LacksBinding instances E b → member E b.top ≡ None → ⊥
-  top_there b lacks none = let never : None ≡ Some (lacks.top ∷ lacks.others) = ap (λ o. both_lines o (members E (option_to_list b.below))) (sym none) ∙ lacks.lines in cc
+  pub top_there : (b : Binding) → GivesBinding instances E b → member E b.top ≡ None → ⊥
+  top_there b gives none = let never : None ≡ Some (gives.top ∷ gives.others) = ap (λ o. both_lines o (members E (option_to_list b.below))) (sym none) ∙ gives.lines in cc
 
-  pub below_there : (b : Binding) (below : ℕ) → LacksBinding instances E b → b.below ≡ Some below → member E below ≡ None → ⊥
-  below_there b below lacks is none = by (member E b.top) (ap (λ o. both_lines (member E b.top) (members E (option_to_list o))) (sym is) ∙ lacks.lines)
+  pub below_there : (b : Binding) (below : ℕ) → GivesBinding instances E b → b.below ≡ Some below → member E below ≡ None → ⊥
+  below_there b below gives is none = by (member E b.top) (ap (λ o. both_lines (member E b.top) (members E (option_to_list o))) (sym is) ∙ gives.lines)
     where
-      by : (o : Option matches.Line) → both_lines o (members E (below ∷ [])) ≡ Some (lacks.top ∷ lacks.others) → ⊥
+      by : (o : Option matches.Line) → both_lines o (members E (below ∷ [])) ≡ Some (gives.top ∷ gives.others) → ⊥
       by None at = cc
-      by (Some l) at = let never : None ≡ Some (lacks.top ∷ lacks.others) = sym (ap (λ o. both_lines (Some l) (both_lines o (Some []))) none) ∙ at in cc
+      by (Some l) at = let never : None ≡ Some (gives.top ∷ gives.others) = sym (ap (λ o. both_lines (Some l) (both_lines o (Some []))) none) ∙ at in cc
+
+  -- what is missing is given
+  pub lacking_gives : (b : Binding) → LacksBinding instances E b → GivesBinding instances E b
+  lacking_gives b lacks = record { top = lacks.top; others = lacks.others; lines = lacks.lines; shape = lacks.result.shape; given = lacks.result.given }
 
   pub one_matched : (b : Binding) (top : matches.Line) → b.below ≡ None → member E b.top ≡ Some top → AreMatched E b (top ∷ []) top
   one_matched b top is there = record {

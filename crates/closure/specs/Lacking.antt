@@ -42,6 +42,14 @@ module _ (instances : List TableInstance) (E : Log) where
     pub there : member E n ≡ Some line
     pub result : LacksResult rule (top ∷ line ∷ []) top.class
 
+  -- a rule gives something at the lines of a binding
+  pub record GivesBinding (b : Binding) : Type 0 where
+    pub top : matches.Line
+    pub others : List matches.Line
+    pub lines : members E (b.top ∷ option_to_list b.below) ≡ Some (top ∷ others)
+    pub shape : Shape
+    pub given : given_by b.rule (record { lines = top ∷ others; pick = 0; classes = knowledge instances E }) ≡ Ok shape
+
   -- so it is at the lines of a binding
   pub record LacksBinding (b : Binding) : Type 0 where
     pub top : matches.Line

@@ -6,3 +6,4 @@ pub mod Operators
 pub mod Places
 pub mod Results
 pub mod Spelt
+pub mod Steps

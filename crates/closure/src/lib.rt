@@ -11,4 +11,4 @@ mod standing;
 
 pub use closing::{is_closed, missing};
 pub use lacks::{Binding, Missing};
-pub use nearer::{next_line, results_may_stand};
+pub use nearer::{line_of, next_line, results_may_stand};

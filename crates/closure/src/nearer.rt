@@ -1,12 +1,13 @@
 //! A line by which a log comes nearer to being closed.
 
-ghost use Rattle.std.specs.Prelude.{◌≡◌, [], map, Ok, IfOk};
+ghost use Rattle.std.specs.Prelude.{◌≡◌, [], map, true, Ok, IfOk};
 ghost use Rattle.rules.specs.Matches.{line_in};
 ghost use Rattle.derivation.specs.Logs.{founds, knowledge};
 ghost use Rattle.derivation.specs.Replay.{stands};
 ghost use Rattle.closure.specs.Formed.{BookGivesFormed, Rises};
-ghost use Rattle.closure.specs.Lacking.{IsMissing, LacksBinding};
+ghost use Rattle.closure.specs.Lacking.{GivesBinding, IsMissing};
 ghost use Rattle.closure.specs.Results as spec;
+ghost use Rattle.closure.specs.Steps.{is_step};
 
 use crate::lacks::{Binding, Missing};
 use crate::spelt::{Spelt, spell};
@@ -46,7 +47,8 @@ fn line_of_shape(
     shape: &Shape,
 ) -> Result<Line, AllocError>
     requires { spec.IsResult log.now.instances log.now.own log.now.log binding class shape.now }
-    ensures { IfOk result (λ line. stands log.now.instances log.now.own log.now.log line ≡ Ok line) }
+    ensures stands { IfOk result (λ line. stands log.now.instances log.now.own log.now.log line ≡ Ok line) }
+    ensures steps { IfOk result (λ line. is_step line ≡ true) }
 {
     match spell(alloc, log, shape)? {
         Spelt::Class(other) => Ok(Line::Unites(class, other, step_of(alloc, binding, &[])?)),
@@ -86,8 +88,9 @@ fn line_of_lines(
     top: MatchedLine<'_>,
 ) -> Result<Line, AllocError>
     requires matched { spec.AreMatched log.now.log binding (map line_in lines.now) (line_in top) }
-    requires lacks { LacksBinding log.now.instances log.now.log binding }
-    ensures { IfOk result (λ line. stands log.now.instances log.now.own log.now.log line ≡ Ok line) }
+    requires gives { GivesBinding log.now.instances log.now.log binding }
+    ensures stands { IfOk result (λ line. stands log.now.instances log.now.own log.now.log line ≡ Ok line) }
+    ensures steps { IfOk result (λ line. is_step line ≡ true) }
 {
     let _lines = log.lines();
     rises(log, top.expr);
@@ -106,11 +109,13 @@ fn line_of_lines(
     }
 }
 
-/// The same of a binding.
+/// A line that may stand behind the log, of what the rule gives at the lines of a binding: a step that adds it, or the founding of the first of its inner
+/// expressions that no line has.
 #[tactic(auto, using(crate::proofs::Results::top_there, crate::proofs::Results::below_there, crate::proofs::Results::one_matched, crate::proofs::Results::two_matched))]
-fn line_of_binding(alloc: Global, log: &Log<'_>, binding: Binding) -> Result<Line, AllocError>
-    requires { LacksBinding log.now.instances log.now.log binding }
-    ensures { IfOk result (λ line. stands log.now.instances log.now.own log.now.log line ≡ Ok line) }
+pub fn line_of(alloc: Global, log: &Log<'_>, binding: Binding) -> Result<Line, AllocError>
+    requires { GivesBinding log.now.instances log.now.log binding }
+    ensures stands { IfOk result (λ line. stands log.now.instances log.now.own log.now.log line ≡ Ok line) }
+    ensures steps { IfOk result (λ line. is_step line ≡ true) }
 {
     let Some(top) = log.member(binding.top) else {
         unreachable!()
@@ -137,7 +142,7 @@ pub fn results_may_stand()
 
 /// A line that may stand behind the log and adds something of what it lacks: that two lines are alike, what the rule gives, or else the first expression
 /// of it that no line has.
-#[tactic(auto, using(crate::proofs::Results::alike_stands))]
+#[tactic(auto, using(crate::proofs::Results::alike_stands, crate::proofs::Results::lacking_gives))]
 pub fn next_line(alloc: Global, log: &Log<'_>, missing: Missing) -> Result<Line, AllocError>
     requires { IsMissing log.now.instances log.now.log missing }
     ensures { IfOk result (λ line. stands log.now.instances log.now.own log.now.log line ≡ Ok line) }
@@ -145,7 +150,7 @@ pub fn next_line(alloc: Global, log: &Log<'_>, missing: Missing) -> Result<Line,
     match missing {
         Missing::Alike(first, second) => Ok(Line::Alike(first, second)),
         Missing::Result(binding) => {
-            let line = line_of_binding(alloc, log, binding)?;
+            let line = line_of(alloc, log, binding)?;
             Ok(line)
         }
     }

@@ -14,5 +14,5 @@ line_of_shape-requires c =
 pub unreachable-requires : goal.unreachable-requires
 unreachable-requires c =
     let known = ap (λ (K : Knowledge). given_by c.args.binding.rule (record { lines = map line_in c.args.lines.now; pick = 0; classes = K })) (sym c.classes.ensures.known) in
-    result_fits c.args.log.now.instances c.args.log.now.own c.args.log.now.log c.args.binding (map line_in c.args.lines.now) (line_in c.args.top) _ c.requires.matched c.requires.lacks
+    result_fits c.args.log.now.instances c.args.log.now.own c.args.log.now.log c.args.binding (map line_in c.args.lines.now) (line_in c.args.top) _ c.requires.matched c.requires.gives
     (known ∙ subst (λ f. Fails f (given_by c.args.binding.rule (record { lines = map line_in c.args.lines.now; pick = 0; classes = known_by c.classes.result }))) c.in-Err-Refused.field-0-is c.in-Err-Refused.ensures)

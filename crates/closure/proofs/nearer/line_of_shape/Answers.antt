@@ -7,8 +7,8 @@ use Rattle.closure.specs.Spelt.{SpeltAs}
 use Rattle.closure.proofs.Results.{adds_stand, unites_stand}
 use Rattle.closure.proofs.nearer.line_of_shape.Goals as goal
 
-pub returns-in_ok-step_of-in-Class : goal.returns-in_ok-step_of-in-Class
-returns-in_ok-step_of-in-Class c =
+pub returns-in_ok-step_of-in-Class-clause-stands : goal.returns-in_ok-step_of-in-Class-clause-stands
+returns-in_ok-step_of-in-Class-clause-stands c =
     let instances = c.args.log.now.instances in
     let own = c.args.log.now.own in
     let E = c.args.log.now.log in
@@ -16,8 +16,8 @@ returns-in_ok-step_of-in-Class c =
     subst (λ (s : Step). stands instances own E (Unites c.args.class c.in-Class.other s) ≡ Ok (Unites c.args.class c.in-Class.other s)) (sym c.in_ok-step_of-in-Class.ensures)
     (unites_stand instances own E c.args.binding c.args.class c.in-Class.other c.args.shape.now same c.requires)
 
-pub returns-in_ok-step-in-Expr : goal.returns-in_ok-step-in-Expr
-returns-in_ok-step-in-Expr c =
+pub returns-in_ok-step-in-Expr-clause-stands : goal.returns-in_ok-step-in-Expr-clause-stands
+returns-in_ok-step-in-Expr-clause-stands c =
     let instances = c.args.log.now.instances in
     let own = c.args.log.now.own in
     let E = c.args.log.now.log in
