@@ -18,6 +18,13 @@ use rules::{Match, MatchedLine, RuleName, Shape};
 use std::alloc::{AllocError, Global};
 use values::{Boxed, Fault};
 
+/// A line that says what a rule gives, and the line that has its expression, unless it is this one.
+#[derive(Drop)]
+struct ResultLine {
+    line: Line,
+    stands_in: Option<LineId>,
+}
+
 /// What a rule gives of a class.
 #[derive(Drop)]
 struct Given {
@@ -302,12 +309,15 @@ impl<'q> Memo<'q> {
         class: ClassId,
         expr: Expr,
         makes: &[LineId],
-    ) -> Result<Option<Line>, AllocError>
-        ensures { IfOk result (λ found. IfSome found (λ line. is_result line ≡ true)) }
+    ) -> Result<Option<ResultLine>, AllocError>
+        ensures { IfOk result (λ found. IfSome found (λ said. is_result said.line ≡ true)) }
     {
         let Some(found) = self.named(alloc, &expr)? else {
             let step = step_of(alloc, binding, makes)?;
-            return Ok(Some(Line::Adds(class, step, expr)));
+            return Ok(Some(ResultLine {
+                line: Line::Adds(class, step, expr),
+                stands_in: None,
+            }));
         };
         if self.log().are_same(class, found.class) {
             return Ok(None);
@@ -316,7 +326,10 @@ impl<'q> Memo<'q> {
         spelt.push(found.line)?;
         spelt.extend_from_slice(makes)?;
         let step = step_of(alloc, binding, spelt.as_slice())?;
-        Ok(Some(Line::Unites(class, found.class, step)))
+        Ok(Some(ResultLine {
+            line: Line::Unites(class, found.class, step),
+            stands_in: Some(found.line),
+        }))
     }
 
     /// The line that says what the rule gives, of which the inner expressions are found or founded.
@@ -326,16 +339,16 @@ impl<'q> Memo<'q> {
         binding: Binding,
         class: ClassId,
         shape: Shape,
-    ) -> Result<Option<Line>, AllocError>
+    ) -> Result<Option<ResultLine>, AllocError>
         ensures alone { FoundsAlone self.old.limit self.old.log self.new.log }
-        ensures result { IfOk result (λ found. IfSome found (λ line. is_result line ≡ true)) }
+        ensures result { IfOk result (λ found. IfSome found (λ said. is_result said.line ≡ true)) }
         ensures limit { self.new.limit ≡ self.old.limit }
     {
         let mut makes = Vec::new(alloc);
         match unless_refused(self.expr_of(alloc, shape, &mut makes))? {
             Some(expr) => {
-                let line = self.line_with(alloc, binding, class, expr, makes.as_slice())?;
-                Ok(line)
+                let said = self.line_with(alloc, binding, class, expr, makes.as_slice())?;
+                Ok(said)
             }
             None => Ok(None),
         }
@@ -355,15 +368,16 @@ impl<'q> Memo<'q> {
         ensures direct { OnOk result (FoundsDirectly self.old.limit self.old.log self.new.log) }
         ensures limit { self.new.limit ≡ self.old.limit }
     {
-        let Some(line) = self.result_of(alloc, binding, class, shape)? else {
+        let Some(said) = self.result_of(alloc, binding, class, shape)? else {
             let _lines = self.log.lines();
             self.finish(alloc, binding)?;
             return Ok(None);
         };
+        let ResultLine { line, stands_in } = said;
         match self.append(alloc, line)? {
             Some(number) => {
                 self.close(alloc)?;
-                Ok(Some(number))
+                Ok(Some(stands_in.unwrap_or(number)))
             }
             None => {
                 let _lines = self.log.lines();

@@ -1,7 +1,7 @@
 use Rattle.std.proofs.Common.{◌≡◌, sym, ◌∙◌, subst, true, Option, IfSome}
-use Rattle.derivation.specs.declared.line.Line.{Line}
 use Rattle.logs.specs.Logged.{with_line}
 use Rattle.closure.specs.Steps.{is_result}
+use Rattle.memo.specs.declared.applying.ResultLine.{ResultLine}
 use Rattle.memo.specs.Founding.{FoundsAlone, FoundsNothing, Finishes}
 use Rattle.memo.specs.Growth.{Extends}
 use Rattle.memo.proofs.Growth.{extended_along}
@@ -19,9 +19,9 @@ returns-in_ok-close-in-Some-2-clause-extends c = extended_along _ _ _ _ (extende
 
 pub returns-in_ok-close-in-Some-2-clause-direct : goal.returns-in_ok-close-in-Some-2-clause-direct
 returns-in_ok-close-in-Some-2-clause-direct c =
-    let is : is_result c.in-Some.line ≡ true = subst (λ (o : Option Line). IfSome o (λ line. is_result line ≡ true)) c.in-Some.is c.in_ok-line.ensures.result in
-    let added : c.append.new.self.log ≡ with_line c.result_of.new.self.log c.in-Some.line = subst (λ o. IfSome o (λ number. c.append.new.self.log ≡ with_line c.result_of.new.self.log c.in-Some.line)) c.in-Some-2.is c.in_ok-number.ensures.some in
-    step_finishes c.args.self.now.limit _ _ _ c.in-Some.line added (result_steps c.in-Some.line is).0 (result_steps c.in-Some.line is).1 (subst (λ n. FoundsNothing n c.append.new.self.log c.close.new.self.log) (c.append.ensures.limit ∙ c.result_of.ensures.limit) c.close.ensures.nothing) c.args.self.now.log c.result_of.ensures.alone
+    let is : is_result c.in-Some.said.line ≡ true = subst (λ (o : Option ResultLine). IfSome o (λ said. is_result said.line ≡ true)) c.in-Some.is c.in_ok-said.ensures.result in
+    let added : c.append.new.self.log ≡ with_line c.result_of.new.self.log c.in-Some.said.line = subst (λ o. IfSome o (λ number. c.append.new.self.log ≡ with_line c.result_of.new.self.log c.in-Some.said.line)) c.in-Some-2.is c.in_ok-number.ensures.some in
+    step_finishes c.args.self.now.limit _ _ _ c.in-Some.said.line added (result_steps c.in-Some.said.line is).0 (result_steps c.in-Some.said.line is).1 (subst (λ n. FoundsNothing n c.append.new.self.log c.close.new.self.log) (c.append.ensures.limit ∙ c.result_of.ensures.limit) c.close.ensures.nothing) c.args.self.now.log c.result_of.ensures.alone
 
 pub finish-requires : goal.finish-requires
 finish-requires c = gives_behind _ _ _ c.args.binding c.result_of.ensures.alone c.lines-lines.ensures.replays c.requires
