@@ -73,8 +73,11 @@ fn count_unnamed(alloc: Global, lines: &[Line]) -> Result<usize, AllocError> {
             waiting.push(number)?;
         } else {
             for founded in &waiting {
-                let is_named = step_of(line)
-                    .is_some_and(|step| step.makes.as_slice().iter().any(|make| *make as usize == *founded));
+                let is_named = step_of(line).is_some_and(|step| step
+                    .makes
+                    .as_slice()
+                    .iter()
+                    .any(|make| *make as usize == *founded));
                 if !is_named {
                     count = count.saturating_add(1);
                 }
