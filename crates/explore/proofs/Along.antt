@@ -1,19 +1,17 @@
 -- What passes and single lines do to a log, one after the other.
-use Rattle.std.proofs.Common.{◌≡◌, ◌↔◌, ap, ◌∙◌, ℕ, ◌+◌, ◌-◌, ◌<◌, ◌≤◌, true, false, List, length, IsTrue, nat_le, arith}
+use Rattle.std.proofs.Common.{◌≡◌, ◌↔◌, ap, ◌∙◌, subst, ℕ, ◌+◌, ◌-◌, ◌<◌, ◌≤◌, true, false, List, length, IsTrue, nat_le, arith}
 use Rattle.std.proofs.lemmas.Bool.{leb-false}
 use Rattle.std.proofs.lemmas.List.{length-append}
 use Rattle.query.specs.declared.query.TableInstance.{TableInstance}
 use Rattle.derivation.specs.Logs.{Log}
 use Rattle.logs.specs.Logged.{Logged}
-use Rattle.memo.specs.Growth.{Grows, IsWithin, Extends}
+use Rattle.memo.specs.Growth.{Grows, IsWithin, Extends, FoundsDirectly}
 use Rattle.memo.proofs.Growth.{extended_along}
+use Rattle.memo.proofs.Founding.{directly_along, nothing_at_first, nothing_directly}
 use Rattle.closure.specs.declared.lacks.Missing.{Missing}
 use Rattle.closure.specs.Closed.{IsClosed}
 use Rattle.closure.specs.Lacking.{IsMissing}
 use Rattle.closure.proofs.Lacking.{missing_open}
-
-pub grown_along : (limit : ℕ) (a b c : Logged) → Extends limit a b → Grows b c → IsWithin limit b c → Extends limit a c
-grown_along limit a b c first grows within = extended_along limit a b c first (record { grows = grows; within = within })
 
 -- a log that lacks something isn't closed
 pub not_closed : (instances : List TableInstance) (E : Log) (m : Missing) → IsMissing instances E m → IsTrue false ↔ IsClosed instances E
@@ -28,3 +26,22 @@ room_falls limit a b c grows room more =
     let pass : length a.log ≤ length b.log = longer a b grows in
     let some : length b.log < limit = leb-false limit (length b.log) room in
     omega (arith, pass, some, more)
+
+-- so far, and what comes then
+pub record IsGrown (limit : ℕ) (a b : Logged) : Type 0 where
+  pub extends : Extends limit a b
+  pub direct : FoundsDirectly limit a b
+
+pub grown_at_first : (limit : ℕ) (a : Logged) → IsGrown limit a a
+grown_at_first limit a = record { extends = record { grows = (nothing_at_first limit a).grows; within = (nothing_at_first limit a).within }; direct = nothing_directly limit a a (nothing_at_first limit a) }
+
+pub grown_along : (limit more : ℕ) (a b c : Logged) → IsGrown limit a b → more ≡ limit → Extends more b c → FoundsDirectly more b c → IsGrown limit a c
+grown_along limit more a b c first same extends direct =
+    let next : Extends limit b c = subst (λ n. Extends n b c) same extends in
+    record {
+      extends = extended_along limit a b c first.extends next;
+      direct = directly_along limit a b c first.direct (subst (λ n. FoundsDirectly n b c) same direct) next.within;
+    }
+
+pub extends_of : (limit : ℕ) (a b : Logged) → Grows a b → IsWithin limit a b → Extends limit a b
+extends_of limit a b grows within = record { grows = grows; within = within }

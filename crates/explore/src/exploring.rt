@@ -1,13 +1,15 @@
 //! Each rule at each binding.
 
-ghost use Rattle.std.specs.Prelude.{◌≡◌, ◌≤◌, ◌↔◌, false, length, IsTrue, IfOk};
+ghost use Rattle.std.specs.Prelude.{◌≡◌, ◌<◌, ◌≤◌, ◌↔◌, false, length, IsTrue, IfOk, OnOk};
 ghost use Rattle.closure.specs.Closed.{IsClosed};
-ghost use Rattle.memo.specs.Growth.{Grows, IsWithin, Extends};
+ghost use Rattle.closure.specs.Lacking.{IsMissing};
+ghost use Rattle.memo.specs.Growth.{Grows, IsWithin, Extends, FoundsDirectly};
 
 use crate::bindings::{level_of, rules_of_one, rules_of_two};
 use crate::queue::Queue;
 use algebra::{Expr, LineId};
-use closure::{Binding, missing, next_line};
+use closure::{Binding, Missing, missing};
+use derivation::Line;
 use memo::Memo;
 use query::ids::id_of;
 use rules::RuleName;
@@ -117,14 +119,20 @@ fn enter(
 /// Applies a rule at the lines of a binding.
 fn apply(alloc: Global, memo: &mut Memo<'_>, binding: Binding) -> Result<(), AllocError>
     ensures extends { Extends memo.old.limit memo.old.log memo.new.log }
+    ensures direct { OnOk result (FoundsDirectly memo.old.limit memo.old.log memo.new.log) }
     ensures limit { memo.new.limit ≡ memo.old.limit }
 {
     let Binding { rule, top, below } = binding;
-    let _ = match below {
-        Some(below) => memo.apply(alloc, rule, [top, below].as_slice())?,
-        None => memo.apply(alloc, rule, [top].as_slice())?,
-    };
-    Ok(())
+    match below {
+        Some(below) => {
+            let _ = memo.apply(alloc, rule, [top, below].as_slice())?;
+            Ok(())
+        }
+        None => {
+            let _ = memo.apply(alloc, rule, [top].as_slice())?;
+            Ok(())
+        }
+    }
 }
 
 /// Enters the lines that were added since the last time, so many are entered.
@@ -142,9 +150,9 @@ fn enter_new(
 }
 
 /// Goes through all bindings, those of lines that are added meanwhile among them, until the log is full.
-#[tactic(auto, using(memo::proofs::Growth::extended_along))]
 fn pass(alloc: Global, memo: &mut Memo<'_>) -> Result<(), AllocError>
     ensures extends { Extends memo.old.limit memo.old.log memo.new.log }
+    ensures direct { OnOk result (FoundsDirectly memo.old.limit memo.old.log memo.new.log) }
     ensures limit { memo.new.limit ≡ memo.old.limit }
 {
     let mut queue = Queue::new(alloc);
@@ -163,11 +171,11 @@ fn pass(alloc: Global, memo: &mut Memo<'_>) -> Result<(), AllocError>
 }
 
 /// Adds what each rule gives at each binding, until the log is full or a pass adds nothing. Nothing is said of what it leaves out.
-#[tactic(auto, using(memo::proofs::Growth::extended_along))]
 pub fn apply_all(alloc: Global, memo: &mut Memo<'_>) -> Result<(), AllocError>
     ensures grows { Grows memo.old.log memo.new.log }
     ensures within { IsWithin memo.old.limit memo.old.log memo.new.log }
     ensures limit { memo.new.limit ≡ memo.old.limit }
+    ensures direct { OnOk result (FoundsDirectly memo.old.limit memo.old.log memo.new.log) }
 {
     for _ in 0..MOST_PASSES {
         let before = memo.log().len();
@@ -179,15 +187,32 @@ pub fn apply_all(alloc: Global, memo: &mut Memo<'_>) -> Result<(), AllocError>
     Ok(())
 }
 
+/// Adds something of what a log lacks that isn't full.
+fn add_missing(alloc: Global, memo: &mut Memo<'_>, lacking: Missing) -> Result<(), AllocError>
+    requires lacks { IsMissing memo.old.log.instances memo.old.log.log lacking }
+    requires room { length memo.old.log.log < memo.old.limit }
+    ensures extends { Extends memo.old.limit memo.old.log memo.new.log }
+    ensures direct { OnOk result (FoundsDirectly memo.old.limit memo.old.log memo.new.log) }
+    ensures limit { memo.new.limit ≡ memo.old.limit }
+    ensures added { OnOk result (length memo.old.log.log < length memo.new.log.log) }
+{
+    match lacking {
+        Missing::Alike(first, second) => memo.add(alloc, Line::Alike(first, second)),
+        Missing::Result(binding) => memo.add_result(alloc, binding),
+    }
+}
+
 /// Adds what each rule gives at each binding, until nothing more can be added or the log is full. Whether nothing can be added: false only where the log
-/// is full. What passes left out is added line by line, each time with what follows from it.
-#[tactic(auto, using(crate::proofs::Along::grown_along, crate::proofs::Along::not_closed, crate::proofs::Along::room_falls))]
+/// is full. What passes left out is added result by result, each time with what follows from it.
+#[tactic(auto, using(crate::proofs::Along::not_closed))]
 pub fn explore(alloc: Global, memo: &mut Memo<'_>) -> Result<bool, AllocError>
     ensures closed { IfOk result (λ closed. IsTrue closed ↔ IsClosed memo.new.log.instances memo.new.log.log) }
     ensures full { IfOk result (λ closed. closed ≡ false → memo.new.limit ≤ length memo.new.log.log) }
     ensures grows { Grows memo.old.log memo.new.log }
     ensures within { IsWithin memo.old.limit memo.old.log memo.new.log }
     ensures limit { memo.new.limit ≡ memo.old.limit }
+    // What was founded for a result stands directly before it.
+    ensures direct { OnOk result (FoundsDirectly memo.old.limit memo.old.log memo.new.log) }
 {
     'adding: loop {
         apply_all(alloc, memo)?;
@@ -198,7 +223,6 @@ pub fn explore(alloc: Global, memo: &mut Memo<'_>) -> Result<bool, AllocError>
         if is_full {
             return Ok(false);
         }
-        let line = next_line(alloc, memo.log(), lacking)?;
-        memo.add(alloc, line)?;
+        add_missing(alloc, memo, lacking)?;
     }
 }

@@ -5,13 +5,13 @@ use Rattle.derivation.specs.declared.line.Line.{Line}
 use Rattle.logs.specs.Logged.{Logged, with_line}
 use Rattle.memo.specs.Growth.{Grows, Extends}
 
-pub grows-itself : (l : Logged) → Grows l l
+abbrev pub grows-itself : (l : Logged) → Grows l l
 grows-itself l = record { instances = refl; own = refl; more = []; log = refl }
 
-pub grows-by_one : (l : Logged) (line : Line) → Grows l (with_line l line)
+abbrev pub grows-by_one : (l : Logged) (line : Line) → Grows l (with_line l line)
 grows-by_one l line = record { instances = refl; own = refl; more = line ∷ []; log = refl }
 
-pub grows-along : {a b c : Logged} → Grows a b → Grows b c → Grows a c
+abbrev pub grows-along : {a b c : Logged} → Grows a b → Grows b c → Grows a c
 grows-along {a} {b} {c} first next = record {
   instances = next.instances ∙ first.instances;
   own = next.own ∙ first.own;

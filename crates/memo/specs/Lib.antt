@@ -1,1 +1,2 @@
+pub mod Founding
 pub mod Growth

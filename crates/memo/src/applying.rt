@@ -1,16 +1,29 @@
 //! A log grows by rules.
 
-ghost use Rattle.std.specs.Prelude.{◌≡◌};
-ghost use Rattle.memo.specs.Growth.{Extends, Grows, IsWithin};
+ghost use Rattle.std.specs.Prelude.{◌≡◌, map, true, IfOk, IfSome, OnOk};
+ghost use Rattle.rules.specs.Matches.{line_in};
+ghost use Rattle.closure.specs.Lacking.{GivesBinding};
+ghost use Rattle.closure.specs.Results.{AreMatched};
+ghost use Rattle.closure.specs.Steps.{is_result};
+ghost use Rattle.memo.specs.Founding.{FoundsAlone, FoundsNothing};
+ghost use Rattle.memo.specs.Growth.{Extends, FoundsDirectly, Grows, IsWithin};
 
 use crate::keys::{Operation, Operator};
 use crate::lines::{Member, Memo};
 use crate::unadded::{Unadded, unless_refused};
 use algebra::{ClassId, Condition, Expr, LineId};
+use closure::Binding;
 use derivation::{Line, Numbers, Step};
-use rules::{Match, RuleName, Shape};
+use rules::{Match, MatchedLine, RuleName, Shape};
 use std::alloc::{AllocError, Global};
-use values::Boxed;
+use values::{Boxed, Fault};
+
+/// A line that says what a rule gives, and the line that has its expression, unless it is this one.
+#[derive(Drop)]
+struct ResultLine {
+    line: Line,
+    stands_in: Option<LineId>,
+}
 
 /// What a rule gives of a class.
 #[derive(Drop)]
@@ -19,28 +32,31 @@ struct Given {
     shape: Shape,
 }
 
-/// A rule, and the lines to which it is applied.
-#[derive(Clone, Copy)]
-struct Applied<'a> {
-    rule: RuleName,
-    uses: &'a [LineId],
-}
-
-/// The step of a rule by the lines that its inner expressions stand in.
-fn step_of(
-    alloc: Global,
-    applied: Applied<'_>,
-    makes: &[LineId],
-) -> Result<Boxed<Step>, AllocError> {
+/// The step of a binding's rule by the lines that its inner expressions stand in.
+fn step_of(alloc: Global, binding: Binding, makes: &[LineId]) -> Result<Boxed<Step>, AllocError> {
+    let uses = match binding.below {
+        Some(below) => Numbers::from_slice(alloc, &[binding.top, below])?,
+        None => Numbers::one(binding.top),
+    };
     Boxed::new(
         alloc,
         Step {
-            rule: applied.rule,
+            rule: binding.rule,
             pick: 0,
-            uses: Numbers::from_slice(alloc, applied.uses)?,
+            uses,
             makes: Numbers::from_slice(alloc, makes)?,
         },
     )
+}
+
+/// A rule with one line or two; no rule fits other lines.
+fn binding_of(rule: RuleName, uses: &[LineId]) -> Option<Binding> {
+    let (top, below) = match uses {
+        [top] => (*top, None),
+        [top, below] => (*top, Some(*below)),
+        _ => return None,
+    };
+    Some(Binding { rule, top, below })
 }
 
 /// An operator under conditions, whose inputs are still to be found.
@@ -59,25 +75,53 @@ fn under<'a>(
 }
 
 impl<'q> Memo<'q> {
-    /// What the rule gives of the class of the first line.
-    fn given(&self, alloc: Global, applied: Applied<'_>) -> Result<Given, Unadded> {
-        let mut lines = Vec::new(alloc);
-        for line in applied.uses {
-            if let Some(member) = self.log().member(*line) {
-                lines.push(member)?;
-            }
-        }
+    /// What the rule of a binding gives at these lines, which are its own, if it fits.
+    fn shape_at(
+        &self,
+        alloc: Global,
+        binding: Binding,
+        lines: &[MatchedLine<'_>],
+        top: MatchedLine<'_>,
+    ) -> Result<Option<Given>, AllocError>
+        requires { AreMatched self.now.log.log binding (map line_in lines.now) (line_in top) }
+        ensures { IfOk result (λ found. IfSome found (λ given. GivesBinding self.now.log.instances self.now.log.log binding)) }
+    {
         let at = Match {
-            lines: lines.as_slice(),
+            lines,
             pick: 0,
             classes: self.log().classes(),
         };
-        let class = match lines.first() {
-            Some(first) => first.class,
-            None => 0,
+        match binding.rule.apply(alloc, at) {
+            Ok(shape) => Ok(Some(Given {
+                class: top.class,
+                shape,
+            })),
+            Err(Fault::Refused(_)) => Ok(None),
+            Err(Fault::Memory) => Err(AllocError),
+        }
+    }
+
+    /// What the rule of a binding gives of the class of its first line, if it fits.
+    #[tactic(auto, using(closure::proofs::Results::one_matched, closure::proofs::Results::two_matched))]
+    fn given(&self, alloc: Global, binding: Binding) -> Result<Option<Given>, AllocError>
+        ensures { IfOk result (λ found. IfSome found (λ given. GivesBinding self.now.log.instances self.now.log.log binding)) }
+    {
+        let Some(top) = self.log().member(binding.top) else {
+            return Ok(None);
         };
-        let shape = applied.rule.apply(alloc, at)?;
-        Ok(Given { class, shape })
+        match binding.below {
+            Some(below) => {
+                let Some(below) = self.log().member(below) else {
+                    return Ok(None);
+                };
+                let given = self.shape_at(alloc, binding, &[top, below], top)?;
+                Ok(given)
+            }
+            None => {
+                let given = self.shape_at(alloc, binding, &[top], top)?;
+                Ok(given)
+            }
+        }
     }
 
     /// A line with the operator over a class, if there is one.
@@ -185,7 +229,6 @@ impl<'q> Memo<'q> {
 
     /// The expression that a shape is over classes. The lines that have its inner expressions are found or founded, and are added to the
     /// list, outer before inner, left before right: a step names lines that have just these expressions.
-    #[tactic(auto, using(crate::proofs::Growth::extended_along))]
     #[cycle(spelling)]
     fn expr_of(
         &mut self,
@@ -193,7 +236,7 @@ impl<'q> Memo<'q> {
         shape: Shape,
         makes: &mut Vec<LineId>,
     ) -> Result<Expr, Unadded>
-        ensures extends { Extends self.old.limit self.old.log self.new.log }
+        ensures alone { FoundsAlone self.old.limit self.old.log self.new.log }
         ensures limit { self.new.limit ≡ self.old.limit }
     {
         match shape {
@@ -234,7 +277,6 @@ impl<'q> Memo<'q> {
     }
 
     /// The class that a shape is, in the same way.
-    #[tactic(auto, using(crate::proofs::Growth::extended_along))]
     #[cycle(spelling)]
     fn class_of(
         &mut self,
@@ -242,7 +284,7 @@ impl<'q> Memo<'q> {
         shape: Shape,
         makes: &mut Vec<LineId>,
     ) -> Result<ClassId, Unadded>
-        ensures extends { Extends self.old.limit self.old.log self.new.log }
+        ensures alone { FoundsAlone self.old.limit self.old.log self.new.log }
         ensures limit { self.new.limit ≡ self.old.limit }
     {
         if let Shape::Class(class) = shape {
@@ -258,77 +300,117 @@ impl<'q> Memo<'q> {
         Ok(member.class)
     }
 
-    /// A new line that says that a class is the same as another by the rule, unless they are: the other one's expression stands in these lines.
+    /// The line that says what the rule gives, whose inner expressions stand in these lines: one that adds it to the class; where a line of another class has
+    /// it, one that says that the two are the same. None where they are known to be.
+    fn line_with(
+        &self,
+        alloc: Global,
+        binding: Binding,
+        class: ClassId,
+        expr: Expr,
+        makes: &[LineId],
+    ) -> Result<Option<ResultLine>, AllocError>
+        ensures { IfOk result (λ found. IfSome found (λ said. is_result said.line ≡ true)) }
+    {
+        let Some(found) = self.named(alloc, &expr)? else {
+            let step = step_of(alloc, binding, makes)?;
+            return Ok(Some(ResultLine {
+                line: Line::Adds(class, step, expr),
+                stands_in: None,
+            }));
+        };
+        if self.log().are_same(class, found.class) {
+            return Ok(None);
+        }
+        let mut spelt = Vec::new(alloc);
+        spelt.push(found.line)?;
+        spelt.extend_from_slice(makes)?;
+        let step = step_of(alloc, binding, spelt.as_slice())?;
+        Ok(Some(ResultLine {
+            line: Line::Unites(class, found.class, step),
+            stands_in: Some(found.line),
+        }))
+    }
+
+    /// The line that says what the rule gives, of which the inner expressions are found or founded.
+    fn result_of(
+        &mut self,
+        alloc: Global,
+        binding: Binding,
+        class: ClassId,
+        shape: Shape,
+    ) -> Result<Option<ResultLine>, AllocError>
+        ensures alone { FoundsAlone self.old.limit self.old.log self.new.log }
+        ensures result { IfOk result (λ found. IfSome found (λ said. is_result said.line ≡ true)) }
+        ensures limit { self.new.limit ≡ self.old.limit }
+    {
+        let mut makes = Vec::new(alloc);
+        match unless_refused(self.expr_of(alloc, shape, &mut makes))? {
+            Some(expr) => {
+                let said = self.line_with(alloc, binding, class, expr, makes.as_slice())?;
+                Ok(said)
+            }
+            None => Ok(None),
+        }
+    }
+
+    /// The line with what the rule gives, where there is none of the class yet. What is founded for it is taken in where the line that was thought of is
+    /// refused, too.
+    fn with_result(
+        &mut self,
+        alloc: Global,
+        binding: Binding,
+        class: ClassId,
+        shape: Shape,
+    ) -> Result<Option<LineId>, AllocError>
+        requires { GivesBinding self.old.log.instances self.old.log.log binding }
+        ensures extends { Extends self.old.limit self.old.log self.new.log }
+        ensures direct { OnOk result (FoundsDirectly self.old.limit self.old.log self.new.log) }
+        ensures limit { self.new.limit ≡ self.old.limit }
+    {
+        let Some(said) = self.result_of(alloc, binding, class, shape)? else {
+            let _lines = self.log.lines();
+            self.finish(alloc, binding)?;
+            return Ok(None);
+        };
+        let ResultLine { line, stands_in } = said;
+        match self.append(alloc, line)? {
+            Some(number) => {
+                self.close(alloc)?;
+                Ok(Some(stands_in.unwrap_or(number)))
+            }
+            None => {
+                let _lines = self.log.lines();
+                self.finish(alloc, binding)?;
+                Ok(None)
+            }
+        }
+    }
+
+    /// A new line that says that a class is the same as another by the rule; where they are known to be, the first of its lines.
     fn united(
         &mut self,
         alloc: Global,
+        binding: Binding,
         class: ClassId,
         other: ClassId,
-        applied: Applied<'_>,
-        makes: &[LineId],
-    ) -> Result<Option<LineId>, Unadded>
-        ensures extends { Extends self.old.limit self.old.log self.new.log }
+    ) -> Result<Option<LineId>, AllocError>
+        ensures nothing { FoundsNothing self.old.limit self.old.log self.new.log }
         ensures limit { self.new.limit ≡ self.old.limit }
     {
         if self.log().are_same(class, other) {
-            return Ok(None);
+            return Ok(Some(binding.top));
         }
-        let step = step_of(alloc, applied, makes)?;
-        Ok(Some(self.push(alloc, Line::Unites(class, other, step))?))
+        let step = step_of(alloc, binding, &[])?;
+        let added = self.append(alloc, Line::Unites(class, other, step))?;
+        self.close(alloc)?;
+        Ok(added)
     }
 
-    /// The line with what the rule gives, whose inner expressions stand in these lines: a new one of the class where there is none. Where a line of
-    /// another class has it, one says that the two are the same.
-    fn added(
-        &mut self,
-        alloc: Global,
-        class: ClassId,
-        applied: Applied<'_>,
-        expr: Expr,
-        makes: &[LineId],
-    ) -> Result<LineId, Unadded>
-        ensures extends { Extends self.old.limit self.old.log self.new.log }
-        ensures limit { self.new.limit ≡ self.old.limit }
-    {
-        match self.named(alloc, &expr)? {
-            Some(found) => {
-                let mut spelt = Vec::new(alloc);
-                spelt.push(found.line)?;
-                spelt.extend_from_slice(makes)?;
-                let _ = self.united(alloc, class, found.class, applied, spelt.as_slice())?;
-                Ok(found.line)
-            }
-            None => {
-                let step = step_of(alloc, applied, makes)?;
-                self.push(alloc, Line::Adds(class, step, expr))
-            }
-        }
-    }
-
-    #[tactic(auto, using(crate::proofs::Growth::extended_along))]
-    fn applied(&mut self, alloc: Global, applied: Applied<'_>) -> Result<LineId, Unadded>
-        ensures extends { Extends self.old.limit self.old.log self.new.log }
-        ensures limit { self.new.limit ≡ self.old.limit }
-    {
-        let Given { class, shape } = self.given(alloc, applied)?;
-        if let Shape::Class(other) = shape {
-            let line = self.united(alloc, class, other, applied, &[])?;
-            return Ok(line.unwrap_or(applied.uses.first().copied().unwrap_or(class)));
-        }
-        if let Some(member) = self.line_there(alloc, &shape)? {
-            if self.log().are_same(member.class, class) {
-                return Ok(member.line);
-            }
-        }
-        let mut makes = Vec::new(alloc);
-        let expr = self.expr_of(alloc, shape, &mut makes)?;
-        self.added(alloc, class, applied, expr, makes.as_slice())
-    }
-
-    /// A line of what the rule gives at these lines, the top first, of the first one's class or of one that is the same: a new one behind the
+    /// A line of what the rule gives at these lines, the top first, of the first one's class or of one that is the same: a new one directly behind the
     /// lines that found what it is made of, unless it is there up to which classes are the same. Where another class has it, a line says that the
     /// two are the same. Where the rule gives a class, the line is one that says that the two are the same; where they were, it is the first of
-    /// these lines. None where the rule doesn't fit.
+    /// these lines. None where the rule doesn't fit, or the log is full.
     pub fn apply(
         &mut self,
         alloc: Global,
@@ -338,7 +420,22 @@ impl<'q> Memo<'q> {
         ensures grows { Grows self.old.log self.new.log }
         ensures within { IsWithin self.old.limit self.old.log self.new.log }
         ensures limit { self.new.limit ≡ self.old.limit }
+        ensures direct { OnOk result (FoundsDirectly self.old.limit self.old.log self.new.log) }
     {
-        unless_refused(self.applied(alloc, Applied { rule, uses }))
+        let Some(binding) = binding_of(rule, uses) else {
+            return Ok(None);
+        };
+        let Some(Given { class, shape }) = self.given(alloc, binding)? else {
+            return Ok(None);
+        };
+        if let Shape::Class(other) = shape {
+            return self.united(alloc, binding, class, other);
+        }
+        if let Some(member) = self.line_there(alloc, &shape)? {
+            if self.log().are_same(member.class, class) {
+                return Ok(Some(member.line));
+            }
+        }
+        self.with_result(alloc, binding, class, shape)
     }
 }

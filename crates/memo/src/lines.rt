@@ -1,17 +1,21 @@
 //! The lines of a log, found by their expressions up to which classes are the same.
 
-ghost use Rattle.std.specs.Prelude.{◌≡◌, ℕ, ◌<◌, nat_le, length, Ok, IfOk, OnOk};
+ghost use Rattle.std.specs.Prelude.{◌≡◌, ℕ, ◌<◌, true, false, nat_le, length, None, Ok, IfOk, IfSome, OnOk};
 ghost use Rattle.std.specs.List.Sorted.{IsSorted};
 ghost use Rattle.std.specs.Ordering.{nat_cmp};
 ghost use Rattle.derivation.specs.Replay.{stands};
 ghost use Rattle.logs.specs.Members.{is_member, once_if};
 ghost use Rattle.logs.specs.Sets.{times};
-ghost use Rattle.memo.specs.Growth.{Extends, Grows, IsWithin};
+ghost use Rattle.logs.specs.Logged.{with_line};
+ghost use Rattle.closure.specs.Lacking.{GivesBinding};
+ghost use Rattle.memo.specs.Founding.{FoundsAlone, FoundsNothing, Finishes, founds_something};
+ghost use Rattle.memo.specs.Growth.{Extends, FoundsDirectly, Grows, IsWithin};
 
 use crate::groups::Groups;
 use crate::keys::{ConditionNumbers, Key, Keys, Operation, named_key, operation_of};
 use crate::unadded::{Unadded, unless_refused};
 use algebra::{ClassId, Expr, LineId};
+use closure::{Binding, line_of};
 use derivation::Line;
 use indexmap::IndexMap;
 use logs::Log;
@@ -27,7 +31,7 @@ const MOST_ALIKE: usize = 100_000;
 /// expression so that their classes are the same.
 #[derive(Drop)]
 pub struct Memo<'q> {
-    log: Log<'q>,
+    pub(crate) log: Log<'q>,
     /// No line is added to a log that holds so many.
     limit: usize,
     groups: Groups,
@@ -53,6 +57,18 @@ struct Congruence {
 pub(crate) struct Member {
     pub line: LineId,
     pub class: ClassId,
+}
+
+/// Whether a line founds something.
+fn founds_something(line: &Line) -> bool
+    ensures { result ≡ founds_something line.now }
+{
+    match line {
+        Line::Founds(_) => true,
+        Line::Adds(_, _, _) | Line::Unites(_, _, _) | Line::Alike(_, _) | Line::Gives(_, _, _) => {
+            false
+        }
+    }
 }
 
 /// What a line says of classes.
@@ -206,71 +222,110 @@ impl<'q> Memo<'q> {
         Ok(())
     }
 
-    /// Adds a line, if it may stand and there is room for it.
-    fn append(&mut self, alloc: Global, line: Line) -> Result<LineId, Unadded>
+    /// Adds a line, if it may stand and there is room for it; its number then. What follows from it is left to `close`.
+    #[tactic(auto, using(crate::proofs::Founding::same_extends))]
+    pub(crate) fn append(&mut self, alloc: Global, line: Line) -> Result<Option<LineId>, AllocError>
         ensures extends { Extends self.old.limit self.old.log self.new.log }
+        ensures alone { founds_something line ≡ true → FoundsAlone self.old.limit self.old.log self.new.log }
+        ensures nothing { founds_something line ≡ false → FoundsNothing self.old.limit self.old.log self.new.log }
+        ensures some { IfOk result (λ found. IfSome found (λ number. self.new.log ≡ with_line self.old.log line)) }
+        ensures none { IfOk result (λ found. found ≡ None → self.new.log ≡ self.old.log) }
+        ensures taken { OnOk result (length self.old.log.log < self.old.limit → stands self.old.log.instances self.old.log.own self.old.log.log line ≡ Ok line → self.new.log ≡ with_line self.old.log line) }
         ensures limit { self.new.limit ≡ self.old.limit }
     {
-        if self.log.len() >= self.limit {
-            return Err(Unadded::Refused);
+        if self.is_full() {
+            return Ok(None);
         }
         let number = id_of(self.log.len())?;
-        self.log.push(alloc, line)?;
-        self.note(alloc, number)?;
-        Ok(number)
+        match self.log.push(alloc, line) {
+            Ok(()) => {
+                self.note(alloc, number)?;
+                Ok(Some(number))
+            }
+            Err(Fault::Refused(_)) => Ok(None),
+            Err(Fault::Memory) => Err(AllocError),
+        }
+    }
+
+    /// Adds a line that says that two lines are alike, unless they are of one class.
+    fn say_alike(&mut self, alloc: Global, first: LineId, second: LineId) -> Result<(), AllocError>
+        ensures nothing { FoundsNothing self.old.limit self.old.log self.new.log }
+        ensures limit { self.new.limit ≡ self.old.limit }
+    {
+        let are_same = self
+            .log
+            .are_same(self.class_at(first), self.class_at(second));
+        if are_same {
+            return Ok(());
+        }
+        let _ = self.append(alloc, Line::Alike(first, second))?;
+        Ok(())
     }
 
     /// Adds lines that say of two lines with one expression that their classes are the same, and so on for the lines over these.
-    #[tactic(auto, using(crate::proofs::Growth::extended_along))]
-    fn close(&mut self, alloc: Global) -> Result<(), AllocError>
-        ensures extends { Extends self.old.limit self.old.log self.new.log }
+    pub(crate) fn close(&mut self, alloc: Global) -> Result<(), AllocError>
+        ensures nothing { FoundsNothing self.old.limit self.old.log self.new.log }
         ensures limit { self.new.limit ≡ self.old.limit }
     {
         for _ in 0..MOST_ALIKE {
             let Some(Congruence { first, second }) = self.congruent.pop() else {
                 break;
             };
-            if !self
-                .log
-                .are_same(self.class_at(first), self.class_at(second))
-            {
-                let _ = unless_refused(self.append(alloc, Line::Alike(first, second)))?;
-            }
+            self.say_alike(alloc, first, second)?;
         }
         Ok(())
     }
 
-    /// Adds a line, if it may stand, and what follows from it of which classes are the same.
-    #[tactic(auto, using(crate::proofs::Growth::extended_along))]
-    pub(crate) fn push(&mut self, alloc: Global, line: Line) -> Result<LineId, Unadded>
-        ensures extends { Extends self.old.limit self.old.log self.new.log }
-        ensures limit { self.new.limit ≡ self.old.limit }
-    {
-        let number = self.append(alloc, line)?;
-        self.close(alloc)?;
-        Ok(number)
-    }
-
     /// Adds a line, if it may stand and there is room for it, and what follows from it of which classes are the same.
-    #[tactic(auto, using(crate::proofs::Growth::extended_along, crate::proofs::Growth::extended_by_one, crate::proofs::Growth::longer_then))]
+    #[tactic(auto, using(crate::proofs::Growth::extended_along, crate::proofs::Growth::extended_by_one, crate::proofs::Growth::longer_then, crate::proofs::Founding::nothing_extends))]
     pub fn add(&mut self, alloc: Global, line: Line) -> Result<(), AllocError>
         ensures grows { Grows self.old.log self.new.log }
         ensures within { IsWithin self.old.limit self.old.log self.new.log }
         ensures limit { self.new.limit ≡ self.old.limit }
         ensures added { OnOk result (length self.old.log.log < self.old.limit → stands self.old.log.instances self.old.log.own self.old.log.log line ≡ Ok line → length self.old.log.log < length self.new.log.log) }
+        ensures direct { founds_something line ≡ false → FoundsDirectly self.old.limit self.old.log self.new.log }
     {
-        if self.is_full() {
-            return Ok(());
+        match self.append(alloc, line)? {
+            Some(_) => self.close(alloc),
+            None => Ok(()),
         }
-        let number = id_of(self.log.len())?;
-        match self.log.push(alloc, line) {
-            Ok(()) => {
-                self.note(alloc, number)?;
-                self.close(alloc)
+    }
+
+    /// Adds what the rule of a binding gives, behind lines that found what it is made of. What was founded for it last is taken in, where it is
+    /// there.
+    pub(crate) fn finish(&mut self, alloc: Global, binding: Binding) -> Result<(), AllocError>
+        requires { GivesBinding self.old.log.instances self.old.log.log binding }
+        ensures extends { Extends self.old.limit self.old.log self.new.log }
+        ensures finishes { OnOk result (Finishes self.old.limit self.old.log self.new.log) }
+        ensures added { OnOk result (length self.old.log.log < self.old.limit → length self.old.log.log < length self.new.log.log) }
+        ensures limit { self.new.limit ≡ self.old.limit }
+    {
+        'adding: loop {
+            let is_full = self.is_full();
+            if is_full {
+                return Ok(());
             }
-            Err(Fault::Refused(_)) => Ok(()),
-            Err(Fault::Memory) => Err(AllocError),
+            let line = line_of(alloc, &self.log, binding)?;
+            let founds = founds_something(&line);
+            let _ = self.append(alloc, line)?;
+            if !founds {
+                return self.close(alloc);
+            }
+            let _lines = self.log.lines();
         }
+    }
+
+    /// Adds what the rule of a binding gives, behind lines that found what it is made of, as far as there is room; and what follows of which classes are
+    /// the same.
+    pub fn add_result(&mut self, alloc: Global, binding: Binding) -> Result<(), AllocError>
+        requires { GivesBinding self.old.log.instances self.old.log.log binding }
+        ensures grows { Grows self.old.log self.new.log }
+        ensures within { IsWithin self.old.limit self.old.log self.new.log }
+        ensures limit { self.new.limit ≡ self.old.limit }
+        ensures added { OnOk result (length self.old.log.log < self.old.limit → length self.old.log.log < length self.new.log.log) }
+        ensures direct { OnOk result (FoundsDirectly self.old.limit self.old.log self.new.log) }
+    {
+        self.finish(alloc, binding)
     }
 
     /// A line of this number with an expression, and its class.
@@ -301,17 +356,20 @@ impl<'q> Memo<'q> {
 
     /// The first line with an expression, its classes being named as here: a new one where there is none.
     pub(crate) fn founded(&mut self, alloc: Global, expr: Expr) -> Result<Member, Unadded>
-        ensures extends { Extends self.old.limit self.old.log self.new.log }
+        ensures alone { FoundsAlone self.old.limit self.old.log self.new.log }
         ensures limit { self.new.limit ≡ self.old.limit }
     {
         if let Some(found) = self.named(alloc, &expr)? {
             return Ok(found);
         }
-        let line = self.push(alloc, Line::Founds(expr))?;
-        Ok(Member { line, class: line })
+        match self.append(alloc, Line::Founds(expr))? {
+            Some(line) => Ok(Member { line, class: line }),
+            None => Err(Unadded::Refused),
+        }
     }
 
     /// The class of an expression, up to which classes are the same; a new one where no line has it, none where the log refuses it.
+    #[tactic(auto, using(crate::proofs::Growth::extended_along, crate::proofs::Founding::alone_extends, crate::proofs::Founding::nothing_extends))]
     pub fn found(&mut self, alloc: Global, expr: Expr) -> Result<Option<ClassId>, AllocError>
         ensures grows { Grows self.old.log self.new.log }
         ensures within { IsWithin self.old.limit self.old.log self.new.log }
@@ -321,7 +379,10 @@ impl<'q> Memo<'q> {
             return Ok(Some(member.class));
         }
         match unless_refused(self.founded(alloc, expr))? {
-            Some(member) => Ok(Some(member.class)),
+            Some(member) => {
+                self.close(alloc)?;
+                Ok(Some(member.class))
+            }
             None => Ok(None),
         }
     }
@@ -358,6 +419,7 @@ impl<'q> Memo<'q> {
     }
 
     /// Adds that the fact holds of a class by the line that founds it, unless it is known. Whether it is known now.
+    #[tactic(auto, using(crate::proofs::Growth::extended_along, crate::proofs::Founding::nothing_extends))]
     pub fn learn(&mut self, alloc: Global, class: ClassId, fact: Fact) -> Result<bool, AllocError>
         ensures grows { Grows self.old.log self.new.log }
         ensures within { IsWithin self.old.limit self.old.log self.new.log }
@@ -366,7 +428,8 @@ impl<'q> Memo<'q> {
         if self.log.classes().knows(class, &fact) {
             return Ok(true);
         }
-        let added = self.push(alloc, Line::Gives(class, class, fact));
-        Ok(unless_refused(added)?.is_some())
+        let added = self.append(alloc, Line::Gives(class, class, fact))?;
+        self.close(alloc)?;
+        Ok(added.is_some())
     }
 }

@@ -1,11 +1,8 @@
-//! Why nothing is added to a log.
+//! Why nothing is founded in a log.
 
-use logs::LineFault;
-use rules::Unfit;
 use std::alloc::{AllocError, AllocFailed};
-use values::Fault;
 
-/// Why nothing is added. Whether a rule doesn't fit, the log refuses a line or is full, a search goes on without.
+/// Why nothing is founded. Whether the log refuses a line or is full, a search goes on without.
 #[derive(Clone, Copy)]
 pub(crate) enum Unadded {
     Memory,
@@ -21,24 +18,6 @@ impl From<AllocError> for Unadded {
 impl<T: Drop> From<AllocFailed<T>> for Unadded {
     fn from(_error: AllocFailed<T>) -> Unadded {
         Unadded::Memory
-    }
-}
-
-impl From<LineFault> for Unadded {
-    fn from(fault: LineFault) -> Unadded {
-        match fault {
-            Fault::Memory => Unadded::Memory,
-            Fault::Refused(_) => Unadded::Refused,
-        }
-    }
-}
-
-impl From<Fault<Unfit>> for Unadded {
-    fn from(fault: Fault<Unfit>) -> Unadded {
-        match fault {
-            Fault::Memory => Unadded::Memory,
-            Fault::Refused(_) => Unadded::Refused,
-        }
     }
 }
 

@@ -3,7 +3,7 @@
 use crate::derived::{expr_of, fact_of, lines_of, numbers_of, rule_of};
 use crate::plans::{cut, id};
 use closure::{is_closed, missing, next_line};
-use derivation::Line;
+use derivation::{Line, Step};
 use explore::explore;
 use fixtures::{COMPANY, DEPT, EMP, QueryReporting, Tables, push_number, query_differences};
 use logs::Log;
@@ -56,9 +56,41 @@ fn push_given(alloc: Global, reported: &mut String, memo: &mut Memo<'_>) -> Resu
     reported.push_str("too many")
 }
 
+/// The step of a line that says what a rule gives.
+fn step_of(line: &Line) -> Option<&Step> {
+    match line {
+        Line::Adds(_, step, _) | Line::Unites(_, _, step) => Some(step.get()),
+        Line::Founds(_) | Line::Alike(_, _) | Line::Gives(_, _, _) => None,
+    }
+}
+
+/// How many lines found something that the next line which founds nothing doesn't name among what its result is made of.
+fn count_unnamed(alloc: Global, lines: &[Line]) -> Result<usize, AllocError> {
+    let mut waiting = Vec::new(alloc);
+    let mut count = 0usize;
+    for (number, line) in lines.iter().enumerate() {
+        if let Line::Founds(_) = line {
+            waiting.push(number)?;
+        } else {
+            for founded in &waiting {
+                let is_named = step_of(line).is_some_and(|step| step
+                    .makes
+                    .as_slice()
+                    .iter()
+                    .any(|make| *make as usize == *founded));
+                if !is_named {
+                    count = count.saturating_add(1);
+                }
+            }
+            waiting.clear();
+        }
+    }
+    Ok(count)
+}
+
 /// Does what the words say, and adds what comes of it: `found EXPR` the class, `line CLASS EXPR` and `apply RULE LINES` the line,
 /// `learn CLASS FACT` whether it is known, `members CLASS` and `parents CLASS` lines, `explore` and `closed` whether nothing more can be added,
-/// `give` how many lines the log lacked.
+/// `give` how many lines the log lacked, `unnamed` how many lines found something that the next result doesn't name.
 fn push_done(
     alloc: Global,
     reported: &mut String,
@@ -89,6 +121,7 @@ fn push_done(
             reported.push_str(if is_whole { "whole" } else { "not whole" })
         }
         "give" => push_given(alloc, reported, memo),
+        "unnamed" => push_number(reported, "", count_unnamed(alloc, memo.log().lines())?),
         "closed" => {
             let is_closed = is_closed(alloc, memo.log())?;
             reported.push_str(if is_closed { "closed" } else { "open" })
@@ -197,8 +230,8 @@ fn expressions_are_found_by_same_classes(rt: HostRuntime) {
     const FOUND: &str =
         "SELECT id FROM emp => F get 0; F keep 0 0; F distinct 1; F select [>(c0,i5)] 1; L 0 0 notnull 0; L 0 0 weak 0; L 0 0 strong 0; L 1 1 strong 0 / line 3 select [>(c0,i5)] 2; apply D1 2; line 3 select [>(c0,i5)] 2; found select [>(c0,i5)] 2; found distinct 2; learn 1 notnull 0; learn 2 notnull 0 => none; 8; 3; 3; 2; known; known; lines F F F F L0 L0 L0 L1 S2,1 L1";
     const MADE: &str =
-        "SELECT d.id FROM dept d, emp e => F get 0; F get 1; F distinct 0; F select [>(c0,i5)] 2; F join [] 0 1; F select [>(c0,i5)] 4; L 0 0 notnull 0; L 0 0 weak 0; L 0 0 strong 0 / apply D1 2; apply S2 5,4; apply S2 5,4; found join [] 3 1; members 3; members 5; parents 2 => 9; 12; 12; 5; 3 10; 5 12; 2 3 4 10; lines F F F F F F L0 L0 L0 S2,0 F G3,10 A5
-SELECT d.id FROM dept d, emp e => F get 0; F get 1; F distinct 0; F select [>(c0,i5)] 2; F join [] 0 1; F select [>(c0,i5)] 4; L 0 0 notnull 0; L 0 0 weak 0; L 0 0 strong 0; F join [] 3 1 / apply D1 2; apply S2 5,4; members 5; apply S2 5,4 => 10; 13; 5 9 13; 9; lines F F F F F F L0 L0 L0 F S2,0 F G3,11 A5 G9,13";
+        "SELECT d.id FROM dept d, emp e => F get 0; F get 1; F distinct 0; F select [>(c0,i5)] 2; F join [] 0 1; F select [>(c0,i5)] 4; L 0 0 notnull 0; L 0 0 weak 0; L 0 0 strong 0 / apply D1 2; apply S2 5,4; apply S2 5,4; found join [] 3 1; members 3; members 5; parents 2 => 9; 11; 11; 5; 3 10; 5 11; 2 3 4 10; lines F F F F F F L0 L0 L0 S2,0 F A5 G3,10
+SELECT d.id FROM dept d, emp e => F get 0; F get 1; F distinct 0; F select [>(c0,i5)] 2; F join [] 0 1; F select [>(c0,i5)] 4; L 0 0 notnull 0; L 0 0 weak 0; L 0 0 strong 0; F join [] 3 1 / apply D1 2; apply S2 5,4; members 5; unnamed; apply S2 5,4 => 10; 12; 5 9 12; 7; 9; lines F F F F F F L0 L0 L0 F S2,0 F A5 G3,11 G9,12";
     assert_eq!(rt;
         query_differences(rt.alloc(), TABLES, &[FOUND, MADE], &Grown { limit: LIMIT }).as_deref(),
         Ok("")
@@ -235,7 +268,7 @@ fn logs_are_explored(rt: HostRuntime) {
     const SELECTED: &str =
         "SELECT d.id FROM dept d, emp e => F get 0; F get 1; F join [] 0 1; F select [>(c0,i5)] 2 / closed; explore; closed; members 2; members 3; explore => open; whole; closed; 2 8; 3 5 6 7 9; whole; lines F F F F F A3 A3 A3 A2 A3";
     const JOINED: &str =
-        "SELECT d.id FROM dept d, emp e, emp f => F get 0; F get 1; F get 2; F join [] 0 1; F join [=(c0,c4)] 3 2 / explore; members 3; members 4; explore => whole; 3 10; 4 5 7 12 13 15 17 18; whole; lines F F F F F A4 F A4 A6 A6 A3 F A4 A4 A11 A4 F A4 A4 A16";
+        "SELECT d.id FROM dept d, emp e, emp f => F get 0; F get 1; F get 2; F join [] 0 1; F join [=(c0,c4)] 3 2 / explore; members 3; members 4; unnamed; explore => whole; 3 10; 4 5 7 12 13 15 17 18; 5; whole; lines F F F F F A4 F A4 A6 A6 A3 F A4 A4 A11 A4 F A4 A4 A16";
     assert_eq!(rt;
         query_differences(
             rt.alloc(),

@@ -3,6 +3,7 @@
 use crate::estimates::{ALL, per_million};
 use crate::graph::Graph;
 use crate::sets::{LeafSet, MOST_LEAVES};
+use crate::subqueries::Subquery;
 use std::alloc::{AllocError, Global};
 
 /// Up to so many leaves every subset is looked at.
@@ -10,6 +11,14 @@ const MOST_EXHAUSTIVE: usize = 12;
 
 /// As many subsets as so many leaves have.
 const MOST_SUBSETS: usize = 4096;
+
+/// So many leaves and subqueries are placed together at most, and so many subqueries. For others a place is taken in the tree that is chosen without them.
+const MOST_PLACED: usize = 13;
+
+const MOST_ASKED: usize = 3;
+
+/// As many sets as so many subqueries have.
+const MOST_ASKED_SETS: usize = 8;
 
 /// What a row costs above its set, where its matches are found by an index that isn't unique. By this weight a tree is kept for its few rows.
 const NARROW: u64 = 3_000;
@@ -34,6 +43,12 @@ pub(crate) struct Joined {
     is_narrow: bool,
     is_left_narrow: bool,
     is_right_narrow: bool,
+    /// The subqueries that are asked in it and in its sides, as bits, and the bit of the one that is asked of all its rows last, if one is. That is asked of
+    /// a tree of the same set, the second one where the left side is said to be that.
+    asked: u8,
+    left_asked: u8,
+    right_asked: u8,
+    last: u8,
 }
 
 /// A set that is not looked at.
@@ -50,12 +65,29 @@ const NOTHING: Joined = Joined {
     is_narrow: false,
     is_left_narrow: false,
     is_right_narrow: false,
+    asked: 0,
+    left_asked: 0,
+    right_asked: 0,
+    last: 0,
 };
 
 impl Joined {
     /// What it costs and what is still to be done with its rows, if each costs so much.
     fn weight(self, each: u64) -> u64 {
         self.cost.saturating_add(self.rows.saturating_mul(each))
+    }
+
+    /// Its rows that make the subquery of this bit true.
+    fn asking(self, subquery: &Subquery, bit: u8) -> Joined {
+        Joined {
+            rows: per_million(self.rows, subquery.share),
+            cost: self.weight(subquery.cost),
+            asked: self.asked | bit,
+            last: bit,
+            is_narrow: false,
+            is_left_narrow: self.is_narrow,
+            ..self
+        }
     }
 }
 
@@ -98,10 +130,11 @@ impl Kept {
     }
 }
 
-/// A join tree: its sets, each with its sides, the whole last.
+/// A join tree: its sets, each with its sides, the whole last; and for each subquery the set whose rows it is asked of.
 #[derive(Drop)]
 pub(crate) struct JoinTree {
     joined: Vec<Joined>,
+    pub homes: Vec<LeafSet>,
 }
 
 fn leaf_joined(graph: &Graph, place: usize) -> Joined {
@@ -151,7 +184,7 @@ fn paired_cost(left: Joined, right: Joined) -> u64 {
 
 /// The cost of finding the matches of the left rows in a leaf by an index, if there is one.
 fn probing_cost(graph: &Graph, left: Joined, right: Joined) -> Option<u64> {
-    if right.set.count() != 1 || !left.around.meets(right.set) {
+    if right.set.count() != 1 || right.asked != 0 || !left.around.meets(right.set) {
         return None;
     }
     let each = graph.probe(left.set, right.set)?;
@@ -181,6 +214,10 @@ fn join_of(graph: &Graph, left: Joined, right: Joined, rows: u64) -> Joined {
         is_narrow: false,
         is_left_narrow: left.is_narrow,
         is_right_narrow: right.is_narrow,
+        asked: left.asked | right.asked,
+        left_asked: left.asked,
+        right_asked: right.asked,
+        last: 0,
     }
 }
 
@@ -191,8 +228,36 @@ fn cheaper_join(graph: &Graph, first: Joined, second: Joined, rows: u64) -> Join
     if other.cost < one.cost { other } else { one }
 }
 
-fn kept_at(cells: &[Kept], set: LeafSet) -> Kept {
-    cells.get(set.number()).copied().unwrap_or(NONE_KEPT)
+/// What is kept of all subsets of a few leaves, for each set of subqueries that are asked in it.
+#[derive(Drop)]
+struct Cells {
+    kept: Vec<Kept>,
+    /// How many sets of subqueries there are.
+    asked_sets: u8,
+    /// The whole, where its rows cost nothing above it, since all subqueries are asked in it.
+    last: LeafSet,
+}
+
+impl Cells {
+    fn place(&self, set: LeafSet, asked: u8) -> usize {
+        set.number()
+            .saturating_mul(usize::from(self.asked_sets))
+            .saturating_add(usize::from(asked))
+    }
+
+    fn at(&self, set: LeafSet, asked: u8) -> Kept {
+        self.kept
+            .get(self.place(set, asked))
+            .copied()
+            .unwrap_or(NONE_KEPT)
+    }
+
+    fn put(&mut self, set: LeafSet, asked: u8, kept: Kept) {
+        let place = self.place(set, asked);
+        if let Some(cell) = self.kept.get_mut(place) {
+            *cell = kept;
+        }
+    }
 }
 
 /// Two sides that are joined, each by one of the trees that are kept of it.
@@ -266,70 +331,183 @@ impl Sides<'_> {
     }
 }
 
-/// The joins that are kept of the set, whose subsets are known.
-fn best_joins(graph: &Graph, cells: &[Kept], set: LeafSet, whole: LeafSet) -> Kept {
-    let others = set.minus(LeafSet::single(set.lowest()));
-    // Nothing stands above the whole that its rows cost.
-    let rows = if set == whole {
-        Some(0)
-    } else {
-        graph.known_rows(set)
+/// What is kept of one set, for each set of subqueries that are asked in it.
+#[derive(Clone, Copy, Drop)]
+struct KeptOfSet {
+    by_asked: [Kept; MOST_ASKED_SETS],
+}
+
+impl KeptOfSet {
+    fn at(&self, asked: u8) -> Kept {
+        self.by_asked
+            .get(usize::from(asked))
+            .copied()
+            .unwrap_or(NONE_KEPT)
+    }
+
+    fn at_mut(&mut self, asked: u8) -> Option<&mut Kept> {
+        self.by_asked.get_mut(usize::from(asked))
+    }
+}
+
+/// The bits of subqueries in sets of those that are asked, by their places.
+const BITS: [u8; MOST_ASKED] = [1, 2, 4];
+
+/// Looks at the joins of two sets, each with some of the subqueries asked in it.
+fn look_at_sides(
+    graph: &Graph,
+    cells: &Cells,
+    left: LeafSet,
+    right: LeafSet,
+    known: Option<u64>,
+    best: &mut KeptOfSet,
+) {
+    let set = left.union(right);
+    let mut share: Option<u64> = None;
+    for left_asked in 0..cells.asked_sets {
+        let first = cells.at(left, left_asked);
+        for right_asked in 0..cells.asked_sets {
+            let second = cells.at(right, right_asked);
+            let is_apart = left_asked & right_asked == 0;
+            if is_apart && !first.cheap.set.is_empty() && !second.cheap.set.is_empty() {
+                let asked = left_asked | right_asked;
+                let rows = if set == cells.last && asked.saturating_add(1) == cells.asked_sets {
+                    Some(0)
+                } else if asked == 0 {
+                    known
+                } else {
+                    None
+                };
+                let mut sides = Sides {
+                    graph,
+                    left: first,
+                    right: second,
+                    rows,
+                    share,
+                };
+                if let Some(kept) = best.at_mut(asked) {
+                    sides.look_at_all(kept);
+                }
+                share = sides.share;
+            }
+        }
+    }
+}
+
+/// Looks at what makes subqueries true that are asked of the rows of a set.
+fn look_at_asking(graph: &Graph, set: LeafSet, asked_sets: u8, best: &mut KeptOfSet) {
+    for asked in 0..asked_sets {
+        for (subquery, bit) in graph.subqueries.iter().zip(BITS) {
+            if asked & bit != 0 && subquery.leaves.is_within(set) {
+                let below = best.at(asked & !bit);
+                if let Some(kept) = best.at_mut(asked) {
+                    for tree in [below.cheap, below.narrow] {
+                        if !tree.set.is_empty() && !tree.is_bare {
+                            kept.keep(tree.asking(subquery, bit));
+                        }
+                    }
+                }
+            }
+        }
+    }
+}
+
+/// What is kept of the set, whose subsets are known.
+fn best_of(graph: &Graph, cells: &Cells, set: LeafSet) -> KeptOfSet {
+    let mut best = KeptOfSet {
+        by_asked: [NONE_KEPT; MOST_ASKED_SETS],
     };
+    if set.count() == 1 {
+        if let Some(kept) = best.at_mut(0) {
+            *kept = kept_leaf(graph, set.lowest());
+        }
+    }
+    let known = graph.known_rows(set);
+    let others = set.minus(LeafSet::single(set.lowest()));
     let mut part = others;
-    let mut best = NONE_KEPT;
     for _ in 0..MOST_SUBSETS {
         if part.is_empty() {
             break;
         }
-        let mut sides = Sides {
-            graph,
-            left: kept_at(cells, set.minus(part)),
-            right: kept_at(cells, part),
-            rows,
-            share: None,
-        };
-        sides.look_at_all(&mut best);
+        look_at_sides(graph, cells, set.minus(part), part, known, &mut best);
         part = part.before(others);
     }
+    look_at_asking(graph, set, cells.asked_sets, &mut best);
     best
 }
 
+/// How many subqueries are placed together with the leaves.
+fn count_placed(graph: &Graph) -> usize {
+    let most = MOST_PLACED.saturating_sub(graph.leaves.len());
+    most.min(MOST_ASKED).min(graph.subqueries.len())
+}
+
 /// What is kept of all subsets of a few leaves.
-fn all_subsets(alloc: Global, graph: &Graph, whole: LeafSet) -> Result<Vec<Kept>, AllocError> {
-    let mut cells = Vec::from_elem(alloc, NONE_KEPT, whole.number().saturating_add(1))?;
-    for number in 1..cells.len() {
-        let set = LeafSet(number as u64);
-        let kept = if set.count() == 1 {
-            kept_leaf(graph, set.lowest())
+fn all_subsets(alloc: Global, graph: &Graph, whole: LeafSet) -> Result<Cells, AllocError> {
+    let placed = count_placed(graph);
+    let asked_sets = match placed {
+        0 => 1,
+        1 => 2,
+        2 => 4,
+        _ => 8,
+    };
+    let sets = whole.number().saturating_add(1);
+    let mut cells = Cells {
+        kept: Vec::from_elem(
+            alloc,
+            NONE_KEPT,
+            sets.saturating_mul(usize::from(asked_sets)),
+        )?,
+        asked_sets,
+        last: if placed == graph.subqueries.len() {
+            whole
         } else {
-            best_joins(graph, &cells, set, whole)
-        };
-        if let Some(cell) = cells.get_mut(number) {
-            *cell = kept;
+            LeafSet::EMPTY
+        },
+    };
+    for number in 1..sets {
+        let set = LeafSet(number as u64);
+        let best = best_of(graph, &cells, set);
+        for asked in 0..asked_sets {
+            cells.put(set, asked, best.at(asked));
         }
     }
     Ok(cells)
 }
 
-/// The sets of the tree of least cost.
-fn least_sets(alloc: Global, graph: &Graph, count: usize) -> Result<Vec<Joined>, AllocError> {
+/// The tree of least cost.
+fn least_tree(alloc: Global, graph: &Graph, count: usize) -> Result<JoinTree, AllocError> {
     let whole = LeafSet::first(count);
     let cells = all_subsets(alloc, graph, whole)?;
-    let mut sets = Vec::new(alloc);
+    let mut joined = Vec::new(alloc);
+    let mut homes = Vec::from_elem(alloc, LeafSet::EMPTY, graph.subqueries.len())?;
     let mut open = Vec::new(alloc);
-    open.push(kept_at(&cells, whole).cheap)?;
+    open.push(cells.at(whole, cells.asked_sets.saturating_sub(1)).cheap)?;
     for _ in 0..MOST_SUBSETS {
-        let Some(joined) = open.pop() else {
+        let Some(tree) = open.pop() else {
             break;
         };
-        sets.push(joined)?;
-        if joined.set.count() > 1 {
-            open.push(kept_at(&cells, joined.left).tree(joined.is_left_narrow))?;
-            open.push(kept_at(&cells, joined.right).tree(joined.is_right_narrow))?;
+        let set = tree.set;
+        if tree.last != 0 {
+            for (home, bit) in homes.iter_mut().zip(BITS) {
+                if tree.last == bit {
+                    *home = set;
+                }
+            }
+            let below = cells.at(set, tree.asked & !tree.last);
+            open.push(below.tree(tree.is_left_narrow))?;
+        } else {
+            joined.push(tree)?;
+            if set.count() > 1 {
+                let left = cells.at(tree.left, tree.left_asked);
+                open.push(left.tree(tree.is_left_narrow))?;
+                let right = cells.at(tree.right, tree.right_asked);
+                open.push(right.tree(tree.is_right_narrow))?;
+            }
         }
     }
-    sets.reverse();
-    Ok(sets)
+    joined.reverse();
+    Ok(JoinTree { joined, homes })
 }
 
 /// Two of the parts, by their places.
@@ -390,8 +568,8 @@ fn join_pair(graph: &Graph, parts: &mut Vec<Joined>, pair: Pair) -> Joined {
     joined
 }
 
-/// The sets of a tree in which the pair with the fewest rows is joined, again and again.
-fn greedy_sets(alloc: Global, graph: &Graph, count: usize) -> Result<Vec<Joined>, AllocError> {
+/// The tree in which the pair with the fewest rows is joined, again and again.
+fn greedy_tree(alloc: Global, graph: &Graph, count: usize) -> Result<JoinTree, AllocError> {
     let mut sets = Vec::new(alloc);
     let mut parts = Vec::new(alloc);
     for place in 0..count {
@@ -404,19 +582,49 @@ fn greedy_sets(alloc: Global, graph: &Graph, count: usize) -> Result<Vec<Joined>
             sets.push(join_pair(graph, &mut parts, pair))?;
         }
     }
-    Ok(sets)
+    let homes = Vec::from_elem(alloc, LeafSet::EMPTY, graph.subqueries.len())?;
+    Ok(JoinTree {
+        joined: sets,
+        homes,
+    })
 }
 
 impl JoinTree {
     /// The tree of least cost where the leaves are few, or else one that was chosen greedily.
     pub(crate) fn of(alloc: Global, graph: &Graph) -> Result<JoinTree, AllocError> {
         let count = graph.leaves.len();
-        let joined = if count <= MOST_EXHAUSTIVE {
-            least_sets(alloc, graph, count)?
+        let mut tree = if count <= MOST_EXHAUSTIVE {
+            least_tree(alloc, graph, count)?
         } else {
-            greedy_sets(alloc, graph, count)?
+            greedy_tree(alloc, graph, count)?
         };
-        Ok(JoinTree { joined })
+        for (place, subquery) in graph.subqueries.iter().enumerate() {
+            let home = tree.narrowest(subquery.leaves);
+            if let Some(found) = tree.homes.get_mut(place) {
+                if found.is_empty() {
+                    *found = home;
+                }
+            }
+        }
+        Ok(tree)
+    }
+
+    /// The set of the tree with the fewest rows that has these leaves, but for leaves that stand without their conditions or are probed by an index.
+    fn narrowest(&self, leaves: LeafSet) -> LeafSet {
+        let mut found = self.root();
+        let mut probed = LeafSet::EMPTY;
+        for joined in &self.joined {
+            if joined.is_probed {
+                probed = probed.union(joined.right);
+            }
+        }
+        for joined in &self.joined {
+            let is_kept = joined.is_bare || (joined.set.count() == 1 && joined.set.meets(probed));
+            if leaves.is_within(joined.set) && !is_kept && joined.rows < found.rows {
+                found = *joined;
+            }
+        }
+        found.set
     }
 
     /// How a set of the tree is joined.

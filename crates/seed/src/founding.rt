@@ -20,9 +20,9 @@ struct Placed {
 
 /// The class of a set of leaves.
 #[derive(Clone, Copy, Drop)]
-struct SetClass {
-    set: LeafSet,
-    class: ClassId,
+pub(crate) struct SetClass {
+    pub set: LeafSet,
+    pub class: ClassId,
 }
 
 /// Adds the conditions of a line that name no class.
@@ -80,12 +80,12 @@ fn conditions_over(
     Conjuncts::of(alloc, conditions.as_slice())
 }
 
-fn class_of(classes: &[SetClass], set: LeafSet) -> Option<ClassId> {
+pub(crate) fn class_of(classes: &[SetClass], set: LeafSet) -> Option<ClassId> {
     let found = classes.iter().find(|one| one.set == set)?;
     Some(found.class)
 }
 
-/// Founds the class of a join whose sides have theirs; that of the whole is the region's own.
+/// Founds the class of a join whose sides have theirs.
 fn found_join(
     alloc: Global,
     memo: &mut Memo<'_>,
@@ -120,14 +120,14 @@ fn found_leaf(
     memo.found(alloc, Expr::Select(conditions, class))
 }
 
-/// Founds the classes of the tree's sets, each behind those of its sides.
+/// Founds the classes of the tree's sets, each behind those of its sides. That of the whole is the region's own, unless subqueries are asked of its rows.
 pub(crate) fn found_tree(
     alloc: Global,
     memo: &mut Memo<'_>,
     region: Region,
     parts: &Parts,
     tree: &JoinTree,
-) -> Result<(), AllocError> {
+) -> Result<Vec<SetClass>, AllocError> {
     let placed = placed_conditions(alloc, memo, region, parts)?;
     let mut classes = Vec::new(alloc);
     for (place, class) in parts.leaves.iter().enumerate() {
@@ -139,7 +139,7 @@ pub(crate) fn found_tree(
     }
     let joins = tree.joins(alloc)?;
     for joined in joins.iter().rev() {
-        if joined.set != tree.root().set {
+        if joined.set != tree.root().set || !tree.homes.is_empty() {
             let set = joined.set;
             let class = found_join(
                 alloc,
@@ -154,5 +154,5 @@ pub(crate) fn found_tree(
             }
         }
     }
-    Ok(())
+    Ok(classes)
 }

@@ -3,6 +3,7 @@
 use crate::estimates::{ALL, filter_cost, per_million, probed, scan_cost, share};
 use crate::regions::{Parts, Region, conditions_of};
 use crate::sets::{LeafSet, MOST_LEAVES};
+use crate::subqueries::{Subquery, class_cost, subqueries_of};
 use algebra::{ClassId, Condition, Expr};
 use costs::Cardinalities;
 use logs::Log;
@@ -52,6 +53,8 @@ pub(crate) struct Graph {
     pub equated: Vec<LeafSet>,
     /// The region's own joins. Their classes are founded already, so they have their rows in each tree.
     known: Vec<Known>,
+    /// The conditions that name classes, the dearest first.
+    pub subqueries: Vec<Subquery>,
 }
 
 /// What is known of the whole before a region is looked at.
@@ -109,7 +112,7 @@ impl Leaf {
 }
 
 /// A leaf with no condition on it.
-fn bare_leaf(guesses: Guesses<'_, '_>, class: ClassId) -> Leaf {
+fn bare_leaf(alloc: Global, guesses: Guesses<'_, '_>, class: ClassId) -> Result<Leaf, AllocError> {
     let rows = guesses.cardinalities.rows(class);
     let instance = match guesses.log.member(class) {
         Some(member) => match member.expr {
@@ -120,13 +123,13 @@ fn bare_leaf(guesses: Guesses<'_, '_>, class: ClassId) -> Leaf {
     };
     let cost = match instance {
         Some(instance) => scan_cost(guesses.statistics, instance),
-        None => rows.saturating_mul(20),
+        None => class_cost(alloc, guesses, class)?.unwrap_or(rows),
     };
-    Leaf {
+    Ok(Leaf {
         bare_rows: rows,
         bare_cost: cost,
         ..Leaf::NONE
-    }
+    })
 }
 
 /// What a condition on a leaf alone costs by an index, if there is one.
@@ -211,7 +214,7 @@ impl Graph {
         }
     }
 
-    /// Notes a condition of the region, which stands in a join of these leaves, or above the join of all.
+    /// Notes a condition of the region, which stands in a join of these leaves, or above the join of all. One that names classes is no join's.
     fn note(
         &mut self,
         alloc: Global,
@@ -221,7 +224,6 @@ impl Graph {
         condition: &Condition,
     ) -> Result<(), AllocError> {
         if !condition.has_no_class() {
-            self.forget(LeafSet::EMPTY, stands_over);
             return Ok(());
         }
         let leaves = mentioned(alloc, guesses.log, classes, condition)?;
@@ -251,9 +253,10 @@ impl Graph {
             probes: Vec::new(alloc),
             equated: Vec::from_elem(alloc, LeafSet::EMPTY, parts.leaves.len())?,
             known: known_joins(alloc, guesses, parts)?,
+            subqueries: Vec::new(alloc),
         };
         for class in &parts.leaves {
-            graph.leaves.push(bare_leaf(guesses, *class))?;
+            graph.leaves.push(bare_leaf(alloc, guesses, *class)?)?;
         }
         for (place, line) in parts.joins.iter().enumerate() {
             let set = graph.known_set(place);
@@ -266,6 +269,7 @@ impl Graph {
             for condition in conditions_of(guesses.log, line) {
                 graph.note(alloc, guesses, &parts.leaves, whole, condition)?;
             }
+            graph.subqueries = subqueries_of(alloc, guesses, &parts.leaves, line)?;
         }
         Ok(graph)
     }

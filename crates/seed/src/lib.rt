@@ -10,10 +10,12 @@ mod estimates;
 mod founding;
 mod graph;
 mod nodes;
+mod placing;
 mod reaching;
 mod regions;
 mod seeding;
 mod sets;
 mod sinking;
+mod subqueries;
 
 pub use seeding::seed;

@@ -7,7 +7,8 @@ use logs::Log;
 use query::ids::id_of;
 use std::alloc::{AllocError, Global};
 
-/// A join with the joins below it, and the selection above it, if there is one.
+/// A join with the joins below it, and the selection above it, if there is one. In the place of the join there may be one leaf alone, from which subqueries
+/// select.
 #[derive(Clone, Copy, Drop)]
 pub(crate) struct Region {
     pub select: Option<LineId>,
@@ -72,6 +73,12 @@ fn below_others(alloc: Global, log: &Log<'_>) -> Result<Vec<bool>, AllocError> {
     Ok(below)
 }
 
+/// Whether a line selects by a subquery and by something else.
+fn asks_in_turn(log: &Log<'_>, line: LineId) -> bool {
+    let conditions = conditions_of(log, line);
+    conditions.len() > 1 && conditions.iter().any(|one| !one.has_no_class())
+}
+
 /// The regions of a log, each behind those on which it stands.
 pub(crate) fn regions(alloc: Global, log: &Log<'_>) -> Result<Vec<Region>, AllocError> {
     let below = below_others(alloc, log)?;
@@ -84,7 +91,7 @@ pub(crate) fn regions(alloc: Global, log: &Log<'_>) -> Result<Vec<Region>, Alloc
             })?;
         }
         if let Some(class) = selected(log, line) {
-            if founding_sides(log, class).is_some() {
+            if founding_sides(log, class).is_some() || asks_in_turn(log, line) {
                 regions.push(Region {
                     select: Some(line),
                     join: class,

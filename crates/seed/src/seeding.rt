@@ -4,21 +4,24 @@ use crate::chosen::JoinTree;
 use crate::founding::found_tree;
 use crate::graph::{Graph, Guesses};
 use crate::nodes::Nodes;
+use crate::placing::{Asked, place_subqueries};
 use crate::reaching::reach;
 use crate::regions::{Parts, Region, founding_sides, parts_of, place_of, regions};
 use crate::sets::{LeafSet, MOST_LEAVES};
 use crate::sinking::{Wishes, combed, lowered, sunk};
+use crate::subqueries::Subquery;
 use algebra::ClassId;
 use costs::Cardinalities;
 use memo::Memo;
 use statistics::Statistics;
 use std::alloc::{AllocError, Global};
 
-/// What is chosen for a region: its tree, and the order in which its leaves are joined one by one.
+/// What is chosen for a region: its tree, the order in which its leaves are joined one by one, and the subqueries that are asked in the tree.
 #[derive(Drop)]
 struct Choice {
     tree: JoinTree,
     order: Vec<usize>,
+    subqueries: Vec<Subquery>,
 }
 
 fn choose(
@@ -38,7 +41,12 @@ fn choose(
     let graph = Graph::of(alloc, guesses, region, parts)?;
     let tree = JoinTree::of(alloc, &graph)?;
     let order = tree.order(alloc, &graph)?;
-    Ok(Choice { tree, order })
+    let Graph { subqueries, .. } = graph;
+    Ok(Choice {
+        tree,
+        order,
+        subqueries,
+    })
 }
 
 /// The leaves that are filtered before they are joined: all but those whose matches are found by an index, and those that stand without their
@@ -102,7 +110,15 @@ fn seed_tree(
     choice: &Choice,
 ) -> Result<(), AllocError> {
     let tree = &choice.tree;
-    found_tree(alloc, memo, region, parts, tree)?;
+    let classes = found_tree(alloc, memo, region, parts, tree)?;
+    let asked = Asked {
+        tree,
+        classes: classes.as_slice(),
+        subqueries: choice.subqueries.as_slice(),
+    };
+    if !asked.subqueries.is_empty() {
+        place_subqueries(alloc, memo, asked)?;
+    }
     let wishes = Wishes {
         leaves: &parts.leaves,
         pushed: pushed_leaves(alloc, tree, parts.leaves.len())?,

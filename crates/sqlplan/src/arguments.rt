@@ -1,8 +1,9 @@
 //! The words of the command line.
 
 use crate::stop::Stop;
+use devices::StandardStream;
 use std::env;
-use std::io::ErrorKind;
+use std::io::{ErrorKind, Write};
 use std::rt::Env;
 use words::quoted;
 
@@ -11,16 +12,20 @@ const LONGEST_ARGUMENT: usize = 131_072;
 
 /// Says the first argument that isn't UTF-8.
 fn say_unreadable(rt: &HostRuntime) -> Result<(), Stop> {
+    let mut error = StandardStream::error(rt);
     let mut buffer = vec![in rt.alloc(); 0u8; LONGEST_ARGUMENT]?;
     for place in 0..usize::MAX {
         let Ok(length) = rt.arg(place, buffer.as_mut_slice()) else {
-            let _ = rt.eprintln("error: an argument is not UTF-8");
+            let _ = error.write_all(b"error: an argument is not UTF-8\n");
             break;
         };
         let bytes = &buffer.as_slice()[..length];
         if str::from_utf8(bytes).is_err() {
             let spelling = quoted(rt.alloc(), bytes)?;
-            let _ = eprintln!(rt; "error: argument {place} is not UTF-8: {spelling}");
+            let line = format!(in rt.alloc();
+                "error: argument {place} is not UTF-8: {spelling}\n"
+            )?;
+            let _ = error.write_all(line.as_bytes());
             break;
         }
     }

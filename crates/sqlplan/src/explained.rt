@@ -3,9 +3,9 @@
 ghost use Rattle.std.specs.Prelude.{ℕ, List};
 ghost use Rattle.sqlplan.specs.Stops.{Says};
 
-use crate::input::ReadFailure;
 use crate::path_of;
 use crate::stop::Stop;
+use devices::ReadFailure;
 use pipeline::Refusal;
 use schema::{Schema, SchemaRefusal};
 use std::alloc::{AllocError, Global};

@@ -17,16 +17,17 @@ use arguments::arguments;
 use clap::ArgMatches;
 use clap::error::ErrorKind;
 use command::command;
+use devices::{ReadFailure, StandardStream, read_file};
 use explained::{Inputs, file_in_words, in_words, schema_in_words};
-use input::{ReadFailure, TableFile, TableWatch, read_file};
+use input::{TableFile, TableWatch};
 use pipeline::{Exploration, PlanForm, Refusal, check, evaluate, explain, plan, query, run};
 use progress::{Progress, WatchedOutput};
 use schema::{Schema, SchemaFault};
 use std::alloc::{AllocError, Global};
+use std::fs;
 use std::fs::File;
-use std::io::{BufWriter, IsTerminal, Printer, Write};
+use std::io::{BufWriter, IsTerminal, Write};
 use std::process::ExitCode;
-use std::{fs, io};
 use stop::Stop;
 use words::{FoundRow, found_row, list_of_codes, readable};
 
@@ -282,7 +283,7 @@ impl Given<'_> {
         statistics: &[u8],
     ) -> Result<(), Stop> {
         let refusal = match outcome {
-            Ok(bytes) => match io::writer(rt).write_all(bytes.as_slice()) {
+            Ok(bytes) => match StandardStream::output(rt).write_all(bytes.as_slice()) {
                 Ok(()) => return Ok(()),
                 Err(_) => Refusal::Output,
             },
@@ -293,11 +294,11 @@ impl Given<'_> {
 }
 
 /// Standard output, through a buffer.
-type Output<'a> = WatchedOutput<'a, CountedOutput<BufWriter<Printer<'a, HostRuntime>>>>;
+type Output<'a> = WatchedOutput<'a, CountedOutput<BufWriter<StandardStream<'a>>>>;
 
 /// Standard output, watched unless it is a terminal: there the rows themselves show how far they are, and lines would stand among them.
 fn output<'a>(rt: &'a HostRuntime, progress: Option<&'a Progress<'a>>) -> Result<Output<'a>, Stop> {
-    let buffered = BufWriter::new(rt.alloc(), io::writer(rt))?;
+    let buffered = BufWriter::new(rt.alloc(), StandardStream::output(rt))?;
     let progress = if rt.stdout().is_terminal() {
         None
     } else {
@@ -366,17 +367,12 @@ fn answer_by_certificate(
     given.ended_over(rt.alloc(), outcome, tables.as_mut_slice())
 }
 
-/// The end of a write to standard output.
-fn written(alloc: Global, outcome: io::Result<()>) -> Result<(), Stop> {
-    match outcome {
-        Ok(()) => Ok(()),
-        Err(_) => Err(Stop::of_refusal(alloc, &Refusal::Output, None)),
-    }
-}
-
 /// Writes on standard output.
 fn print_bytes(rt: &HostRuntime, bytes: &[u8]) -> Result<(), Stop> {
-    written(rt.alloc(), io::writer(rt).write_all(bytes))
+    match StandardStream::output(rt).write_all(bytes) {
+        Ok(()) => Ok(()),
+        Err(_) => Err(Stop::of_refusal(rt.alloc(), &Refusal::Output, None)),
+    }
 }
 
 /// Writes on standard output the certificate of a plan, by the statistics of a file.
@@ -493,10 +489,14 @@ fn obey(rt: &HostRuntime, command: &str, arguments: &ArgMatches<'_>) -> Result<(
 fn say(rt: &HostRuntime, error: &clap::Error) -> Result<(), Stop> {
     match error.kind() {
         ErrorKind::OutOfMemory => Err(Stop::Memory),
-        ErrorKind::DisplayVersion => written(rt.alloc(), rt.print(error)),
+        ErrorKind::DisplayVersion => {
+            let text = format!(in rt.alloc(); "{error}")?;
+            print_bytes(rt, text.as_bytes())
+        }
         _ => {
             let text = format!(in rt.alloc(); "{error}")?;
-            let _ = rt.eprint(readable(rt.alloc(), text.as_str())?);
+            let text = readable(rt.alloc(), text.as_str())?;
+            let _ = StandardStream::error(rt).write_all(text.as_bytes());
             Err(Stop::Usage)
         }
     }

@@ -4,8 +4,10 @@ ghost use Rattle.std.specs.Prelude.{◌≡◌, ◌↔◌, IsTrue};
 ghost use Rattle.sqlplan.specs.Progress.{IsDue};
 
 use answer_text::{AnswerOutput, OutputFailed};
+use devices::StandardStream;
 use std::cell::Cell;
-use std::io::IsTerminal;
+use std::fmt::Display;
+use std::io::{IsTerminal, Write};
 use std::time::Instant;
 
 /// So many milliseconds lie between two lines, at least.
@@ -62,24 +64,31 @@ impl<'a> Progress<'a> {
         Some(elapsed.as_secs())
     }
 
+    /// Says a line on standard error. That it can't be said changes nothing.
+    fn say<D: Display + Drop>(&self, line: D) {
+        if let Ok(text) = format!(in self.rt.alloc(); "{line}\n") {
+            let _ = StandardStream::error(self.rt).write_all(text.as_bytes());
+        }
+    }
+
     /// Says how many bytes of a table's file have been read.
     pub fn reading(&self, table: &str, bytes: u64) {
         if let Some(seconds) = self.due(false) {
-            let _ = eprintln!(self.rt; "progress table {table} {bytes} bytes {seconds} s");
+            self.say(format_args!("progress table {table} {bytes} bytes {seconds} s"));
         }
     }
 
     /// Says that the last table's file has been read. What was asked for is said even where that took no time: what follows may.
     pub fn tables_read(&self) {
         if let Some(seconds) = self.due(self.asked) {
-            let _ = eprintln!(self.rt; "progress tables read {seconds} s");
+            self.say(format_args!("progress tables read {seconds} s"));
         }
     }
 
     /// Says how many rows of the answer have been written.
     fn writing(&self, rows: u64) {
         if let Some(seconds) = self.due(false) {
-            let _ = eprintln!(self.rt; "progress answer {rows} rows {seconds} s");
+            self.say(format_args!("progress answer {rows} rows {seconds} s"));
         }
     }
 }

@@ -7,11 +7,12 @@ ghost use Rattle.pipeline.specs.Refusals as refusals;
 ghost use Rattle.sqlplan.specs.Stops as spec;
 ghost use Rattle.words.specs.Spelling.{spelled as path_text};
 
-use crate::input::ReadFailure;
+use devices::{ReadFailure, StandardStream};
 use pipeline::{Refusal, fault_line};
 use schema::Schema;
 use std::alloc::{AllocError, AllocFailed, Global};
 use std::io;
+use std::io::Write;
 use words::spelled;
 
 /// Why the program stops early.
@@ -56,14 +57,16 @@ impl Stop {
     }
 
     /// Says the line on standard error, and the words behind it. That it can't be said changes nothing.
-    pub fn report(&self, rt: &impl Eprint) {
+    pub fn report(&self, rt: &HostRuntime) {
+        let mut error = StandardStream::error(rt);
         let _ = match self {
             Stop::Usage => Ok(()),
-            Stop::Memory => rt.eprintln("memory"),
-            Stop::Line(line, _, words) => {
-                let words = words.as_str();
-                eprint!(rt; "{line}\n{words}")
-            }
+            Stop::Memory => error.write_all(b"memory\n"),
+            Stop::Line(line, _, words) => match format!(in rt.alloc(); "{line}\n{words}") {
+                Ok(text) => error.write_all(text.as_bytes()),
+                // Without memory for one text the line alone is said.
+                Err(AllocError) => writeln!(error, "{line}"),
+            },
         };
     }
 

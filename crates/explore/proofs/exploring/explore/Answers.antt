@@ -1,18 +1,32 @@
-use Rattle.std.proofs.Common.{◌≡◌, sym, ◌∙◌, subst, ℕ, ◌-◌, ◌<◌, length, false, nat_le, Ok}
-use Rattle.std.proofs.lemmas.Bool.{leb-false}
-use Rattle.derivation.specs.Replay.{stands}
-use Rattle.logs.specs.Logged.{Logged}
-use Rattle.explore.proofs.Along.{room_falls}
+use Rattle.std.proofs.Common.{refl, ◌∙◌, subst}
+use Rattle.memo.specs.Growth.{Extends}
+use Rattle.memo.proofs.Growth.{extended_along}
+use Rattle.explore.proofs.Along.{extends_of, grown_at_first, grown_along}
 use Rattle.explore.proofs.exploring.explore.Goals as goal
 
-pub adding-smaller : goal.adding-smaller
-adding-smaller c =
-    let mid = c.apply_all.new.memo in
-    let new = c.add.new.self in
-    let full : nat_le mid.limit (length mid.log.log) ≡ false = sym c.is_full-is_full.ensures ∙ c.if-is_full.false in
-    let stands_ = subst (λ (l : Logged). stands l.instances l.own l.log c.in_ok-line.line ≡ Ok c.in_ok-line.line) c.log-in-adding.ensures c.in_ok-line.ensures in
-    let more : length mid.log.log < length new.log.log = c.in_ok-add.ensures.added (leb-false _ _ full) stands_ in
-    let same : mid.limit ≡ c.adding.memo.limit = c.in_ok-apply_all.ensures.limit in
-    let limits : new.limit ≡ c.adding.memo.limit = c.in_ok-add.ensures.limit ∙ same in
-    subst (λ (n : ℕ). n - length new.log.log < c.adding.memo.limit - length c.adding.memo.log.log) (sym limits)
-    (room_falls c.adding.memo.limit c.adding.memo.log mid.log new.log c.in_ok-apply_all.ensures.grows (subst (λ (n : ℕ). nat_le n (length mid.log.log) ≡ false) same full) more)
+pub adding-init : goal.adding-init
+adding-init c = (grown_at_first _ _, refl)
+
+pub returns-in_err-apply_all-clause-grows : goal.returns-in_err-apply_all-clause-grows
+returns-in_err-apply_all-clause-grows c = (extended_along _ _ _ _ c.adding.invariant.0.extends (subst (λ n. Extends n c.adding.memo.log c.apply_all.new.memo.log) c.adding.invariant.1 (extends_of _ _ _ c.apply_all.ensures.grows c.apply_all.ensures.within))).grows
+
+pub returns-in_err-lacking-clause-grows : goal.returns-in_err-lacking-clause-grows
+returns-in_err-lacking-clause-grows c = (extended_along _ _ _ _ c.adding.invariant.0.extends (subst (λ n. Extends n c.adding.memo.log c.apply_all.new.memo.log) c.adding.invariant.1 (extends_of _ _ _ c.apply_all.ensures.grows c.apply_all.ensures.within))).grows
+
+pub returns-in_default-clause-grows : goal.returns-in_default-clause-grows
+returns-in_default-clause-grows c = (extended_along _ _ _ _ c.adding.invariant.0.extends (subst (λ n. Extends n c.adding.memo.log c.apply_all.new.memo.log) c.adding.invariant.1 (extends_of _ _ _ c.apply_all.ensures.grows c.apply_all.ensures.within))).grows
+
+pub returns-then-is_full-clause-grows : goal.returns-then-is_full-clause-grows
+returns-then-is_full-clause-grows c = (extended_along _ _ _ _ c.adding.invariant.0.extends (subst (λ n. Extends n c.adding.memo.log c.apply_all.new.memo.log) c.adding.invariant.1 (extends_of _ _ _ c.apply_all.ensures.grows c.apply_all.ensures.within))).grows
+
+pub returns-in_default-clause-direct : goal.returns-in_default-clause-direct
+returns-in_default-clause-direct c = (grown_along _ _ _ _ _ c.adding.invariant.0 c.adding.invariant.1 (extends_of _ _ _ c.apply_all.ensures.grows c.apply_all.ensures.within) c.in_ok-apply_all.ensures.direct).direct
+
+pub returns-then-is_full-clause-direct : goal.returns-then-is_full-clause-direct
+returns-then-is_full-clause-direct c = (grown_along _ _ _ _ _ c.adding.invariant.0 c.adding.invariant.1 (extends_of _ _ _ c.apply_all.ensures.grows c.apply_all.ensures.within) c.in_ok-apply_all.ensures.direct).direct
+
+pub adding-preserved : goal.adding-preserved
+adding-preserved c = (grown_along _ _ _ _ _ (grown_along _ _ _ _ _ c.adding.invariant.0 c.adding.invariant.1 (extends_of _ _ _ c.apply_all.ensures.grows c.apply_all.ensures.within) c.in_ok-apply_all.ensures.direct) (c.apply_all.ensures.limit ∙ c.adding.invariant.1) c.add_missing.ensures.extends c.in_ok-add_missing.ensures.direct, c.add_missing.ensures.limit ∙ (c.apply_all.ensures.limit ∙ c.adding.invariant.1))
+
+pub returns-in_err-add_missing-clause-grows : goal.returns-in_err-add_missing-clause-grows
+returns-in_err-add_missing-clause-grows c = (extended_along _ _ _ _ (extended_along _ _ _ _ c.adding.invariant.0.extends (subst (λ n. Extends n c.adding.memo.log c.apply_all.new.memo.log) c.adding.invariant.1 (extends_of _ _ _ c.apply_all.ensures.grows c.apply_all.ensures.within))) (subst (λ n. Extends n c.apply_all.new.memo.log c.add_missing.new.memo.log) (c.apply_all.ensures.limit ∙ c.adding.invariant.1) c.add_missing.ensures.extends)).grows

@@ -1,0 +1,13 @@
+use Rattle.std.proofs.Common.{refl, ◌∙◌, subst}
+use Rattle.memo.specs.Founding.{FoundsNothing}
+use Rattle.memo.proofs.Founding.{nothing_at_first, nothing_along}
+use Rattle.memo.proofs.lines.Memo.close.Goals as goal
+
+pub loop-init : goal.loop-init
+loop-init c = (nothing_at_first _ _, refl)
+
+pub loop-preserved : goal.loop-preserved
+loop-preserved c = (nothing_along _ _ _ _ c.loop.invariant.0 (subst (λ n. FoundsNothing n c.loop.self.log c.say_alike.new.self.log) c.loop.invariant.1 c.say_alike.ensures.nothing), c.say_alike.ensures.limit ∙ c.loop.invariant.1)
+
+pub returns-in_err-say_alike-clause-nothing : goal.returns-in_err-say_alike-clause-nothing
+returns-in_err-say_alike-clause-nothing c = nothing_along _ _ _ _ c.loop.invariant.0 (subst (λ n. FoundsNothing n c.loop.self.log c.say_alike.new.self.log) c.loop.invariant.1 c.say_alike.ensures.nothing)

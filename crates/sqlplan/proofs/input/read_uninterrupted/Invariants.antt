@@ -1,9 +1,0 @@
-use Rattle.std.proofs.Common.{◌≡◌, length}
-use Rattle.std.specs.Io.KnownBytes.{Keeps}
-use Rattle.sqlplan.proofs.input.read_uninterrupted.Given as goal
-
-abbrev pub invariant-loop : goal.invariant-loop
-invariant-loop g l = record {
-  room : length l.buffer ≡ length l.initial.buffer;
-  bytes : Keeps (g.R.Read.remaining l.initial.reader) (g.R.Read.remaining l.reader);
-}
