@@ -214,6 +214,15 @@ impl Graph {
         }
     }
 
+    /// Forgets the rows of a join of the region's own, which has more conditions in a tree than in its class.
+    fn forget_join(&mut self, set: LeafSet) {
+        for known in &mut self.known {
+            if known.set == set {
+                known.rows = None;
+            }
+        }
+    }
+
     /// Notes a condition of the region, which stands in a join of these leaves, or above the join of all. One that names classes is no join's.
     fn note(
         &mut self,
@@ -267,6 +276,9 @@ impl Graph {
         if let Some(line) = region.select {
             let whole = LeafSet::first(parts.leaves.len());
             for condition in conditions_of(guesses.log, line) {
+                if condition.has_no_class() {
+                    graph.forget_join(whole);
+                }
                 graph.note(alloc, guesses, &parts.leaves, whole, condition)?;
             }
             graph.subqueries = subqueries_of(alloc, guesses, &parts.leaves, line)?;
