@@ -4,8 +4,8 @@ use clap::builder::ValueParser;
 use clap::{Arg, ArgAction, Command};
 use std::alloc::{AllocError, Global};
 
-/// What `--version` says behind the name: the program's version, and the kit that it is proved and built with, as `rt version` has it.
-const VERSION: &str = "0.1.0 (rattle-kit-13f logic dac8208d650f15bf)";
+/// What `--version` says behind the name: the program's version, and the logic that it is proved in, as `rt version` has it of the kit.
+const VERSION: &str = "0.1.0 (Rattle, logic dac8208d650f15bf)";
 
 /// An example of each command, at the end of the help.
 const EXAMPLES: &str = "\
