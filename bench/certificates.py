@@ -18,7 +18,7 @@ import tempfile
 
 ROOT = pathlib.Path(__file__).resolve().parent.parent
 NAME = "certificates_bench"
-LIBRARIES = "values schema sql_parse query binder algebra laws props rules derivation logs frame physical certificate certificate_parts certificate_text certificate_read checker statistics store costs memo simplify seed search planner anyhow"
+LIBRARIES = "values schema sql_parse query binder algebra laws props rules derivation logs frame physical certificate certificate_text certificate_read checker statistics store costs memo explore seed search planner anyhow"
 
 
 def built(tree):

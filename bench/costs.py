@@ -23,7 +23,7 @@ ROOT = pathlib.Path(__file__).resolve().parent.parent
 NAME = "costs_model"
 LIBRARIES = (
     "values schema store statistics sql_parse query binder algebra laws props rules derivation logs frame physical certificate"
-    " certificate_text certificate_parts certificate_read costs explain anyhow"
+    " certificate_text certificate_read costs explain anyhow"
 )
 BATCH = 1000  # `rt try` gives no more than 1 MiB of output
 MOST = 2**64 - 1

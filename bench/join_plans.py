@@ -25,7 +25,7 @@ import joins
 ROOT = joins.ROOT
 NAME = "join_plans_bench"
 LIBRARIES = (
-    "values schema store sql_parse query binder algebra laws props rules derivation logs frame physical certificate relations joins checker answer_text executor anyhow"
+    "values schema store sql_parse query binder algebra laws props rules derivation logs frame physical certificate relations joins checker answer_text pipeline anyhow"
 )
 DEPTS = 10_000
 COLUMNS = {

@@ -205,7 +205,7 @@ parts-are (c ∷ cs) = all_append IsPart (parts_of c) _ (is-flat c).parts (parts
 before-before : (c d e : Condition) → goes_before c d ≡ true → goes_before d e ≡ true → goes_before c e ≡ true
 before-before c d e first second = before-later c d e first (before-not-behind d e second)
 
-rising-tail : (c : Condition) (C : List Condition) → TextsRise (c ∷ C) → TextsRise C
+pub rising-tail : (c : Condition) (C : List Condition) → TextsRise (c ∷ C) → TextsRise C
 rising-tail c C rise k d l =
     let next : suc k + 1 ≡ suc (k + 1) = omega arith in
     subst (λ (n : ℕ). goes_before (slice_index_or C k d) (slice_index_or (c ∷ C) n d) ≡ true) next (rise (suc k) d (omega (arith, l)))

@@ -39,6 +39,11 @@ pub all-each : {X : Type 0} (P : X → Type 0) → ((x : X) → P x) → (xs : L
 all-each P h [] = tt
 all-each P h (x ∷ xs) = (h x, all-each P h xs)
 
+-- a list of which each fails is empty
+pub none-pass : {X : Type 0} (xs : List X) → list_all (λ x. false) xs ≡ true → xs ≡ []
+none-pass [] all = refl
+none-pass (x ∷ xs) all = cc all
+
 -- one passes where not all fail
 pub any_not : {X : Type 0} (p : X → Bool) (xs : List X) → list_any p xs ≡ not (list_all (λ x. not (p x)) xs)
 any_not p [] = refl

@@ -1,19 +1,12 @@
 -- How many rows of a bag pass, as it is made of others: from which keys and columns without Null follow.
-use Rattle.std.proofs.Common.{◌≡◌, refl, ap, sym, ◌∙◌, inl, inr, ℕ, ◌+◌, ◌≤◌, ◌==◌, Bool, true, false, not, ◌&&◌, ◌||◌, if◌then◌else◌, List, [], ◌∷◌, ◌++◌, map, filter, arith}
-use Rattle.std.specs.Cmp.{both_ways}
-use Rattle.std.specs.List.{list_all}
+use Rattle.std.proofs.Common.{◌≡◌, refl, ap, sym, ◌∙◌, inl, inr, ℕ, ◌+◌, ◌≤◌, ◌==◌, Bool, true, false, not, ◌&&◌, if◌then◌else◌, List, [], ◌∷◌, map, filter, arith}
 use Rattle.std.proofs.lemmas.Bool.{or_left, or_right, eq-eqb, eqb-true, cases_Bool}
-use Rattle.std.proofs.lemmas.List.Folds.{list_all-append, list_any-append}
 use Rattle.std.proofs.Math.Nat.{le_trans}
-use Rattle.values.specs.Truth.{is_null}
 use Rattle.values.specs.Order.{same}
 use Rattle.query.specs.Meaning.{or_else_row}
-use Rattle.algebra.specs.Columns.{ColumnSet, has, rising}
+use Rattle.algebra.specs.Columns.{ColumnSet, has}
 use Rattle.algebra.specs.Bags.{Env, Test, Bag, total, lay, nulls, same_on, matches, join, left_join, distinct_on}
 use Rattle.algebra.proofs.BagSums.{if_passes, total-map, total-filter, total-flat_map, total-same, total-zero, total-or_else_row}
-use Rattle.algebra.proofs.Lists.{any_not}
-use Rattle.algebra.proofs.MentionedColumns.{each_has, all_has, all-rising}
-use Rattle.algebra.proofs.Sets.{has-rising}
 use Rattle.algebra.proofs.UniqueRows.{same_on-along}
 use Rattle.laws.specs.Keys.{count, has_null, IsWeakKey, IsSingle}
 use Rattle.laws.specs.Rewriting.{Ignores}
@@ -89,14 +82,6 @@ found p (x ∷ xs) some = by (p x) refl some (found p xs)
     by false is some later = later (λ none. some (omega (arith, none)))
 
 -- ---- sets of columns
-
--- rows agree on both keys where they agree on all their columns
-pub same_on_both : (K L : List ℕ) (r s : Env) → same_on (rising (K ++ L)) r s ≡ (same_on K r s && same_on L r s)
-same_on_both K L r s = all-rising (λ c. same (r c) (s c)) (K ++ L) ∙ list_all-append (λ c. same (r c) (s c)) K L
-
-pub null_in_both : (K L : List ℕ) (r : Env) → has_null (rising (K ++ L)) r ≡ (has_null K r || has_null L r)
-null_in_both K L r =
-    any_not (λ k. is_null (r k)) (rising (K ++ L)) ∙ ap not (all-rising (λ k. not (is_null (r k))) (K ++ L)) ∙ sym (any_not (λ k. is_null (r k)) (K ++ L)) ∙ list_any-append (λ k. is_null (r k)) K L
 
 -- columns outside a set are read beside it, and columns of it within
 pub agree_beside : (K : List ℕ) (B : ColumnSet) → ((c : ℕ) → has K c ≡ true → B c ≡ false) → (r s t : Env) → same_on K r (lay B s t) ≡ same_on K r t

@@ -1,6 +1,4 @@
 pub mod EmptyTables
-pub mod Json
-pub mod Keys
 pub mod Loops
 pub mod ReadBack
 pub mod Schemas

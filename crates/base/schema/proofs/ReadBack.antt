@@ -1,6 +1,6 @@
 -- Bytes that spell a schema are read as it.
 use Rattle.std.proofs.Common.{◌≡◌, ◌≢◌, ℕ, zero, suc, ◌<◌, ◌≤◌, List, [], ◌∷◌, length, get_or, map, Bool, true, false, inl, inr, Some, Result, Ok, slice_index_or, refl, sym, ap, ◌∙◌, subst, arith, bytes_eq, codes, ◌==◌, nat_le}
-use Rattle.std.proofs.lemmas.Bool.{le-leb, eq-eqb, false_from_ne_true, lt-ltb, le-ltb, and_from, cases_order}
+use Rattle.std.proofs.lemmas.Bool.{le-leb, false_from_ne_true, lt-ltb, le-ltb, and_from, cases_order}
 use Rattle.std.proofs.lemmas.Bool.Decides.{nat_tests}
 use Rattle.std.proofs.lemmas.List.{length-map, get_or-map}
 use Rattle.std.proofs.lemmas.List.Sums.{position_or_len_is}
@@ -8,11 +8,15 @@ use Rattle.std.proofs.lemmas.Slice.Eq.{bytes_eq-Decides}
 use Rattle.std.specs.List.{AllByRecursion, list_all, position}
 use Rattle.std.specs.Option.{is_none}
 use Rattle.serde_json.specs.Data.{Data, Items}
-use Rattle.serde_json.specs.Events.{members_len}
 use Rattle.serde_json.specs.Find.{as_array, as_bool, get}
 use Rattle.values.specs.declared.fault.Fault.{Fault}
 use Rattle.values.specs.Faults.{Gives}
+use Rattle.json_parts.specs.Parts as json
+use Rattle.json_parts.specs.Parts.{list_of}
+use Rattle.json_parts.specs.Spelling.{HasMember}
+use Rattle.json_parts.proofs.Reading.{json_ok, keys_read}
 use Rattle.schema.specs.declared.fault.SchemaRefusal.{SchemaRefusal}
+use Rattle.schema.specs.declared.fault.SchemaRefusal.TheVariants.{NotJson, Shape}
 use Rattle.schema.specs.declared.schema.Kind.{Kind}
 use Rattle.schema.specs.declared.schema.Kind.TheVariants.{Int, Text}
 use Rattle.schema.specs.declared.schema.Column.{Column}
@@ -22,18 +26,13 @@ use Rattle.schema.specs.declared.entries.TableEntry.{TableEntry}
 use Rattle.schema.specs.Each.{each, Pairs}
 use Rattle.schema.specs.Names.{Name, is_name, place_of, are_different}
 use Rattle.schema.specs.Limits.{is_short, lists_are_few, parts_are_few, are_few, lists_differ, parts_differ, names_differ}
-use Rattle.schema.specs.Entries.{keys_in, kind_in, member_kind, name_in, member_name, member_flag, names_in, column_in, columns_in, lists_in, table_in, tables_in, entries_in, some_of, items_in, member_items, list_of}
+use Rattle.schema.specs.Entries.{kind_in, member_kind, name_in, member_name, member_flag, names_in, column_in, columns_in, lists_in, table_in, tables_in, entries_in, some_of, items_in, member_items}
 use Rattle.schema.specs.Places.{place_in, places_in, placed}
 use Rattle.schema.specs.Reading.{schema_of}
 use Rattle.schema.specs.Schemas.{AreDifferent, IsColumnList, AreLists, IsTable}
-use Rattle.schema.specs.Spelling.{HasKeys, HasMember, IsText, IsArray, word_of, IsColumnText, name_in_place, IsListText, IsTableText, IsSchemaText}
-use Rattle.schema.proofs.Json.{json_ok}
+use Rattle.schema.specs.Spelling.{IsText, IsArray, word_of, IsColumnText, name_in_place, IsListText, IsTableText, IsSchemaText}
 
 -- ---- shapes
-
-keys_read : (n : ℕ) (d : Data) → HasKeys n d → keys_in n d ≡ Ok (tt {0})
-unfolding keys_in
-keys_read n d (ms, is, same) = rw (is, eq-eqb (members_len ms) n same) refl
 
 name_read : (d : Data) (name : Name) → IsText d name → is_name name ≡ true → name_in d ≡ Ok name
 unfolding name_in
@@ -57,7 +56,7 @@ unfolding member_flag
 member_flag_read key d b (m, is, flag) = rw (is, flag) refl
 
 items_read : (d : Data) (items : Items) → as_array d ≡ Some items → items_in d ≡ Ok (list_of items)
-unfolding items_in
+unfolding json.items_in
 items_read d items e = rw e refl
 
 member_items_read : (key : Name) (d m : Data) (items : Items) → get key d ≡ Some m → as_array m ≡ Some items → member_items key d ≡ Ok (list_of items)
@@ -91,7 +90,7 @@ some_read (x ∷ xs) lt = let z : (suc (length xs) == 0) ≡ false = grind (arit
 column_read : (d : Data) (c : Column) → IsColumnText d c → is_name c.name ≡ true → column_in d ≡ Ok c
 unfolding column_in
 column_read d c h named =
-    rw (keys_read 3 d h.keys, member_name_read d c.name h.name named, member_kind_read d c.kind h.kind, member_flag_read (codes "not_null") d c.not_null h.not_null) refl
+    rw (keys_read Shape 3 d h.keys, member_name_read d c.name h.name named, member_kind_read d c.kind h.kind, member_flag_read (codes "not_null") d c.not_null h.not_null) refl
 
 columns_read : (d : Data) (cs : List Column) → HasMember (codes "columns") (λ m. IsArray IsColumnText m cs) d → AllByRecursion (λ c. is_name c.name ≡ true) cs → 0 < length cs → columns_in d ≡ Ok cs
 unfolding columns_in
@@ -168,7 +167,7 @@ entry_of u = record { name = u.name; columns = u.columns; unique = map (names_of
 table_read : (d : Data) (u : Table) → IsTableText d u → IsTable u → table_in d ≡ Ok (entry_of u)
 unfolding table_in entry_of
 table_read d u h t =
-    rw (keys_read 4 d h.keys, member_name_read d u.name h.name t.named, columns_read d u.columns h.columns t.columns_named t.some, lists_read u.columns (codes "unique") d u.unique t.columns_named h.unique t.unique.each, lists_read u.columns (codes "indexes") d u.indexes t.columns_named h.indexes t.indexes.each) refl
+    rw (keys_read Shape 4 d h.keys, member_name_read d u.name h.name t.named, columns_read d u.columns h.columns t.columns_named t.some, lists_read u.columns (codes "unique") d u.unique t.columns_named h.unique t.unique.each, lists_read u.columns (codes "indexes") d u.indexes t.columns_named h.indexes t.indexes.each) refl
 
 table_placed : (u : Table) → IsTable u → placed (entry_of u) ≡ Ok u
 unfolding placed entry_of
@@ -278,7 +277,7 @@ entries_read : (bytes : List ℕ) (s : Schema) → IsSchemaText bytes s → entr
 unfolding entries_in tables_in
 entries_read bytes s h =
     let (m, m_is, (items, is, pairs)) = h.tables in
-    rw (json_ok bytes h.value h.text h.json, keys_read 1 h.value h.keys, member_items_read (codes "tables") h.value m items m_is is) (each_read table_in (list_of items) (map entry_of s.tables) (pairs_image (λ x n. table_in x ≡ Ok n) entry_of (λ d u. table_read d u) (list_of items) s.tables pairs h.whole.tables))
+    rw (json_ok NotJson bytes h.value h.text h.json, keys_read Shape 1 h.value h.keys, member_items_read (codes "tables") h.value m items m_is is) (each_read table_in (list_of items) (map entry_of s.tables) (pairs_image (λ x n. table_in x ≡ Ok n) entry_of (λ d u. table_read d u) (list_of items) s.tables pairs h.whole.tables))
 
 pub read_back : (bytes : List ℕ) (s : Schema) → IsSchemaText bytes s → schema_of bytes ≡ Ok s
 unfolding schema_of

@@ -1,16 +1,13 @@
 -- What is read is spelt by the bytes.
-use Rattle.std.proofs.Common.{◌≡◌, ℕ, List, [], ◌∷◌, Bool, true, false, cond, Some, Result, Ok, Err, refl, sym, ap, ◌∙◌, subst, bytes_eq, codes, ◌==◌}
+use Rattle.std.proofs.Common.{◌≡◌, ℕ, List, [], ◌∷◌, Bool, true, false, cond, Some, Result, Ok, Err, refl, sym, ap, ◌∙◌, subst, bytes_eq, codes}
 use Rattle.std.proofs.lemmas.Slice.Eq.{bytes_eq-Decides}
-use Rattle.std.specs.Str.{IsUtf8, is_utf8}
-use Rattle.std.proofs.lemmas.Str.{IsUtf8-from_is_utf8}
-use Rattle.std.proofs.lemmas.Bool.{eqb-true}
 use Rattle.serde_json.specs.Data.{Data, Items}
-use Rattle.serde_json.specs.Events.{members_len}
-use Rattle.serde_json.specs.Read as json
-use Rattle.serde_json.specs.Find.{as_str, as_bool, as_array, as_object}
-use Rattle.values.specs.Faults as faults
+use Rattle.serde_json.specs.Find.{as_str, as_bool, as_array}
 use Rattle.values.proofs.Results.{both_ok, wanted_ok, wanted_if_ok}
-use Rattle.schema.specs.declared.fault.SchemaRefusal.{SchemaRefusal}
+use Rattle.json_parts.specs.Parts as json
+use Rattle.json_parts.specs.Parts.{list_of}
+use Rattle.json_parts.specs.Spelling.{HasKeys, HasMember}
+use Rattle.json_parts.proofs.Reading.{keys_spelt, json_spelt}
 use Rattle.schema.specs.declared.fault.SchemaRefusal.TheVariants.{NotJson, Shape, UnknownColumn}
 use Rattle.schema.specs.declared.schema.Kind.{Kind}
 use Rattle.schema.specs.declared.schema.Kind.TheVariants.{Int, Text}
@@ -19,10 +16,10 @@ use Rattle.schema.specs.declared.schema.Table.{Table}
 use Rattle.schema.specs.declared.entries.TableEntry.{TableEntry}
 use Rattle.schema.specs.Each.{each, Pairs}
 use Rattle.schema.specs.Names.{Name, is_name}
-use Rattle.schema.specs.Entries.{wanted, json_in, keys_in, field_in, member_flag, kind_in, member_kind, name_in, member_name, names_in, column_in, columns_in, lists_in, table_in, tables_in, entries_in, items_in, member_items, list_of}
+use Rattle.schema.specs.Entries.{wanted, json_in, keys_in, field_in, member_flag, kind_in, member_kind, name_in, member_name, names_in, column_in, columns_in, lists_in, table_in, tables_in, entries_in, items_in, member_items}
 use Rattle.schema.specs.Places.{place_in, places_in, placed}
 use Rattle.schema.specs.Schemas.{IsSchema}
-use Rattle.schema.specs.Spelling.{HasKeys, HasMember, IsText, IsArray, word_of, IsColumnText, name_in_place, IsListText, IsTableText, IsSchemaText}
+use Rattle.schema.specs.Spelling.{IsText, IsArray, word_of, IsColumnText, name_in_place, IsListText, IsTableText, IsSchemaText}
 use Rattle.schema.proofs.Steps.{each_ok, place_ok}
 use Rattle.schema.proofs.Schemas.{some_ok}
 
@@ -42,12 +39,6 @@ pairs_through f [] (y ∷ ys) zs h k = absurd h
 pairs_through f (x ∷ xs) [] zs h k = absurd h
 pairs_through f (x ∷ xs) (y ∷ ys) [] h k = absurd k
 pairs_through f (x ∷ xs) (y ∷ ys) (z ∷ zs) h k = (f x y z h.0 k.0, pairs_through f xs ys zs h.1 k.1)
-
-keys_spelt : (n : ℕ) (d : Data) (u : Unit {0}) → keys_in n d ≡ Ok u → HasKeys n d
-unfolding keys_in
-keys_spelt n d u e =
-    let (ms, p, q) = both_ok (wanted (as_object d)) _ u e in
-    (ms, wanted_ok Shape (as_object d) ms p, eqb-true (members_len ms) n (wanted_if_ok Shape (members_len ms == n) tt u q).0)
 
 name_spelt : (d : Data) (name : Name) → name_in d ≡ Ok name → IsText d name
 unfolding name_in
@@ -87,7 +78,7 @@ member_kind_spelt d k e =
     (m, wanted_ok Shape _ m p, kind_spelt m k q)
 
 items_spelt : (d : Data) (ds : List Data) → items_in d ≡ Ok ds → (items : Items) × (as_array d ≡ Some items) × (list_of items ≡ ds)
-unfolding items_in
+unfolding json.items_in
 items_spelt d ds e =
     let (items, p, q) = both_ok (wanted (as_array d)) _ ds e in
     (items, wanted_ok Shape (as_array d) items p, cc q)
@@ -111,7 +102,7 @@ column_spelt d c e =
     let (kind, p2, q2) = both_ok (member_kind d) _ c q1 in
     let (flag, p3, q3) = both_ok (member_flag (codes "not_null") d) _ c q2 in
     let made : IsColumnText d (record { name = name; kind = kind; not_null = flag }) = record {
-      keys = keys_spelt 3 d keys p0;
+      keys = keys_spelt Shape 3 d keys p0;
       name = member_name_spelt d name p1;
       kind = member_kind_spelt d kind p2;
       not_null = member_flag_spelt (codes "not_null") d flag p3;
@@ -170,17 +161,7 @@ table_spelt d t u e is =
     let (indexes, p4, q4) = both_ok (lists_in (codes "indexes") d) _ t q3 in
     let entry : TableEntry = record { name = name; columns = columns; unique = unique; indexes = indexes } in
     let at : placed entry ≡ Ok u = ap placed (ok_same entry t q4) ∙ is in
-    placed_spelt d entry u (keys_spelt 4 d keys p0) p1 p2 p3 p4 at
-
-by_utf8 : (b : Bool) (bytes : List ℕ) (x : Result Data SchemaRefusal) (d : Data) → is_utf8 bytes ≡ b → cond b x (Err NotJson) ≡ Ok d → IsUtf8 bytes × (x ≡ Ok d)
-by_utf8 true bytes x d p e = (IsUtf8-from_is_utf8 bytes p, e)
-by_utf8 false bytes x d p e = cc e
-
-json_spelt : (bytes : List ℕ) (d : Data) → json_in bytes ≡ Ok d → IsUtf8 bytes × (json.read bytes ≡ Some d)
-unfolding json_in
-json_spelt bytes d e =
-    let r = by_utf8 (is_utf8 bytes) bytes (faults.wanted NotJson (json.read bytes)) d refl e in
-    (r.0, wanted_ok NotJson (json.read bytes) d r.1)
+    placed_spelt d entry u (keys_spelt Shape 4 d keys p0) p1 p2 p3 p4 at
 
 pub schema_spelt : (bytes : List ℕ) (ts : List TableEntry) (us : List Table) → entries_in bytes ≡ Ok ts → each placed ts ≡ Ok us → IsSchema (record { tables = us }) → IsSchemaText bytes (record { tables = us })
 unfolding entries_in tables_in
@@ -188,12 +169,12 @@ schema_spelt bytes ts us e is whole =
     let (d, p0, q0) = both_ok (json_in bytes) _ ts e in
     let (keys, p1, q1) = both_ok (keys_in 1 d) _ ts q0 in
     let (ds, p2, q2) = both_ok (member_items (codes "tables") d) _ ts q1 in
-    let text = json_spelt bytes d p0 in
+    let text = json_spelt NotJson bytes d p0 in
     record {
       text = text.0;
       value = d;
       json = text.1;
-      keys = keys_spelt 1 d keys p1;
+      keys = keys_spelt Shape 1 d keys p1;
       tables = member_array_spelt IsTableText (codes "tables") d ds us p2 (pairs_through table_spelt ds ts us (each_ok table_in ds ts q2) (each_ok placed ts us is));
       whole = whole;
     }

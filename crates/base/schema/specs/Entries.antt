@@ -1,12 +1,10 @@
 -- What bytes spell as JSON: the entries of tables, or why they have another shape.
-use Rattle.std.specs.Prelude.{ℕ, List, [], ◌∷◌, length, Bool, Option, Result, Ok, Err, ◌==◌, if◌then◌else◌, codes, bytes_eq}
-use Rattle.std.specs.Str.{is_utf8}
-use Rattle.serde_json.specs.Data.{Data, Items, no_items, item}
-use Rattle.serde_json.specs.Events.{members_len}
-use Rattle.serde_json.specs.Read as json
-use Rattle.serde_json.specs.Find.{get, as_str, as_bool, as_array, as_object}
+use Rattle.std.specs.Prelude.{ℕ, List, length, Bool, Option, Result, Ok, Err, ◌==◌, if◌then◌else◌, codes, bytes_eq}
+use Rattle.serde_json.specs.Data.{Data}
+use Rattle.serde_json.specs.Find.{as_str, as_bool}
 use Rattle.values.specs.Faults.{◌>>=◌}
 use Rattle.values.specs.Faults as faults
+use Rattle.json_parts.specs.Parts as parts
 use Rattle.schema.specs.declared.fault.SchemaRefusal.{SchemaRefusal}
 use Rattle.schema.specs.declared.fault.SchemaRefusal.TheVariants.{NotJson, Shape}
 use Rattle.schema.specs.declared.schema.Kind.{Kind}
@@ -23,17 +21,15 @@ abbrev pub wanted_if : {A : Type 0} → Bool → A → Result A SchemaRefusal
 wanted_if b x = faults.wanted_if Shape b x
 
 -- what the bytes are as JSON
-unfoldable pub json_in : List ℕ → Result Data SchemaRefusal
-json_in bytes = if is_utf8 bytes then faults.wanted NotJson (json.read bytes) else Err NotJson
+abbrev pub json_in : List ℕ → Result Data SchemaRefusal
+json_in bytes = parts.json_in NotJson bytes
 
 -- an object with as many members as this
-unfoldable pub keys_in : ℕ → Data → Result (Unit {0}) SchemaRefusal
-keys_in n d = do
-  members ← wanted (as_object d)
-  wanted_if (members_len members == n) tt
+abbrev pub keys_in : ℕ → Data → Result (Unit {0}) SchemaRefusal
+keys_in n d = parts.keys_in Shape n d
 
 abbrev pub field_in : Name → Data → Result Data SchemaRefusal
-field_in name d = wanted (get name d)
+field_in name d = parts.member_in Shape name d
 
 -- the flag that a member is
 unfoldable pub member_flag : Name → Data → Result Bool SchemaRefusal
@@ -41,15 +37,9 @@ member_flag name d = do
   b ← field_in name d
   wanted (as_bool b)
 
--- an array's items as a list
-unfoldable pub list_of : Items → List Data
-list_of no_items = []
-list_of (item d ds) = d ∷ list_of ds
-
-unfoldable pub items_in : Data → Result (List Data) SchemaRefusal
-items_in d = do
-  ds ← wanted (as_array d)
-  Ok (list_of ds)
+-- an array's items
+abbrev pub items_in : Data → Result (List Data) SchemaRefusal
+items_in d = parts.items_in Shape d
 
 -- the items of the array that a member is
 unfoldable pub member_items : Name → Data → Result (List Data) SchemaRefusal

@@ -1,27 +1,19 @@
 -- When bytes are a schema's JSON (the shape is this project's profile; JSON is that of RFC 8259).
-use Rattle.std.specs.Prelude.{◌≡◌, ℕ, List, [], ◌∷◌, map, Some, slice_index_or, codes}
+use Rattle.std.specs.Prelude.{◌≡◌, ℕ, List, [], map, Some, slice_index_or, codes}
 use Rattle.std.specs.Str.{IsUtf8}
-use Rattle.serde_json.specs.Data.{Data, Items, Members}
-use Rattle.serde_json.specs.Events.{members_len}
+use Rattle.serde_json.specs.Data.{Data, Items}
 use Rattle.serde_json.specs.Read as json
-use Rattle.serde_json.specs.Find.{get, as_str, as_bool, as_array, as_object}
+use Rattle.serde_json.specs.Find.{as_str, as_bool, as_array}
+use Rattle.json_parts.specs.Parts.{list_of}
+use Rattle.json_parts.specs.Spelling.{HasKeys, HasMember}
 use Rattle.schema.specs.declared.schema.Kind.{Kind}
 use Rattle.schema.specs.declared.schema.Kind.TheVariants.{Int, Text}
 use Rattle.schema.specs.declared.schema.Column.{Column}
 use Rattle.schema.specs.declared.schema.Table.{Table}
 use Rattle.schema.specs.declared.schema.Schema.{Schema}
 use Rattle.schema.specs.Each.{Pairs}
-use Rattle.schema.specs.Entries.{list_of}
 use Rattle.schema.specs.Names.{Name}
 use Rattle.schema.specs.Schemas.{IsSchema}
-
--- an object of so many members
-abbrev pub HasKeys : ℕ → Data → Type 0
-HasKeys n d = (ms : Members) × (as_object d ≡ Some ms) × (members_len ms ≡ n)
-
--- what stands at the key is such
-abbrev pub HasMember : List ℕ → (Data → Type 0) → Data → Type 0
-HasMember key P d = (m : Data) × (get key d ≡ Some m) × P m
 
 -- a string with these characters
 abbrev pub IsText : Data → List ℕ → Type 0

@@ -10,6 +10,7 @@ use crate::each::{ReadsItem, each};
 use crate::fault::{SchemaFault, SchemaRefusal};
 use crate::names::is_name;
 use crate::schema::{Column, Kind};
+use json_parts::{has_keys, items_of, json_of, member_of};
 use serde_json::Value;
 use std::alloc::Global;
 use values::{Items, Text};
@@ -29,52 +30,16 @@ fn shape() -> SchemaFault
     SchemaFault::Refused(SchemaRefusal::Shape)
 }
 
-#[tactic(auto, unfolding(crate::specs::Entries::json_in))]
-fn json_of(alloc: Global, bytes: &[u8]) -> Result<Value, SchemaFault>
-    ensures { Gives view result (spec.json_in bytes.now) }
-{
-    match Value::from_slice(alloc, bytes) {
-        Ok(value) => Ok(value),
-        Err(error) => {
-            if error.is_memory() {
-                Err(SchemaFault::Memory)
-            } else {
-                Err(SchemaFault::Refused(SchemaRefusal::NotJson))
-            }
-        }
-    }
-}
-
-#[tactic(auto, unfolding(crate::specs::Entries::keys_in))]
-fn has_keys(value: &Value, count: usize) -> Result<(), SchemaFault>
-    ensures { Gives (λ _. tt) result (spec.keys_in count (view value.now)) }
-{
-    let Some(members) = value.as_object() else {
-        return Err(shape());
-    };
-    if members.len() != count {
-        return Err(shape());
-    }
-    Ok(())
-}
-
 fn field<'v>(value: &'v Value, name: &str) -> Result<&'v Value, SchemaFault>
     ensures { Gives (λ v. view v.now) result (spec.field_in name.now (view value.now)) }
 {
-    match value.get(name) {
-        Some(found) => Ok(found),
-        None => Err(shape()),
-    }
+    member_of(value, name, SchemaRefusal::Shape)
 }
 
-#[tactic(auto, unfolding(crate::specs::Entries::items_in))]
-fn items_of(value: &Value) -> Result<&[Value], SchemaFault>
+fn array_items(value: &Value) -> Result<&[Value], SchemaFault>
     ensures { Gives (λ v. map view v.now) result (spec.items_in (view value.now)) }
 {
-    match value.as_array() {
-        Some(items) => Ok(items.as_slice()),
-        None => Err(shape()),
-    }
+    items_of(value, SchemaRefusal::Shape)
 }
 
 /// The items of the array that a member is.
@@ -82,7 +47,7 @@ fn items_of(value: &Value) -> Result<&[Value], SchemaFault>
 fn member_items<'v>(value: &'v Value, name: &str) -> Result<&'v [Value], SchemaFault>
     ensures { Gives (λ v. map view v.now) result (spec.member_items name.now (view value.now)) }
 {
-    items_of(field(value, name)?)
+    array_items(field(value, name)?)
 }
 
 fn some_of<T: Drop>(items: Items<T>) -> Result<Items<T>, SchemaFault>
@@ -210,7 +175,7 @@ impl ReadsItem<Value> for TableReader {
 fn names_of(alloc: Global, value: &Value) -> Result<Items<Text>, SchemaFault>
     ensures { Gives (λ x. x) result (spec.names_in (view value.now)) }
 {
-    let names = each(alloc, &NameReader, items_of(value)?)?;
+    let names = each(alloc, &NameReader, array_items(value)?)?;
     some_of(names)
 }
 
@@ -218,7 +183,7 @@ fn names_of(alloc: Global, value: &Value) -> Result<Items<Text>, SchemaFault>
 fn column_of(alloc: Global, value: &Value) -> Result<Column, SchemaFault>
     ensures { Gives (λ x. x) result (spec.column_in (view value.now)) }
 {
-    has_keys(value, 3)?;
+    has_keys(value, 3, SchemaRefusal::Shape)?;
     let name = member_name(alloc, value)?;
     let kind = member_kind(value)?;
     let not_null = member_flag(value, "not_null")?;
@@ -250,7 +215,7 @@ fn lists_of(alloc: Global, table: &Value, name: &str) -> Result<Items<Items<Text
 fn table_of(alloc: Global, value: &Value) -> Result<TableEntry, SchemaFault>
     ensures { Gives (λ x. x) result (spec.table_in (view value.now)) }
 {
-    has_keys(value, 4)?;
+    has_keys(value, 4, SchemaRefusal::Shape)?;
     let name = member_name(alloc, value)?;
     let columns = columns_of(alloc, value)?;
     let unique = lists_of(alloc, value, "unique")?;
@@ -268,7 +233,7 @@ fn table_of(alloc: Global, value: &Value) -> Result<TableEntry, SchemaFault>
 fn tables_of(alloc: Global, schema: &Value) -> Result<Items<TableEntry>, SchemaFault>
     ensures { Gives (λ x. x) result (spec.tables_in (view schema.now)) }
 {
-    has_keys(schema, 1)?;
+    has_keys(schema, 1, SchemaRefusal::Shape)?;
     each(alloc, &TableReader, member_items(schema, "tables")?)
 }
 
@@ -276,6 +241,6 @@ fn tables_of(alloc: Global, schema: &Value) -> Result<Items<TableEntry>, SchemaF
 pub fn entries_of(alloc: Global, bytes: &[u8]) -> Result<Items<TableEntry>, SchemaFault>
     ensures { Gives (λ x. x) result (spec.entries_in bytes.now) }
 {
-    let value = json_of(alloc, bytes)?;
+    let value = json_of(alloc, bytes, SchemaRefusal::NotJson)?;
     tables_of(alloc, &value)
 }

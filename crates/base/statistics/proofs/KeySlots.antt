@@ -10,9 +10,10 @@ use Rattle.std.proofs.lemmas.Nat.{mul-le, same_from_place}
 use Rattle.std.proofs.lemmas.List.Sums.{fold_more}
 use Rattle.values.specs.declared.value.Value.{Value}
 use Rattle.values.specs.declared.value.Value.TheVariants as value
-use Rattle.schema.specs.Databases.{Row, values_at}
+use Rattle.schema.specs.Databases.{Row}
 use Rattle.store.specs.NumberColumns.{number_at, AreNumbersOf}
 use Rattle.store.specs.declared.numbers.Numbers.{Numbers}
+use Rattle.store.proofs.Rising.{key_at}
 use Rattle.statistics.specs.declared.digits.DigitColumn.{DigitColumn}
 use Rattle.statistics.specs.Digits.{digit_of, digit_in, HasDigit, HasDigitIn, HasDigits, slots_of, slot_in, ColumnsOf}
 
@@ -89,9 +90,6 @@ slot_step row cs i most s digit d lt all few is at = rw (is, at, ← slot_more r
 
 -- ---- keys
 
-abbrev pub key_in : List Row → List ℕ → ℕ → Row
-key_in rows places row = values_at places (slice_index_or rows row [])
-
 pub all_digits : (rows : List Row) (places : List ℕ) (cs : List DigitColumn) (row : ℕ) → ColumnsOf rows places cs → row < length rows → AllByRecursion (HasDigitIn row) cs
 all_digits rows [] [] row h lt = tt
 all_digits rows [] (c ∷ cs) row h lt = absurd h
@@ -99,20 +97,20 @@ all_digits rows (p ∷ places) [] row h lt = absurd h
 all_digits rows (p ∷ places) (c ∷ cs) row h lt = (h.1 row lt, all_digits rows places cs row h.2 lt)
 
 -- rows of one key have one slot
-slot_same : (rows : List Row) (places : List ℕ) (cs : List DigitColumn) (i j s : ℕ) → ColumnsOf rows places cs → i < length rows → j < length rows → key_in rows places i ≡ key_in rows places j
+slot_same : (rows : List Row) (places : List ℕ) (cs : List DigitColumn) (i j s : ℕ) → ColumnsOf rows places cs → i < length rows → j < length rows → key_at rows places i ≡ key_at rows places j
     → slot_from i s cs ≡ slot_from j s cs
 slot_same rows [] [] i j s h low high same = refl
 slot_same rows [] (c ∷ cs) i j s h low high same = absurd h
 slot_same rows (p ∷ places) [] i j s h low high same = absurd h
 slot_same rows (p ∷ places) (c ∷ cs) i j s h low high same =
     let first : slice_index_or (slice_index_or rows i []) p value.Null ≡ slice_index_or (slice_index_or rows j []) p value.Null = cc same in
-    let rest : key_in rows places i ≡ key_in rows places j = cc same in
+    let rest : key_at rows places i ≡ key_at rows places j = cc same in
     let one : number_at c.column i ≡ number_at c.column j = sym (h.0.value i low) ∙ first ∙ h.0.value j high in
     ap (λ v. slot_from i (s * c.base + digit_of c.least v) cs) one ∙ slot_same rows places cs i j (s * c.base + digit_in j c) h.2 low high rest
 
 -- rows of one slot have one key
 slot_apart : (rows : List Row) (places : List ℕ) (cs : List DigitColumn) (i j s t : ℕ) → ColumnsOf rows places cs → i < length rows → j < length rows → slot_from i s cs ≡ slot_from j t cs
-    → (s ≡ t) × (key_in rows places i ≡ key_in rows places j)
+    → (s ≡ t) × (key_at rows places i ≡ key_at rows places j)
 slot_apart rows [] [] i j s t h low high same = (same, refl)
 slot_apart rows [] (c ∷ cs) i j s t h low high same = absurd h
 slot_apart rows (p ∷ places) [] i j s t h low high same = absurd h
@@ -126,11 +124,11 @@ slot_apart rows (p ∷ places) (c ∷ cs) i j s t h low high same =
     (parts.0, rw (first, rest.1) refl)
 
 pub slot_alike : (rows : List Row) (places : List ℕ) (cs : List DigitColumn) (i j : ℕ) → ColumnsOf rows places cs → i < length rows → j < length rows
-    → nat_eq (slot_in i cs) (slot_in j cs) ≡ key_eq (key_in rows places i) (key_in rows places j)
+    → nat_eq (slot_in i cs) (slot_in j cs) ≡ key_eq (key_at rows places i) (key_at rows places j)
 slot_alike rows places cs i j h low high =
-    both_ways (nat_eq (slot_in i cs) (slot_in j cs)) (key_eq (key_in rows places i) (key_in rows places j))
-    (λ same. (key_decides (key_in rows places i) (key_in rows places j)).1 (slot_apart rows places cs i j 0 0 h low high (eqb-true (slot_in i cs) (slot_in j cs) same)).1)
-    (λ same. eq-eqb (slot_in i cs) (slot_in j cs) (slot_same rows places cs i j 0 h low high ((key_decides (key_in rows places i) (key_in rows places j)).0 same)))
+    both_ways (nat_eq (slot_in i cs) (slot_in j cs)) (key_eq (key_at rows places i) (key_at rows places j))
+    (λ same. (key_decides (key_at rows places i) (key_at rows places j)).1 (slot_apart rows places cs i j 0 0 h low high (eqb-true (slot_in i cs) (slot_in j cs) same)).1)
+    (λ same. eq-eqb (slot_in i cs) (slot_in j cs) (slot_same rows places cs i j 0 h low high ((key_decides (key_at rows places i) (key_at rows places j)).0 same)))
 
 -- ---- one column more
 

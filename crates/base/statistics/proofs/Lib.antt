@@ -1,5 +1,5 @@
 pub mod DifferentKeys
-pub mod Json
+pub mod ItemCounts
 pub mod KeySlots
 pub mod Marks
 pub mod PairedLists

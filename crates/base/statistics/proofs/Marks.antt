@@ -13,10 +13,11 @@ use Rattle.std.proofs.lemmas.List.{get_or-map, length-map}
 use Rattle.std.proofs.lemmas.Map.Made.{length-from_keys}
 use Rattle.schema.specs.Databases.{Row, values_at}
 use Rattle.store.specs.Keys.{key_eq}
+use Rattle.store.proofs.Rising.{key_at}
 use Rattle.statistics.specs.Counting.{different_keys}
 use Rattle.statistics.specs.declared.digits.DigitColumn.{DigitColumn}
 use Rattle.statistics.specs.Digits.{slot_in, AreMarked, ColumnsOf}
-use Rattle.statistics.proofs.KeySlots.{key_in, slot_alike}
+use Rattle.statistics.proofs.KeySlots.{slot_alike}
 
 -- ---- a mark more
 
@@ -112,12 +113,12 @@ module _ {A B : Type 0} (d : A → A → Bool) (e : B → B → Bool) (f : ℕ �
       ∙ ap (λ (m : ℕ). cond (is_member e (map g (range_with_len (a + 1) n)) (g a)) m (suc m)) (count_alike (a + 1) n (omega arith))
       ∙ sym (length_cond (is_member e (map g (range_with_len (a + 1) n)) (g a)) (g a) (unique_keys e (map g (range_with_len (a + 1) n))))
 
-keys_listed : (rows : List Row) (places : List ℕ) → map (values_at places) rows ≡ map (key_in rows places) (range_with_len 0 (length rows))
-keys_listed rows places = fill_by_all (key_in rows places) (map (values_at places) rows) (length rows) [] (length-map rows (values_at places)) (λ k lt. get_or-map (values_at places) rows k [] [] lt)
+keys_listed : (rows : List Row) (places : List ℕ) → map (values_at places) rows ≡ map (key_at rows places) (range_with_len 0 (length rows))
+keys_listed rows places = fill_by_all (key_at rows places) (map (values_at places) rows) (length rows) [] (length-map rows (values_at places)) (λ k lt. get_or-map (values_at places) rows k [] [] lt)
 
 -- as many marks as different keys
 pub marked_keys : (rows : List Row) (places : List ℕ) (cs : List DigitColumn) (marks : List Bool) → ColumnsOf rows places cs → AreMarked cs (length rows) marks → count_by (λ m. m) marks ≡ different_keys rows places
 marked_keys rows places cs marks h marked =
     marks_counted marks (map (λ row. slot_in row cs) (range_with_len 0 (length rows))) marked
-    ∙ count_alike nat_eq key_eq (λ row. slot_in row cs) (key_in rows places) (length rows) (λ i j low high. slot_alike rows places cs i j h low high) 0 (length rows) (omega arith)
+    ∙ count_alike nat_eq key_eq (λ row. slot_in row cs) (key_at rows places) (length rows) (λ i j low high. slot_alike rows places cs i j h low high) 0 (length rows) (omega arith)
     ∙ ap (distinct_count key_eq) (sym (keys_listed rows places))

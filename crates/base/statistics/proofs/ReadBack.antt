@@ -2,14 +2,15 @@
 use Rattle.std.proofs.Common.{◌≡◌, ℕ, List, [], ◌∷◌, length, Some, Result, Ok, refl, ◌∙◌, codes}
 use Rattle.std.proofs.lemmas.Bool.{eq-eqb}
 use Rattle.serde_json.specs.Data.{Data, Items}
-use Rattle.serde_json.specs.Events.{members_len}
 use Rattle.serde_json.specs.Find.{as_array}
 use Rattle.values.specs.declared.fault.Fault.{Fault}
 use Rattle.values.specs.Faults.{Gives}
 use Rattle.schema.specs.Names.{Name}
 use Rattle.schema.specs.Each.{each, Pairs}
-use Rattle.schema.specs.Entries.{list_of}
-use Rattle.schema.specs.Spelling.{HasKeys, HasMember, IsArray}
+use Rattle.json_parts.specs.Parts.{list_of}
+use Rattle.json_parts.specs.Spelling.{HasKeys, HasMember}
+use Rattle.json_parts.proofs.Reading.{json_ok, keys_read}
+use Rattle.schema.specs.Spelling.{IsArray}
 use Rattle.schema.specs.declared.schema.Table.{Table}
 use Rattle.schema.specs.declared.schema.Schema.{Schema}
 use Rattle.schema.proofs.Steps.{pairs_length}
@@ -17,10 +18,10 @@ use Rattle.statistics.specs.declared.counts.IndexStatistics.{IndexStatistics}
 use Rattle.statistics.specs.declared.counts.TableStatistics.{TableStatistics}
 use Rattle.statistics.specs.declared.counts.Statistics.{Statistics}
 use Rattle.statistics.specs.declared.fault.StatisticsRefusal.{StatisticsRefusal}
-use Rattle.statistics.specs.Entries.{keys_in, number_in, items_in, index_in, indexes_in, table_in, named_in, tables_in}
+use Rattle.statistics.specs.declared.fault.StatisticsRefusal.TheVariants.{NotJson, Shape}
+use Rattle.statistics.specs.Entries.{number_in, items_in, index_in, indexes_in, table_in, named_in, tables_in}
 use Rattle.statistics.specs.Reading.{statistics_of}
 use Rattle.statistics.specs.Spelling.{HasNumber, IsIndexText, IsTableText, AreTablesText, IsStatisticsText}
-use Rattle.statistics.proofs.Json.{json_ok}
 
 each_read : {A B R : Type 0} {S : A → B → Type 0} (f : A → Result B R) → ((x : A) (y : B) → S x y → f x ≡ Ok y) → (xs : List A) (ys : List B) → Pairs S xs ys → each f xs ≡ Ok ys
 unfolding each
@@ -28,10 +29,6 @@ each_read f g [] [] h = refl
 each_read f g [] (y ∷ ys) h = absurd h
 each_read f g (x ∷ xs) [] h = absurd h
 each_read f g (x ∷ xs) (y ∷ ys) h = rw (g x y h.0, each_read f g xs ys h.1) refl
-
-keys_read : (n : ℕ) (d : Data) → HasKeys n d → keys_in n d ≡ Ok (tt {0})
-unfolding keys_in
-keys_read n d (ms, is, same) = rw (is, eq-eqb (members_len ms) n same) refl
 
 number_read : (key : Name) (d : Data) (n : ℕ) → HasNumber key n d → number_in key d ≡ Ok n
 unfolding number_in
@@ -43,7 +40,7 @@ items_read n d items e size = rw (e, eq-eqb (length (list_of items)) n size) ref
 
 index_read : (d : Data) (i : IndexStatistics) → IsIndexText d i → index_in d ≡ Ok i
 unfolding index_in
-index_read d i h = rw (keys_read 2 d h.members, number_read (codes "keys") d i.keys h.keys, number_read (codes "pages") d i.pages h.pages) refl
+index_read d i h = rw (keys_read Shape 2 d h.members, number_read (codes "keys") d i.keys h.keys, number_read (codes "pages") d i.pages h.pages) refl
 
 indexes_read : (n : ℕ) (d : Data) (is : List IndexStatistics) → HasMember (codes "indexes") (λ m. IsArray IsIndexText m is) d → length is ≡ n → indexes_in n d ≡ Ok is
 unfolding indexes_in
@@ -53,7 +50,7 @@ indexes_read n d is (m, m_is, (items, array, pairs)) size =
 table_read : (table : Table) (d : Data) (t : TableStatistics) → IsTableText table d t → table_in table d ≡ Ok t
 unfolding table_in
 table_read table d t h =
-    rw (keys_read 3 d h.members, number_read (codes "rows") d t.rows h.rows, number_read (codes "pages") d t.pages h.pages, indexes_read (length table.indexes) d t.indexes h.indexes h.each) refl
+    rw (keys_read Shape 3 d h.members, number_read (codes "rows") d t.rows h.rows, number_read (codes "pages") d t.pages h.pages, indexes_read (length table.indexes) d t.indexes h.indexes h.each) refl
 
 named_read : (d : Data) (table : Table) (t : TableStatistics) → HasMember table.name (λ m. IsTableText table m t) d → named_in d table ≡ Ok t
 unfolding named_in
@@ -62,11 +59,11 @@ named_read d table t (m, is, text) = rw (is, table_read table m t text) refl
 tables_read : (tables : List Table) (d : Data) (ts : List TableStatistics) → HasKeys 1 d → HasMember (codes "tables") (λ m. AreTablesText tables m ts) d → tables_in tables d ≡ Ok ts
 unfolding tables_in
 tables_read tables d ts one (m, is, text) =
-    rw (keys_read 1 d one, is, keys_read (length tables) m text.members) (each_read (named_in m) (named_read m) tables ts text.each)
+    rw (keys_read Shape 1 d one, is, keys_read Shape (length tables) m text.members) (each_read (named_in m) (named_read m) tables ts text.each)
 
 read_back : (schema : Schema) (bytes : List ℕ) (s : Statistics) → IsStatisticsText schema bytes s → statistics_of schema bytes ≡ Ok s
 unfolding statistics_of
-read_back schema bytes s h = rw (json_ok bytes h.value h.text h.json, tables_read schema.tables h.value s.tables h.members h.tables) refl
+read_back schema bytes s h = rw (json_ok NotJson bytes h.value h.text h.json, tables_read schema.tables h.value s.tables h.members h.tables) refl
 
 -- so a call that gives what is read gives these statistics
 pub given_back : (schema : Schema) (bytes : List ℕ) (result : Result Statistics (Fault StatisticsRefusal)) → Gives (λ x. x) result (statistics_of schema bytes) → (s : Statistics) → IsStatisticsText schema bytes s → Gives (λ x. x) result (Ok s)

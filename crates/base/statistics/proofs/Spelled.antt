@@ -1,19 +1,16 @@
 -- What is read is spelt by the bytes.
-use Rattle.std.proofs.Common.{◌≡◌, ℕ, List, length, Bool, true, false, cond, Some, Result, Ok, Err, IfOk, refl, sym, ap, ◌∙◌, subst, codes, ◌==◌}
-use Rattle.std.specs.Str.{IsUtf8, is_utf8}
-use Rattle.std.proofs.lemmas.Str.{IsUtf8-from_is_utf8}
+use Rattle.std.proofs.Common.{◌≡◌, ℕ, List, length, Some, Result, Ok, Err, IfOk, sym, ap, ◌∙◌, subst, codes, ◌==◌}
 use Rattle.std.proofs.lemmas.Bool.{eqb-true}
 use Rattle.serde_json.specs.Data.{Data, Items}
-use Rattle.serde_json.specs.Events.{members_len}
-use Rattle.serde_json.specs.Read as json
-use Rattle.serde_json.specs.Find.{as_array, as_object}
+use Rattle.serde_json.specs.Find.{as_array}
 use Rattle.values.specs.declared.fault.Fault.{Fault}
 use Rattle.values.specs.Faults.{Gives}
-use Rattle.values.specs.Faults as faults
 use Rattle.values.proofs.Results.{both_ok, wanted_ok, wanted_if_ok}
 use Rattle.schema.specs.Names.{Name}
-use Rattle.schema.specs.Entries.{list_of}
-use Rattle.schema.specs.Spelling.{HasKeys, HasMember, IsArray}
+use Rattle.json_parts.specs.Parts.{list_of}
+use Rattle.json_parts.specs.Spelling.{HasKeys, HasMember}
+use Rattle.json_parts.proofs.Reading.{keys_spelt, json_spelt}
+use Rattle.schema.specs.Spelling.{IsArray}
 use Rattle.schema.specs.declared.schema.Table.{Table}
 use Rattle.schema.specs.declared.schema.Schema.{Schema}
 use Rattle.schema.proofs.Steps.{each_ok, pairs_length}
@@ -26,12 +23,6 @@ use Rattle.statistics.specs.declared.fault.StatisticsRefusal.TheVariants.{NotJso
 use Rattle.statistics.specs.Entries.{wanted, json_in, keys_in, member_in, number_in, items_in, index_in, indexes_in, table_in, named_in, tables_in}
 use Rattle.statistics.specs.Reading.{statistics_of}
 use Rattle.statistics.specs.Spelling.{HasNumber, IsIndexText, IsTableText, AreTablesText, IsStatisticsText}
-
-keys_spelt : (n : ℕ) (d : Data) (u : Unit {0}) → keys_in n d ≡ Ok u → HasKeys n d
-unfolding keys_in
-keys_spelt n d u e =
-    let (ms, p, q) = both_ok (wanted (as_object d)) _ u e in
-    (ms, wanted_ok Shape (as_object d) ms p, eqb-true (members_len ms) n (wanted_if_ok Shape (members_len ms == n) tt u q).0)
 
 number_spelt : (key : Name) (d : Data) (n : ℕ) → number_in key d ≡ Ok n → HasNumber key n d
 unfolding number_in
@@ -46,7 +37,7 @@ index_spelt d i e =
     let (keys, p1, q1) = both_ok (number_in (codes "keys") d) _ i q0 in
     let (pages, p2, q2) = both_ok (number_in (codes "pages") d) _ i q1 in
     let made : IsIndexText d (record { keys = keys; pages = pages }) = record {
-      members = keys_spelt 2 d members p0;
+      members = keys_spelt Shape 2 d members p0;
       keys = number_spelt (codes "keys") d keys p1;
       pages = number_spelt (codes "pages") d pages p2;
     } in
@@ -77,7 +68,7 @@ table_spelt table d t e =
     let (indexes, p3, q3) = both_ok (indexes_in (length table.indexes) d) _ t q2 in
     let listed = indexes_spelt (length table.indexes) d indexes p3 in
     let made : IsTableText table d (record { rows = rows; pages = pages; indexes = indexes }) = record {
-      members = keys_spelt 3 d members p0;
+      members = keys_spelt Shape 3 d members p0;
       rows = number_spelt (codes "rows") d rows p1;
       pages = number_spelt (codes "pages") d pages p2;
       indexes = listed.0;
@@ -98,27 +89,17 @@ tables_spelt tables d ts e =
     let (m, p1, q1) = both_ok (member_in (codes "tables") d) _ ts q0 in
     let (members, p2, q2) = both_ok (keys_in (length tables) m) _ ts q1 in
     let made : AreTablesText tables m ts = record {
-      members = keys_spelt (length tables) m members p2;
+      members = keys_spelt Shape (length tables) m members p2;
       each = pairs_map (named_spelt m) tables ts (each_ok (named_in m) tables ts q2);
     } in
-    (keys_spelt 1 d one p0, (m, wanted_ok Shape _ m p1, made))
-
-by_utf8 : (b : Bool) (bytes : List ℕ) (x : Result Data StatisticsRefusal) (d : Data) → is_utf8 bytes ≡ b → cond b x (Err NotJson) ≡ Ok d → IsUtf8 bytes × (x ≡ Ok d)
-by_utf8 true bytes x d p e = (IsUtf8-from_is_utf8 bytes p, e)
-by_utf8 false bytes x d p e = cc e
-
-json_spelt : (bytes : List ℕ) (d : Data) → json_in bytes ≡ Ok d → IsUtf8 bytes × (json.read bytes ≡ Some d)
-unfolding json_in
-json_spelt bytes d e =
-    let r = by_utf8 (is_utf8 bytes) bytes (faults.wanted NotJson (json.read bytes)) d refl e in
-    (r.0, wanted_ok NotJson (json.read bytes) d r.1)
+    (keys_spelt Shape 1 d one p0, (m, wanted_ok Shape _ m p1, made))
 
 statistics_spelt : (schema : Schema) (bytes : List ℕ) (s : Statistics) → statistics_of schema bytes ≡ Ok s → IsStatisticsText schema bytes s
 unfolding statistics_of
 statistics_spelt schema bytes s e =
     let (d, p0, q0) = both_ok (json_in bytes) _ s e in
     let (tables, p1, q1) = both_ok (tables_in schema.tables d) _ s q0 in
-    let text = json_spelt bytes d p0 in
+    let text = json_spelt NotJson bytes d p0 in
     let listed = tables_spelt schema.tables d tables p1 in
     let made : IsStatisticsText schema bytes (record { tables = tables }) = record {
       text = text.0;

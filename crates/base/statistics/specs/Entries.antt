@@ -1,15 +1,13 @@
 -- What bytes spell as JSON: the entries of a schema's tables, or why they have another shape.
-use Rattle.std.specs.Prelude.{ℕ, List, length, Bool, Option, Result, Ok, Err, ◌==◌, if◌then◌else◌, codes, option_and_then}
-use Rattle.std.specs.Str.{is_utf8}
+use Rattle.std.specs.Prelude.{ℕ, List, length, Bool, Option, Result, Ok, ◌==◌, codes, option_and_then}
 use Rattle.serde_json.specs.Data.{Data}
-use Rattle.serde_json.specs.Events.{members_len}
-use Rattle.serde_json.specs.Read as json
-use Rattle.serde_json.specs.Find.{get, as_number, as_u64, as_array, as_object}
+use Rattle.serde_json.specs.Find.{as_number, as_u64, as_array}
 use Rattle.values.specs.Faults.{◌>>=◌}
 use Rattle.values.specs.Faults as faults
+use Rattle.json_parts.specs.Parts as parts
+use Rattle.json_parts.specs.Parts.{list_of}
 use Rattle.schema.specs.Names.{Name}
 use Rattle.schema.specs.Each.{each}
-use Rattle.schema.specs.Entries.{list_of}
 use Rattle.schema.specs.declared.schema.Table.{Table}
 use Rattle.statistics.specs.declared.counts.IndexStatistics.{IndexStatistics}
 use Rattle.statistics.specs.declared.counts.TableStatistics.{TableStatistics}
@@ -23,17 +21,15 @@ abbrev pub wanted_if : {A : Type 0} → Bool → A → Result A StatisticsRefusa
 wanted_if b x = faults.wanted_if Shape b x
 
 -- what the bytes are as JSON
-unfoldable pub json_in : List ℕ → Result Data StatisticsRefusal
-json_in bytes = if is_utf8 bytes then faults.wanted NotJson (json.read bytes) else Err NotJson
+abbrev pub json_in : List ℕ → Result Data StatisticsRefusal
+json_in bytes = parts.json_in NotJson bytes
 
 -- an object with as many members as this
-unfoldable pub keys_in : ℕ → Data → Result (Unit {0}) StatisticsRefusal
-keys_in n d = do
-  members ← wanted (as_object d)
-  wanted_if (members_len members == n) tt
+abbrev pub keys_in : ℕ → Data → Result (Unit {0}) StatisticsRefusal
+keys_in n d = parts.keys_in Shape n d
 
 abbrev pub member_in : Name → Data → Result Data StatisticsRefusal
-member_in name d = wanted (get name d)
+member_in name d = parts.member_in Shape name d
 
 -- the whole number that a value is, from 0 to the greatest of 64 bits
 abbrev pub as_whole : Data → Option ℕ

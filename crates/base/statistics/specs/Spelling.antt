@@ -4,7 +4,8 @@ use Rattle.std.specs.Str.{IsUtf8}
 use Rattle.serde_json.specs.Data.{Data}
 use Rattle.serde_json.specs.Read as json
 use Rattle.schema.specs.Each.{Pairs}
-use Rattle.schema.specs.Spelling.{HasKeys, HasMember, IsArray}
+use Rattle.json_parts.specs.Spelling.{HasKeys, HasMember}
+use Rattle.schema.specs.Spelling.{IsArray}
 use Rattle.schema.specs.declared.schema.Table.{Table}
 use Rattle.schema.specs.declared.schema.Schema.{Schema}
 use Rattle.statistics.specs.declared.counts.IndexStatistics.{IndexStatistics}

@@ -9,6 +9,7 @@ ghost use Rattle.statistics.specs.Entries as spec;
 
 use crate::counts::{IndexStatistics, TableStatistics};
 use crate::fault::{StatisticsFault, StatisticsRefusal};
+use json_parts::{has_keys, member_of};
 use schema::Table;
 use serde_json::Value;
 use std::alloc::Global;
@@ -20,42 +21,10 @@ fn shape() -> StatisticsFault
     StatisticsFault::Refused(StatisticsRefusal::Shape)
 }
 
-#[tactic(auto, unfolding(crate::specs::Entries::json_in))]
-pub fn json_of(alloc: Global, bytes: &[u8]) -> Result<Value, StatisticsFault>
-    ensures { Gives view result (spec.json_in bytes.now) }
-{
-    match Value::from_slice(alloc, bytes) {
-        Ok(value) => Ok(value),
-        Err(error) => {
-            if error.is_memory() {
-                Err(StatisticsFault::Memory)
-            } else {
-                Err(StatisticsFault::Refused(StatisticsRefusal::NotJson))
-            }
-        }
-    }
-}
-
-#[tactic(auto, unfolding(crate::specs::Entries::keys_in))]
-fn has_keys(value: &Value, count: usize) -> Result<(), StatisticsFault>
-    ensures { Gives (λ _. tt) result (spec.keys_in count (view value.now)) }
-{
-    let Some(members) = value.as_object() else {
-        return Err(shape());
-    };
-    if members.len() != count {
-        return Err(shape());
-    }
-    Ok(())
-}
-
 fn member<'v>(value: &'v Value, name: &str) -> Result<&'v Value, StatisticsFault>
     ensures { Gives (λ v. view v.now) result (spec.member_in name.now (view value.now)) }
 {
-    match value.get(name) {
-        Some(found) => Ok(found),
-        None => Err(shape()),
-    }
+    member_of(value, name, StatisticsRefusal::Shape)
 }
 
 /// The number that a member is.
@@ -88,7 +57,7 @@ fn items_of(value: &Value, count: usize) -> Result<&[Value], StatisticsFault>
 fn index_of(value: &Value) -> Result<IndexStatistics, StatisticsFault>
     ensures { Gives (λ x. x) result (spec.index_in (view value.now)) }
 {
-    has_keys(value, 2)?;
+    has_keys(value, 2, StatisticsRefusal::Shape)?;
     let keys = member_number(value, "keys")?;
     let pages = member_number(value, "pages")?;
     Ok(IndexStatistics { keys, pages })
@@ -121,7 +90,7 @@ fn indexes_of(
 fn table_of(alloc: Global, table: &Table, value: &Value) -> Result<TableStatistics, StatisticsFault>
     ensures { Gives (λ x. x) result (spec.table_in table.now (view value.now)) }
 {
-    has_keys(value, 3)?;
+    has_keys(value, 3, StatisticsRefusal::Shape)?;
     let rows = member_number(value, "rows")?;
     let pages = member_number(value, "pages")?;
     let indexes = indexes_of(alloc, value, table.indexes.len())?;
@@ -167,8 +136,8 @@ pub fn tables_of(
 ) -> Result<Items<TableStatistics>, StatisticsFault>
     ensures { Gives (λ x. x) result (spec.tables_in tables.now (view value.now)) }
 {
-    has_keys(value, 1)?;
+    has_keys(value, 1, StatisticsRefusal::Shape)?;
     let entries = member(value, "tables")?;
-    has_keys(entries, tables.len())?;
+    has_keys(entries, tables.len(), StatisticsRefusal::Shape)?;
     each_table(alloc, tables, entries)
 }

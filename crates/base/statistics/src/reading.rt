@@ -7,8 +7,9 @@ ghost use Rattle.statistics.specs.Spelling.{IsStatisticsText};
 ghost use Rattle.statistics.specs.declared.counts.Statistics.{Statistics};
 
 use crate::counts::Statistics;
-use crate::entries::{json_of, tables_of};
-use crate::fault::StatisticsFault;
+use crate::entries::tables_of;
+use crate::fault::{StatisticsFault, StatisticsRefusal};
+use json_parts::json_of;
 use schema::Schema;
 use std::alloc::Global;
 
@@ -21,7 +22,7 @@ fn read_statistics(
 ) -> Result<Statistics, StatisticsFault>
     ensures { Gives (λ x. x) result (statistics_of schema.now bytes.now) }
 {
-    let value = json_of(alloc, bytes)?;
+    let value = json_of(alloc, bytes, StatisticsRefusal::NotJson)?;
     let tables = tables_of(alloc, schema.tables.as_slice(), &value)?;
     Ok(Statistics { tables })
 }

@@ -36,7 +36,7 @@ below_there (v ∷ k) (w ∷ l) (suc i) lt low same h =
 
 -- ---- the rows up to one of them
 
-abbrev key_at : List Row → List ℕ → ℕ → Row
+abbrev pub key_at : List Row → List ℕ → ℕ → Row
 key_at rows places j = values_at places (slice_index_or rows j [])
 
 -- the key of each row so far is the last one, or below it

@@ -1,13 +1,12 @@
 -- Each node of a plan that fits has the inputs that its operator takes.
-use Rattle.std.proofs.Common.{◌≡◌, refl, ap, sym, ◌∙◌, subst, arith, ℕ, ◌+◌, Bool, true, false, ◌&&◌, ◌==◌, List, [], ◌∷◌, ◌++◌, map, flat_map, length, take, append-nil, Result, Ok}
-use Rattle.std.specs.List.{list_all, AllByRecursion}
+use Rattle.std.proofs.Common.{◌≡◌, ap, sym, ◌∙◌, subst, arith, ℕ, ◌+◌, Bool, true, false, ◌==◌, List, [], ◌∷◌, ◌++◌, map, flat_map, length, take, append-nil, Result, Ok}
+use Rattle.std.specs.List.{AllByRecursion}
 use Rattle.std.proofs.lemmas.Bool.{and_parts, eqb-true, false≢true}
 use Rattle.std.proofs.lemmas.List.{length-map}
 use Rattle.std.proofs.lemmas.List.Folds.{flat_map-map}
 use Rattle.values.specs.Faults.{◌>>=◌, wanted_if}
 use Rattle.values.proofs.Lists.{all_append}
 use Rattle.values.proofs.Results.{both_ok, wanted_if_ok}
-use Rattle.schema.specs.declared.schema.Schema.{Schema}
 use Rattle.schema.specs.Databases.{Database, Satisfies}
 use Rattle.schema.proofs.EmptyTables.{no-rows}
 use Rattle.query.specs.declared.query.TableInstance.{TableInstance}
@@ -19,6 +18,7 @@ use Rattle.algebra.specs.declared.expr.Expr.TheVariants as expr
 use Rattle.algebra.specs.declared.expr.Expr.TheVariants.{Get, Select, Join, LeftJoin, Keep, Distinct, Group}
 use Rattle.algebra.specs.Conditions.{classes_in}
 use Rattle.algebra.specs.Expressions.{children, conditions, is_formed, is_plain}
+use Rattle.algebra.proofs.Lists.{none-pass}
 use Rattle.algebra.proofs.NamedClasses.{classes-pass}
 use Rattle.frame.specs.FormedFrames.{own_aggregates}
 use Rattle.rules.specs.Soundness.{IsLine}
@@ -40,18 +40,14 @@ use Rattle.certificate.specs.declared.certificate.CheckRefusal.{CheckRefusal}
 use Rattle.certificate.specs.declared.certificate.CheckReason.TheVariants.{IllFormed, OtherOperator}
 use Rattle.certificate.specs.NodeInputs.{JoinsBy, TakesInputs, NodeTakes, nodes_layer, nodes_of, HaveInputs, NodesHaveInputs}
 use Rattle.certificate.specs.Replay.{Fits, refusal, finds, is_join, implements, needed_classes, sort_fits, operator_fits, node_fits, inputs_fit, is_delivered, plan_fits, root}
-use Rattle.certificate.proofs.Answers.{IsReplayed, log-true, replayed-is}
+use Rattle.certificate.proofs.Answers.{log-true, replayed-is}
 use Rattle.certificate.proofs.Fits.{after_node, after-is, plan_fits_out, operator-is}
 
 -- ---- operators
 
-none_pass : (classes : List ℕ) → list_all (λ g. false) classes ≡ true → classes ≡ []
-none_pass [] all = refl
-none_pass (g ∷ classes) all = absurd (false≢true all)
-
 -- conditions without subqueries name no class
 count_plain : (classes : List ℕ) (C : List Condition) → is_plain C ≡ true → length (classes ++ classes_in C) ≡ length classes
-count_plain classes C plain = ap (λ more. length (classes ++ more)) (none_pass (classes_in C) (classes-pass (λ g. false) C plain)) ∙ ap length (append-nil classes)
+count_plain classes C plain = ap (λ more. length (classes ++ more)) (none-pass (classes_in C) (classes-pass (λ g. false) C plain)) ∙ ap length (append-nil classes)
 
 joins_by : (m : JoinMethod) (j : Matching) (left right : List ℕ) → finds m j left right ≡ true → JoinsBy m j
 joins_by NestedLoop j left right h = tt

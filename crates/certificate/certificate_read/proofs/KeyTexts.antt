@@ -4,14 +4,14 @@ use Rattle.std.specs.List.{slice_split}
 use Rattle.values.specs.declared.fault.Fault.{Fault}
 use Rattle.values.specs.declared.fault.Fault.TheVariants.{Memory, Refused}
 use Rattle.physical.specs.declared.plan.OrderKey.{OrderKey}
-use Rattle.certificate_parts.specs.declared.part_fault.PartReason.{PartReason}
-use Rattle.certificate_parts.specs.declared.part_fault.PartReason.TheVariants.{OtherForm, OverLimit}
-use Rattle.certificate_parts.specs.Numerals.{numeral}
-use Rattle.certificate_parts.specs.Parts.{IsRead, Reads, SpellsNumber, IsShort}
-use Rattle.certificate_parts.specs.PartTexts.{lacks, list_text}
-use Rattle.certificate_parts.proofs.Lacking.{lacks_both, numeral_lacks}
-use Rattle.certificate_parts.proofs.Numerals.{form_nonempty, numeral_injective, numeral_tested}
-use Rattle.certificate_parts.proofs.PartLists.{list_spelled, parts_spelled}
+use Rattle.certificate_text.specs.declared.part_fault.PartReason.{PartReason}
+use Rattle.certificate_text.specs.declared.part_fault.PartReason.TheVariants.{OtherForm, OverLimit}
+use Rattle.certificate_text.specs.Numerals.{numeral}
+use Rattle.certificate_text.specs.Parts.{IsRead, Reads, SpellsNumber, IsShort}
+use Rattle.certificate_text.specs.PartTexts.{lacks, list_text}
+use Rattle.certificate_text.proofs.Lacking.{lacks_both, numeral_lacks}
+use Rattle.certificate_text.proofs.Numerals.{form_nonempty, numeral_injective, numeral_tested}
+use Rattle.certificate_text.proofs.PartLists.{list_spelled, parts_spelled}
 use Rattle.certificate_text.specs.CertificateText.{Text, direction_text}
 use Rattle.certificate_text.specs.Readable.{AreShortKeys, IsShortKey}
 use Rattle.certificate_read.specs.NodeReading.{key_text, SpellsKey, SpellsColumn, SpellEachKey, SpellsKeys, keys_wording}

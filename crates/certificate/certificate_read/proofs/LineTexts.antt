@@ -24,17 +24,17 @@ use Rattle.rules.specs.declared.book.RuleName.TheVariants as rule
 use Rattle.derivation.specs.declared.line.Step.{Step}
 use Rattle.derivation.specs.declared.line.Line.{Line}
 use Rattle.derivation.specs.declared.line.Line.TheVariants.{Founds, Adds, Unites, Alike, Gives}
-use Rattle.certificate_parts.specs.Conditions.{IsReadable}
-use Rattle.certificate_parts.specs.Parts.{IsShort, AreShort}
-use Rattle.certificate_parts.specs.Numerals.{numeral}
-use Rattle.certificate_parts.specs.ListReading.{part_conjuncts_text}
-use Rattle.certificate_parts.specs.PartTexts as parts
-use Rattle.certificate_parts.specs.PartTexts.{is_graphic, lacks}
-use Rattle.certificate_parts.specs.Spelled.{IsShortAggregate, IsShortAggregation}
-use Rattle.certificate_parts.proofs.ConjunctTexts.{condition_graphic}
-use Rattle.certificate_parts.proofs.DecimalNumerals.{short_decimal}
-use Rattle.certificate_parts.proofs.Lacking.{pass_both, pass_more, passing_lack, each_lacks}
-use Rattle.certificate_parts.proofs.Numerals.{numeral_digits}
+use Rattle.certificate_text.specs.Conditions.{IsReadable}
+use Rattle.certificate_text.specs.Parts.{IsShort, AreShort}
+use Rattle.certificate_text.specs.Numerals.{numeral}
+use Rattle.certificate_text.specs.ListReading.{part_conjuncts_text}
+use Rattle.certificate_text.specs.PartTexts as parts
+use Rattle.certificate_text.specs.PartTexts.{is_graphic, lacks}
+use Rattle.certificate_text.specs.Spelled.{IsShortAggregate, IsShortAggregation}
+use Rattle.certificate_text.proofs.ConjunctTexts.{condition_graphic}
+use Rattle.certificate_text.proofs.DecimalNumerals.{short_decimal}
+use Rattle.certificate_text.proofs.Lacking.{pass_both, pass_more, passing_lack, each_lacks}
+use Rattle.certificate_text.proofs.Numerals.{numeral_digits}
 use Rattle.certificate_text.specs.CertificateText as text
 use Rattle.certificate_text.specs.CertificateText.{Text, keys_text, direction_text, list_text, numbers_text, aggregate_text, aggregation_text, aggregations_text, conjuncts_text, expr_text, step_text, fact_text, line_words}
 use Rattle.certificate_text.specs.Limits.{most_nested}

@@ -8,8 +8,8 @@ use Rattle.physical.specs.declared.plan.Operator.{Operator}
 use Rattle.physical.specs.declared.plan.Operator.TheVariants.{Scan, IndexScan, Filter, FilterSubqueries, Projection, JoinRows, IndexJoin, GroupRows, DistinctRows}
 use Rattle.physical.specs.declared.plan.Node.TheVariants.{Implements, Sort}
 use Rattle.physical.specs.declared.plan.Node.{Node}
-use Rattle.certificate_parts.specs.Numerals.{numeral}
-use Rattle.certificate_parts.specs.Parts.{IsShort}
+use Rattle.certificate_text.specs.Numerals.{numeral}
+use Rattle.certificate_text.specs.Parts.{IsShort}
 use Rattle.certificate_text.specs.CertificateText.{Text, ◌␣◌, kind_text, lists_text, operator_text, node_words}
 use Rattle.certificate_text.specs.Readable.{IsReadableMatching, IsReadableNode, IsReadableOperator}
 use Rattle.certificate_read.specs.declared.line_fault.LineFault.{LineFault}

@@ -1,15 +1,15 @@
--- The texts of `certificate_text`, with numbers in their ranges, are those that `certificate_parts` reads.
+-- The texts that are written, with numbers in their ranges, are those that are read.
 use Rattle.std.proofs.Common.{◌≡◌, ℕ, List, [], ◌∷◌, ◌++◌, flat_map, refl, ◌∙◌, ap, codes, decimal}
 use Rattle.std.specs.List.{AllByRecursion}
 use Rattle.query.specs.declared.query.Aggregate.{Aggregate}
 use Rattle.query.specs.declared.query.Aggregate.TheVariants as by
 use Rattle.algebra.specs.declared.expr.Aggregation.{Aggregation}
 use Rattle.physical.specs.declared.plan.OrderKey.{OrderKey}
-use Rattle.certificate_parts.specs.Numerals.{numeral}
-use Rattle.certificate_parts.specs.Parts.{IsShort, AreShort}
-use Rattle.certificate_parts.specs.PartTexts as parts
-use Rattle.certificate_parts.specs.Spelled.{IsShortAggregate, IsShortAggregation}
-use Rattle.certificate_parts.proofs.DecimalNumerals.{short_decimal}
+use Rattle.certificate_text.specs.Numerals.{numeral}
+use Rattle.certificate_text.specs.Parts.{IsShort, AreShort}
+use Rattle.certificate_text.specs.PartTexts as parts
+use Rattle.certificate_text.specs.Spelled.{IsShortAggregate, IsShortAggregation}
+use Rattle.certificate_text.proofs.DecimalNumerals.{short_decimal}
 use Rattle.certificate_text.specs.CertificateText as text
 use Rattle.certificate_text.specs.CertificateText.{Text, numbers_text, aggregate_text, aggregation_text, aggregations_text, keys_text, direction_text}
 use Rattle.certificate_text.specs.Readable.{AreAggregations, AreShortKeys, IsShortKey}

@@ -5,10 +5,10 @@ use Rattle.values.specs.declared.fault.Fault.TheVariants.{Memory, Refused}
 use Rattle.physical.specs.declared.plan.Node.{Node}
 use Rattle.physical.specs.declared.plan.Plan.{Plan}
 use Rattle.certificate.specs.NodeInputs.{nodes_of}
-use Rattle.certificate_parts.proofs.DecimalNumerals.{short_decimal}
-use Rattle.certificate_parts.proofs.Numerals.{numeral_injective}
-use Rattle.certificate_parts.specs.Numerals.{numeral}
-use Rattle.certificate_parts.specs.Parts.{IsShort}
+use Rattle.certificate_text.proofs.DecimalNumerals.{short_decimal}
+use Rattle.certificate_text.proofs.Numerals.{numeral_injective}
+use Rattle.certificate_text.specs.Numerals.{numeral}
+use Rattle.certificate_text.specs.Parts.{IsShort}
 use Rattle.certificate_text.proofs.PlanTexts.{some_nodes}
 use Rattle.certificate_text.specs.declared.fault.TextReason.{TextReason}
 use Rattle.certificate_text.specs.declared.fault.TextReason.TheVariants.{OtherForm}

@@ -8,7 +8,7 @@ use Rattle.certificate_text.specs.CertificateText.{Text, node_text, plan_text, n
 use Rattle.certificate_text.specs.Limits.{nodes_within, node_is_within}
 use Rattle.certificate_text.proofs.LimitLists.{nodes_at}
 use Rattle.certificate_text.proofs.PlanTexts.{count_at, no-more, one-more, some_each, some_nodes, text_at}
-use Rattle.certificate_parts.proofs.FrontConditions.{all_split}
+use Rattle.certificate_text.proofs.FrontConditions.{all_split}
 use Rattle.certificate.specs.NodeInputs.{nodes_of}
 use Rattle.certificate.proofs.NodeInputs.{list_at}
 use Rattle.certificate_text.specs.Readable.{AreReadableNodes, IsReadableNode}

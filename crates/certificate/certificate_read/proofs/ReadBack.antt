@@ -10,9 +10,9 @@ use Rattle.props.specs.declared.fact.Fact.TheVariants.{NotNull, WeakKey, StrongK
 use Rattle.derivation.specs.declared.line.Step.{Step}
 use Rattle.derivation.specs.declared.line.Line.{Line}
 use Rattle.derivation.specs.declared.line.Line.TheVariants.{Founds, Adds, Unites, Alike, Gives}
-use Rattle.certificate_parts.proofs.ConjunctLists.{within_rising}
-use Rattle.certificate_parts.specs.Numerals.{numeral}
-use Rattle.certificate_parts.specs.Parts.{IsShort}
+use Rattle.certificate_text.proofs.ConjunctLists.{within_rising}
+use Rattle.certificate_text.specs.Numerals.{numeral}
+use Rattle.certificate_text.specs.Parts.{IsShort}
 use Rattle.certificate_text.specs.CertificateText.{Text, ◌␣◌, kind_text, line_words, lists_text, node_words, operator_text}
 use Rattle.certificate_text.specs.Limits.{most_nested}
 use Rattle.certificate_text.specs.Readable.{AreConjuncts, IsReadableExpr, IsReadableFact, IsReadableLine, IsReadableMatching, IsReadableNode, IsReadableOperator, IsReadableStep}

@@ -2,8 +2,8 @@
 use Rattle.std.proofs.Common.{◌≡◌, true, refl, sym, subst, arith, ℕ, ◌<◌, ◌^◌, inl, inr, Err}
 use Rattle.std.proofs.lemmas.Bool.{cases_lt}
 use Rattle.std.specs.Prelude.{IsUtf8}
-use Rattle.certificate_parts.specs.Parts.{IsShort}
-use Rattle.certificate_parts.specs.PartTexts.{lacks}
+use Rattle.certificate_text.specs.Parts.{IsShort}
+use Rattle.certificate_text.specs.PartTexts.{lacks}
 use Rattle.certificate_text.specs.declared.fault.TextReason.{TextReason}
 use Rattle.certificate_text.specs.declared.fault.TextReason.TheVariants.{OtherForm}
 use Rattle.certificate_text.specs.CertificateText.{Text}

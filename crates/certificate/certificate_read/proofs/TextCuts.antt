@@ -8,15 +8,15 @@ use Rattle.std.proofs.lemmas.List.Quantifiers.{position-Some}
 use Rattle.std.proofs.lemmas.List.Sums.{position_or_len_is}
 use Rattle.std.proofs.lemmas.Str.Pattern.{IsSplitOnceResult, split_parts}
 use Rattle.std.specs.List.{position, position_or_len}
-use Rattle.certificate_parts.specs.declared.part_fault.PartReason.{PartReason}
-use Rattle.certificate_parts.specs.Numerals.{numeral}
-use Rattle.certificate_parts.specs.Parts.{IsRead, IsShort, SpellsNumber}
-use Rattle.certificate_parts.specs.PartTexts.{lacks}
-use Rattle.certificate_parts.proofs.AggregateParts.{cut_at}
-use Rattle.certificate_parts.proofs.DecimalNumerals.{short_decimal}
-use Rattle.certificate_parts.proofs.Exits.{not_none, same_some}
-use Rattle.certificate_parts.proofs.Lacking.{each_lacks, lacks_at}
-use Rattle.certificate_parts.proofs.NumberParts.{number_given}
+use Rattle.certificate_text.specs.declared.part_fault.PartReason.{PartReason}
+use Rattle.certificate_text.specs.Numerals.{numeral}
+use Rattle.certificate_text.specs.Parts.{IsRead, IsShort, SpellsNumber}
+use Rattle.certificate_text.specs.PartTexts.{lacks}
+use Rattle.certificate_text.proofs.AggregateParts.{cut_at}
+use Rattle.certificate_text.proofs.DecimalNumerals.{short_decimal}
+use Rattle.certificate_text.proofs.Exits.{not_none, same_some}
+use Rattle.certificate_text.proofs.Lacking.{each_lacks, lacks_at}
+use Rattle.certificate_text.proofs.NumberParts.{number_given}
 use Rattle.certificate_text.specs.CertificateText.{Text, ended}
 use Rattle.certificate_read.specs.TextReading.{IsLine, IsWord}
 use Rattle.certificate_read.proofs.LineTexts.{numeral_graphic, both_parts, one_word, number_part, part_line}

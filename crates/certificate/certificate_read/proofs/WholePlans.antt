@@ -21,7 +21,7 @@ use Rattle.physical.specs.declared.plan.Plan.TheOpen.{Plan-F}
 use Rattle.certificate.specs.declared.certificate.Certificate.{Certificate}
 use Rattle.certificate.specs.NodeInputs.{nodes_of}
 use Rattle.certificate.proofs.NodeInputs.{list_at}
-use Rattle.certificate_parts.specs.Conditions.{IsReadable, nests_within}
+use Rattle.certificate_text.specs.Conditions.{IsReadable, nests_within}
 use Rattle.certificate_text.specs.CertificateText.{certificate_text, ended, node_count, node_text, plan_text}
 use Rattle.certificate_text.specs.Limits.{all_nest_within, checked, line_is_within, lines_within, matching_conditions, most_deep, most_lines, most_nested, most_nodes, node_is_within, nodes_within, operator_conditions, written}
 use Rattle.certificate_text.specs.Readable.{IsReadableExpr, IsReadableLine, IsReadableMatching, IsReadableNode, IsReadableOperator}

@@ -5,14 +5,14 @@ use Rattle.values.specs.declared.fault.Fault.{Fault}
 use Rattle.values.specs.declared.fault.Fault.TheVariants.{Memory, Refused}
 use Rattle.algebra.specs.declared.condition.Condition.{Condition}
 use Rattle.algebra.specs.ConjunctOrder.{condition_text}
-use Rattle.certificate_parts.specs.declared.part_fault.PartReason.{PartReason}
-use Rattle.certificate_parts.specs.declared.part_fault.PartReason.TheVariants.{OtherForm, OverLimit}
-use Rattle.certificate_parts.specs.Conditions.{IsReadable}
-use Rattle.certificate_parts.specs.ConditionReading.{part_condition_text, IsWithin, IsTooDeep}
-use Rattle.certificate_parts.specs.ListReading.{part_conjuncts_text, AreConjunctsWithin, AreShortConditions, IsListTooDeep, ReadsConjuncts, separate_text}
-use Rattle.certificate_parts.proofs.ConjunctLists as lists
-use Rattle.certificate_parts.proofs.SameFronts.{same_to, not_both_fronts}
-use Rattle.certificate_parts.proofs.WideConditions.{conditions_same}
+use Rattle.certificate_text.specs.declared.part_fault.PartReason.{PartReason}
+use Rattle.certificate_text.specs.declared.part_fault.PartReason.TheVariants.{OtherForm, OverLimit}
+use Rattle.certificate_text.specs.Conditions.{IsReadable}
+use Rattle.certificate_text.specs.ConditionReading.{part_condition_text, IsWithin, IsTooDeep}
+use Rattle.certificate_text.specs.ListReading.{part_conjuncts_text, AreConjunctsWithin, AreShortConditions, IsListTooDeep, ReadsConjuncts, separate_text}
+use Rattle.certificate_text.proofs.ConjunctLists as lists
+use Rattle.certificate_text.proofs.SameFronts.{same_to, not_both_fronts}
+use Rattle.certificate_text.proofs.WideConditions.{conditions_same}
 use Rattle.certificate_text.specs.CertificateText.{Text, conjuncts_text}
 use Rattle.certificate_text.specs.Limits.{most_nested}
 use Rattle.certificate_text.specs.Readable.{AreConjuncts}

@@ -2,14 +2,14 @@
 use Rattle.std.proofs.Common.{◌≡◌, ℕ, List, [], ◌∷◌, ◌++◌, map, get_or, length, flat_map, drop, ◌<◌, refl, sym, ◌∙◌, ap, arith, codes}
 use Rattle.std.specs.List.Sorted.{IsStrictlyIncreasing}
 use Rattle.algebra.specs.AggregateOrder.{AreByColumn}
-use Rattle.certificate_parts.specs.Numerals.{numeral}
-use Rattle.certificate_parts.specs.Parts.{SpellsNumbers, IsShort, AreShort}
-use Rattle.certificate_parts.specs.Spelled.{AreShortAggregations}
-use Rattle.certificate_parts.specs.PartTexts.{numbers_text, aggregations_text}
-use Rattle.certificate_parts.proofs.AggregateLists.{aggregations_told}
-use Rattle.certificate_parts.proofs.Lacking.{lacks_at, numeral_lacks}
-use Rattle.certificate_parts.proofs.NumberLists.{parts_spelled}
-use Rattle.certificate_parts.proofs.Numerals.{numeral_injective, numeral_tested, form_nonempty}
+use Rattle.certificate_text.specs.Numerals.{numeral}
+use Rattle.certificate_text.specs.Parts.{SpellsNumbers, IsShort, AreShort}
+use Rattle.certificate_text.specs.Spelled.{AreShortAggregations}
+use Rattle.certificate_text.specs.PartTexts.{numbers_text, aggregations_text}
+use Rattle.certificate_text.proofs.AggregateLists.{aggregations_told}
+use Rattle.certificate_text.proofs.Lacking.{lacks_at, numeral_lacks}
+use Rattle.certificate_text.proofs.NumberLists.{parts_spelled}
+use Rattle.certificate_text.proofs.Numerals.{numeral_injective, numeral_tested, form_nonempty}
 use Rattle.certificate_text.specs.CertificateText.{Text}
 use Rattle.certificate_read.specs.WordReading.{number_wording, numbers_wording, columns_wording, aggregations_wording, sides_wording}
 use Rattle.certificate_read.specs.Wordings.{IsAny, IsNever}

@@ -3,7 +3,7 @@ use Rattle.std.proofs.Common.{◌≡◌, inl, inr, Bool, false, List, [], ◌∷
 use Rattle.std.proofs.lemmas.Bool.{false≢true}
 use Rattle.std.proofs.lemmas.Result.{err_from_is_err_and}
 use Rattle.std.specs.Result.{IsErrAnd}
-use Rattle.certificate_parts.specs.Parts.{Noted}
+use Rattle.certificate_text.specs.Parts.{Noted}
 use Rattle.certificate_text.specs.CertificateText.{Text}
 use Rattle.certificate_read.specs.declared.line_fault.LineFault.{LineFault}
 use Rattle.certificate_read.specs.declared.line_fault.LineFault.TheVariants.{Memory, OtherForm, OutOfRange, OverLimit}

@@ -10,8 +10,8 @@ use Rattle.physical.specs.declared.plan.OrderKey.{OrderKey}
 use Rattle.physical.specs.declared.plan.Operator.{Operator}
 use Rattle.physical.specs.declared.plan.Operator.TheVariants.{Scan, IndexScan, Filter, FilterSubqueries, Projection, JoinRows, IndexJoin, GroupRows, DistinctRows}
 use Rattle.physical.specs.declared.plan.Node.TheVariants.{Implements, Sort}
-use Rattle.certificate_parts.specs.Numerals.{numeral}
-use Rattle.certificate_parts.specs.PartTexts.{list_text}
+use Rattle.certificate_text.specs.Numerals.{numeral}
+use Rattle.certificate_text.specs.PartTexts.{list_text}
 use Rattle.certificate_text.specs.CertificateText.{Text, direction_text}
 use Rattle.certificate_text.specs.Readable.{AreShortKeys}
 use Rattle.certificate_read.specs.declared.nodes.ReadNode.{ReadNode}

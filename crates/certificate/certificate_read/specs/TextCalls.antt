@@ -7,8 +7,8 @@ use Rattle.derivation.specs.declared.line.Line.{Line}
 use Rattle.physical.specs.declared.plan.Node.{Node}
 use Rattle.physical.specs.declared.plan.Plan.{Plan}
 use Rattle.certificate.specs.NodeInputs.{nodes_of}
-use Rattle.certificate_parts.specs.Numerals.{numeral}
-use Rattle.certificate_parts.specs.PartTexts.{lacks}
+use Rattle.certificate_text.specs.Numerals.{numeral}
+use Rattle.certificate_text.specs.PartTexts.{lacks}
 use Rattle.certificate_text.specs.declared.fault.TextReason.{TextReason}
 use Rattle.certificate_text.specs.declared.fault.TextReason.TheVariants.{OtherForm, OutOfRange, OverLimit}
 use Rattle.certificate_text.specs.declared.fault.TextRefusal.{TextRefusal}

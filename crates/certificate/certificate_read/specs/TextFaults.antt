@@ -3,8 +3,8 @@ use Rattle.std.specs.Prelude.{◌≡◌, ◌⊎◌, ℕ, zero, suc, ◌+◌, ◌
 use Rattle.std.specs.List.{AllByRecursion}
 use Rattle.derivation.specs.declared.line.Line.{Line}
 use Rattle.physical.specs.declared.plan.Node.{Node}
-use Rattle.certificate_parts.specs.Numerals.{numeral}
-use Rattle.certificate_parts.specs.PartTexts.{lacks}
+use Rattle.certificate_text.specs.Numerals.{numeral}
+use Rattle.certificate_text.specs.PartTexts.{lacks}
 use Rattle.certificate_text.specs.declared.fault.TextReason.{TextReason}
 use Rattle.certificate_text.specs.declared.fault.TextReason.TheVariants.{OtherVersion, OtherForm, OutOfRange, BrokenOff, OverLimit}
 use Rattle.certificate_text.specs.declared.fault.TextRefusal.{TextRefusal}

@@ -4,7 +4,7 @@ use Rattle.std.specs.List.{list_all, AllByRecursion}
 use Rattle.values.specs.declared.fault.Fault.{Fault}
 use Rattle.values.specs.declared.fault.Fault.TheVariants.{Memory}
 use Rattle.physical.specs.declared.plan.Plan.{Plan}
-use Rattle.certificate_parts.specs.PartTexts.{is_graphic, lacks}
+use Rattle.certificate_text.specs.PartTexts.{is_graphic, lacks}
 use Rattle.certificate_text.specs.declared.fault.TextRefusal.{TextRefusal}
 use Rattle.certificate_text.specs.CertificateText.{Text}
 use Rattle.certificate_text.specs.Limits.{nodes_within}

@@ -5,11 +5,11 @@ use Rattle.std.specs.List.Sorted.{IsStrictlyIncreasing}
 use Rattle.algebra.specs.declared.condition.Condition.{Condition}
 use Rattle.algebra.specs.declared.expr.Aggregation.{Aggregation}
 use Rattle.algebra.specs.AggregateOrder.{AreByColumn}
-use Rattle.certificate_parts.specs.ListReading.{part_conjuncts_text, AreConjunctsWithin, AreShortConditions, IsListTooDeep}
-use Rattle.certificate_parts.specs.Numerals.{numeral}
-use Rattle.certificate_parts.specs.Parts.{IsShort, AreShort}
-use Rattle.certificate_parts.specs.PartTexts.{numbers_text, aggregations_text}
-use Rattle.certificate_parts.specs.Spelled.{AreShortAggregations}
+use Rattle.certificate_text.specs.ListReading.{part_conjuncts_text, AreConjunctsWithin, AreShortConditions, IsListTooDeep}
+use Rattle.certificate_text.specs.Numerals.{numeral}
+use Rattle.certificate_text.specs.Parts.{IsShort, AreShort}
+use Rattle.certificate_text.specs.PartTexts.{numbers_text, aggregations_text}
+use Rattle.certificate_text.specs.Spelled.{AreShortAggregations}
 use Rattle.certificate_text.specs.CertificateText.{Text}
 use Rattle.certificate_text.specs.Limits.{most_nested}
 use Rattle.certificate_read.specs.declared.line_fault.LineFault.{LineFault}

@@ -1,10 +1,10 @@
 -- How values are spelled by words, and what a call reads of any words.
 use Rattle.std.specs.Prelude.{◌≡◌, ◌⊎◌, true, false, Bool, List, [], ◌∷◌, ◌++◌, map, Result, Ok, Err, MatchResult}
-use Rattle.certificate_parts.specs.Parts.{Noted}
+use Rattle.certificate_text.specs.Parts.{Noted}
 use Rattle.values.specs.declared.fault.Fault.{Fault}
 use Rattle.values.specs.declared.fault.Fault.TheVariants as fault
-use Rattle.certificate_parts.specs.declared.part_fault.PartReason.{PartReason}
-use Rattle.certificate_parts.specs.declared.part_fault.PartReason.TheVariants as reason
+use Rattle.certificate_text.specs.declared.part_fault.PartReason.{PartReason}
+use Rattle.certificate_text.specs.declared.part_fault.PartReason.TheVariants as reason
 use Rattle.certificate_text.specs.CertificateText.{Text}
 use Rattle.certificate_read.specs.declared.line_fault.LineFault.{LineFault}
 use Rattle.certificate_read.specs.declared.line_fault.LineFault.TheVariants.{Memory, OtherForm, OutOfRange, OverLimit}

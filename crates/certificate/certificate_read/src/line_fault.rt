@@ -7,8 +7,8 @@ ghost use Rattle.certificate_read.specs.declared.line_fault.LineFault.TheVariant
 ghost use Rattle.certificate_read.specs.Wordings.{line_fault_of};
 ghost use Rattle.values.specs.declared.fault.Fault.TheVariants.{Refused};
 
-use certificate_parts::part_fault::{PartFault, PartReason};
 use certificate_text::TextReason;
+use certificate_text::part_fault::{PartFault, PartReason};
 use std::alloc::{AllocError, AllocFailed};
 use values::Fault;
 

@@ -2,15 +2,15 @@
 
 ghost use Rattle.std.specs.Prelude.{◌≡◌, ◌==◌, map, IfOk};
 ghost use Rattle.std.specs.List.{slice_split};
-ghost use Rattle.certificate_parts.specs.Parts.{IsRead, Reads};
+ghost use Rattle.certificate_text.specs.Parts.{IsRead, Reads};
 ghost use Rattle.certificate_text.specs.Readable.{AreShortKeys, IsShortKey};
 ghost use Rattle.certificate_read.specs.NodeReading as spec;
 ghost use Rattle.certificate_read.specs.Wordings.{ReadsWords};
 
 use crate::line_fault::LineFault;
 use crate::words::Words;
-use certificate_parts::numbers::number;
-use certificate_parts::part_fault::{PartFault, PartReason};
+use certificate_text::numbers::number;
+use certificate_text::part_fault::{PartFault, PartReason};
 use physical::OrderKey;
 use std::alloc::{AllocError, Global};
 use values::Items;

@@ -2,7 +2,7 @@
 
 ghost use Rattle.std.specs.Prelude.{◌≡◌, ◌==◌, ◌++◌, [], codes, Ok, true, MatchResult};
 ghost use Rattle.std.specs.List.{position};
-ghost use Rattle.certificate_parts.specs.PartTexts.{lacks};
+ghost use Rattle.certificate_text.specs.PartTexts.{lacks};
 ghost use Rattle.certificate_text.specs.CertificateText.{Text, ended};
 ghost use Rattle.certificate_text.specs.declared.fault.TextReason.TheVariants.{OtherForm};
 ghost use Rattle.certificate_read.specs.TextCalls as spec;

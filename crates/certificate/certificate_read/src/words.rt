@@ -6,11 +6,11 @@ ghost use Rattle.certificate_read.specs.Wordings.{left_words, EndsLine, PassesWo
 
 use crate::line_fault::LineFault;
 use algebra::{Aggregations, Columns, Conjuncts};
-use certificate_parts::aggregates::aggregations;
-use certificate_parts::column_lists::columns;
-use certificate_parts::conjunct_lists::conjuncts;
-use certificate_parts::numbers::{number, numbers};
 use certificate_text::MOST_NESTED;
+use certificate_text::aggregates::aggregations;
+use certificate_text::column_lists::columns;
+use certificate_text::conjunct_lists::conjuncts;
+use certificate_text::numbers::{number, numbers};
 use derivation::Numbers;
 use std::alloc::{AllocError, Global};
 

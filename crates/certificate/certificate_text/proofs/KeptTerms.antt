@@ -9,11 +9,11 @@ use Rattle.algebra.specs.declared.condition.Condition.{Condition}
 use Rattle.algebra.specs.declared.condition.Condition.TheVariants.{Compare, IsNull, Not, And, Or, Exists, In, rolls-Compare, rolls-IsNull, rolls-Not, rolls-And, rolls-Or, rolls-Exists, rolls-In}
 use Rattle.algebra.specs.declared.condition.Condition.TheOpen.{Condition-F}
 use Rattle.algebra.specs.ConjunctOrder as algebra
-use Rattle.certificate_parts.specs.Conditions.{IsReadable, nests_within, terms_of}
-use Rattle.certificate_parts.specs.Parts.{IsShort}
-use Rattle.certificate_parts.specs.Spelled.{IsReadableTerm}
-use Rattle.certificate_parts.proofs.DifferentTexts.{conjuncts_rise}
-use Rattle.certificate_parts.proofs.FrontConditions.{terms-at}
+use Rattle.certificate_text.specs.Conditions.{IsReadable, nests_within, terms_of}
+use Rattle.certificate_text.specs.Parts.{IsShort}
+use Rattle.certificate_text.specs.Spelled.{IsReadableTerm}
+use Rattle.certificate_text.proofs.DifferentTexts.{conjuncts_rise}
+use Rattle.certificate_text.proofs.FrontConditions.{terms-at}
 use Rattle.certificate_text.specs.Limits.{all_nest_within, most_nested}
 use Rattle.certificate_text.specs.Readable.{AreConjuncts}
 

@@ -13,8 +13,8 @@ use Rattle.algebra.specs.declared.condition.Condition.TheOpen.{Condition-F}
 use Rattle.physical.specs.declared.plan.Plan.{Plan, out-Plan, fold_out-Plan}
 use Rattle.certificate_text.specs.declared.fault.TextRefusal.{TextRefusal}
 use Rattle.certificate_text.specs.CertificateText.{Text, node_count, certificate_text}
-use Rattle.certificate_parts.specs.Conditions.{nests_layer, nests_within}
-use Rattle.certificate_parts.proofs.FrontConditions.{nests-at, one-less}
+use Rattle.certificate_text.specs.Conditions.{nests_layer, nests_within}
+use Rattle.certificate_text.proofs.FrontConditions.{nests-at, one-less}
 use Rattle.certificate_text.specs.Limits.{most_lines, most_nodes, most_deep, line_is_within, written, all_nest_within, node_is_within, within_layer, nodes_within, checked}
 
 -- ---- conditions

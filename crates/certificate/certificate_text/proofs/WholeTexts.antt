@@ -11,8 +11,8 @@ use Rattle.certificate.specs.NodeInputs.{NodeTakes, HaveInputs, nodes_of}
 use Rattle.certificate.proofs.NodeInputs.{list_at}
 use Rattle.values.specs.Faults.{◌>>=◌}
 use Rattle.certificate.specs.declared.certificate.Certificate.{Certificate}
-use Rattle.certificate_parts.proofs.Exits.{not_both, same_ok}
-use Rattle.certificate_parts.proofs.FrontConditions.{all_split}
+use Rattle.certificate_text.proofs.Exits.{not_both, same_ok}
+use Rattle.certificate_text.proofs.FrontConditions.{all_split}
 use Rattle.certificate_text.specs.declared.fault.TextRefusal.{TextRefusal}
 use Rattle.certificate_text.specs.CertificateText.{Text, node_count, certificate_text}
 use Rattle.certificate_text.specs.Limits.{most_lines, most_nodes, most_deep, line_is_within, node_is_within, nodes_within, lines_within, over_limit, checked, written}

@@ -1,5 +1,14 @@
 pub mod CertificateText
 pub mod Codes
+pub mod ConditionReading
+pub mod Conditions
+pub mod DecimalNumerals
+pub mod DifferentTexts
 pub mod Limits
+pub mod ListReading
+pub mod Numerals
+pub mod Parts
+pub mod PartTexts
 pub mod Readable
+pub mod Spelled
 pub mod WorkedTexts

@@ -15,7 +15,7 @@ use Rattle.physical.specs.declared.plan.Node.TheVariants.{Implements, Sort}
 use Rattle.physical.specs.declared.plan.Plan.{Plan, fold-Plan}
 use Rattle.physical.specs.declared.plan.Plan.TheOpen.{Plan-F}
 use Rattle.certificate.specs.declared.certificate.Certificate.{Certificate}
-use Rattle.certificate_parts.specs.Conditions.{nests_within}
+use Rattle.certificate_text.specs.Conditions.{nests_within}
 use Rattle.certificate_text.specs.declared.fault.TextRefusal.{TextRefusal}
 use Rattle.certificate_text.specs.declared.fault.TextReason.TheVariants.{OverLimit}
 use Rattle.certificate_text.specs.CertificateText.{Text, node_count, certificate_text}

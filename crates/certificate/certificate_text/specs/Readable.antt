@@ -26,9 +26,9 @@ use Rattle.physical.specs.declared.plan.Node.TheVariants.{Implements, Sort}
 use Rattle.physical.specs.declared.plan.Plan.{Plan}
 use Rattle.certificate.specs.declared.certificate.Certificate.{Certificate}
 use Rattle.certificate.specs.NodeInputs.{IsInner, NodeTakes, nodes_of}
-use Rattle.certificate_parts.specs.Conditions.{IsReadable}
-use Rattle.certificate_parts.specs.Parts.{IsShort, AreShort}
-use Rattle.certificate_parts.specs.Spelled as parts
+use Rattle.certificate_text.specs.Conditions.{IsReadable}
+use Rattle.certificate_text.specs.Parts.{IsShort, AreShort}
+use Rattle.certificate_text.specs.Spelled as parts
 use Rattle.certificate_text.specs.Limits.{line_is_within, most_nested, node_is_within}
 
 -- ---- lists

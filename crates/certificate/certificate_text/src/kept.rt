@@ -3,8 +3,8 @@
 
 ghost use Rattle.std.specs.List.{AllByRecursion};
 ghost use Rattle.values.specs.Short.{IsShort as IsShortValue};
-ghost use Rattle.certificate_parts.specs.Conditions.{terms_of};
-ghost use Rattle.certificate_parts.specs.Spelled.{IsReadableTerm, IsReadableValue};
+ghost use Rattle.certificate_text.specs.Conditions.{terms_of};
+ghost use Rattle.certificate_text.specs.Spelled.{IsReadableTerm, IsReadableValue};
 
 use algebra::{Condition, Term};
 use values::Value;

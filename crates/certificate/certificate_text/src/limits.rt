@@ -3,7 +3,7 @@
 ghost use Rattle.std.specs.Prelude.{◌≡◌, ◌+◌, ◌∷◌, ◌++◌, ◌&&◌, nat_lt, [], map, Ok};
 ghost use Rattle.values.specs.Faults.{Gives};
 ghost use Rattle.values.specs.declared.fault.Fault.TheVariants.{Refused};
-ghost use Rattle.certificate_parts.specs.Conditions.{nests_within};
+ghost use Rattle.certificate_text.specs.Conditions.{nests_within};
 ghost use Rattle.certificate_text.specs.declared.fault.TextRefusal.{TextRefusal};
 ghost use Rattle.certificate_text.specs.CertificateText.{certificate_text};
 ghost use Rattle.certificate_text.specs.Limits as spec;

@@ -3,7 +3,7 @@
 ghost use Rattle.std.specs.Prelude.{◌≡◌, ◌++◌, flat_map, true, OnOk};
 ghost use Rattle.std.specs.List.{AllByRecursion};
 ghost use Rattle.algebra.specs.Expressions.{conditions};
-ghost use Rattle.certificate_parts.specs.Parts.{IsShort};
+ghost use Rattle.certificate_text.specs.Parts.{IsShort};
 ghost use Rattle.certificate_text.specs.CertificateText as spec;
 ghost use Rattle.certificate_text.specs.Limits.{all_nest_within, line_is_within, most_nested};
 ghost use Rattle.certificate_text.specs.Readable.{AreConjuncts, IsReadableExpr, IsReadableFact, IsReadableLine, IsReadableStep};

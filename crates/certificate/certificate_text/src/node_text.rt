@@ -3,7 +3,7 @@
 ghost use Rattle.std.specs.Prelude.{◌≡◌, ◌+◌, ◌++◌, codes, true, IfOk, OnOk};
 ghost use Rattle.std.specs.List.{AllByRecursion};
 ghost use Rattle.certificate.specs.NodeInputs.{JoinsBy, TakesInputs, nodes_of};
-ghost use Rattle.certificate_parts.specs.Parts.{IsShort};
+ghost use Rattle.certificate_text.specs.Parts.{IsShort};
 ghost use Rattle.certificate_text.specs.CertificateText as spec;
 ghost use Rattle.certificate_text.specs.Limits.{all_nest_within, matching_conditions, most_nested, operator_conditions};
 ghost use Rattle.certificate_text.specs.Readable.{AreAggregations, AreColumns, AreConjuncts, CanBeRead, FitsMethod, IsReadableAccess, IsReadableMatching, IsReadableOperator};

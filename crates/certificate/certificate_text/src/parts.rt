@@ -3,8 +3,8 @@
 ghost use Rattle.std.specs.Prelude.{◌≡◌, ◌++◌, codes, decimal, flat_map, true, OnOk};
 ghost use Rattle.std.specs.List.{AllByRecursion, join_by};
 ghost use Rattle.algebra.specs.ConjunctOrder.{condition_text};
-ghost use Rattle.certificate_parts.specs.Parts.{IsShort, AreShort};
-ghost use Rattle.certificate_parts.specs.Spelled.{IsShortAggregate, IsShortAggregation};
+ghost use Rattle.certificate_text.specs.Parts.{IsShort, AreShort};
+ghost use Rattle.certificate_text.specs.Spelled.{IsShortAggregate, IsShortAggregation};
 ghost use Rattle.certificate_text.specs.CertificateText as spec;
 ghost use Rattle.certificate_text.specs.Limits.{all_nest_within, most_nested};
 ghost use Rattle.certificate_text.specs.Readable.{AreAggregations, AreColumns, AreConjuncts, AreShortKeys, IsShortKey};

@@ -15,6 +15,7 @@ use Rattle.algebra.proofs.MentionedColumns.{each_has, all_has}
 use Rattle.algebra.proofs.Sets.{has-rising, rising-again}
 use Rattle.laws.proofs.Ignored.{part-passes}
 use Rattle.props.specs.Knowledge.{Knowledge, are_same}
+use Rattle.laws.proofs.Expressions.{has-both}
 use Rattle.rules.specs.declared.book.RuleName.{RuleName}
 use Rattle.rules.specs.declared.book.RuleName.TheVariants.{JoinCommutes, JoinAssociates, SelectsMerge, SelectBelowJoin, SelectIntoJoin, ConditionBelowJoin, SelectBelowSemi, KeepsMerge, KeepOfAll, KeepBelowJoin, DistinctOfKeyed, GroupIsDistinct}
 use Rattle.rules.specs.declared.shape.Shape.{Shape}
@@ -41,7 +42,7 @@ use Rattle.rules.proofs.Conditions.{if-given, some-given}
 use Rattle.rules.proofs.Sets.{has-filter}
 use Rattle.closure.specs.Formed.{IsFormedLine, Rises, GivesFormed, BookGivesFormed}
 use Rattle.closure.proofs.FormedShapes as shapes
-use Rattle.closure.proofs.FormedShapes.{AreApart, apart-at, apart-from, apart-turned, apart-both, apart-of_first, apart-of_second, in-second, both-has, part-plain, rest-plain, classes-union, rising-turned, rising-along, same-increasing, subset-along}
+use Rattle.closure.proofs.FormedShapes.{AreApart, apart-at, apart-from, apart-turned, apart-both, apart-of_first, apart-of_second, in-second, part-plain, rest-plain, classes-union, rising-turned, rising-along, same-increasing, subset-along}
 
 module _ (instances : List TableInstance) (own : List Aggregation) (K : Knowledge) (founds : ℕ → Bool) where
   record Good (x : Expr) : Type 0 where
@@ -360,7 +361,7 @@ module _ (instances : List TableInstance) (own : List Aggregation) (K : Knowledg
       of-needed k in_ = and_parts _ _ (sym (needed k) ∙ in_)
 
       there : (k : ℕ) → has L k ≡ true → (has (K.columns a) k || has (K.columns b) k) ≡ true
-      there k in_ = sym (both-has (K.columns a) (K.columns b) k) ∙ sym (ap (λ X. has X k) (same x [] refl)) ∙ each_has (has (K.columns x)) L good.formed k in_
+      there k in_ = sym (has-both (K.columns a) (K.columns b) k) ∙ sym (ap (λ X. has X k) (same x [] refl)) ∙ each_has (has (K.columns x)) L good.formed k in_
 
       first : (l m : Bool) → l ≡ true → (l || m) ≡ true
       first true m is = refl

@@ -2,8 +2,9 @@
 use Rattle.std.proofs.Common.{◌≡◌, refl, ap, sym, ◌∙◌, ℕ, Bool, true, false, not, ◌&&◌, ◌||◌, List, ◌++◌}
 use Rattle.std.specs.List.{list_all}
 use Rattle.std.specs.List.Sorted.{IsStrictlyIncreasing}
-use Rattle.std.proofs.lemmas.Bool.{and_parts, and_from, not-true}
+use Rattle.std.proofs.lemmas.Bool.{and_parts, and_from, or_left, or_right, not-true, not_from_false}
 use Rattle.std.proofs.lemmas.List.Folds.{list_all-append}
+use Rattle.std.proofs.Math.Bool.{or_comm, or_assoc}
 use Rattle.query.specs.declared.query.TableInstance.{TableInstance}
 use Rattle.algebra.specs.declared.condition.Condition.{Condition}
 use Rattle.algebra.specs.declared.expr.Aggregation.{Aggregation}
@@ -17,10 +18,10 @@ use Rattle.algebra.proofs.Equations.{all_columns_and, all_classes_and}
 use Rattle.algebra.proofs.Lists.{two}
 use Rattle.algebra.proofs.MentionedColumns.{each_has, all_has}
 use Rattle.algebra.proofs.Sets.{has-rising, one-rising, rises-rising, rising-again}
+use Rattle.laws.proofs.Expressions.{has-both}
 use Rattle.rules.specs.declared.shape.Shape.{Shape, roll-Shape, fold-roll-Shape, map-Shape}
 use Rattle.rules.specs.declared.shape.Shape.TheOpen.{Shape-F}
 use Rattle.rules.specs.declared.shape.Shape.TheVariants.{Class, Select, Join, LeftJoin, Semi, Anti, Keep, Distinct, rolls-Class, rolls-Select, rolls-Join, rolls-LeftJoin, rolls-Semi, rolls-Anti, rolls-Keep, rolls-Distinct}
-use Rattle.rules.proofs.Sets.{has-both}
 use Rattle.closure.specs.Formed.{Formed, are_formed, are_joined, formed_layer, formed}
 
 -- the classes of both lists' conditions pass
@@ -150,15 +151,11 @@ rest-plain p C plain = (and_parts _ _ (sym (split_passes (λ d. all_classes d (�
 abbrev pub AreApart : List ℕ → List ℕ → Type 0
 AreApart A B = (k : ℕ) → has A k ≡ true → has B k ≡ false
 
-not-from : (b : Bool) → b ≡ false → not b ≡ true
-not-from true is = cc
-not-from false is = refl
-
 pub apart-at : (A B : List ℕ) → are_disjoint A B ≡ true → AreApart A B
 apart-at A B apart k in_ = not-true _ (each_has (λ k. not (has B k)) A apart k in_)
 
 pub apart-from : (A B : List ℕ) → AreApart A B → are_disjoint A B ≡ true
-apart-from A B apart = all_has (λ k. not (has B k)) A (λ k in_. not-from _ (apart k in_))
+apart-from A B apart = all_has (λ k. not (has B k)) A (λ k in_. not_from_false _ (apart k in_))
 
 pub apart-turned : (A B : List ℕ) → AreApart A B → AreApart B A
 apart-turned A B apart k in_ = by (has A k) refl
@@ -167,30 +164,15 @@ apart-turned A B apart k in_ = by (has A k) refl
     by true also = cc (apart k also, in_)
     by false none = none
 
-pub both-has : (A B : List ℕ) (k : ℕ) → has (rising (A ++ B)) k ≡ (has A k || has B k)
-both-has A B k = sym (has-both A B k)
-
-or-first : (a b : Bool) → a ≡ true → (a || b) ≡ true
-or-first true b is = refl
-or-first false b is = cc
-
-or-second : (a b : Bool) → b ≡ true → (a || b) ≡ true
-or-second true b is = refl
-or-second false b is = is
-
-or-neither : (a b : Bool) → (a || b) ≡ false → (a ≡ false) × (b ≡ false)
-or-neither true b is = cc
-or-neither false b is = (refl, is)
-
 pub in-first : (A B : List ℕ) (k : ℕ) → has A k ≡ true → has (rising (A ++ B)) k ≡ true
-in-first A B k in_ = both-has A B k ∙ or-first _ _ in_
+in-first A B k in_ = has-both A B k ∙ or_left _ _ in_
 
 pub in-second : (A B : List ℕ) (k : ℕ) → has B k ≡ true → has (rising (A ++ B)) k ≡ true
-in-second A B k in_ = both-has A B k ∙ or-second _ _ in_
+in-second A B k in_ = has-both A B k ∙ or_right _ _ in_
 
 -- what shares nothing with two sets shares nothing with both, and the other way round
 pub apart-both : (A B C : List ℕ) → AreApart A B → AreApart A C → AreApart A (rising (B ++ C))
-apart-both A B C one other k in_ = both-has B C k ∙ ap (λ b. b || has C k) (one k in_) ∙ other k in_
+apart-both A B C one other k in_ = has-both B C k ∙ ap (λ b. b || has C k) (one k in_) ∙ other k in_
 
 pub apart-of_first : (A B C : List ℕ) → AreApart (rising (A ++ B)) C → AreApart A C
 apart-of_first A B C apart k in_ = apart k (in-first A B k in_)
@@ -202,26 +184,16 @@ apart-of_second A B C apart k in_ = apart k (in-second A B k in_)
 pub rising-equal : (A B : List ℕ) → ((k : ℕ) → has A k ≡ has B k) → rising A ≡ rising B
 rising-equal A B same = one-rising (rising A) (rising B) (rises-rising A) (rises-rising B) (λ k. has-rising k A ∙ same k ∙ sym (has-rising k B))
 
-or-turned : (a b : Bool) → (a || b) ≡ (b || a)
-or-turned true true = refl
-or-turned true false = refl
-or-turned false true = refl
-or-turned false false = refl
-
-or-along : (a b c : Bool) → ((a || b) || c) ≡ (a || (b || c))
-or-along true b c = refl
-or-along false b c = refl
-
 append-has : (A B : List ℕ) (k : ℕ) → has (A ++ B) k ≡ (has A k || has B k)
-append-has A B k = sym (has-rising k (A ++ B)) ∙ both-has A B k
+append-has A B k = sym (has-rising k (A ++ B)) ∙ has-both A B k
 
 pub rising-turned : (A B : List ℕ) → rising (A ++ B) ≡ rising (B ++ A)
-rising-turned A B = rising-equal (A ++ B) (B ++ A) (λ k. append-has A B k ∙ or-turned (has A k) (has B k) ∙ sym (append-has B A k))
+rising-turned A B = rising-equal (A ++ B) (B ++ A) (λ k. append-has A B k ∙ or_comm (has A k) (has B k) ∙ sym (append-has B A k))
 
 pub rising-along : (A B C : List ℕ) → rising (rising (A ++ B) ++ C) ≡ rising (A ++ rising (B ++ C))
 rising-along A B C = rising-equal (rising (A ++ B) ++ C) (A ++ rising (B ++ C)) (λ k.
-    append-has (rising (A ++ B)) C k ∙ ap (λ b. b || has C k) (both-has A B k) ∙ or-along (has A k) (has B k) (has C k)
-    ∙ ap (λ b. has A k || b) (sym (both-has B C k)) ∙ sym (append-has A (rising (B ++ C)) k))
+    append-has (rising (A ++ B)) C k ∙ ap (λ b. b || has C k) (has-both A B k) ∙ or_assoc (has A k) (has B k) (has C k)
+    ∙ ap (λ b. has A k || b) (sym (has-both B C k)) ∙ sym (append-has A (rising (B ++ C)) k))
 
 pub same-increasing : (A B : List ℕ) → IsStrictlyIncreasing A → IsStrictlyIncreasing B → is_same_set A B ≡ true → A ≡ B
 same-increasing A B rise grow same = sym (rising-again A rise) ∙ rising-equal A B each ∙ rising-again B grow

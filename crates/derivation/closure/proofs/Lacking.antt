@@ -57,9 +57,6 @@ disagreeing_there E over line k lines None entered there is agree = λ m at j l 
     ap (λ ns. has ns j) is ∙ ap (λ q. has (columns_at over q) j) (alike-place E k.expr l.expr alike_) ∙ entered.entered j l (member-within E j l other) other in
     subst (λ (m : matches.Line). are_same E m.class l.class ≡ true) (sym same) (each-of (AgreesAt E k) lines agree j listed l other alike_)
 
-pub disagreeing_nowhere : (E : Log) (line : ℕ) → member E line ≡ None → DisagreeingWith E line None
-disagreeing_nowhere E line none = λ m at. absurd (let never : Some m ≡ None = sym at ∙ none in cc)
-
 -- ---- results
 
 module _ (instances : List TableInstance) (E : Log) where

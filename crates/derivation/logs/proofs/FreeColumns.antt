@@ -2,20 +2,16 @@
 use Rattle.std.proofs.Common.{◌≡◌, refl, ap, sym, ◌∙◌, ℕ, ◌+◌, ◌<◌, Bool, true, false, not, ◌&&◌, ◌||◌, ◌==◌, List, [], length, take, get_or}
 use Rattle.std.proofs.lemmas.Bool.{eqb-true}
 use Rattle.std.proofs.lemmas.List.Folds.{list_any_more}
-use Rattle.std.proofs.Math.Bool.{or-false, and-false}
+use Rattle.std.proofs.Math.Bool.{or-false, or_assoc}
 use Rattle.algebra.specs.Columns.{ColumnSet, has}
 use Rattle.algebra.specs.GivenColumns.{HasAlso}
-
-or-over : (a b c : Bool) → ((a || b) || c) ≡ (a || (b || c))
-or-over true b c = refl
-or-over false b c = refl
 
 -- one more column of a list, unless it passes
 pub lacking-more : (passes : ColumnSet) (xs : List ℕ) (i : ℕ) (old mid new : List ℕ) → i < length xs
     → HasAlso mid old (λ k. has (take i xs) k && not (passes k)) → HasAlso new mid (λ k. (get_or xs i 0 == k) && not (passes (get_or xs i 0)))
     → HasAlso new old (λ k. has (take (i + 1) xs) k && not (passes k))
 lacking-more passes xs i old mid new lt before more k =
-    more k ∙ ap (λ b. b || ((x == k) && not (passes x))) (before k) ∙ or-over (has old k) _ _ ∙ ap (λ b. has old k || b) (by (x == k) refl)
+    more k ∙ ap (λ b. b || ((x == k) && not (passes x))) (before k) ∙ or_assoc (has old k) _ _ ∙ ap (λ b. has old k || b) (by (x == k) refl)
     ∙ ap (λ b. has old k || (b && not (passes k))) (sym (list_any_more (λ y. y == k) xs i 0 lt))
   where
     x : ℕ

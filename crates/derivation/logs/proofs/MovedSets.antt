@@ -2,6 +2,7 @@
 use Rattle.std.proofs.Common.{◌≡◌, refl, ap, sym, ◌∙◌, subst, inl, inr, ◌⊎◌, ℕ, ◌+◌, ◌<◌, ◌≤◌, Bool, true, false, ◌||◌, ◌==◌, nat_lt, if◌then◌else◌, List, [], ◌∷◌, ◌++◌, length, set, get_or, min, take, ◌≢◌, arith}
 use Rattle.std.proofs.lemmas.Bool.{cases_lt, eq-eqb, eqb-true, ltb-true, ltb-false, ne_eqb}
 use Rattle.std.proofs.lemmas.List.{length-set, get_or_default, get_or-set_same, get_or-set_other, set-get_or, set-set}
+use Rattle.std.proofs.Math.Bool.{or_comm}
 use Rattle.algebra.specs.Columns.{has, columns_at}
 use Rattle.algebra.proofs.Puts.{among-append}
 use Rattle.props.specs.declared.fact.FactSets.{FactSets}
@@ -374,12 +375,6 @@ module _ (s t : ClassSets) (a b : ℕ) where
       by false true e f = refl
       by false false e f = let low : x ≤ y = ltb-false y x e in let less : y ≤ x = ltb-false x y f in omega (arith, low, less)
 
-  or-turned : (x y : Bool) → (x || y) ≡ (y || x)
-  or-turned true true = refl
-  or-turned true false = refl
-  or-turned false true = refl
-  or-turned false false = refl
-
   equal-turned : (x y : ℕ) → (x == y) ≡ (y == x)
   equal-turned x y = by (x == y) (y == x) refl refl
     where
@@ -390,7 +385,7 @@ module _ (s t : ClassSets) (a b : ℕ) where
       by false true e f = absurd (let never : true ≡ false = sym (eq-eqb x y (sym (eqb-true y x f))) ∙ e in cc)
 
   either-turned : (g : ℕ) → (root_of s g == root_of s b || root_of s g == root_of s a) ≡ (root_of s g == root_of s a || root_of s g == root_of s b)
-  either-turned g = or-turned (root_of s g == root_of s b) (root_of s g == root_of s a)
+  either-turned g = or_comm (root_of s g == root_of s b) (root_of s g == root_of s a)
 
   swapped : (F G both : FactSets) → AreOfBoth G F both → AreOfBoth F G both
   swapped F G both (inl is) = inr is

@@ -1,8 +1,8 @@
 -- What is known once there is a line more.
-use Rattle.std.proofs.Common.{◌≡◌, refl, ap, sym, ◌∙◌, subst, ℕ, ◌+◌, Bool, true, false, ◌||◌, ◌==◌, if◌then◌else◌, List, [], ◌∷◌, ◌++◌, ◌≤◌, inl, inr, length, Result, Ok, Err, OnErr, OnOk, arith}
+use Rattle.std.proofs.Common.{◌≡◌, refl, ap, sym, ◌∙◌, subst, ℕ, ◌+◌, Bool, true, false, ◌||◌, ◌==◌, if◌then◌else◌, List, [], ◌∷◌, ◌≤◌, length, Result, Ok, Err, OnErr, OnOk, arith}
 use Rattle.std.specs.declared.alloc.AllocError.{AllocError}
-use Rattle.std.proofs.lemmas.Bool.{cases_lt, eq-eqb, eqb-true}
-use Rattle.std.proofs.lemmas.List.{length-map, length_push, get_or_append_left, get_or_past, get_or_push}
+use Rattle.std.proofs.lemmas.Bool.{eqb-true}
+use Rattle.std.proofs.lemmas.List.{length-map, get_or_past}
 use Rattle.query.specs.declared.query.TableInstance.{TableInstance}
 use Rattle.algebra.specs.declared.expr.Expr.{Expr}
 use Rattle.algebra.specs.declared.expr.Expr.TheVariants.{Keep}
@@ -199,25 +199,3 @@ founded-class k l K own n is count columns free = record {
   columns_ = columns;
   free_ = λ g c. ap (λ ys. has ys c) (free g) ∙ has-either (g == n) own (columns_at k.free.items g) c ∙ ap (λ m. if g == m then has own c else has (columns_at k.free.items g) c) is;
 }
-
--- the free columns of a class that is noted past the end of the list, where it has none
-pub none-noted : (xs : List (List ℕ)) (n : ℕ) (own : List ℕ) → own ≡ [] → length xs ≤ n → (g : ℕ) → columns_at xs g ≡ (if g == n then own else columns_at xs g)
-none-noted xs n own none short g = by (g == n) refl
-  where
-    by : (b : Bool) → (g == n) ≡ b → columns_at xs g ≡ (if b then own else columns_at xs g)
-    by true e = get_or_past xs g [] (subst (λ m. length xs ≤ m) (sym (eqb-true g n e)) short) ∙ sym none
-    by false e = refl
-
--- the entry behind the last
-pub one-noted : (xs before : List (List ℕ)) (n : ℕ) (own : List ℕ) → length xs ≡ n → ((g : ℕ) → columns_at xs g ≡ columns_at before g) → (g : ℕ) → columns_at (xs ++ own ∷ []) g ≡ (if g == n then own else columns_at before g)
-one-noted xs before n own long same g = by (g == n) refl
-  where
-    past : (g ≡ n → ⊥) → length xs ≤ g → length (xs ++ own ∷ []) ≤ g
-    past other le = let more = length_push xs own in omega (arith, other, le, more, long)
-
-    by : (b : Bool) → (g == n) ≡ b → columns_at (xs ++ own ∷ []) g ≡ (if b then own else columns_at before g)
-    by true e = get_or_push xs own [] g (long ∙ sym (eqb-true g n e))
-    by false e = elim (cases_lt g (length xs)) [
-      | inl lt ↦ get_or_append_left xs (own ∷ []) [] g lt ∙ same g
-      | inr le ↦ get_or_past (xs ++ own ∷ []) g [] (past (λ i. let is = eq-eqb g n i in cc) le) ∙ sym (get_or_past xs g [] le) ∙ same g
-    ]

@@ -1,7 +1,7 @@
 -- The facts of classes that become the same.
 use Rattle.std.proofs.Common.{◌≡◌, refl, ap, sym, ◌∙◌, inl, inr, ◌⊎◌, ℕ, Bool, true, false, ◌&&◌, ◌||◌, ◌==◌, nat_lt, if◌then◌else◌, [], ◌∷◌}
 use Rattle.std.proofs.lemmas.Bool.{eq-eqb, eqb-true}
-use Rattle.std.proofs.Math.Bool.{or-true}
+use Rattle.std.proofs.Math.Bool.{or-true, or_comm, and_comm}
 use Rattle.props.specs.declared.fact.FactSets.{FactSets}
 use Rattle.props.specs.Facts.{with_fact, with_facts}
 use Rattle.props.proofs.FactUnions.{learnt-first, learnt-other}
@@ -87,23 +87,11 @@ among-either p q disjoint (Gives g m f ∷ E) = by (among-either p q disjoint E)
 pub among-alike : (p q : ℕ → Bool) → ((g : ℕ) → p g ≡ q g) → (E : Log) → facts_among p E ≡ facts_among q E
 among-alike p q same E = ap (λ r. facts_among r E) (λ i g. same g i)
 
-or-turned : (x y : Bool) → (x || y) ≡ (y || x)
-or-turned true true = refl
-or-turned true false = refl
-or-turned false true = refl
-or-turned false false = refl
-
-and-turned : (x y : Bool) → (x && y) ≡ (y && x)
-and-turned true true = refl
-and-turned true false = refl
-and-turned false true = refl
-and-turned false false = refl
-
 -- in either order
 pub among-both : (p q : ℕ → Bool) → ((g : ℕ) → (p g && q g) ≡ false) → (E : Log) (both : FactSets) → AreOfBoth (facts_among p E) (facts_among q E) both → both ≡ facts_among (λ g. p g || q g) E
 among-both p q disjoint E both is = elim is [
   | inl first ↦ first ∙ sym (among-either p q disjoint E)
-  | inr second ↦ second ∙ sym (among-either q p (λ g. and-turned (q g) (p g) ∙ disjoint g) E) ∙ among-alike (λ g. q g || p g) (λ g. p g || q g) (λ g. or-turned (q g) (p g)) E
+  | inr second ↦ second ∙ sym (among-either q p (λ g. and_comm (q g) (p g) ∙ disjoint g) E) ∙ among-alike (λ g. q g || p g) (λ g. p g || q g) (λ g. or_comm (q g) (p g)) E
 ]
 
 -- ---- classes of one least

@@ -2,7 +2,7 @@
 use Rattle.std.proofs.Common.{◌≡◌, refl, ap, sym, ◌∙◌, subst, ℕ, ◌+◌, ◌≤◌, ◌==◌, Bool, true, false, not, ◌&&◌, ◌||◌, if◌then◌else◌, List, [], ◌∷◌, ◌++◌, arith}
 use Rattle.std.specs.Cmp.{both_ways}
 use Rattle.std.specs.List.{list_all}
-use Rattle.std.proofs.lemmas.Bool.{and_parts, or_left, or_right, eq-eqb}
+use Rattle.std.proofs.lemmas.Bool.{and_parts, or_parts, or_left, or_right, eq-eqb}
 use Rattle.values.specs.Truth.{is_null}
 use Rattle.values.specs.Order.{same}
 use Rattle.algebra.specs.Columns.{ColumnSet, has, is_subset, is_same_set}
@@ -27,10 +27,6 @@ use Rattle.props.specs.Facts.{FactHolds, fact_columns}
 
 pub le_zero : {m n : ℕ} → m ≤ n → n ≡ 0 → m ≡ 0
 le_zero h l = omega arith
-
-or_false : (a b : Bool) → (a || b) ≡ false → (a ≡ false) × (b ≡ false)
-or_false true b is = cc
-or_false false b is = (refl, is)
 
 -- ---- bags with the same rows, and with fewer
 
@@ -152,10 +148,10 @@ module _ (p : Test) (B : ColumnSet) (a b : Bag) (L M N : List ℕ) (is : is_same
   either-null r = null-set N (L ++ M) is r ∙ list_any-append (λ k. is_null (r k)) L M
 
   full-left : (r : Env) → has_null N r ≡ false → has_null L r ≡ false
-  full-left r full = (or_false (has_null L r) (has_null M r) (sym (either-null r) ∙ full)).0
+  full-left r full = (or_parts (has_null L r) (has_null M r) (sym (either-null r) ∙ full)).0
 
   full-right : (r : Env) → has_null N r ≡ false → has_null M r ≡ false
-  full-right r full = (or_false (has_null L r) (has_null M r) (sym (either-null r) ∙ full)).1
+  full-right r full = (or_parts (has_null L r) (has_null M r) (sym (either-null r) ∙ full)).1
 
   pub strong-union : IsStrongKey L a → IsStrongKey M b → IsStrongKey N (join p B a b)
   strong-union left right e r =

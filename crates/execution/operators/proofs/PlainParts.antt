@@ -1,6 +1,5 @@
 -- Conditions without a subquery are asked first.
 use Rattle.std.proofs.Common.{◌≡◌, refl, ap, sym, ◌∙◌, ℕ, Bool, true, false, not, ◌&&◌, if◌then◌else◌, List, [], ◌∷◌, ◌++◌, filter, flat_map}
-use Rattle.std.specs.List.{list_all}
 use Rattle.std.proofs.lemmas.Bool.{and_from}
 use Rattle.std.proofs.lemmas.List.{append-nil}
 use Rattle.values.specs.Truth.{is_true}
@@ -10,15 +9,12 @@ use Rattle.algebra.specs.Columns.{rising}
 use Rattle.algebra.specs.Conditions.{truth, holds, named_classes, classes_in}
 use Rattle.algebra.specs.ConjunctParts.{has_no_class, part, rest}
 use Rattle.algebra.proofs.ConjunctSplits.{split_passes}
+use Rattle.algebra.proofs.Lists.{none-pass}
 use Rattle.algebra.proofs.NamedClasses.{all-named}
 use Rattle.algebra.proofs.Plain.{plain_holds}
 use Rattle.laws.proofs.Ignored.{part-passes}
 use Rattle.joins.proofs.FilteredJoins.{filter-twice}
 use Rattle.physical.specs.Outputs.{Output, no_classes, subquery_rows}
-
-none-pass : (xs : List ℕ) → list_all (λ g. false) xs ≡ true → xs ≡ []
-none-pass [] is = refl
-none-pass (x ∷ xs) is = cc
 
 -- a condition without a subquery names no class
 no-names : (c : Condition) → has_no_class c ≡ true → named_classes c ≡ []

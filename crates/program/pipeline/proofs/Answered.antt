@@ -16,7 +16,7 @@ use Rattle.certificate.specs.Replay.{replayed, IsChecked}
 use Rattle.checker.specs.Accepted.{Accepted}
 use Rattle.answer_text.specs.declared.output.OutputFailed.{OutputFailed}
 use Rattle.answer_text.specs.AnswerText.{answer_text}
-use Rattle.executor.specs.Execution.{accepted_text}
+use Rattle.pipeline.specs.Execution.{accepted_text}
 use Rattle.pipeline.specs.declared.refusal.Refusal.{Refusal}
 use Rattle.pipeline.specs.declared.refusal.Refusal.TheVariants as refusal
 use Rattle.pipeline.specs.Refusals.{of_check, of_answer}

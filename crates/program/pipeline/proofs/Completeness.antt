@@ -11,7 +11,7 @@ use Rattle.query.specs.declared.query.Query.{Query}
 use Rattle.binder.specs.Queries.{bound_statement}
 use Rattle.certificate.specs.declared.certificate.Certificate.{Certificate}
 use Rattle.certificate.specs.Replay.{replayed, IsChecked}
-use Rattle.certificate_parts.proofs.Exits.{not_both, same_ok}
+use Rattle.certificate_text.proofs.Exits.{not_both, same_ok}
 use Rattle.pipeline.specs.declared.refusal.Refusal.{Refusal}
 use Rattle.pipeline.specs.declared.refusal.Refusal.TheVariants as refusal
 use Rattle.pipeline.specs.Certified.{IsCheckFault}

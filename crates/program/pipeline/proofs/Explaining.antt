@@ -1,5 +1,5 @@
 -- Plans that are explained, from bytes.
-use Rattle.std.proofs.Common.{◌≡◌, sym, ◌∙◌, ℕ, List, reverse, Ok, Err}
+use Rattle.std.proofs.Common.{◌≡◌, sym, ◌∙◌, ℕ, List, Ok, Err}
 use Rattle.values.specs.declared.fault.Fault.{Fault}
 use Rattle.values.specs.declared.fault.Fault.TheVariants as fault
 use Rattle.values.specs.Faults.{Fails}
@@ -9,10 +9,6 @@ use Rattle.statistics.specs.declared.counts.Statistics.{Statistics}
 use Rattle.statistics.specs.declared.fault.StatisticsRefusal.{StatisticsRefusal}
 use Rattle.statistics.specs.Reading.{statistics_of}
 use Rattle.query.specs.declared.query.Query.{Query}
-use Rattle.query.specs.declared.query.TableInstance.{TableInstance}
-use Rattle.algebra.specs.declared.expr.Aggregation.{Aggregation}
-use Rattle.frame.specs.FormedFrames.{own_aggregates}
-use Rattle.derivation.specs.Logs.{Log}
 use Rattle.certificate.specs.declared.certificate.Certificate.{Certificate}
 use Rattle.certificate.specs.declared.certificate.CheckRefusal.{CheckRefusal}
 use Rattle.certificate.specs.Replay.{replayed}
@@ -20,7 +16,7 @@ use Rattle.pipeline.specs.declared.explained.PlanForm.{PlanForm}
 use Rattle.pipeline.specs.declared.refusal.Refusal.{Refusal}
 use Rattle.pipeline.specs.declared.refusal.Refusal.TheVariants as refusal
 use Rattle.pipeline.specs.EndToEnd.{Asks, IsNoQuery}
-use Rattle.pipeline.specs.Explained.{shown, plan_in, IsExplained, IsNotExplained}
+use Rattle.pipeline.specs.Explained.{plan_in, IsExplained, IsNotExplained}
 use Rattle.pipeline.specs.Planned.{WithChecked}
 use Rattle.pipeline.specs.Refusals.{of_check, of_statistics}
 
@@ -28,11 +24,6 @@ use Rattle.pipeline.specs.Refusals.{of_check, of_statistics}
 pub only_memory : (f : Fault CheckRefusal) (q : Query) (V : Certificate) → replayed q V ≡ Ok V → Fails f (replayed q V) → of_check f ≡ refusal.Memory
 only_memory fault.Memory q V ok fails = λ i. refusal.Memory
 only_memory (fault.Refused r) q V ok fails = let e : Ok V ≡ Err r = sym ok ∙ fails in cc
-
--- what is shown of the log of its lines is the certificate's plan
-pub shown_in : (form : PlanForm) (s : Statistics) (q : Query) (V : Certificate) (instances : List TableInstance) (own : List Aggregation) (E : Log) (bytes : List ℕ)
-    → instances ≡ q.tables → own ≡ own_aggregates q → E ≡ reverse V.lines → bytes ≡ shown form s instances own E V.plan → bytes ≡ plan_in form s q V
-shown_in form s q V instances own E bytes are aggregates turned is = is ∙ (λ i. shown form s (are i) (aggregates i) (turned i) V.plan)
 
 pub no_query_explained : (schema text statistics : List ℕ) (S : Schema) (r : Refusal) → schema_of schema ≡ Ok S → IsNoQuery text S r → IsNotExplained schema text statistics r
 no_query_explained schema text statistics S refusal.Memory is h = tt

@@ -4,4 +4,5 @@ pub mod Completeness
 pub mod Explaining
 pub mod Loaded
 pub mod Planning
+pub mod Plans
 pub mod Prepared

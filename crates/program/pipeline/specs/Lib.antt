@@ -1,5 +1,6 @@
 pub mod Certified
 pub mod EndToEnd
+pub mod Execution
 pub mod Explained
 pub mod Lines
 pub mod Planned

@@ -6,10 +6,10 @@ ghost use Rattle.query.specs.Bound.{IsBoundOver};
 ghost use Rattle.answer_text.specs.AnswerText.{HasFront};
 ghost use Rattle.pipeline.specs.EndToEnd.{ByCertificate, ByPlan, ByMeaning, IsAnswerFault};
 
+use crate::execution::write_answer;
 use crate::refusal::Refusal;
 use answer_text::{AnswerOutput, write_rows};
 use checker::{Checked, check};
-use executor::write_answer;
 use oracle::meaning;
 use planner::{Exploration, plan};
 use query::BoundQuery;

@@ -4,6 +4,7 @@
 mod answer;
 mod certified;
 mod commands;
+pub mod execution;
 pub mod explained;
 mod planned;
 mod preparation;

@@ -1,6 +1,5 @@
 -- What passes and single lines do to a log, one after the other.
-use Rattle.std.proofs.Common.{◌≡◌, ◌↔◌, ap, ◌∙◌, subst, ℕ, ◌+◌, ◌-◌, ◌<◌, ◌≤◌, true, false, List, length, IsTrue, nat_le, arith}
-use Rattle.std.proofs.lemmas.Bool.{leb-false}
+use Rattle.std.proofs.Common.{◌≡◌, ◌↔◌, ap, ◌∙◌, subst, ℕ, ◌+◌, ◌-◌, ◌≤◌, true, false, List, length, IsTrue, arith}
 use Rattle.std.proofs.lemmas.List.{length-append}
 use Rattle.query.specs.declared.query.TableInstance.{TableInstance}
 use Rattle.derivation.specs.Logs.{Log}
@@ -19,13 +18,6 @@ not_closed instances E m lacks = (λ never. absurd (let e : false ≡ true = nev
 
 pub longer : (a b : Logged) → Grows a b → length a.log ≤ length b.log
 longer a b grows = let count : length b.log ≡ length grows.more + length a.log = ap length grows.log ∙ length-append grows.more a.log in omega (arith, count)
-
--- less room is left after a pass and a line that is added
-pub room_falls : (limit : ℕ) (a b c : Logged) → Grows a b → nat_le limit (length b.log) ≡ false → length b.log < length c.log → limit - length c.log < limit - length a.log
-room_falls limit a b c grows room more =
-    let pass : length a.log ≤ length b.log = longer a b grows in
-    let some : length b.log < limit = leb-false limit (length b.log) room in
-    omega (arith, pass, some, more)
 
 -- so far, and what comes then
 pub record IsGrown (limit : ℕ) (a b : Logged) : Type 0 where

@@ -1,8 +1,14 @@
-//! A log grows by each rule at each binding, within a limit.
+//! A log grows by rules, within a limit: by those that only make expressions simpler, and by each rule at each binding.
+//!
+//! Nothing is promised of which lines `simplify` adds: the log takes only lines that may stand, so its code is kept from panics and endless
+//! loops alone.
 #![tactic(auto)]
 
 mod bindings;
 mod exploring;
+mod keys;
 mod queue;
+mod simplifying;
 
 pub use exploring::{apply_all, explore};
+pub use simplifying::simplify;

@@ -1,7 +1,7 @@
 -- What is founded stands directly before a result: what each step of a call does to a log, they do together.
-use Rattle.std.proofs.Common.{◌≡◌, refl, ap, sym, ◌∙◌, subst, inl, inr, ℕ, ◌+◌, ◌<◌, ◌≤◌, Bool, true, false, not, ◌&&◌, ◌||◌, List, [], ◌∷◌, ◌++◌, length, max, Some, Result, Ok, Err, OnOk, arith}
+use Rattle.std.proofs.Common.{◌≡◌, refl, ap, sym, ◌∙◌, subst, ℕ, ◌+◌, ◌<◌, ◌≤◌, Bool, true, false, not, List, [], ◌∷◌, ◌++◌, length, max, Some, Result, Ok, Err, OnOk, arith}
 use Rattle.std.specs.List.{list_all}
-use Rattle.std.proofs.lemmas.Bool.{and_parts, and_from}
+use Rattle.std.proofs.lemmas.Bool.{and_parts, and_from, or_left, or_right, not-true, not_from_false}
 use Rattle.std.proofs.lemmas.List.{length-append}
 use Rattle.std.proofs.lemmas.List.Folds.{list_all-append}
 use Rattle.query.specs.declared.query.TableInstance.{TableInstance}
@@ -33,40 +33,24 @@ founding-steps (Unites g h s) is = cc
 founding-steps (Alike i j) is = cc
 founding-steps (Gives g m f) is = cc
 
-or-first : (a b : Bool) → a ≡ true → (a || b) ≡ true
-or-first true b is = refl
-or-first false b is = cc
-
-or-second : (a b : Bool) → b ≡ true → (a || b) ≡ true
-or-second true b is = refl
-or-second false b is = is
-
-not-true : (b : Bool) → b ≡ false → not b ≡ true
-not-true true is = cc
-not-true false is = refl
-
-not-false : (b : Bool) → not b ≡ true → b ≡ false
-not-false true is = cc
-not-false false is = refl
-
 -- lines that all found something are direct
 founding-direct : (lines : List Line) → list_all founds_something lines ≡ true → are_direct lines ≡ true
 founding-direct [] all = refl
-founding-direct (l ∷ lines) all = let both = and_parts _ _ all in and_from _ _ (or-first _ _ (founding-steps l both.0)) (founding-direct lines both.1)
+founding-direct (l ∷ lines) all = let both = and_parts _ _ all in and_from _ _ (or_left _ _ (founding-steps l both.0)) (founding-direct lines both.1)
 
 -- so are lines of which none does
 nothing-waits : (lines : List Line) → list_all (λ l. not (founds_something l)) lines ≡ true → waits lines ≡ false
 nothing-waits [] all = refl
-nothing-waits (l ∷ lines) all = not-false _ (and_parts _ _ all).0
+nothing-waits (l ∷ lines) all = not-true _ (and_parts _ _ all).0
 
 nothing-direct : (lines : List Line) → list_all (λ l. not (founds_something l)) lines ≡ true → are_direct lines ≡ true
 nothing-direct [] all = refl
-nothing-direct (l ∷ lines) all = let both = and_parts _ _ all in and_from _ _ (or-second _ _ (not-true _ (nothing-waits lines both.1))) (nothing-direct lines both.1)
+nothing-direct (l ∷ lines) all = let both = and_parts _ _ all in and_from _ _ (or_right _ _ (not_from_false _ (nothing-waits lines both.1))) (nothing-direct lines both.1)
 
 -- behind lines of which the last doesn't wait others are direct, or they are behind one that does if their first is a step
 append-direct : (more lines : List Line) → are_direct more ≡ true → are_direct lines ≡ true → waits lines ≡ false → are_direct (more ++ lines) ≡ true
 append-direct [] lines one other last = other
-append-direct (l ∷ []) lines one other last = and_from _ _ (or-second _ _ (not-true _ last)) other
+append-direct (l ∷ []) lines one other last = and_from _ _ (or_right _ _ (not_from_false _ last)) other
 append-direct (l ∷ k ∷ more) lines one other last = let both = and_parts _ _ one in and_from _ _ both.0 (append-direct (k ∷ more) lines both.1 other last)
 
 append-waits : (more lines : List Line) → waits lines ≡ false → waits (more ++ lines) ≡ true → waits more ≡ true
@@ -124,7 +108,7 @@ module _ (limit : ℕ) where
   added_alone a b line room added founds = subst (FoundsAlone limit a) (sym added) (record { grows = grows-by_one a line; within = omega (arith, room); founding = and_from _ _ founds refl })
 
   pub added_nothing : (a b : Logged) (line : Line) → length a.log < limit → b ≡ with_line a line → founds_something line ≡ false → FoundsNothing limit a b
-  added_nothing a b line room added founds = subst (FoundsNothing limit a) (sym added) (record { grows = grows-by_one a line; within = omega (arith, room); founding = and_from _ _ (not-true _ founds) refl })
+  added_nothing a b line room added founds = subst (FoundsNothing limit a) (sym added) (record { grows = grows-by_one a line; within = omega (arith, room); founding = and_from _ _ (not_from_false _ founds) refl })
 
   -- ---- calls
 
@@ -170,7 +154,7 @@ module _ (limit : ℕ) where
   pub step_finishes : (a b c : Logged) (line : Line) → b ≡ with_line a line → is_step line ≡ true → founds_something line ≡ false → FoundsNothing limit b c → Finishes limit a c
   step_finishes a b c line added steps founds next before alone = directly_along before b c (record {
     grows = record { instances = by_one.instances ∙ alone.grows.instances; own = by_one.own ∙ alone.grows.own; more = line ∷ alone.grows.more; log = ap (λ (l : Logged). l.log) added ∙ ap (λ (L : List Line). line ∷ L) alone.grows.log };
-    direct = and_from _ _ (or-first _ _ steps) (founding-direct alone.grows.more alone.founding);
+    direct = and_from _ _ (or_left _ _ steps) (founding-direct alone.grows.more alone.founding);
     done = λ waiting. absurd (let never : false ≡ true = sym founds ∙ waiting in cc);
   }) (nothing_directly b c next) next.within
     where

@@ -1,8 +1,8 @@
 //! Parts of a certificate's text, as they are read.
 
-use certificate_parts::column_lists::columns;
-use certificate_parts::numbers::{number, numbers};
-use certificate_parts::part_fault::{PartFault, PartReason};
+use certificate_text::column_lists::columns;
+use certificate_text::numbers::{number, numbers};
+use certificate_text::part_fault::{PartFault, PartReason};
 use fixtures::{Reporting, differences, push_number};
 use std::alloc::{AllocError, Global};
 use values::Fault;

@@ -9,13 +9,13 @@ use algebra::Expr;
 use certificate::{Certificate, CheckRefusal};
 use checker::{Checked, check};
 use derivation::Line;
-use executor::run;
 use fixtures::{
     COMPANY, DEPT, EMP, QueryReporting, Tables, drop_query, push_number, push_rows,
     query_differences, query_of,
 };
 use frame::frame_of;
 use physical::Plan;
+use pipeline::execution::run;
 use query::{BoundQuery, Query};
 use schema::Schema;
 use std::alloc::{AllocError, Global};

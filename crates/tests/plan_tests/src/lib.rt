@@ -1,4 +1,4 @@
-//! Tests of plans, and of the whole way: `frame`, `memo`, `physical`, `checker`, `executor`, `planner` and `pipeline`.
+//! Tests of plans, and of the whole way: `frame`, `memo`, `physical`, `checker`, `planner` and `pipeline`.
 #![tactic(auto)]
 
 #[cfg(test)]

@@ -10,7 +10,7 @@ use certificate::judging::{judged_log, own_aggregates};
 use certificate::query_order;
 use costs::{Cardinalities, cost};
 use derivation::{Line, Step};
-use explore::apply_all;
+use explore::{apply_all, simplify};
 use fixtures::{
     COMPANY, DEPT, EMP, QueryReporting, Tables, push_number, query_differences, query_of, schema_of,
 };
@@ -25,7 +25,6 @@ use query::ids::id_of;
 use schema::Schema;
 use search::best;
 use seed::seed;
-use simplify::simplify;
 use statistics::Statistics;
 use std::alloc::{AllocError, Global};
 use std::fmt::Write;

@@ -1,5 +1,5 @@
 use Rattle.std.proofs.Common.{length, ap, sym, ◌∙◌}
-use Rattle.statistics.proofs.Json.{items_right, items_wrong}
+use Rattle.statistics.proofs.ItemCounts.{items_right, items_wrong}
 use Rattle.statistics.proofs.entries.items_of.Goals as goal
 
 pub returns-then-items-count : goal.returns-then-items-count

@@ -1,5 +1,5 @@
 use Rattle.std.proofs.Common.{◌∙◌, ap, subst, true}
-use Rattle.certificate_parts.proofs.NumberLists.{texts}
+use Rattle.certificate_text.proofs.NumberLists.{texts}
 use Rattle.certificate_read.specs.LineReading.{line_wording}
 use Rattle.certificate_read.specs.Wordings.{ReadsLine}
 use Rattle.certificate_read.proofs.LineLaws.{line_told}

@@ -1,5 +1,5 @@
 use Rattle.std.proofs.Common.{◌∙◌, ap, subst, Ok}
-use Rattle.certificate_parts.proofs.NumberLists.{texts}
+use Rattle.certificate_text.proofs.NumberLists.{texts}
 use Rattle.certificate_read.specs.NodeReading.{node_wording, node_of}
 use Rattle.certificate_read.specs.Wordings.{ReadsLine, deep}
 use Rattle.certificate_read.proofs.NodeLaws.{node_told}

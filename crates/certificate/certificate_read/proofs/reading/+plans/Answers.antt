@@ -7,7 +7,7 @@ use Rattle.certificate_read.proofs.PlanNodes.{plan_opened, inputs_balanced, next
 use Rattle.certificate_read.proofs.TextLists.{so_far_whole, so_far_next, so_far_read}
 use Rattle.certificate_read.proofs.WordCalls.{fails}
 use Rattle.std.proofs.Common.{◌∷◌}
-use Rattle.certificate_parts.proofs.Exits.{holds_of_fault}
+use Rattle.certificate_text.proofs.Exits.{holds_of_fault}
 use Rattle.certificate_read.specs.TextCalls.{PassesInputs, PassesPlan}
 use Rattle.certificate_read.proofs.PlanFaults.{has_room, inputs_counted, inputs_fit, plan_read, room_left, input_more, input_refused, inputs_passed, inputs_refused, next_before, no_inputs}
 use Rattle.certificate_read.proofs.reading.+plans.Goals as goal

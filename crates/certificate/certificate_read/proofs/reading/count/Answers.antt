@@ -1,12 +1,12 @@
 use Rattle.std.proofs.Common.{◌∙◌, ap, ◌++◌, ◌∷◌, decimal, refl}
-use Rattle.certificate_parts.specs.PartTexts.{is_graphic}
-use Rattle.certificate_parts.proofs.Lacking.{passing_lack}
+use Rattle.certificate_text.specs.PartTexts.{is_graphic}
+use Rattle.certificate_text.proofs.Lacking.{passing_lack}
 use Rattle.certificate_read.proofs.TextCuts.{count_line}
 use Rattle.certificate_read.specs.TextCalls.{text_fault_of}
 use Rattle.certificate_read.proofs.WordCalls.{fails}
 use Rattle.std.proofs.Common.{◌≡◌, subst}
 use Rattle.std.specs.Prelude.{IsUtf8}
-use Rattle.certificate_parts.proofs.Exits.{holds_of_fault}
+use Rattle.certificate_text.proofs.Exits.{holds_of_fault}
 use Rattle.certificate_text.specs.declared.fault.TextReason.TheVariants.{OtherForm}
 use Rattle.certificate_read.specs.TextCalls.{PassesCount, PassesLine}
 use Rattle.certificate_read.specs.TextFaults.{IsOtherCount}

@@ -1,8 +1,8 @@
 use Rattle.std.proofs.Common.{sym, arith}
-use Rattle.certificate_parts.proofs.ConjunctParts.{not_other}
-use Rattle.certificate_parts.proofs.Exits.{not_both, same_found, found_none}
+use Rattle.certificate_text.proofs.ConjunctParts.{not_other}
+use Rattle.certificate_text.proofs.Exits.{not_both, same_found, found_none}
 use Rattle.certificate_read.proofs.TextCuts.{count_uncut, count_word, count_read}
-use Rattle.certificate_parts.proofs.ConjunctParts.{not_unequal}
+use Rattle.certificate_text.proofs.ConjunctParts.{not_unequal}
 use Rattle.certificate_read.proofs.TextCounts.{large}
 use Rattle.certificate_read.proofs.TextCuts.{count_first, count_is, no_count}
 use Rattle.certificate_read.proofs.reading.count_of.Goals as goal

@@ -3,7 +3,7 @@ use Rattle.certificate_text.specs.CertificateText.{line_text}
 use Rattle.certificate_text.specs.Readable.{IsReadableLine}
 use Rattle.certificate_read.proofs.TextLists.{so_far_whole, so_far_next, so_far_read}
 use Rattle.certificate_read.proofs.WordCalls.{fails}
-use Rattle.certificate_parts.proofs.Exits.{holds_of_fault}
+use Rattle.certificate_text.proofs.Exits.{holds_of_fault}
 use Rattle.certificate_read.specs.LineReading.{line_wording}
 use Rattle.certificate_read.specs.TextCalls.{PassesDerivation}
 use Rattle.certificate_read.specs.TextFaults.{IsFaultOfDerivation, IsNextFault, IsOther}

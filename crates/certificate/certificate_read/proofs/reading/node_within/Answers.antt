@@ -2,7 +2,7 @@ use Rattle.std.proofs.Common.{◌+◌, sym, ◌∙◌, ap, subst}
 use Rattle.std.proofs.lemmas.Bool.{lt-ltb, false≢true}
 use Rattle.certificate_read.specs.TextReading.{IsBalanced}
 use Rattle.std.proofs.Common.{suc, ◌∷◌}
-use Rattle.certificate_parts.proofs.Exits.{holds_of_fault}
+use Rattle.certificate_text.proofs.Exits.{holds_of_fault}
 use Rattle.certificate_read.specs.TextCalls.{PassesNodeOf}
 use Rattle.certificate_read.proofs.PlanFaults.{few_inputs, node_refused, node_taken, size_refused}
 use Rattle.certificate_read.proofs.reading.node_within.Goals as goal

@@ -6,7 +6,7 @@ use Rattle.certificate_read.specs.TextReading.{IsWanted}
 use Rattle.certificate_text.proofs.PlanTexts.{some_nodes}
 use Rattle.certificate_read.proofs.WordCalls.{gives_less}
 use Rattle.std.proofs.Common.{[]}
-use Rattle.certificate_parts.proofs.Exits.{holds_of_fault}
+use Rattle.certificate_text.proofs.Exits.{holds_of_fault}
 use Rattle.certificate_read.specs.TextCalls.{PassesWholePlan}
 use Rattle.certificate_read.proofs.PlanCounts.{count_unread, none_counted, plan_counted}
 use Rattle.certificate_read.proofs.reading.plan.Goals as goal

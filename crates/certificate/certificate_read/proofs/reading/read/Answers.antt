@@ -7,7 +7,7 @@ use Rattle.std.proofs.Common.{Result}
 use Rattle.std.specs.Prelude.{IfErr}
 use Rattle.values.specs.declared.fault.Fault.{Fault}
 use Rattle.certificate.specs.declared.certificate.Certificate.{Certificate}
-use Rattle.certificate_parts.proofs.Exits.{holds_of_fault}
+use Rattle.certificate_text.proofs.Exits.{holds_of_fault}
 use Rattle.certificate_text.specs.declared.fault.TextRefusal.{TextRefusal}
 use Rattle.certificate_read.specs.TextCalls.{RefusesText}
 use Rattle.certificate_read.proofs.reading.read.Goals as goal

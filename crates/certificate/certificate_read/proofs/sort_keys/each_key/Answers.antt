@@ -1,5 +1,5 @@
 use Rattle.std.proofs.Common.{◌∙◌}
-use Rattle.certificate_parts.proofs.PartLists.{place_more, place_past, place_none}
+use Rattle.certificate_text.proofs.PartLists.{place_more, place_past, place_none}
 use Rattle.certificate_text.specs.Readable.{IsShortKey}
 use Rattle.certificate_read.specs.NodeReading.{key_text}
 use Rattle.certificate_read.proofs.KeyTexts.{any}

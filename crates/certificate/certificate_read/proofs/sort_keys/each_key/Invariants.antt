@@ -1,6 +1,6 @@
 use Rattle.std.proofs.Common.{take}
-use Rattle.certificate_parts.proofs.NumberLists.{texts}
-use Rattle.certificate_parts.proofs.PartLists.{EachSoFar}
+use Rattle.certificate_text.proofs.NumberLists.{texts}
+use Rattle.certificate_text.proofs.PartLists.{EachSoFar}
 use Rattle.certificate_text.specs.Readable.{IsShortKey}
 use Rattle.certificate_read.specs.NodeReading.{key_text}
 use Rattle.certificate_read.proofs.sort_keys.each_key.Given as goal

@@ -1,6 +1,6 @@
 use Rattle.std.proofs.Common.{◌∙◌, ap, codes}
-use Rattle.certificate_parts.proofs.NumberLists.{texts}
-use Rattle.certificate_parts.proofs.TermParts.{no_text}
+use Rattle.certificate_text.proofs.NumberLists.{texts}
+use Rattle.certificate_text.proofs.TermParts.{no_text}
 use Rattle.certificate_read.proofs.KeyTexts.{keys_read}
 use Rattle.certificate_read.proofs.sort_keys.keys_of.Goals as goal
 

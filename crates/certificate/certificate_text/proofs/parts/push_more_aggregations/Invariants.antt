@@ -1,6 +1,6 @@
 use Rattle.std.proofs.Common.{◌≡◌, ◌++◌, codes, flat_map, take}
 use Rattle.std.specs.List.{AllByRecursion}
-use Rattle.certificate_parts.specs.Spelled.{IsShortAggregation}
+use Rattle.certificate_text.specs.Spelled.{IsShortAggregation}
 use Rattle.certificate_text.specs.CertificateText as spec
 use Rattle.certificate_text.proofs.parts.push_more_aggregations.Given as goal
 

@@ -1,7 +1,0 @@
-use Rattle.certificate_parts.proofs.NumberLists.{texts}
-use Rattle.certificate_parts.proofs.AggregateLists.{WordsSoFar}
-use Rattle.certificate_parts.proofs.aggregates.column_words.Given as goal
-
--- the words so far
-abbrev pub invariant-loop-part : goal.invariant-loop-part
-invariant-loop-part l = WordsSoFar l.parts l.part-index (texts l.words.items)

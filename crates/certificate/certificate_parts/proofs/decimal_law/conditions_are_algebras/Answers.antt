@@ -1,5 +1,0 @@
-use Rattle.certificate_parts.proofs.WideConditions.{conditions_same}
-use Rattle.certificate_parts.proofs.decimal_law.conditions_are_algebras.Goals as goal
-
-pub returns : goal.returns
-returns c = conditions_same

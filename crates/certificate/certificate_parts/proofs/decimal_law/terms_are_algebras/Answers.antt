@@ -1,5 +1,0 @@
-use Rattle.certificate_parts.proofs.TermParts.{algebras_text}
-use Rattle.certificate_parts.proofs.decimal_law.terms_are_algebras.Goals as goal
-
-pub returns : goal.returns
-returns c = algebras_text

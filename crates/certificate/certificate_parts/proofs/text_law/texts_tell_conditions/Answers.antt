@@ -1,8 +1,0 @@
-use Rattle.certificate_parts.proofs.DifferentTexts.{conjuncts_rise, texts_differ}
-use Rattle.certificate_parts.proofs.text_law.texts_tell_conditions.Goals as goal
-
-pub returns-clause-told : goal.returns-clause-told
-returns-clause-told c = texts_differ
-
-pub returns-clause-conjuncts : goal.returns-clause-conjuncts
-returns-clause-conjuncts c = conjuncts_rise

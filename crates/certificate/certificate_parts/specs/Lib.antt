@@ -1,9 +1,0 @@
-pub mod ConditionReading
-pub mod Conditions
-pub mod DecimalNumerals
-pub mod DifferentTexts
-pub mod ListReading
-pub mod Numerals
-pub mod Parts
-pub mod PartTexts
-pub mod Spelled
