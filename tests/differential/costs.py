@@ -15,7 +15,7 @@ from layout import Layout, Lines
 from random_plans import OPERATORS, random_tables
 from random_sql import Maker, random_statistics, statistics_text
 
-SEED, ROUND = 39, 200
+SEED, ROUND = 39, 150
 NUMBERS = [0, 1, 2, 3, 10, 11, 99, 1000, 999_999, MILLION, 12_345_678, 10**12, 2**32, 2**63, MOST - 1, MOST]
 
 
@@ -58,5 +58,6 @@ def cases(program, rng, counts):
 
 
 def told(counts):
-    nodes = ", ".join(f"{counts[name]} {name}" for name in OPERATORS)
-    return f"{counts['plans']:,} plans explained, beside a model of docs/COSTS.md ({nodes}); {counts['past']} with a number cut to 2^64 - 1"
+    least = min(OPERATORS, key=counts.__getitem__)
+    nodes = f"{sum(counts[name] for name in OPERATORS):,} nodes, {counts[least]} of the least, {least}"
+    return f"{counts['plans']:,} plans explained, of {nodes}, beside a model of docs/COSTS.md; {counts['past']} with a number cut to 2^64 - 1"

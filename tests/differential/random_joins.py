@@ -133,5 +133,5 @@ def cases(program, rng, counts):
 
 
 def told(counts):
-    ways = ", ".join(f"{counts[kind, way]} {kind} {way}" for kind in KINDS for way in ("loop", "hash", "merge", "iloop") if counts[kind, way])
-    return f"{counts['joins']:,} joins ({ways}) with {counts['rows']:,} rows, beside definitions of its own and sqlite3"
+    ways = ", ".join(f"{sum(counts[kind, way] for kind in KINDS)} by {way}" for way in ("loop", "hash", "merge", "iloop"))
+    return f"{counts['joins']:,} joins, {ways}, with {counts['rows']:,} rows, beside definitions of its own and sqlite3"

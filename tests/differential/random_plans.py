@@ -16,7 +16,7 @@ from layout import Layout, Lines
 from plan_drawing import Drawing
 from random_sql import Maker, random_contents, random_statistics, statistics_text
 
-SEED, ROUND, PLANS = 34, 150, 3
+SEED, ROUND, PLANS = 34, 120, 3
 NAMES = {
     "t": [("a", "INT"), ("b", "INT"), ("c", "TEXT"), ("d", "INT")],
     "u": [("e", "INT"), ("f", "TEXT"), ("g", "INT")],
@@ -105,5 +105,6 @@ OPERATORS = "scan iscan filter filtersub cut loop hash merge iloop hgroup sgroup
 
 
 def told(counts):
-    nodes = ", ".join(f"{counts[name]} {name}" for name in OPERATORS)
-    return f"{counts['plans']:,} plans with {counts['rows']:,} rows, beside definitions of its own and sqlite3 ({nodes}); {counts['too long']} too long"
+    least = min(OPERATORS, key=counts.__getitem__)
+    nodes = f"{sum(counts[name] for name in OPERATORS):,} nodes, {counts[least]} of the least, {least}"
+    return f"{counts['plans']:,} plans of {nodes}, with {counts['rows']:,} rows, beside definitions of its own and sqlite3; {counts['too long']} too long"

@@ -136,8 +136,8 @@ class Growth:
     def make_group(self):
         found = []
         for at in self.expressions("distinct"):
-            for inner in self.lines.members(self.lines.expression(at)[1]):
-                if self.lines.expression(inner)[0] == "keep" and self.lines.expression(inner)[1]:
+            for inner in self.expressions("keep"):
+                if self.lines.class_of(inner) == self.lines.expression(at)[1] and self.lines.expression(inner)[1]:
                     found.append((at, inner))
         if found:
             line, inner = self.rng.choice(found)
