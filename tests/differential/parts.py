@@ -92,14 +92,14 @@ def outcome(part, program, seconds, seed):
         return Outcome("broke off", f"{type(error).__name__}: {error}")
 
 
-def shown(fault):
+def shown(fault, most):
     """A difference, indented, without its end where it is long."""
     lines = fault.rstrip().split("\n")
-    more = [f".. and {len(lines) - MOST_SHOWN} lines more"] if len(lines) > MOST_SHOWN else []
-    return "".join(f"    {line}\n" for line in lines[:MOST_SHOWN] + more)
+    more = [f".. and {len(lines) - most} lines more"] if len(lines) > most else []
+    return "".join(f"    {line}\n" for line in lines[:most] + more)
 
 
-def run_all(parts, program, seconds, seed):
+def run_all(parts, program, seconds, seed, most_shown=MOST_SHOWN):
     """Runs the parts, a line each, and gives how many failed. The seconds are shared out among those that can go on."""
     failed, until, program = 0, seconds, str(pathlib.Path(program).resolve())
     for place, part in enumerate(parts):
@@ -110,6 +110,6 @@ def run_all(parts, program, seconds, seed):
         until -= took if part.is_random else 0
         failed += bool(fault)
         print(f"{part.name:9} {told}: {took:.1f} s, {'FAILED' if fault else 'ok'}", flush=True)
-        print(shown(fault) if fault else "", end="", flush=True)
+        print(shown(fault, most_shown) if fault else "", end="", flush=True)
     print(f"{len(parts) - failed} passed, {failed} failed", flush=True)
     return failed

@@ -19,6 +19,8 @@ from rule_book import BOOK, Unfit, has_subquery
 SEED, ROUND, PLANS, FAULTS = 19, 100, 2, 4
 MOST_LINES = 120
 """A query with more lines than these is left out, for the time that it takes to look for matches in them."""
+WEIGHTS = [1, 6, 1, 4, 2, 2, 2, 1, 1, 5, 1, 1]
+"""How often each rule is tried, in the order of the book: more often where fewer lines fit."""
 NEVER = ("null", ("i", 1))
 """A condition that no query has."""
 
@@ -70,31 +72,34 @@ class Growth:
 
     # ---- matches
 
-    def match(self, code):
-        """Lines that a rule may be applied to: of two, the second is of the class that the first stands on."""
-        top = self.one(self.expressions())
-        if BOOK[code][1] == 1:
+    def match(self, code, *kinds):
+        """Lines that a rule may be applied to, the first of these kinds: of two, the second is of the class that the first stands on."""
+        top = self.one(self.expressions(*kinds))
+        if top is None:
+            return None
+        if BOOK[code].count == 1:
             return [top]
         below = inputs_of(self.lines.expression(top))
         return [top, self.one(self.lines.members(below[0]))] if below else None
 
     def given(self, code, uses):
         """What the rule book gives."""
-        return BOOK[code][0](self.lines, *map(self.lines.expression, uses))
+        return BOOK[code].gives(self.lines, *map(self.lines.expression, uses))
 
     def by_rule(self):
         """A line by a rule that fits, where one is found soon."""
-        code = self.rng.choice(list(BOOK))
-        for _ in range(60):
-            uses = self.match(code)
+        code = self.rng.choices(list(BOOK), WEIGHTS)[0]
+        for _ in range(20):
+            uses = self.match(code, BOOK[code].kind)
+            if uses is None:
+                return
             try:
-                shape = self.given(code, uses) if uses else None
+                shape = self.given(code, uses)
             except Unfit:
                 continue
-            if shape is not None:
-                self.apply(code, uses, shape)
-                self.counts[code] += 1
-                return
+            self.apply(code, uses, shape)
+            self.counts[code] += 1
+            return
 
     # ---- what a rule takes back to what is there
 
@@ -155,6 +160,15 @@ class Growth:
             lower = self.lines.push(("F", ("semi" if len(first) == 1 else "anti", *first, a, b)))
             self.lines.push(("F", ("select", self.rng.choice(plain), lower)))
 
+    def reading_out(self):
+        """A join whose condition reads a column of a third class, below a join with that class, which no plan names: J2's condition fails of it."""
+        gets = self.expressions("get")
+        if len({self.lines.expression(at) for at in gets}) > 2:
+            a, b, c = self.rng.sample(sorted({self.lines.expression(at): at for at in gets}.values()), 3)
+            first, third = (("c", self.rng.choice(self.lines.columns(g))) for g in (a, c))
+            lower = self.lines.push(("F", ("join", [("compare", "=", first, third)], a, b)))
+            self.lines.push(("F", ("join", [], lower, c)))
+
     # ---- facts
 
     def facts_by(self, line):
@@ -178,12 +192,15 @@ class Growth:
         """One or more facts of a class."""
         for _ in range(4):
             line = self.one(self.expressions("get", "get", "select", "keep", "distinct", "group"))
+            g = self.lines.class_of(line)
             for fact in self.facts_by(line):
-                self.lines.push(("L", self.lines.class_of(line), line, fact))
-                self.counts["facts"] += 1
+                if fact not in self.lines.facts_of(g):
+                    self.lines.push(("L", g, line, fact))
+                    self.counts["facts"] += 1
 
     def grow(self, steps):
-        ways = [self.by_rule] * 6 + [self.learn] * 2 + [self.split_select, self.split_keep, self.keep_all, self.make_distinct, self.make_group, self.semi]
+        ways = [self.by_rule] * 6 + [self.learn] * 2 + [self.split_select, self.split_keep, self.keep_all, self.make_distinct, self.make_group]
+        ways += [self.semi, self.reading_out]
         for _ in range(steps):
             self.rng.choice(ways)()
 

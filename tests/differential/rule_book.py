@@ -3,6 +3,8 @@
 What a rule gives is a shape: an expression whose inputs are classes or shapes, or a bare class.
 """
 
+import collections
+
 from certificates import conjuncts
 
 
@@ -128,9 +130,19 @@ def group_is_distinct(_, top):
     return ("distinct", ("keep", top[1], top[3]))
 
 
+Rule = collections.namedtuple("Rule", "gives count kind")
 BOOK = {
-    "J1": (join_commutes, 1), "J2": (join_associates, 2), "S1": (selects_merge, 2), "S2": (select_below_join, 2), "S3": (select_into_join, 2),
-    "S4": (condition_below_join, 1), "S5": (select_below_semi, 2), "K1": (keeps_merge, 2), "K2": (keep_of_all, 1), "K3": (keep_below_join, 2),
-    "D1": (distinct_of_keyed, 1), "G1": (group_is_distinct, 1),
-}  # fmt: skip
-"""Of each code its rule, and to how many lines it is applied."""
+    "J1": Rule(join_commutes, 1, "join"),
+    "J2": Rule(join_associates, 2, "join"),
+    "S1": Rule(selects_merge, 2, "select"),
+    "S2": Rule(select_below_join, 2, "select"),
+    "S3": Rule(select_into_join, 2, "select"),
+    "S4": Rule(condition_below_join, 1, "join"),
+    "S5": Rule(select_below_semi, 2, "select"),
+    "K1": Rule(keeps_merge, 2, "keep"),
+    "K2": Rule(keep_of_all, 1, "keep"),
+    "K3": Rule(keep_below_join, 2, "keep"),
+    "D1": Rule(distinct_of_keyed, 1, "distinct"),
+    "G1": Rule(group_is_distinct, 1, "group"),
+}
+"""Of each code what the rule gives, to how many lines it is applied, and what the first of them is."""
