@@ -205,6 +205,12 @@ class Shown:
     def conjuncts(self, conditions):
         return " AND ".join(map(self.condition, conditions)) or "true"
 
+    def lists(self, node):
+        """The conditions of a join; an antijoin has two lists."""
+        if node["kind"] == "anti":
+            return f"sure {self.conjuncts(node['sure'])} maybe {self.conjuncts(node['maybe'])}"
+        return self.conjuncts(node["sure"])
+
     def index(self, node):
         table, columns = self.layout.table(node["instance"]), self.layout.index_columns(node["instance"], node["index"])
         return f"{table.name} {self.layout.alias(node['instance'])} ({self.columns(columns)})"
@@ -221,9 +227,9 @@ class Shown:
             "filter": lambda: self.conjuncts(node["sure"]),
             "filtersub": lambda: self.conjuncts(node["sure"]),
             "cut": lambda: self.columns(node["columns"]),
-            "loop": lambda: f"{node['kind']} {self.conjuncts(node['sure'])}",
-            "hash": lambda: f"{node['kind']} {self.conjuncts(node['sure'])}",
-            "iloop": lambda: f"{node['kind']} {self.index(node)} {self.conjuncts(node['sure'])}",
+            "loop": lambda: f"{node['kind']} {self.lists(node)}",
+            "hash": lambda: f"{node['kind']} {self.lists(node)}",
+            "iloop": lambda: f"{node['kind']} {self.index(node)} {self.lists(node)}",
             "merge": lambda: f"{self.column(node['left'])} = {self.column(node['right'])} {self.conjuncts(node['sure'])}",
             "hgroup": lambda: f"{self.columns(node['columns'])} {self.aggregates(node)}",
             "sgroup": lambda: f"{self.columns(node['columns'])} {self.aggregates(node)}",
