@@ -1,5 +1,5 @@
-"""The worked queries of crates/tests/plan_tests/src/answers.rt over the tables of examples/hr: the answer that stands there, what `query` and `meaning`
-write, and sqlite3's answer have to be the same rows.
+"""The worked queries of crates/tests/plan_tests/src/answers.rt over the tables of examples/hr: the answer that stands there, what `query` and
+`meaning` write, and sqlite3's answer have to be the same rows.
 
 Rows are compared up to order, and in order where the query has an ORDER BY. A query that is refused there has to be refused by both commands.
 """
@@ -35,20 +35,21 @@ def fault(program, database, query, answer, counts):
     """Where the commands or sqlite3 say something else than the answer."""
     program.write("query.sql", query)
     said = {command: program.say(command, EXAMPLE / "schema.json", "query.sql", EXAMPLE / "data") for command in ("query", "meaning")}
-    header, *rows = answer.split(";")
+    header, *wanted = [text.split(",") for text in answer.split(";")]
+    header = ",".join(header)
     for command, its in said.items():
         if header.startswith("refused"):
             is_same = (its.status, its.error) == (2, header)
         else:
-            is_same = its.status == 0 and its.output.split("\n", 1)[0] == header and agree(query, [row.split(",") for row in rows], rows_in(its.output))
+            is_same = its.status == 0 and its.output.startswith(f"{header}\n") and agree(query, wanted, rows_in(its.output))
         if not is_same:
             return f"{command}: {query}\n  wanted: {answer}\n  given:  {its.output}{its.error}"
     if header.startswith("refused"):
         counts["refused"] += 1
         return ""
-    wanted = sqlite_rows(database, query)
-    counts["rows"] += len(wanted)
-    return "" if agree(query, wanted, [row.split(",") for row in rows]) else f"sqlite3: {query}\n  wanted: {answer}\n  given:  {wanted}"
+    theirs = sqlite_rows(database, query)
+    counts["rows"] += len(theirs)
+    return "" if agree(query, wanted, theirs) else f"sqlite3: {query}\n  wanted: {answer}\n  given:  {theirs}"
 
 
 def cases(program, _, counts):
@@ -62,4 +63,4 @@ def cases(program, _, counts):
 
 
 def told(counts):
-    return f"{counts['queries']:,} worked queries with {counts['rows']:,} rows by query and meaning, beside sqlite3; {counts['refused']} of them refused"
+    return f"{counts['queries']:,} worked queries with {counts['rows']:,} rows by query and meaning, beside sqlite3; {counts['refused']} refused"

@@ -1,7 +1,8 @@
-"""Damaged certificates, handed to `check` and `run`: a byte put to another value, a text that ends early, and random changes of texts with every kind of
-line. `check` has to say of each the code and the line that a reader of these tests says (text_reader.py).
+"""Damaged certificates, handed to `check` and `run`: a byte put to another value, a text that ends early, and random changes of texts with every kind
+of line. `check` has to say of each the code and the line that a reader of these tests says (text_reader.py).
 
-A text that is still a certificate's has to be accepted, or refused with a code of its lines; and where it is accepted, `run` has to give the query's rows.
+A text that is still a certificate's has to be accepted, or refused with a code of its lines; and where it is accepted, `run` has to give the query's
+rows.
 """
 
 import itertools
@@ -65,40 +66,53 @@ end
 """
 
 
-def damaged(source, text):
+BYTES = [b"0", b"1", b",", b";", b" ", b"\n", b"(", b")", b"-", b"c", b"\xc3\xa4"]
+NUMBERS = [b"4294967295", b"4294967296", b"9223372036854775808", b"99999999999999999999999", b"0", b"00", b"200001"]
+
+
+def with_byte(rng, text):
+    """The text without a byte, with another one in its place, or with one more."""
+    at = rng.randrange(len(text) + 1)
+    return text[:at] + rng.choice([b"", bytes([rng.randrange(256)]), rng.choice(BYTES) + text[at : at + 1]]) + text[at + 1 :]
+
+
+def with_line(rng, text):
+    """The text without a line, or with a line once more elsewhere."""
+    lines = text.split(b"\n")
+    line, to = rng.randrange(len(lines)), rng.randrange(len(lines))
+    return b"\n".join(rng.choice([lines[:line] + lines[line + 1 :], lines[:to] + [lines[line]] + lines[to:]]))
+
+
+def with_words(rng, text):
+    """The text with two words in each other's place."""
+    words = text.split(b" ")
+    a, b = rng.randrange(len(words)), rng.randrange(len(words))
+    words[a], words[b] = words[b], words[a]
+    return b" ".join(words)
+
+
+def with_number(rng, text):
+    """The text with another number for a digit, as one past a range."""
+    digits = [place for place, byte in enumerate(text) if chr(byte).isdigit()]
+    if not digits:
+        return text
+    place = rng.choice(digits)
+    return text[:place] + rng.choice(NUMBERS) + text[place + 1 :]
+
+
+def with_depth(rng, text):
+    """The text with deep conditions, or with a deep plan."""
+    opened, closed = rng.choice([254, 255, 256, 300]), rng.choice([255, 256])
+    deep = rng.choice([1003, 1010, 1023, 1024])
+    if rng.random() < 0.5:
+        return text.replace(b"[null(c1)]", b"[" + b"not(" * opened + b"null(c1)" + b")" * closed + b"]")
+    return text.replace(b"plan 20\n", b"plan %d\n" % (20 + deep) + b"sort 0a\n" * deep)
+
+
+def damaged(rng, text):
     """The text with a random change or a few."""
-    for _ in range(source.choice([1, 1, 1, 2, 3])):
-        lines = text.split(b"\n")
-        at = source.randrange(len(text) + 1)
-        kind = source.randrange(9)
-        if kind == 0:
-            text = text[:at] + text[at + 1 :]
-        elif kind == 1:
-            text = text[:at] + source.choice([b"0", b"1", b",", b";", b" ", b"\n", b"(", b")", b"-", b"c", b"\xc3\xa4"]) + text[at:]
-        elif kind == 2:
-            text = text[:at] + bytes([source.randrange(256)]) + text[at + 1 :]
-        elif kind == 3:
-            line = source.randrange(len(lines))
-            text = b"\n".join(lines[:line] + lines[line + 1 :])
-        elif kind == 4:
-            line, to = source.randrange(len(lines)), source.randrange(len(lines))
-            text = b"\n".join(lines[:to] + [lines[line]] + lines[to:])
-        elif kind == 5:
-            words = text.split(b" ")
-            a, b = source.randrange(len(words)), source.randrange(len(words))
-            words[a], words[b] = words[b], words[a]
-            text = b" ".join(words)
-        elif kind == 6:
-            digits = [place for place, byte in enumerate(text) if chr(byte).isdigit()]
-            if digits:
-                place = source.choice(digits)
-                more = source.choice([b"4294967295", b"4294967296", b"9223372036854775808", b"99999999999999999999999", b"0", b"00", b"200001"])
-                text = text[:place] + more + text[place + 1 :]
-        elif kind == 7:
-            text = text.replace(b"[null(c1)]", b"[" + b"not(" * source.choice([254, 255, 256, 300]) + b"null(c1)" + b")" * source.choice([255, 256]) + b"]")
-        else:
-            deep = source.choice([1003, 1010, 1023, 1024])
-            text = text.replace(b"plan 20\n", b"plan %d\n" % (20 + deep) + b"sort 0a\n" * deep)
+    for _ in range(rng.choice([1, 1, 1, 2, 3])):
+        text = rng.choice([with_byte, with_byte, with_byte, with_line, with_line, with_words, with_number, with_depth, with_depth])(rng, text)
     return text
 
 

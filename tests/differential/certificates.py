@@ -1,9 +1,10 @@
 """Certificates as values of Python, by docs/CERTIFICATES.md: how they are spelt, and a reader of certificates that are known to be right.
 
 A term is ("c", column), ("i", number), ("t", text) or ("n", None). A condition is ("compare", sign, term, term), ("null", term), ("not", condition),
-("and", conditions), ("or", conditions), ("exists", class) or ("in", term, class, column). An expression begins with its word, and ends with the classes
-that it stands on; of a get it is ("get", instance). A step is (rule, pick, uses, makes). A line is ("F", expression), ("A", class, step, expression),
-("S", class, class, step), ("G", line, line) or ("L", class, line, fact). A node of a plan is a dictionary with its name, its parameters and its inputs.
+("and", conditions), ("or", conditions), ("exists", class) or ("in", term, class, column). An expression begins with its word, and ends with the
+classes that it stands on; of a get it is ("get", instance). A step is (rule, pick, uses, makes). A line is ("F", expression), ("A", class, step,
+expression), ("S", class, class, step), ("G", line, line) or ("L", class, line, fact). A node of a plan is a dictionary with its name, its parameters
+and its inputs.
 """
 
 import re

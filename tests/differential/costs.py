@@ -1,11 +1,11 @@
-"""What `explain` prints of random queries by random statistics, beside a model of docs/COSTS.md (cost_model.py): the nodes with their parameters, the rows
-of each and its cost, to the byte, as lines and as a graph.
+"""What `explain` prints of random queries by random statistics, beside a model of docs/COSTS.md (cost_model.py): the nodes with their parameters, the
+rows of each and its cost, to the byte, as lines and as a graph.
 
-The plan and its lines are read from the certificate that `plan` writes by the same statistics, so both commands have to speak of one plan. The numbers of
-the statistics are below 5,000, or any of 64 bits, with 0 and the greatest among them, and past which all are cut.
+The plan and its lines are read from the certificate that `plan` writes by the same statistics, so both commands have to speak of one plan. The
+numbers of the statistics are below 5,000, or any of 64 bits, with 0 and the greatest among them, and past which all are cut.
 
-Only what the planner chooses is seen. Plans that it doesn't choose, semijoins and antijoins and the rows of classes that no plan names are not reached:
-by_driver/costs.py has them, with the toolchain.
+Only what the planner chooses is seen. Plans that it doesn't choose, semijoins and antijoins and the rows of classes that no plan names are not
+reached: by_driver/costs.py has them, with the toolchain.
 """
 
 from certificates import nodes_of, read_certificate

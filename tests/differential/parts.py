@@ -1,8 +1,8 @@
 """The parts of tests/run: scripts that take a program, and modules of differential tests.
 
-A module has SEED, `cases` (what is wrong of each case of a round, or nothing, by a source of random numbers) and `told` (what was compared, in words). A part
-with a seed goes on, round by round, until its time is used, but through its first round in any case. The source of a round is of the seed and the round's
-number, so each round asks the same again.
+A module has SEED, `cases` (what is wrong of each case of a round, or nothing, by a source of random numbers) and `told` (what was compared, in
+words). A part with a seed goes on, round by round, until its time is used, but through its first round in any case. The source of a round is of the
+seed and the round's number, so each round asks the same again.
 """
 
 import collections

@@ -1,7 +1,8 @@
 """Random queries planned by random statistics: `check` has to accept each certificate that `plan` writes, and the rows that `run` gives by it have to
 be sqlite3's.
 
-The statistics are of tables of any size, from none to 2^64 - 1 rows, so plans of every kind come up. Half of the queries have joins that equate columns.
+The statistics are of tables of any size, from none to 2^64 - 1 rows, so plans of every kind come up. Half of the queries have joins that equate
+columns.
 """
 
 from common import ACCEPTED, TOO_LARGE, agree, rows_in, sqlite_database, sqlite_rows, unlike
@@ -43,4 +44,5 @@ def cases(program, rng, counts):
 
 
 def told(counts):
-    return f"{counts['queries']:,} queries planned, checked and run, {counts['lines']:,} lines, {counts['rows']:,} rows, beside sqlite3; {counts['too large']} too large"
+    lines = f"{counts['lines']:,} lines, {counts['rows']:,} rows"
+    return f"{counts['queries']:,} queries planned, checked and run, {lines}, beside sqlite3; {counts['too large']} too large"

@@ -1,6 +1,7 @@
 """Random queries over small tables rich in Nulls: what `query` and `meaning` write, beside sqlite3's answer.
 
-The queries have joins and left joins, subqueries two deep, grouping, DISTINCT and ORDER BY. Rows are compared in order where the query has an ORDER BY.
+The queries have joins and left joins, subqueries two deep, grouping, DISTINCT and ORDER BY. Rows are compared in order where the query has an ORDER
+BY.
 """
 
 from common import TOO_LARGE, agree, rows_in, sqlite_database, sqlite_rows, unlike

@@ -1,8 +1,8 @@
-"""Random joins of two tables rich in Nulls and equal values, inner and left, by nested loops, by hash, by merging and by each index that fits: all have to
-give the rows of definitions of these tests (evaluation.py), cell by cell and in order, and these have to be sqlite3's.
+"""Random joins of two tables rich in Nulls and equal values, inner and left, by nested loops, by hash, by merging and by each index that fits: all
+have to give the rows of definitions of these tests (evaluation.py), cell by cell and in order, and these have to be sqlite3's.
 
-The certificates are written here, lines and plan, and asked of no planner. Conditions are equalities of columns of both sides, of a side and a literal, `<`,
-`<>`, IS NULL, OR and NOT, over numbers and texts.
+The certificates are written here, lines and plan, and asked of no planner. Conditions are equalities of columns of both sides, of a side and a
+literal, `<`, `<>`, IS NULL, OR and NOT, over numbers and texts.
 
 Semijoins, antijoins and joins within a subquery, which read the outer row, are not reached, as no query's lines have them yet:
 by_driver/random_joins.py runs them, with the toolchain.

@@ -1,12 +1,12 @@
 """Random plans of every operator that a query has, handed in as certificates: `check` has to accept each, and `run` has to give, cell by cell and in
 order, the rows that definitions of these tests give of it (evaluation.py), which have to be sqlite3's rows of the query.
 
-The lines are those of the certificate that `plan` writes for a random query by random statistics. The plan is drawn here: of each class a random member,
-each join by nested loops, by hash, by merging or by an index, each table by an index or without, groups and distinct rows by hash and sorted, selections of
-tables by an index, and sorts where an operator needs one and at times where none does.
+The lines are those of the certificate that `plan` writes for a random query by random statistics. The plan is drawn here: of each class a random
+member, each join by nested loops, by hash, by merging or by an index, each table by an index or without, groups and distinct rows by hash and sorted,
+selections of tables by an index, and sorts where an operator needs one and at times where none does.
 
-No query's lines have semijoins or antijoins yet, so these are not reached: by_driver/random_plans.py runs them, with the toolchain. Nor are plans that stand for
-no query, as groups of groups.
+No query's lines have semijoins or antijoins yet, so these are not reached: by_driver/random_plans.py runs them, with the toolchain. Nor are plans
+that stand for no query, as groups of groups.
 """
 
 from certificates import certificate_text, nodes_of, read_certificate
@@ -107,4 +107,5 @@ OPERATORS = "scan iscan filter filtersub cut loop hash merge iloop hgroup sgroup
 def told(counts):
     least = min(OPERATORS, key=counts.__getitem__)
     nodes = f"{sum(counts[name] for name in OPERATORS):,} nodes, {counts[least]} of the least, {least}"
-    return f"{counts['plans']:,} plans of {nodes}, with {counts['rows']:,} rows, beside definitions of its own and sqlite3; {counts['too long']} too long"
+    plans = f"{counts['plans']:,} plans of {nodes}, with {counts['rows']:,} rows"
+    return f"{plans}, beside definitions of its own and sqlite3; {counts['too long']} too long"

@@ -1,12 +1,13 @@
-"""Random lines by the rules of docs/RULES.md behind the lines of random queries: `check` has to accept each line that a rule book of these tests gives
-(rule_book.py), `run` has to give sqlite3's rows by plans of such lines, and `check` has to refuse what no rule gives, with its code and line.
+"""Random lines by the rules of docs/RULES.md behind the lines of random queries: `check` has to accept each line that a rule book of these tests
+gives (rule_book.py), `run` has to give sqlite3's rows by plans of such lines, and `check` has to refuse what no rule gives, with its code and
+line.
 
-To the lines of a query are added lines by rules that fit somewhere; selections, projections and groups that a rule takes back to what is there; and facts
-that follow from NOT NULL and UNIQUE. Plans are drawn of all of these (plan_drawing.py). Behind them, one at a time, stand a line by a rule that doesn't fit,
-and a line whose result was changed.
+To the lines of a query are added lines by rules that fit somewhere; selections, projections and groups that a rule takes back to what is there; and
+facts that follow from NOT NULL and UNIQUE. Plans are drawn of all of these (plan_drawing.py). Behind them, one at a time, stand a line by a rule that
+doesn't fit, and a line whose result was changed.
 
-S5 is applied to semijoins and antijoins that no plan names, since no query's lines have them yet: its rows are not reached. Nor are classes that read the
-outer row in other ways than a query's subqueries do. by_driver/random_rules.py has both, with the toolchain.
+S5 is applied to semijoins and antijoins that no plan names, since no query's lines have them yet: its rows are not reached. Nor are classes that read
+the outer row in other ways than a query's subqueries do. by_driver/random_rules.py has both, with the toolchain.
 """
 
 from certificates import certificate_text, conjuncts
@@ -294,4 +295,5 @@ def cases(program, rng, counts):
 def told(counts):
     by_rule = ", ".join(f"{counts[code]} {code}" for code in BOOK)
     wrong = ", ".join(f"{counts['refused', code]} {code}" for code in ("K02", "K03", "K05"))
-    return f"lines by {by_rule}; {counts['facts']:,} facts; {counts['plans']:,} plans with {counts['rows']:,} rows, beside sqlite3; refused as they should be: {wrong}"
+    plans = f"{counts['plans']:,} plans with {counts['rows']:,} rows, beside sqlite3"
+    return f"lines by {by_rule}; {counts['facts']:,} facts; {plans}; refused as they should be: {wrong}"

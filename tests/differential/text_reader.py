@@ -146,9 +146,7 @@ class Line:
             }[kind]()
 
     def expression(self):
-        kinds = {
-            "get": "n", "select": "Bn", "join": "Bnn", "left": "Bnn", "semi": "Bnn", "anti": "BBnn", "keep": "Cn", "distinct": "n", "group": "CGn",
-        }
+        kinds = dict(get="n", select="Bn", join="Bnn", left="Bnn", semi="Bnn", anti="BBnn", keep="Cn", distinct="n", group="CGn")
         kind = self.one_of([kind + " " for kind in kinds])
         self.parts(kinds[kind.strip()])
 
@@ -173,10 +171,8 @@ class Line:
 
     def node(self):
         """How many inputs follow."""
-        kinds = {
-            "scan": ("nn", 0), "iscan": ("nnnnB", 0), "filter": ("nB", 1), "cut": ("nC", 1), "merge": ("nnnB", 2), "hgroup": ("nCG", 1),
-            "sgroup": ("nCG", 1), "hdistinct": ("n", 1), "sdistinct": ("n", 1),
-        }
+        kinds = dict(scan=("nn", 0), iscan=("nnnnB", 0), filter=("nB", 1), cut=("nC", 1), merge=("nnnB", 2), hdistinct=("n", 1), sdistinct=("n", 1))
+        kinds.update(hgroup=("nCG", 1), sgroup=("nCG", 1))
         kind = self.one_of([kind + " " for kind in [*kinds, "sort", "filtersub", "loop", "hash", "iloop"]]).strip()
         if kind in kinds:
             self.parts(kinds[kind][0])
@@ -195,68 +191,81 @@ class Line:
         return 1 if kind == "iloop" else 2
 
 
-def refusal(data):
-    """The code and the line of a text's first fault; nothing of a certificate's."""
-    lines = data.split(b"\n")
-    number = 0
+class Text:
+    """A whole text, which is gone through line by line."""
 
-    def line():
-        nonlocal number
-        number += 1
-        if number == len(lines):
+    def __init__(self, data):
+        self.lines, self.number = data.split(b"\n"), 0
+
+    def line(self):
+        self.number += 1
+        if self.number == len(self.lines):
             raise Refused("C04")
-        text = lines[number - 1].decode(errors="replace")
-        if number > 1 and "\ufffd" in text:
+        text = self.lines[self.number - 1].decode(errors="replace")
+        if self.number > 1 and "\ufffd" in text:
             raise Refused("C02")
         return Line(text)
 
-    def ended(own):
+    def whole_line(self, read):
+        """What is read of a line, of which nothing may be left, and whether its numbers are in their ranges."""
+        own = self.line()
+        found = read(own)
         if own.at < len(own.text):
             raise Refused("C02")
+        return found, own.in_range
 
-    def count(word, most):
-        own = line()
-        own.expect(word + " ")
-        found = own.number()
-        ended(own)
+    def count(self, word, most):
+        def read(own):
+            own.expect(word + " ")
+            return own.number()
+
+        found, _ = self.whole_line(read)
         if found > most:
             raise Refused("C05")
         return found
 
-    try:
-        if line().text != "SQLPLAN 1":
-            raise Refused("C01")
-        for _ in range(count("lines", MOST_LINES)):
-            own = line()
-            own.derivation_line()
-            ended(own)
-            if not own.in_range:
+    def derivation(self):
+        for _ in range(self.count("lines", MOST_LINES)):
+            _, is_in_range = self.whole_line(Line.derivation_line)
+            if not is_in_range:
                 raise Refused("C03")
-        left = count("plan", MOST_NODES)
+
+    def plan(self):
+        left = self.count("plan", MOST_NODES)
         if left == 0:
             raise Refused("C02")
-        # How many inputs are still wanted, of each node from the root down.
-        wanted = [1]
+        wanted = [1]  # How many inputs are still wanted, of each node from the root down.
         while left:
-            own = line()
-            inputs = own.node()
-            ended(own)
+            inputs, is_in_range = self.whole_line(Line.node)
             while wanted[-1] == 0:
                 wanted.pop()
             if len(wanted) > MOST_DEEP:
                 raise Refused("C05")
-            if not own.in_range:
+            if not is_in_range:
                 raise Refused("C03")
             wanted[-1] -= 1
             wanted.append(inputs)
             left -= 1
             if sum(wanted) > left or (sum(wanted) == 0 and left):
                 raise Refused("C02")
-        if line().text != "end":
+
+    def end(self):
+        if self.line().text != "end":
             raise Refused("C02")
-        if lines[number:] != [b""]:
-            number += 1
+        if self.lines[self.number :] != [b""]:
+            self.number += 1
             raise Refused("C02")
+
+
+def refusal(data):
+    """The code and the line of a text's first fault; nothing of a certificate's."""
+    text = Text(data)
+    try:
+        if text.line().text != "SQLPLAN 1":
+            raise Refused("C01")
+        text.derivation()
+        text.plan()
+        text.end()
     except Refused as fault:
-        return f"refused {fault} line {number}"
+        return f"refused {fault} line {text.number}"
     return None

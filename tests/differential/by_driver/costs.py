@@ -27,6 +27,7 @@ LIBRARIES = (
     " certificate_text certificate_parts certificate_read costs explain anyhow"
 )
 BATCH = 1000
+NUMBERS = [0, 1, 2, 3, 10, 11, 99, 1000, 999_999, MILLION, 12_345_678, 10**12, 2**32, 2**63, MOST - 1, MOST]
 INT, TEXT = "INT", "TEXT"
 
 
@@ -56,7 +57,7 @@ AGGREGATES = {
 
 
 def random_number(draw):
-    return draw.choice([0, 1, 2, 3, 10, 11, 99, 1000, 999_999, MILLION, 12_345_678, 10**12, 2**32, 2**63, MOST - 1, MOST, draw.randrange(MOST), draw.randrange(10**6)])
+    return draw.choice([*NUMBERS, draw.randrange(MOST), draw.randrange(10**6)])
 
 
 def drawn_statistics(draw):
@@ -111,7 +112,8 @@ class Derivation:
     def equated(self, a, b):
         """Conditions with, mostly, an equality of a column of each side."""
         C = self.conjuncts()
-        pairs = [(c, d) for c in self.columns[a] for d in self.columns[b] if c < LAYOUT.count and d < LAYOUT.count and LAYOUT.kind(c) == LAYOUT.kind(d)]
+        left, right = ([c for c in self.columns[g] if c < LAYOUT.count] for g in (a, b))
+        pairs = [(c, d) for c in left for d in right if LAYOUT.kind(c) == LAYOUT.kind(d)]
         if pairs and self.draw.random() < 0.7:
             c, d = self.draw.choice(pairs)
             sides = [("c", c), ("c", d)]
@@ -222,7 +224,8 @@ class Planner:
             return {"name": "cut", "line": line, "columns": parts[0], "inputs": [self.plan(parts[1], depth + 1)]}
         if kind == "distinct":
             return {"name": draw.choice(["hdistinct", "sdistinct"]), "line": line, "inputs": [self.plan(parts[0], depth + 1)]}
-        return {"name": draw.choice(["hgroup", "sgroup"]), "line": line, "columns": parts[0], "aggregates": parts[1], "inputs": [self.plan(parts[2], depth + 1)]}
+        group = {"name": draw.choice(["hgroup", "sgroup"]), "line": line, "columns": parts[0], "aggregates": parts[1]}
+        return dict(group, inputs=[self.plan(parts[2], depth + 1)])
 
     def selection(self, line, parts, depth):
         classes = sorted(set(named_classes(parts[0])))
@@ -297,7 +300,8 @@ def main():
         for line in certificate.split("\nplan ")[1].split("\n")[1:-2]:
             kinds[line.split()[0]] = kinds.get(line.split()[0], 0) + 1
     past = sum(1 for *_, wanted in cases if str(MOST) in wanted)
-    print(f"{len(said)} of {count} cases asked, {len(differ)} differ; nodes {dict(sorted(kinds.items()))}; {past} cases with a number cut to 2^64 - 1")
+    nodes = f"nodes {dict(sorted(kinds.items()))}"
+    print(f"{len(said)} of {count} cases asked, {len(differ)} differ; {nodes}; {past} cases with a number cut to 2^64 - 1")
     return 1 if differ or len(said) != count else 0
 
 

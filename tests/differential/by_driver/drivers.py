@@ -1,4 +1,5 @@
-"""Drivers in Rattle, which ask the project's libraries what no command of the program does. `rt try` of the toolchain runs them, which proves nothing."""
+"""Drivers in Rattle, which ask the project's libraries what no command of the program does. `rt try` of the toolchain runs them, which proves
+nothing."""
 
 import contextlib
 import pathlib
@@ -23,7 +24,7 @@ def with_rooms(listing, libraries):
 
 @contextlib.contextmanager
 def driver(name, libraries, tree=None, files=()):
-    """The folder of the driver's crate, NAME/main.rt.txt with further files, in a tree whose libraries are built, or in a clone. The tree is left as it was."""
+    """The folder of the driver's crate, NAME/main.rt.txt and more files, in a tree whose libraries are built, or a clone. The tree is left as it was."""
     with tempfile.TemporaryDirectory() as folder:
         if tree is None:
             tree = pathlib.Path(folder) / "tree"
