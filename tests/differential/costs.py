@@ -50,7 +50,7 @@ def cases(program, rng, counts):
     for _ in range(ROUND):
         tables = random_tables(rng)
         program.write_tables(tables, {table.name: [] for table in tables})
-        query = Maker(rng, tables, equated=0.8).select(outermost=True)
+        query = Maker(rng, tables, equated=0.8, pinned=0.3, conditions=0.5).select(outermost=True)
         statistics = drawn_statistics(rng, tables)
         counts["plans"] += 1
         found = fault(program, query, tables, statistics, counts)

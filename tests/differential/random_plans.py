@@ -35,11 +35,21 @@ def random_tables(rng):
     return tables
 
 
+def drawn_case(rng):
+    """Tables, their rows, a query, and sqlite3's rows of it. Most queries with less than two rows are drawn again."""
+    while True:
+        tables = random_tables(rng)
+        contents = random_contents(rng, tables, most=12, nulls=rng.choice([0.1, 0.35]))
+        of_one = rng.random() < 0.3
+        query = Maker(rng, tables, equated=0.9, pinned=0.8 if of_one else 0.4, conditions=0.3).select(outermost=True, of_one=of_one)
+        wanted = sqlite_rows(sqlite_database(tables, contents), query)
+        if len(wanted) in range(2, 200) or rng.random() < 0.1:
+            return tables, contents, query, wanted
+
+
 def drawn_query(program, rng, counts):
-    """A query with its tables, and its lines and the class of its plan as `plan` gives them; or None where it is too large."""
-    tables = random_tables(rng)
-    contents = random_contents(rng, tables, most=7, nulls=rng.choice([0.1, 0.35]))
-    query = Maker(rng, tables, equated=0.8).select(outermost=True)
+    """A case, its lines and the line of its plan's root as `plan` gives them; or None where it is too large."""
+    tables, contents, query, wanted = drawn_case(rng)
     program.write_tables(tables, contents)
     said = program.planned("plan", query, statistics_text(random_statistics(rng, tables)), 2_000)
     if said.error == TOO_LARGE:
@@ -49,7 +59,7 @@ def drawn_query(program, rng, counts):
     lines, plan = read_certificate(said.output)
     while plan["name"] == "sort":
         plan = plan["inputs"][0]
-    return tables, contents, query, Lines(Layout(tables, query), lines), plan["line"]
+    return contents, query, wanted, Lines(Layout(tables, query), lines), plan["line"]
 
 
 def wrong_rows(program, certificate, expected):
@@ -92,8 +102,7 @@ def cases(program, rng, counts):
     for _ in range(ROUND):
         drawn = drawn_query(program, rng, counts)
         if drawn:
-            tables, contents, query, lines, line = drawn
-            wanted = sqlite_rows(sqlite_database(tables, contents), query)
+            contents, query, wanted, lines, line = drawn
             _, order = lines.layout.outermost(query)
             drawing = Drawing(rng, lines)
             for _ in range(PLANS):

@@ -11,7 +11,6 @@ the outer row in other ways than a query's subqueries do. by_driver/random_rules
 """
 
 from certificates import certificate_text, conjuncts
-from common import sqlite_database, sqlite_rows
 from layout import inputs_of
 from plan_drawing import Drawing
 from random_plans import drawn_query, plan_fault
@@ -270,8 +269,7 @@ def refusal_fault(program, growth, plan, counts):
 
 def query_faults(program, rng, drawn, counts):
     """What is wrong of the lines that are added to one query's, for each plan and each refusal."""
-    tables, contents, query, lines, line = drawn
-    wanted = sqlite_rows(sqlite_database(tables, contents), query)
+    contents, query, wanted, lines, line = drawn
     _, order = lines.layout.outermost(query)
     growth = Growth(rng, lines, counts)
     growth.grow(rng.randint(4, 25))

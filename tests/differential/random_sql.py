@@ -56,11 +56,13 @@ def statistics_text(statistics):
 class Maker:
     """Makes one query. Its table instances have names of their own, so each qualified name means one column.
 
-    `equated` is how often a join's ON equates columns of both sides, besides what else it has.
+    `equated` is how often a join's ON equates columns of both sides, `pinned` how often a WHERE compares a column with a literal, and `conditions` how often
+    there is any other condition, on top of these.
     """
 
-    def __init__(self, rng, tables=None, equated=0.0):
-        self.rng, self.tables, self.equated, self.made = rng, tables or TABLES, equated, 0
+    def __init__(self, rng, tables=None, equated=0.0, pinned=0.0, conditions=0.7):
+        self.rng, self.tables, self.made = rng, tables or TABLES, 0
+        self.equated, self.pinned, self.conditions = equated, pinned, conditions
 
     def table(self):
         table, self.made = self.rng.choice(self.tables), self.made + 1
@@ -97,10 +99,15 @@ class Maker:
         pairs = [(a, b) for a, kind in left for b, other in right if kind == other]
         return " = ".join(self.rng.sample(self.rng.choice(pairs), 2)) if pairs else ""
 
+    def comparison(self, columns):
+        """A column compared with a literal."""
+        column, kind = self.rng.choice(columns)
+        return f"{column} {self.rng.choice(['=', '=', '<', '<=', '>', '>='])} {literal(random_value(self.rng, kind, 0.05))}"
+
     def on(self, left, right, outer):
         """The condition of an ON."""
         equal = self.equality(left, right) if self.rng.random() < self.equated else ""
-        if equal and self.rng.random() < 0.5:
+        if equal and self.rng.random() > self.conditions:
             return equal
         condition = self.condition(left + right + outer, 0)
         return f"{equal} AND {condition}" if equal else condition
@@ -135,8 +142,9 @@ class Maker:
         equal = ""
         if len(chains) > 1 and self.rng.random() < self.equated:
             equal = self.equality(chains[0][1], chains[1][1])
-        condition = self.condition(own + outer, depth) if self.rng.random() < 0.7 else ""
-        parts = [part for part in (equal, condition) if part]
+        pinned = self.comparison(own) if self.rng.random() < self.pinned else ""
+        condition = self.condition(own + outer, depth) if self.rng.random() < self.conditions else ""
+        parts = [part for part in (equal, pinned, condition) if part]
         return " WHERE " + " AND ".join(parts) if parts else ""
 
     def grouping(self, own, outer, wanted):
@@ -148,9 +156,10 @@ class Maker:
             items[0] = {"INT": "COUNT(*)", "TEXT": f"MIN({next(c for c, k in own if k == 'TEXT')})"}[wanted or "INT"]
         return items, " GROUP BY " + ", ".join(key for key, _ in keys) if keys else ""
 
-    def select(self, outer=(), depth=2, wanted=None, outermost=False):
+    def select(self, outer=(), depth=2, wanted=None, outermost=False, of_one=False):
+        """A SELECT, within the tables around it, of the wanted kind behind IN; of one table, where that is asked."""
         outer = list(outer)
-        chains = [self.chain(outer) for _ in range(self.rng.choice([1, 1, 1, 2]))]
+        chains = [self.table()] if of_one else [self.chain(outer) for _ in range(self.rng.choice([1, 1, 1, 2]))]
         own = [column for _, columns in chains for column in columns]
         where = self.where(chains, own, outer, depth)
         items, group = self.grouping(own, outer, wanted)
