@@ -17,7 +17,7 @@ import time
 
 from common import ROOT, Program
 
-SCRIPT_SECONDS = 900
+SCRIPT_SECONDS = 3_600
 """What a script may take."""
 MOST_SHOWN = 60
 """Of a difference's lines."""

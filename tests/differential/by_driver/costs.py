@@ -1,10 +1,10 @@
 #!/usr/bin/env python3
-"""Compares the estimated rows of classes, the costs of plans and the text that explains them with a model of this script's own, over
+"""Compares the estimated rows of classes, the costs of plans and the text that explains them with the model of cost_model.py, over
 random derivations, plans and statistics: classes that are the same among them, and numbers past 64 bits.
 
 The model is written by docs/COSTS.md and knows nothing of the program's code. The program of costs/main.rt.txt reads each case (statistics,
 and a certificate as text), and writes the rows of each class and the plan explained. It is run in a clone or a tree whose libraries are
-built, by `rt try`, which proves nothing. The seed is fixed, so each run asks the same.
+built, by `rt try`, which proves nothing. The seed is fixed, so each run asks the same. It wants the toolchain: `tests/run --toolchain` runs it.
 
 It sees faults, planted in copies: where the division of OR is rounded up, 212 of 2,000 cases differ; where a class that is the same as an
 earlier one counts by its own line, 165. README.md has more.
