@@ -19,7 +19,7 @@ from common import ROOT, Program
 
 SCRIPT_SECONDS = 3_600
 """What a script may take."""
-MOST_SHOWN = 60
+MOST_SHOWN = 40
 """Of a difference's lines."""
 
 Outcome = collections.namedtuple("Outcome", "told fault")

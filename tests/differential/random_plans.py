@@ -55,7 +55,8 @@ def drawn_query(program, rng, counts):
     if said.error == TOO_LARGE:
         counts["too large"] += 1
         return None
-    assert said.status == 0, f"plan: {query}\n{said.error}"
+    if said.status:
+        raise RuntimeError(f"plan says {said.error} to {query}")
     lines, plan = read_certificate(said.output)
     while plan["name"] == "sort":
         plan = plan["inputs"][0]
