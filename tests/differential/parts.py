@@ -75,13 +75,19 @@ class Differential:
         """What is wrong of the first case of which something is, until the deadline and through the first round in any case."""
         for number in itertools.count():
             for fault in self.module.cases(program, random.Random(f"{self.name} {seed} {number}"), counts):
+                counts["cases"] += 1
                 if fault:
                     return fault
                 if number and time.monotonic() > deadline:
-                    return ""
+                    break
             if not self.is_random or time.monotonic() > deadline:
-                return ""
-        return ""
+                break
+        return self.too_few(counts)
+
+    def too_few(self, counts):
+        """What is wrong where next to nothing was compared, as by a program that refuses most queries as too large."""
+        left_out = counts["too large"] + counts["too long"]
+        return "" if counts["cases"] > 10 * left_out else f"{left_out} queries were left out as too large or too long, and {counts['cases']} cases compared"
 
 
 def outcome(part, program, seconds, seed):

@@ -25,6 +25,8 @@ def with_rooms(listing, libraries):
 @contextlib.contextmanager
 def driver(name, libraries, tree=None, files=()):
     """The folder of the driver's crate, NAME/main.rt.txt and more files, in a tree whose libraries are built, or a clone. The tree is left as it was."""
+    if not shutil.which("rt"):
+        sys.exit("this wants the toolchain: there is no command rt on the path")
     with tempfile.TemporaryDirectory() as folder:
         if tree is None:
             tree = pathlib.Path(folder) / "tree"
