@@ -87,7 +87,8 @@ class Differential:
     def too_few(self, counts):
         """What is wrong where next to nothing was compared, as by a program that refuses most queries as too large."""
         left_out = counts["too large"] + counts["too long"]
-        return "" if counts["cases"] > 10 * left_out else f"{left_out} queries were left out as too large or too long, and {counts['cases']} cases compared"
+        cases = f"{left_out} queries were left out as too large or too long, and {counts['cases']} cases compared"
+        return "" if counts["cases"] > 10 * left_out else cases
 
 
 def outcome(part, program, seconds, seed):

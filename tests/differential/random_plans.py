@@ -5,8 +5,8 @@ The lines are those of the certificate that `plan` writes for a random query by 
 member, each join by nested loops, by hash, by merging or by an index, each table by an index or without, groups and distinct rows by hash and sorted,
 selections of tables by an index, and sorts where an operator needs one and at times where none does.
 
-No query's lines have semijoins or antijoins yet, so these are not reached: by_driver/random_plans.py runs them, with the toolchain. Nor are plans
-that stand for no query, as groups of groups.
+No query's lines have semijoins or antijoins yet, so these are not reached: by_driver/random_plans.py runs them, with the toolchain. Nor are plans that
+stand for no query, as groups of groups, and numbers at the ends of 64 bits, of which sqlite3 gives no sums.
 """
 
 from certificates import certificate_text, nodes_of, read_certificate
@@ -35,21 +35,21 @@ def random_tables(rng):
     return tables
 
 
-def drawn_case(rng):
-    """Tables, their rows, a query, and sqlite3's rows of it. Most queries with less than two rows are drawn again."""
+def drawn_case(rng, ones):
+    """Tables, their rows, a query, such a share of one table alone, and sqlite3's rows. Most queries with less than two rows are drawn again."""
     while True:
         tables = random_tables(rng)
         contents = random_contents(rng, tables, most=12, nulls=rng.choice([0.1, 0.35]))
-        of_one = rng.random() < 0.3
-        query = Maker(rng, tables, equated=0.9, pinned=0.8 if of_one else 0.4, conditions=0.3).select(outermost=True, of_one=of_one)
+        of_one = rng.random() < ones
+        query = Maker(rng, tables, equated=0.9, pinned=0.8 if of_one else 0.4, conditions=0.3, inner=0.6).select(outermost=True, of_one=of_one)
         wanted = sqlite_rows(sqlite_database(tables, contents), query)
         if len(wanted) in range(2, 200) or rng.random() < 0.1:
             return tables, contents, query, wanted
 
 
-def drawn_query(program, rng, counts):
+def drawn_query(program, rng, counts, ones=0.3):
     """A case, its lines and the line of its plan's root as `plan` gives them; or None where it is too large."""
-    tables, contents, query, wanted = drawn_case(rng)
+    tables, contents, query, wanted = drawn_case(rng, ones)
     program.write_tables(tables, contents)
     said = program.planned("plan", query, statistics_text(random_statistics(rng, tables)), 2_000)
     if said.error == TOO_LARGE:

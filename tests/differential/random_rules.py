@@ -199,7 +199,7 @@ class Growth:
                     self.counts["facts"] += 1
 
     def grow(self, steps):
-        ways = [self.by_rule] * 6 + [self.learn] * 2 + [self.split_select, self.split_keep, self.keep_all, self.make_distinct, self.make_group]
+        ways = [self.by_rule] * 10 + [self.learn] * 2 + [self.split_select, self.split_keep, self.keep_all, self.make_distinct, self.make_group]
         ways += [self.semi, self.reading_out]
         for _ in range(steps):
             self.rng.choice(ways)()
@@ -285,7 +285,7 @@ def query_faults(program, rng, drawn, counts):
 def cases(program, rng, counts):
     """What is wrong of each plan and each refusal of a round, or nothing."""
     for _ in range(ROUND):
-        drawn = drawn_query(program, rng, counts)
+        drawn = drawn_query(program, rng, counts, ones=0.05)
         if drawn and len(drawn[3].all) <= MOST_LINES:
             yield from query_faults(program, rng, drawn, counts)
 

@@ -8,14 +8,16 @@ TABLES = [
     Table("r", [Column("a", "INT", False), Column("b", "INT", False), Column("t", "TEXT", False)], [], [["a"], ["b", "a"], ["t"]]),
     Table("s", [Column("a", "INT", False), Column("c", "INT", False), Column("u", "TEXT", False)], [], [["a", "c"], ["u"]]),
 ]
-NUMBERS, TEXTS = [0, 1, 2, -1], ["x", "y", ""]
+NUMBERS, TEXTS = [0, 1, 2, -1], ["x", "y", "", "x", "y", "it's"]
 COMPARISONS = ["=", "<>", "<", "<=", ">", ">="]
 SIZES = [0, 1, 2, 10, 100, 5_000, 1_000_000, 2**64 - 1]
 """Of tables, for statistics: nothing ties these to the rows that are there."""
 
 
 def literal(value):
-    return "NULL" if value is None else f"'{value}'" if isinstance(value, str) else str(value)
+    if isinstance(value, str):
+        return "'" + value.replace("'", "''") + "'"
+    return "NULL" if value is None else str(value)
 
 
 def random_value(rng, kind, nulls):
@@ -56,13 +58,13 @@ def statistics_text(statistics):
 class Maker:
     """Makes one query. Its table instances have names of their own, so each qualified name means one column.
 
-    `equated` is how often a join's ON equates columns of both sides, `pinned` how often a WHERE compares a column with a literal, and `conditions` how often
-    there is any other condition, on top of these.
+    `equated` is how often a join's ON equates columns of both sides, `pinned` how often a WHERE compares a column with a literal, and `conditions` how
+    often there is any other condition, on top of these. `inner` is how many joins of an ON are inner ones.
     """
 
-    def __init__(self, rng, tables=None, equated=0.0, pinned=0.0, conditions=0.7):
+    def __init__(self, rng, tables=None, equated=0.0, pinned=0.0, conditions=0.7, inner=0.33):
         self.rng, self.tables, self.made = rng, tables or TABLES, 0
-        self.equated, self.pinned, self.conditions = equated, pinned, conditions
+        self.equated, self.pinned, self.conditions, self.inner = equated, pinned, conditions, inner
 
     def table(self):
         table, self.made = self.rng.choice(self.tables), self.made + 1
@@ -116,7 +118,7 @@ class Maker:
         text, columns = self.table()
         for _ in range(self.rng.choice([0, 0, 1, 1, 2])):
             table, more = self.table()
-            kind = self.rng.choice(["JOIN", "LEFT JOIN", "LEFT JOIN"])
+            kind = "JOIN" if self.rng.random() < self.inner else "LEFT JOIN"
             text += f" {kind} {table} ON {self.on(columns, more, outer)}"
             columns = columns + more
         return text, columns
