@@ -1,0 +1,148 @@
+"""The rules of docs/RULES.md, written by that page: what each gives of the expressions that it is applied to.
+
+What a rule gives is a shape: an expression whose inputs are classes or shapes, or a bare class.
+"""
+
+import collections
+
+from certificates import conjuncts
+
+
+class Unfit(Exception):
+    """The rule doesn't fit: what is matched has another form (K02), or the condition fails (K05)."""
+
+
+def wants(expression, *kinds):
+    if expression[0] not in kinds:
+        raise Unfit("K02")
+
+
+def holds(condition):
+    if not condition:
+        raise Unfit("K05")
+
+
+def without(lines, conditions, g):
+    """The conditions that mention no column of the class."""
+    return [condition for condition in conditions if not lines.mentions(condition) & set(lines.columns(g))]
+
+
+def less(conditions, moved):
+    return [condition for condition in conditions if condition not in moved]
+
+
+def some(conditions):
+    """The conditions, where there are some: a rule that would move nothing has another form."""
+    if not conditions:
+        raise Unfit("K02")
+    return conditions
+
+
+def selected(conditions, shape):
+    return ("select", conditions, shape) if conditions else shape
+
+
+def join_commutes(_, top):
+    wants(top, "join")
+    return ("join", top[1], top[3], top[2])
+
+
+def join_associates(lines, top, below):
+    wants(top, "join")
+    wants(below, "join")
+    (_, d, _, right), (_, c, left, middle) = top, below
+    holds(len(without(lines, c, right)) == len(c))
+    both = conjuncts(c + d)
+    moved = without(lines, both, left)
+    return ("join", less(both, moved), left, ("join", moved, middle, right))
+
+
+def selects_merge(_, top, below):
+    wants(top, "select")
+    wants(below, "select")
+    return ("select", conjuncts(top[1] + below[1]), below[2])
+
+
+def select_below_join(lines, top, below):
+    wants(top, "select")
+    wants(below, "join")
+    moved = some(without(lines, top[1], below[3]))
+    return selected(less(top[1], moved), ("join", below[1], ("select", moved, below[2]), below[3]))
+
+
+def has_subquery(condition):
+    kind, *parts = condition
+    return kind in ("exists", "in") or any(map(has_subquery, parts if kind == "not" else parts[0] if kind in ("and", "or") else []))
+
+
+def select_into_join(_, top, below):
+    wants(top, "select")
+    wants(below, "join")
+    moved = some([condition for condition in top[1] if not has_subquery(condition)])
+    return selected(less(top[1], moved), ("join", conjuncts(below[1] + moved), below[2], below[3]))
+
+
+def condition_below_join(lines, top):
+    wants(top, "join")
+    moved = some(without(lines, top[1], top[3]))
+    return ("join", less(top[1], moved), ("select", moved, top[2]), top[3])
+
+
+def select_below_semi(_, top, below):
+    wants(top, "select")
+    wants(below, "semi", "anti")
+    return (*below[:-2], ("select", top[1], below[-2]), below[-1])
+
+
+def keeps_merge(_, top, below):
+    wants(top, "keep")
+    wants(below, "keep")
+    return ("keep", top[1], below[2])
+
+
+def keep_of_all(lines, top):
+    wants(top, "keep")
+    holds(top[1] == lines.columns(top[2]))
+    return top[2]
+
+
+def keep_below_join(lines, top, below):
+    wants(top, "keep")
+    wants(below, "join")
+    (_, kept, _), (_, conditions, left, right) = top, below
+    read = set(kept).union(*map(lines.mentions, conditions))
+    wanted = [column for column in lines.columns(left) if column in read]
+    holds(wanted != lines.columns(left))
+    return ("keep", kept, ("join", conditions, ("keep", wanted, left), right))
+
+
+def distinct_of_keyed(lines, top):
+    wants(top, "distinct")
+    holds(lines.has_strong_key(top[1]))
+    return top[1]
+
+
+def group_is_distinct(_, top):
+    wants(top, "group")
+    if top[2]:
+        raise Unfit("K02")
+    holds(top[1])
+    return ("distinct", ("keep", top[1], top[3]))
+
+
+Rule = collections.namedtuple("Rule", "gives count kind")
+BOOK = {
+    "J1": Rule(join_commutes, 1, "join"),
+    "J2": Rule(join_associates, 2, "join"),
+    "S1": Rule(selects_merge, 2, "select"),
+    "S2": Rule(select_below_join, 2, "select"),
+    "S3": Rule(select_into_join, 2, "select"),
+    "S4": Rule(condition_below_join, 1, "join"),
+    "S5": Rule(select_below_semi, 2, "select"),
+    "K1": Rule(keeps_merge, 2, "keep"),
+    "K2": Rule(keep_of_all, 1, "keep"),
+    "K3": Rule(keep_below_join, 2, "keep"),
+    "D1": Rule(distinct_of_keyed, 1, "distinct"),
+    "G1": Rule(group_is_distinct, 1, "group"),
+}
+"""Of each code what the rule gives, to how many lines it is applied, and what the first of them is."""
