@@ -16,6 +16,8 @@ import subprocess
 import sys
 import tempfile
 
+import crates
+
 ROOT = pathlib.Path(__file__).resolve().parent.parent
 NAME = "certificates_bench"
 LIBRARIES = "values schema sql_parse query binder algebra laws props rules derivation logs frame physical certificate certificate_text certificate_read checker statistics store costs memo explore seed search planner anyhow"
@@ -26,11 +28,8 @@ def built(tree):
     crate = tree / "crates" / NAME
     (crate / "src").mkdir(parents=True, exist_ok=True)
     shutil.copy(ROOT / "bench/certificates/main.rt.txt", crate / "src/main.rt")
-    listed = tree / "crates.txt"
-    if NAME not in listed.read_text(encoding="utf-8"):
-        with open(listed, "a", encoding="utf-8") as lines:
-            lines.write(f"{NAME}: {LIBRARIES}\n")
-    subprocess.run(["rt", "run"], cwd=crate, check=True, stdin=subprocess.DEVNULL, stdout=subprocess.DEVNULL)
+    crates.list_crate(tree, NAME, LIBRARIES)
+    crates.run(tree, crate)
     return crate / "out" / NAME
 
 

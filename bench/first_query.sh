@@ -6,7 +6,7 @@
 set -euo pipefail
 cd "$(dirname "$0")/.."
 rows="${1:-1000000}"
-program=crates/sqlplan/out/sqlplan
+program=crates/program/sqlplan/out/sqlplan
 [ -x "$program" ] || { echo "build the program first, by ./sqlplan" >&2; exit 1; }
 work=$(mktemp -d)
 trap 'rm -rf "$work"' EXIT

@@ -133,7 +133,7 @@ def main():
     parser = argparse.ArgumentParser()
     parser.add_argument("--rows", type=int, default=1_000_000)
     parser.add_argument("--runs", type=int, default=5)
-    parser.add_argument("--program", default=ROOT / "crates/sqlplan/out/sqlplan")
+    parser.add_argument("--program", default=ROOT / "crates/program/sqlplan/out/sqlplan")
     wanted = parser.parse_args()
     print("| Join | rows | sqlplan | sqlite3 | ratio | target | PostgreSQL, sqlplan on the clock |\n|---|---|---|---|---|---|---|")
     with tempfile.TemporaryDirectory() as name:

@@ -13,6 +13,8 @@ import subprocess
 import sys
 import tempfile
 
+import crates
+
 ROOT = pathlib.Path(__file__).resolve().parent.parent
 NAME = "logs_bench"
 KINDS = ["joins", "unites", "facts"]
@@ -24,9 +26,8 @@ def built(tree):
     crate = tree / "crates" / NAME
     (crate / "src").mkdir(parents=True)
     shutil.copy(ROOT / "bench/logs/main.rt.txt", crate / "src/main.rt")
-    with open(tree / "crates.txt", "a", encoding="utf-8") as listed:
-        listed.write(f"{NAME}: values schema query algebra laws props rules derivation logs anyhow\n")
-    subprocess.run(["rt", "run"], cwd=crate, check=True, stdin=subprocess.DEVNULL, stdout=subprocess.DEVNULL)
+    crates.list_crate(tree, NAME, "values schema query algebra laws props rules derivation logs anyhow")
+    crates.run(tree, crate)
     return crate / "out" / NAME
 
 

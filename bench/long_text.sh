@@ -29,7 +29,7 @@ bound = full("SELECT id FROM dept WHERE " + " AND ".join([test] * tests))
 (folder / "bound.sql").write_text(bound)
 (folder / "too_long.sql").write_text(bound + " ")
 PYTHON
-program="$here/crates/sqlplan/out/sqlplan"
+program="$here/crates/program/sqlplan/out/sqlplan"
 [ -x "$program" ] || { echo "build the program first, by ./sqlplan" >&2; exit 1; }
 for text in many_tests bound too_long; do
   echo "== $text"

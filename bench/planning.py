@@ -101,7 +101,7 @@ def postgres_planning(asks, drawn, runs):
 def main():
     parser = argparse.ArgumentParser()
     parser.add_argument("--runs", type=int, default=9)
-    parser.add_argument("--program", default=ROOT / "crates/sqlplan/out/sqlplan")
+    parser.add_argument("--program", default=ROOT / "crates/program/sqlplan/out/sqlplan")
     parser.add_argument("--instructions", action="store_true")
     wanted = parser.parse_args()
     if wanted.instructions:

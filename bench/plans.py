@@ -14,7 +14,7 @@ import tempfile
 import time
 
 ROOT = pathlib.Path(__file__).resolve().parent.parent
-PROGRAM = ROOT / "crates/sqlplan/out/sqlplan"
+PROGRAM = ROOT / "crates/program/sqlplan/out/sqlplan"
 SCHEMA = """{"tables":[{"name":"emp","columns":[{"name":"id","kind":"INT","not_null":true},
 {"name":"dept","kind":"INT","not_null":true},{"name":"pay","kind":"INT","not_null":true},
 {"name":"name","kind":"TEXT","not_null":true}],"unique":[],"indexes":[]}]}"""

@@ -25,6 +25,8 @@ import subprocess
 import sys
 import tempfile
 
+import crates
+
 ROOT = pathlib.Path(__file__).resolve().parent.parent
 NAME = "plan_quality"
 LIBRARIES = (
@@ -411,10 +413,7 @@ def tried(tree, draws):
     crate = tree / "crates" / NAME
     (crate / "src").mkdir(parents=True, exist_ok=True)
     shutil.copy(ROOT / "bench/quality/main.rt.txt", crate / "src/main.rt")
-    listed = tree / "crates.txt"
-    if f"\n{NAME}:" not in listed.read_text(encoding="utf-8"):
-        with open(listed, "a", encoding="utf-8") as lines:
-            lines.write(f"{NAME}: {LIBRARIES}\n")
+    crates.list_crate(tree, NAME, LIBRARIES)
     texts = []
     for start in range(0, len(draws), BATCH):
         parts = [part.encode() for drawn in draws[start : start + BATCH] for part in (schema_of(drawn), drawn.text, statistics_of(drawn))]
@@ -449,7 +448,7 @@ def told(ratios):
 
 def main():
     words = sys.argv[1:]
-    tree, program = None, ROOT / "crates/sqlplan/out/sqlplan"
+    tree, program = None, ROOT / "crates/program/sqlplan/out/sqlplan"
     if "--tree" in words:
         place = words.index("--tree")
         tree = pathlib.Path(words[place + 1])

@@ -18,7 +18,7 @@ import subprocess
 import tempfile
 
 ROOT = pathlib.Path(__file__).resolve().parent.parent
-PROGRAM = ROOT / "crates/sqlplan/out/sqlplan"
+PROGRAM = ROOT / "crates/program/sqlplan/out/sqlplan"
 NUMBERS = [("id", "INT", True), ("dept", "INT", False), ("pay", "INT", False), ("badge", "INT", False)]
 TEXTS = [(f"t{number}", "TEXT", False) for number in range(10)]
 C_SCAN = r"""

@@ -16,6 +16,8 @@ import subprocess
 import sys
 import tempfile
 
+import crates
+
 ROOT = pathlib.Path(__file__).resolve().parent.parent
 NAME = "statistics_bench"
 # By name: what is unique, and the indexes. The first has an index that holds a unique list without Nulls, which needs no pass.
@@ -37,9 +39,8 @@ def built(tree):
     crate = tree / "crates" / NAME
     (crate / "src").mkdir(parents=True)
     shutil.copy(ROOT / "bench/statistics/main.rt.txt", crate / "src/main.rt")
-    with open(tree / "crates.txt", "a", encoding="utf-8") as listed:
-        listed.write(f"{NAME}: values schema store statistics anyhow\n")
-    subprocess.run(["rt", "run"], cwd=crate, check=True, stdin=subprocess.DEVNULL, stdout=subprocess.DEVNULL)
+    crates.list_crate(tree, NAME, "values schema store statistics anyhow")
+    crates.run(tree, crate)
     return crate / "out" / NAME
 
 
