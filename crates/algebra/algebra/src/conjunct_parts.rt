@@ -11,7 +11,7 @@ use std::alloc::{AllocError, Global};
 use values::Items;
 
 /// Adds copies of conditions.
-fn add_copies(
+pub fn add_copies(
     alloc: Global,
     conditions: &[Condition],
     copies: &mut Vec<Condition>,

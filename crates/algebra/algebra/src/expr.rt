@@ -1,6 +1,6 @@
 //! Expressions over classes.
 
-ghost use Rattle.std.specs.Prelude.{◌≡◌, ◌↔◌, ◌++◌, IsTrue, option_to_list};
+ghost use Rattle.std.specs.Prelude.{◌≡◌, ◌↔◌, ◌++◌, IsTrue, option_to_list, slice_get};
 ghost use Rattle.algebra.specs.Equality as spec;
 ghost use Rattle.algebra.specs.Expressions.{children, conditions};
 
@@ -44,7 +44,9 @@ pub enum Expr {
 impl Expr {
     /// The classes whose rows it takes, the left one first.
     pub fn children(&self) -> (Option<ClassId>, Option<ClassId>)
-        ensures { option_to_list result.0 ++ option_to_list result.1 ≡ children self.now }
+        ensures only { option_to_list result.0 ++ option_to_list result.1 ≡ children self.now }
+        ensures first { result.0 ≡ slice_get (children self.now) 0 }
+        ensures second { result.1 ≡ slice_get (children self.now) 1 }
     {
         match self {
             Expr::Get(_) => (None, None),

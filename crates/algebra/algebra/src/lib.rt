@@ -23,5 +23,6 @@ mod rising;
 pub use aggregations::Aggregations;
 pub use columns::Columns;
 pub use condition::{ClassId, Condition, Conjuncts, LineId, Term};
+pub use conjunct_parts::add_copies;
 pub use expr::{Aggregation, Expr};
-pub use mentions::ClassColumns;
+pub use mentions::{ClassColumns, add_term};

@@ -72,7 +72,8 @@ impl<'a> ClassColumns<'a> {
     }
 }
 
-fn add_term(term: &Term, mentioned: &mut Vec<ColumnId>) -> Result<(), AllocError>
+/// Adds the column that a term reads, if it reads one.
+pub fn add_term(term: &Term, mentioned: &mut Vec<ColumnId>) -> Result<(), AllocError>
     ensures { OnOk result (HasAlso mentioned.new.items mentioned.old.items (has (reads.term_columns term.now))) }
 {
     if let Term::Column(column) = term {

@@ -1,7 +1,6 @@
 //! The keys of a sort.
 
-ghost use Rattle.std.specs.Prelude.{◌≡◌, ◌==◌, map, IfOk};
-ghost use Rattle.std.specs.List.{slice_split};
+ghost use Rattle.std.specs.Prelude.{map};
 ghost use Rattle.certificate_text.specs.Parts.{IsRead, Reads};
 ghost use Rattle.certificate_text.specs.Readable.{AreShortKeys, IsShortKey};
 ghost use Rattle.certificate_read.specs.NodeReading as spec;
@@ -9,7 +8,7 @@ ghost use Rattle.certificate_read.specs.Wordings.{ReadsWords};
 
 use crate::line_fault::LineFault;
 use crate::words::Words;
-use certificate_text::numbers::number;
+use certificate_text::numbers::{number, parts_of};
 use certificate_text::part_fault::{PartFault, PartReason};
 use physical::OrderKey;
 use std::alloc::{AllocError, Global};
@@ -35,12 +34,6 @@ fn key(part: &str) -> Result<Option<OrderKey>, PartReason>
         Some(column) => key_of(column, true),
         None => Err(PartReason::OtherForm),
     }
-}
-
-fn parts_of(alloc: Global, list: &str) -> Result<Vec<&str>, AllocError>
-    ensures { IfOk result (λ parts. map (λ part. part.now) parts.items ≡ slice_split (λ b. b == 44) list.now) }
-{
-    list.split(',').collect(alloc)
 }
 
 /// The keys of the parts of a list; `None` where a column is past 32 bits.

@@ -34,7 +34,7 @@ pub fn number(word: &str) -> Result<Option<u32>, PartReason>
 }
 
 /// The parts of a list.
-pub(crate) fn parts_of(alloc: Global, list: &str) -> Result<Vec<&str>, AllocError>
+pub fn parts_of(alloc: Global, list: &str) -> Result<Vec<&str>, AllocError>
     ensures { IfOk result (λ parts. map (λ part. part.now) parts.items ≡ slice_split (λ b. b == 44) list.now) }
 {
     list.split(',').collect(alloc)

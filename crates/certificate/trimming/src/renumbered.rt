@@ -7,20 +7,9 @@ ghost use Rattle.trimming.specs.Renumbered as spec;
 
 use crate::kept::Kept;
 use algebra::{Condition, Conjuncts, Expr};
-use derivation::{Line, Numbers, Step};
-use props::Fact;
+use derivation::{Line, Numbers, Step, copy_fact};
 use std::alloc::{AllocError, Global};
 use values::{Boxed, Items};
-
-fn copy_fact(alloc: Global, fact: &Fact) -> Result<Fact, AllocError>
-    ensures { IfOk result (λ f. f ≡ fact.now) }
-{
-    match fact {
-        Fact::NotNull(column) => Ok(Fact::NotNull(*column)),
-        Fact::WeakKey(key) => Ok(Fact::WeakKey(key.copy(alloc)?)),
-        Fact::StrongKey(key) => Ok(Fact::StrongKey(key.copy(alloc)?)),
-    }
-}
 
 /// The condition with the new number of each class that it names.
 #[cycle(renumbered)]

@@ -7,7 +7,6 @@ ghost use Rattle.closure.specs.Closed.{AreUnited};
 ghost use Rattle.closure.specs.Lacking as lacking_;
 ghost use Rattle.closure.specs.Places.{AreEntered};
 
-use crate::inputs::inputs;
 use crate::lacks::{Binding, Missing};
 use crate::pairs::{disagreeing, lines_over};
 use crate::standing::is_there;
@@ -162,7 +161,7 @@ fn lacking_over_class(
     requires united { AreUnited log.now.log }
     ensures { IfOk result (λ found. lacking_.LackingOverClass log.now.instances log.now.log (line_in top.entry) found) }
 {
-    match inputs(top.expr) {
+    match top.expr.children() {
         (Some(input), _) => {
             let lines = log.members(alloc, input)?;
             let found = lacking_over(alloc, log, over, top, lines.as_slice())?;

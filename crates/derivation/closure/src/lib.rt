@@ -2,7 +2,6 @@
 #![tactic(auto)]
 
 mod closing;
-mod inputs;
 mod lacks;
 mod nearer;
 mod pairs;
@@ -11,4 +10,4 @@ mod standing;
 
 pub use closing::{is_closed, missing};
 pub use lacks::{Binding, Missing};
-pub use nearer::{line_of, next_line, results_may_stand};
+pub use nearer::{line_of, next_line, results_may_stand, step_of};

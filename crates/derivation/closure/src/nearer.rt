@@ -19,7 +19,7 @@ use std::alloc::{AllocError, Global};
 use values::{Boxed, Fault};
 
 /// The step of a binding's rule, by the lines that its inner expressions stand in.
-fn step_of(alloc: Global, binding: Binding, makes: &[LineId]) -> Result<Boxed<Step>, AllocError>
+pub fn step_of(alloc: Global, binding: Binding, makes: &[LineId]) -> Result<Boxed<Step>, AllocError>
     ensures { IfOk result (λ step. step ≡ spec.step_of binding makes.now) }
 {
     let uses = match binding.below {

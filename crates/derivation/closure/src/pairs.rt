@@ -11,7 +11,6 @@ ghost use Rattle.closure.specs.Closed as spec;
 ghost use Rattle.closure.specs.Lacking as lacking_;
 ghost use Rattle.closure.specs.Places as places;
 
-use crate::inputs::inputs;
 use algebra::{ClassId, Expr, LineId};
 use logs::{Log, are_alike};
 use query::ids::id_of;
@@ -36,7 +35,7 @@ pub(crate) fn place_of(log: &Log<'_>, expr: &Expr) -> usize
     ensures { result ≡ places.place log.now.log expr.now }
 {
     let count = log.len();
-    let (first, _) = inputs(expr);
+    let (first, _) = expr.children();
     match first {
         Some(class) => {
             let root = log.classes().root(class) as usize;
@@ -61,8 +60,8 @@ fn are_same_inputs(log: &Log<'_>, first: Option<ClassId>, second: Option<ClassId
 pub(crate) fn take_same(log: &Log<'_>, expr: &Expr, other: &Expr) -> bool
     ensures { AreAlike (logs_.least log.now.log) expr.now other.now → IsTrue result }
 {
-    let (first, second) = inputs(expr);
-    let (other_first, other_second) = inputs(other);
+    let (first, second) = expr.children();
+    let (other_first, other_second) = other.children();
     are_same_inputs(log, first, other_first) && are_same_inputs(log, second, other_second)
 }
 

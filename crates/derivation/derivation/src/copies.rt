@@ -30,7 +30,8 @@ fn copy_expr(alloc: Global, expr: &Expr) -> Result<Expr, AllocError>
     }
 }
 
-fn copy_fact(alloc: Global, fact: &Fact) -> Result<Fact, AllocError>
+/// A fact like this one.
+pub fn copy_fact(alloc: Global, fact: &Fact) -> Result<Fact, AllocError>
     ensures { IfOk result (λ f. f ≡ fact.now) }
 {
     match fact {

@@ -8,7 +8,7 @@ ghost use Rattle.algebra.specs.GivenColumns.{HasAlso};
 ghost use Rattle.plan_reads.specs.Readings.{class_columns, class_free, given};
 
 use crate::readings::Reading;
-use algebra::{ClassId, Condition, Term};
+use algebra::{ClassId, Condition, add_term};
 use query::ColumnId;
 use std::alloc::{AllocError, Global};
 
@@ -86,15 +86,6 @@ impl<'a> Subqueries<'a> {
         }
         Ok(())
     }
-}
-
-fn add_term(term: &Term, mentioned: &mut Vec<ColumnId>) -> Result<(), AllocError>
-    ensures { OnOk result (HasAlso mentioned.new.items mentioned.old.items (has (reads.term_columns term.now))) }
-{
-    if let Term::Column(column) = term {
-        mentioned.push(*column)?;
-    }
-    Ok(())
 }
 
 /// Adds the columns that a condition mentions.

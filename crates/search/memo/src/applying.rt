@@ -12,8 +12,8 @@ use crate::keys::{Operation, Operator};
 use crate::lines::{Member, Memo};
 use crate::unadded::{Unadded, unless_refused};
 use algebra::{ClassId, Condition, Expr, LineId};
-use closure::Binding;
-use derivation::{Line, Numbers, Step};
+use closure::{Binding, step_of};
+use derivation::Line;
 use rules::{Match, MatchedLine, RuleName, Shape};
 use std::alloc::{AllocError, Global};
 use values::{Boxed, Fault};
@@ -30,23 +30,6 @@ struct ResultLine {
 struct Given {
     class: ClassId,
     shape: Shape,
-}
-
-/// The step of a binding's rule by the lines that its inner expressions stand in.
-fn step_of(alloc: Global, binding: Binding, makes: &[LineId]) -> Result<Boxed<Step>, AllocError> {
-    let uses = match binding.below {
-        Some(below) => Numbers::from_slice(alloc, &[binding.top, below])?,
-        None => Numbers::one(binding.top),
-    };
-    Boxed::new(
-        alloc,
-        Step {
-            rule: binding.rule,
-            pick: 0,
-            uses,
-            makes: Numbers::from_slice(alloc, makes)?,
-        },
-    )
 }
 
 /// A rule with one line or two; no rule fits other lines.

@@ -353,6 +353,17 @@ impl KeptOfSet {
 /// The bits of subqueries in sets of those that are asked, by their places.
 const BITS: [u8; MOST_ASKED] = [1, 2, 4];
 
+/// How many of so many rows make the subqueries true that are asked of them.
+fn asked_rows(graph: &Graph, asked: u8, rows: u64) -> u64 {
+    let mut left = rows;
+    for (subquery, bit) in graph.subqueries.iter().zip(BITS) {
+        if asked & bit != 0 {
+            left = per_million(left, subquery.share);
+        }
+    }
+    left
+}
+
 /// Looks at the joins of two sets, each with some of the subqueries asked in it.
 fn look_at_sides(
     graph: &Graph,
@@ -373,10 +384,8 @@ fn look_at_sides(
                 let asked = left_asked | right_asked;
                 let rows = if set == cells.last && asked.saturating_add(1) == cells.asked_sets {
                     Some(0)
-                } else if asked == 0 {
-                    known
                 } else {
-                    None
+                    known.map(|rows| asked_rows(graph, asked, rows))
                 };
                 let mut sides = Sides {
                     graph,

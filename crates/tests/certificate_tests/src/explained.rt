@@ -2,14 +2,15 @@
 //! text, that of a certificate whose lines are over the query's table instances, with `/` for a line's end, and what is wanted. The
 //! statistics are those of the tables: 3 departments, 4 employees, an index of 4 keys.
 
-use crate::read_certificates::with_line_ends;
 use algebra::{Aggregation, Expr};
 use certificate::Certificate;
 use certificate_read::read;
 use costs::{Cardinalities, Estimate, Inputs, cost, estimates, node_cost};
 use derivation::Line;
 use explain::{dot_plan, explain_plan};
-use fixtures::{COMPANY, DEPT, EMP, QueryReporting, Tables, push_lines, query_differences};
+use fixtures::{
+    COMPANY, DEPT, EMP, QueryReporting, Tables, push_lines, query_differences, with_line_ends,
+};
 use frame::frame_of;
 use logs::Log;
 use physical::Plan;

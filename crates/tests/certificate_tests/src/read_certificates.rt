@@ -1,18 +1,9 @@
 //! Texts that are certificates, and the lines for which others are refused.
 
 use certificate_read::read;
-use fixtures::{Reporting, differences, push_number};
+use fixtures::{Reporting, differences, push_number, with_line_ends};
 use std::alloc::{AllocError, Global};
 use values::Fault;
-
-/// The text with a line's end for each `/`.
-pub fn with_line_ends(alloc: Global, text: &str) -> Result<Vec<u8>, AllocError> {
-    let mut bytes = Vec::with_capacity(alloc, text.len())?;
-    for byte in text.as_bytes() {
-        bytes.push(if *byte == b'/' { b'\n' } else { *byte })?;
-    }
-    Ok(bytes)
-}
 
 /// Reports that a text is read, or the code and the line of its first fault.
 struct ReadWhole;

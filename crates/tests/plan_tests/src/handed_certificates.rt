@@ -2,17 +2,8 @@
 //! for a line's end, and whether it is accepted and what it answers, with `;` between the lines.
 
 use crate::commands::{Files, Way, push_acceptance, push_answer};
-use fixtures::{COMPANY, DEPT, EMP, Reporting, differences};
+use fixtures::{COMPANY, DEPT, EMP, Reporting, differences, with_line_ends};
 use std::alloc::{AllocError, Global};
-
-/// The text with a line's end for each `/`.
-fn with_line_ends(alloc: Global, text: &str) -> Result<Vec<u8>, AllocError> {
-    let mut bytes = Vec::with_capacity(alloc, text.len())?;
-    for byte in text.as_bytes() {
-        bytes.push(if *byte == b'/' { b'\n' } else { *byte })?;
-    }
-    Ok(bytes)
-}
 
 /// Reports what `check` and `run` say of a query and a certificate.
 struct HandedIn;

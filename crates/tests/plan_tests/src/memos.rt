@@ -5,7 +5,9 @@ use crate::plans::{cut, id};
 use closure::{is_closed, missing, next_line};
 use derivation::{Line, Step};
 use explore::explore;
-use fixtures::{COMPANY, DEPT, EMP, QueryReporting, Tables, push_number, query_differences};
+use fixtures::{
+    COMPANY, DEPT, EMP, QueryReporting, Tables, push_number, push_numbers, query_differences,
+};
 use logs::Log;
 use memo::Memo;
 use query::BoundQuery;
@@ -28,17 +30,6 @@ fn push_found(reported: &mut String, found: Option<u32>) -> Result<(), AllocErro
         Some(number) => push_number(reported, "", number as usize),
         None => reported.push_str("none"),
     }
-}
-
-fn push_numbers(reported: &mut String, numbers: &[u32]) -> Result<(), AllocError> {
-    for (place, number) in numbers.iter().enumerate() {
-        push_number(
-            reported,
-            if place == 0 { "" } else { " " },
-            *number as usize,
-        )?;
-    }
-    Ok(())
 }
 
 /// So many lines a log gets at most by what it lacks.
@@ -126,8 +117,13 @@ fn push_done(
             let is_closed = is_closed(alloc, memo.log())?;
             reported.push_str(if is_closed { "closed" } else { "open" })
         }
-        "members" => push_numbers(reported, memo.members(alloc, id(first))?.as_slice()),
-        "parents" => push_numbers(reported, memo.parents(id(first))?.as_slice()),
+        "members" => push_numbers(
+            reported,
+            "",
+            " ",
+            memo.members(alloc, id(first))?.as_slice(),
+        ),
+        "parents" => push_numbers(reported, "", " ", memo.parents(id(first))?.as_slice()),
         _ => reported.push_str("what?"),
     }
 }

@@ -12,7 +12,8 @@ use costs::{Cardinalities, cost};
 use derivation::{Line, Step};
 use explore::{apply_all, simplify};
 use fixtures::{
-    COMPANY, DEPT, EMP, QueryReporting, Tables, push_number, query_differences, query_of, schema_of,
+    COMPANY, DEPT, EMP, QueryReporting, Tables, push_number, push_numbers, query_differences,
+    query_of, schema_of,
 };
 use frame::frame_of;
 use logs::Log;
@@ -209,25 +210,14 @@ fn plans_need_few_lines(rt: HostRuntime) {
     assert_eq!(rt; asked, 121);
 }
 
-fn push_numbers(reported: &mut String, numbers: &[u32]) -> Result<(), AllocError> {
-    for (place, number) in numbers.iter().enumerate() {
-        push_number(
-            reported,
-            if place == 0 { " " } else { "," },
-            *number as usize,
-        )?;
-    }
-    Ok(())
-}
-
 /// The rule of a step, the lines to which it is applied, and behind `/` those that it makes.
 fn push_step(reported: &mut String, step: &Step) -> Result<(), AllocError> {
     reported.push_str(" ")?;
     reported.push_str(step.rule.code())?;
-    push_numbers(reported, step.uses.as_slice())?;
+    push_numbers(reported, " ", ",", step.uses.as_slice())?;
     if !step.makes.as_slice().is_empty() {
         reported.push_str(" /")?;
-        push_numbers(reported, step.makes.as_slice())?;
+        push_numbers(reported, " ", ",", step.makes.as_slice())?;
     }
     Ok(())
 }
@@ -237,11 +227,11 @@ fn push_fact(reported: &mut String, fact: &Fact) -> Result<(), AllocError> {
         Fact::NotNull(column) => push_number(reported, " notnull ", *column as usize),
         Fact::WeakKey(key) => {
             reported.push_str(" weak")?;
-            push_numbers(reported, key.as_slice())
+            push_numbers(reported, " ", ",", key.as_slice())
         }
         Fact::StrongKey(key) => {
             reported.push_str(" strong")?;
-            push_numbers(reported, key.as_slice())
+            push_numbers(reported, " ", ",", key.as_slice())
         }
     }
 }
@@ -255,23 +245,23 @@ fn push_said(alloc: Global, reported: &mut String, line: &Line) -> Result<(), Al
         }
         Line::Adds(class, step, expr) => {
             reported.push_str("A")?;
-            push_numbers(reported, &[*class])?;
+            push_numbers(reported, " ", ",", &[*class])?;
             push_step(reported, step.get())?;
             reported.push_str(" ")?;
             push_line(alloc, reported, expr)
         }
         Line::Unites(first, second, step) => {
             reported.push_str("S")?;
-            push_numbers(reported, &[*first, *second])?;
+            push_numbers(reported, " ", ",", &[*first, *second])?;
             push_step(reported, step.get())
         }
         Line::Alike(first, second) => {
             reported.push_str("G")?;
-            push_numbers(reported, &[*first, *second])
+            push_numbers(reported, " ", ",", &[*first, *second])
         }
         Line::Gives(class, member, fact) => {
             reported.push_str("L")?;
-            push_numbers(reported, &[*class, *member])?;
+            push_numbers(reported, " ", ",", &[*class, *member])?;
             push_fact(reported, fact)
         }
     }

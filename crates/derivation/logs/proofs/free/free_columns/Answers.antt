@@ -23,4 +23,4 @@ returns c =
     ∙ ap (λ b. b || lacking k) (sym (list_any-append (λ g. free g k) left right))
     ∙ ap (λ xs. list_any (λ g. free g k) (left ++ right) || (has xs k && not (list_any (λ g. has (cols g) k) (left ++ right)))) c.as_slice.ensures.columns
     ∙ ap (λ b. list_any (λ g. free g k) (left ++ right) || (b && not (list_any (λ g. has (cols g) k) (left ++ right)))) (c.in_ok-mentioned.ensures k)
-    ∙ ap (λ gs. list_any (λ g. free g k) gs || (spec.mentioned cols free (spec.conditions c.args.expr.now) k && not (list_any (λ g. has (cols g) k) gs))) c.children-inputs.ensures
+    ∙ ap (λ gs. list_any (λ g. free g k) gs || (spec.mentioned cols free (spec.conditions c.args.expr.now) k && not (list_any (λ g. has (cols g) k) gs))) c.children-inputs.ensures.only
