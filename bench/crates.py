@@ -20,4 +20,4 @@ def list_crate(tree, name, libraries):
 
 def run(tree, crate):
     """Proves, builds and runs the crate in this folder of the tree, with nothing to read."""
-    subprocess.run([tree / ".ci/rt", "run"], cwd=crate, check=True, stdin=subprocess.DEVNULL, stdout=subprocess.DEVNULL)
+    subprocess.run([(tree / ".ci/rt").resolve(), "run"], cwd=crate, check=True, stdin=subprocess.DEVNULL, stdout=subprocess.DEVNULL)

@@ -240,7 +240,7 @@ def add_crate(tree):
 def built(tree):
     subprocess.run(["git", "clone", "-q", ROOT, tree], check=True)
     crate = add_crate(tree)
-    subprocess.run(["rt", "run"], cwd=crate, check=True, stdin=subprocess.DEVNULL, stdout=subprocess.DEVNULL)
+    crates.run(tree, crate)
     return crate / "out" / NAME
 
 
@@ -249,7 +249,7 @@ def answers_by_try(tree, text):
     before = (tree / "crates.txt").read_text()
     try:
         crate = add_crate(tree)
-        run = subprocess.run(["rt", "try", "--seconds", "300"], cwd=crate, input=text, capture_output=True, text=True)
+        run = subprocess.run([(tree / ".ci/rt").resolve(), "try", "--seconds", "300"], cwd=crate, input=text, capture_output=True, text=True)
         if run.returncode:
             sys.exit(run.stdout[-2000:] + run.stderr[-2000:])
         return run.stdout

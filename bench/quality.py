@@ -418,7 +418,7 @@ def tried(tree, draws):
     for start in range(0, len(draws), BATCH):
         parts = [part.encode() for drawn in draws[start : start + BATCH] for part in (schema_of(drawn), drawn.text, statistics_of(drawn))]
         asked = b"".join(b"%d\n%b" % (len(part), part) for part in parts)
-        run = subprocess.run(["rt", "try", "--seconds", "900"], cwd=crate, input=asked, capture_output=True, check=False)
+        run = subprocess.run([(tree / ".ci/rt").resolve(), "try", "--seconds", "900"], cwd=crate, input=asked, capture_output=True, check=False)
         said = [text.partition("\n") for text in run.stdout.decode().split("----\n")]
         texts += [(int(cost), text) for cost, _, text in said if text.startswith("SQLPLAN")]
         if len(texts) < min(len(draws), start + BATCH):

@@ -47,7 +47,7 @@ def driver(name, libraries, tree=None, files=()):
 
 def said(crate, text, seconds=900):
     """What a driver writes, given a text."""
-    ended = subprocess.run(["rt", "try", "--seconds", str(seconds)], cwd=crate, input=text.encode(), capture_output=True, check=False)
+    ended = subprocess.run([crate.parents[2] / ".ci/rt", "try", "--seconds", str(seconds)], cwd=crate, input=text.encode(), capture_output=True, check=False)
     if ended.returncode:
         sys.exit(ended.stdout.decode()[-3000:] + ended.stderr.decode()[-3000:])
     return ended.stdout.decode()
