@@ -285,13 +285,10 @@ def answers(tree, cases):
 
 
 def main():
-    words = sys.argv[1:]
-    tree = words[words.index("--tree") + 1] if "--tree" in words else None
-    numbers = [int(w) for place, w in enumerate(words) if w.isdigit() and (place == 0 or words[place - 1] != "--tree")]
-    count, seed = (numbers + [2000, 39][len(numbers) :])[:2]
-    draw = random.Random(seed)
-    cases = [case(draw) for _ in range(count)]
-    said = answers(tree, cases)
+    asked = drivers.arguments(__doc__, 2000, 39)
+    draw = random.Random(asked.seed)
+    cases = [case(draw) for _ in range(asked.count)]
+    said = answers(asked.tree, cases)
     differ = [place for place, (one, answer) in enumerate(zip(cases, said)) if one[2] != answer]
     for place in differ[:3]:
         print(f"case {place}\n{cases[place][0]}\n{cases[place][1]}wanted\n{cases[place][2]}given\n{said[place]}")
@@ -301,8 +298,8 @@ def main():
             kinds[line.split()[0]] = kinds.get(line.split()[0], 0) + 1
     past = sum(1 for *_, wanted in cases if str(MOST) in wanted)
     nodes = f"nodes {dict(sorted(kinds.items()))}"
-    print(f"{len(said)} of {count} cases asked, {len(differ)} differ; {nodes}; {past} cases with a number cut to 2^64 - 1")
-    return 1 if differ or len(said) != count else 0
+    print(f"{len(said)} of {asked.count} cases asked, {len(differ)} differ; {nodes}; {past} cases with a number cut to 2^64 - 1")
+    return 1 if differ or len(said) != asked.count else 0
 
 
 if __name__ == "__main__":

@@ -1,6 +1,7 @@
 """Drivers in Rattle, which ask the project's libraries what no command of the program does. `rt try` of the toolchain runs them, which proves
 nothing."""
 
+import argparse
 import contextlib
 import pathlib
 import shutil
@@ -13,6 +14,15 @@ HERE = pathlib.Path(__file__).resolve().parent
 sys.path.insert(0, str(HERE.parent))
 ROOM = "tests"
 """Where a driver's crate stands while it runs."""
+
+
+def arguments(about, count, seed):
+    """What the command line of a driver's script says: the tree, how many cases, and the seed of the random numbers."""
+    parser = argparse.ArgumentParser(description=about, formatter_class=argparse.RawDescriptionHelpFormatter)
+    parser.add_argument("--tree", metavar="PATH", help="a tree whose libraries are built; without this, a clone, which builds them")
+    parser.add_argument("count", nargs="?", type=int, default=count, help=f"how many cases are asked ({count})")
+    parser.add_argument("seed", nargs="?", type=int, default=seed, help=f"of the random cases ({seed})")
+    return parser.parse_args()
 
 
 def with_rooms(listing, libraries):
