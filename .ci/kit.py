@@ -18,6 +18,9 @@ HERE = os.path.join(ROOT, ".ci")
 ASKED_ONCE = ("stamp", "below")
 """The methods of the kit's crates that ask themselves of all crates below."""
 
+MOST_MEMORY = 4_500_000_000
+"""What one check takes at most, in bytes: the dearest that was seen, the program's own, took 4.3 GB."""
+
 
 def path():
     """The toolchain's `rt`: the first of the path that isn't this folder's."""
@@ -61,6 +64,13 @@ def command():
     except AttributeError as missing:
         print(f"rt: this kit names things otherwise ({missing}): going on by its plain command, which is slower", file=sys.stderr)
     return rt
+
+
+def lanes():
+    """How many checks may run side by side: one a processor, as far as free memory holds them."""
+    with open("/proc/meminfo", encoding="ascii") as lines:
+        free = next(int(line.split()[1]) * 1024 for line in lines if line.startswith("MemAvailable"))
+    return max(1, min(len(os.sched_getaffinity(0)), free // MOST_MEMORY))
 
 
 class Listed(NamedTuple):

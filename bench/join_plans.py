@@ -40,7 +40,7 @@ COLUMNS = {
 
 @dataclasses.dataclass
 class Case:
-    """A plan in words, as crates/tests/plan_tests/src/plans.rt has them, over the lines of the query's frame; or another way to answer. The
+    """A plan in words, as crates/tests/plan_words/src/plans.rt has them, over the lines of the query's frame; or another way to answer. The
     first word of its name is its own."""
 
     name: str
@@ -229,7 +229,7 @@ def add_crate(tree):
     crate = tree / "crates" / NAME
     (crate / "src").mkdir(parents=True)
     shutil.copy(ROOT / "bench/join_plans/main.rt.txt", crate / "src/main.rt")
-    shutil.copy(tree / "crates/tests/plan_tests/src/plans.rt", crate / "src/plans.rt")
+    shutil.copy(tree / "crates/tests/plan_words/src/plans.rt", crate / "src/plans.rt")
     proof = crate / "proofs/rows_of_table"
     proof.mkdir(parents=True)
     shutil.copy(ROOT / "bench/join_plans/rows_of_table.antt.txt", proof / "Answers.antt")

@@ -1,4 +1,4 @@
-"""The worked queries of crates/tests/plan_tests/src/answers.rt over the tables of examples/hr: the answer that stands there, what `query` and
+"""The worked queries of crates/tests (plan_words/src/queries.rt, plan_tests/src/answers.rt) over the tables of examples/hr: the answer that stands there, what `query` and
 `meaning` write, and sqlite3's answer have to be the same rows.
 
 Rows are compared up to order, and in order where the query has an ORDER BY. A query that is refused there has to be refused by both commands.
@@ -10,13 +10,13 @@ import re
 from common import ROOT, agree, rows_in, sqlite_database, sqlite_rows, value_of, Column, Table
 
 SEED, ROUND = None, 1
-TESTS = ROOT / "crates/tests/plan_tests/src/answers.rt"
+TESTS = [ROOT / f"crates/tests/{path}.rt" for path in ("plan_words/src/queries", "plan_tests/src/answers")]
 EXAMPLE = ROOT / "examples/hr"
 
 
 def worked():
     """The queries, each with its answer: they stand in lines as `query => header;row;row`, or `query => refused CODE at BYTE`."""
-    return re.findall(r'^(?:.*r")?(SELECT .*) => (.*?)(?:";)?$', TESTS.read_text(encoding="utf-8"), re.MULTILINE)
+    return re.findall(r'^(?:.*r")?(SELECT .*) => (.*?)(?:";)?$', "".join(path.read_text(encoding="utf-8") for path in TESTS), re.MULTILINE)
 
 
 def company():

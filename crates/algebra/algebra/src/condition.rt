@@ -38,9 +38,15 @@ pub enum Condition {
 }
 
 /// Conditions that must all be true: none is an AND, and they stand in rising order of their texts, each once.
-#[derive(Drop)]
 pub struct Conjuncts {
     conditions: Items<Condition>,
+}
+
+// By hand, so that crates above drop conjuncts by one call.
+impl Drop for Conjuncts {
+    fn drop(self) {
+        let Conjuncts { conditions: _ } = self;
+    }
 }
 
 impl Model for Conjuncts {

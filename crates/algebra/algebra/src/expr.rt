@@ -18,7 +18,6 @@ pub struct Aggregation {
 }
 
 /// An operator of the algebra over classes, which come last.
-#[derive(Drop)]
 pub enum Expr {
     /// The rows of a table instance.
     Get(InstanceId),
@@ -39,6 +38,20 @@ pub enum Expr {
     Distinct(ClassId),
     /// One row for each different key, or one row where there is no key column, and the aggregates of each group.
     Group(Columns, Aggregations, ClassId),
+}
+
+// By hand, so that crates above drop an expression by one call.
+impl Drop for Expr {
+    fn drop(self) {
+        match self {
+            Expr::Get(_) | Expr::Distinct(_) => {}
+            Expr::Select(_, _)
+            | Expr::Join(_, _, _)
+            | Expr::LeftJoin(_, _, _)
+            | Expr::Semi(_, _, _) => {}
+            Expr::Anti(_, _, _, _) | Expr::Keep(_, _) | Expr::Group(_, _, _) => {}
+        }
+    }
 }
 
 impl Expr {

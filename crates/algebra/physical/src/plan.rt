@@ -5,7 +5,6 @@ use query::{ColumnId, InstanceId};
 use values::Items;
 
 /// Which rows a join gives. A left row *matches* the right rows with which it makes all conjuncts true.
-#[derive(Drop)]
 pub enum Matching {
     /// Each left row with each right row that it matches.
     Inner(Conjuncts),
@@ -15,6 +14,15 @@ pub enum Matching {
     Semi(Conjuncts),
     /// The left rows for which no right row makes all of the first true and none of the second false: `Anti(ordinary, null_aware)`.
     Anti(Conjuncts, Conjuncts),
+}
+
+// By hand, so that crates above drop a matching by one call.
+impl Drop for Matching {
+    fn drop(self) {
+        match self {
+            Matching::Inner(_) | Matching::Left(_) | Matching::Semi(_) | Matching::Anti(_, _) => {}
+        }
+    }
 }
 
 /// How a join finds the right rows for a left one. What it gives doesn't depend on it.
@@ -54,7 +62,6 @@ pub struct IndexAccess {
 }
 
 /// How an expression's rows are computed from those of the inputs.
-#[derive(Drop)]
 pub enum Operator {
     /// The rows of a table instance, in the order of the table.
     Scan {
@@ -101,13 +108,54 @@ pub enum Operator {
     },
 }
 
+// By hand, so that crates above drop an operator by one call.
+impl Drop for Operator {
+    fn drop(self) {
+        match self {
+            Operator::Scan { instance: _ } => {}
+            Operator::IndexScan {
+                access: _,
+                conjuncts: _,
+            } => {}
+            Operator::Filter { conjuncts: _ } | Operator::FilterSubqueries { conjuncts: _ } => {}
+            Operator::Projection { columns: _ } => {}
+            Operator::JoinRows {
+                method: _,
+                matching: _,
+            } => {}
+            Operator::IndexJoin {
+                access: _,
+                matching: _,
+            } => {}
+            Operator::GroupRows {
+                method: _,
+                keys: _,
+                added: _,
+            } => {}
+            Operator::DistinctRows { method: _ } => {}
+        }
+    }
+}
+
 /// A node of a plan.
-#[derive(Drop)]
 pub enum Node {
     /// An operator that computes the expression of this line of the derivation.
     Implements { line: LineId, operator: Operator },
     /// The enforcer of an order: the input's rows by the keys, those that tie as they stood. It is of its input's class.
     Sort { keys: Items<OrderKey> },
+}
+
+// By hand, so that crates above drop a node by one call.
+impl Drop for Node {
+    fn drop(self) {
+        match self {
+            Node::Implements {
+                line: _,
+                operator: _,
+            } => {}
+            Node::Sort { keys: _ } => {}
+        }
+    }
 }
 
 #[derive(Drop)]

@@ -11,10 +11,26 @@ use thiserror::Error;
 use values::{Fault, Items};
 
 /// A plan, and the derivation that ties it to its query.
-#[derive(Drop)]
 pub struct Certificate {
     pub lines: Items<Line>,
     pub plan: Plan,
+}
+
+// By hand, so that crates above drop a certificate by one call.
+impl Drop for Certificate {
+    fn drop(self) {
+        let Certificate { lines: _, plan: _ } = self;
+    }
+}
+
+impl Certificate {
+    /// The lines, without the plan.
+    pub fn into_lines(self) -> Items<Line>
+        ensures { result ≡ self.lines }
+    {
+        let Certificate { lines, plan: _ } = self;
+        lines
+    }
 }
 
 /// Why a line or a node is refused.

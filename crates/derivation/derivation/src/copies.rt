@@ -3,10 +3,32 @@
 ghost use Rattle.std.specs.Prelude.{◌≡◌, IfOk};
 
 use crate::line::{Line, Step};
-use algebra::Expr;
+use algebra::{Aggregations, Columns, Conjuncts, Expr};
 use props::Fact;
 use std::alloc::{AllocError, Global};
 use values::Boxed;
+
+fn copy_lists(
+    alloc: Global,
+    ordinary: &Conjuncts,
+    null_aware: &Conjuncts,
+) -> Result<(Conjuncts, Conjuncts), AllocError>
+    ensures { IfOk result (λ lists. lists ≡ (ordinary.now, null_aware.now)) }
+{
+    let ordinary = ordinary.copy(alloc)?;
+    Ok((ordinary, null_aware.copy(alloc)?))
+}
+
+fn copy_grouping(
+    alloc: Global,
+    keys: &Columns,
+    added: &Aggregations,
+) -> Result<(Columns, Aggregations), AllocError>
+    ensures { IfOk result (λ grouping. grouping ≡ (keys.now, added.now)) }
+{
+    let keys = keys.copy(alloc)?;
+    Ok((keys, added.copy(alloc)?))
+}
 
 fn copy_expr(alloc: Global, expr: &Expr) -> Result<Expr, AllocError>
     ensures { IfOk result (λ x. x ≡ expr.now) }
@@ -18,14 +40,14 @@ fn copy_expr(alloc: Global, expr: &Expr) -> Result<Expr, AllocError>
         Expr::LeftJoin(on, a, b) => Ok(Expr::LeftJoin(on.copy(alloc)?, *a, *b)),
         Expr::Semi(on, a, b) => Ok(Expr::Semi(on.copy(alloc)?, *a, *b)),
         Expr::Anti(ordinary, null_aware, a, b) => {
-            let ordinary = ordinary.copy(alloc)?;
-            Ok(Expr::Anti(ordinary, null_aware.copy(alloc)?, *a, *b))
+            let (ordinary, null_aware) = copy_lists(alloc, ordinary, null_aware)?;
+            Ok(Expr::Anti(ordinary, null_aware, *a, *b))
         }
         Expr::Keep(columns, x) => Ok(Expr::Keep(columns.copy(alloc)?, *x)),
         Expr::Distinct(x) => Ok(Expr::Distinct(*x)),
         Expr::Group(keys, added, x) => {
-            let keys = keys.copy(alloc)?;
-            Ok(Expr::Group(keys, added.copy(alloc)?, *x))
+            let (keys, added) = copy_grouping(alloc, keys, added)?;
+            Ok(Expr::Group(keys, added, *x))
         }
     }
 }

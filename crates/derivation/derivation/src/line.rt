@@ -8,7 +8,6 @@ use thiserror::Error;
 use values::Boxed;
 
 /// A rule, applied to lines.
-#[derive(Drop)]
 pub struct Step {
     pub rule: RuleName,
     /// The conjunct or the class that is meant, where a rule has a choice; else 0.
@@ -19,8 +18,19 @@ pub struct Step {
     pub makes: Numbers,
 }
 
+// By hand, so that crates above drop a step by one call.
+impl Drop for Step {
+    fn drop(self) {
+        let Step {
+            rule: _,
+            pick: _,
+            uses: _,
+            makes: _,
+        } = self;
+    }
+}
+
 /// A line of a derivation. Lines are numbered from 0. A step is boxed, as most lines have none.
-#[derive(Drop)]
 pub enum Line {
     /// Founds a class, which is named by this line's number.
     Founds(Expr),
@@ -32,6 +42,16 @@ pub enum Line {
     Alike(LineId, LineId),
     /// A fact holds of the class, by a line of it.
     Gives(ClassId, LineId, Fact),
+}
+
+// By hand, so that crates above drop a line by one call.
+impl Drop for Line {
+    fn drop(self) {
+        match self {
+            Line::Founds(_) | Line::Alike(_, _) => {}
+            Line::Adds(_, _, _) | Line::Unites(_, _, _) | Line::Gives(_, _, _) => {}
+        }
+    }
 }
 
 /// Why a line may not stand.

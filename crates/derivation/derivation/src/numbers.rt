@@ -15,9 +15,15 @@ enum Listed {
 }
 
 /// The numbers of lines or of classes, in their order. One number has no block of its own.
-#[derive(Drop)]
 pub struct Numbers {
     numbers: Listed,
+}
+
+// By hand, so that crates above drop numbers by one call.
+impl Drop for Numbers {
+    fn drop(self) {
+        let Numbers { numbers: _ } = self;
+    }
 }
 
 impl Model for Numbers {

@@ -10,12 +10,21 @@ use derivation::Line;
 use std::alloc::{AllocError, Global};
 
 /// For each class the lines that add to it, in a chain from the last of them to the class.
-#[derive(Drop)]
 pub struct Additions {
     /// For each class the last line that adds to it; the class itself where none does.
     pub last: Vec<LineId>,
     /// For each line that adds to a class the one before it; the class where there is none.
     pub earlier: Vec<LineId>,
+}
+
+// By hand, so that where it is dropped is one call.
+impl Drop for Additions {
+    fn drop(self) {
+        let Additions {
+            last: _,
+            earlier: _,
+        } = self;
+    }
 }
 
 /// The class to which a line adds; the line itself where it adds to none.

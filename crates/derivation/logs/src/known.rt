@@ -22,7 +22,6 @@ use std::alloc::{AllocError, Global};
 
 /// What is known of the classes of a log, by their numbers. A line that founds none counts as a class without columns, so that the
 /// lists are as long as the log.
-#[derive(Drop)]
 pub struct Known {
     /// Their columns.
     pub columns: Vec<Columns>,
@@ -30,6 +29,17 @@ pub struct Known {
     pub free: Vec<Columns>,
     /// Which of them are the same, and their facts.
     pub sets: ClassSets,
+}
+
+// By hand, so that where it is dropped is one call.
+impl Drop for Known {
+    fn drop(self) {
+        let Known {
+            columns: _,
+            free: _,
+            sets: _,
+        } = self;
+    }
 }
 
 /// The class of a line's expression; the line's own number where it has none.

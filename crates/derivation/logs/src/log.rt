@@ -31,13 +31,25 @@ use std::alloc::{AllocError, Global};
 use std::marker::Model;
 
 /// Lines over a query's table instances and aggregates, each of which may stand where it does.
-#[derive(Drop)]
 pub struct Log<'q> {
     instances: &'q [TableInstance],
     own: &'q [Aggregation],
     lines: Vec<Line>,
     known: Known,
     additions: Additions,
+}
+
+// By hand, so that where it is dropped is one call.
+impl Drop for Log<'_> {
+    fn drop(self) {
+        let Log {
+            instances: _,
+            own: _,
+            lines: _,
+            known: _,
+            additions: _,
+        } = self;
+    }
 }
 
 impl<'q> Model for Log<'q> {
@@ -218,7 +230,13 @@ impl<'q> Log<'q> {
     pub fn into_lines(self) -> Vec<Line>
         ensures { reverse result.items ≡ self.entry.log }
     {
-        let Log { lines, .. } = self;
+        let Log {
+            instances: _,
+            own: _,
+            lines,
+            known: _,
+            additions: _,
+        } = self;
         lines
     }
 }

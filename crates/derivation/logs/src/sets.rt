@@ -14,7 +14,6 @@ use std::alloc::{AllocError, Global};
 use std::mem;
 
 /// Classes in disjoint sets, each set with the class that stands for it and with the facts of its classes.
-#[derive(Drop)]
 pub struct ClassSets {
     /// For each class the number of its set.
     pub sets: Vec<u32>,
@@ -24,6 +23,18 @@ pub struct ClassSets {
     pub members: Vec<Numbers>,
     /// For each set the facts of its classes.
     pub facts: Vec<Facts>,
+}
+
+// By hand, so that where it is dropped is one call.
+impl Drop for ClassSets {
+    fn drop(self) {
+        let ClassSets {
+            sets: _,
+            roots: _,
+            members: _,
+            facts: _,
+        } = self;
+    }
 }
 
 /// Puts classes into a set.

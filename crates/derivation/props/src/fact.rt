@@ -11,7 +11,6 @@ use std::marker::Model;
 use std::mem;
 
 /// A fact of a class's rows, in every database that satisfies the schema and in every environment.
-#[derive(Drop)]
 pub enum Fact {
     /// No row has Null in the column.
     NotNull(ColumnId),
@@ -21,8 +20,16 @@ pub enum Fact {
     StrongKey(Columns),
 }
 
+// By hand, so that where it is dropped is one call.
+impl Drop for Fact {
+    fn drop(self) {
+        match self {
+            Fact::NotNull(_) | Fact::WeakKey(_) | Fact::StrongKey(_) => {}
+        }
+    }
+}
+
 /// What is known of a class of which something is known.
-#[derive(Drop)]
 pub struct FactSets {
     /// The columns that are nowhere Null.
     pub not_null: Columns,
@@ -30,11 +37,28 @@ pub struct FactSets {
     pub strong_keys: Keys,
 }
 
+// By hand, so that where it is dropped is one call.
+impl Drop for FactSets {
+    fn drop(self) {
+        let FactSets {
+            not_null: _,
+            weak_keys: _,
+            strong_keys: _,
+        } = self;
+    }
+}
+
 /// The facts that are known of a class, as one `FactSets`. They stand in a block of their own, which a class of which nothing is known
 /// doesn't have.
-#[derive(Drop)]
 pub struct Facts {
     sets: Option<Box<FactSets>>,
+}
+
+// By hand, so that where it is dropped is one call.
+impl Drop for Facts {
+    fn drop(self) {
+        let Facts { sets: _ } = self;
+    }
 }
 
 impl Model for Facts {

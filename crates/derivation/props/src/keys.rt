@@ -15,9 +15,15 @@ use std::mem;
 type KeyTable = Option<Box<IndexSet<Vec<ColumnId>>>>;
 
 /// A set of keys, each found by its hash. Contracts see them in rising order.
-#[derive(Drop)]
 pub struct Keys {
     table: KeyTable,
+}
+
+// By hand, so that where it is dropped is one call.
+impl Drop for Keys {
+    fn drop(self) {
+        let Keys { table: _ } = self;
+    }
 }
 
 impl Model for Keys {

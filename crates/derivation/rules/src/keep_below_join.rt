@@ -64,9 +64,11 @@ fn narrowed(
     if at.classes.columns.are(left, &columns) {
         return Err(Fault::Refused(Unfit::Condition));
     }
+    let kept = kept.copy(alloc)?;
+    let condition = condition.copy(alloc)?;
     let narrow = keep(alloc, columns, Shape::Class(left))?;
-    let joined = join(alloc, condition.copy(alloc)?, narrow, Shape::Class(right))?;
-    Ok(keep(alloc, kept.copy(alloc)?, joined)?)
+    let joined = join(alloc, condition, narrow, Shape::Class(right))?;
+    Ok(keep(alloc, kept, joined)?)
 }
 
 /// Of a join's left side only those columns are kept that the projection keeps or the condition reads.

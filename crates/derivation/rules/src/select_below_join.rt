@@ -25,8 +25,9 @@ fn pushed(
     ensures { Gives (λ s. s) result (spec.pushed (known at.entry.classes) conjuncts.now joined.now left right) }
 {
     let (below, rest) = conjuncts.split_without(alloc, at.classes.columns, right)?;
+    let joined = joined.copy(alloc)?;
     let left = select(alloc, some(below)?, Shape::Class(left))?;
-    let joined = join(alloc, joined.copy(alloc)?, left, Shape::Class(right))?;
+    let joined = join(alloc, joined, left, Shape::Class(right))?;
     Ok(selected(alloc, rest, joined)?)
 }
 

@@ -22,12 +22,14 @@ impl Rule for SelectBelowSemi {
     fn apply(alloc: Global, at: Match<'_>) -> Result<Shape, RuleFault> {
         match at.two_lines()? {
             (Expr::Select(c, _), Expr::Semi(d, a, b)) => {
+                let condition = d.copy(alloc)?;
                 let left = select(alloc, c.copy(alloc)?, Shape::Class(*a))?;
-                Ok(semi(alloc, d.copy(alloc)?, left, Shape::Class(*b))?)
+                Ok(semi(alloc, condition, left, Shape::Class(*b))?)
             }
             (Expr::Select(c, _), Expr::Anti(ordinary, null_aware, a, b)) => {
+                let ordinary = ordinary.copy(alloc)?;
+                let lists = (ordinary, null_aware.copy(alloc)?);
                 let left = select(alloc, c.copy(alloc)?, Shape::Class(*a))?;
-                let lists = (ordinary.copy(alloc)?, null_aware.copy(alloc)?);
                 Ok(anti(alloc, lists, left, Shape::Class(*b))?)
             }
             _ => Err(Fault::Refused(Unfit::Pattern)),

@@ -44,6 +44,19 @@ pub(crate) fn selected(
     }
 }
 
+/// The sides of a join, in boxes.
+fn boxed(
+    alloc: Global,
+    left: Shape,
+    right: Shape,
+) -> Result<(Boxed<Shape>, Boxed<Shape>), AllocError>
+    ensures { IfOk result (λ sides. sides ≡ (left, right)) }
+{
+    let right = Boxed::new(alloc, right);
+    let left = Boxed::new(alloc, left)?;
+    Ok((left, right?))
+}
+
 pub(crate) fn join(
     alloc: Global,
     conjuncts: Conjuncts,
@@ -52,8 +65,8 @@ pub(crate) fn join(
 ) -> Result<Shape, AllocError>
     ensures { IfOk result (λ s. s ≡ shape.Join conjuncts left right) }
 {
-    let left = Boxed::new(alloc, left)?;
-    Ok(Shape::Join(conjuncts, left, Boxed::new(alloc, right)?))
+    let (left, right) = boxed(alloc, left, right)?;
+    Ok(Shape::Join(conjuncts, left, right))
 }
 
 pub(crate) fn keep(alloc: Global, columns: Columns, input: Shape) -> Result<Shape, AllocError>
@@ -70,8 +83,8 @@ pub(crate) fn semi(
 ) -> Result<Shape, AllocError>
     ensures { IfOk result (λ s. s ≡ shape.Semi conjuncts left right) }
 {
-    let left = Boxed::new(alloc, left)?;
-    Ok(Shape::Semi(conjuncts, left, Boxed::new(alloc, right)?))
+    let (left, right) = boxed(alloc, left, right)?;
+    Ok(Shape::Semi(conjuncts, left, right))
 }
 
 /// An antijoin, of ordinary and of null-aware conditions.
@@ -83,7 +96,7 @@ pub(crate) fn anti(
 ) -> Result<Shape, AllocError>
     ensures { IfOk result (λ s. s ≡ shape.Anti lists.0 lists.1 left right) }
 {
+    let (left, right) = boxed(alloc, left, right)?;
     let (ordinary, null_aware) = lists;
-    let left = Boxed::new(alloc, left)?;
-    Ok(Shape::Anti(ordinary, null_aware, left, Boxed::new(alloc, right)?))
+    Ok(Shape::Anti(ordinary, null_aware, left, right))
 }

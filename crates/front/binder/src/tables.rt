@@ -37,14 +37,17 @@ impl Numbered {
         ensures pushed { OnOk result (self.new ≡ spec.with_table self.old table entry.now name.now) }
     {
         let number = id_of(self.tables.len())?;
+        let first_column = id_of(self.next_column)?;
+        let next_column = self.next_column.checked_add(entry.columns.len());
+        let name = name.copy(alloc)?;
+        let entry = entry.copy(alloc)?;
         self.tables.push(TableInstance {
             table,
-            entry: entry.copy(alloc)?,
-            name: name.copy(alloc)?,
-            first_column: id_of(self.next_column)?,
+            entry,
+            name,
+            first_column,
         })?;
-        let columns = entry.columns.len();
-        self.next_column = self.next_column.checked_add(columns).ok_or(AllocError)?;
+        self.next_column = next_column.ok_or(AllocError)?;
         Ok(TableReference { number, table })
     }
 

@@ -6,18 +6,19 @@ ghost use Rattle.sqlplan.specs.Stops.{Says};
 use crate::path_of;
 use crate::stop::Stop;
 use devices::ReadFailure;
+use input_hints::{
+    FoundRow, file_explanation, json_fault, line_explanation, row_there, schema_there,
+    size_explanation, statistics_there, table_there,
+};
 use pipeline::Refusal;
+use query_hints::{habits_there, names_there};
 use schema::{Schema, SchemaRefusal};
 use std::alloc::{AllocError, Global};
 use words::certificates::{of_certificate, of_check};
 use words::meanings::{
     OUTPUT_FAILED, TABLE_UNREAD, of_schema, of_scope, of_statistics, of_table, of_text,
 };
-use words::{
-    FoundRow, Meaning, explanation, explanation_at, file_explanation, habits_there, json_fault,
-    line_explanation, names_there, row_there, schema_there, size_explanation, statistics_there,
-    table_there,
-};
+use words::{Meaning, explanation, explanation_at};
 
 /// What a refusal means. Out of memory needs no words.
 fn meaning(refusal: &Refusal) -> Option<Meaning> {

@@ -20,6 +20,7 @@ use command::command;
 use devices::{ReadFailure, StandardStream, read_file};
 use explained::{Inputs, file_in_words, in_words, schema_in_words};
 use input::{TableFile, TableWatch};
+use input_hints::{FoundRow, found_row};
 use pipeline::{Exploration, PlanForm, Refusal, check, evaluate, explain, plan, query, run};
 use progress::{Progress, WatchedOutput};
 use schema::{Schema, SchemaFault};
@@ -29,7 +30,7 @@ use std::fs::File;
 use std::io::{BufWriter, IsTerminal, Write};
 use std::process::ExitCode;
 use stop::Stop;
-use words::{FoundRow, found_row, list_of_codes, readable};
+use words::{list_of_codes, readable};
 
 /// The stop of a file that can't be opened or read, in words if they are asked for.
 fn failed_file(alloc: Global, path: &str, failure: &ReadFailure, words: bool) -> Stop

@@ -14,13 +14,23 @@ struct Group {
 
 /// Groups by their numbers, each of which is that of a class. A line that founds no class has a group of its own too, so that the lists are as
 /// long as the log.
-#[derive(Drop)]
 pub(crate) struct Groups {
     alloc: Global,
     /// For each class its group.
     group_of: Vec<u32>,
     /// For each group its classes and parents; none where they went over to another one.
     groups: Vec<Group>,
+}
+
+// By hand, so that where it is dropped is one call.
+impl Drop for Groups {
+    fn drop(self) {
+        let Groups {
+            alloc: _,
+            group_of: _,
+            groups: _,
+        } = self;
+    }
 }
 
 impl Group {

@@ -49,9 +49,15 @@ pub(crate) struct Keys {
 }
 
 /// The numbers of conditions that name classes, by what they are with the groups of these.
-#[derive(Drop)]
 pub(crate) struct ConditionNumbers {
     conditions: IndexSet<Key>,
+}
+
+// By hand, so that where it is dropped is one call.
+impl Drop for ConditionNumbers {
+    fn drop(self) {
+        let ConditionNumbers { conditions: _ } = self;
+    }
 }
 
 /// Which operator it is.

@@ -29,7 +29,6 @@ const MOST_ALIKE: usize = 100_000;
 
 /// A log whose lines are found by their expressions up to which classes are the same, and which says of each two lines that have one
 /// expression so that their classes are the same.
-#[derive(Drop)]
 pub struct Memo<'q> {
     pub(crate) log: Log<'q>,
     /// No line is added to a log that holds so many.
@@ -43,6 +42,21 @@ pub struct Memo<'q> {
     alike: IndexMap<Key, LineId>,
     /// Lines that have one expression so, and are perhaps not of one class yet.
     congruent: Vec<Congruence>,
+}
+
+// By hand, so that where it is dropped is one call.
+impl Drop for Memo<'_> {
+    fn drop(self) {
+        let Memo {
+            log: _,
+            limit: _,
+            groups: _,
+            conditions: _,
+            named: _,
+            alike: _,
+            congruent: _,
+        } = self;
+    }
 }
 
 /// Two lines that have one expression up to which classes are the same.
@@ -106,14 +120,12 @@ impl<'q> Memo<'q> {
         Ok(memo)
     }
 
-    /// The same memo with another limit.
-    pub fn with_limit(self, limit: usize) -> Memo<'q>
-        ensures log { result.log ≡ self.entry.log }
-        ensures limit { result.limit ≡ limit }
+    /// Sets another limit.
+    pub fn set_limit(&mut self, limit: usize)
+        ensures log { self.new.log ≡ self.old.log }
+        ensures limit { self.new.limit ≡ limit }
     {
-        let mut memo = self;
-        memo.limit = limit;
-        memo
+        self.limit = limit;
     }
 
     pub fn log(&self) -> &Log<'q>
@@ -125,7 +137,15 @@ impl<'q> Memo<'q> {
     pub fn into_log(self) -> Log<'q>
         ensures { result ≡ self.entry.log }
     {
-        let Memo { log, .. } = self;
+        let Memo {
+            log,
+            limit: _,
+            groups: _,
+            conditions: _,
+            named: _,
+            alike: _,
+            congruent: _,
+        } = self;
         log
     }
 

@@ -64,6 +64,13 @@ struct Planning<'q> {
     exploration: Exploration,
 }
 
+/// A plan over a log's lines, and whether these were explored with room for more.
+#[derive(Drop)]
+struct ExploredPlan {
+    plan: Plan,
+    is_explored: bool,
+}
+
 /// What a search found: a plan over all lines of its log, the certificate of that plan with the lines that it needs, and whether the log was explored
 /// with room for more.
 #[derive(Drop)]
@@ -118,14 +125,12 @@ fn cheapest(
     )
 }
 
-/// The log with what is simpler, and with lines by which good join trees are among its plans, up to so many lines. These put selections over
-/// selections, so it is simplified again.
-fn seeded<'q>(alloc: Global, planning: Planning<'_>, log: Log<'q>) -> Result<Memo<'q>, AllocError> {
-    let mut memo = Memo::of(alloc, log, planning.limit)?;
-    simplify(alloc, &mut memo)?;
-    seed(alloc, &mut memo, planning.statistics)?;
-    simplify(alloc, &mut memo)?;
-    Ok(memo)
+/// Adds what is simpler, and lines by which good join trees are among a log's plans. These put selections over selections, so it is simplified
+/// again.
+fn prepare(alloc: Global, planning: Planning<'_>, memo: &mut Memo<'_>) -> Result<(), AllocError> {
+    simplify(alloc, memo)?;
+    seed(alloc, memo, planning.statistics)?;
+    simplify(alloc, memo)
 }
 
 /// How many lines a log may have, so many at most, for it to be worth exploring where a plan is estimated to cost so much.
@@ -136,36 +141,18 @@ fn worthwhile(limit: usize, cost: u64) -> usize {
     }
 }
 
-/// A plan over a log, with all its lines and with those that it needs.
-fn found_over(
-    alloc: Global,
-    planning: Planning<'_>,
-    memo: Memo<'_>,
-    plan: Plan,
-    is_explored: bool,
-) -> Result<Found, AllocError> {
-    let certificate = trimmed(alloc, memo.log(), planning.frame.len(), &plan)?;
-    let lines = Items::from_vec(memo.into_log().into_lines());
-    Ok(Found {
-        certificate,
-        whole: Certificate { lines, plan },
-        is_explored,
-    })
-}
-
 /// The cheapest plan that is found over a log's lines and all others that its limit leaves room for.
 fn explored(
     alloc: Global,
     planning: Planning<'_>,
-    memo: Memo<'_>,
-) -> Result<Option<Found>, AllocError> {
-    let mut memo = memo;
+    memo: &mut Memo<'_>,
+) -> Result<Option<ExploredPlan>, AllocError> {
     if !memo.is_full() {
-        apply_all(alloc, &mut memo)?;
+        apply_all(alloc, memo)?;
     }
-    let has_room = !memo.is_full();
+    let is_explored = !memo.is_full();
     match cheapest(alloc, planning, memo.log())? {
-        Some(best) => Ok(Some(found_over(alloc, planning, memo, best.plan, has_room)?)),
+        Some(BestPlan { plan, .. }) => Ok(Some(ExploredPlan { plan, is_explored })),
         None => Ok(None),
     }
 }
@@ -174,31 +161,64 @@ fn explored(
 fn explored_if_worthwhile(
     alloc: Global,
     planning: Planning<'_>,
-    memo: Memo<'_>,
-) -> Result<Option<Found>, AllocError> {
-    match cheapest(alloc, planning, memo.log())? {
-        Some(BestPlan { plan, cost }) => {
-            let memo = memo.with_limit(worthwhile(planning.limit, cost));
-            if memo.is_full() {
-                Ok(Some(found_over(alloc, planning, memo, plan, false)?))
-            } else {
-                explored(alloc, planning, memo)
-            }
-        }
-        None => Ok(None),
+    memo: &mut Memo<'_>,
+) -> Result<Option<ExploredPlan>, AllocError> {
+    let Some(BestPlan { plan, cost }) = cheapest(alloc, planning, memo.log())? else {
+        return Ok(None);
+    };
+    memo.set_limit(worthwhile(planning.limit, cost));
+    if memo.is_full() {
+        return Ok(Some(ExploredPlan {
+            plan,
+            is_explored: false,
+        }));
     }
+    explored(alloc, planning, memo)
 }
 
 /// The cheapest plan that is found over a log's lines and others behind them, as far as these are to be explored.
+fn cheapest_explored(
+    alloc: Global,
+    planning: Planning<'_>,
+    memo: &mut Memo<'_>,
+) -> Result<Option<ExploredPlan>, AllocError> {
+    prepare(alloc, planning, memo)?;
+    match planning.exploration {
+        Exploration::WhileWorthwhile => explored_if_worthwhile(alloc, planning, memo),
+        Exploration::ToLimit => explored(alloc, planning, memo),
+    }
+}
+
+/// A plan over a log, with all its lines and with those that it needs.
+fn found_over(
+    alloc: Global,
+    planning: Planning<'_>,
+    log: Log<'_>,
+    best: ExploredPlan,
+) -> Result<Found, AllocError> {
+    let ExploredPlan { plan, is_explored } = best;
+    let certificate = trimmed(alloc, &log, planning.frame.len(), &plan)?;
+    let lines = Items::from_vec(log.into_lines());
+    Ok(Found {
+        certificate,
+        whole: Certificate { lines, plan },
+        is_explored,
+    })
+}
+
+/// What is found over a log's lines and others behind them, if a plan is.
 fn found_by_log(
     alloc: Global,
     planning: Planning<'_>,
     log: Log<'_>,
 ) -> Result<Option<Found>, AllocError> {
-    let memo = seeded(alloc, planning, log)?;
-    match planning.exploration {
-        Exploration::WhileWorthwhile => explored_if_worthwhile(alloc, planning, memo),
-        Exploration::ToLimit => explored(alloc, planning, memo),
+    let mut memo = Memo::of(alloc, log, planning.limit)?;
+    match cheapest_explored(alloc, planning, &mut memo)? {
+        Some(best) => {
+            let found = found_over(alloc, planning, memo.into_log(), best)?;
+            Ok(Some(found))
+        }
+        None => Ok(None),
     }
 }
 
@@ -327,7 +347,7 @@ fn planned_by_part(
     let is_complete = are_closed(alloc, planning, &whole, is_explored)?;
     Ok(Planned {
         certificate,
-        log: whole.lines,
+        log: whole.into_lines(),
         cost,
         is_searched: true,
         is_complete,

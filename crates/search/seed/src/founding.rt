@@ -3,11 +3,8 @@
 //! A class has the rows that are guessed of the line that founds it, and of classes that are the same the first line counts. So the classes of the
 //! tree are founded before steps come to them by other joins, and have the rows that the tree was chosen by.
 
-use crate::chosen::{JoinTree, Joined};
-use crate::graph::mentioned;
-use crate::regions::{Parts, Region, conditions_of};
-use crate::sets::LeafSet;
 use algebra::{ClassId, Condition, Conjuncts, Expr};
+use join_trees::{JoinTree, Joined, LeafSet, Parts, Region, conditions_of, mentioned};
 use memo::Memo;
 use std::alloc::{AllocError, Global};
 

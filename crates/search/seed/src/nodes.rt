@@ -1,7 +1,7 @@
 //! Joins that are there, and the steps by which a class gets a join of other sides.
 
-use crate::sets::LeafSet;
 use algebra::{ClassId, Expr, LineId};
+use join_trees::LeafSet;
 use memo::Memo;
 use rules::RuleName;
 use std::alloc::{AllocError, Global};

@@ -4,13 +4,10 @@
 //! brings them below a join takes all that fit; so those that are to stay are founded as selections from the others, and merging these says that the
 //! classes are the same.
 
-use crate::chosen::JoinTree;
 use crate::founding::{SetClass, class_of};
 use crate::nodes::{join_line, line_over, step};
-use crate::regions::conditions_of;
-use crate::sets::LeafSet;
-use crate::subqueries::Subquery;
 use algebra::{ClassId, Condition, Conjuncts, Expr, LineId};
+use join_trees::{JoinTree, LeafSet, Subquery, conditions_of};
 use memo::Memo;
 use rules::RuleName;
 use std::alloc::{AllocError, Global};

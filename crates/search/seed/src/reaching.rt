@@ -1,9 +1,8 @@
 //! From any tree of joins to the one that is chosen.
 
-use crate::chosen::JoinTree;
 use crate::nodes::Nodes;
-use crate::sets::LeafSet;
 use crate::sinking::{MOST_DEEP, Wishes, lowered};
+use join_trees::{JoinTree, LeafSet};
 use memo::Memo;
 use std::alloc::{AllocError, Global};
 

@@ -1,53 +1,18 @@
 //! The seed of a log.
 
-use crate::chosen::JoinTree;
 use crate::founding::found_tree;
-use crate::graph::{Graph, Guesses};
 use crate::nodes::Nodes;
 use crate::placing::{Asked, place_subqueries};
 use crate::reaching::reach;
-use crate::regions::{Parts, Region, founding_sides, parts_of, place_of, regions};
-use crate::sets::{LeafSet, MOST_LEAVES};
 use crate::sinking::{Wishes, combed, lowered, sunk};
-use crate::subqueries::Subquery;
 use algebra::ClassId;
-use costs::Cardinalities;
+use join_trees::{
+    Choice, JoinTree, LeafSet, MOST_LEAVES, Parts, Region, choose, founding_sides, parts_of,
+    place_of, regions_of,
+};
 use memo::Memo;
 use statistics::Statistics;
 use std::alloc::{AllocError, Global};
-
-/// What is chosen for a region: its tree, the order in which its leaves are joined one by one, and the subqueries that are asked in the tree.
-#[derive(Drop)]
-struct Choice {
-    tree: JoinTree,
-    order: Vec<usize>,
-    subqueries: Vec<Subquery>,
-}
-
-fn choose(
-    alloc: Global,
-    memo: &Memo<'_>,
-    statistics: &Statistics,
-    region: Region,
-    parts: &Parts,
-) -> Result<Choice, AllocError> {
-    let log = memo.log();
-    let cardinalities = Cardinalities::of(alloc, statistics, log)?;
-    let guesses = Guesses {
-        log,
-        statistics,
-        cardinalities: &cardinalities,
-    };
-    let graph = Graph::of(alloc, guesses, region, parts)?;
-    let tree = JoinTree::of(alloc, &graph)?;
-    let order = tree.order(alloc, &graph)?;
-    let Graph { subqueries, .. } = graph;
-    Ok(Choice {
-        tree,
-        order,
-        subqueries,
-    })
-}
 
 /// The leaves that are filtered before they are joined: all but those whose matches are found by an index, and those that stand without their
 /// conditions in the tree.
@@ -145,13 +110,13 @@ fn seed_region(
     if parts.leaves.len() > MOST_LEAVES {
         return Ok(());
     }
-    let choice = choose(alloc, memo, statistics, region, &parts)?;
+    let choice = choose(alloc, memo.log(), statistics, region, &parts)?;
     seed_tree(alloc, memo, region, &parts, &choice)
 }
 
 /// Adds lines to a log so that for each group of inner joins that hang together a tree that seems good is among its plans.
 pub fn seed(alloc: Global, memo: &mut Memo<'_>, statistics: &Statistics) -> Result<(), AllocError> {
-    for region in regions(alloc, memo.log())? {
+    for region in regions_of(alloc, memo.log())? {
         seed_region(alloc, memo, statistics, region)?;
     }
     Ok(())

@@ -1,10 +1,8 @@
 //! A selection above joins is brought down: conditions on one leaf to the leaf, and the others each to a join of few leaves.
 
-use crate::graph::mentioned;
 use crate::nodes::{Nodes, join_line, line_over, step};
-use crate::regions::conditions_of;
-use crate::sets::LeafSet;
 use algebra::{ClassId, Expr, LineId};
+use join_trees::{LeafSet, conditions_of, mentioned};
 use memo::Memo;
 use rules::RuleName;
 use std::alloc::{AllocError, Global};

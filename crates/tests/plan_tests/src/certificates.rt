@@ -2,9 +2,6 @@
 
 ghost use Rattle.query.specs.Bound.{TablesAreOver};
 
-use crate::derived::{expressions_of, lines_of};
-use crate::plans::{cut, number, plan_of};
-use crate::tables::TABLES;
 use algebra::Expr;
 use certificate::{Certificate, CheckRefusal};
 use checker::{Checked, check};
@@ -16,6 +13,9 @@ use fixtures::{
 use frame::frame_of;
 use physical::Plan;
 use pipeline::execution::run;
+use plan_words::derived::{expressions_of, lines_of};
+use plan_words::plans::{cut, number, plan_of};
+use plan_words::tables::TABLES;
 use query::{BoundQuery, Query};
 use schema::Schema;
 use std::alloc::{AllocError, Global};

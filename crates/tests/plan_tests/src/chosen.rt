@@ -2,10 +2,10 @@
 
 ghost use Rattle.query.specs.Bound.{TablesAreOver};
 
-use crate::answers::QUERIES;
 use checker::check;
 use fixtures::{COMPANY, Reporting, differences, push_lines, query_of, schema_of};
 use pipeline::{Exploration, PlanForm, explain, fault_line};
+use plan_words::queries::QUERIES;
 use query::BoundQuery;
 use schema::Schema;
 use statistics::Statistics;

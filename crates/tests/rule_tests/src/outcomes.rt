@@ -41,6 +41,16 @@ fn push_truths(reported: &mut String, truths: Truths) -> Result<(), AllocError> 
     reported.push_str(if truths.can_be_unknown { "U" } else { "" })
 }
 
+fn push_outcomes(
+    reported: &mut String,
+    condition: &Condition,
+    nulls: NullColumns<'_>,
+) -> Result<(), AllocError> {
+    push_truths(reported, outcomes(condition, nulls))?;
+    let never = never_true(std::slice::from_ref(condition), nulls);
+    reported.push_str(if never { " never" } else { "" })
+}
+
 /// Reports the truths that a condition can have where the columns behind `: ` are Null, and whether it is never true there.
 struct Outcomes;
 
@@ -54,9 +64,7 @@ impl Reporting for Outcomes {
         } else {
             NullColumns::One(number(nulls))
         };
-        push_truths(reported, outcomes(&condition, nulls))?;
-        let never = never_true(std::slice::from_ref(&condition), nulls);
-        reported.push_str(if never { " never" } else { "" })
+        push_outcomes(reported, &condition, nulls)
     }
 }
 

@@ -1,4 +1,4 @@
-use Rattle.std.proofs.Common.{◌≡◌}
+use Rattle.std.proofs.Common.{refl, ◌≡◌}
 use Rattle.certificate_read.specs.WordReading.{number_wording, conjuncts_wording}
 use Rattle.certificate_read.specs.Wordings.{◌␣◌, left_words}
 use Rattle.certificate_read.proofs.WideConjuncts.{conjuncts_told}
@@ -26,7 +26,7 @@ returns-in_err-number c =
 
 pub returns : goal.returns
 returns c =
-    passes_made (conjuncts_wording ␣ number_wording ␣ number_wording) (λ s. (s.0, s.1.0, s.1.1)) (c.in_ok-conjuncts.conjuncts, (c.in_ok-left.left, c.in_ok-number.field-0)) _ c.args.self.now c.number-2.new.self (λ i. (c.conjuncts-2.view_is i, c.in_ok-left.left, c.in_ok-number.field-0))
+    passes_made (conjuncts_wording ␣ number_wording ␣ number_wording) (λ s. (s.0, s.1.0, s.1.1)) (c.in_ok-conjuncts.conjuncts, (c.in_ok-left.left, c.in_ok-number.field-0)) _ c.args.self.now c.number-2.new.self refl
     (passes_two conjuncts_wording (number_wording ␣ number_wording) c.in_ok-conjuncts.conjuncts (c.in_ok-left.left, c.in_ok-number.field-0) c.args.self.now c.conjuncts.new.self c.number-2.new.self c.in_ok-conjuncts.ensures
     (passes_two number_wording number_wording c.in_ok-left.left c.in_ok-number.field-0 c.conjuncts.new.self c.number.new.self c.number-2.new.self c.in_ok-left.ensures
     c.in_ok-number.ensures))

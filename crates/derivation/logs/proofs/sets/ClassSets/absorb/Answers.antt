@@ -10,7 +10,7 @@ use Rattle.logs.proofs.Relabelled.{all-from-has}
 use Rattle.logs.proofs.SetReads.{in-members, in-roots}
 use Rattle.logs.proofs.sets.ClassSets.absorb.Goals as goal
 
-abbrev after : goal.Joined-classes-2 → ClassSets
+abbrev after : goal.After-drop-classes-2 → ClassSets
 after c = record {
   sets = with_items c.args.self.now.sets c.relabel.new.sets;
   roots = with_item c.args.self.now.roots c.index-into.result.now c.min.result;
@@ -18,7 +18,7 @@ after c = record {
   facts = with_item c.join.new.facts c.index-from.result.now c.none-2.result;
 }
 
-moved : (c : goal.Joined-classes-2) → AreMoved c.args.self.now (after c) (set_at c.args.self.now.sets.items c.args.into) (set_at c.args.self.now.sets.items c.args.from)
+moved : (c : goal.After-drop-classes-2) → AreMoved c.args.self.now (after c) (set_at c.args.self.now.sets.items c.args.into) (set_at c.args.self.now.sets.items c.args.from)
 moved c =
     let s : ClassSets = c.args.self.now in
     let are = c.requires.sets in

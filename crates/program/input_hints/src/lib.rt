@@ -1,0 +1,14 @@
+//! What is said where a file, a row of a table, a schema or statistics are refused: the place, what stands there, and what is wanted.
+#![tactic(auto)]
+
+mod files;
+mod json;
+mod rows;
+mod schema_places;
+mod statistics_places;
+
+pub use files::{file_explanation, line_explanation, row_there, size_explanation, table_there};
+pub use json::json_fault;
+pub use rows::{FoundRow, found_row};
+pub use schema_places::schema_there;
+pub use statistics_places::statistics_there;

@@ -1,0 +1,9 @@
+//! What would fit where the text of a query is refused: the tables and columns that there are, and what to write in place of another dialect's habits.
+#![tactic(auto)]
+
+mod habits;
+mod names;
+mod search;
+
+pub use habits::habits_there;
+pub use search::names_there;

@@ -1,0 +1,93 @@
+//! Conditions with subqueries: what one of them costs each row, and of which leaves it mentions columns.
+
+use crate::estimates::share;
+use crate::graph::{Guesses, mentioned};
+use crate::regions::conditions_of;
+use crate::sets::LeafSet;
+use algebra::{ClassId, Condition, Conjuncts, LineId};
+use search::best;
+use std::alloc::{AllocError, Global};
+
+/// A condition of a selection that names classes. It is asked of whole rows by themselves, and runs their plans for each of them.
+#[derive(Drop)]
+pub struct Subquery {
+    pub condition: Condition,
+    /// The leaves of which it mentions a column.
+    pub leaves: LeafSet,
+    /// What it costs to ask it of one row.
+    pub cost: u64,
+    /// Which share of rows makes it true.
+    pub share: u64,
+}
+
+/// What the cheapest plan that is known of a class costs, its rows in any order.
+pub fn class_cost(
+    alloc: Global,
+    guesses: Guesses<'_, '_>,
+    class: ClassId,
+) -> Result<Option<u64>, AllocError> {
+    let found = best(
+        alloc,
+        guesses.log,
+        guesses.statistics,
+        guesses.cardinalities,
+        class,
+        &[],
+    )?;
+    Ok(found.map(|plan| plan.cost))
+}
+
+/// What it costs to ask the condition of one row.
+fn asking_cost(
+    alloc: Global,
+    guesses: Guesses<'_, '_>,
+    condition: &Condition,
+) -> Result<u64, AllocError> {
+    let mut own = Vec::new(alloc);
+    own.push(condition.copy(alloc)?)?;
+    let mut cost = 1u64;
+    for class in &Conjuncts::of(alloc, own.as_slice())?.classes(alloc)? {
+        let plan = class_cost(alloc, guesses, *class)?;
+        cost = cost.saturating_add(plan.unwrap_or(0));
+    }
+    Ok(cost)
+}
+
+/// What is guessed of a condition that costs so much to ask of one row.
+fn subquery_of(
+    alloc: Global,
+    guesses: Guesses<'_, '_>,
+    leaves: &[ClassId],
+    condition: &Condition,
+    cost: u64,
+) -> Result<Subquery, AllocError> {
+    let leaves = mentioned(alloc, guesses.log, leaves, condition)?;
+    Ok(Subquery {
+        condition: condition.copy(alloc)?,
+        leaves,
+        cost,
+        share: share(guesses.statistics, guesses.log.instances(), condition),
+    })
+}
+
+/// The conditions of the line that name classes, over these leaves, the dearest first.
+pub fn subqueries_of(
+    alloc: Global,
+    guesses: Guesses<'_, '_>,
+    leaves: &[ClassId],
+    select: LineId,
+) -> Result<Vec<Subquery>, AllocError> {
+    let mut found: Vec<Subquery> = Vec::new(alloc);
+    for condition in conditions_of(guesses.log, select) {
+        if !condition.has_no_class() {
+            let cost = asking_cost(alloc, guesses, condition)?;
+            let place = found.iter().position(|other| other.cost < cost);
+            let one = subquery_of(alloc, guesses, leaves, condition, cost)?;
+            match place {
+                Some(place) => found.insert(place, one)?,
+                None => found.push(one)?,
+            }
+        }
+    }
+    Ok(found)
+}
