@@ -13,10 +13,11 @@ Told of each query:
 - sqlite3: processor time of execute and fetchall, in memory; PostgreSQL: what EXPLAIN ANALYZE tells of its execution, on the clock, in one process;
 - the ratio of execution over the better of these, of times that count as 1 ms at least; and peak memory of the process.
 
-Each time is the least of REPS. A query may take so many SECONDS of processor time, with loading, and 4 GB. Behind the queries stand, for each schema and
-form, the geometric mean of the ratios of what ended, how many are over 1.5 and what did not end, of all queries and of those without subquery and LEFT
-JOIN; and of estimates (workloads/estimates.py) the median and the 90th percentile of the factor between rows estimated and true rows, of joins of two to
-six tables. The status is 1 where an answer differs, or fails otherwise than by time or memory. No time is asserted.
+Each time is the least of REPS, or that of one run which takes over a second. A query may take so many SECONDS of processor time, with loading, and 4 GB.
+Behind the queries stand, for each schema and form, the geometric mean of the ratios of what ended, how many are over 1.5, how many of these took over
+20 ms, and what did not end, of all queries and of those without subquery and LEFT JOIN; how many are planned for over 20 ms; and of estimates
+(workloads/estimates.py) the median and the 90th percentile of the factor between rows estimated and true rows, of joins of two to six tables. The status is
+1 where an answer differs, or fails otherwise than by time or memory. No time is asserted.
 
 usage: workloads.py [--program PATH] [--scale N] [--reps N] [--seconds N] [--pg FOLDER_OR_CONNECTION] [NAME..]
 """
@@ -35,7 +36,7 @@ from workloads import estimates, joined, others, program, queries, rows, shapes
 
 ROOT = pathlib.Path(__file__).resolve().parent.parent
 GIGABYTES = 4
-LEAST_MS, MUCH, LONG_PLANNING = 1.0, 1.5, 20
+LEAST_MS, MUCH, LONG = 1.0, 1.5, 20  # within LONG, a load that takes longer this time may be all that is measured
 HEADINGS = ("Query", "form", "schema", "rows", "planning", "execution", "sqlite3", "PostgreSQL", "ratio", "peak", "result")
 
 
@@ -191,7 +192,9 @@ def lines_of(asked, shape, folder):
 def ratios_told(lines):
     ratios = [line.ratio for line in lines if line.ratio is not None]
     mean = f"{math.exp(sum(map(math.log, ratios)) / len(ratios)):.2f}" if ratios else "-"
-    return [str(len(lines)), mean, str(sum(ratio > MUCH for ratio in ratios)), str(sum(line.result.startswith("over") for line in lines))]
+    much = [line for line in lines if line.ratio is not None and line.ratio > MUCH]
+    not_ended = sum(line.result.startswith("over") for line in lines)
+    return [str(len(lines)), mean, f"{len(much)}, {sum(line.execution > LONG for line in much)}", str(not_ended)]
 
 
 def factors_told(found):
@@ -212,9 +215,10 @@ def tell_heading(cells):
 def tell_summary(lines):
     kinds = sorted({(line.schema, line.form) for line in lines})
     of_kind = {kind: [line for line in lines if (line.schema, line.form) == kind] for kind in kinds}
-    tell_heading(["Schema, form", *("queries", "mean", f"over {MUCH}", "not ended"), *("plain", "mean", f"over {MUCH}", "not ended"), f"planning over {LONG_PLANNING} ms"])
+    columns = ["mean", f"over {MUCH}, these over {LONG} ms", "not ended"]
+    tell_heading(["Schema, form", "queries", *columns, "plain", *columns, f"planning over {LONG} ms"])
     for kind, found in of_kind.items():
-        slow = sum(line.planning is not None and line.planning > LONG_PLANNING for line in found)
+        slow = sum(line.planning is not None and line.planning > LONG for line in found)
         tell([", ".join(kind), *ratios_told(found), *ratios_told([line for line in found if line.plain]), str(slow)])
     tell_heading(["Schema, form", "joins", "median", "90 in 100 within", "not counted", "PostgreSQL's joins", "median", "90 in 100 within"])
     for kind, found in of_kind.items():

@@ -1,9 +1,9 @@
 """Rows that are estimated of inner joins of two to six tables beside those that there are.
 
-Of the program: each join node of an explained plan below which there are scans, filters without subqueries, projections, sorts and inner joins alone.
-Its estimate are the rows of its class, and the true number is counted by sqlite3: SELECT COUNT(*) over the tables below with all conditions below. Parts
-that no condition ties together are counted each for itself and multiplied, since a plan may have products that nobody can count in time. A node whose
-conditions read a table that isn't below it, as one within a subquery, has no number of its own and is left out.
+Of the program: each inner join of an explained plan, and each filter over one, below which there are scans, filters without subqueries, projections,
+sorts and inner joins alone. The estimate are the rows of its class, and the true number is counted by sqlite3: SELECT COUNT(*) over the tables below with
+all conditions at the node and below. Parts that no condition ties together are counted each for itself and multiplied, since a plan may have products that
+nobody can count in time. A node whose conditions read a table that isn't below it, as one within a subquery, has no number of its own and is left out.
 
 Of PostgreSQL: EXPLAIN ANALYZE's planned rows over actual ones, at inner joins over inner joins and scans; both are for one run of the node where it runs
 more than once, and nodes below a subquery, a semijoin, an antijoin or a merge join, which may stop early, are left out.
@@ -94,7 +94,7 @@ def joins_of(plan):
     """The joins of a plan that is explained, of two to six tables."""
     nodes = nodes_of(plan)
     for place, node in enumerate(nodes):
-        if node.name in ("loop", "hash", "iloop", "merge"):
+        if node.name in ("loop", "hash", "iloop", "merge", "filter"):
             join, _ = joined_below(nodes, place)
             if join and FEWEST <= len(join.tables) <= MOST:
                 known = {alias for _, alias in join.tables}
