@@ -116,7 +116,6 @@ def judged(query, output, answers):
 class Setting(NamedTuple):
     """The tables of a shape with one schema, in all that answer."""
 
-    tables: dict
     schema: str
     program: program.Program
     others: dict
@@ -178,7 +177,7 @@ def lines_of(asked, shape, folder):
             if asked.pg:
                 beside["PostgreSQL"] = others.Postgres(asked.pg, shape, tables, schema, folder, asked.seconds, asked.reps)
                 held.callback(beside["PostgreSQL"].close)
-            setting = Setting(tables, schema, ours, beside, estimates.Counts(beside["sqlite3"]))
+            setting = Setting(schema, ours, beside, estimates.Counts(beside["sqlite3"]))
             for name, query in wanted.items():
                 for form, text in forms_of(query, tables).items():
                     line = line_of(setting, name, form, text)
