@@ -7,8 +7,8 @@ and PostgreSQL have the same unique lists and indexes, and both have counted the
 
 Told of each query:
 - rows, and whether they are those of sqlite3 and of PostgreSQL: as bags, and in the order of the keys of ORDER BY that are in the answer;
-- planning: processor time of `explain` over the same statistics, less that of a trivial query. `query` explores to one line for each 50,000 of its seed's
-  cost; `explain` explores here to one for each 50,000 of its plan's, but takes no limit below 2,000. It is at most what `query` took in all;
+- planning: processor time of `explain` over the same statistics, which explores as far as `query` does, less that of a trivial query. It is at most what
+  `query` took in all;
 - execution: processor time of `query` (so with planning), less that of a trivial query over the same files, which is run in turns with it;
 - sqlite3: processor time of execute and fetchall, in memory; PostgreSQL: what EXPLAIN ANALYZE tells of its execution, on the clock, in one process;
 - the ratio of execution over the better of these, of times that count as 1 ms at least; and peak memory of the process.

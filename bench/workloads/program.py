@@ -2,7 +2,6 @@
 import math
 import os
 import pathlib
-import re
 import resource
 import signal
 import subprocess
@@ -12,8 +11,6 @@ from typing import NamedTuple
 from .shapes import schema_text, statistics_text
 
 LONG = 1000  # milliseconds; what takes longer runs once
-# `query` explores to one line for each so much of its plan's cost, 20,000 at most; `explain` takes no limit below 2,000.
-COST_OF_LINE, FEWEST_LINES, MOST_LINES = 50_000, 2000, 20_000
 
 
 class Run(NamedTuple):
@@ -89,9 +86,5 @@ class Program:
         return self.behind_trivial("query", query)
 
     def explained(self, query):
-        """The plan with the rows of its nodes, explored as far as `query` would for a plan of that cost, and the time of it."""
-        self.text.write_text(query)
-        first = self.run("explain", self.text, "--limit", FEWEST_LINES)
-        cost = re.match(r".* cost=(\d+)", first.output)
-        lines = int(cost[1]) // COST_OF_LINE if cost else 0
-        return self.behind_trivial("explain", query, "--limit", min(MOST_LINES, max(FEWEST_LINES, lines)))
+        """The plan with the rows of its nodes, explored as far as `query` does, and the time of it."""
+        return self.behind_trivial("explain", query)

@@ -5,6 +5,7 @@ pub mod NumberedGroups
 pub mod PlainParts
 pub mod PlanOutputs
 pub mod Readable
+pub mod RightSides
 pub mod RunnablePlans
 pub mod RunningGroups
 pub mod RunPlaces

@@ -17,7 +17,7 @@ use Rattle.physical.specs.declared.plan.Matching.{Matching}
 use Rattle.physical.specs.declared.plan.Matching.TheVariants.{Inner, Left, Semi, Anti}
 use Rattle.physical.specs.declared.plan.Node.{Node}
 use Rattle.physical.specs.declared.plan.Plan.{Plan, out-Plan, fold_out-Plan}
-use Rattle.physical.specs.Outputs.{Output, first_columns, second_columns, first, rest, is_match, join_rows, node_columns, node_rows, subquery_rows, output_layer, plan_output, output_rows}
+use Rattle.physical.specs.Outputs.{Output, first_columns, first, rest, is_match, join_rows, node_columns, node_rows, subquery_rows, output_layer, plan_output, output_rows}
 use Rattle.relations.specs.declared.relation.Relation.{Relation}
 use Rattle.relations.specs.Relations.{IsOutput, IsInputOutput, AreOutputs, given, rows_of}
 
@@ -42,11 +42,6 @@ module _ (instances : List TableInstance) (D : Tables) where
 pub output-first : (inputs : List Output) (e : Env) (r : Relation) → IsInputOutput inputs 0 e r → IsOutput (first_columns (map (λ x. x.columns) inputs)) (first inputs e) e r
 output-first [] e r h = h
 output-first (p ∷ inputs) e r h = h
-
-pub output-second : (inputs : List Output) (e : Env) (r : Relation) → IsInputOutput inputs 1 e r → IsOutput (second_columns (map (λ x. x.columns) inputs)) (first (rest inputs) e) e r
-output-second [] e r h = h
-output-second (p ∷ []) e r h = h
-output-second (p ∷ q ∷ inputs) e r h = h
 
 -- the output of one more input
 pub outputs-more : (inputs : List Output) (p : Output) (e : Env) (relations : List Relation) (r : Relation) → AreOutputs inputs e relations → IsOutput p.columns (p.rows e) e r → AreOutputs (inputs ++ p ∷ []) e (relations ++ r ∷ [])

@@ -1,5 +1,5 @@
 -- What the orders of an operator's inputs are worth to it.
-use Rattle.std.proofs.Common.{◌≡◌, refl, ap, sym, ◌∙◌, subst, ℕ, true, false, List, [], ◌∷◌, map, arith}
+use Rattle.std.proofs.Common.{◌≡◌, refl, ap, sym, ◌∙◌, subst, ℕ, zero, suc, true, false, List, [], ◌∷◌, map, arith}
 use Rattle.std.specs.declared.cmp.Ordering.{Ordering}
 use Rattle.std.specs.declared.cmp.Ordering.TheVariants.{Less, Equal, Greater}
 use Rattle.std.specs.Ordering.{is_gt, ordering_then}
@@ -30,7 +30,8 @@ use Rattle.index_access.proofs.CutOrders.{not_gt-first}
 use Rattle.joins.specs.Merges.{AreMergeable, RiseBy}
 use Rattle.operators.specs.Groups.{AreTogether}
 use Rattle.operators.specs.Runnable.{AreRunnable, IsOperable}
-use Rattle.operators.proofs.PlanOutputs.{output-first, output-second}
+use Rattle.operators.specs.RightSides.{IsRightSide}
+use Rattle.operators.proofs.PlanOutputs.{output-first}
 use Rattle.operators.proofs.Together.{ascends-numbers, stand-together}
 
 -- ---- merge joins
@@ -49,17 +50,17 @@ module _ (instances : List TableInstance) (D : Tables) (inputs : List Plan) (e :
   first-stands r given =
       subst (Ascends (keys_order (first_order (orders_in instances (supplies instances inputs))))) (sym (output-first (map (plan_output instances D) inputs) e r given).rows_are) (first-ascends instances D inputs e may.sorted)
 
-  second-stands : (r : Relation) → IsInputOutput (map (plan_output instances D) inputs) 1 e r → Ascends (keys_order (second_order (orders_in instances (supplies instances inputs)))) (rows_of r e)
-  second-stands r given =
-      subst (Ascends (keys_order (second_order (orders_in instances (supplies instances inputs))))) (sym (output-second (map (plan_output instances D) inputs) e r given).rows_are) (second-ascends instances D inputs e may.sorted)
+  second-stands : (count : ℕ) (r : Relation) → IsRightSide (map (plan_output instances D) inputs) count e r → Ascends (keys_order (second_order (orders_in instances (supplies instances inputs)))) (rows_of r e)
+  second-stands zero r given = subst (Ascends (keys_order (second_order (orders_in instances (supplies instances inputs))))) (sym given.rows_are) tt
+  second-stands (suc count) r given = subst (Ascends (keys_order (second_order (orders_in instances (supplies instances inputs))))) (sym given.rows_are) (second-ascends instances D inputs e may.sorted)
 
-  pub mergeable : (method : JoinMethod) (j : Matching) (left right : Relation) → IsOperable instances (JoinRows method j) inputs → IsInputOutput (map (plan_output instances D) inputs) 0 e left → IsInputOutput (map (plan_output instances D) inputs) 1 e right
+  pub mergeable : (method : JoinMethod) (j : Matching) (left right : Relation) → IsOperable instances (JoinRows method j) inputs → IsInputOutput (map (plan_output instances D) inputs) 0 e left → IsRightSide (map (plan_output instances D) inputs) left.rows.count e right
       → AreMergeable method left right e
   mergeable NestedLoop j left right here first second = tt
   mergeable Hash j left right here first second = tt
   mergeable (Merge a b) j left right here first second =
       let both = and_parts (rises_by a (first_order (orders_in instances (supplies instances inputs)))) _ here.sorted in
-      (rises a _ left e both.0 (first-stands left first), rises b _ right e both.1 (second-stands right second))
+      (rises a _ left e both.0 (first-stands left first), rises b _ right e both.1 (second-stands left.rows.count right second))
 
   -- ---- sorted groups
 

@@ -1,6 +1,7 @@
 pub mod FilteredJoins
 pub mod Grouped
 pub mod Groups
+pub mod RightSides
 pub mod Runnable
 pub mod Settled
 pub mod Shown

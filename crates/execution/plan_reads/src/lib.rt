@@ -6,4 +6,4 @@ mod operators;
 mod plans;
 mod readings;
 
-pub use plans::free_columns;
+pub use plans::{free_columns, plan_columns};

@@ -33,6 +33,17 @@ pub fn free_columns(
     Ok(plan_reading(alloc, instances, plan)?.free)
 }
 
+/// The columns of a plan's rows, which no table says: a plan that isn't run has them too.
+pub fn plan_columns(
+    alloc: Global,
+    instances: &[TableInstance],
+    plan: &Plan,
+) -> Result<Columns, AllocError>
+    ensures { (D : Tables) → IfOk result (λ columns. columns ≡ (plan_output instances.now D plan.now).columns) }
+{
+    Ok(plan_reading(alloc, instances, plan)?.columns)
+}
+
 #[cycle(readings)]
 fn plan_reading(
     alloc: Global,

@@ -42,6 +42,15 @@ impl<'t> Relation<'t> {
         })
     }
 
+    /// No rows, with these columns.
+    pub fn without_rows(alloc: Global, columns: Columns) -> Result<Relation<'t>, AllocError>
+        ensures { (e : Env) → IfOk result (IsOutput columns [] e) }
+    {
+        let heading = Heading::of_table(alloc, columns)?;
+        let rows = Rows::of_part(alloc, Part::made(Vec::new(alloc)))?;
+        Ok(Relation { heading, rows })
+    }
+
     /// The rows with these numbers.
     pub fn chosen(self, alloc: Global, numbers: &[usize]) -> Result<Relation<'t>, AllocError>
         ensures columns { IfOk result (λ r. r.heading.columns ≡ self.entry.heading.columns) }

@@ -8,11 +8,29 @@ use std::alloc::{AllocError, AllocFailed, Global};
 use words::quoted_front;
 
 /// Why a walk through JSON values stops.
-#[derive(Debug, Drop)]
+#[derive(Debug)]
 pub(crate) enum Halt {
     Memory,
     /// At a place where something else stands than is wanted, with what is said of it.
     Fault(String),
+}
+
+impl Drop for Halt {
+    fn drop(self) {
+        match self {
+            Halt::Memory | Halt::Fault(_) => {}
+        }
+    }
+}
+
+impl Halt {
+    /// What is said of the place.
+    fn into_said(self) -> Result<String, AllocError> {
+        match self {
+            Halt::Memory => Err(AllocError),
+            Halt::Fault(said) => Ok(said),
+        }
+    }
 }
 
 impl From<AllocError> for Halt {
@@ -43,8 +61,7 @@ pub(crate) fn said_of(alloc: Global, walk: Result<(), Halt>) -> Result<String, A
 {
     match walk {
         Ok(()) => Ok(String::new(alloc)),
-        Err(Halt::Memory) => Err(AllocError),
-        Err(Halt::Fault(said)) => line_of(said),
+        Err(halt) => line_of(halt.into_said()?),
     }
 }
 

@@ -84,17 +84,18 @@ fn explained_query(
     query: &BoundQuery,
     statistics: &Statistics,
     limit: usize,
+    exploration: Exploration,
 ) -> Result<Vec<u8>, Refusal>
     requires { IsBoundOver schema.now query.now }
     ensures text { IfOk result (λ text. WithChecked schema.now query.now (λ c. text.items ≡ plan_in form statistics.now query.now c)) }
     ensures memory { IfErr result (λ r. r ≡ Memory) }
 {
-    let planned = planner::plan(alloc, query, statistics, limit, Exploration::ToLimit)?;
+    let planned = planner::plan(alloc, query, statistics, limit, exploration)?;
     plan_in(alloc, form, query.query(), statistics, &planned.certificate)
 }
 
 /// Plans a query and explains the plan: reads the schema, the text and the statistics, and shows the plan that `plan` finds by these, with the
-/// rows and the cost that are estimated of each node, over a log of at most `limit` lines.
+/// rows and the cost that are estimated of each node, over a log of at most `limit` lines, explored so far.
 ///
 /// The first fault is reported, in the order schema, text, scope, statistics.
 pub fn explain(
@@ -104,6 +105,7 @@ pub fn explain(
     text: &[u8],
     statistics: &[u8],
     limit: usize,
+    exploration: Exploration,
 ) -> Result<Vec<u8>, Refusal>
     ensures explained { IfOk result (λ written. IsExplained form schema.now text.now statistics.now written.items) }
     ensures refused { IfErr result (IsNotExplained schema.now text.now statistics.now) }
@@ -111,5 +113,13 @@ pub fn explain(
     let schema = Schema::read(alloc, schema)?;
     let query = bound_query(alloc, &schema, text)?;
     let statistics = Statistics::read(alloc, &schema, statistics)?;
-    explained_query(alloc, form, &schema, &query, &statistics, limit)
+    explained_query(
+        alloc,
+        form,
+        &schema,
+        &query,
+        &statistics,
+        limit,
+        exploration,
+    )
 }

@@ -24,17 +24,18 @@ fn planned_text(
     query: &BoundQuery,
     statistics: &Statistics,
     limit: usize,
+    exploration: Exploration,
 ) -> Result<Vec<u8>, Refusal>
     requires { IsBoundOver schema.now query.now }
     ensures planned { IfOk result (λ text. WithChecked schema.now query.now (λ c. (written c ≡ Ok text.items) × IsReadableCertificate c)) }
     ensures refused { IfErr result (IsUnwritten schema.now query.now) }
 {
-    let planned = planner::plan(alloc, query, statistics, limit, Exploration::ToLimit)?;
+    let planned = planner::plan(alloc, query, statistics, limit, exploration)?;
     Ok(write(alloc, &planned.certificate)?)
 }
 
 /// Plans a query: reads the schema, the text and the statistics, and gives the text of a certificate that `check` accepts for the query. Its
-/// plan is the cheapest that was found over a log of at most `limit` lines.
+/// plan is the cheapest that was found over a log of at most `limit` lines, explored so far.
 ///
 /// The first fault is reported, in the order schema, text, scope, statistics.
 pub fn plan(
@@ -43,6 +44,7 @@ pub fn plan(
     text: &[u8],
     statistics: &[u8],
     limit: usize,
+    exploration: Exploration,
 ) -> Result<Vec<u8>, Refusal>
     // The text is accepted by `check`, as its clause `complete` says of each certificate that can be read.
     ensures planned { IfOk result (λ certificate. AcceptsReadable schema.now text.now certificate.items) }
@@ -51,5 +53,5 @@ pub fn plan(
     let schema = Schema::read(alloc, schema)?;
     let query = bound_query(alloc, &schema, text)?;
     let statistics = Statistics::read(alloc, &schema, statistics)?;
-    planned_text(alloc, &schema, &query, &statistics, limit)
+    planned_text(alloc, &schema, &query, &statistics, limit, exploration)
 }

@@ -6,23 +6,18 @@ ghost use Rattle.schema.specs.Reading.{schema_of};
 ghost use Rattle.sqlplan.specs.Stops.{SaysFile, SaysTable, table_path};
 
 mod arguments;
-mod command;
 mod explained;
-mod input;
-mod progress;
 mod stop;
 
 use answer_text::CountedOutput;
 use arguments::arguments;
 use clap::ArgMatches;
 use clap::error::ErrorKind;
-use command::command;
+use console::{Progress, TableFile, TableWatch, WatchedOutput, command};
 use devices::{ReadFailure, StandardStream, read_file};
 use explained::{Inputs, file_in_words, in_words, schema_in_words};
-use input::{TableFile, TableWatch};
 use input_hints::{FoundRow, found_row};
 use pipeline::{Exploration, PlanForm, Refusal, check, evaluate, explain, plan, query, run};
-use progress::{Progress, WatchedOutput};
 use schema::{Schema, SchemaFault};
 use std::alloc::{AllocError, Global};
 use std::fs;
@@ -108,17 +103,24 @@ fn open_tables<'a>(
     Ok(tables)
 }
 
+/// How a plan is searched for: over a log of so many lines at most, which is explored so far.
+#[derive(Clone, Copy)]
+struct Search {
+    limit: usize,
+    exploration: Exploration,
+}
+
 /// What is asked of a query, with the paths of the files besides its schema and its text.
 #[derive(Clone, Copy)]
 enum Asked<'a> {
-    /// Its answer by a plan that was checked, over the tables of a folder; how many lines the plan's log may have, and how far it is explored.
-    Query(&'a str, usize, Exploration),
+    /// Its answer by a plan that was checked, over the tables of a folder.
+    Query(&'a str, Search),
     /// Its answer by the slow evaluator, over the tables of a folder.
     Meaning(&'a str),
-    /// The certificate of a plan, by statistics, with so many lines at most.
-    Plan(&'a str, usize),
-    /// A plan by statistics, shown so, over a log of so many lines at most.
-    Explain(&'a str, PlanForm, usize),
+    /// The certificate of a plan, by statistics.
+    Plan(&'a str, Search),
+    /// A plan by statistics, shown so.
+    Explain(&'a str, PlanForm, Search),
     /// Whether a certificate is accepted.
     Check(&'a str),
     /// Its answer by the plan of a certificate, over the tables of a folder.
@@ -137,19 +139,17 @@ fn form(arguments: &ArgMatches<'_>) -> Option<PlanForm> {
 /// So many lines a log may have where no limit is given.
 const DEFAULT_LIMIT: usize = 20_000;
 
-/// How many lines a log may have.
-fn limit(arguments: &ArgMatches<'_>) -> usize {
+/// How a plan is searched for: to the limit, where one is given.
+fn search_of(arguments: &ArgMatches<'_>) -> Search {
     match arguments.get_one::<usize>("limit") {
-        Some(limit) => limit,
-        None => DEFAULT_LIMIT,
-    }
-}
-
-/// How far a log is explored for an answer: to the limit, where one is given.
-fn exploration(arguments: &ArgMatches<'_>) -> Exploration {
-    match arguments.get_one::<usize>("limit") {
-        Some(_) => Exploration::ToLimit,
-        None => Exploration::WhileWorthwhile,
+        Some(limit) => Search {
+            limit,
+            exploration: Exploration::ToLimit,
+        },
+        None => Search {
+            limit: DEFAULT_LIMIT,
+            exploration: Exploration::WhileWorthwhile,
+        },
     }
 }
 
@@ -157,15 +157,12 @@ impl<'a> Asked<'a> {
     /// What a command asks.
     fn of(command: &str, arguments: &'a ArgMatches<'_>) -> Option<Asked<'a>> {
         match command {
-            "query" => {
-                let folder = arguments.get_str("DIR")?;
-                Some(Asked::Query(folder, limit(arguments), exploration(arguments)))
-            }
+            "query" => Some(Asked::Query(arguments.get_str("DIR")?, search_of(arguments))),
             "meaning" => Some(Asked::Meaning(arguments.get_str("DIR")?)),
-            "plan" => Some(Asked::Plan(arguments.get_str("STATS")?, limit(arguments))),
+            "plan" => Some(Asked::Plan(arguments.get_str("STATS")?, search_of(arguments))),
             "explain" => {
                 let statistics = arguments.get_str("STATS")?;
-                Some(Asked::Explain(statistics, form(arguments)?, limit(arguments)))
+                Some(Asked::Explain(statistics, form(arguments)?, search_of(arguments)))
             }
             "check" => Some(Asked::Check(arguments.get_str("CERT")?)),
             "run" => Some(Asked::Run(arguments.get_str("CERT")?, arguments.get_str("DIR")?)),
@@ -176,7 +173,7 @@ impl<'a> Asked<'a> {
     /// The folder of the tables; nothing where a command reads none.
     fn folder(self) -> &'a str {
         match self {
-            Asked::Query(folder, _, _) | Asked::Meaning(folder) | Asked::Run(_, folder) => folder,
+            Asked::Query(folder, _) | Asked::Meaning(folder) | Asked::Run(_, folder) => folder,
             Asked::Plan(_, _) | Asked::Explain(_, _, _) | Asked::Check(_) => "",
         }
     }
@@ -185,7 +182,7 @@ impl<'a> Asked<'a> {
 /// What says how far a command is. Those that read no table are soon done.
 fn progress_of<'a>(rt: &'a HostRuntime, asked: Asked<'_>, lines: bool) -> Option<Progress<'a>> {
     match asked {
-        Asked::Query(_, _, _) | Asked::Meaning(_) | Asked::Run(_, _) => Progress::new(rt, lines),
+        Asked::Query(_, _) | Asked::Meaning(_) | Asked::Run(_, _) => Progress::new(rt, lines),
         Asked::Plan(_, _) | Asked::Explain(_, _, _) | Asked::Check(_) => None,
     }
 }
@@ -309,13 +306,7 @@ fn output<'a>(rt: &'a HostRuntime, progress: Option<&'a Progress<'a>>) -> Result
 }
 
 /// Answers a query on standard output by a plan that was checked. The schema is that of the bytes.
-fn answer(
-    rt: &HostRuntime,
-    given: Given<'_>,
-    folder: &str,
-    limit: usize,
-    exploration: Exploration,
-) -> Result<(), Stop>
+fn answer(rt: &HostRuntime, given: Given<'_>, folder: &str, search: Search) -> Result<(), Stop>
     requires { schema_of given.bytes.now ≡ Ok given.schema.now }
 {
     let mut tables = open_tables(rt, given.schema, folder, given.words, given.progress)?;
@@ -324,8 +315,8 @@ fn answer(
         given.bytes,
         given.text,
         tables.as_mut_slice(),
-        limit,
-        exploration,
+        search.limit,
+        search.exploration,
         &mut output(rt, given.progress)?,
     );
     given.ended_over(rt.alloc(), outcome, tables.as_mut_slice())
@@ -381,11 +372,18 @@ fn plan_by_statistics(
     rt: &HostRuntime,
     given: Given<'_>,
     statistics: &str,
-    limit: usize,
+    search: Search,
 ) -> Result<(), Stop> {
     let statistics = bytes_of(rt, statistics, given.words)?;
     let statistics = statistics.as_slice();
-    let outcome = plan(rt.alloc(), given.bytes, given.text, statistics, limit);
+    let outcome = plan(
+        rt.alloc(),
+        given.bytes,
+        given.text,
+        statistics,
+        search.limit,
+        search.exploration,
+    );
     given.ended_by(rt, outcome, statistics)
 }
 
@@ -395,11 +393,19 @@ fn explain_by_statistics(
     given: Given<'_>,
     statistics: &str,
     form: PlanForm,
-    limit: usize,
+    search: Search,
 ) -> Result<(), Stop> {
     let statistics = bytes_of(rt, statistics, given.words)?;
     let statistics = statistics.as_slice();
-    let outcome = explain(rt.alloc(), form, given.bytes, given.text, statistics, limit);
+    let outcome = explain(
+        rt.alloc(),
+        form,
+        given.bytes,
+        given.text,
+        statistics,
+        search.limit,
+        search.exploration,
+    );
     given.ended_by(rt, outcome, statistics)
 }
 
@@ -425,13 +431,11 @@ fn serve(rt: &HostRuntime, asked: Asked<'_>, given: Given<'_>) -> Result<(), Sto
     requires { schema_of given.bytes.now ≡ Ok given.schema.now }
 {
     match asked {
-        Asked::Query(folder, limit, exploration) => {
-            answer(rt, given, folder, limit, exploration)
-        }
+        Asked::Query(folder, search) => answer(rt, given, folder, search),
         Asked::Meaning(folder) => answer_by_meaning(rt, given, folder),
-        Asked::Plan(statistics, limit) => plan_by_statistics(rt, given, statistics, limit),
-        Asked::Explain(statistics, form, limit) => {
-            explain_by_statistics(rt, given, statistics, form, limit)
+        Asked::Plan(statistics, search) => plan_by_statistics(rt, given, statistics, search),
+        Asked::Explain(statistics, form, search) => {
+            explain_by_statistics(rt, given, statistics, form, search)
         }
         Asked::Check(certificate) => accept(rt, given, certificate),
         Asked::Run(certificate, folder) => answer_by_certificate(rt, given, certificate, folder),

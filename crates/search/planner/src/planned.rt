@@ -46,7 +46,7 @@ pub struct Planned {
 /// How far the plans of a query are explored.
 #[derive(Clone, Copy)]
 pub enum Exploration {
-    /// As long as that takes little beside what the plan is estimated to cost.
+    /// As long as that takes little beside what the plan is estimated to cost, and twice the lines make the plan cheaper.
     WhileWorthwhile,
     /// Until the log is full, or no rule adds anything to it.
     ToLimit,
@@ -85,6 +85,9 @@ const MOST_JUDGED: usize = 1_000;
 
 /// So much a plan has to cost for each line that its log may have: a line takes a small part of the time to explore that is estimated at so much.
 const COST_OF_LINE: u64 = 50_000;
+
+/// A log doubles this often at most: no machine holds more lines.
+const MOST_DOUBLINGS: usize = 64;
 
 /// A log of the lines; none where some line may not stand.
 fn log_of<'q>(
@@ -157,23 +160,43 @@ fn explored(
     }
 }
 
-/// The cheapest plan that is found over a log's lines; where it is dear enough, over others behind them as well.
-fn explored_if_worthwhile(
+/// The cheapest plan that is found over twice as many lines as a log has, of which it may have so many, if it costs less than so much.
+fn cheaper_over_twice(
+    alloc: Global,
+    planning: Planning<'_>,
+    memo: &mut Memo<'_>,
+    most: usize,
+    cost: u64,
+) -> Result<Option<BestPlan>, AllocError> {
+    memo.set_limit(memo.log().len().saturating_mul(2).min(most));
+    if memo.is_full() {
+        return Ok(None);
+    }
+    apply_all(alloc, memo)?;
+    let found = cheapest(alloc, planning, memo.log())?;
+    Ok(found.filter(|found| found.cost < cost))
+}
+
+/// The cheapest plan that is found over a log's lines; where it is dear enough, over others behind them as well, as long as these make it cheaper.
+fn explored_while_worthwhile(
     alloc: Global,
     planning: Planning<'_>,
     memo: &mut Memo<'_>,
 ) -> Result<Option<ExploredPlan>, AllocError> {
-    let Some(BestPlan { plan, cost }) = cheapest(alloc, planning, memo.log())? else {
+    let Some(mut best) = cheapest(alloc, planning, memo.log())? else {
         return Ok(None);
     };
-    memo.set_limit(worthwhile(planning.limit, cost));
-    if memo.is_full() {
-        return Ok(Some(ExploredPlan {
-            plan,
-            is_explored: false,
-        }));
+    let most = worthwhile(planning.limit, best.cost);
+    for _ in 0..MOST_DOUBLINGS {
+        match cheaper_over_twice(alloc, planning, memo, most, best.cost)? {
+            Some(cheaper) => best = cheaper,
+            None => break,
+        }
     }
-    explored(alloc, planning, memo)
+    Ok(Some(ExploredPlan {
+        plan: best.plan,
+        is_explored: !memo.is_full(),
+    }))
 }
 
 /// The cheapest plan that is found over a log's lines and others behind them, as far as these are to be explored.
@@ -184,7 +207,7 @@ fn cheapest_explored(
 ) -> Result<Option<ExploredPlan>, AllocError> {
     prepare(alloc, planning, memo)?;
     match planning.exploration {
-        Exploration::WhileWorthwhile => explored_if_worthwhile(alloc, planning, memo),
+        Exploration::WhileWorthwhile => explored_while_worthwhile(alloc, planning, memo),
         Exploration::ToLimit => explored(alloc, planning, memo),
     }
 }

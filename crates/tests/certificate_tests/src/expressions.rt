@@ -2,11 +2,11 @@
 
 ghost use Rattle.std.specs.Prelude.{◌≡◌, IfOk, length};
 
-use crate::texts::{push_aggregates, push_columns};
 use algebra::{Aggregation, Aggregations, Columns, Condition, Conjuncts, Expr, Term};
 use fixtures::{QueryReporting, Reporting, differences, push_number, query_differences};
 use plan_words::plans::{columns_of, cut, id};
 use plan_words::tables::TABLES;
+use plan_words::texts::{push_aggregates, push_columns};
 use query::{Aggregate, BoundQuery, ColumnId, InstanceId, TableInstance};
 use std::alloc::{AllocError, Global};
 use store::Database;

@@ -1,10 +1,10 @@
 //! Frames of queries of each form.
 
-use crate::texts::push_line;
 use algebra::{Aggregation, Columns, Conjuncts, Expr};
 use fixtures::{QueryReporting, query_differences};
 use frame::frame_of;
 use plan_words::tables::TABLES;
+use plan_words::texts::push_line;
 use query::{BoundQuery, Query, TableInstance};
 use std::alloc::{AllocError, Global};
 use store::Database;

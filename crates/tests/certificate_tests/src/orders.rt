@@ -1,12 +1,12 @@
 //! The orders that plans deliver, and that queries ask for.
 
-use crate::texts::push_keys;
 use certificate::query_order;
 use fixtures::{QueryReporting, query_differences};
 use frame::frame_of;
 use physical::{Plan, delivers};
 use plan_words::plans::plan_of;
 use plan_words::tables::TABLES;
+use plan_words::texts::push_keys;
 use query::{BoundQuery, Query};
 use std::alloc::{AllocError, Global};
 use store::Database;

@@ -20,8 +20,9 @@ const LIMIT: usize = 2_000;
 const STATISTICS: &str =
     r#"{"tables":{"dept":{"rows":3,"pages":1,"indexes":[]},"emp":{"rows":4,"pages":1,"indexes":[{"keys":4,"pages":1}]}}}"#;
 
-/// Reports the certificate that is planned for a query, with `/` for a line's end. Statistics stand behind the query; else they are those above.
-struct Planned;
+/// Reports the certificate that is planned for a query, explored so far, with `/` for a line's end. Statistics stand behind the query; else they are those above.
+#[derive(Clone, Copy)]
+struct Planned(Exploration);
 
 impl Reporting for Planned {
     fn report(&self, alloc: Global, text: &str, reported: &mut String) -> Result<(), AllocError> {
@@ -32,6 +33,7 @@ impl Reporting for Planned {
             query.as_bytes(),
             statistics.as_bytes(),
             LIMIT,
+            self.0,
         );
         match planned {
             Ok(certificate) => {
@@ -44,7 +46,7 @@ impl Reporting for Planned {
 }
 
 /// A hash join of two small tables costs less than nested loops, one pass of a table less than one for each row of the other. A sort of few rows
-/// stands where they are fewest. Each rule has been applied at each binding: the sides of a join change places, and are projected below it. Faults come in the order text, scope, statistics.
+/// stands where they are fewest. Each rule has been applied at each binding, or none where the plan costs too little for that: the certificates are the same. Faults come in the order text, scope, statistics.
 #[test]
 fn plans_are_the_cheapest(rt: HostRuntime) {
     const CASES: &str =
@@ -56,10 +58,12 @@ SELECT nothing FROM emp => [] => refused B02 at 7
 SELECT id FROM emp => [ => refused N01
 SELECT id FROM emp => [] => refused N02
 SELECT id FROM emp => {"tables":{"dept":{"rows":3,"pages":1,"indexes":[]}}} => refused N02"#;
-    assert_eq!(rt;
-        differences(rt.alloc(), &[CASES], &Planned).as_deref(),
-        Ok("")
-    );
+    for exploration in [Exploration::ToLimit, Exploration::WhileWorthwhile] {
+        assert_eq!(rt;
+            differences(rt.alloc(), &[CASES], &Planned(exploration)).as_deref(),
+            Ok("")
+        );
+    }
 }
 
 /// Reports the plan of a query as text, or as a graph where `dot ` stands before the query, with `/` for a line's end.
@@ -78,6 +82,7 @@ impl Reporting for Explained {
             query.as_bytes(),
             STATISTICS.as_bytes(),
             LIMIT,
+            Exploration::ToLimit,
         );
         match shown {
             Ok(plan) => push_lines(

@@ -1,7 +1,7 @@
 //! Lines on standard error that say how far long work is.
 
 ghost use Rattle.std.specs.Prelude.{◌≡◌, ◌↔◌, IsTrue};
-ghost use Rattle.sqlplan.specs.Progress.{IsDue};
+ghost use Rattle.console.specs.Progress.{IsDue};
 
 use answer_text::{AnswerOutput, OutputFailed};
 use devices::StandardStream;

@@ -1,7 +1,6 @@
 //! Certificates with those lines of a log that a plan needs.
 
 use crate::canonical::push_plan;
-use crate::texts::push_line;
 use algebra::Aggregation;
 use certificate::judging::{judged_log, own_aggregates};
 use certificate::query_order;
@@ -19,6 +18,7 @@ use physical::Plan;
 use plan_words::derived::{expressions_of, lines_of};
 use plan_words::plans::{cut, number, plan_of};
 use plan_words::queries::QUERIES;
+use plan_words::texts::push_line;
 use planner::canonical;
 use props::Fact;
 use query::BoundQuery;

@@ -69,7 +69,9 @@ fn limit(alloc: Global) -> Arg<'static> {
         .value_name("LINES")
         .value_parser(ValueParser::unsigned(2_000, 100_000))
         .action(ArgAction::Set)
-        .help("so many lines the derivation has at most, 2000 to 100000 [default: 20000]")
+        .help(
+            "explores to so many lines of derivation, 2000 to 100000 [default: while that pays, to 20000]",
+        )
 }
 
 /// How a plan is shown.

@@ -1,11 +1,11 @@
 //! The canonical certificates of three queries: their lines, and their plans as texts.
 
-use crate::texts::{push_aggregates, push_columns, push_keys, push_line};
 use algebra::{Conjuncts, Expr, LineId};
 use certificate::Certificate;
 use derivation::Line;
 use fixtures::{COMPANY, DEPT, EMP, QueryReporting, Tables, push_number, query_differences};
 use physical::{GroupMethod, IndexAccess, JoinMethod, Matching, Node, Operator, Plan};
+use plan_words::texts::{push_aggregates, push_columns, push_keys, push_line};
 use planner::canonical;
 use query::BoundQuery;
 use std::alloc::{AllocError, Global};

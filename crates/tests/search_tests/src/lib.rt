@@ -1,0 +1,9 @@
+//! Tests of the search: canonical plans, logs that are explored, and logs that are trimmed.
+#![tactic(auto)]
+
+#[cfg(test)]
+mod canonical;
+#[cfg(test)]
+mod memos;
+#[cfg(test)]
+mod trimmed_logs;
