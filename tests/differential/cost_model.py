@@ -3,7 +3,7 @@
 It is written by that page and knows nothing of the program's code.
 """
 
-from layout import inputs_of
+from layout import inputs_of, named_classes
 
 MOST = 2**64 - 1
 MILLION = 1_000_000
@@ -18,6 +18,16 @@ def cut(number):
     return min(number, MOST)
 
 
+def parted(conditions, test):
+    """Those that pass a test, and the others."""
+    return [it for it in conditions if test(it)], [it for it in conditions if not test(it)]
+
+
+def with_others(conditions, asked):
+    """A list, and what another has besides."""
+    return list(conditions) + [it for it in asked if it not in conditions]
+
+
 class Model:
     """The rows of the classes of a derivation, and the costs of its plans."""
 
@@ -27,9 +37,10 @@ class Model:
             if line[0] == "F":
                 self.rows[at] = cut(self.of_expression(line[1]))
 
-    def class_rows(self, g):
-        """The cardinality of a class: that of the least that is the same."""
-        return self.rows[self.lines.root(g)]
+    def class_rows(self, g, asked=()):
+        """The rows of a class at which conditions are true, by the line of the least that is the same. Of no condition they are its cardinality."""
+        least = self.lines.root(g)
+        return self.of_expression(self.lines.all[least][1], asked) if asked else self.rows[least]
 
     def table(self, instance):
         return self.statistics[self.layout.table(instance).name]
@@ -78,21 +89,40 @@ class Model:
 
     # ---- cardinality
 
-    def of_expression(self, expression):
+    def passing(self, rows, conditions):
+        """Of so many rows those at which conditions are true, a millionth at least."""
+        return up(rows * max(1, self.all_of(conditions)), MILLION)
+
+    def of_join(self, conditions, left, right, asked):
+        """What names a subquery is asked last; of the rest, what names no column of one side is asked of the other side's rows."""
+        is_apart = lambda g: lambda condition: not self.lines.mentions(condition) & set(self.lines.columns(g))
+        plain, last = parted(asked, lambda condition: not list(named_classes([condition])))
+        of_left, others = parted(plain, is_apart(right))
+        of_right, of_pairs = parted(others, is_apart(left))
+        pairs = cut(self.class_rows(left, of_left) * self.class_rows(right, of_right))
+        return self.passing(self.passing(pairs, with_others(conditions, of_pairs)), last)
+
+    def of_other(self, expression):
         kind, *parts = expression
         if kind == "get":
             return self.table(parts[0])["rows"]
         first, *others = [self.class_rows(g) for g in inputs_of(expression)]
-        if kind == "select":
-            return up(first * self.all_of(parts[0]), MILLION)
-        if kind in ("join", "left"):
-            pairs = up(cut(first * others[0]) * self.all_of(parts[0]), MILLION)
-            return max(pairs, first) if kind == "left" else pairs
+        if kind == "left":
+            return max(self.passing(cut(first * others[0]), parts[0]), first)
         if kind in ("semi", "anti"):
             return up(first, 2)
         if kind == "keep":
             return first
         return 1 if kind == "group" and not parts[0] else up(first, 10)
+
+    def of_expression(self, expression, asked=()):
+        """The rows of an expression at which conditions are true."""
+        kind, *parts = expression
+        if kind == "select":
+            return self.class_rows(parts[1], with_others(parts[0], asked))
+        if kind == "join":
+            return self.of_join(*parts, asked)
+        return self.passing(self.of_other(expression), asked)
 
     # ---- cost
 

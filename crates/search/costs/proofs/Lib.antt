@@ -3,6 +3,7 @@ pub mod Cuts
 pub mod NodeEstimates
 pub mod PlanEstimates
 pub mod RowsOfLogs
+pub mod RowsWhere
 pub mod SelectivityForms
 pub mod Shares
 pub mod Worked

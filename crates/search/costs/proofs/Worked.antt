@@ -46,15 +46,15 @@ unfolding cut per_million
 projected-rows = simp selectivity-Compare refl
 
 first-is : plan_estimate counted plain (class_rows counted plain lines) lines (node 0 (Scan 0) []) ≡ record { rows = 3; cost = 130 }
-unfolding cut
+unfolding cut per_million
 first-is = estimate-node counted plain (class_rows counted plain lines) lines 0 (Scan 0) []
 
 second-is : plan_estimate counted plain (class_rows counted plain lines) lines (node 1 (Scan 1) []) ≡ record { rows = 4; cost = 140 }
-unfolding cut
+unfolding cut per_million
 second-is = estimate-node counted plain (class_rows counted plain lines) lines 1 (Scan 1) []
 
 joined-is : plan_estimate counted plain (class_rows counted plain lines) lines joined ≡ record { rows = 3; cost = 281 }
-unfolding cut
+unfolding cut per_million
 joined-is =
     let o : Operator = JoinRows join.Hash (matching.Left (of_dept ∷ [])) in
     estimate-node counted plain (class_rows counted plain lines) lines 2 o (node 0 (Scan 0) [] ∷ node 1 (Scan 1) [] ∷ [])
@@ -62,20 +62,21 @@ joined-is =
     ∙ ap (λ r. record { rows = r; cost = 281 }) joined-rows
 
 filtered-is : plan_estimate counted plain (class_rows counted plain lines) lines filtered ≡ record { rows = 2; cost = 284 }
-unfolding cut
+unfolding cut per_million
 filtered-is =
     estimate-node counted plain (class_rows counted plain lines) lines 3 (Filter (paid ∷ [])) (joined ∷ [])
     ∙ ap (λ (a : Estimate). node_estimate counted plain (class_rows counted plain lines) lines (Implements 3 (Filter (paid ∷ []))) (inputs_of (a ∷ []))) joined-is
     ∙ ap (λ r. record { rows = r; cost = 284 }) filtered-rows
 
 projected-is : plan_estimate counted plain (class_rows counted plain lines) lines projected ≡ record { rows = 2; cost = 285 }
-unfolding cut
+unfolding cut per_million
 projected-is =
     estimate-node counted plain (class_rows counted plain lines) lines 4 (Projection (0 ∷ 3 ∷ [])) (filtered ∷ [])
     ∙ ap (λ (a : Estimate). node_estimate counted plain (class_rows counted plain lines) lines (Implements 4 (Projection (0 ∷ 3 ∷ []))) (inputs_of (a ∷ []))) filtered-is
     ∙ ap (λ r. record { rows = r; cost = 285 }) projected-rows
 
 pub worked_plan : WorkedPlan
+unfolding per_million
 worked_plan = record {
   scanned_rows = refl;
   joined_rows = joined-rows;
@@ -92,7 +93,7 @@ scanned-is : (c : Condition) (index : ℕ) → plan_cost counted indexed (select
 scanned-is c index = ap (λ (e : Estimate). e.cost) (estimate-node counted indexed (class_rows counted indexed (selected c)) (selected c) 2 (IndexScan (record { line = 1; instance = 1; index = index }) (c ∷ [])) [])
 
 outer-is : plan_estimate counted indexed (class_rows counted indexed matched) matched (node 0 (Scan 0) []) ≡ record { rows = 3; cost = 130 }
-unfolding cut
+unfolding cut per_million
 outer-is = estimate-node counted indexed (class_rows counted indexed matched) matched 0 (Scan 0) []
 
 probed-is : plan_cost counted indexed matched (node 2 probing (node 0 (Scan 0) [] ∷ [])) ≡ 1090

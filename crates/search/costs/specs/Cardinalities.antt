@@ -1,67 +1,135 @@
 -- Cardinalities: how many rows a class is estimated to have, by the line that founds it. One number serves all classes that are the
 -- same: that of the least. No number passes the greatest of 64 bits, as those of the statistics don't.
-use Rattle.std.specs.Prelude.{◌≡◌, ℕ, ◌*◌, ◌==◌, ◌<◌, max, if◌then◌else◌, List, [], ◌∷◌, length, slice_get, slice_index_or, Option, Some, None}
+-- What is asked of the rows of an inner join is asked of a side's rows where it names no column of the other side, as JOIN .. ON asks it: so a selection over
+-- joins has the rows of the join of selections. That filters go below joins: Selinger et al., Access path selection in a relational database management system,
+-- 1979. The numbers are this project's own.
+use Rattle.std.specs.Prelude.{◌≡◌, ℕ, ◌*◌, ◌==◌, ◌<◌, Bool, max, not, if◌then◌else◌, List, [], ◌∷◌, ◌++◌, filter, length, reverse, take, slice_get, slice_index_or, Option, Some, None}
 use Rattle.std.specs.Int.{div_ceil}
+use Rattle.std.specs.List.{list_any}
 use Rattle.query.specs.declared.query.TableInstance.{TableInstance}
 use Rattle.algebra.specs.declared.condition.Condition.{Condition}
 use Rattle.algebra.specs.declared.expr.Expr.{Expr}
 use Rattle.algebra.specs.declared.expr.Expr.TheVariants.{Get, Select, Join, LeftJoin, Semi, Anti, Keep, Distinct, Group}
+use Rattle.algebra.specs.ConditionEquality.{same_condition}
+use Rattle.algebra.specs.ConjunctParts.{part, rest, has_no_class, is_without}
+use Rattle.props.specs.Knowledge.{Knowledge, known}
 use Rattle.derivation.specs.declared.line.Line.{Line}
 use Rattle.derivation.specs.declared.line.Line.TheVariants.{Founds, Adds, Unites, Alike, Gives}
-use Rattle.derivation.specs.Logs.{Log, least}
+use Rattle.derivation.specs.Logs.{Log, knowledge}
 use Rattle.statistics.specs.declared.counts.Statistics.{Statistics}
+use Rattle.costs.specs.declared.cardinalities.Reckoning.{Reckoning}
 use Rattle.costs.specs.Numbers.{cut, per_million}
 use Rattle.costs.specs.Tables.{rows_of}
 use Rattle.costs.specs.Selectivity.{list_selectivity}
 
--- ---- of an expression, n being the rows of the classes
+-- ---- conditions
+
+-- a millionth at least
+abbrev pub share : Statistics → List TableInstance → List Condition → ℕ
+share S instances C = max 1 (list_selectivity S instances C)
+
+-- of so many rows, those at which conditions are true
+abbrev pub passing : Statistics → List TableInstance → List Condition → ℕ → ℕ
+passing S instances C rows = per_million rows (share S instances C)
+
+-- the pairs of so many rows that make all conjuncts true
+abbrev pub condition_pairs : Statistics → List TableInstance → List Condition → ℕ → ℕ → ℕ
+condition_pairs S instances C left right = passing S instances C (cut (left * right))
+
+-- a list, and what another has besides
+abbrev pub with_others : List Condition → List Condition → List Condition
+with_others D C = D ++ filter (λ c. not (list_any (same_condition c) D)) C
+
+-- whether a condition names no column of a class
+abbrev pub is_apart : Knowledge → ℕ → Condition → Bool
+is_apart K g = is_without K.columns K.free (K.columns g)
+
+-- of conditions over a join, those of the left side, those of the right side, and those of pairs
+abbrev pub of_left : Knowledge → ℕ → List Condition → List Condition
+of_left K right C = part (is_apart K right) C
+
+abbrev pub of_right : Knowledge → ℕ → ℕ → List Condition → List Condition
+of_right K left right C = part (is_apart K left) (rest (is_apart K right) C)
+
+abbrev pub of_pairs : Knowledge → ℕ → ℕ → List Condition → List Condition
+of_pairs K left right C = rest (is_apart K left) (rest (is_apart K right) C)
+
+-- ---- of an expression: the rows at which conditions are true, n being those of the classes
 
 abbrev pub instance_rows : Statistics → Option TableInstance → ℕ
 instance_rows S None = 0
 instance_rows S (Some t) = rows_of S t
-
--- the pairs of so many rows that make all conjuncts true
-abbrev pub condition_pairs : Statistics → List TableInstance → List Condition → ℕ → ℕ → ℕ
-condition_pairs S instances C left right = per_million (cut (left * right)) (list_selectivity S instances C)
 
 -- without keys all rows are one group
 abbrev pub groups : List ℕ → ℕ → ℕ
 groups [] rows = 1
 groups (k ∷ keys) rows = div_ceil rows 10
 
-abbrev pub expr_rows : Statistics → List TableInstance → (ℕ → ℕ) → Expr → ℕ
-expr_rows S instances n (Get o) = instance_rows S (slice_get instances o)
-expr_rows S instances n (Select C x) = per_million (n x) (list_selectivity S instances C)
-expr_rows S instances n (Join C a b) = condition_pairs S instances C (n a) (n b)
-expr_rows S instances n (LeftJoin C a b) = max (n a) (condition_pairs S instances C (n a) (n b))
-expr_rows S instances n (Semi C a b) = div_ceil (n a) 2
-expr_rows S instances n (Anti C M a b) = div_ceil (n a) 2
-expr_rows S instances n (Keep K x) = n x
-expr_rows S instances n (Distinct x) = div_ceil (n x) 10
-expr_rows S instances n (Group K G x) = groups K (n x)
+abbrev pub joined_rows : Statistics → List TableInstance → Knowledge → (ℕ → List Condition → ℕ) → List Condition → ℕ → ℕ → List Condition → ℕ
+joined_rows S instances K n D a b C = condition_pairs S instances (with_others D (of_pairs K a b C)) (n a (of_left K b C)) (n b (of_right K a b C))
+
+-- conditions with subqueries are asked last, of the rows that the others leave
+abbrev pub expr_rows : Statistics → List TableInstance → Knowledge → (ℕ → List Condition → ℕ) → Expr → List Condition → ℕ
+expr_rows S instances K n (Get o) C = passing S instances C (instance_rows S (slice_get instances o))
+expr_rows S instances K n (Select D x) C = n x (with_others D C)
+expr_rows S instances K n (Join D a b) C = passing S instances (rest has_no_class C) (joined_rows S instances K n D a b (part has_no_class C))
+expr_rows S instances K n (LeftJoin D a b) C = passing S instances C (max (n a []) (condition_pairs S instances D (n a []) (n b [])))
+expr_rows S instances K n (Semi D a b) C = passing S instances C (div_ceil (n a []) 2)
+expr_rows S instances K n (Anti D M a b) C = passing S instances C (div_ceil (n a []) 2)
+expr_rows S instances K n (Keep L x) C = passing S instances C (n x [])
+expr_rows S instances K n (Distinct x) C = passing S instances C (div_ceil (n x []) 10)
+expr_rows S instances K n (Group L G x) C = passing S instances C (groups L (n x []))
 
 -- ---- of a class
 
+-- the expression of a line that founds a class
+abbrev pub founded : Line → Option Expr
+founded (Founds x) = Some x
+founded (Adds g s x) = None
+founded (Unites g h s) = None
+founded (Alike i j) = None
+founded (Gives g m f) = None
+
 -- a line that founds no class counts no rows
-abbrev pub line_rows : Statistics → List TableInstance → (ℕ → ℕ) → Line → ℕ
-line_rows S instances n (Founds x) = expr_rows S instances n x
-line_rows S instances n (Adds g s x) = 0
-line_rows S instances n (Unites g h s) = 0
-line_rows S instances n (Alike i j) = 0
-line_rows S instances n (Gives g m f) = 0
+abbrev pub founded_rows : Statistics → List TableInstance → Knowledge → (ℕ → List Condition → ℕ) → Option Expr → List Condition → ℕ
+founded_rows S instances K n None C = 0
+founded_rows S instances K n (Some x) C = expr_rows S instances K n x C
+
+abbrev pub line_rows : Statistics → List TableInstance → Knowledge → (ℕ → List Condition → ℕ) → Line → List Condition → ℕ
+line_rows S instances K n line C = founded_rows S instances K n (founded line) C
 
 -- by the class's own line, where each class that the line names counts as the one that stands for it
-abbrev pub own_rows : Statistics → List TableInstance → (ℕ → ℕ) → Log → ℕ → ℕ
-own_rows S instances root [] k = 0
-own_rows S instances root (line ∷ E) k = if k == length E then line_rows S instances (λ g. own_rows S instances root E (root g)) line else own_rows S instances root E k
+abbrev pub own_rows : Statistics → List TableInstance → Knowledge → Log → ℕ → List Condition → ℕ
+own_rows S instances K [] k C = 0
+own_rows S instances K (line ∷ E) k C = if k == length E then line_rows S instances K (λ g D. own_rows S instances K E (K.root g) D) line C else own_rows S instances K E k C
 
 abbrev pub class_rows : Statistics → List TableInstance → Log → ℕ → ℕ
-class_rows S instances E k = own_rows S instances (least E) E (least E k)
+class_rows S instances E k = own_rows S instances (knowledge instances E) E ((knowledge instances E).root k) []
 
 -- ---- as code keeps them
 
 abbrev pub rows_at : List ℕ → ℕ → ℕ
 rows_at rows k = slice_index_or rows k 0
+
+-- by the lines that are at hand
+abbrev pub own_rows_by : Reckoning → ℕ → List Condition → ℕ
+own_rows_by by = own_rows by.statistics.now by.instances.now (known by.classes) (reverse by.lines.now)
+
+abbrev pub expr_rows_by : Reckoning → Expr → List Condition → ℕ
+expr_rows_by by = expr_rows by.statistics.now by.instances.now (known by.classes) (λ g. own_rows_by by ((known by.classes).root g))
+
+-- the rows that are kept are those of the classes, of no condition
+pub record HasRows (by : Reckoning) : Type 0 where
+  pub length_ : length by.rows.now ≡ length by.lines.now
+  pub each : (k : ℕ) → rows_at by.rows.now k ≡ own_rows_by by k []
+
+-- the same by the lines before one
+pub record IsBefore (by : Reckoning) (line : ℕ) (earlier : Reckoning) : Type 0 where
+  pub statistics_are : earlier.statistics.now ≡ by.statistics.now
+  pub instances_are : earlier.instances.now ≡ by.instances.now
+  pub classes_are : earlier.classes ≡ by.classes
+  pub lines_are : earlier.lines.now ≡ take line by.lines.now
+  pub rows_are : HasRows earlier
 
 -- a list of the classes' rows by their numbers
 abbrev pub AreRows : Statistics → List TableInstance → Log → List ℕ → Type 0

@@ -1,6 +1,7 @@
 //! Cardinalities of classes, and costs of plans.
 #![tactic(auto)]
 
+mod asked;
 pub mod cardinalities;
 mod index_conjuncts;
 pub mod monotone;

@@ -86,6 +86,9 @@ const MOST_JUDGED: usize = 1_000;
 /// So much a plan has to cost for each line that its log may have: a line takes a small part of the time to explore that is estimated at so much.
 const COST_OF_LINE: u64 = 50_000;
 
+/// So many lines are explored before it counts that they made no plan cheaper. It takes some 20 milliseconds.
+const FIRST_LINES: usize = 1_000;
+
 /// A log doubles this often at most: no machine holds more lines.
 const MOST_DOUBLINGS: usize = 64;
 
@@ -160,7 +163,8 @@ fn explored(
     }
 }
 
-/// The cheapest plan that is found over twice as many lines as a log has, of which it may have so many, if it costs less than so much.
+/// The cheapest plan that is found over twice as many lines as a log has, and over the first ones at least, if it costs less than so much. The log may
+/// have so many lines at most.
 fn cheaper_over_twice(
     alloc: Global,
     planning: Planning<'_>,
@@ -168,7 +172,8 @@ fn cheaper_over_twice(
     most: usize,
     cost: u64,
 ) -> Result<Option<BestPlan>, AllocError> {
-    memo.set_limit(memo.log().len().saturating_mul(2).min(most));
+    let twice = memo.log().len().saturating_mul(2);
+    memo.set_limit(twice.max(FIRST_LINES).min(most));
     if memo.is_full() {
         return Ok(None);
     }
