@@ -2,7 +2,7 @@
 """Times planning: one table, and chains, stars and cliques of many, beside PostgreSQL in the same run.
 
 Of sqlplan the time on the clock of the whole process `sqlplan plan`, which reads the schema, the text and the statistics and writes the
-certificate, less that of a process that says its usage alone; and of `sqlplan check` of that certificate, in the same way. Of PostgreSQL what EXPLAIN
+certificate, explored to 20,000 lines, less that of a process that says its usage alone; and of `sqlplan check` of that certificate, in the same way. Of PostgreSQL what EXPLAIN
 tells of its planning, over empty tables whose statistics are set to the same numbers of rows, with join_collapse_limit over the number of
 tables and without its genetic search. Of each the least of RUNS, at the first draw of quality.py for that shape, form and size. Where PostgreSQL takes longer than
 LIMIT, it is left out. Wants the program built; PostgreSQL is left out where it isn't there.
@@ -25,6 +25,7 @@ from quality import draw, schema_of, statistics_of
 
 ROOT = pathlib.Path(__file__).resolve().parent.parent
 LIMIT = 60
+LINES = ["--limit", "20000"]  # without, exploring ends where it pays no more
 CASES = [("chain", "comma", 1, 1), ("chain", "comma", 8, 5), ("star", "comma", 8, 5), ("clique", "comma", 8, 25), ("chain", "on", 8, 5), ("star", "on", 8, 5)]
 CASES += [("clique", "on", 8, 25), ("clique", "comma", 11, 200), ("clique", "comma", 16, 200), ("chain", "comma", 24, 200), ("star", "comma", 24, 200)]
 
@@ -66,9 +67,9 @@ def tell_instructions(program):
         folder = pathlib.Path(name)
         for shape, form, size, _ in CASES:
             files = written(folder, draw(random.Random(40), shape, form, size))
-            text = subprocess.run([program, "plan", *files], capture_output=True, text=True, check=True).stdout
+            text = subprocess.run([program, "plan", *files, *LINES], capture_output=True, text=True, check=True).stdout
             (folder / "plan.cert").write_text(text)
-            (plan,) = instructions(folder, [program, "plan", *files], ["planner::planned::plan"])
+            (plan,) = instructions(folder, [program, "plan", *files, *LINES], ["planner::planned::plan"])
             check, read = instructions(folder, [program, "check", *files[:2], folder / "plan.cert"], ["checker::checked::check", "certificate_read::reading::read"])
             lines = text.split("\n")[1].split()[1]
             shares = f"{check / plan:.2f} | {(check + read) / plan:.2f}"
@@ -116,7 +117,7 @@ def main():
         for shape, form, size, target in CASES:
             drawn = draw(random.Random(40), shape, form, size)
             files = written(folder, drawn)
-            took, certificate = least_clock(wanted.runs, [wanted.program, "plan", *files])
+            took, certificate = least_clock(wanted.runs, [wanted.program, "plan", *files, *LINES])
             (folder / "plan.cert").write_bytes(certificate)
             checked, _ = least_clock(wanted.runs, [wanted.program, "check", *files[:2], folder / "plan.cert"])
             its = postgres_planning(asks, drawn, 3)
