@@ -1,4 +1,5 @@
 pub mod CheaperInputs
+pub mod ColumnLeaders
 pub mod Cuts
 pub mod NodeEstimates
 pub mod PlanEstimates

@@ -11,7 +11,7 @@ use Rattle.derivation.proofs.Sameness.{AreBelow, least-high}
 use Rattle.logs.proofs.NamedLines.{names-earlier}
 use Rattle.statistics.specs.declared.counts.Statistics.{Statistics}
 use Rattle.costs.specs.Cardinalities.{rows_at, own_rows, class_rows, AreRows, ShareRows}
-use Rattle.costs.proofs.RowsWhere.{own-past, rows-past}
+use Rattle.costs.proofs.RowsWhere.{nothing-past, rows-past}
 
 are-below : (instances : List TableInstance) (own : List Aggregation) (E : Log) → Replays instances own E → AreBelow E
 are-below instances own [] replays = tt
@@ -30,4 +30,4 @@ are-rows S instances added E K own rows count replays is size each shared k = by
     by false past =
         let le : count ≤ k = ltb-false k count past in
         let high : least E k ≡ k = least-high E (are-below instances added E replays) k (omega (arith, le, size)) in
-        rows-past rows k (omega (arith, le, shared.length_)) ∙ sym (ap (λ j. own_rows S instances (knowledge instances E) E j []) high ∙ own-past S instances (knowledge instances E) E k [] (omega (arith, le, size)))
+        nothing-past rows k 0 (omega (arith, le, shared.length_)) ∙ sym (ap (λ j. own_rows S instances (knowledge instances E) E j []) high ∙ rows-past S instances (knowledge instances E) [] E k (omega (arith, le, size)))

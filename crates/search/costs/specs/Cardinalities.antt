@@ -2,7 +2,7 @@
 -- same: that of the least. No number passes the greatest of 64 bits, as those of the statistics don't.
 -- What is asked of the rows of an inner join is asked of a side's rows where it names no column of the other side, as JOIN .. ON asks it: so a selection over
 -- joins has the rows of the join of selections. That filters go below joins: Selinger et al., Access path selection in a relational database management system,
--- 1979. The numbers are this project's own.
+-- 1979. Conditions that follow from others aren't counted (Equalities). The numbers are this project's own.
 use Rattle.std.specs.Prelude.{◌≡◌, ℕ, ◌*◌, ◌==◌, ◌<◌, Bool, max, not, if◌then◌else◌, List, [], ◌∷◌, ◌++◌, filter, length, reverse, take, slice_get, slice_index_or, Option, Some, None}
 use Rattle.std.specs.Int.{div_ceil}
 use Rattle.std.specs.List.{list_any}
@@ -17,7 +17,8 @@ use Rattle.derivation.specs.declared.line.Line.{Line}
 use Rattle.derivation.specs.declared.line.Line.TheVariants.{Founds, Adds, Unites, Alike, Gives}
 use Rattle.derivation.specs.Logs.{Log, knowledge}
 use Rattle.statistics.specs.declared.counts.Statistics.{Statistics}
-use Rattle.costs.specs.declared.cardinalities.Reckoning.{Reckoning}
+use Rattle.costs.specs.declared.cardinalities.Estimator.{Estimator}
+use Rattle.costs.specs.Equalities.{counted, with_equations, within}
 use Rattle.costs.specs.Numbers.{cut, per_million}
 use Rattle.costs.specs.Tables.{rows_of}
 use Rattle.costs.specs.Selectivity.{list_selectivity}
@@ -54,6 +55,19 @@ of_right K left right C = part (is_apart K left) (rest (is_apart K right) C)
 abbrev pub of_pairs : Knowledge → ℕ → ℕ → List Condition → List Condition
 of_pairs K left right C = rest (is_apart K left) (rest (is_apart K right) C)
 
+-- ---- of an expression: the columns that are equal in its rows, by equations, P being those of the classes
+
+abbrev pub expr_equations : (ℕ → List (ℕ × ℕ)) → Expr → List (ℕ × ℕ)
+expr_equations P (Get o) = []
+expr_equations P (Select D x) = with_equations (P x) D
+expr_equations P (Join D a b) = with_equations (P a ++ P b) D
+expr_equations P (LeftJoin D a b) = P a
+expr_equations P (Semi D a b) = P a
+expr_equations P (Anti D M a b) = P a
+expr_equations P (Keep L x) = within L (P x)
+expr_equations P (Distinct x) = P x
+expr_equations P (Group L G x) = within L (P x)
+
 -- ---- of an expression: the rows at which conditions are true, n being those of the classes
 
 abbrev pub instance_rows : Statistics → Option TableInstance → ℕ
@@ -65,20 +79,31 @@ abbrev pub groups : List ℕ → ℕ → ℕ
 groups [] rows = 1
 groups (k ∷ keys) rows = div_ceil rows 10
 
-abbrev pub joined_rows : Statistics → List TableInstance → Knowledge → (ℕ → List Condition → ℕ) → List Condition → ℕ → ℕ → List Condition → ℕ
-joined_rows S instances K n D a b C = condition_pairs S instances (with_others D (of_pairs K a b C)) (n a (of_left K b C)) (n b (of_right K a b C))
+-- the equations that hold in the rows of both sides, where conditions are asked of them
+abbrev pub equations_of_sides : Knowledge → (ℕ → List (ℕ × ℕ)) → ℕ → ℕ → List Condition → List (ℕ × ℕ)
+equations_of_sides K P a b C = with_equations (P a) (of_left K b C) ++ with_equations (P b) (of_right K a b C)
+
+abbrev pub joined_rows : Statistics → List TableInstance → Knowledge → (ℕ → List (ℕ × ℕ)) → (ℕ → List Condition → ℕ) → List Condition → ℕ → ℕ → List Condition → ℕ
+joined_rows S instances K P n D a b C = condition_pairs S instances (counted (equations_of_sides K P a b C) (with_others D (of_pairs K a b C))) (n a (of_left K b C)) (n b (of_right K a b C))
+
+abbrev pub left_join_rows : Statistics → List TableInstance → (ℕ → List (ℕ × ℕ)) → (ℕ → List Condition → ℕ) → List Condition → ℕ → ℕ → ℕ
+left_join_rows S instances P n D a b = max (n a []) (condition_pairs S instances (counted (P a ++ P b) D) (n a []) (n b []))
+
+-- of so many rows of an expression, those at which conditions are true
+abbrev pub asked_rows : Statistics → List TableInstance → (ℕ → List (ℕ × ℕ)) → Expr → List Condition → ℕ → ℕ
+asked_rows S instances P x C rows = passing S instances (counted (expr_equations P x) C) rows
 
 -- conditions with subqueries are asked last, of the rows that the others leave
-abbrev pub expr_rows : Statistics → List TableInstance → Knowledge → (ℕ → List Condition → ℕ) → Expr → List Condition → ℕ
-expr_rows S instances K n (Get o) C = passing S instances C (instance_rows S (slice_get instances o))
-expr_rows S instances K n (Select D x) C = n x (with_others D C)
-expr_rows S instances K n (Join D a b) C = passing S instances (rest has_no_class C) (joined_rows S instances K n D a b (part has_no_class C))
-expr_rows S instances K n (LeftJoin D a b) C = passing S instances C (max (n a []) (condition_pairs S instances D (n a []) (n b [])))
-expr_rows S instances K n (Semi D a b) C = passing S instances C (div_ceil (n a []) 2)
-expr_rows S instances K n (Anti D M a b) C = passing S instances C (div_ceil (n a []) 2)
-expr_rows S instances K n (Keep L x) C = passing S instances C (n x [])
-expr_rows S instances K n (Distinct x) C = passing S instances C (div_ceil (n x []) 10)
-expr_rows S instances K n (Group L G x) C = passing S instances C (groups L (n x []))
+abbrev pub expr_rows : Statistics → List TableInstance → Knowledge → (ℕ → List (ℕ × ℕ)) → (ℕ → List Condition → ℕ) → Expr → List Condition → ℕ
+expr_rows S instances K P n (Get o) C = asked_rows S instances P (Get o) C (instance_rows S (slice_get instances o))
+expr_rows S instances K P n (Select D x) C = n x (with_others D C)
+expr_rows S instances K P n (Join D a b) C = passing S instances (rest has_no_class C) (joined_rows S instances K P n D a b (part has_no_class C))
+expr_rows S instances K P n (LeftJoin D a b) C = asked_rows S instances P (LeftJoin D a b) C (left_join_rows S instances P n D a b)
+expr_rows S instances K P n (Semi D a b) C = asked_rows S instances P (Semi D a b) C (div_ceil (n a []) 2)
+expr_rows S instances K P n (Anti D M a b) C = asked_rows S instances P (Anti D M a b) C (div_ceil (n a []) 2)
+expr_rows S instances K P n (Keep L x) C = asked_rows S instances P (Keep L x) C (n x [])
+expr_rows S instances K P n (Distinct x) C = asked_rows S instances P (Distinct x) C (div_ceil (n x []) 10)
+expr_rows S instances K P n (Group L G x) C = asked_rows S instances P (Group L G x) C (groups L (n x []))
 
 -- ---- of a class
 
@@ -90,18 +115,26 @@ founded (Unites g h s) = None
 founded (Alike i j) = None
 founded (Gives g m f) = None
 
--- a line that founds no class counts no rows
-abbrev pub founded_rows : Statistics → List TableInstance → Knowledge → (ℕ → List Condition → ℕ) → Option Expr → List Condition → ℕ
-founded_rows S instances K n None C = 0
-founded_rows S instances K n (Some x) C = expr_rows S instances K n x C
-
-abbrev pub line_rows : Statistics → List TableInstance → Knowledge → (ℕ → List Condition → ℕ) → Line → List Condition → ℕ
-line_rows S instances K n line C = founded_rows S instances K n (founded line) C
+abbrev pub founded_equations : (ℕ → List (ℕ × ℕ)) → Option Expr → List (ℕ × ℕ)
+founded_equations P None = []
+founded_equations P (Some x) = expr_equations P x
 
 -- by the class's own line, where each class that the line names counts as the one that stands for it
+abbrev pub own_equations : (ℕ → ℕ) → Log → ℕ → List (ℕ × ℕ)
+own_equations root [] k = []
+own_equations root (line ∷ E) k = if k == length E then founded_equations (λ g. own_equations root E (root g)) (founded line) else own_equations root E k
+
+-- a line that founds no class counts no rows
+abbrev pub founded_rows : Statistics → List TableInstance → Knowledge → (ℕ → List (ℕ × ℕ)) → (ℕ → List Condition → ℕ) → Option Expr → List Condition → ℕ
+founded_rows S instances K P n None C = 0
+founded_rows S instances K P n (Some x) C = expr_rows S instances K P n x C
+
+abbrev pub line_rows : Statistics → List TableInstance → Knowledge → (ℕ → List (ℕ × ℕ)) → (ℕ → List Condition → ℕ) → Line → List Condition → ℕ
+line_rows S instances K P n line C = founded_rows S instances K P n (founded line) C
+
 abbrev pub own_rows : Statistics → List TableInstance → Knowledge → Log → ℕ → List Condition → ℕ
 own_rows S instances K [] k C = 0
-own_rows S instances K (line ∷ E) k C = if k == length E then line_rows S instances K (λ g D. own_rows S instances K E (K.root g) D) line C else own_rows S instances K E k C
+own_rows S instances K (line ∷ E) k C = if k == length E then line_rows S instances K (λ g. own_equations K.root E (K.root g)) (λ g D. own_rows S instances K E (K.root g) D) line C else own_rows S instances K E k C
 
 abbrev pub class_rows : Statistics → List TableInstance → Log → ℕ → ℕ
 class_rows S instances E k = own_rows S instances (knowledge instances E) E ((knowledge instances E).root k) []
@@ -111,20 +144,32 @@ class_rows S instances E k = own_rows S instances (knowledge instances E) E ((kn
 abbrev pub rows_at : List ℕ → ℕ → ℕ
 rows_at rows k = slice_index_or rows k 0
 
+abbrev pub equations_at : List (List (ℕ × ℕ)) → ℕ → List (ℕ × ℕ)
+equations_at equations k = slice_index_or equations k []
+
 -- by the lines that are at hand
-abbrev pub own_rows_by : Reckoning → ℕ → List Condition → ℕ
+abbrev pub own_equations_by : Estimator → ℕ → List (ℕ × ℕ)
+own_equations_by by = own_equations (known by.classes).root (reverse by.lines.now)
+
+-- of the class that stands for this one
+abbrev pub equations_by : Estimator → ℕ → List (ℕ × ℕ)
+equations_by by g = own_equations_by by ((known by.classes).root g)
+
+abbrev pub own_rows_by : Estimator → ℕ → List Condition → ℕ
 own_rows_by by = own_rows by.statistics.now by.instances.now (known by.classes) (reverse by.lines.now)
 
-abbrev pub expr_rows_by : Reckoning → Expr → List Condition → ℕ
-expr_rows_by by = expr_rows by.statistics.now by.instances.now (known by.classes) (λ g. own_rows_by by ((known by.classes).root g))
+abbrev pub expr_rows_by : Estimator → Expr → List Condition → ℕ
+expr_rows_by by = expr_rows by.statistics.now by.instances.now (known by.classes) (equations_by by) (λ g. own_rows_by by ((known by.classes).root g))
 
--- the rows that are kept are those of the classes, of no condition
-pub record HasRows (by : Reckoning) : Type 0 where
+-- the rows and the equations that are kept are those of the classes, of no condition
+pub record HasRows (by : Estimator) : Type 0 where
   pub length_ : length by.rows.now ≡ length by.lines.now
   pub each : (k : ℕ) → rows_at by.rows.now k ≡ own_rows_by by k []
+  pub as_many : length by.equations.now ≡ length by.lines.now
+  pub equal : (k : ℕ) → equations_at by.equations.now k ≡ own_equations_by by k
 
 -- the same by the lines before one
-pub record IsBefore (by : Reckoning) (line : ℕ) (earlier : Reckoning) : Type 0 where
+pub record IsBefore (by : Estimator) (line : ℕ) (earlier : Estimator) : Type 0 where
   pub statistics_are : earlier.statistics.now ≡ by.statistics.now
   pub instances_are : earlier.instances.now ≡ by.instances.now
   pub classes_are : earlier.classes ≡ by.classes

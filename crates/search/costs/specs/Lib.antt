@@ -1,5 +1,6 @@
 pub mod Cardinalities
 pub mod Costs
+pub mod Equalities
 pub mod Examples
 pub mod Laws
 pub mod Numbers

@@ -1,11 +1,13 @@
 //! How many rows the classes of a log are estimated to have.
 
-ghost use Rattle.std.specs.Prelude.{◌≡◌, ◌≤◌, ◌<◌, ℕ, [], length, map, option_map, reverse, slice_get, vec_len, IfOk};
+ghost use Rattle.std.specs.Prelude.{◌≡◌, ◌≤◌, ◌<◌, ◌++◌, ℕ, [], length, map, option_map, reverse, slice_get, vec_len, IfOk};
 ghost use Rattle.algebra.specs.declared.expr.Expr.TheVariants as expr;
 ghost use Rattle.props.specs.Knowledge.{known, root_in};
 ghost use Rattle.costs.specs.Cardinalities as spec;
+ghost use Rattle.costs.specs.Equalities as equal;
 
-use crate::asked::{lent, passing, split, split_plain, with_others};
+use crate::condition_lists::{lent, passing, split, split_plain, with_others};
+use crate::equalities::{Equation, both, counted, with_equations, within};
 use crate::numbers::product;
 use crate::tables::rows_of;
 use algebra::{ClassId, Columns, Condition, Conjuncts, Expr, LineId};
@@ -17,6 +19,7 @@ use query::ids::id_of;
 use statistics::Statistics;
 use std::alloc::{AllocError, Global};
 use std::marker::Model;
+use values::Items;
 
 /// The rows of the classes of a log, which contracts see as a list by the classes' numbers.
 #[derive(Drop)]
@@ -60,31 +63,33 @@ fn groups(keys: &Columns, rows: u64) -> u64
     }
 }
 
-/// What rows are reckoned by: the statistics of the tables, what is known of the classes of a log, and lines of it with the rows of the classes that they
-/// found.
+/// What rows are estimated by: the statistics of the tables, what is known of the classes of a log, and lines of it with the rows of the classes that they
+/// found and the columns that are equal in these.
 #[derive(Clone, Copy)]
-struct Reckoning<'a> {
+struct Estimator<'a> {
     statistics: &'a Statistics,
     instances: &'a [TableInstance],
     classes: KnownClasses<'a>,
     lines: &'a [Line],
     rows: &'a [u64],
+    equations: &'a [Items<Equation>],
 }
 
-impl<'a> Reckoning<'a> {
+impl<'a> Estimator<'a> {
     /// The same by the lines before this one.
-    fn before(self, line: LineId) -> Reckoning<'a>
+    fn before(self, line: LineId) -> Estimator<'a>
         requires rows { spec.HasRows self }
         requires within { line ≤ length self.lines.now }
         ensures { spec.IsBefore self.entry line result }
     {
         let count = line as usize;
-        Reckoning {
+        Estimator {
             statistics: self.statistics,
             instances: self.instances,
             classes: self.classes,
             lines: &self.lines[..count],
             rows: &self.rows[..count],
+            equations: &self.equations[..count],
         }
     }
 
@@ -93,6 +98,39 @@ impl<'a> Reckoning<'a> {
         ensures { result ≡ spec.passing self.entry.statistics.now self.entry.instances.now (map (λ c. c.now) conditions.now) rows }
     {
         passing(self.statistics, self.instances, conditions, rows)
+    }
+
+    /// Of so many rows in which columns are equal, those that make all of the conditions true.
+    fn asked(
+        self,
+        alloc: Global,
+        equations: &[Equation],
+        conditions: &[&Condition],
+        rows: u64,
+    ) -> Result<u64, AllocError>
+        ensures { IfOk result (λ n. n ≡ spec.passing self.entry.statistics.now self.entry.instances.now (equal.counted equations.now (map (λ c. c.now) conditions.now)) rows) }
+    {
+        let counted = counted(alloc, equations, conditions)?;
+        Ok(self.passing(counted.as_slice(), rows))
+    }
+
+    /// The equations of a class by its own line.
+    fn own_equations(self, class: ClassId) -> &'a [Equation]
+        requires { spec.HasRows self }
+        ensures { result.now ≡ spec.own_equations_by self.entry class }
+    {
+        match self.equations.get(class as usize) {
+            Some(equations) => equations.as_slice(),
+            None => &[],
+        }
+    }
+
+    /// The equations of the class that stands for this one and all that are the same.
+    fn root_equations(self, class: ClassId) -> &'a [Equation]
+        requires { spec.HasRows self }
+        ensures { result.now ≡ spec.equations_by self.entry class }
+    {
+        self.own_equations(self.classes.root(class))
     }
 
     /// The rows of the class that stands for this one and all that are the same.
@@ -116,11 +154,58 @@ fn founded(line: &Line) -> Option<&Expr>
     }
 }
 
+/// The equations of an expression over classes of the lines.
+fn expr_equations(
+    alloc: Global,
+    by: Estimator<'_>,
+    expr: &Expr,
+) -> Result<Vec<Equation>, AllocError>
+    requires { spec.HasRows by }
+    ensures { IfOk result (λ equations. equations.items ≡ spec.expr_equations (spec.equations_by by.entry) expr.now) }
+{
+    match expr {
+        Expr::Get(_) => Ok(Vec::new(alloc)),
+        Expr::Select(own, x) => {
+            let own = lent(alloc, own.as_slice())?;
+            with_equations(alloc, by.root_equations(*x), own.as_slice())
+        }
+        Expr::Join(on, a, b) => {
+            let sides = both(alloc, by.root_equations(*a), by.root_equations(*b))?;
+            let on = lent(alloc, on.as_slice())?;
+            with_equations(alloc, sides.as_slice(), on.as_slice())
+        }
+        Expr::LeftJoin(_, x, _)
+        | Expr::Semi(_, x, _)
+        | Expr::Anti(_, _, x, _)
+        | Expr::Distinct(x) => Vec::from_slice(alloc, by.root_equations(*x)),
+        Expr::Keep(columns, x) | Expr::Group(columns, _, x) => {
+            within(alloc, columns, by.root_equations(*x))
+        }
+    }
+}
+
+/// The equations that hold in the rows of both sides of a join, of each those of its rows at which conditions are true.
+fn equations_of_sides(
+    alloc: Global,
+    by: Estimator<'_>,
+    sides: (ClassId, ClassId),
+    of_left: &[&Condition],
+    of_right: &[&Condition],
+) -> Result<Vec<Equation>, AllocError>
+    requires { spec.HasRows by }
+    ensures { IfOk result (λ all. all.items ≡ equal.with_equations (spec.equations_by by.entry sides.0) (map (λ c. c.now) of_left.now) ++ equal.with_equations (spec.equations_by by.entry sides.1) (map (λ c. c.now) of_right.now)) }
+{
+    let (left, right) = sides;
+    let left = with_equations(alloc, by.root_equations(left), of_left)?;
+    let right = with_equations(alloc, by.root_equations(right), of_right)?;
+    both(alloc, left.as_slice(), right.as_slice())
+}
+
 /// The rows of an inner join at which conditions are true.
 #[cycle(rows)]
 fn join_rows<'c>(
     alloc: Global,
-    by: Reckoning<'c>,
+    by: Estimator<'c>,
     on: &'c Conjuncts,
     sides: (ClassId, ClassId),
     conditions: &[&'c Condition],
@@ -132,22 +217,43 @@ fn join_rows<'c>(
     let (plain, others) = split_plain(alloc, conditions)?;
     let (of_left, rest) = split(alloc, by.classes, right, plain.as_slice())?;
     let (of_right, of_pairs) = split(alloc, by.classes, left, rest.as_slice())?;
+    let equations = equations_of_sides(alloc, by, sides, of_left.as_slice(), of_right.as_slice())?;
     let left = class_rows(alloc, by, left, of_left.as_slice())?;
     let right = class_rows(alloc, by, right, of_right.as_slice())?;
     let on = with_others(alloc, on.as_slice(), of_pairs.as_slice())?;
-    let pairs = by.passing(on.as_slice(), product(left, right));
+    let pairs = by.asked(alloc, equations.as_slice(), on.as_slice(), product(left, right))?;
     Ok(by.passing(others.as_slice(), pairs))
 }
 
-/// The rows of an expression over classes of the lines at which conditions are true.
+/// The rows of a left join.
+fn left_join_rows(
+    alloc: Global,
+    by: Estimator<'_>,
+    on: &Conjuncts,
+    sides: (ClassId, ClassId),
+) -> Result<u64, AllocError>
+    requires { spec.HasRows by }
+    ensures { IfOk result (λ n. n ≡ spec.left_join_rows by.entry.statistics.now by.entry.instances.now (spec.equations_by by.entry) (λ g. spec.own_rows_by by.entry ((known by.entry.classes).root g)) on.now sides.0 sides.1) }
+{
+    let (left, right) = sides;
+    let equations = both(alloc, by.root_equations(left), by.root_equations(right))?;
+    let (left, right) = (by.root_rows(left), by.root_rows(right));
+    let on = lent(alloc, on.as_slice())?;
+    let pairs = by.asked(alloc, equations.as_slice(), on.as_slice(), product(left, right))?;
+    Ok(left.max(pairs))
+}
+
+/// The rows of an expression over classes of the lines at which conditions are true. Its equations are these.
 #[cycle(rows)]
 fn expr_rows<'c>(
     alloc: Global,
-    by: Reckoning<'c>,
+    by: Estimator<'c>,
     expr: &'c Expr,
+    equations: &[Equation],
     conditions: &[&'c Condition],
 ) -> Result<u64, AllocError>
-    requires { spec.HasRows by }
+    requires rows { spec.HasRows by }
+    requires equations { equations.now ≡ spec.expr_equations (spec.equations_by by) expr.now }
     ensures { IfOk result (λ n. n ≡ spec.expr_rows_by by.entry expr.entry.now (map (λ c. c.now) conditions.now)) }
 {
     match expr {
@@ -158,19 +264,25 @@ fn expr_rows<'c>(
         Expr::Join(on, a, b) => join_rows(alloc, by, on, (*a, *b), conditions),
         Expr::Get(instance) => {
             let rows = instance_rows(by.statistics, by.instances, *instance);
-            Ok(by.passing(conditions, rows))
+            by.asked(alloc, equations, conditions, rows)
         }
         Expr::LeftJoin(on, a, b) => {
-            let left = by.root_rows(*a);
-            let on = lent(alloc, on.as_slice())?;
-            let pairs = by.passing(on.as_slice(), product(left, by.root_rows(*b)));
-            Ok(by.passing(conditions, left.max(pairs)))
+            let rows = left_join_rows(alloc, by, on, (*a, *b))?;
+            by.asked(alloc, equations, conditions, rows)
         }
-        Expr::Semi(_, a, _) => Ok(by.passing(conditions, by.root_rows(*a).div_ceil(2))),
-        Expr::Anti(_, _, a, _) => Ok(by.passing(conditions, by.root_rows(*a).div_ceil(2))),
-        Expr::Keep(_, x) => Ok(by.passing(conditions, by.root_rows(*x))),
-        Expr::Distinct(x) => Ok(by.passing(conditions, by.root_rows(*x).div_ceil(10))),
-        Expr::Group(keys, _, x) => Ok(by.passing(conditions, groups(keys, by.root_rows(*x)))),
+        Expr::Semi(_, a, _) | Expr::Anti(_, _, a, _) => {
+            let rows = by.root_rows(*a).div_ceil(2);
+            by.asked(alloc, equations, conditions, rows)
+        }
+        Expr::Keep(_, x) => by.asked(alloc, equations, conditions, by.root_rows(*x)),
+        Expr::Distinct(x) => {
+            let rows = by.root_rows(*x).div_ceil(10);
+            by.asked(alloc, equations, conditions, rows)
+        }
+        Expr::Group(keys, _, x) => {
+            let rows = groups(keys, by.root_rows(*x));
+            by.asked(alloc, equations, conditions, rows)
+        }
     }
 }
 
@@ -178,7 +290,7 @@ fn expr_rows<'c>(
 #[cycle(rows)]
 fn class_rows<'c>(
     alloc: Global,
-    by: Reckoning<'c>,
+    by: Estimator<'c>,
     class: ClassId,
     conditions: &[&'c Condition],
 ) -> Result<u64, AllocError>
@@ -193,18 +305,42 @@ fn class_rows<'c>(
         return Ok(0);
     };
     match founded(line) {
-        Some(expr) => expr_rows(alloc, by.before(root), expr, conditions),
+        Some(expr) => {
+            let equations = by.own_equations(root);
+            expr_rows(alloc, by.before(root), expr, equations, conditions)
+        }
         None => Ok(0),
     }
 }
 
-/// The rows of the class that a line founds, over classes of the lines before it.
-fn line_rows(alloc: Global, by: Reckoning<'_>, line: &Line) -> Result<u64, AllocError>
+/// The equations of the class that a line founds, over classes of the lines before it.
+fn line_equations(
+    alloc: Global,
+    by: Estimator<'_>,
+    line: &Line,
+) -> Result<Vec<Equation>, AllocError>
     requires { spec.HasRows by }
-    ensures { IfOk result (λ n. n ≡ spec.line_rows by.entry.statistics.now by.entry.instances.now (known by.entry.classes) (λ g. spec.own_rows_by by.entry ((known by.entry.classes).root g)) line.entry.now []) }
+    ensures { IfOk result (λ equations. equations.items ≡ spec.founded_equations (spec.equations_by by.entry) (spec.founded line.now)) }
 {
     match founded(line) {
-        Some(expr) => expr_rows(alloc, by, expr, &[]),
+        Some(expr) => expr_equations(alloc, by, expr),
+        None => Ok(Vec::new(alloc)),
+    }
+}
+
+/// The rows of the class that a line founds, over classes of the lines before it. Its equations are these.
+fn line_rows(
+    alloc: Global,
+    by: Estimator<'_>,
+    line: &Line,
+    equations: &[Equation],
+) -> Result<u64, AllocError>
+    requires rows { spec.HasRows by }
+    requires equations { equations.now ≡ spec.founded_equations (spec.equations_by by) (spec.founded line.now) }
+    ensures { IfOk result (λ n. n ≡ spec.line_rows by.entry.statistics.now by.entry.instances.now (known by.entry.classes) (spec.equations_by by.entry) (λ g. spec.own_rows_by by.entry ((known by.entry.classes).root g)) line.entry.now []) }
+{
+    match founded(line) {
+        Some(expr) => expr_rows(alloc, by, expr, equations, &[]),
         None => Ok(0),
     }
 }
@@ -220,16 +356,20 @@ fn own_rows(
     ensures { IfOk result (λ rows. (k : ℕ) → spec.rows_at rows.items k ≡ spec.own_rows statistics.now instances.now (known classes.entry) (reverse lines.now) k []) }
 {
     let mut rows = Vec::with_capacity(alloc, lines.len())?;
+    let mut equations = Vec::with_capacity(alloc, lines.len())?;
     for (number, line) in lines.iter().enumerate() {
-        let by = Reckoning {
+        let by = Estimator {
             statistics,
             instances,
             classes,
             lines: &lines[..number],
             rows: rows.as_slice(),
+            equations: equations.as_slice(),
         };
-        let own = line_rows(alloc, by, line)?;
+        let equal = line_equations(alloc, by, line)?;
+        let own = line_rows(alloc, by, line, equal.as_slice())?;
         rows.push(own)?;
+        equations.push(Items::from_vec(equal))?;
     }
     Ok(rows)
 }

@@ -1,8 +1,9 @@
 //! Cardinalities of classes, and costs of plans.
 #![tactic(auto)]
 
-mod asked;
 pub mod cardinalities;
+mod condition_lists;
+mod equalities;
 mod index_conjuncts;
 pub mod monotone;
 pub mod nodes;

@@ -1,6 +1,6 @@
 use Rattle.std.proofs.Common.{◌≡◌, map, take}
 use Rattle.algebra.specs.ConjunctParts.{part, rest, has_no_class}
-use Rattle.costs.proofs.asked.split_plain.Given as goal
+use Rattle.costs.proofs.condition_lists.split_plain.Given as goal
 
 abbrev pub invariant-loop-condition : goal.invariant-loop-condition
 invariant-loop-condition l = record {

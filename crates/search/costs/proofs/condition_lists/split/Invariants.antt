@@ -2,7 +2,7 @@ use Rattle.std.proofs.Common.{◌≡◌, map, take}
 use Rattle.algebra.specs.ConjunctParts.{part, rest}
 use Rattle.props.specs.Knowledge.{known}
 use Rattle.costs.specs.Cardinalities.{is_apart}
-use Rattle.costs.proofs.asked.split.Given as goal
+use Rattle.costs.proofs.condition_lists.split.Given as goal
 
 abbrev pub invariant-loop-condition : goal.invariant-loop-condition
 invariant-loop-condition l = record {
