@@ -1,5 +1,5 @@
 -- How many items an array has, and how many members an object.
-use Rattle.std.proofs.Common.{◌≡◌, ℕ, List, Bool, true, false, length, map, Option, Some, None, Ok, Err, String, Global, ◌==◌, refl, sym, ◌∙◌}
+use Rattle.std.proofs.Common.{◌≡◌, ℕ, List, true, false, length, map, Option, Some, None, Ok, Err, String, Global, ◌==◌, refl, sym, ◌∙◌}
 use Rattle.std.proofs.lemmas.Bool.{eq-eqb, ne_eqb, eqb-true}
 use Rattle.std.proofs.lemmas.List.{length-map}
 use Rattle.serde_json.specs.Data.{Data, Members}
@@ -10,8 +10,9 @@ use Rattle.serde_json.specs.declared.value.Value.{Value}
 use Rattle.serde_json.proofs.Views.{members_len-members_view}
 use Rattle.json_parts.specs.Spelling.{HasKeys}
 use Rattle.json_parts.proofs.Reading.{list_of_views}
+use Rattle.schema.specs.declared.schema.Column.{Column}
 use Rattle.statistics.specs.declared.fault.StatisticsRefusal.TheVariants.{Shape}
-use Rattle.statistics.specs.Entries.{items_in, has_members, is_object_of}
+use Rattle.statistics.specs.Entries.{items_in, has_members, is_object_of, none_known, fourth_in, column_keys_in}
 
 pub items_right : (n : ℕ) (d : Data) (vs : List Value) → Some (items_view vs) ≡ as_array d → length vs ≡ n → items_in n d ≡ Ok (map view vs)
 unfolding items_in
@@ -47,3 +48,13 @@ members_counted n d m e = rw (← e, members_len-members_view m) refl
 pub no_object : (n : ℕ) (d : Data) → None ≡ as_object d → is_object_of n d ≡ false
 unfolding is_object_of
 no_object n d e = rw (← e) refl
+
+-- ---- the member that may be left out
+
+pub of_three : (columns : List Column) (d : Data) → is_object_of 3 d ≡ true → column_keys_in columns d ≡ Ok (none_known columns)
+unfolding column_keys_in
+of_three columns d is = rw is refl
+
+pub of_four : (columns : List Column) (d : Data) → is_object_of 3 d ≡ false → column_keys_in columns d ≡ fourth_in columns d
+unfolding column_keys_in
+of_four columns d is = rw is refl

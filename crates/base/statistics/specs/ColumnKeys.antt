@@ -1,9 +1,10 @@
 -- How many different keys a column has, Null left out: exactly where it is unique, else as estimated by linear counting (Whang,
 -- Vander-Zanden and Taylor, A linear-time probabilistic counting algorithm for database applications, ACM TODS 15(2), 1990).
-use Rattle.std.specs.Prelude.{◌≡◌, ℕ, ◌+◌, ◌-◌, ◌*◌, ◌/◌, ◌%◌, ◌^◌, ◌==◌, ◌&&◌, Bool, false, not, List, length, map, filter, min, max, sum, nat_eq, slice_index_or, Option, Some, None, if◌then◌else◌}
+use Rattle.std.specs.Prelude.{◌≡◌, ◌<◌, ℕ, ◌+◌, ◌-◌, ◌*◌, ◌/◌, ◌%◌, ◌^◌, ◌==◌, ◌&&◌, Bool, false, not, List, [], length, map, filter, min, max, sum, nat_eq, slice_index_or, Option, Some, None, if◌then◌else◌}
 use Rattle.std.specs.Int.{cast_unsigned, div_ceil, w64}
 use Rattle.std.specs.List.{fold, list_any, range_with_len}
 use Rattle.std.specs.Set.{is_member, distinct_count}
+use Rattle.values.specs.Short.{IsShort}
 use Rattle.values.specs.Truth.{is_null}
 use Rattle.values.specs.declared.value.Value.{Value}
 use Rattle.values.specs.declared.value.Value.TheVariants as value
@@ -15,6 +16,10 @@ use Rattle.statistics.specs.UniqueLists.{is_unique_column}
 -- the column's values, those that aren't Null
 abbrev pub values_in : ℕ → List Row → List Value
 values_in place rows = filter (λ v. not (is_null v)) (map (λ row. slice_index_or row place value.Null) rows)
+
+-- the column's numbers have 64 bits
+abbrev pub AreShort : ℕ → List Row → Type 0
+AreShort place rows = (row : ℕ) → row < length rows → IsShort (slice_index_or (slice_index_or rows row []) place value.Null)
 
 -- ---- slots
 

@@ -3,10 +3,11 @@
 ghost use Rattle.std.specs.Prelude.{◌≡◌, ◌≤◌, ◌<◌, ◌^◌, ◌+◌, ℕ, false, length, map, slice_index_or, nat_eq, max, IfOk};
 ghost use Rattle.std.specs.Set.{is_member};
 ghost use Rattle.values.specs.Cells.{value_of};
+ghost use Rattle.values.specs.Short.{IsShort};
 ghost use Rattle.schema.specs.Databases.{SatisfiesTable, most_rows};
 ghost use Rattle.store.specs.NumberColumns.{AreNumbersOf};
 ghost use Rattle.statistics.specs.ColumnKeys as spec;
-ghost use Rattle.statistics.specs.ColumnKeys.{AreMarked};
+ghost use Rattle.statistics.specs.ColumnKeys.{AreMarked, AreShort};
 
 use crate::counts::TableColumn;
 use crate::digits::count_marks;
@@ -55,11 +56,12 @@ fn text_number(text: &str) -> u64
 }
 
 fn number_of(cell: Cell<'_>) -> u64
+    requires { IsShort (value_of cell) }
     ensures { result ≡ spec.number_of (value_of cell.entry) }
 {
     match cell {
         Cell::Null => 0,
-        Cell::Int(number) => number as u64,
+        Cell::Int(number) => (number as i64).cast_unsigned(),
         Cell::Text(text) => text_number(text),
     }
 }
@@ -76,7 +78,7 @@ fn mark_numbers(rows: &Table, place: usize, column: Numbers<'_>, marks: &mut [bo
     let mut values: usize = 0;
     for row in 0..rows.len() {
         if column.known[row] {
-            marks[slot_of(column.numbers[row] as u64, marks.len())] = true;
+            marks[slot_of(column.numbers[row].cast_unsigned(), marks.len())] = true;
             values += 1;
         }
     }
@@ -86,6 +88,7 @@ fn mark_numbers(rows: &Table, place: usize, column: Numbers<'_>, marks: &mut [bo
 /// The same of a column of any values.
 fn mark_cells(rows: &Table, place: usize, marks: &mut [bool]) -> usize
     requires few { length rows.now ≤ most_rows }
+    requires short { AreShort place rows.now }
     requires slots { length marks.old ≡ max (length rows.now) 1 }
     requires none { (s : ℕ) → slice_index_or marks.old s false ≡ false }
     ensures marks { AreMarked (length marks.old) (spec.values_in place rows.now) marks.new }
@@ -104,6 +107,7 @@ fn mark_cells(rows: &Table, place: usize, marks: &mut [bool]) -> usize
 
 fn mark_values(rows: &Table, place: usize, marks: &mut [bool]) -> usize
     requires few { length rows.now ≤ most_rows }
+    requires short { AreShort place rows.now }
     requires slots { length marks.old ≡ max (length rows.now) 1 }
     requires none { (s : ℕ) → slice_index_or marks.old s false ≡ false }
     ensures marks { AreMarked (length marks.old) (spec.values_in place rows.now) marks.new }
@@ -130,7 +134,8 @@ fn estimate(slots: usize, marked: usize, values: usize) -> usize
 }
 
 fn estimated_keys(alloc: Global, rows: &Table, place: usize) -> Result<usize, AllocError>
-    requires { length rows.now ≤ most_rows }
+    requires few { length rows.now ≤ most_rows }
+    requires short { AreShort place rows.now }
     ensures { IfOk result (λ keys. keys ≡ spec.estimated_keys place rows.now) }
 {
     let slots = rows.len().max(1);

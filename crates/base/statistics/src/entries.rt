@@ -155,8 +155,20 @@ fn none_known(alloc: Global, columns: &[Column]) -> Result<Items<Option<u64>>, A
     Ok(keys)
 }
 
-/// The keys of the columns of a table's entry, which may leave them out.
-#[tactic(auto, unfolding(crate::specs::Entries::column_keys_in))]
+/// The keys of the columns, by the fourth member of a table's entry.
+#[tactic(auto, unfolding(crate::specs::Entries::fourth_in))]
+fn fourth_of(
+    alloc: Global,
+    columns: &[Column],
+    value: &Value,
+) -> Result<Items<Option<u64>>, StatisticsFault>
+    ensures { Gives (λ x. x) result (spec.fourth_in columns.now (view value.now)) }
+{
+    has_keys(value, 4, StatisticsRefusal::Shape)?;
+    known_of(alloc, columns, member(value, "columns")?)
+}
+
+/// The keys of the columns, of which none is known where that member isn't there.
 fn column_keys_of(
     alloc: Global,
     columns: &[Column],
@@ -165,10 +177,11 @@ fn column_keys_of(
     ensures { Gives (λ x. x) result (spec.column_keys_in columns.now (view value.now)) }
 {
     if is_object_of(value, 3) {
-        return Ok(none_known(alloc, columns)?);
+        let none = none_known(alloc, columns)?;
+        Ok(none)
+    } else {
+        fourth_of(alloc, columns, value)
     }
-    has_keys(value, 4, StatisticsRefusal::Shape)?;
-    known_of(alloc, columns, member(value, "columns")?)
 }
 
 #[tactic(auto, unfolding(crate::specs::Entries::table_in))]
