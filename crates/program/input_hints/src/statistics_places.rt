@@ -17,6 +17,11 @@ const TABLE_KEYS: &[&str] = &["rows", "pages", "indexes"];
 
 const INDEX_KEYS: &[&str] = &["keys", "pages"];
 
+/// The keys of a table of which columns are known, and that of a column.
+const WIDE_TABLE_KEYS: &[&str] = &["rows", "pages", "indexes", "columns"];
+
+const COLUMN_KEYS: &[&str] = &["keys"];
+
 /// A member that is to be a whole number.
 fn expect_number(alloc: Global, place: &str, value: &Value, key: &str) -> Result<(), Halt> {
     let number = expect_member(alloc, place, value, key)?;
