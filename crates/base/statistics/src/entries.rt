@@ -141,7 +141,11 @@ fn known_of(
     ensures { Gives (λ x. x) result (spec.known_in columns.now (view entries.now)) }
 {
     let keys = each_column(alloc, columns, entries)?;
-    has_keys(entries, count_known(keys.as_slice()), StatisticsRefusal::Shape)?;
+    has_keys(
+        entries,
+        count_known(keys.as_slice()),
+        StatisticsRefusal::Shape,
+    )?;
     Ok(keys)
 }
 

@@ -4,8 +4,8 @@ ghost use Rattle.std.specs.Prelude.{IfOk, string_bytes};
 ghost use Rattle.input_hints.specs.Lines.{AreLines};
 
 use crate::json::{
-    Halt, element_place, expect_array, expect_keys, expect_keys_among, expect_member, fault_at, member_place, said_of,
-    unwanted, value_of,
+    Halt, element_place, expect_array, expect_keys, expect_keys_among, expect_member, fault_at,
+    member_place, said_of, unwanted, value_of,
 };
 use schema::{Schema, Table};
 use serde_json::Value;

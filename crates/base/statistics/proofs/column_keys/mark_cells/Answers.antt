@@ -20,8 +20,7 @@ loop-row-preserved c =
     elim c.if-not-is_null.branch [
       | then-not-is_null w ↦
           let whole : is_null v ≡ false = sym c.is_null.ensures ∙ w.if-not-is_null.true in
-          let at = w.slot_of.ensures.slot ∙ ap (λ n. slot_at n w.number_of.result) c.loop-row.auto.marks ∙ ap (slot_at slots) w.number_of.ensures in
-          (
+          let at = w.slot_of.ensures.slot ∙ ap (λ n. slot_at n w.number_of.result) c.loop-row.auto.marks ∙ ap (slot_at slots) w.number_of.ensures in (
             λ s. ap (λ (ms : List Bool). get_or ms s false) w.marks-is ∙ marked_more place rows row low slots w.slot_of.result v c.loop-row.marks here whole at w.slot_of.ensures.within before.0 s,
             w.values-is ∙ length_more place rows row low v c.loop-row.values here whole before.1,
             omega (arith, w.values-is, few),

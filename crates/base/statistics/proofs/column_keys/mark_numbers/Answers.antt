@@ -24,8 +24,7 @@ loop-row-preserved c =
       | then-column-row w ↦
           let here = is ∙ ap (λ (b : Bool). if b then v else value.Null) w.if-column-row.true in
           let fits : FitsSigned w64 number = search rules in
-          let at = w.slot_of.ensures.slot ∙ ap (λ n. slot_at n w.cast_unsigned.result) c.loop-row.auto.marks ∙ ap (slot_at slots) (w.cast_unsigned.ensures ∙ ap (cast_unsigned w64) (to_z-of_z w64 number fits)) in
-          (
+          let at = w.slot_of.ensures.slot ∙ ap (λ n. slot_at n w.cast_unsigned.result) c.loop-row.auto.marks ∙ ap (slot_at slots) (w.cast_unsigned.ensures ∙ ap (cast_unsigned w64) (to_z-of_z w64 number fits)) in (
             λ s. ap (λ (ms : List Bool). get_or ms s false) w.marks-is ∙ marked_more place rows row low slots w.slot_of.result v c.loop-row.marks here refl at w.slot_of.ensures.within before.0 s,
             w.values-is ∙ length_more place rows row low v c.loop-row.values here refl before.1,
             omega (arith, w.values-is, few),

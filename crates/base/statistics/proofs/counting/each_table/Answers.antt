@@ -36,10 +36,9 @@ loop-entry-preserved c =
     let before : List TableStatistics = map counts (take (length seen) all) in
     let more = numbered-more counts entries tables (length seen) c.in-Some.entry.now c.in-Some.rows.now turn.0 turn.1 (turn.2 c.in-Some.entry.now) (turn.3 c.in-Some.rows.now) in
     let number = c.len-number.ensures ∙ c.loop-entry.invariant.1 in
-    let longer = length-append seen ((c.in-Some.entry, c.in-Some.rows) ∷ []) in
-    (
+    let longer = length-append seen ((c.in-Some.entry, c.in-Some.rows) ∷ []) in (
       c.in_ok-push.ensures.ok ∙ ap (λ (l : List TableStatistics). l ++ c.in_ok-table_counts.field-0 ∷ []) c.loop-entry.invariant.0 ∙ ap (λ t. before ++ t ∷ []) c.in_ok-table_counts.ensures
-      ∙ ap (λ n. before ++ counts (n, (c.in-Some.entry.now, c.in-Some.rows.now)) ∷ []) number ∙ sym more ∙ ap (λ n. map counts (take n all)) (sym longer),
+          ∙ ap (λ n. before ++ counts (n, (c.in-Some.entry.now, c.in-Some.rows.now)) ∷ []) number ∙ sym more ∙ ap (λ n. map counts (take n all)) (sym longer),
       ap length c.in_ok-push.ensures.ok ∙ length-append c.loop-entry.read (c.in_ok-table_counts.field-0 ∷ []) ∙ ap (λ n. n + 1) c.loop-entry.invariant.1 ∙ sym longer,
     )
 
