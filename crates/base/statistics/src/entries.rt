@@ -141,11 +141,8 @@ fn known_of(
     ensures { Gives (λ x. x) result (spec.known_in columns.now (view entries.now)) }
 {
     let keys = each_column(alloc, columns, entries)?;
-    has_keys(
-        entries,
-        count_known(keys.as_slice()),
-        StatisticsRefusal::Shape,
-    )?;
+    let known = count_known(keys.as_slice());
+    has_keys(entries, known, StatisticsRefusal::Shape)?;
     Ok(keys)
 }
 
