@@ -88,10 +88,13 @@ def main():
             file.write_text(schema(unique, indexes), encoding="utf-8")
             load = [measured(program, "load", file, data) for _ in range(RUNS)]
             count = [measured(program, "count", file, data) for _ in range(RUNS)]
+            column = [measured(program, "columns", file, data) for _ in range(RUNS)]
             answers.append((count[0][2], indexes))
             loading, counting = min(run[0] for run in load), min(run[0] for run in count)
-            memory = [min(run[1] for run in runs) for runs in (load, count)]
+            columns = min(run[0] for run in column)
+            memory = [min(run[1] for run in runs) for runs in (load, count, column)]
             print(f"{name}: load {loading:.3f} s {memory[0]:.0f} MB; with counting {counting:.3f} s {memory[1]:.0f} MB; {(counting - loading) / loading:.2f} of the load more")
+            print(f"  with the keys of all columns {columns:.3f} s {memory[2]:.0f} MB; {(columns - counting) * 1e9 / int(rows):.0f} ns a row more; {' '.join(line for line in column[0][2].splitlines() if 'column' in line)}")
         # Last, since a process that is started counts the memory of the one that starts it.
         for answer, indexes in answers:
             assert answer == counted(data, indexes), answer

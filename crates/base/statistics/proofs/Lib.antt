@@ -1,3 +1,4 @@
+pub mod ColumnValues
 pub mod DifferentKeys
 pub mod ItemCounts
 pub mod KeySlots

@@ -1,5 +1,5 @@
 -- Marks at the slots of keys: as many as the keys that differ.
-use Rattle.std.proofs.Common.{◌≡◌, ◌≢◌, refl, sym, ap, ◌∙◌, ℕ, zero, suc, ◌+◌, ◌<◌, ◌≤◌, Bool, true, false, cond, ◌||◌, List, [], ◌∷◌, length, get_or, map, replicate, nat_eq, inl, inr, arith}
+use Rattle.std.proofs.Common.{◌≡◌, ◌≢◌, refl, sym, ap, ◌∙◌, ℕ, zero, suc, ◌+◌, ◌<◌, ◌≤◌, Bool, true, false, cond, ◌||◌, List, [], ◌∷◌, ◌++◌, length, get_or, map, replicate, nat_eq, inl, inr, arith}
 use Rattle.std.proofs.Math.ListN.{set}
 use Rattle.std.specs.Cmp.{nat_eq_equiv}
 use Rattle.std.specs.List.{count_by, range_with_len, AllByRecursion, IsDistinct}
@@ -37,18 +37,21 @@ no_marks zero s = refl
 no_marks (suc n) zero = refl
 no_marks (suc n) (suc s) = no_marks n s
 
+pub mark_next : (xs : List ℕ) (marks : List Bool) (k : ℕ) → k < length marks → ((s : ℕ) → get_or marks s false ≡ is_member nat_eq xs s) → (s : ℕ) → get_or (set marks k true) s false ≡ is_member nat_eq (xs ++ k ∷ []) s
+mark_next xs marks k lt before s =
+    at (nat_eq s k) refl ∙ sym (list_any-append (nat_eq s) xs (k ∷ []) ∙ ap (λ b. is_member nat_eq xs s || b) (or_false (nat_eq s k)))
+  where
+    at : (b : Bool) → nat_eq s k ≡ b → get_or (set marks k true) s false ≡ (is_member nat_eq xs s || nat_eq s k)
+    at b e = elim (eqb_tells s k) [
+      | inl same ↦ rw (same.1, get_or-set_same marks k true false lt, eqb_same k) (sym (or_true (is_member nat_eq xs k)))
+      | inr other ↦ get_or-set_other marks k s true false other.1 ∙ before s ∙ sym (ap (λ c. is_member nat_eq xs s || c) other.0 ∙ or_false (is_member nat_eq xs s))
+    ]
+
 pub mark_more : (f : ℕ → ℕ) (marks : List Bool) (row k : ℕ) → k < length marks → k ≡ f row → ((s : ℕ) → get_or marks s false ≡ is_member nat_eq (map f (range_with_len 0 row)) s)
     → (s : ℕ) → get_or (set marks k true) s false ≡ is_member nat_eq (map f (range_with_len 0 (row + 1))) s
 mark_more f marks row k lt is before s =
-    let more : is_member nat_eq (map f (range_with_len 0 (row + 1))) s ≡ (is_member nat_eq (map f (range_with_len 0 row)) s || (nat_eq s (f row) || false))
-    = ap (λ xs. is_member nat_eq xs s) (map-range_with_len_more f 0 row row (omega arith)) ∙ list_any-append (nat_eq s) (map f (range_with_len 0 row)) (f row ∷ []) in
-    at (nat_eq s k) refl ∙ sym (more ∙ ap (λ b. is_member nat_eq (map f (range_with_len 0 row)) s || b) (or_false (nat_eq s (f row)) ∙ ap (nat_eq s) (sym is)))
-  where
-    at : (b : Bool) → nat_eq s k ≡ b → get_or (set marks k true) s false ≡ (is_member nat_eq (map f (range_with_len 0 row)) s || nat_eq s k)
-    at b e = elim (eqb_tells s k) [
-      | inl same ↦ rw (same.1, get_or-set_same marks k true false lt, eqb_same k) (sym (or_true (is_member nat_eq (map f (range_with_len 0 row)) k)))
-      | inr other ↦ get_or-set_other marks k s true false other.1 ∙ before s ∙ sym (ap (λ c. is_member nat_eq (map f (range_with_len 0 row)) s || c) other.0 ∙ or_false (is_member nat_eq (map f (range_with_len 0 row)) s))
-    ]
+    mark_next (map f (range_with_len 0 row)) marks k lt before s
+    ∙ ap (λ xs. is_member nat_eq xs s) (ap (λ (x : ℕ). map f (range_with_len 0 row) ++ x ∷ []) is ∙ sym (map-range_with_len_more f 0 row row (omega arith)))
 
 -- ---- their count
 
@@ -91,7 +94,7 @@ place_there x n zero (false ∷ ms) at = not_below x (n + 1) ms (omega arith)
 place_there x n (suc i) (true ∷ ms) at = let ne : x ≢ n = omega arith in ap (λ b. b || is_member nat_eq (places_from (n + 1) ms) x) (apart x n ne) ∙ place_there x (n + 1) i ms (omega arith)
 place_there x n (suc i) (false ∷ ms) at = place_there x (n + 1) i ms (omega arith)
 
-marks_counted : (marks : List Bool) (xs : List ℕ) → ((s : ℕ) → get_or marks s false ≡ is_member nat_eq xs s) → count_by (λ m. m) marks ≡ distinct_count nat_eq xs
+pub marks_counted : (marks : List Bool) (xs : List ℕ) → ((s : ℕ) → get_or marks s false ≡ is_member nat_eq xs s) → count_by (λ m. m) marks ≡ distinct_count nat_eq xs
 marks_counted marks xs h = sym (length_places 0 marks) ∙ length-from_keys nat_eq_equiv (places_from 0 marks) xs (places_distinct 0 marks) (λ q. place_there q 0 q marks (omega arith) ∙ h q)
 
 -- ---- two lists with the same items equal

@@ -1,8 +1,10 @@
 -- What is read is spelt by the bytes.
-use Rattle.std.proofs.Common.{◌≡◌, ℕ, List, length, Some, Result, Ok, Err, IfOk, sym, ap, ◌∙◌, subst, codes, ◌==◌}
+use Rattle.std.proofs.Common.{◌≡◌, ℕ, List, length, Bool, true, false, cond, Option, Some, None, Result, Ok, Err, IfOk, refl, sym, ap, ◌∙◌, subst, codes, ◌==◌, inl, inr}
+use Rattle.std.specs.List.{count_by}
+use Rattle.std.specs.Option.{is_some}
 use Rattle.std.proofs.lemmas.Bool.{eqb-true}
 use Rattle.serde_json.specs.Data.{Data, Items}
-use Rattle.serde_json.specs.Find.{as_array}
+use Rattle.serde_json.specs.Find.{get, as_array}
 use Rattle.values.specs.declared.fault.Fault.{Fault}
 use Rattle.values.specs.Faults.{Gives}
 use Rattle.values.proofs.Results.{both_ok, wanted_ok, wanted_if_ok}
@@ -11,6 +13,7 @@ use Rattle.json_parts.specs.Parts.{list_of}
 use Rattle.json_parts.specs.Spelling.{HasKeys, HasMember}
 use Rattle.json_parts.proofs.Reading.{keys_spelt, json_spelt}
 use Rattle.schema.specs.Spelling.{IsArray}
+use Rattle.schema.specs.declared.schema.Column.{Column}
 use Rattle.schema.specs.declared.schema.Table.{Table}
 use Rattle.schema.specs.declared.schema.Schema.{Schema}
 use Rattle.schema.proofs.Steps.{each_ok, pairs_length}
@@ -20,9 +23,10 @@ use Rattle.statistics.specs.declared.counts.TableStatistics.{TableStatistics}
 use Rattle.statistics.specs.declared.counts.Statistics.{Statistics}
 use Rattle.statistics.specs.declared.fault.StatisticsRefusal.{StatisticsRefusal}
 use Rattle.statistics.specs.declared.fault.StatisticsRefusal.TheVariants.{NotJson, Shape}
-use Rattle.statistics.specs.Entries.{wanted, json_in, keys_in, member_in, number_in, items_in, index_in, indexes_in, table_in, named_in, tables_in}
+use Rattle.statistics.specs.Entries.{wanted, json_in, keys_in, member_in, number_in, items_in, index_in, indexes_in, known_at, column_in, each_column, known_in, none_known, is_object_of, fourth_in, column_keys_in, table_in, named_in, tables_in}
 use Rattle.statistics.specs.Reading.{statistics_of}
-use Rattle.statistics.specs.Spelling.{HasNumber, IsIndexText, IsTableText, AreTablesText, IsStatisticsText}
+use Rattle.statistics.proofs.ItemCounts.{object_counted}
+use Rattle.statistics.specs.Spelling.{HasNumber, IsIndexText, IsColumnText, AreColumnsText, HasColumns, IsTableText, AreTablesText, IsStatisticsText}
 
 number_spelt : (key : Name) (d : Data) (n : ℕ) → number_in key d ≡ Ok n → HasNumber key n d
 unfolding number_in
@@ -59,20 +63,58 @@ indexes_spelt n d is e =
     let pairs = each_ok index_in ds is q1 in
     ((m, wanted_ok Shape _ m p0, (items, array, rw same (pairs_map index_spelt ds is pairs))), sym (pairs_length _ ds is pairs) ∙ size)
 
+column_spelt : (d : Data) (c : Column) (keys : Option ℕ) → column_in d c ≡ Ok keys → IsColumnText d c keys
+unfolding column_in
+column_spelt d c keys e = at (get c.name d) refl e
+  where
+    at : (o : Option Data) → get c.name d ≡ o → known_at o ≡ Ok keys → IsColumnText d c keys
+    at None is e = let same : ◌≡◌ {A = Option ℕ} None keys = ok_same None keys e in subst (IsColumnText d c) same is
+    at (Some m) is e =
+        let (one, p0, q0) = both_ok (keys_in 1 m) _ keys e in
+        let (n, p1, q1) = both_ok (number_in (codes "keys") m) _ keys q0 in
+        let made : IsColumnText d c (Some n) = (m, is, (keys_spelt Shape 1 m one p0, number_spelt (codes "keys") m n p1)) in
+        subst (IsColumnText d c) (ok_same _ keys q1) made
+
+known_spelt : (columns : List Column) (d : Data) (keys : List (Option ℕ)) → known_in columns d ≡ Ok keys → AreColumnsText columns d keys
+unfolding known_in
+known_spelt columns d keys e =
+    let (read, p0, q0) = both_ok (each_column d columns) _ keys e in
+    let (members, p1, q1) = both_ok (keys_in (count_by is_some read) d) _ keys q0 in
+    let made : AreColumnsText columns d read = record {
+      members = keys_spelt Shape (count_by is_some read) d members p1;
+      each = pairs_map (column_spelt d) columns read (each_ok (column_in d) columns read p0);
+    } in
+    subst (AreColumnsText columns d) (ok_same _ keys q1) made
+
+fourth_spelt : (columns : List Column) (d : Data) (keys : List (Option ℕ)) → fourth_in columns d ≡ Ok keys → HasKeys 4 d × HasMember (codes "columns") (λ m. AreColumnsText columns m keys) d
+unfolding fourth_in
+fourth_spelt columns d keys e =
+    let (four, p0, q0) = both_ok (keys_in 4 d) _ keys e in
+    let (m, p1, q1) = both_ok (member_in (codes "columns") d) _ keys q0 in
+    (keys_spelt Shape 4 d four p0, (m, wanted_ok Shape _ m p1, known_spelt columns m keys q1))
+
+column_keys_spelt : (columns : List Column) (d : Data) (keys : List (Option ℕ)) → column_keys_in columns d ≡ Ok keys → HasColumns columns keys d
+unfolding column_keys_in
+column_keys_spelt columns d keys e = at (is_object_of 3 d) refl e
+  where
+    at : (b : Bool) → is_object_of 3 d ≡ b → cond b (Ok (none_known columns)) (fourth_in columns d) ≡ Ok keys → HasColumns columns keys d
+    at true is e = inl (object_counted 3 d is, sym (ok_same _ keys e))
+    at false is e = inr (fourth_spelt columns d keys e)
+
 table_spelt : (table : Table) (d : Data) (t : TableStatistics) → table_in table d ≡ Ok t → IsTableText table d t
 unfolding table_in
 table_spelt table d t e =
-    let (members, p0, q0) = both_ok (keys_in 3 d) _ t e in
-    let (rows, p1, q1) = both_ok (number_in (codes "rows") d) _ t q0 in
-    let (pages, p2, q2) = both_ok (number_in (codes "pages") d) _ t q1 in
-    let (indexes, p3, q3) = both_ok (indexes_in (length table.indexes) d) _ t q2 in
-    let listed = indexes_spelt (length table.indexes) d indexes p3 in
-    let made : IsTableText table d (record { rows = rows; pages = pages; indexes = indexes }) = record {
-      members = keys_spelt Shape 3 d members p0;
-      rows = number_spelt (codes "rows") d rows p1;
-      pages = number_spelt (codes "pages") d pages p2;
+    let (rows, p0, q0) = both_ok (number_in (codes "rows") d) _ t e in
+    let (pages, p1, q1) = both_ok (number_in (codes "pages") d) _ t q0 in
+    let (indexes, p2, q2) = both_ok (indexes_in (length table.indexes) d) _ t q1 in
+    let (column_keys, p3, q3) = both_ok (column_keys_in table.columns d) _ t q2 in
+    let listed = indexes_spelt (length table.indexes) d indexes p2 in
+    let made : IsTableText table d (record { rows = rows; pages = pages; indexes = indexes; column_keys = column_keys }) = record {
+      rows = number_spelt (codes "rows") d rows p0;
+      pages = number_spelt (codes "pages") d pages p1;
       indexes = listed.0;
       each = listed.1;
+      columns = column_keys_spelt table.columns d column_keys p3;
     } in
     subst (IsTableText table d) (ok_same _ t q3) made
 

@@ -23,7 +23,7 @@ table_at (u ∷ ts) [] n t rows h low under first second = absurd h
 table_at (u ∷ ts) (r ∷ D) zero t rows h low under first second = rw (first, second) h.0
 table_at (u ∷ ts) (r ∷ D) (suc n) t rows h low under first second = table_at ts D n t rows h.1 (omega (arith, low)) (omega (arith, under)) first second
 
-not_null_value : (cs : List Column) (row : Row) (p : ℕ) → FitsColumns cs row → is_not_null_at cs p ≡ true → is_null (slice_index_or row p value.Null) ≡ false
+pub not_null_value : (cs : List Column) (row : Row) (p : ℕ) → FitsColumns cs row → is_not_null_at cs p ≡ true → is_null (slice_index_or row p value.Null) ≡ false
 not_null_value [] row p fits is = cc
 not_null_value (c ∷ cs) [] p fits is = absurd fits
 not_null_value (c ∷ cs) (v ∷ row) zero fits is = at v fits.0

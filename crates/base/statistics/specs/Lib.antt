@@ -1,3 +1,4 @@
+pub mod ColumnKeys
 pub mod Counting
 pub mod Digits
 pub mod Entries

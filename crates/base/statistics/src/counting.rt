@@ -4,7 +4,8 @@ ghost use Rattle.std.specs.Prelude.{◌≡◌, map, IfOk};
 ghost use Rattle.schema.specs.Databases.{SatisfiesTable, SatisfyTables};
 ghost use Rattle.statistics.specs.Counting as spec;
 
-use crate::counts::{IndexStatistics, Statistics, TableStatistics};
+use crate::column_keys::column_keys;
+use crate::counts::{IndexStatistics, Statistics, TableColumn, TableStatistics};
 use crate::digits::keys_by_slots;
 use crate::unique_columns::{is_unique_column, unique_column_keys};
 use crate::unique_lists::holds_unique_list;
@@ -91,16 +92,20 @@ fn table_counts(
     alloc: Global,
     rows: &Table,
     entry: &schema::Table,
+    counted: &[TableColumn],
+    number: usize,
 ) -> Result<TableStatistics, AllocError>
     requires { SatisfiesTable entry.now rows.now }
-    ensures { IfOk result (λ table. table ≡ spec.table_counts rows.now entry.now) }
+    ensures { IfOk result (λ table. table ≡ spec.table_counts counted.now number rows.now entry.now) }
 {
     let indexes = each_index(alloc, rows, entry)?;
+    let column_keys = column_keys(alloc, rows, entry, counted, number)?;
     let count = rows.len() as u64;
     Ok(TableStatistics {
         rows: count,
         pages: count.div_ceil(ROWS_IN_PAGE),
         indexes,
+        column_keys,
     })
 }
 
@@ -108,24 +113,30 @@ fn each_table(
     alloc: Global,
     entries: &[schema::Table],
     tables: &[Table],
+    counted: &[TableColumn],
 ) -> Result<Items<TableStatistics>, AllocError>
     requires { SatisfyTables entries.now tables.now }
-    ensures { IfOk result (λ counted. counted ≡ spec.tables_counts entries.now tables.now) }
+    ensures { IfOk result (λ read. read ≡ spec.tables_counts counted.now entries.now tables.now) }
 {
-    let mut counted = Items::new(alloc);
+    let mut read = Items::new(alloc);
     for (entry, rows) in entries.iter().zip(tables.iter()) {
-        counted.push(table_counts(alloc, rows, entry)?)?;
+        let number = read.len();
+        read.push(table_counts(alloc, rows, entry, counted, number)?)?;
     }
-    Ok(counted)
+    Ok(read)
 }
 
 impl Statistics {
-    /// The statistics of the database's tables as they are.
-    pub fn of(alloc: Global, database: &Database<'_>) -> Result<Statistics, AllocError>
-        ensures { IfOk result (λ statistics. statistics ≡ spec.counts_of database.now) }
+    /// The statistics of the database's tables as they are, with the keys of these columns.
+    pub fn of(
+        alloc: Global,
+        database: &Database<'_>,
+        counted: &[TableColumn],
+    ) -> Result<Statistics, AllocError>
+        ensures { IfOk result (λ statistics. statistics ≡ spec.counts_of counted.now database.now) }
     {
         let entries = database.schema().tables.as_slice();
-        let tables = each_table(alloc, entries, database.tables())?;
+        let tables = each_table(alloc, entries, database.tables(), counted)?;
         Ok(Statistics { tables })
     }
 }

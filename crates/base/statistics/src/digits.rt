@@ -137,7 +137,7 @@ fn marks_of(alloc: Global, digits: &Digits<'_>, rows: usize) -> Result<Vec<bool>
     Ok(marks)
 }
 
-fn count_marks(marks: &[bool]) -> usize
+pub fn count_marks(marks: &[bool]) -> usize
     ensures { result ≡ count_by (λ mark. mark) marks.now }
 {
     marks.iter().filter(|mark| **mark).count()

@@ -11,7 +11,7 @@ use values::Fault;
 pub enum StatisticsRefusal {
     #[error("the statistics are not JSON")]
     NotJson,
-    #[error("a value has another shape than is wanted there, or the schema has other tables or indexes")]
+    #[error("a value has another shape than is wanted there, or the schema has other tables, indexes or columns")]
     Shape,
 }
 

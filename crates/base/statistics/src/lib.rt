@@ -1,6 +1,7 @@
 //! Statistics of tables: how many rows and pages each has, and how many different keys each of its indexes.
 #![tactic(auto)]
 
+mod column_keys;
 mod counting;
 pub mod counts;
 mod digits;
@@ -10,5 +11,5 @@ mod reading;
 mod unique_columns;
 mod unique_lists;
 
-pub use counts::{IndexStatistics, Statistics, TableStatistics};
+pub use counts::{IndexStatistics, Statistics, TableColumn, TableStatistics};
 pub use fault::{StatisticsFault, StatisticsRefusal};

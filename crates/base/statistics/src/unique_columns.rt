@@ -24,7 +24,7 @@ pub fn is_unique_column(table: &schema::Table, place: usize) -> bool
     lists.iter().any(|list| is_single(list.as_slice(), place))
 }
 
-fn null_rows(rows: &Table, place: usize) -> usize
+pub fn null_rows(rows: &Table, place: usize) -> usize
     ensures { result ≡ count_by (spec.is_null_at place) rows.now }
 {
     let mut nulls: usize = 0;

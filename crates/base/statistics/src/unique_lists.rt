@@ -5,7 +5,7 @@ ghost use Rattle.statistics.specs.UniqueLists as spec;
 
 use schema::{Column, Table};
 
-fn is_not_null(columns: &[Column], place: usize) -> bool
+pub fn is_not_null(columns: &[Column], place: usize) -> bool
     ensures { result ≡ spec.is_not_null_at columns.now place }
 {
     match columns.get(place) {

@@ -4,18 +4,22 @@ ghost use Rattle.std.specs.Prelude.{IfOk, string_bytes};
 ghost use Rattle.input_hints.specs.Lines.{AreLines};
 
 use crate::json::{
-    Halt, element_place, expect_array, expect_keys, expect_member, fault_at, member_place, said_of,
-    unwanted, value_of,
+    Halt, element_place, expect_array, expect_keys, expect_keys_among, expect_member, fault_at,
+    member_place, said_of, unwanted, value_of,
 };
 use schema::{Schema, Table};
 use serde_json::Value;
 use statistics::StatisticsRefusal;
 use std::alloc::{AllocError, Global};
 
-/// The keys of a table, and those of an index.
+/// The keys that a table has to have, all that it may have, those of an index, and that of a column.
 const TABLE_KEYS: &[&str] = &["rows", "pages", "indexes"];
 
+const ALL_TABLE_KEYS: &[&str] = &["rows", "pages", "indexes", "columns"];
+
 const INDEX_KEYS: &[&str] = &["keys", "pages"];
+
+const COLUMN_KEYS: &[&str] = &["keys"];
 
 /// A member that is to be a whole number.
 fn expect_number(alloc: Global, place: &str, value: &Value, key: &str) -> Result<(), Halt> {
@@ -55,15 +59,37 @@ fn expect_indexes(alloc: Global, place: &str, table: &Table, entry: &Value) -> R
     Ok(())
 }
 
+/// The entries of columns, each at the name of one of the table's.
+fn expect_columns(alloc: Global, place: &str, table: &Table, columns: &Value) -> Result<(), Halt> {
+    let mut names = Vec::new(alloc);
+    for column in table.columns.as_slice() {
+        names.push(column.name.as_str())?;
+    }
+    let place = member_place(alloc, place, "columns")?;
+    expect_keys_among(alloc, place.as_str(), columns, &[], names.as_slice())?;
+    for name in names.as_slice() {
+        if let Some(column) = columns.get(*name) {
+            let place = member_place(alloc, place.as_str(), name)?;
+            expect_keys(alloc, place.as_str(), column, COLUMN_KEYS)?;
+            expect_number(alloc, place.as_str(), column, "keys")?;
+        }
+    }
+    Ok(())
+}
+
 /// The entry of a table.
 fn expect_table(alloc: Global, table: &Table, entries: &Value) -> Result<(), Halt> {
     let name = table.name.as_str();
     let entry = expect_member(alloc, "tables", entries, name)?;
     let place = member_place(alloc, "tables", name)?;
-    expect_keys(alloc, place.as_str(), entry, TABLE_KEYS)?;
+    expect_keys_among(alloc, place.as_str(), entry, TABLE_KEYS, ALL_TABLE_KEYS)?;
     expect_number(alloc, place.as_str(), entry, "rows")?;
     expect_number(alloc, place.as_str(), entry, "pages")?;
-    expect_indexes(alloc, place.as_str(), table, entry)
+    expect_indexes(alloc, place.as_str(), table, entry)?;
+    match entry.get("columns") {
+        Some(columns) => expect_columns(alloc, place.as_str(), table, columns),
+        None => Ok(()),
+    }
 }
 
 /// That the statistics are of the shape that is wanted.

@@ -57,7 +57,7 @@ pub(crate) fn answer_by_plan<W: AnswerOutput>(
     ensures fails { IfErr result (IsAnswerFault (W.failures out.old) (W.failures out.new)) }
     ensures quiet { OnOk result (W.failures out.new ≡ W.failures out.old) }
 {
-    let statistics = Statistics::of(alloc, database)?;
+    let statistics = Statistics::of(alloc, database, &[])?;
     let planned = plan(alloc, query, &statistics, limit, exploration)?;
     let checked = check(alloc, schema, query, &planned.certificate)?;
     answer_by(alloc, &checked, database, out)

@@ -127,7 +127,7 @@ pub fn of_statistics(refusal: StatisticsRefusal) -> Meaning {
             "an empty file",
         ),
         StatisticsRefusal::Shape => Meaning::new(
-            "a value of the statistics has another shape: other keys than those of the format, another type, or no whole number from 0 to 18446744073709551615; or the schema has other tables or indexes",
+            "a value of the statistics has another shape: other keys than those of the format, another type, or no whole number from 0 to 18446744073709551615; or the schema has other tables, indexes or columns",
             "\"rows\": -1; no entry for a table of the schema",
         ),
     }

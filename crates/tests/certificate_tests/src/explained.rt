@@ -160,7 +160,7 @@ impl QueryReporting for OfPlan {
         text: &str,
         reported: &mut String,
     ) -> Result<(), AllocError> {
-        let statistics = Statistics::of(alloc, database)?;
+        let statistics = Statistics::of(alloc, database, &[])?;
         let text = with_line_ends(alloc, text)?;
         match read(alloc, text.as_slice()) {
             Ok(certificate) => {

@@ -5,7 +5,7 @@ use fixtures::{
     COMPANY, DEPT, EMP, Reporting, StepReporting, differences, report_steps, schema_of, spelt,
 };
 use schema::Schema;
-use statistics::{Statistics, TableStatistics};
+use statistics::{Statistics, TableColumn, TableStatistics};
 use std::alloc::{AllocError, Global};
 use std::fmt::Write;
 use std::process::Abort;
@@ -14,11 +14,17 @@ use values::Fault;
 
 // ---- statistics as texts
 
-/// Reports a table's rows and pages, and behind each ` /` an index's keys and pages.
+/// Reports a table's rows and pages, behind each ` /` an index's keys and pages, and behind each ` c` a column that is known, by its place,
+/// and its keys.
 fn push_table(reported: &mut String, table: &TableStatistics) -> Result<(), AllocError> {
     write!(reported, "{} {}", table.rows, table.pages)?;
     for index in table.indexes.as_slice() {
         write!(reported, " / {} {}", index.keys, index.pages)?;
+    }
+    for (place, keys) in table.column_keys.as_slice().iter().enumerate() {
+        if let Some(keys) = keys {
+            write!(reported, " c{place} {keys}")?;
+        }
     }
     Ok(())
 }
@@ -165,6 +171,50 @@ fn other_entries_are_refused(rt: HostRuntime) {
     );
 }
 
+/// A fourth member names columns of the table, each with its keys and nothing else; the last of two at one name counts.
+#[test]
+fn columns_are_read(rt: HostRuntime) {
+    const FRONT: &str =
+        r#"{"tables":{"dept":{"rows":3,"pages":5,"indexes":[]},"emp":{"rows":4,"pages":1,"indexes":[{"keys":4,"pages":2}]"#;
+    const CASES: &str = r#","columns":{} => 3 5 ; 4 1 / 4 2
+,"columns":{"pay":{"keys":2}} => 3 5 ; 4 1 / 4 2 c2 2
+,"columns":{"badge":{"keys":18446744073709551615},"id":{"keys":0},"pay":{"keys":2},"dept":{"keys":3}} => 3 5 ; 4 1 / 4 2 c0 0 c1 3 c2 2 c3 18446744073709551615
+,"columns":{"pay":{"keys":2},"pay":{"keys":3}} => 3 5 ; 4 1 / 4 2 c2 3
+,"columns":{"pay":0,"pay":{"keys":1,"keys":3}} => 3 5 ; 4 1 / 4 2 c2 3
+,"columns":[],"columns":{"id":{"keys":4}} => 3 5 ; 4 1 / 4 2 c0 4
+,"columns":[] => N02
+,"columns":null => N02
+,"columns":4 => N02
+,"column":{} => N02
+,"columns":{},"columns_too":{} => N02
+,"columns":{"boss":{"keys":2}} => N02
+,"columns":{"pay":{"keys":2},"PAY":{"keys":2}} => N02
+,"columns":{"":{"keys":2}} => N02
+,"columns":{"pay":2} => N02
+,"columns":{"pay":null} => N02
+,"columns":{"pay":{}} => N02
+,"columns":{"pay":[2]} => N02
+,"columns":{"pay":{"pages":2}} => N02
+,"columns":{"pay":{"keys":2,"pages":1}} => N02
+,"columns":{"pay":{"keys":null}} => N02
+,"columns":{"pay":{"keys":"2"}} => N02
+,"columns":{"pay":{"keys":2.0}} => N02
+,"columns":{"pay":{"keys":-1}} => N02
+,"columns":{"pay":{"keys":18446744073709551616}} => N02
+,"columns":{"pay":{"keys":2} => N01"#;
+    const BACK: &str = r#"}}}"#;
+    are_read(
+        &rt,
+        rt.alloc(),
+        CASES,
+        &Readings {
+            schema: COMPANY,
+            front: FRONT,
+            back: BACK,
+        },
+    );
+}
+
 #[test]
 fn other_numbers_are_refused(rt: HostRuntime) {
     const SCHEMA: &str =
@@ -201,8 +251,9 @@ fn push_counted(
     alloc: Global,
     reported: &mut String,
     database: &Database<'_>,
+    columns: &[TableColumn],
 ) -> Result<(), AllocError> {
-    let statistics = Statistics::of(alloc, database)?;
+    let statistics = Statistics::of(alloc, database, columns)?;
     push_statistics(reported, &statistics)
 }
 
@@ -215,7 +266,7 @@ fn company_counted(alloc: Global) -> Result<String, AllocError> {
         push_outcome(&mut reported, loaded)?;
         reported.push_str(" ")?;
     }
-    push_counted(alloc, &mut reported, &database)?;
+    push_counted(alloc, &mut reported, &database, &[])?;
     Ok(reported)
 }
 
@@ -231,6 +282,7 @@ fn statistics_of_the_company(rt: HostRuntime) {
 #[derive(Drop)]
 struct Counted<'a> {
     schema: &'a str,
+    columns: &'a [TableColumn],
 }
 
 impl StepReporting for Counted<'_> {
@@ -245,7 +297,7 @@ impl StepReporting for Counted<'_> {
         let loaded = outcome(alloc, database, 0, bytes.as_slice(), None);
         push_outcome(reported, loaded)?;
         reported.push_str(" ")?;
-        push_counted(alloc, reported, database)
+        push_counted(alloc, reported, database, self.columns)
     }
 }
 
@@ -268,7 +320,10 @@ a,b~|51*#,x~| => loaded 51 2 / 51 1 / 51 1
 a,b~|100*1,x~| => loaded 100 2 / 1 1 / 1 1
 a,b~|101*1,x~| => loaded 101 3 / 1 2 / 1 2
 a,b~1,x~ ; a,b~1,x~2,x~ ; a,b~x,x~ => loaded 1 1 / 1 1 / 1 1 ; loaded 2 1 / 2 1 / 2 1 ; T03 1 in 0 2 1 / 2 1 / 2 1"#;
-    let by = Counted { schema: SCHEMA };
+    let by = Counted {
+        schema: SCHEMA,
+        columns: &[],
+    };
     assert_eq!(rt; differences(rt.alloc(), &[CASES], &by).as_deref(), Ok(""));
 }
 
@@ -281,7 +336,10 @@ fn statistics_of_unique_lists(rt: HostRuntime) {
 a,b~1,\N~2,\N~3,7~ => loaded 3 1 / 2 1 / 3 1 / 3 1
 a,b~1,7~2,-9223372036854775808~ => loaded 2 1 / 2 1 / 2 1 / 2 1
 a,b~1,\N~2,\N~ => loaded 2 1 / 1 1 / 2 1 / 2 1";
-    let by = Counted { schema: SCHEMA };
+    let by = Counted {
+        schema: SCHEMA,
+        columns: &[],
+    };
     assert_eq!(rt; differences(rt.alloc(), &[CASES], &by).as_deref(), Ok(""));
 }
 
@@ -301,6 +359,56 @@ a,b~0,0~7,0~ => loaded 2 1 / 2 1 / 2 1 / 2 1
 a,b~-9223372036854775808,1~-9223372036854775807,1~\N,1~ => loaded 3 1 / 3 1 / 3 1 / 3 1
 a,b~9223372036854775807,1~9223372036854775806,\N~\N,1~ => loaded 3 1 / 3 1 / 3 1 / 3 1
 a,b~-9223372036854775808,0~9223372036854775807,0~\N,0~0,0~9223372036854775807,0~ => loaded 5 1 / 4 1 / 4 1 / 4 1";
-    let by = Counted { schema: SCHEMA };
+    let by = Counted {
+        schema: SCHEMA,
+        columns: &[],
+    };
+    assert_eq!(rt; differences(rt.alloc(), &[CASES], &by).as_deref(), Ok(""));
+}
+
+/// What is known of columns by counting. `|` repeats a row, as `spelt` says. The numbers are those that `column_keys` of
+/// tests/differential/column_keys.py gives for the values of a column: exact ones for the unique columns k and u, else estimates.
+#[test]
+fn keys_of_columns(rt: HostRuntime) {
+    const SCHEMA: &str =
+        r#"{"tables":[{"name":"t","columns":[{"name":"a","kind":"INT","not_null":false},{"name":"b","kind":"TEXT","not_null":false},{"name":"k","kind":"INT","not_null":true},{"name":"u","kind":"INT","not_null":false}],"unique":[["k"],["a","k"],["u"]],"indexes":[]}]}"#;
+    const CASES: &str = r#"a,b,k,u~ => loaded 0 0 c0 0 c1 0 c2 0 c3 0
+a,b,k,u~\N,\N,1,\N~ => loaded 1 1 c0 0 c1 0 c2 1 c3 0
+a,b,k,u~5,"",1,5~ => loaded 1 1 c0 1 c1 1 c2 1 c3 1
+a,b,k,u~5,x,1,\N~5,x,2,\N~ => loaded 2 1 c0 1 c1 1 c2 2 c3 0
+a,b,k,u~\N,x,1,7~5,\N,2,\N~5,y,3,\N~ => loaded 3 1 c0 1 c1 2 c2 3 c3 1
+a,b,k,u~-9223372036854775808,ab,1,1~9223372036854775807,ba,2,2~-1,ü,3,3~0,"",4,4~-1,ü,5,5~ => loaded 5 1 c0 4 c1 4 c2 5 c3 5
+a,b,k,u~|200*#,x,#,\N~| => loaded 200 4 c0 188 c1 1 c2 200 c3 0
+a,b,k,u~|1000*7,k#,#,#~| => loaded 1000 20 c0 1 c1 962 c2 1000 c3 1000"#;
+    const COLUMNS: &[TableColumn] = &[
+        TableColumn { table: 0, place: 1 },
+        TableColumn { table: 0, place: 0 },
+        TableColumn { table: 0, place: 3 },
+        TableColumn { table: 0, place: 1 },
+        TableColumn { table: 0, place: 2 },
+        TableColumn { table: 0, place: 4 },
+        TableColumn { table: 1, place: 0 },
+    ];
+    let by = Counted {
+        schema: SCHEMA,
+        columns: COLUMNS,
+    };
+    assert_eq!(rt; differences(rt.alloc(), &[CASES], &by).as_deref(), Ok(""));
+}
+
+/// The columns that are named are counted, and no others, of this table and no other.
+#[test]
+fn named_columns_alone(rt: HostRuntime) {
+    const SCHEMA: &str =
+        r#"{"tables":[{"name":"t","columns":[{"name":"a","kind":"INT","not_null":true},{"name":"b","kind":"INT","not_null":true}],"unique":[],"indexes":[["a"]]},{"name":"s","columns":[{"name":"a","kind":"INT","not_null":true}],"unique":[],"indexes":[]}]}"#;
+    const CASES: &str = r"a,b~1,1~2,1~ => loaded 2 1 / 2 1 c1 1 ; 0 0 c0 0";
+    const COLUMNS: &[TableColumn] = &[
+        TableColumn { table: 1, place: 0 },
+        TableColumn { table: 0, place: 1 },
+    ];
+    let by = Counted {
+        schema: SCHEMA,
+        columns: COLUMNS,
+    };
     assert_eq!(rt; differences(rt.alloc(), &[CASES], &by).as_deref(), Ok(""));
 }
