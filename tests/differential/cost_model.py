@@ -28,13 +28,33 @@ def with_others(conditions, asked):
     return list(conditions) + [it for it in asked if it not in conditions]
 
 
+def equated(condition):
+    """The two different columns that an equality says to be equal, as a set, or None."""
+    if condition[:2] == ("compare", "="):
+        columns = {term[1] for term in condition[2:] if term[0] == "c"}
+        if len(columns) == 2:
+            return frozenset(columns)
+    return None
+
+
+def with_equal(sets, columns):
+    """Disjoint sets of equal columns, where these columns are equal too."""
+    apart = [it for it in sets if not it & columns]
+    return apart + [columns.union(*(it for it in sets if it & columns))]
+
+
+def are_equal(sets, columns):
+    return any(columns <= it for it in sets)
+
+
 class Model:
     """The rows of the classes of a derivation, and the costs of its plans."""
 
     def __init__(self, lines, statistics):
-        self.lines, self.layout, self.statistics, self.rows = lines, lines.layout, statistics, {}
+        self.lines, self.layout, self.statistics, self.rows, self.equal = lines, lines.layout, statistics, {}, {}
         for at, line in enumerate(lines.all):
             if line[0] == "F":
+                self.equal[at] = self.equal_in(line[1])
                 self.rows[at] = cut(self.of_expression(line[1]))
 
     def class_rows(self, g, asked=()):
@@ -48,15 +68,16 @@ class Model:
     # ---- selectivity
 
     def keys_of(self, column):
-        """The keys of the first index over this column alone, at least 1; else None."""
+        """The keys of the first index over this column alone, or else the column's own where they are known, at least 1; else None."""
         found = self.layout.at(column)
         if found is None:
             return None
-        instance, _ = found
+        instance, place = found
         for index, statistics in enumerate(self.table(instance)["indexes"]):
             if self.layout.index_columns(instance, index) == [column]:
                 return max(1, statistics["keys"])
-        return None
+        known = self.table(instance).get("columns", {}).get(self.layout.table(instance).columns[place].name)
+        return max(1, known["keys"]) if known else None
 
     def equality(self, terms):
         keys = [self.keys_of(term[1]) for term in terms if term[0] == "c"]
@@ -87,11 +108,48 @@ class Model:
             product = up(product * self.selectivity(condition), MILLION)
         return product
 
+    # ---- columns that are equal, as disjoint sets of them
+
+    def equal_of(self, g, asked=()):
+        """In the rows of a class at which conditions are true."""
+        sets = self.equal[self.lines.root(g)]
+        for columns in filter(None, map(equated, asked)):
+            sets = with_equal(sets, columns)
+        return sets
+
+    def equal_of_both(self, left, right, of_left=(), of_right=()):
+        sets = self.equal_of(left, of_left)
+        for columns in self.equal_of(right, of_right):
+            sets = with_equal(sets, columns)
+        return sets
+
+    def equal_in(self, expression):
+        """In the rows of an expression."""
+        kind, *parts = expression
+        if kind == "get":
+            return []
+        if kind in ("select", "join"):
+            sets = self.equal_of(parts[1]) if kind == "select" else self.equal_of_both(*parts[1:])
+            for columns in filter(None, map(equated, parts[0])):
+                sets = with_equal(sets, columns)
+            return sets
+        sets = self.equal_of(inputs_of(expression)[0])
+        if kind in ("keep", "group"):
+            sets = [it & frozenset(parts[0]) for it in sets]
+        return [it for it in sets if len(it) > 1]
+
     # ---- cardinality
 
-    def passing(self, rows, conditions):
-        """Of so many rows those at which conditions are true, a millionth at least."""
-        return up(rows * max(1, self.all_of(conditions)), MILLION)
+    def passing(self, rows, conditions, sets=()):
+        """Of so many rows those at which conditions are true, a millionth at least. An equality that follows from those before it isn't counted."""
+        counted = []
+        for condition in conditions:
+            columns = equated(condition)
+            if columns and are_equal(sets, columns):
+                continue
+            counted.append(condition)
+            sets = with_equal(sets, columns) if columns else sets
+        return up(rows * max(1, self.all_of(counted)), MILLION)
 
     def of_join(self, conditions, left, right, asked):
         """What names a subquery is asked last; of the rest, what names no column of one side is asked of the other side's rows."""
@@ -100,7 +158,8 @@ class Model:
         of_left, others = parted(plain, is_apart(right))
         of_right, of_pairs = parted(others, is_apart(left))
         pairs = cut(self.class_rows(left, of_left) * self.class_rows(right, of_right))
-        return self.passing(self.passing(pairs, with_others(conditions, of_pairs)), last)
+        sets = self.equal_of_both(left, right, of_left, of_right)
+        return self.passing(self.passing(pairs, with_others(conditions, of_pairs), sets), last)
 
     def of_other(self, expression):
         kind, *parts = expression
@@ -108,7 +167,7 @@ class Model:
             return self.table(parts[0])["rows"]
         first, *others = [self.class_rows(g) for g in inputs_of(expression)]
         if kind == "left":
-            return max(self.passing(cut(first * others[0]), parts[0]), first)
+            return max(self.passing(cut(first * others[0]), parts[0], self.equal_of_both(*inputs_of(expression))), first)
         if kind in ("semi", "anti"):
             return up(first, 2)
         if kind == "keep":
@@ -122,7 +181,7 @@ class Model:
             return self.class_rows(parts[1], with_others(parts[0], asked))
         if kind == "join":
             return self.of_join(*parts, asked)
-        return self.passing(self.of_other(expression), asked)
+        return self.passing(self.of_other(expression), asked, self.equal_in(expression))
 
     # ---- cost
 

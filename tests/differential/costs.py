@@ -45,12 +45,28 @@ def fault(program, query, tables, statistics, counts):
     return ""
 
 
+def equated_query(maker, rng):
+    """A query of tables with commas or JOIN between them, whose columns are equated so often that some equalities follow from others."""
+    made = [maker.table() for _ in range(rng.randint(2, 5))]
+    columns = [column for _, own in made for column in own]
+    numbers = [name for name, kind in columns if kind == "INT"]
+    if len(numbers) < 3:
+        return maker.select(outermost=True)
+    few = rng.sample(numbers, min(len(numbers), rng.randint(3, 6)))
+    conditions = [" = ".join(rng.sample(few, 2)) for _ in range(rng.randint(2, 8))] + [maker.comparison(columns) for _ in range(rng.randint(0, 2))]
+    rng.shuffle(conditions)
+    shown = ", ".join(rng.sample(numbers, rng.randint(1, 2)))
+    begin, end = rng.choice([("", ""), ("DISTINCT ", ""), ("", f" GROUP BY {shown}"), ("", f" ORDER BY {shown}")])
+    return f"SELECT {begin}{shown} FROM {', '.join(table for table, _ in made)} WHERE {' AND '.join(conditions)}{end}"
+
+
 def cases(program, rng, counts):
     """What is wrong of each case of a round, or nothing."""
     for _ in range(ROUND):
         tables = random_tables(rng)
         program.write_tables(tables, {table.name: [] for table in tables})
-        query = Maker(rng, tables, equated=0.8, pinned=0.3, conditions=0.5).select(outermost=True)
+        maker = Maker(rng, tables, equated=0.8, pinned=0.3, conditions=0.5)
+        query = equated_query(maker, rng) if rng.random() < 0.5 else maker.select(outermost=True)
         statistics = drawn_statistics(rng, tables)
         counts["plans"] += 1
         found = fault(program, query, tables, statistics, counts)

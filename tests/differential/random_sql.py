@@ -43,12 +43,15 @@ def random_contents(rng, tables, **how):
 
 
 def random_statistics(rng, tables, number=None):
-    """Statistics of tables of any size."""
+    """Statistics of tables of any size. Of half of the tables the keys of some columns are known."""
     number = number or (lambda: rng.choice(SIZES))
-    return {
-        table.name: {"rows": number(), "pages": number(), "indexes": [{"keys": number(), "pages": number()} for _ in table.indexes]}
-        for table in tables
-    }
+    drawn = {}
+    for table in tables:
+        entry = {"rows": number(), "pages": number(), "indexes": [{"keys": number(), "pages": number()} for _ in table.indexes]}
+        if rng.random() < 0.5:
+            entry["columns"] = {column.name: {"keys": number()} for column in table.columns if rng.random() < 0.7}
+        drawn[table.name] = entry
+    return drawn
 
 
 def statistics_text(statistics):

@@ -6,6 +6,7 @@ ghost use Rattle.query.specs.Bound.{IsBoundOver};
 ghost use Rattle.answer_text.specs.AnswerText.{HasFront};
 ghost use Rattle.pipeline.specs.EndToEnd.{ByCertificate, ByPlan, ByMeaning, IsAnswerFault};
 
+use crate::counted_columns::counted_columns;
 use crate::execution::write_answer;
 use crate::refusal::Refusal;
 use answer_text::{AnswerOutput, write_rows};
@@ -57,7 +58,8 @@ pub(crate) fn answer_by_plan<W: AnswerOutput>(
     ensures fails { IfErr result (IsAnswerFault (W.failures out.old) (W.failures out.new)) }
     ensures quiet { OnOk result (W.failures out.new ≡ W.failures out.old) }
 {
-    let statistics = Statistics::of(alloc, database, &[])?;
+    let counted = counted_columns(alloc, query)?;
+    let statistics = Statistics::of(alloc, database, counted.as_slice())?;
     let planned = plan(alloc, query, &statistics, limit, exploration)?;
     let checked = check(alloc, schema, query, &planned.certificate)?;
     answer_by(alloc, &checked, database, out)

@@ -4,6 +4,7 @@
 mod answer;
 mod certified;
 mod commands;
+mod counted_columns;
 pub mod execution;
 pub mod explained;
 mod planned;

@@ -59,7 +59,7 @@ indexed = dept ∷ emp ((0 ∷ []) ∷ (1 ∷ []) ∷ []) ∷ []
 -- 3 rows of dept and 4 of emp, with 2 different departments, each table and each index on a page
 abbrev pub counted : Statistics
 counted = record {
-  tables = record { rows = 3; pages = 1; indexes = [] } ∷ record { rows = 4; pages = 1; indexes = record { keys = 4; pages = 1 } ∷ record { keys = 2; pages = 1 } ∷ [] } ∷ [];
+  tables = record { rows = 3; pages = 1; indexes = []; column_keys = [] } ∷ record { rows = 4; pages = 1; indexes = record { keys = 4; pages = 1 } ∷ record { keys = 2; pages = 1 } ∷ []; column_keys = [] } ∷ [];
 }
 
 -- ---- conditions

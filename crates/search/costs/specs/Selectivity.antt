@@ -1,5 +1,5 @@
 -- Which share of rows makes a condition true, in millionths. That a share is guessed from the form of a condition, and from the different
--- keys of an index where there is one: Selinger et al., Access path selection in a relational database management system, 1979. The
+-- keys of a column where they are known: Selinger et al., Access path selection in a relational database management system, 1979. The
 -- numbers are this project's own.
 use Rattle.std.specs.Prelude.{ℕ, ◌+◌, ◌-◌, ◌*◌, ◌/◌, max, List, ◌∷◌, map, fold, Option, Some, None}
 use Rattle.std.specs.List.{position}
@@ -13,17 +13,17 @@ use Rattle.algebra.specs.declared.condition.Condition.{Condition, fold-Condition
 use Rattle.algebra.specs.declared.condition.Condition.TheOpen.{Condition-F}
 use Rattle.statistics.specs.declared.counts.Statistics.{Statistics}
 use Rattle.costs.specs.Numbers.{per_million}
-use Rattle.costs.specs.Tables.{keys_of, owner, is_over}
+use Rattle.costs.specs.Tables.{column_keys_of, keys_of, owner, is_over}
 
 -- ---- keys
 
--- the different keys of the first index of a table over the column alone
-abbrev pub keys_by : Statistics → TableInstance → Option ℕ → Option ℕ
-keys_by S t None = None
-keys_by S t (Some index) = Some (keys_of S t index)
+-- the different keys of a column: those of the first index of its table over the column alone, or else its own, where they are known
+abbrev pub keys_by : Statistics → TableInstance → ℕ → Option ℕ → Option ℕ
+keys_by S t place None = column_keys_of S t place
+keys_by S t place (Some index) = Some (keys_of S t index)
 
 abbrev pub instance_keys : Statistics → TableInstance → ℕ → Option ℕ
-instance_keys S t c = keys_by S t (position (is_over (c - t.first_column)) t.entry.indexes)
+instance_keys S t c = keys_by S t (c - t.first_column) (position (is_over (c - t.first_column)) t.entry.indexes)
 
 abbrev pub owner_keys : Statistics → Option TableInstance → ℕ → Option ℕ
 owner_keys S None c = None

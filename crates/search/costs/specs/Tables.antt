@@ -21,6 +21,10 @@ abbrev pub index_in : Option TableStatistics → ℕ → Option IndexStatistics
 index_in None i = None
 index_in (Some t) i = slice_get t.indexes i
 
+abbrev pub column_keys_in : Option TableStatistics → ℕ → Option ℕ
+column_keys_in None place = None
+column_keys_in (Some t) place = slice_index_or t.column_keys place None
+
 abbrev pub keys_in : Option IndexStatistics → ℕ
 keys_in None = 0
 keys_in (Some i) = i.keys
@@ -41,6 +45,10 @@ index_of S t i = index_in (slice_get S.tables t.table) i
 
 abbrev pub keys_of : Statistics → TableInstance → ℕ → ℕ
 keys_of S t i = keys_in (index_of S t i)
+
+-- of a column by its place, where they are known
+abbrev pub column_keys_of : Statistics → TableInstance → ℕ → Option ℕ
+column_keys_of S t place = column_keys_in (slice_get S.tables t.table) place
 
 abbrev pub index_pages_of : Statistics → TableInstance → ℕ → ℕ
 index_pages_of S t i = index_pages_in (index_of S t i)

@@ -15,3 +15,4 @@ mod tables;
 pub use cardinalities::Cardinalities;
 pub use nodes::{Estimate, Inputs, node_cost};
 pub use plans::{cost, estimates};
+pub use selectivity::{selectivity, share_of_key};

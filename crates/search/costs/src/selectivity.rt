@@ -4,24 +4,24 @@ ghost use Rattle.std.specs.Prelude.{◌≡◌, ◌≤◌, ◌<◌, fold, map, op
 ghost use Rattle.costs.specs.Selectivity as spec;
 
 use crate::numbers::{ALL, per_million};
-use crate::tables::{index_over, keys_of, owner};
+use crate::tables::{column_keys_of, index_over, keys_of, owner};
 use algebra::{Condition, Term};
 use query::{ColumnId, TableInstance};
 use statistics::Statistics;
 use values::Comparison;
 
-/// The different keys of the first index of the table instance's table over its column alone.
+/// The different keys of a column of the table instance: those of the first index of its table over the column alone, or else its own, where they are known.
 fn instance_keys(statistics: &Statistics, instance: &TableInstance, column: ColumnId) -> Option<u64>
     ensures { result ≡ spec.instance_keys statistics.now instance.now column }
 {
     let place = column.saturating_sub(instance.first_column) as usize;
     match index_over(instance, place) {
         Some(index) => Some(keys_of(statistics, instance, index)),
-        None => None,
+        None => column_keys_of(statistics, instance, place),
     }
 }
 
-/// The different keys of the first index over the column alone.
+/// The different keys of a column, where they are known.
 fn column_keys(
     statistics: &Statistics,
     instances: &[TableInstance],
@@ -101,9 +101,9 @@ fn either(first: u64, second: u64) -> u64
     first + second - first * second / ALL
 }
 
-/// The share of the rows that make a condition true.
+/// The share of the rows that make a condition true, in millionths.
 #[cycle(selectivities)]
-fn selectivity(statistics: &Statistics, instances: &[TableInstance], condition: &Condition) -> u64
+pub fn selectivity(statistics: &Statistics, instances: &[TableInstance], condition: &Condition) -> u64
     ensures share { result ≡ spec.selectivity statistics.now instances.now condition.now }
     ensures most { result ≤ 1000000 }
 {

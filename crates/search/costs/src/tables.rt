@@ -51,6 +51,17 @@ pub fn keys_of(statistics: &Statistics, instance: &TableInstance, index: usize) 
     }
 }
 
+/// The different keys of a column of the table, by its place, where they are known.
+pub fn column_keys_of(statistics: &Statistics, instance: &TableInstance, place: usize) -> Option<u64>
+    ensures { result ≡ spec.column_keys_of statistics.now instance.now place }
+{
+    let table = statistics.tables.as_slice().get(instance.table)?;
+    match table.column_keys.as_slice().get(place) {
+        Some(keys) => *keys,
+        None => None,
+    }
+}
+
 /// The pages of an index of the table.
 pub fn index_pages_of(statistics: &Statistics, instance: &TableInstance, index: usize) -> u64
     ensures { result ≡ spec.index_pages_of statistics.now instance.now index }

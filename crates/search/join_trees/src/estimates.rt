@@ -1,6 +1,7 @@
-//! What is guessed of conditions and tables before any line is added. The formulas are those of the crate `costs`.
+//! What is guessed of reading tables before any line is added. The formulas are those of the crate `costs`.
 
 use algebra::{Condition, Term};
+use costs::share_of_key;
 use query::{ColumnId, TableInstance};
 use statistics::{IndexStatistics, Statistics};
 use values::Comparison;
@@ -69,114 +70,6 @@ fn is_unique(instance: &TableInstance, column: ColumnId) -> bool {
         }
     }
     is_unique
-}
-
-/// The different keys of the first index over the column alone.
-fn column_keys(
-    statistics: &Statistics,
-    instances: &[TableInstance],
-    column: ColumnId,
-) -> Option<u64> {
-    let instance = owner(instances, column)?;
-    let index = index_over(instance, column)?;
-    let index = index_of(statistics, instance, index)?;
-    Some(index.keys)
-}
-
-fn term_keys(statistics: &Statistics, instances: &[TableInstance], term: &Term) -> Option<u64> {
-    match term {
-        Term::Column(column) => column_keys(statistics, instances, *column),
-        Term::Literal(_) => None,
-    }
-}
-
-fn greater(first: Option<u64>, second: Option<u64>) -> Option<u64> {
-    match (first, second) {
-        (Some(first), Some(second)) => Some(first.max(second)),
-        (Some(first), None) => Some(first),
-        (None, second) => second,
-    }
-}
-
-/// The share of one key of so many.
-fn share_of_key(keys: Option<u64>) -> u64 {
-    match keys {
-        Some(keys) => ALL.div_ceil(keys.max(1)),
-        None => 100_000,
-    }
-}
-
-fn compared(comparison: Comparison, share: u64) -> u64 {
-    match comparison {
-        Comparison::Equal => share,
-        Comparison::NotEqual => ALL.saturating_sub(share),
-        Comparison::Less
-        | Comparison::LessOrEqual
-        | Comparison::Greater
-        | Comparison::GreaterOrEqual => 333_334,
-    }
-}
-
-/// One of two.
-fn either(first: u64, second: u64) -> u64 {
-    let both = first.saturating_mul(second) / ALL;
-    first.saturating_add(second).saturating_sub(both)
-}
-
-/// Which share of rows makes the condition true, in millionths.
-#[cycle(shares)]
-pub fn share(statistics: &Statistics, instances: &[TableInstance], condition: &Condition) -> u64 {
-    match condition {
-        Condition::Compare(comparison, a, b) => {
-            let first = term_keys(statistics, instances, a);
-            let second = term_keys(statistics, instances, b);
-            compared(*comparison, share_of_key(greater(first, second)))
-        }
-        Condition::IsNull(_) => 100_000,
-        Condition::Not(part) => ALL.saturating_sub(share(statistics, instances, part.get())),
-        Condition::And(a, b, more) => {
-            let first = share(statistics, instances, a.get());
-            let second = share(statistics, instances, b.get());
-            let both = per_million(first, second);
-            share_of_all(statistics, instances, both, more.as_slice())
-        }
-        Condition::Or(a, b, more) => {
-            let first = share(statistics, instances, a.get());
-            let second = share(statistics, instances, b.get());
-            let one = either(first, second);
-            share_of_any(statistics, instances, one, more.as_slice())
-        }
-        Condition::Exists(_) => 500_000,
-        Condition::In(_, _, _) => 500_000,
-    }
-}
-
-#[cycle(shares)]
-fn share_of_all(
-    statistics: &Statistics,
-    instances: &[TableInstance],
-    known: u64,
-    conditions: &[Condition],
-) -> u64 {
-    let mut all = known;
-    for condition in conditions {
-        all = per_million(all, share(statistics, instances, condition));
-    }
-    all
-}
-
-#[cycle(shares)]
-fn share_of_any(
-    statistics: &Statistics,
-    instances: &[TableInstance],
-    known: u64,
-    conditions: &[Condition],
-) -> u64 {
-    let mut any = known;
-    for condition in conditions {
-        any = either(any, share(statistics, instances, condition));
-    }
-    any
 }
 
 /// The cost of all rows of the table instance.

@@ -1,11 +1,12 @@
 //! What is to be joined: leaves, and the conditions over them.
 
-use crate::estimates::{ALL, filter_cost, per_million, probed, scan_cost, share};
+use crate::equations::{Equation, Equations};
+use crate::estimates::{ALL, filter_cost, per_million, probed, scan_cost};
 use crate::regions::{Parts, Region, conditions_of};
 use crate::sets::{LeafSet, MOST_LEAVES};
 use crate::subqueries::{Subquery, class_cost, subqueries_of};
 use algebra::{ClassId, Condition, Expr, LineId};
-use costs::Cardinalities;
+use costs::{Cardinalities, selectivity};
 use logs::Log;
 use statistics::Statistics;
 use std::alloc::{AllocError, Global};
@@ -27,6 +28,8 @@ pub struct Leaf {
 pub struct Edge {
     pub leaves: LeafSet,
     pub share: u64,
+    /// What it equates, if it is an equality of two columns.
+    equation: Option<Equation>,
 }
 
 /// What matches of one leaf's rows in another cost, where an index finds them.
@@ -49,6 +52,8 @@ pub struct Graph {
     pub leaves: Vec<Leaf>,
     pub edges: Vec<Edge>,
     pub probes: Vec<Probe>,
+    /// The equalities of two columns.
+    equations: Equations,
     /// For each leaf those of which some column is equal to one of its own.
     pub equated: Vec<LeafSet>,
     /// The region's own joins. Their classes are founded already, so they have their rows in each tree.
@@ -237,7 +242,8 @@ impl Graph {
         }
         let leaves = mentioned(alloc, guesses.log, classes, condition)?;
         self.forget(leaves, stands_over);
-        let share = share(guesses.statistics, guesses.log.instances(), condition);
+        let share = selectivity(guesses.statistics, guesses.log.instances(), condition);
+        let equation = self.equations.note(leaves, condition)?;
         if leaves.count() == 1 {
             self.note_filter(guesses, classes, leaves.lowest(), condition, share);
             return Ok(());
@@ -245,7 +251,11 @@ impl Graph {
         if leaves.count() == 2 {
             self.note_equality(guesses, classes, leaves, condition)?;
         }
-        self.edges.push(Edge { leaves, share })?;
+        self.edges.push(Edge {
+            leaves,
+            share,
+            equation,
+        })?;
         Ok(())
     }
 
@@ -260,6 +270,7 @@ impl Graph {
             leaves,
             edges: Vec::new(alloc),
             probes: Vec::new(alloc),
+            equations: Equations::none(alloc),
             equated,
             known: known_joins(alloc, guesses, parts)?,
             subqueries: Vec::new(alloc),
@@ -346,14 +357,23 @@ impl Graph {
     }
 
     /// Which share of the pairs of two sets makes the conditions true that are over both and over neither alone. As the costs guess them, so a list
-    /// of conditions keeps a millionth at least.
+    /// of conditions keeps a millionth at least, and an equality that follows from others keeps all.
     pub fn joined_share(&self, first: LeafSet, second: LeafSet) -> u64 {
         let both = first.union(second);
+        let mut leaders = self.equations.leaders_within(first, second);
         let mut share = ALL;
         for edge in &self.edges {
             let leaves = edge.leaves;
-            if leaves.is_within(both) && !leaves.is_within(first) && !leaves.is_within(second) {
-                share = per_million(share, edge.share);
+            let is_over_both =
+                leaves.is_within(both) && !leaves.is_within(first) && !leaves.is_within(second);
+            if is_over_both {
+                let is_new = match &mut leaders {
+                    Some(leaders) => leaders.is_new(edge.equation),
+                    None => true,
+                };
+                if is_new {
+                    share = per_million(share, edge.share);
+                }
             }
         }
         share

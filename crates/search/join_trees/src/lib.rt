@@ -7,6 +7,7 @@
 
 mod choice;
 mod chosen;
+mod equations;
 mod estimates;
 mod graph;
 mod regions;
