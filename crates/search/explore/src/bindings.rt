@@ -15,6 +15,23 @@ pub(crate) enum Level {
     Projections,
 }
 
+/// Whether products of what no condition connects are made.
+#[derive(Clone, Copy)]
+pub enum Products {
+    Made,
+    LeftOut,
+}
+
+impl Products {
+    /// Whether rules of this level are tried.
+    pub(crate) fn allow(self, level: Level) -> bool {
+        match (self, level) {
+            (Products::LeftOut, Level::Products) => false,
+            _ => true,
+        }
+    }
+}
+
 impl Level {
     /// Levels as numbers, the first to be tried least.
     pub(crate) fn number(self) -> u8 {

@@ -5,7 +5,7 @@ ghost use Rattle.closure.specs.Closed.{IsClosed};
 ghost use Rattle.closure.specs.Lacking.{IsMissing};
 ghost use Rattle.memo.specs.Growth.{Grows, IsWithin, Extends, FoundsDirectly};
 
-use crate::bindings::{level_of, rules_of_one, rules_of_two};
+use crate::bindings::{Products, level_of, rules_of_one, rules_of_two};
 use crate::queue::Queue;
 use algebra::{Expr, LineId};
 use closure::{Binding, Missing, missing};
@@ -40,6 +40,7 @@ fn enqueue(
     alloc: Global,
     memo: &Memo<'_>,
     queue: &mut Queue,
+    products: Products,
     binding: Binding,
 ) -> Result<(), AllocError> {
     let Some(top) = memo.log().member(binding.top) else {
@@ -50,6 +51,9 @@ fn enqueue(
         None => None,
     };
     let level = level_of(alloc, memo, binding.rule, top.expr, below)?;
+    if !products.allow(level) {
+        return Ok(());
+    }
     queue.add(binding, level.number(), width_of(memo, binding.top))
 }
 
@@ -58,6 +62,7 @@ fn enqueue_pair(
     alloc: Global,
     memo: &Memo<'_>,
     queue: &mut Queue,
+    products: Products,
     top: LineId,
     below: LineId,
 ) -> Result<(), AllocError> {
@@ -70,7 +75,7 @@ fn enqueue_pair(
             top,
             below: Some(below),
         };
-        enqueue(alloc, memo, queue, binding)?;
+        enqueue(alloc, memo, queue, products, binding)?;
     }
     Ok(())
 }
@@ -81,6 +86,7 @@ fn enter(
     alloc: Global,
     memo: &Memo<'_>,
     queue: &mut Queue,
+    products: Products,
     line: LineId,
 ) -> Result<(), AllocError> {
     let Some(member) = memo.log().member(line) else {
@@ -92,12 +98,12 @@ fn enter(
             top: line,
             below: None,
         };
-        enqueue(alloc, memo, queue, binding)?;
+        enqueue(alloc, memo, queue, products, binding)?;
     }
     if let Some(input) = first_input(member.expr) {
         for below in memo.log().members(alloc, input)? {
             if below <= line {
-                enqueue_pair(alloc, memo, queue, line, below)?;
+                enqueue_pair(alloc, memo, queue, products, line, below)?;
             }
         }
     }
@@ -110,7 +116,7 @@ fn enter(
             None => false,
         };
         if is_over && top < line {
-            enqueue_pair(alloc, memo, queue, top, line)?;
+            enqueue_pair(alloc, memo, queue, products, top, line)?;
         }
     }
     Ok(())
@@ -140,17 +146,18 @@ fn enter_new(
     alloc: Global,
     memo: &Memo<'_>,
     queue: &mut Queue,
+    products: Products,
     entered: usize,
 ) -> Result<usize, AllocError> {
     let count = memo.log().len();
     for line in entered..count {
-        enter(alloc, memo, queue, id_of(line)?)?;
+        enter(alloc, memo, queue, products, id_of(line)?)?;
     }
     Ok(count)
 }
 
 /// Goes through all bindings, those of lines that are added meanwhile among them, until the log is full.
-fn pass(alloc: Global, memo: &mut Memo<'_>) -> Result<(), AllocError>
+fn pass(alloc: Global, memo: &mut Memo<'_>, products: Products) -> Result<(), AllocError>
     ensures extends { Extends memo.old.limit memo.old.log memo.new.log }
     ensures direct { OnOk result (FoundsDirectly memo.old.limit memo.old.log memo.new.log) }
     ensures limit { memo.new.limit ≡ memo.old.limit }
@@ -158,7 +165,7 @@ fn pass(alloc: Global, memo: &mut Memo<'_>) -> Result<(), AllocError>
     let mut queue = Queue::new(alloc);
     let mut entered = 0;
     for _ in 0..MOST_BINDINGS {
-        entered = enter_new(alloc, memo, &mut queue, entered)?;
+        entered = enter_new(alloc, memo, &mut queue, products, entered)?;
         if memo.is_full() {
             break;
         }
@@ -170,8 +177,13 @@ fn pass(alloc: Global, memo: &mut Memo<'_>) -> Result<(), AllocError>
     Ok(())
 }
 
-/// Adds what each rule gives at each binding, until the log is full or a pass adds nothing. Nothing is said of what it leaves out.
-pub fn apply_all(alloc: Global, memo: &mut Memo<'_>) -> Result<(), AllocError>
+/// Adds what each rule gives at each binding, until the log is full or a pass adds nothing; at those that make products only where these are wanted. Nothing
+/// is said of what it leaves out.
+pub fn apply_all(
+    alloc: Global,
+    memo: &mut Memo<'_>,
+    products: Products,
+) -> Result<(), AllocError>
     ensures grows { Grows memo.old.log memo.new.log }
     ensures within { IsWithin memo.old.limit memo.old.log memo.new.log }
     ensures limit { memo.new.limit ≡ memo.old.limit }
@@ -179,7 +191,7 @@ pub fn apply_all(alloc: Global, memo: &mut Memo<'_>) -> Result<(), AllocError>
 {
     for _ in 0..MOST_PASSES {
         let before = memo.log().len();
-        pass(alloc, memo)?;
+        pass(alloc, memo, products)?;
         if memo.log().len() == before {
             break;
         }
@@ -215,7 +227,7 @@ pub fn explore(alloc: Global, memo: &mut Memo<'_>) -> Result<bool, AllocError>
     ensures direct { OnOk result (FoundsDirectly memo.old.limit memo.old.log memo.new.log) }
 {
     'adding: loop {
-        apply_all(alloc, memo)?;
+        apply_all(alloc, memo, Products::Made)?;
         let Some(lacking) = missing(alloc, memo.log())? else {
             return Ok(true);
         };

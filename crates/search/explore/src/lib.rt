@@ -10,5 +10,6 @@ mod keys;
 mod queue;
 mod simplifying;
 
+pub use bindings::Products;
 pub use exploring::{apply_all, explore};
 pub use simplifying::simplify;

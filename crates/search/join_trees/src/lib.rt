@@ -6,6 +6,7 @@
 #![tactic(auto)]
 
 mod choice;
+mod connected;
 mod chosen;
 mod equations;
 mod estimates;
@@ -15,6 +16,7 @@ mod sets;
 mod subqueries;
 
 pub use choice::{Choice, choose};
+pub use connected::falls_apart;
 pub use chosen::{JoinTree, Joined};
 pub use graph::mentioned;
 pub use regions::{

@@ -1,10 +1,10 @@
 //! Conditions with subqueries: what one of them costs each row, and of which leaves it mentions columns.
 
-use crate::estimates::share;
 use crate::graph::{Guesses, mentioned};
 use crate::regions::conditions_of;
 use crate::sets::LeafSet;
 use algebra::{ClassId, Condition, Conjuncts, LineId};
+use costs::selectivity;
 use search::best;
 use std::alloc::{AllocError, Global};
 
@@ -66,7 +66,7 @@ fn subquery_of(
         condition: condition.copy(alloc)?,
         leaves,
         cost,
-        share: share(guesses.statistics, guesses.log.instances(), condition),
+        share: selectivity(guesses.statistics, guesses.log.instances(), condition),
     })
 }
 

@@ -16,8 +16,9 @@ use certificate::{Certificate, query_order};
 use closure::is_closed;
 use costs::{Cardinalities, cost};
 use derivation::Line;
-use explore::{apply_all, simplify};
+use explore::{Products, apply_all, simplify};
 use frame::frame_of;
+use join_trees::falls_apart;
 use logs::Log;
 use memo::Memo;
 use physical::Plan;
@@ -132,11 +133,21 @@ fn cheapest(
 }
 
 /// Adds what is simpler, and lines by which good join trees are among a log's plans. These put selections over selections, so it is simplified
-/// again.
-fn prepare(alloc: Global, planning: Planning<'_>, memo: &mut Memo<'_>) -> Result<(), AllocError> {
+/// again. Whether products are to be explored: only where what is joined doesn't hang together by conditions.
+fn prepare(
+    alloc: Global,
+    planning: Planning<'_>,
+    memo: &mut Memo<'_>,
+) -> Result<Products, AllocError> {
     simplify(alloc, memo)?;
+    let products = if falls_apart(alloc, memo.log())? {
+        Products::Made
+    } else {
+        Products::LeftOut
+    };
     seed(alloc, memo, planning.statistics)?;
-    simplify(alloc, memo)
+    simplify(alloc, memo)?;
+    Ok(products)
 }
 
 /// How many lines a log may have, so many at most, for it to be worth exploring where a plan is estimated to cost so much.
@@ -154,7 +165,7 @@ fn explored(
     memo: &mut Memo<'_>,
 ) -> Result<Option<ExploredPlan>, AllocError> {
     if !memo.is_full() {
-        apply_all(alloc, memo)?;
+        apply_all(alloc, memo, Products::Made)?;
     }
     let is_explored = !memo.is_full();
     match cheapest(alloc, planning, memo.log())? {
@@ -169,6 +180,7 @@ fn cheaper_over_twice(
     alloc: Global,
     planning: Planning<'_>,
     memo: &mut Memo<'_>,
+    products: Products,
     most: usize,
     cost: u64,
 ) -> Result<Option<BestPlan>, AllocError> {
@@ -177,7 +189,7 @@ fn cheaper_over_twice(
     if memo.is_full() {
         return Ok(None);
     }
-    apply_all(alloc, memo)?;
+    apply_all(alloc, memo, products)?;
     let found = cheapest(alloc, planning, memo.log())?;
     Ok(found.filter(|found| found.cost < cost))
 }
@@ -187,13 +199,14 @@ fn explored_while_worthwhile(
     alloc: Global,
     planning: Planning<'_>,
     memo: &mut Memo<'_>,
+    products: Products,
 ) -> Result<Option<ExploredPlan>, AllocError> {
     let Some(mut best) = cheapest(alloc, planning, memo.log())? else {
         return Ok(None);
     };
     let most = worthwhile(planning.limit, best.cost);
     for _ in 0..MOST_DOUBLINGS {
-        match cheaper_over_twice(alloc, planning, memo, most, best.cost)? {
+        match cheaper_over_twice(alloc, planning, memo, products, most, best.cost)? {
             Some(cheaper) => best = cheaper,
             None => break,
         }
@@ -210,9 +223,9 @@ fn cheapest_explored(
     planning: Planning<'_>,
     memo: &mut Memo<'_>,
 ) -> Result<Option<ExploredPlan>, AllocError> {
-    prepare(alloc, planning, memo)?;
+    let products = prepare(alloc, planning, memo)?;
     match planning.exploration {
-        Exploration::WhileWorthwhile => explored_while_worthwhile(alloc, planning, memo),
+        Exploration::WhileWorthwhile => explored_while_worthwhile(alloc, planning, memo, products),
         Exploration::ToLimit => explored(alloc, planning, memo),
     }
 }

@@ -6,7 +6,7 @@ use certificate::judging::{judged_log, own_aggregates};
 use certificate::query_order;
 use costs::{Cardinalities, cost};
 use derivation::{Line, Step};
-use explore::{apply_all, simplify};
+use explore::{Products, apply_all, simplify};
 use fixtures::{
     COMPANY, DEPT, EMP, QueryReporting, Tables, push_number, push_numbers, query_differences,
     query_of, schema_of,
@@ -74,7 +74,7 @@ fn explored<'q>(alloc: Global, planning: Planning<'q>) -> Result<Log<'q>, AllocE
     simplify(alloc, &mut memo)?;
     seed(alloc, &mut memo, planning.statistics)?;
     simplify(alloc, &mut memo)?;
-    apply_all(alloc, &mut memo)?;
+    apply_all(alloc, &mut memo, Products::Made)?;
     Ok(memo.into_log())
 }
 
