@@ -8,7 +8,7 @@ ghost use Rattle.props.specs.Knowledge.{known};
 ghost use Rattle.costs.specs.Cardinalities as spec;
 
 use crate::numbers::{ALL, per_million};
-use crate::selectivity::also;
+use crate::condition_shares::also;
 use algebra::{ClassId, Condition};
 use props::KnownClasses;
 use query::TableInstance;

@@ -7,7 +7,7 @@ ghost use Rattle.costs.specs.Selectivity.{list_selectivity};
 ghost use Rattle.costs.specs.Tables.{owns};
 
 use crate::numbers::ALL;
-use crate::selectivity::also;
+use crate::condition_shares::also;
 use crate::tables::owns;
 use algebra::{Condition, Term};
 use query::TableInstance;

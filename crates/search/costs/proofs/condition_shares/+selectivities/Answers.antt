@@ -1,7 +1,7 @@
 use Rattle.std.proofs.Common.{ap, sym, ◌∙◌}
 use Rattle.costs.specs.Selectivity.{selectivity, others}
 use Rattle.costs.proofs.SelectivityForms.{compare-at, selectivity-IsNull, selectivity-Not, selectivity-And, selectivity-Or, selectivity-Exists, selectivity-In}
-use Rattle.costs.proofs.selectivity.+selectivities.Goals as goal
+use Rattle.costs.proofs.condition_shares.+selectivities.Goals as goal
 
 pub selectivity-returns-in-Compare-clause-share : goal.selectivity-returns-in-Compare-clause-share
 selectivity-returns-in-Compare-clause-share t c =
