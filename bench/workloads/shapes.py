@@ -92,7 +92,7 @@ def rows_of(file, columns):
 
 
 def statistics_text(tables, schema, folder):
-    """The statistics that `explain` reads, counted as `query` counts them for itself."""
+    """The statistics that `explain` reads, counted as `query` counts them for itself; of columns without an index of their own the different values exactly."""
     found = {}
     for name, kept in tables.items():
         rows = list(rows_of(folder / f"{name}.csv", kept.columns))
@@ -102,5 +102,7 @@ def statistics_text(tables, schema, folder):
             places = [names.index(column) for column in index]
             keys = len({tuple(row[place] for place in places) for row in rows})
             indexes.append({"keys": keys, "pages": -(-len(rows) // ENTRIES_OF_PAGE)})
-        found[name] = {"rows": len(rows), "pages": -(-len(rows) // ROWS_OF_PAGE), "indexes": indexes}
+        own = {column for (column,) in (index for index in kept.indexes(schema) if len(index) == 1)}
+        columns = {column: {"keys": len({row[place] for row in rows})} for place, column in enumerate(names) if column not in own}
+        found[name] = {"rows": len(rows), "pages": -(-len(rows) // ROWS_OF_PAGE), "indexes": indexes, "columns": columns}
     return json.dumps({"tables": found})
