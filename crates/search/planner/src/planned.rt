@@ -87,9 +87,6 @@ const MOST_JUDGED: usize = 1_000;
 /// So much a plan has to cost for each line that its log may have: a line takes a small part of the time to explore that is estimated at so much.
 const COST_OF_LINE: u64 = 50_000;
 
-/// So many lines are explored before it counts that they made no plan cheaper. It takes some 20 milliseconds.
-const FIRST_LINES: usize = 1_000;
-
 /// A log doubles this often at most: no machine holds more lines.
 const MOST_DOUBLINGS: usize = 64;
 
@@ -174,8 +171,7 @@ fn explored(
     }
 }
 
-/// The cheapest plan that is found over twice as many lines as a log has, and over the first ones at least, if it costs less than so much. The log may
-/// have so many lines at most.
+/// The cheapest plan that is found over twice as many lines as a log has, if it costs less than so much. The log may have so many lines at most.
 fn cheaper_over_twice(
     alloc: Global,
     planning: Planning<'_>,
@@ -185,7 +181,7 @@ fn cheaper_over_twice(
     cost: u64,
 ) -> Result<Option<BestPlan>, AllocError> {
     let twice = memo.log().len().saturating_mul(2);
-    memo.set_limit(twice.max(FIRST_LINES).min(most));
+    memo.set_limit(twice.min(most));
     if memo.is_full() {
         return Ok(None);
     }
