@@ -198,27 +198,30 @@ pub(crate) fn expect_keys(
     value: &Value,
     keys: &[&str],
 ) -> Result<(), Halt> {
-    expect_keys_among(alloc, place, value, keys, keys)
+    expect_first_keys(alloc, place, value, keys, keys.len())
 }
 
-/// That an object has these keys, and none that isn't among all of them.
-pub(crate) fn expect_keys_among(
+/// That an object has the first so many of these keys, and none that isn't among all of them.
+pub(crate) fn expect_first_keys(
     alloc: Global,
     place: &str,
     value: &Value,
     keys: &[&str],
-    all: &[&str],
+    needed: usize,
 ) -> Result<(), Halt> {
-    let members = members_of(alloc, place, value, all)?;
-    let unknown = members.keys().find(|key| !all.contains(&key.as_str()));
-    let missing = keys.iter().find(|key| value.get(**key).is_none());
+    let members = members_of(alloc, place, value, keys)?;
+    let unknown = members.keys().find(|key| !keys.contains(&key.as_str()));
+    let missing = keys
+        .iter()
+        .take(needed)
+        .find(|key| value.get(**key).is_none());
     let what = match (unknown, missing) {
         (None, None) => return Ok(()),
         (None, Some(missing)) => format!(in alloc; "the key {missing} is missing")?,
         (Some(unknown), missing) => {
             let unknown = quoted_front(alloc, unknown.as_bytes())?;
-            let all = listed(alloc, all)?;
-            let mut what = format!(in alloc; "there is no key {unknown}; the keys are {all}")?;
+            let keys = listed(alloc, keys)?;
+            let mut what = format!(in alloc; "there is no key {unknown}; the keys are {keys}")?;
             if let Some(missing) = missing {
                 write!(&mut what, ", of which {missing} is missing")?;
             }

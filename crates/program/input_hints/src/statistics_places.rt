@@ -4,7 +4,7 @@ ghost use Rattle.std.specs.Prelude.{IfOk, string_bytes};
 ghost use Rattle.input_hints.specs.Lines.{AreLines};
 
 use crate::json::{
-    Halt, element_place, expect_array, expect_keys, expect_keys_among, expect_member, fault_at,
+    Halt, element_place, expect_array, expect_first_keys, expect_keys, expect_member, fault_at,
     member_place, said_of, unwanted, value_of,
 };
 use schema::{Schema, Table};
@@ -12,10 +12,10 @@ use serde_json::Value;
 use statistics::StatisticsRefusal;
 use std::alloc::{AllocError, Global};
 
-/// The keys that a table has to have, all that it may have, those of an index, and that of a column.
-const TABLE_KEYS: &[&str] = &["rows", "pages", "indexes"];
+/// The keys of a table, the last of which may be missing, those of an index, and that of a column.
+const TABLE_KEYS: &[&str] = &["rows", "pages", "indexes", "columns"];
 
-const ALL_TABLE_KEYS: &[&str] = &["rows", "pages", "indexes", "columns"];
+const NEEDED_TABLE_KEYS: usize = 3;
 
 const INDEX_KEYS: &[&str] = &["keys", "pages"];
 
@@ -66,7 +66,7 @@ fn expect_columns(alloc: Global, place: &str, table: &Table, columns: &Value) ->
         names.push(column.name.as_str())?;
     }
     let place = member_place(alloc, place, "columns")?;
-    expect_keys_among(alloc, place.as_str(), columns, &[], names.as_slice())?;
+    expect_first_keys(alloc, place.as_str(), columns, names.as_slice(), 0)?;
     for name in names.as_slice() {
         if let Some(column) = columns.get(*name) {
             let place = member_place(alloc, place.as_str(), name)?;
@@ -82,7 +82,13 @@ fn expect_table(alloc: Global, table: &Table, entries: &Value) -> Result<(), Hal
     let name = table.name.as_str();
     let entry = expect_member(alloc, "tables", entries, name)?;
     let place = member_place(alloc, "tables", name)?;
-    expect_keys_among(alloc, place.as_str(), entry, TABLE_KEYS, ALL_TABLE_KEYS)?;
+    expect_first_keys(
+        alloc,
+        place.as_str(),
+        entry,
+        TABLE_KEYS,
+        NEEDED_TABLE_KEYS,
+    )?;
     expect_number(alloc, place.as_str(), entry, "rows")?;
     expect_number(alloc, place.as_str(), entry, "pages")?;
     expect_indexes(alloc, place.as_str(), table, entry)?;
