@@ -53,8 +53,18 @@ class Conditions:
             return ("n", None)
         return ("i" if kind == "INT" else "t", self.rng.choice(VALUES[kind]))
 
+    def branches(self):
+        """An OR whose branches have one equality in common, but now and then one of them."""
+        column = self.rng.choice(self.layout.columns_of(0) + self.layout.columns_of(1))
+        shared = ("compare", "=", ("c", column), self.other(column))
+        count = self.rng.choice([2, 2, 3])
+        parts = [self.rng.sample([shared, self.condition(0)], 2) if self.rng.random() < 0.9 else [self.condition(0), self.condition(0)] for _ in range(count)]
+        return ("or", [("and", part) for part in parts])
+
     def condition(self, depth=1):
         choice = self.rng.random()
+        if depth and self.rng.random() < 0.1:
+            return self.branches()
         if depth and choice < 0.08:
             return ("not", self.condition(0))
         if depth and choice < 0.18:

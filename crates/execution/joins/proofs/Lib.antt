@@ -1,3 +1,4 @@
+pub mod Branches
 pub mod Candidates
 pub mod Chains
 pub mod FilteredJoins
