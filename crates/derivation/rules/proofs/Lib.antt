@@ -15,3 +15,4 @@ pub mod SelectIntoJoin
 pub mod SelectsMerge
 pub mod Sets
 pub mod ShapeMeanings
+pub mod Subqueries

@@ -9,6 +9,7 @@ pub mod KeepBelowJoin
 pub mod KeepOfAll
 pub mod KeepsMerge
 pub mod Matches
+pub mod Patterns
 pub mod SelectBelowJoin
 pub mod SelectBelowSemi
 pub mod SelectIntoJoin

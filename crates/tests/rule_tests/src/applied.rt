@@ -2,7 +2,7 @@
 
 use crate::classes::{Known, known_classes};
 use crate::shapes::push_shape;
-use crate::words::{line_of, number};
+use crate::words::{lines_of, number};
 use algebra::{ClassId, Expr};
 use fixtures::{Reporting, differences};
 use rules::{Match, MatchedLine, RuleFault, RuleName, Shape, Unfit};
@@ -20,15 +20,6 @@ fn push_applied(
         Err(Fault::Refused(Unfit::Condition)) => reported.push_str("the condition fails"),
         Err(Fault::Memory) => Err(AllocError),
     }
-}
-
-/// The lines of a text, with `,` between them.
-fn lines_of(alloc: Global, text: &str) -> Result<Vec<(ClassId, Expr)>, AllocError> {
-    let mut lines = Vec::new(alloc);
-    for words in text.split(", ") {
-        lines.push(line_of(alloc, words)?)?;
-    }
-    Ok(lines)
 }
 
 fn report_applied(
