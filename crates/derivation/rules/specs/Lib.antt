@@ -2,6 +2,7 @@ pub mod Book
 pub mod ConditionBelowJoin
 pub mod Conjuncts
 pub mod DistinctOfKeyed
+pub mod Formed
 pub mod GroupIsDistinct
 pub mod JoinAssociates
 pub mod JoinCommutes
@@ -16,3 +17,4 @@ pub mod SelectIntoJoin
 pub mod SelectsMerge
 pub mod Shapes
 pub mod Soundness
+pub mod Stability

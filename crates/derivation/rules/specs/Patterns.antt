@@ -1,6 +1,6 @@
 -- Which lines rules take: by their operators, and by how they hang together.
 -- Patterns of rules and their bindings: Graefe, The Cascades framework for query optimization, 1995.
-use Rattle.std.specs.Prelude.{ℕ, Bool, true, false, ◌&&◌, ◌||◌, ◌==◌, if◌then◌else◌, List, [], ◌∷◌, slice_get, Option, Some, None}
+use Rattle.std.specs.Prelude.{◌≡◌, ℕ, Bool, true, false, ◌&&◌, ◌||◌, ◌==◌, if◌then◌else◌, List, [], ◌∷◌, slice_get, Option, Some, None, Result, Err}
 use Rattle.algebra.specs.declared.condition.Condition.{Condition, fold-Condition}
 use Rattle.algebra.specs.declared.condition.Condition.TheOpen.{Condition-F}
 use Rattle.algebra.specs.declared.expr.Expr.{Expr}
@@ -18,6 +18,9 @@ use Rattle.rules.specs.declared.pattern.Operators.{Operators}
 use Rattle.rules.specs.declared.pattern.Operators.TheVariants.{Only, Either}
 use Rattle.rules.specs.declared.pattern.Pattern.{Pattern}
 use Rattle.rules.specs.declared.pattern.Pattern.TheVariants.{One, Two, Three, Subquery, SubqueryLine, ClassLine}
+use Rattle.rules.specs.declared.shape.Shape.{Shape}
+use Rattle.rules.specs.declared.unfit.Unfit.{Unfit}
+use Rattle.rules.specs.declared.unfit.Unfit.TheVariants as unfit
 use Rattle.rules.specs.Matches.{Line, Matched}
 
 -- ---- operators
@@ -52,6 +55,10 @@ is_line_of K (Some g) O l = are_same K g l.class && has_one_of l.expr O
 
 abbrev pub is_below : Knowledge → Line → Below → Line → Bool
 is_below K l b k = is_line_of K (input_of l.expr b.input) b.operators k
+
+-- of the class that the line above takes first
+abbrev pub first : Operators → Below
+first O = record { input = First; operators = O }
 
 -- ---- what is picked
 
@@ -99,3 +106,7 @@ lines_fit K pick pattern lines = false
 
 abbrev pub fits : Pattern → Matched → Bool
 fits pattern m = lines_fit m.classes m.pick pattern m.lines
+
+-- a rule refuses what is of another form
+abbrev pub KeepsTo : Pattern → (Matched → Result Shape Unfit) → Type 0
+KeepsTo pattern gives = (m : Matched) → fits pattern m ≡ false → gives m ≡ Err unfit.Pattern

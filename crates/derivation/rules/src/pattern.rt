@@ -172,6 +172,16 @@ fn is_line_of(
 }
 
 impl Below {
+    /// A line of the class that the line above it takes first.
+    pub fn first(operators: Operators) -> Below
+        ensures { result ≡ spec.first operators }
+    {
+        Below {
+            input: Input::First,
+            operators,
+        }
+    }
+
     /// Whether the one line is such a line below the other.
     fn fits(self, classes: KnownClasses<'_>, above: MatchedLine<'_>, line: MatchedLine<'_>) -> bool
         ensures { result ≡ spec.is_below (known_in classes.entry) (line_in above.entry) self (line_in line.entry) }
