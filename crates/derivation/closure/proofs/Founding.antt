@@ -1,45 +1,14 @@
 -- What a rule gives at lines of a log it gives there as well where a class is founded behind them: rules ask about classes that the lines name alone.
-use Rattle.std.proofs.Common.{◌≡◌, refl, ap, sym, ◌∙◌, subst, ℕ, ◌<◌, Bool, true, false, not, ◌&&◌, ◌||◌, ◌==◌, if◌then◌else◌, List, [], ◌∷◌, filter, map, length, arith, Option, Some, None, Result, Ok, option_to_list}
-use Rattle.std.specs.List.{AllByRecursion, list_all, list_any}
-use Rattle.std.proofs.lemmas.Bool.{and_parts, and_from, ne_eqb}
+use Rattle.std.proofs.Common.{◌≡◌, refl, ap, sym, ◌∙◌, subst, ℕ, ◌<◌, true, List, [], ◌∷◌, length, arith, Option, Some, None, option_to_list}
+use Rattle.std.specs.List.{AllByRecursion}
+use Rattle.std.proofs.lemmas.Bool.{ne_eqb}
 use Rattle.std.proofs.lemmas.List.{length-map}
-use Rattle.values.specs.Faults.{◌>>=◌, wanted, wanted_if}
 use Rattle.query.specs.declared.query.TableInstance.{TableInstance}
-use Rattle.algebra.specs.declared.condition.Condition.{Condition, roll-Condition, fold-roll-Condition, ind-Condition, map-Condition}
-use Rattle.algebra.specs.declared.condition.Condition.TheOpen.{Condition-F}
 use Rattle.algebra.specs.declared.expr.Aggregation.{Aggregation}
 use Rattle.algebra.specs.declared.expr.Expr.{Expr}
-use Rattle.algebra.specs.declared.expr.Expr.TheVariants.{Get, Select, Join, LeftJoin, Semi, Anti, Keep, Distinct, Group}
 use Rattle.algebra.specs.Classes.{class_free}
-use Rattle.algebra.specs.Columns.{ColumnSet, has, is_same_set, rising}
-use Rattle.algebra.specs.Conditions.{Passes, classes_layer, all_classes, Mentions, mentions_layer, mentions, term_columns}
-use Rattle.algebra.specs.ConjunctParts.{union, part, rest, has_no_class, is_without}
-use Rattle.algebra.specs.Expressions.{children, classes_pass, subqueries_pass, mentioned}
-use Rattle.algebra.proofs.Lists.{two}
-use Rattle.props.specs.Knowledge.{Knowledge, has_strong_key}
-use Rattle.rules.specs.declared.book.RuleName.{RuleName}
-use Rattle.rules.specs.declared.book.RuleName.TheVariants.{JoinCommutes, JoinAssociates, SelectsMerge, SelectBelowJoin, SelectIntoJoin, ConditionBelowJoin, SelectBelowSemi, KeepsMerge, KeepOfAll, KeepBelowJoin, DistinctOfKeyed, GroupIsDistinct}
-use Rattle.rules.specs.declared.shape.Shape.{Shape}
-use Rattle.rules.specs.declared.shape.Shape.TheVariants as shape
-use Rattle.rules.specs.declared.unfit.Unfit.{Unfit}
-use Rattle.rules.specs.declared.unfit.Unfit.TheVariants.{Pattern, Condition as FailedCondition}
-use Rattle.rules.specs.Book.{given_by}
-use Rattle.rules.specs.Conjuncts.{is_apart_from, wanted_some}
-use Rattle.rules.specs.Matches as matches
-use Rattle.rules.specs.Matches.{Line, takes, is_first_same}
-use Rattle.rules.specs.Shapes.{selected}
-use Rattle.rules.specs.ConditionBelowJoin as s4
-use Rattle.rules.specs.DistinctOfKeyed as d1
-use Rattle.rules.specs.GroupIsDistinct as g1
-use Rattle.rules.specs.JoinAssociates as j2
-use Rattle.rules.specs.JoinCommutes as j1
-use Rattle.rules.specs.KeepBelowJoin as k3
-use Rattle.rules.specs.KeepOfAll as k2
-use Rattle.rules.specs.KeepsMerge as k1
-use Rattle.rules.specs.SelectBelowJoin as s2
-use Rattle.rules.specs.SelectBelowSemi as s5
-use Rattle.rules.specs.SelectIntoJoin as s3
-use Rattle.rules.specs.SelectsMerge as s1
+use Rattle.algebra.specs.Expressions.{classes_pass}
+use Rattle.rules.specs.Matches.{Line}
 use Rattle.derivation.specs.declared.line.Line.TheVariants as derivation
 use Rattle.derivation.specs.declared.line.Line as lines_
 use Rattle.derivation.specs.Logs.{Log, entry, entries, founds, member, knowledge}
@@ -49,7 +18,6 @@ use Rattle.closure.specs.declared.lacks.Binding.{Binding}
 use Rattle.closure.specs.Lacking.{GivesBinding}
 use Rattle.rules.proofs.RuleLaws.{book_stable}
 use Rattle.closure.proofs.FormedLogs.{kept_by}
-use Rattle.rules.proofs.FormedShapes.{classes-union}
 
 module _ (instances : List TableInstance) (own : List Aggregation) (E : Log) where
   free-stay : (l : lines_.Line) (g k : ℕ) → g < length E → class_free instances (entries (l ∷ E)) g k ≡ class_free instances (entries E) g k

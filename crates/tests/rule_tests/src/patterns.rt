@@ -4,11 +4,15 @@ use crate::classes::{Known, known_classes};
 use crate::words::{lines_of, number};
 use algebra::{ClassId, Expr};
 use fixtures::{Reporting, differences};
-use rules::{Below, Input, Match, MatchedLine, Operator, Operators, Pattern};
+use rules::{Below, Input, Match, MatchedLine, Operator, Operators, Pattern, RuleName};
 use std::alloc::{AllocError, Global};
 
-/// A pattern of each form. The first is of two lines, of which the second is of the right side of a join.
+/// The pattern of the rule of a code, or one by its name: a pattern of each form that no rule has, among them one whose second line is of the right
+/// side of a join.
 fn pattern_of(name: &str) -> Pattern {
+    if let Some(rule) = RuleName::of_code(name) {
+        return rule.pattern();
+    }
     let select = Operators::Only(Operator::Select);
     match name {
         "right" => Pattern::Two(
@@ -102,6 +106,27 @@ three: 7 keep 3 0, 4 select 4 l, 3 join 0 1 m => fits
 three: 7 keep 3 0, 4 select 4 l, 3 semi 0 1 m => another form
 three: 7 keep 3 0, 4 select 4 l, 0 left 0 1 m => another form
 three: 7 keep 3 0, 4 select 4 l => another form";
+    const RULES: &str = "J1: 3 join 0 1 m => fits
+J1: 3 left 0 1 m => another form
+J2: 7 join 3 2 u, 3 join 0 1 m => fits
+J2: 7 join 3 2 u, 5 join 1 2 u => another form
+J2: 7 join 3 2 u => another form
+S1: 7 select 3 lr, 4 select 3 rm => fits
+S2: 7 select 3 rx, 3 join 0 1 m => fits
+S2: 7 select 3 rx, 0 join 0 1 m => another form
+S3: 7 select 3 lx, 3 join 0 1 m => fits
+S3: 7 select 3 lx, 3 left 0 1 m => another form
+S4: 3 join 0 1 lm => fits
+S5: 7 select 0 l, 0 semi 0 1 m => fits
+S5: 7 select 0 l, 0 anti 0 1 m => fits
+S5: 7 select 3 l, 3 join 0 1 m => another form
+K1: 7 keep 3 0, 4 keep 3 0 2 => fits
+K2: 7 keep 1 2 => fits
+K2: 7 distinct 1 => another form
+K3: 7 keep 3 1 3, 3 join 0 1 m => fits
+D1: 7 distinct 1 => fits
+G1: 7 group 3 => fits
+G1: 7 distinct 3 => another form";
     const PICKS: &str = "subquery pick 1: 7 select 3 lx => fits
 subquery pick 0: 7 select 3 lx => another form
 subquery pick 2: 7 select 3 lx => another form
@@ -117,5 +142,5 @@ class line pick 6: 7 select 3 lx, 6 distinct 2 => fits
 class line pick 6: 7 select 3 lx, 6 select 2 l => another form
 class line pick 3: 7 select 3 lx, 3 distinct 2 => another form
 class line pick 6: 7 select 3 l, 6 distinct 2 => another form";
-    assert_eq!(rt; differences(rt.alloc(), &[LINES, PICKS], &Fitting).as_deref(), Ok(""));
+    assert_eq!(rt; differences(rt.alloc(), &[LINES, PICKS, RULES], &Fitting).as_deref(), Ok(""));
 }
