@@ -142,5 +142,8 @@ class line pick 6: 7 select 3 lx, 6 distinct 2 => fits
 class line pick 6: 7 select 3 lx, 6 select 2 l => another form
 class line pick 3: 7 select 3 lx, 3 distinct 2 => another form
 class line pick 6: 7 select 3 l, 6 distinct 2 => another form";
-    assert_eq!(rt; differences(rt.alloc(), &[LINES, PICKS, RULES], &Fitting).as_deref(), Ok(""));
+    assert_eq!(rt;
+        differences(rt.alloc(), &[LINES, PICKS, RULES], &Fitting).as_deref(),
+        Ok("")
+    );
 }
