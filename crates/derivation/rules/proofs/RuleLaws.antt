@@ -1,5 +1,5 @@
 -- The laws of the rules of the book.
-use Rattle.std.proofs.Common.{}
+use Rattle.std.specs.List.{AllByRecursion}
 use Rattle.rules.proofs.ConditionBelowJoin.{condition_below_join-sound, condition_below_join_keeps, condition_below_join_formed, condition_below_join_stable}
 use Rattle.rules.proofs.DistinctOfKeyed.{distinct_of_keyed-sound, distinct_of_keyed_keeps, distinct_of_keyed_formed, distinct_of_keyed_stable}
 use Rattle.rules.proofs.GroupIsDistinct.{group_is_distinct-sound, group_is_distinct_keeps, group_is_distinct_formed, group_is_distinct_stable}
@@ -12,8 +12,9 @@ use Rattle.rules.proofs.SelectBelowJoin.{select_below_join-sound, select_below_j
 use Rattle.rules.proofs.SelectBelowSemi.{select_below_semi-sound, select_below_semi_keeps, select_below_semi_formed, select_below_semi_stable}
 use Rattle.rules.proofs.SelectIntoJoin.{select_into_join-sound, select_into_join_keeps, select_into_join_formed, select_into_join_stable}
 use Rattle.rules.proofs.SelectsMerge.{selects_merge-sound, selects_merge_keeps, selects_merge_formed, selects_merge_stable}
+use Rattle.rules.specs.declared.book.RuleName.{RuleName}
 use Rattle.rules.specs.declared.book.RuleName.TheVariants.{JoinCommutes, JoinAssociates, SelectsMerge, SelectBelowJoin, SelectIntoJoin, ConditionBelowJoin, SelectBelowSemi, KeepsMerge, KeepOfAll, KeepBelowJoin, DistinctOfKeyed, GroupIsDistinct}
-use Rattle.rules.specs.Book.{BookIsSound, BookKeepsToPatterns, BookIsFormed, BookIsStable}
+use Rattle.rules.specs.Book.{rules, BookIsSound, BookKeepsToPatterns, BookIsFormed, BookIsStable}
 
 pub book_sound : BookIsSound
 book_sound JoinCommutes = join_commutes-sound
@@ -70,3 +71,18 @@ book_stable KeepOfAll = keep_of_all_stable
 book_stable KeepBelowJoin = keep_below_join_stable
 book_stable DistinctOfKeyed = distinct_of_keyed_stable
 book_stable GroupIsDistinct = group_is_distinct_stable
+
+-- what is so of each rule that is listed is so of each
+pub each_rule : (P : RuleName → Type 0) → AllByRecursion P rules → (rule : RuleName) → P rule
+each_rule P all JoinCommutes = all.0
+each_rule P all JoinAssociates = all.1.0
+each_rule P all SelectsMerge = all.1.1.0
+each_rule P all SelectBelowJoin = all.1.1.1.0
+each_rule P all SelectIntoJoin = all.1.1.1.1.0
+each_rule P all ConditionBelowJoin = all.1.1.1.1.1.0
+each_rule P all SelectBelowSemi = all.1.1.1.1.1.1.0
+each_rule P all KeepsMerge = all.1.1.1.1.1.1.1.0
+each_rule P all KeepOfAll = all.1.1.1.1.1.1.1.1.0
+each_rule P all KeepBelowJoin = all.1.1.1.1.1.1.1.1.1.0
+each_rule P all DistinctOfKeyed = all.1.1.1.1.1.1.1.1.1.1.0
+each_rule P all GroupIsDistinct = all.1.1.1.1.1.1.1.1.1.1.1.0

@@ -1,5 +1,5 @@
 -- The rules by their names in certificates, the lines that each takes, and what it gives.
-use Rattle.std.specs.Prelude.{ℕ, List, Result, codes}
+use Rattle.std.specs.Prelude.{ℕ, List, [], ◌∷◌, Result, codes}
 use Rattle.rules.specs.declared.book.RuleName.{RuleName}
 use Rattle.rules.specs.declared.book.RuleName.TheVariants.{JoinCommutes, JoinAssociates, SelectsMerge, SelectBelowJoin, SelectIntoJoin, ConditionBelowJoin, SelectBelowSemi, KeepsMerge, KeepOfAll, KeepBelowJoin, DistinctOfKeyed, GroupIsDistinct}
 use Rattle.rules.specs.declared.shape.Shape.{Shape}
@@ -22,6 +22,9 @@ use Rattle.rules.specs.SelectBelowJoin as select_below_join
 use Rattle.rules.specs.SelectBelowSemi as select_below_semi
 use Rattle.rules.specs.SelectIntoJoin as select_into_join
 use Rattle.rules.specs.SelectsMerge as selects_merge
+
+abbrev pub rules : List RuleName
+rules = JoinCommutes ∷ JoinAssociates ∷ SelectsMerge ∷ SelectBelowJoin ∷ SelectIntoJoin ∷ ConditionBelowJoin ∷ SelectBelowSemi ∷ KeepsMerge ∷ KeepOfAll ∷ KeepBelowJoin ∷ DistinctOfKeyed ∷ GroupIsDistinct ∷ []
 
 abbrev pub code_of : RuleName → List ℕ
 code_of JoinCommutes = codes "J1"

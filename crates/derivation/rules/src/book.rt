@@ -73,6 +73,13 @@ fn with_code(mut rules: &[RuleName], code: &str) -> Option<RuleName>
 }
 
 impl RuleName {
+    /// The rules of the book.
+    pub fn all() -> &'static [RuleName]
+        ensures { result.now ≡ spec.rules }
+    {
+        &RULES
+    }
+
     /// Its name in certificates.
     pub fn code(self) -> &'static str
         ensures { result.now ≡ spec.code_of self }
