@@ -20,7 +20,7 @@ use Rattle.derivation.specs.Logs.{Log, member}
 use Rattle.derivation.specs.Replay.{both_lines, members}
 use Rattle.logs.specs.Members.{is_of}
 use Rattle.closure.specs.Closed.{HasResult, HasResults, is_there}
-use Rattle.closure.specs.Lines.{is_plain, HasResultsOverInput, HasResultsBy, HasResultsOf}
+use Rattle.closure.specs.Lines.{takes_one_or_two, HasResultsOverInput, HasResultsBy, HasResultsOf}
 
 -- lines of which the first has an expression, and the others
 record Cited (E : Log) (uses : List ℕ) (top : matches.Line) (others : List matches.Line) : Type 0 where
@@ -69,8 +69,8 @@ input-is K top b l below = by (input_of top.expr b.input) refl below
     by (Some g) at below = record { class = g; is = at; same = (and_parts _ _ below).0 }
 
 -- each pattern of the book is of one line or of two
-plain : (rule : RuleName) → is_plain (pattern_of rule) ≡ true
-plain = each_rule (λ rule. is_plain (pattern_of rule) ≡ true) (search rules)
+plain : (rule : RuleName) → takes_one_or_two (pattern_of rule) ≡ true
+plain = each_rule (λ rule. takes_one_or_two (pattern_of rule) ≡ true) (search rules)
 
 -- ---- all results
 
@@ -89,7 +89,7 @@ module _ (instances : List TableInstance) (E : Log) where
         let input : IsInput K top b l = input-is K top b l below in
         has input.class next.first input.is (ap (is_of E input.class) next.first_at ∙ equal-turned _ _ input.same) l next.first_at
 
-    by-pattern : (P : Pattern) → is_plain P ≡ true → (others : List matches.Line) → members E rest ≡ Some others → lines_fit K pick P (top ∷ others) ≡ true → HasResultsBy instances E rule top P
+    by-pattern : (P : Pattern) → takes_one_or_two P ≡ true → (others : List matches.Line) → members E rest ≡ Some others → lines_fit K pick P (top ∷ others) ≡ true → HasResultsBy instances E rule top P
         → given_by rule (matched K pick (top ∷ others)) ≡ Ok s → is_there K E s top.class ≡ true
     by-pattern (One O) is [] at fits has given = let parts = and_parts _ _ fits in unpicked [] (eqb-true pick 0 parts.0) given (has parts.1)
     by-pattern (One O) is (k ∷ others) at fits has given = cc

@@ -13,10 +13,10 @@ use Rattle.logs.specs.Members.{is_member}
 use Rattle.closure.specs.Closed.{HasResult}
 
 -- whether a pattern is of one line or of two, with nothing picked. So is each of the book.
-abbrev pub is_plain : Pattern → Bool
-is_plain (One O) = true
-is_plain (Two O b) = true
-is_plain pattern = false
+abbrev pub takes_one_or_two : Pattern → Bool
+takes_one_or_two (One O) = true
+takes_one_or_two (Two O b) = true
+takes_one_or_two pattern = false
 
 module _ (instances : List TableInstance) (E : Log) where
   -- over the line of this number, if it has an expression

@@ -11,7 +11,7 @@ use props::KnownClasses;
 use std::alloc::{AllocError, Global};
 
 /// An operator, whatever it stands over.
-#[derive(Clone, Copy, Debug, PartialEq, Eq)]
+#[derive(Clone, Copy)]
 pub enum Operator {
     Get,
     Select,
@@ -25,28 +25,28 @@ pub enum Operator {
 }
 
 /// The operators that a line may have.
-#[derive(Clone, Copy, Debug, PartialEq, Eq)]
+#[derive(Clone, Copy)]
 pub enum Operators {
     Only(Operator),
     Either(Operator, Operator),
 }
 
 /// Which of the classes whose rows a line takes.
-#[derive(Clone, Copy, Debug, PartialEq, Eq)]
+#[derive(Clone, Copy)]
 pub enum Input {
     First,
     Second,
 }
 
 /// A line of a class that the line above it takes.
-#[derive(Clone, Copy, Debug, PartialEq, Eq)]
+#[derive(Clone, Copy)]
 pub struct Below {
     pub input: Input,
     pub operators: Operators,
 }
 
 /// The lines that a rule takes, the top first. Where there is no choice, nothing is picked.
-#[derive(Clone, Copy, Debug, PartialEq, Eq)]
+#[derive(Clone, Copy)]
 pub enum Pattern {
     One(Operators),
     Two(Operators, Below),
@@ -61,7 +61,7 @@ pub enum Pattern {
 
 impl Operator {
     /// Whether it is the expression's.
-    pub fn is_of(self, expr: &Expr) -> bool
+    fn is_of(self, expr: &Expr) -> bool
         ensures { result ≡ spec.has_operator expr.now self }
     {
         match (self, expr) {
@@ -105,7 +105,7 @@ impl Input {
 }
 
 /// The class of a condition that is EXISTS or IN of a class, or NOT of such a condition.
-pub fn subquery_of(condition: &Condition) -> Option<ClassId>
+fn subquery_of(condition: &Condition) -> Option<ClassId>
     ensures { result ≡ spec.subquery_of condition.now }
 {
     match condition {

@@ -122,6 +122,9 @@ fn rules_are_found(rt: HostRuntime) {
     ] {
         assert_eq!(rt; RuleName::of_code(code).map(|rule| rule.code()), Some(code));
     }
+    for rule in RuleName::all() {
+        assert_eq!(rt; RuleName::of_code(rule.code()), Some(*rule));
+    }
     for text in ["", "J", "J3", "j1", "J1 ", "JJ1"] {
         assert_eq!(rt; RuleName::of_code(text), None);
     }
