@@ -1,26 +1,26 @@
--- Each rule is applied to one line or to two, of which the second is of the class that the first takes first.
-use Rattle.std.proofs.Common.{◌≡◌, ◌≢◌, refl, ap, sym, ◌∙◌, subst, ℕ, ◌+◌, ◌<◌, Bool, true, false, ◌==◌, if◌then◌else◌, List, [], ◌∷◌, slice_get, Result, Ok, Option, Some, None, arith}
-use Rattle.std.proofs.lemmas.Bool.{eqb-true, eq-eqb}
-use Rattle.values.specs.Faults.{◌>>=◌, wanted}
+-- A rule gives something at lines of its pattern alone. So where each line has its results by the patterns of the rules, all are there.
+use Rattle.std.proofs.Common.{◌≡◌, ◌≢◌, refl, ap, sym, ◌∙◌, subst, ℕ, ◌+◌, ◌<◌, Bool, true, false, ◌==◌, List, [], ◌∷◌, Ok, Err, Option, Some, None, arith, rules}
+use Rattle.std.proofs.lemmas.Bool.{and_parts, eqb-true, eq-eqb}
 use Rattle.query.specs.declared.query.TableInstance.{TableInstance}
-use Rattle.algebra.specs.declared.expr.Expr.{Expr}
-use Rattle.algebra.specs.Expressions.{children}
 use Rattle.props.specs.Knowledge.{Knowledge}
 use Rattle.props.specs.Knowledge as knowledge
 use Rattle.rules.specs.declared.book.RuleName.{RuleName}
-use Rattle.rules.specs.declared.book.RuleName.TheVariants.{JoinCommutes, JoinAssociates, SelectsMerge, SelectBelowJoin, SelectIntoJoin, ConditionBelowJoin, SelectBelowSemi, KeepsMerge, KeepOfAll, KeepBelowJoin, DistinctOfKeyed, GroupIsDistinct}
+use Rattle.rules.specs.declared.pattern.Below.{Below}
+use Rattle.rules.specs.declared.pattern.Pattern.{Pattern}
+use Rattle.rules.specs.declared.pattern.Pattern.TheVariants.{One, Two, Three, Subquery, SubqueryLine, ClassLine}
 use Rattle.rules.specs.declared.shape.Shape.{Shape}
-use Rattle.rules.specs.declared.unfit.Unfit.{Unfit}
-use Rattle.rules.specs.declared.unfit.Unfit.TheVariants.{Pattern}
-use Rattle.rules.specs.Book.{given_by}
+use Rattle.rules.specs.declared.unfit.Unfit.TheVariants.{Pattern as Unfitting}
+use Rattle.rules.specs.Book.{given_by, pattern_of}
 use Rattle.rules.specs.Matches as matches
-use Rattle.rules.specs.Matches.{Matched, one_line, two_lines, the_two, takes, is_first_same}
+use Rattle.rules.specs.Matches.{Matched}
+use Rattle.rules.specs.Patterns.{input_of, is_below, is_line_of, lines_fit}
+use Rattle.rules.proofs.RuleLaws.{book_keeps, each_rule}
 use Rattle.derivation.specs.Logs as logs
 use Rattle.derivation.specs.Logs.{Log, member}
 use Rattle.derivation.specs.Replay.{both_lines, members}
-use Rattle.logs.specs.Members.{is_member, is_of}
+use Rattle.logs.specs.Members.{is_of}
 use Rattle.closure.specs.Closed.{HasResult, HasResults, is_there}
-use Rattle.closure.specs.Lines.{HasResultsAt, HasResultsOf}
+use Rattle.closure.specs.Lines.{takes_one_or_two, HasResultsOverInput, HasResultsBy, HasResultsOf}
 
 -- lines of which the first has an expression, and the others
 record Cited (E : Log) (uses : List ℕ) (top : matches.Line) (others : List matches.Line) : Type 0 where
@@ -42,68 +42,35 @@ cited E (i ∷ rest) top others is = by (member E i) refl (members E rest) refl 
 equal-turned : (a b : ℕ) → (a == b) ≡ true → (b == a) ≡ true
 equal-turned a b is = eq-eqb b a (sym (eqb-true a b is))
 
--- ---- the lines of a rule that fits
+-- ---- the lines of a rule that gives something
 
 abbrev matched : Knowledge → ℕ → List matches.Line → Matched
-matched K pick found = record { lines = found; pick = pick; classes = K }
+matched K pick lines = record { lines = lines; pick = pick; classes = K }
 
-record FitsOne (pick : ℕ) (others : List matches.Line) : Type 0 where
-  pick_is : pick ≡ 0
-  others_are : others ≡ []
-
-record FitsTwo (K : Knowledge) (pick : ℕ) (top : matches.Line) (others : List matches.Line) : Type 0 where
-  pick_is : pick ≡ 0
-  below : matches.Line
-  others_are : others ≡ below ∷ []
-  takes_it : takes K top.expr below.class ≡ true
-
-fits-one : (K : Knowledge) (rewrite : Expr → Result Shape Unfit) (pick : ℕ) (top : matches.Line) (others : List matches.Line) (s : Shape)
-    → (wanted Pattern (one_line (matched K pick (top ∷ others))) >>= rewrite) ≡ Ok s → FitsOne pick others
-fits-one K rewrite pick top [] s given = by (pick == 0) refl given
+-- they are of its pattern
+fitting : (K : Knowledge) (rule : RuleName) (pick : ℕ) (lines : List matches.Line) (s : Shape) → given_by rule (matched K pick lines) ≡ Ok s → lines_fit K pick (pattern_of rule) lines ≡ true
+fitting K rule pick lines s given = by (lines_fit K pick (pattern_of rule) lines) refl
   where
-    by : (b : Bool) → (pick == 0) ≡ b → (wanted Pattern (if b then Some top.expr else None) >>= rewrite) ≡ Ok s → FitsOne pick []
-    by true zero given = record { pick_is = eqb-true pick 0 zero; others_are = refl }
-    by false other given = cc
-fits-one K rewrite pick top (k ∷ others) s given = by (pick == 0) given
-  where
-    by : (b : Bool) → (wanted Pattern (if b then None else None) >>= rewrite) ≡ Ok s → FitsOne pick (k ∷ others)
-    by true given = cc
-    by false given = cc
+    by : (b : Bool) → lines_fit K pick (pattern_of rule) lines ≡ b → b ≡ true
+    by true is = refl
+    by false is = absurd (let never : Ok s ≡ Err Unfitting = sym given ∙ book_keeps rule (matched K pick lines) is in cc)
 
-fits-two : (K : Knowledge) (rewrite : Expr × Expr → Result Shape Unfit) (pick : ℕ) (top : matches.Line) (others : List matches.Line) (s : Shape)
-    → (wanted Pattern (two_lines (matched K pick (top ∷ others))) >>= rewrite) ≡ Ok s → FitsTwo K pick top others
-fits-two K rewrite pick top [] s given = by (pick == 0) given
-  where
-    by : (b : Bool) → (wanted Pattern (if b then None else None) >>= rewrite) ≡ Ok s → FitsTwo K pick top []
-    by true given = cc
-    by false given = cc
-fits-two K rewrite pick top (k ∷ []) s given = by (pick == 0) refl given
-  where
-    or : (pick ≡ 0) → (b : Bool) → takes K top.expr k.class ≡ b → (wanted Pattern (if b then Some (top.expr, k.expr) else None) >>= rewrite) ≡ Ok s → FitsTwo K pick top (k ∷ [])
-    or zero true taken given = record { pick_is = zero; below = k; others_are = refl; takes_it = taken }
-    or zero false taken given = cc
+-- a line below the top one
+record IsInput (K : Knowledge) (top : matches.Line) (b : Below) (l : matches.Line) : Type 0 where
+  class : ℕ
+  is : input_of top.expr b.input ≡ Some class
+  same : knowledge.are_same K class l.class ≡ true
 
-    by : (b : Bool) → (pick == 0) ≡ b → (wanted Pattern (if b then the_two K (top ∷ k ∷ []) else None) >>= rewrite) ≡ Ok s → FitsTwo K pick top (k ∷ [])
-    by true zero given = or (eqb-true pick 0 zero) (takes K top.expr k.class) refl given
-    by false other given = cc
-fits-two K rewrite pick top (k ∷ j ∷ others) s given = by (pick == 0) given
+input-is : (K : Knowledge) (top : matches.Line) (b : Below) (l : matches.Line) → is_below K top b l ≡ true → IsInput K top b l
+input-is K top b l below = by (input_of top.expr b.input) refl below
   where
-    by : (b : Bool) → (wanted Pattern (if b then None else None) >>= rewrite) ≡ Ok s → FitsTwo K pick top (k ∷ j ∷ others)
-    by true given = cc
-    by false given = cc
+    by : (o : Option ℕ) → input_of top.expr b.input ≡ o → is_line_of K o b.operators l ≡ true → IsInput K top b l
+    by None at below = cc
+    by (Some g) at below = record { class = g; is = at; same = (and_parts _ _ below).0 }
 
--- the first class that is taken
-record Taken (K : Knowledge) (x : Expr) (g : ℕ) : Type 0 where
-  input : ℕ
-  first : slice_get (children x) 0 ≡ Some input
-  same : knowledge.are_same K input g ≡ true
-
-taken : (K : Knowledge) (x : Expr) (g : ℕ) → takes K x g ≡ true → Taken K x g
-taken K x g is = by (children x) refl is
-  where
-    by : (L : List ℕ) → children x ≡ L → is_first_same K L g ≡ true → Taken K x g
-    by [] at is = cc
-    by (input ∷ others) at is = record { input = input; first = ap (λ L. slice_get L 0) at; same = is }
+-- each pattern of the book is of one line or of two
+plain : (rule : RuleName) → takes_one_or_two (pattern_of rule) ≡ true
+plain = each_rule (λ rule. takes_one_or_two (pattern_of rule) ≡ true) (search rules)
 
 -- ---- all results
 
@@ -111,69 +78,43 @@ module _ (instances : List TableInstance) (E : Log) where
   abbrev K : Knowledge
   K = logs.knowledge instances E
 
-  module _ (top : matches.Line) (rule : RuleName) (pick : ℕ) (others : List matches.Line) where
-    one : (rewrite : Expr → Result Shape Unfit) → given_by rule (matched K pick (top ∷ others)) ≡ (wanted Pattern (one_line (matched K pick (top ∷ others))) >>= rewrite)
-        → HasResult instances E rule 0 top [] → HasResult instances E rule pick top others
-    one rewrite is has s given =
-        let it : FitsOne pick others = fits-one K rewrite pick top others s (sym is ∙ given) in
-        has s (sym (ap (λ n. given_by rule (matched K n (top ∷ []))) it.pick_is) ∙ sym (ap (λ ls. given_by rule (matched K pick (top ∷ ls))) it.others_are) ∙ given)
+  module _ (rule : RuleName) (pick : ℕ) (top : matches.Line) (rest : List ℕ) (s : Shape) where
+    -- what is there where nothing is picked is there whatever is
+    unpicked : (others : List matches.Line) → pick ≡ 0 → given_by rule (matched K pick (top ∷ others)) ≡ Ok s → HasResult instances E rule 0 top others → is_there K E s top.class ≡ true
+    unpicked others zero given has = has s (sym (ap (λ n. given_by rule (matched K n (top ∷ others))) zero) ∙ given)
 
-    -- the rest of the lines that are cited
-    two : (rewrite : Expr × Expr → Result Shape Unfit) → given_by rule (matched K pick (top ∷ others)) ≡ (wanted Pattern (two_lines (matched K pick (top ∷ others))) >>= rewrite)
-        → (rest : List ℕ) → members E rest ≡ Some others
-        → ((g n : ℕ) (l : matches.Line) → slice_get (children top.expr) 0 ≡ Some g → is_member E g n ≡ true → member E n ≡ Some l → HasResult instances E rule 0 top (l ∷ []))
-        → HasResult instances E rule pick top others
-    two rewrite is rest rest-at has s given = by rest (rest-at ∙ ap Some it.others_are)
-      where
-        it : FitsTwo K pick top others
-        it = fits-two K rewrite pick top others s (sym is ∙ given)
+    over : (b : Below) (l : matches.Line) → members E rest ≡ Some (l ∷ []) → is_below K top b l ≡ true → HasResultsOverInput instances E rule top b.input → HasResult instances E rule 0 top (l ∷ [])
+    over b l at below has =
+        let next : Cited E rest l [] = cited E rest l [] at in
+        let input : IsInput K top b l = input-is K top b l below in
+        has input.class next.first input.is (ap (is_of E input.class) next.first_at ∙ equal-turned _ _ input.same) l next.first_at
 
-        by : (rest : List ℕ) → members E rest ≡ Some (it.below ∷ []) → is_there K E s top.class ≡ true
-        by rest at =
-            let next : Cited E rest it.below [] = cited E rest it.below [] at in
-            let input : Taken K top.expr it.below.class = taken K top.expr it.below.class it.takes_it in
-            has input.input next.first it.below input.first (ap (is_of E input.input) next.first_at ∙ equal-turned _ _ input.same) next.first_at s
-            (sym (ap (λ n. given_by rule (matched K n (top ∷ it.below ∷ []))) it.pick_is) ∙ sym (ap (λ ls. given_by rule (matched K pick (top ∷ ls))) it.others_are) ∙ given)
-
-  module _ (each : (i : ℕ) (top : matches.Line) → member E i ≡ Some top → HasResultsAt instances E top) (pick : ℕ) (uses : List ℕ) (top : matches.Line) (others : List matches.Line) (is : members E uses ≡ Some (top ∷ others)) where
-    first : Cited E uses top others
-    first = cited E uses top others is
-
-    at : HasResultsAt instances E top
-    at = each first.first top first.first_at
-
-    all-results : (rule : RuleName) → HasResult instances E rule pick top others
-    all-results JoinCommutes = one top JoinCommutes pick others _ refl at.alone.0
-    all-results ConditionBelowJoin = one top ConditionBelowJoin pick others _ refl at.alone.1.0
-    all-results KeepOfAll = one top KeepOfAll pick others _ refl at.alone.1.1.0
-    all-results DistinctOfKeyed = one top DistinctOfKeyed pick others _ refl at.alone.1.1.1.0
-    all-results GroupIsDistinct = one top GroupIsDistinct pick others _ refl at.alone.1.1.1.1.0
-    all-results JoinAssociates = two top JoinAssociates pick others _ refl first.rest first.rest_at (λ g n l input of there. (at.over g n input of l there).0)
-    all-results SelectsMerge = two top SelectsMerge pick others _ refl first.rest first.rest_at (λ g n l input of there. (at.over g n input of l there).1.0)
-    all-results SelectBelowJoin = two top SelectBelowJoin pick others _ refl first.rest first.rest_at (λ g n l input of there. (at.over g n input of l there).1.1.0)
-    all-results SelectIntoJoin = two top SelectIntoJoin pick others _ refl first.rest first.rest_at (λ g n l input of there. (at.over g n input of l there).1.1.1.0)
-    all-results SelectBelowSemi = two top SelectBelowSemi pick others _ refl first.rest first.rest_at (λ g n l input of there. (at.over g n input of l there).1.1.1.1.0)
-    all-results KeepsMerge = two top KeepsMerge pick others _ refl first.rest first.rest_at (λ g n l input of there. (at.over g n input of l there).1.1.1.1.1.0)
-    all-results KeepBelowJoin = two top KeepBelowJoin pick others _ refl first.rest first.rest_at (λ g n l input of there. (at.over g n input of l there).1.1.1.1.1.1.0)
+    by-pattern : (P : Pattern) → takes_one_or_two P ≡ true → (others : List matches.Line) → members E rest ≡ Some others → lines_fit K pick P (top ∷ others) ≡ true → HasResultsBy instances E rule top P
+        → given_by rule (matched K pick (top ∷ others)) ≡ Ok s → is_there K E s top.class ≡ true
+    by-pattern (One O) is [] at fits has given = let parts = and_parts _ _ fits in unpicked [] (eqb-true pick 0 parts.0) given (has parts.1)
+    by-pattern (One O) is (k ∷ others) at fits has given = cc
+    by-pattern (Two O b) is [] at fits has given = cc
+    by-pattern (Two O b) is (k ∷ []) at fits has given =
+        let parts = and_parts _ _ fits in
+        let first = and_parts _ _ parts.0 in
+        unpicked (k ∷ []) (eqb-true pick 0 first.0) given (over b k at parts.1 (has first.1))
+    by-pattern (Two O b) is (k ∷ j ∷ others) at fits has given = cc
+    by-pattern (Three O b c) is others at fits has given = cc
+    by-pattern Subquery is others at fits has given = cc
+    by-pattern (SubqueryLine O) is others at fits has given = cc
+    by-pattern (ClassLine O) is others at fits has given = cc
 
   -- where each line has its results, all are there
   pub results-from : ((i : ℕ) → HasResultsOf instances E i) → HasResults instances E
-  results-from each rule pick uses top others is = all-results each pick uses top others is rule
+  results-from each rule pick uses top others is s given =
+      let first : Cited E uses top others = cited E uses top others is in
+      by-pattern rule pick top first.rest s (pattern_of rule) (plain rule) others first.rest_at (fitting K rule pick (top ∷ others) s given) (each first.first top first.first_at rule) given
 
   pub cited-one : (i : ℕ) (top : matches.Line) → member E i ≡ Some top → members E (i ∷ []) ≡ Some (top ∷ [])
   cited-one i top there = ap (λ o. both_lines o (Some [])) there
 
   pub cited-two : (i n : ℕ) (top l : matches.Line) → member E i ≡ Some top → member E n ≡ Some l → members E (i ∷ n ∷ []) ≡ Some (top ∷ l ∷ [])
   cited-two i n top l there other = ap (λ o. both_lines o (members E (n ∷ []))) there ∙ ap (both_lines (Some top)) (cited-one n l other)
-
-  -- and the other way round
-  pub results-at : HasResults instances E → (i : ℕ) → HasResultsOf instances E i
-  results-at all i top there = record {
-    alone = let it = λ (rule : RuleName). all rule 0 (i ∷ []) top [] (cited-one i top there) in (it JoinCommutes, (it ConditionBelowJoin, (it KeepOfAll, (it DistinctOfKeyed, (it GroupIsDistinct, tt)))));
-    over = λ g n input of l below.
-        let it = λ (rule : RuleName). all rule 0 (i ∷ n ∷ []) top (l ∷ []) (cited-two i n top l there below) in
-        (it JoinAssociates, (it SelectsMerge, (it SelectBelowJoin, (it SelectIntoJoin, (it SelectBelowSemi, (it KeepsMerge, (it KeepBelowJoin, tt)))))));
-  }
 
 -- ---- so far
 

@@ -1,15 +1,16 @@
 -- What a log lacks, and that it is closed where it lacks nothing.
-use Rattle.std.proofs.Common.{◌≡◌, ap, sym, ◌∙◌, subst, ℕ, Bool, true, false, List, [], ◌∷◌, length, slice_get, Option, Some, None, Ok, Err, IsTrue, option_to_list}
-use Rattle.std.specs.List.{AllByRecursion}
+use Rattle.std.proofs.Common.{◌≡◌, ap, sym, ◌∙◌, subst, ℕ, Bool, true, false, List, [], ◌∷◌, length, Option, Some, None, Ok, Err, IsTrue, option_to_list}
 use Rattle.query.specs.declared.query.TableInstance.{TableInstance}
 use Rattle.algebra.specs.Alike.{AreAlike}
 use Rattle.algebra.specs.Columns.{has, columns_at}
-use Rattle.algebra.specs.Expressions.{children}
 use Rattle.rules.specs.declared.book.RuleName.{RuleName}
+use Rattle.rules.specs.declared.pattern.Input.{Input}
 use Rattle.rules.specs.declared.shape.Shape.{Shape}
 use Rattle.rules.specs.declared.unfit.Unfit.{Unfit}
-use Rattle.rules.specs.Book.{given_by}
+use Rattle.rules.specs.Book.{given_by, pattern_of, rules}
 use Rattle.rules.specs.Matches as matches
+use Rattle.rules.specs.Patterns.{input_of}
+use Rattle.rules.proofs.RuleLaws.{each_rule}
 use Rattle.derivation.specs.Logs.{Log, member, least, are_same, knowledge}
 use Rattle.derivation.proofs.Lookups.{member-within}
 use Rattle.logs.specs.Members.{is_member, once_if}
@@ -17,9 +18,9 @@ use Rattle.logs.specs.Sets.{times}
 use Rattle.closure.specs.declared.lacks.Binding.{Binding}
 use Rattle.closure.specs.declared.lacks.Missing.{Missing}
 use Rattle.closure.specs.declared.lacks.Missing.TheVariants as lacks
-use Rattle.closure.specs.Closed.{alike, is_there, HasResult, IsClosed}
-use Rattle.closure.specs.Lacking.{Disagrees, LacksAlike, LacksResult, LacksOver, LacksBinding, IsMissing, DisagreeingAmong, DisagreeingWith, ResultTold, LackingAmong, LackingOverLine, LackingOver, LackingOverClass}
-use Rattle.closure.specs.Lines.{one_line, two_lines, HasResultsOver, HasResultsOverClass, HasResultsAt, HasResultsOf}
+use Rattle.closure.specs.Closed.{alike, is_there, IsClosed}
+use Rattle.closure.specs.Lacking.{Disagrees, LacksAlike, LacksResult, LacksOver, LacksBinding, IsMissing, DisagreeingAmong, DisagreeingWith, ResultTold, LackingOver, LackingOverInput, LackingAmong, LackingAt}
+use Rattle.closure.specs.Lines.{HasResultOver, HasResultsBy}
 use Rattle.closure.specs.Places.{place, AreEntered, AgreesAt, Disagree}
 use Rattle.closure.proofs.Agreeing.{alike-are, are-alike, alike-place, each-of}
 use Rattle.closure.proofs.AnyLine.{is-listed}
@@ -71,26 +72,18 @@ module _ (instances : List TableInstance) (E : Log) where
   unfit_told rule lines g u given = λ s at. absurd (let never : Err u ≡ Ok s = sym given ∙ at in cc)
 
   -- over the lines of a class
-  pub over_class : (top : matches.Line) (input : ℕ) (lines : List ℕ) (found : Option (RuleName × ℕ)) → slice_get (children top.expr) 0 ≡ Some input
-      → ((n : ℕ) → times n lines ≡ once_if (is_member E input n)) → LackingOver instances E top lines found → LackingOverClass instances E top found
-  over_class top input lines (Some p) first exact found = found
-  over_class top input lines None first exact all = λ g n at of.
-      let same : g ≡ input = let e : Some g ≡ Some input = sym at ∙ first in cc in
-      each-of (HasResultsOver instances E top) lines all n (is-listed E input lines exact n (ap (λ g. is_member E g n) (sym same) ∙ of))
+  pub over_input : (rule : RuleName) (top : matches.Line) (input : Input) (class : ℕ) (lines : List ℕ) (found : Option ℕ) → input_of top.expr input ≡ Some class
+      → ((n : ℕ) → times n lines ≡ once_if (is_member E class n)) → LackingOver instances E rule top lines found → LackingOverInput instances E rule top input found
+  over_input rule top input class lines (Some n) is exact found = found
+  over_input rule top input class lines None is exact all = λ g n at of.
+      let same : g ≡ class = let e : Some g ≡ Some class = sym at ∙ is in cc in
+      each-of (HasResultOver instances E rule top) lines all n (is-listed E class lines exact n (ap (λ g. is_member E g n) (sym same) ∙ of))
 
-  pub over_none : (top : matches.Line) → slice_get (children top.expr) 0 ≡ None → LackingOverClass instances E top None
-  over_none top none = λ g n at of. absurd (let never : Some g ≡ None = sym at ∙ none in cc)
-
-  pub over_line : (top : matches.Line) (n : ℕ) (l : matches.Line) (found : Option RuleName) → member E n ≡ Some l → LackingAmong instances E two_lines top (l ∷ []) found → LackingOverLine instances E top n found
-  over_line top n l (Some rule) there found = record { line = l; there = there; result = found }
-  over_line top n l None there all = λ k at.
-      let same : l ≡ k = let e : Some l ≡ Some k = sym there ∙ at in cc in
-      subst (λ (k : matches.Line). AllByRecursion (λ rule. HasResult instances E rule 0 top (k ∷ [])) two_lines) same all
-
-  pub at_line : (i : ℕ) (l : matches.Line) → member E i ≡ Some l → AllByRecursion (λ rule. HasResult instances E rule 0 l []) one_line → HasResultsOverClass instances E l → HasResultsOf instances E i
-  at_line i l there alone over = λ top at.
+  pub at_line : (i : ℕ) (l : matches.Line) (found : Option Binding) → member E i ≡ Some l → LackingAmong instances E rules l found → LackingAt instances E i found
+  at_line i l (Some b) there lacking = lacking
+  at_line i l None there all = λ top at.
       let same : l ≡ top = let e : Some l ≡ Some top = sym there ∙ at in cc in
-      subst (HasResultsAt instances E) same (record { alone = alone; over = over })
+      subst (λ (top : matches.Line). (rule : RuleName) → HasResultsBy instances E rule top (pattern_of rule)) same (each_rule (λ rule. HasResultsBy instances E rule l (pattern_of rule)) all)
 
   -- a result that a binding lacks
   pub lacks_alone : (i : ℕ) (top : matches.Line) (rule : RuleName) → member E i ≡ Some top → LacksResult instances E rule (top ∷ []) top.class → LacksBinding instances E (record { rule = rule; top = i; below = None })

@@ -2,8 +2,6 @@ pub mod Agreeing
 pub mod AnyLine
 pub mod Fits
 pub mod FormedLogs
-pub mod FormedResults
-pub mod FormedShapes
 pub mod Founding
 pub mod Lacking
 pub mod Results

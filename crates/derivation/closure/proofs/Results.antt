@@ -29,14 +29,14 @@ use Rattle.derivation.proofs.Lookups.{member-within}
 use Rattle.derivation.proofs.Standing.{StandsFounds, founds-stands}
 use Rattle.logs.proofs.Equations.{class_Class}
 use Rattle.closure.specs.declared.lacks.Binding.{Binding}
-use Rattle.closure.specs.Formed.{formed, IsFormedLine, Rises}
+use Rattle.rules.specs.Formed.{formed, IsFormedLine, Rises}
 use Rattle.closure.specs.Lacking.{LacksAlike, GivesBinding, LacksBinding}
 use Rattle.closure.specs.Results.{uses_of, step_of, AreMatched, IsResult}
 use Rattle.closure.specs.Spelt.{cols, MayStand, shape_columns, IsSpelt}
 use Rattle.closure.proofs.Agreeing.{are-alike}
 use Rattle.closure.proofs.FormedLogs.{AreKept, kept_by}
-use Rattle.closure.proofs.FormedResults.{book_gives_formed}
-use Rattle.closure.proofs.FormedShapes.{formed_class}
+use Rattle.rules.proofs.RuleLaws.{book_formed}
+use Rattle.rules.proofs.FormedShapes.{formed_class}
 
 -- a class is the same as itself
 itself : (n : ℕ) → (n == n) ≡ true
@@ -173,7 +173,7 @@ module _ (instances : List TableInstance) (own : List Aggregation) (E : Log) whe
       given_ = ap (λ ls. given_by b.rule (record { lines = ls; pick = 0; classes = K })) (sym matched.first) ∙ gives
 
       formed : MayStand instances own E s × (shape_columns instances own E s ≡ cols instances E top.class)
-      formed = book_gives_formed b.rule instances own K (founds E) (λ g h same. kept.same g h (eqb-true (least E g) (least E h) same)) 0 top matched.others s given_ (all-lines kept (uses_of b) (top ∷ matched.others) there) rise
+      formed = book_formed b.rule instances own K (founds E) (λ g h same. kept.same g h (eqb-true (least E g) (least E h) same)) 0 top matched.others s given_ (all-lines kept (uses_of b) (top ∷ matched.others) there) rise
 
   pub result_fits : (b : Binding) (lines : List matches.Line) (top : matches.Line) (u : Unfit) → AreMatched E b lines top → GivesBinding instances E b
       → given_by b.rule (record { lines = lines; pick = 0; classes = K }) ≡ Err u → ⊥

@@ -27,11 +27,11 @@ use Rattle.closure.specs.declared.standing.OverOne.{OverOne}
 use Rattle.closure.specs.declared.standing.OverOne.TheVariants as one
 use Rattle.closure.specs.declared.standing.OverTwo.{OverTwo}
 use Rattle.closure.specs.declared.standing.OverTwo.TheVariants as two_
-use Rattle.closure.specs.Formed.{Formed, are_joined, formed}
+use Rattle.rules.specs.Formed.{Formed, are_joined, formed}
 use Rattle.closure.specs.Operators.{over_one, over_two}
 use Rattle.closure.specs.Spelt.{one_shape, two_shape, cols, HasLine, MayStand, MayBeFounded, IsSpelt, IsPlaced}
 use Rattle.closure.proofs.FormedLogs.{kept_by}
-use Rattle.closure.proofs.FormedShapes.{formed_class, formed_select, formed_join, formed_left_join, formed_semi, formed_anti, formed_keep, formed_distinct}
+use Rattle.rules.proofs.FormedShapes.{formed_class, formed_select, formed_join, formed_left_join, formed_semi, formed_anti, formed_keep, formed_distinct}
 
 -- ---- a line with an expression
 

@@ -4,16 +4,18 @@ use Rattle.std.specs.List.{AllByRecursion}
 use Rattle.query.specs.declared.query.TableInstance.{TableInstance}
 use Rattle.algebra.specs.Alike.{AreAlike}
 use Rattle.rules.specs.declared.book.RuleName.{RuleName}
+use Rattle.rules.specs.declared.pattern.Input.{Input}
+use Rattle.rules.specs.declared.pattern.Pattern.{Pattern}
 use Rattle.rules.specs.declared.shape.Shape.{Shape}
-use Rattle.rules.specs.Book.{given_by}
+use Rattle.rules.specs.Book.{given_by, pattern_of}
 use Rattle.rules.specs.Matches as matches
 use Rattle.derivation.specs.Logs.{Log, member, least, are_same, knowledge}
 use Rattle.derivation.specs.Replay.{members}
 use Rattle.closure.specs.declared.lacks.Binding.{Binding}
 use Rattle.closure.specs.declared.lacks.Missing.{Missing}
 use Rattle.closure.specs.declared.lacks.Missing.TheVariants as lacks
-use Rattle.closure.specs.Closed.{is_there, AreUnited, HasResult, HasResults}
-use Rattle.closure.specs.Lines.{HasResultsOver, HasResultsOverClass, HasResultsOf}
+use Rattle.closure.specs.Closed.{is_there, AreUnited, HasResults}
+use Rattle.closure.specs.Lines.{HasResultOver, HasResultsOverInput, HasResultsBy, HasResultsOf}
 use Rattle.closure.specs.Places.{AgreesAt, AgreesWithAll}
 
 -- a line that is alike, and of another class
@@ -80,21 +82,26 @@ module _ (instances : List TableInstance) (E : Log) where
   ResultTold rule lines g true = (s : Shape) → given_by rule (record { lines = lines; pick = 0; classes = knowledge instances E }) ≡ Ok s → is_there (knowledge instances E) E s g ≡ true
   ResultTold rule lines g false = LacksResult instances E rule lines g
 
-  abbrev pub LackingAmong : List RuleName → matches.Line → List matches.Line → Option RuleName → Type 0
-  LackingAmong rules top others (Some rule) = LacksResult instances E rule (top ∷ others) top.class
-  LackingAmong rules top others None = AllByRecursion (λ rule. HasResult instances E rule 0 top others) rules
+  abbrev pub OverLineTold : RuleName → matches.Line → ℕ → Bool → Type 0
+  OverLineTold rule top n true = HasResultOver instances E rule top n
+  OverLineTold rule top n false = LacksOver instances E top rule n
 
-  abbrev pub LackingOverLine : matches.Line → ℕ → Option RuleName → Type 0
-  LackingOverLine top n (Some rule) = LacksOver instances E top rule n
-  LackingOverLine top n None = HasResultsOver instances E top n
+  abbrev pub LackingOver : RuleName → matches.Line → List ℕ → Option ℕ → Type 0
+  LackingOver rule top lines (Some n) = LacksOver instances E top rule n
+  LackingOver rule top lines None = AllByRecursion (HasResultOver instances E rule top) lines
 
-  abbrev pub LackingOver : matches.Line → List ℕ → Option (RuleName × ℕ) → Type 0
-  LackingOver top lines (Some p) = LacksOver instances E top p.0 p.1
-  LackingOver top lines None = AllByRecursion (HasResultsOver instances E top) lines
+  abbrev pub LackingOverInput : RuleName → matches.Line → Input → Option ℕ → Type 0
+  LackingOverInput rule top input (Some n) = LacksOver instances E top rule n
+  LackingOverInput rule top input None = HasResultsOverInput instances E rule top input
 
-  abbrev pub LackingOverClass : matches.Line → Option (RuleName × ℕ) → Type 0
-  LackingOverClass top (Some p) = LacksOver instances E top p.0 p.1
-  LackingOverClass top None = HasResultsOverClass instances E top
+  -- a rule of this pattern, with the line on top
+  abbrev pub LackingBy : RuleName → matches.Line → Pattern → Option Binding → Type 0
+  LackingBy rule top pattern (Some b) = LacksBinding instances E b
+  LackingBy rule top pattern None = HasResultsBy instances E rule top pattern
+
+  abbrev pub LackingAmong : List RuleName → matches.Line → Option Binding → Type 0
+  LackingAmong rules top (Some b) = LacksBinding instances E b
+  LackingAmong rules top None = AllByRecursion (λ rule. HasResultsBy instances E rule top (pattern_of rule)) rules
 
   abbrev pub LackingAt : ℕ → Option Binding → Type 0
   LackingAt i (Some b) = LacksBinding instances E b

@@ -1,5 +1,4 @@
 pub mod Closed
-pub mod Formed
 pub mod Lacking
 pub mod Lines
 pub mod Operators

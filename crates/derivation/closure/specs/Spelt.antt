@@ -20,7 +20,7 @@ use Rattle.closure.specs.declared.standing.OverOne.{OverOne}
 use Rattle.closure.specs.declared.standing.OverOne.TheVariants as one
 use Rattle.closure.specs.declared.standing.OverTwo.{OverTwo}
 use Rattle.closure.specs.declared.standing.OverTwo.TheVariants as two
-use Rattle.closure.specs.Formed.{formed}
+use Rattle.rules.specs.Formed.{formed}
 
 abbrev pub one_shape : OverOne → Shape → Shape
 one_shape (one.Select C) = shape.Select C.now

@@ -1,7 +1,10 @@
 //! What a log lacks to be closed.
 
-ghost use Rattle.std.specs.Prelude.{◌≡◌, ◌↔◌, ◌∷◌, [], length, map, IsTrue, IfOk, IfSome, None};
+ghost use Rattle.std.specs.Prelude.{◌≡◌, ◌↔◌, length, map, IsTrue, IfOk, IfSome, None, Some};
+ghost use Rattle.rules.specs.declared.pattern.Pattern.TheVariants.{One, Two};
+ghost use Rattle.rules.specs.Book.{pattern_of};
 ghost use Rattle.rules.specs.Matches.{line_in};
+ghost use Rattle.derivation.specs.Logs.{member};
 ghost use Rattle.closure.specs.Closed as spec;
 ghost use Rattle.closure.specs.Closed.{AreUnited};
 ghost use Rattle.closure.specs.Lacking as lacking_;
@@ -13,29 +16,9 @@ use crate::standing::is_there;
 use algebra::LineId;
 use logs::Log;
 use query::ids::id_of;
-use rules::{Match, MatchedLine, RuleName};
+use rules::{Below, Input, Match, MatchedLine, Operators, Pattern, RuleName};
 use std::alloc::{AllocError, Global};
 use values::Fault;
-
-/// The rules that are applied to one line.
-const ONE_LINE: [RuleName; 5] = [
-    RuleName::JoinCommutes,
-    RuleName::ConditionBelowJoin,
-    RuleName::KeepOfAll,
-    RuleName::DistinctOfKeyed,
-    RuleName::GroupIsDistinct,
-];
-
-/// The rules that are applied to two, of which the second is of the class that the first takes first.
-const TWO_LINES: [RuleName; 7] = [
-    RuleName::JoinAssociates,
-    RuleName::SelectsMerge,
-    RuleName::SelectBelowJoin,
-    RuleName::SelectIntoJoin,
-    RuleName::SelectBelowSemi,
-    RuleName::KeepsMerge,
-    RuleName::KeepBelowJoin,
-];
 
 /// Whether what a rule gives at lines, if it fits, stands in the class of the top one.
 fn has_result(
@@ -65,113 +48,184 @@ fn has_result(
     }
 }
 
-/// The first of the rules whose result at a line doesn't stand in its class, if there is one.
-fn lacking_at(
+/// Whether what a rule gives at a line over another one, if it fits, stands in the class of the first.
+fn has_result_over(
     alloc: Global,
     log: &Log<'_>,
     over: &[Vec<LineId>],
-    mut rules: &[RuleName],
-    top: MatchedLine<'_>,
-) -> Result<Option<RuleName>, AllocError>
-    requires entered { AreEntered log.now.log (length log.now.log) (map (λ v. v.items) over.now) }
-    requires united { AreUnited log.now.log }
-    ensures { IfOk result (λ found. lacking_.LackingAmong log.now.instances log.now.log rules.entry.now (line_in top.entry) [] found) }
-{
-    'rules: while let [rule, rest @ ..] = rules {
-        if !has_result(alloc, log, over, *rule, &[top], top)? {
-            return Ok(Some(*rule));
-        }
-        rules = rest;
-    }
-    Ok(None)
-}
-
-/// The first of the rules whose result at two lines doesn't stand in the class of the first, if there is one.
-fn lacking_at_two(
-    alloc: Global,
-    log: &Log<'_>,
-    over: &[Vec<LineId>],
-    mut rules: &[RuleName],
-    top: MatchedLine<'_>,
-    below: MatchedLine<'_>,
-) -> Result<Option<RuleName>, AllocError>
-    requires entered { AreEntered log.now.log (length log.now.log) (map (λ v. v.items) over.now) }
-    requires united { AreUnited log.now.log }
-    ensures { IfOk result (λ found. lacking_.LackingAmong log.now.instances log.now.log rules.entry.now (line_in top.entry) (line_in below.entry ∷ []) found) }
-{
-    'rules: while let [rule, rest @ ..] = rules {
-        if !has_result(alloc, log, over, *rule, &[top, below], top)? {
-            return Ok(Some(*rule));
-        }
-        rules = rest;
-    }
-    Ok(None)
-}
-
-/// A rule for two lines whose result at a line and another one doesn't stand in its class, if there is one.
-fn lacking_over_line(
-    alloc: Global,
-    log: &Log<'_>,
-    over: &[Vec<LineId>],
+    rule: RuleName,
     top: MatchedLine<'_>,
     line: LineId,
-) -> Result<Option<RuleName>, AllocError>
+) -> Result<bool, AllocError>
     requires entered { AreEntered log.now.log (length log.now.log) (map (λ v. v.items) over.now) }
     requires united { AreUnited log.now.log }
-    ensures { IfOk result (λ found. lacking_.LackingOverLine log.now.instances log.now.log (line_in top.entry) line found) }
+    ensures { IfOk result (λ has. lacking_.OverLineTold log.now.instances log.now.log rule (line_in top.entry) line has) }
 {
     match log.member(line) {
         Some(below) => {
-            let found = lacking_at_two(alloc, log, over, &TWO_LINES, top, below)?;
-            Ok(found)
+            let has = has_result(alloc, log, over, rule, &[top, below], top)?;
+            Ok(has)
         }
-        None => Ok(None),
+        None => Ok(true),
     }
 }
 
-/// Such a rule, and the line, among lines.
+/// The first of the lines over which the rule's result at a line doesn't stand in its class, if there is one.
 fn lacking_over(
     alloc: Global,
     log: &Log<'_>,
     over: &[Vec<LineId>],
+    rule: RuleName,
     top: MatchedLine<'_>,
     mut lines: &[LineId],
-) -> Result<Option<(RuleName, LineId)>, AllocError>
+) -> Result<Option<LineId>, AllocError>
     requires entered { AreEntered log.now.log (length log.now.log) (map (λ v. v.items) over.now) }
     requires united { AreUnited log.now.log }
-    ensures { IfOk result (λ found. lacking_.LackingOver log.now.instances log.now.log (line_in top.entry) lines.entry.now found) }
+    ensures { IfOk result (λ found. lacking_.LackingOver log.now.instances log.now.log rule (line_in top.entry) lines.entry.now found) }
 {
     'lines: while let [line, rest @ ..] = lines {
-        if let Some(rule) = lacking_over_line(alloc, log, over, top, *line)? {
-            return Ok(Some((rule, *line)));
+        if !has_result_over(alloc, log, over, rule, top, *line)? {
+            return Ok(Some(*line));
         }
         lines = rest;
     }
     Ok(None)
 }
 
-/// Such a rule, and the line, among those of the class that the line takes first.
-fn lacking_over_class(
+/// Such a line among those of the class that the line takes there.
+fn lacking_over_input(
     alloc: Global,
     log: &Log<'_>,
     over: &[Vec<LineId>],
+    rule: RuleName,
     top: MatchedLine<'_>,
-) -> Result<Option<(RuleName, LineId)>, AllocError>
+    input: Input,
+) -> Result<Option<LineId>, AllocError>
     requires entered { AreEntered log.now.log (length log.now.log) (map (λ v. v.items) over.now) }
     requires united { AreUnited log.now.log }
-    ensures { IfOk result (λ found. lacking_.LackingOverClass log.now.instances log.now.log (line_in top.entry) found) }
+    ensures { IfOk result (λ found. lacking_.LackingOverInput log.now.instances log.now.log rule (line_in top.entry) input found) }
 {
-    match top.expr.children() {
-        (Some(input), _) => {
-            let lines = log.members(alloc, input)?;
-            let found = lacking_over(alloc, log, over, top, lines.as_slice())?;
+    match input.of(top.expr) {
+        Some(class) => {
+            let lines = log.members(alloc, class)?;
+            let found = lacking_over(alloc, log, over, rule, top, lines.as_slice())?;
             Ok(found)
         }
-        (None, _) => Ok(None),
+        None => Ok(None),
     }
 }
 
-/// A rule with a line, alone or over another one, whose result doesn't stand in the line's class, if there is one.
+/// The binding of a rule of one line, where its result doesn't stand in the line's class.
+fn lacking_alone(
+    alloc: Global,
+    log: &Log<'_>,
+    over: &[Vec<LineId>],
+    rule: RuleName,
+    line: LineId,
+    top: MatchedLine<'_>,
+    operators: Operators,
+) -> Result<Option<Binding>, AllocError>
+    requires entered { AreEntered log.now.log (length log.now.log) (map (λ v. v.items) over.now) }
+    requires united { AreUnited log.now.log }
+    requires there { member log.now.log line ≡ Some (line_in top) }
+    ensures { IfOk result (λ found. lacking_.LackingBy log.now.instances log.now.log rule (line_in top.entry) (One operators) found) }
+{
+    if !operators.include(top.expr) {
+        return Ok(None);
+    }
+    if has_result(alloc, log, over, rule, &[top], top)? {
+        return Ok(None);
+    }
+    Ok(Some(Binding {
+        rule,
+        top: line,
+        below: None,
+    }))
+}
+
+/// The first binding of a rule of two lines whose result doesn't stand in the class of the first, if there is one.
+fn lacking_pair(
+    alloc: Global,
+    log: &Log<'_>,
+    over: &[Vec<LineId>],
+    rule: RuleName,
+    line: LineId,
+    top: MatchedLine<'_>,
+    operators: Operators,
+    below: Below,
+) -> Result<Option<Binding>, AllocError>
+    requires entered { AreEntered log.now.log (length log.now.log) (map (λ v. v.items) over.now) }
+    requires united { AreUnited log.now.log }
+    requires there { member log.now.log line ≡ Some (line_in top) }
+    ensures { IfOk result (λ found. lacking_.LackingBy log.now.instances log.now.log rule (line_in top.entry) (Two operators below) found) }
+{
+    if !operators.include(top.expr) {
+        return Ok(None);
+    }
+    match lacking_over_input(alloc, log, over, rule, top, below.input)? {
+        Some(lower) => Ok(Some(Binding {
+            rule,
+            top: line,
+            below: Some(lower),
+        })),
+        None => Ok(None),
+    }
+}
+
+/// The first binding of a rule with the line on top whose result doesn't stand in the line's class, if there is one.
+fn lacking_by(
+    alloc: Global,
+    log: &Log<'_>,
+    over: &[Vec<LineId>],
+    rule: RuleName,
+    line: LineId,
+    top: MatchedLine<'_>,
+) -> Result<Option<Binding>, AllocError>
+    requires entered { AreEntered log.now.log (length log.now.log) (map (λ v. v.items) over.now) }
+    requires united { AreUnited log.now.log }
+    requires there { member log.now.log line ≡ Some (line_in top) }
+    ensures { IfOk result (λ found. lacking_.LackingBy log.now.instances log.now.log rule (line_in top.entry) (pattern_of rule) found) }
+{
+    match rule.pattern() {
+        Pattern::One(operators) => {
+            let found = lacking_alone(alloc, log, over, rule, line, top, operators)?;
+            Ok(found)
+        }
+        Pattern::Two(operators, below) => {
+            let found = lacking_pair(alloc, log, over, rule, line, top, operators, below)?;
+            Ok(found)
+        }
+        Pattern::Three(_, _, _) => Ok(None),
+        Pattern::Subquery => Ok(None),
+        Pattern::SubqueryLine(_) => Ok(None),
+        Pattern::ClassLine(_) => Ok(None),
+    }
+}
+
+/// Such a binding, of one of the rules.
+fn lacking_among(
+    alloc: Global,
+    log: &Log<'_>,
+    over: &[Vec<LineId>],
+    mut rules: &[RuleName],
+    line: LineId,
+    top: MatchedLine<'_>,
+) -> Result<Option<Binding>, AllocError>
+    requires entered { AreEntered log.now.log (length log.now.log) (map (λ v. v.items) over.now) }
+    requires united { AreUnited log.now.log }
+    requires there { member log.now.log line ≡ Some (line_in top) }
+    ensures { IfOk result (λ found. lacking_.LackingAmong log.now.instances log.now.log rules.entry.now (line_in top.entry) found) }
+{
+    'rules: while let [rule, rest @ ..] = rules {
+        if let Some(binding) = lacking_by(alloc, log, over, *rule, line, top)? {
+            return Ok(Some(binding));
+        }
+        rules = rest;
+    }
+    Ok(None)
+}
+
+/// Such a binding, of any rule of the book and the line of a number.
 fn lacking_of(
     alloc: Global,
     log: &Log<'_>,
@@ -185,21 +239,8 @@ fn lacking_of(
     let Some(top) = log.member(line) else {
         return Ok(None);
     };
-    if let Some(rule) = lacking_at(alloc, log, over, &ONE_LINE, top)? {
-        return Ok(Some(Binding {
-            rule,
-            top: line,
-            below: None,
-        }));
-    }
-    match lacking_over_class(alloc, log, over, top)? {
-        Some((rule, below)) => Ok(Some(Binding {
-            rule,
-            top: line,
-            below: Some(below),
-        })),
-        None => Ok(None),
-    }
+    let found = lacking_among(alloc, log, over, RuleName::all(), line, top)?;
+    Ok(found)
 }
 
 /// A rule with lines whose result doesn't stand in the class of the top one, if there is one.

@@ -4,7 +4,8 @@ ghost use Rattle.std.specs.Prelude.{◌≡◌, [], map, true, Ok, IfOk};
 ghost use Rattle.rules.specs.Matches.{line_in};
 ghost use Rattle.derivation.specs.Logs.{founds, knowledge};
 ghost use Rattle.derivation.specs.Replay.{stands};
-ghost use Rattle.closure.specs.Formed.{BookGivesFormed, Rises};
+ghost use Rattle.rules.specs.Book.{BookIsFormed};
+ghost use Rattle.rules.specs.Formed.{Rises};
 ghost use Rattle.closure.specs.Lacking.{GivesBinding, IsMissing};
 ghost use Rattle.closure.specs.Results as spec;
 ghost use Rattle.closure.specs.Steps.{is_step};
@@ -137,7 +138,7 @@ pub fn line_of(alloc: Global, log: &Log<'_>, binding: Binding) -> Result<Line, A
 
 /// Of lines that may stand each rule gives what may stand too, with the columns of the top line's class. This does nothing: its contract is the law.
 pub fn results_may_stand()
-    ensures { BookGivesFormed }
+    ensures { BookIsFormed }
 {}
 
 /// A line that may stand behind the log and adds something of what it lacks: that two lines are alike, what the rule gives, or else the first expression

@@ -1,12 +1,12 @@
 -- Conjuncts that mention no column of a class, and lists taken apart.
-use Rattle.std.proofs.Common.{◌≡◌, refl, inl, inr, ℕ, Bool, true, false, not, if◌then◌else◌, List, [], ◌∷◌, Result, Ok}
+use Rattle.std.proofs.Common.{◌≡◌, refl, inl, inr, ℕ, Bool, true, false, not, List, [], ◌∷◌, Result, Ok}
 use Rattle.std.specs.List.{list_all}
 use Rattle.std.proofs.lemmas.Bool.{and_parts, or_cases, not-true}
 use Rattle.values.specs.Faults.{◌>>=◌, wanted_if}
 use Rattle.values.specs.Truth.{is_true}
 use Rattle.algebra.specs.declared.condition.Condition.{Condition}
-use Rattle.algebra.specs.Columns.{ColumnSet, has, are_disjoint}
-use Rattle.algebra.specs.Bags.{Env, Bag, lay}
+use Rattle.algebra.specs.Columns.{has, are_disjoint}
+use Rattle.algebra.specs.Bags.{Bag, lay}
 use Rattle.algebra.specs.Conditions.{truth, holds, mentions}
 use Rattle.algebra.specs.Expressions.{mentioned}
 use Rattle.algebra.specs.ConjunctParts.{part, rest}

@@ -1,6 +1,8 @@
 pub mod ConditionBelowJoin
 pub mod Conditions
 pub mod DistinctOfKeyed
+pub mod FormedLines
+pub mod FormedShapes
 pub mod GroupIsDistinct
 pub mod JoinAssociates
 pub mod JoinCommutes
@@ -8,6 +10,7 @@ pub mod KeepBelowJoin
 pub mod KeepOfAll
 pub mod KeepsMerge
 pub mod MatchedLines
+pub mod PatternedLines
 pub mod RuleLaws
 pub mod SelectBelowJoin
 pub mod SelectBelowSemi
@@ -15,3 +18,5 @@ pub mod SelectIntoJoin
 pub mod SelectsMerge
 pub mod Sets
 pub mod ShapeMeanings
+pub mod StableLines
+pub mod Subqueries

@@ -1,23 +1,30 @@
--- The rules by their names in certificates, and what each gives.
-use Rattle.std.specs.Prelude.{ℕ, List, Result, codes}
+-- The rules by their names in certificates, the lines that each takes, and what it gives.
+use Rattle.std.specs.Prelude.{ℕ, List, [], ◌∷◌, Result, codes}
 use Rattle.rules.specs.declared.book.RuleName.{RuleName}
 use Rattle.rules.specs.declared.book.RuleName.TheVariants.{JoinCommutes, JoinAssociates, SelectsMerge, SelectBelowJoin, SelectIntoJoin, ConditionBelowJoin, SelectBelowSemi, KeepsMerge, KeepOfAll, KeepBelowJoin, DistinctOfKeyed, GroupIsDistinct}
 use Rattle.rules.specs.declared.shape.Shape.{Shape}
 use Rattle.rules.specs.declared.unfit.Unfit.{Unfit}
+use Rattle.rules.specs.declared.pattern.Pattern.{Pattern}
+use Rattle.rules.specs.Formed.{IsFormed}
 use Rattle.rules.specs.Matches.{Matched}
+use Rattle.rules.specs.Patterns.{KeepsTo}
 use Rattle.rules.specs.Soundness.{IsSound}
-use Rattle.rules.specs.ConditionBelowJoin.{condition_below_join}
-use Rattle.rules.specs.DistinctOfKeyed.{distinct_of_keyed}
-use Rattle.rules.specs.GroupIsDistinct.{group_is_distinct}
-use Rattle.rules.specs.JoinAssociates.{join_associates}
-use Rattle.rules.specs.JoinCommutes.{join_commutes}
-use Rattle.rules.specs.KeepBelowJoin.{keep_below_join}
-use Rattle.rules.specs.KeepOfAll.{keep_of_all}
-use Rattle.rules.specs.KeepsMerge.{keeps_merge}
-use Rattle.rules.specs.SelectBelowJoin.{select_below_join}
-use Rattle.rules.specs.SelectBelowSemi.{select_below_semi}
-use Rattle.rules.specs.SelectIntoJoin.{select_into_join}
-use Rattle.rules.specs.SelectsMerge.{selects_merge}
+use Rattle.rules.specs.Stability.{IsStable}
+use Rattle.rules.specs.ConditionBelowJoin as condition_below_join
+use Rattle.rules.specs.DistinctOfKeyed as distinct_of_keyed
+use Rattle.rules.specs.GroupIsDistinct as group_is_distinct
+use Rattle.rules.specs.JoinAssociates as join_associates
+use Rattle.rules.specs.JoinCommutes as join_commutes
+use Rattle.rules.specs.KeepBelowJoin as keep_below_join
+use Rattle.rules.specs.KeepOfAll as keep_of_all
+use Rattle.rules.specs.KeepsMerge as keeps_merge
+use Rattle.rules.specs.SelectBelowJoin as select_below_join
+use Rattle.rules.specs.SelectBelowSemi as select_below_semi
+use Rattle.rules.specs.SelectIntoJoin as select_into_join
+use Rattle.rules.specs.SelectsMerge as selects_merge
+
+abbrev pub rules : List RuleName
+rules = JoinCommutes ∷ JoinAssociates ∷ SelectsMerge ∷ SelectBelowJoin ∷ SelectIntoJoin ∷ ConditionBelowJoin ∷ SelectBelowSemi ∷ KeepsMerge ∷ KeepOfAll ∷ KeepBelowJoin ∷ DistinctOfKeyed ∷ GroupIsDistinct ∷ []
 
 abbrev pub code_of : RuleName → List ℕ
 code_of JoinCommutes = codes "J1"
@@ -34,19 +41,43 @@ code_of DistinctOfKeyed = codes "D1"
 code_of GroupIsDistinct = codes "G1"
 
 abbrev pub given_by : RuleName → Matched → Result Shape Unfit
-given_by JoinCommutes = join_commutes
-given_by JoinAssociates = join_associates
-given_by SelectsMerge = selects_merge
-given_by SelectBelowJoin = select_below_join
-given_by SelectIntoJoin = select_into_join
-given_by ConditionBelowJoin = condition_below_join
-given_by SelectBelowSemi = select_below_semi
-given_by KeepsMerge = keeps_merge
-given_by KeepOfAll = keep_of_all
-given_by KeepBelowJoin = keep_below_join
-given_by DistinctOfKeyed = distinct_of_keyed
-given_by GroupIsDistinct = group_is_distinct
+given_by JoinCommutes = join_commutes.join_commutes
+given_by JoinAssociates = join_associates.join_associates
+given_by SelectsMerge = selects_merge.selects_merge
+given_by SelectBelowJoin = select_below_join.select_below_join
+given_by SelectIntoJoin = select_into_join.select_into_join
+given_by ConditionBelowJoin = condition_below_join.condition_below_join
+given_by SelectBelowSemi = select_below_semi.select_below_semi
+given_by KeepsMerge = keeps_merge.keeps_merge
+given_by KeepOfAll = keep_of_all.keep_of_all
+given_by KeepBelowJoin = keep_below_join.keep_below_join
+given_by DistinctOfKeyed = distinct_of_keyed.distinct_of_keyed
+given_by GroupIsDistinct = group_is_distinct.group_is_distinct
 
--- each rule of the book is sound
+abbrev pub pattern_of : RuleName → Pattern
+pattern_of JoinCommutes = join_commutes.pattern
+pattern_of JoinAssociates = join_associates.pattern
+pattern_of SelectsMerge = selects_merge.pattern
+pattern_of SelectBelowJoin = select_below_join.pattern
+pattern_of SelectIntoJoin = select_into_join.pattern
+pattern_of ConditionBelowJoin = condition_below_join.pattern
+pattern_of SelectBelowSemi = select_below_semi.pattern
+pattern_of KeepsMerge = keeps_merge.pattern
+pattern_of KeepOfAll = keep_of_all.pattern
+pattern_of KeepBelowJoin = keep_below_join.pattern
+pattern_of DistinctOfKeyed = distinct_of_keyed.pattern
+pattern_of GroupIsDistinct = group_is_distinct.pattern
+
+-- ---- laws of each rule of the book
+
 abbrev pub BookIsSound : Type 0
 BookIsSound = (rule : RuleName) → IsSound (given_by rule)
+
+abbrev pub BookKeepsToPatterns : Type 0
+BookKeepsToPatterns = (rule : RuleName) → KeepsTo (pattern_of rule) (given_by rule)
+
+abbrev pub BookIsFormed : Type 0
+BookIsFormed = (rule : RuleName) → IsFormed (given_by rule)
+
+abbrev pub BookIsStable : Type 0
+BookIsStable = (rule : RuleName) → IsStable (given_by rule)

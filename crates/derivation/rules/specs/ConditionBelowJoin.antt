@@ -6,12 +6,20 @@ use Rattle.algebra.specs.declared.expr.Expr.{Expr}
 use Rattle.algebra.specs.declared.expr.Expr.TheVariants as expr
 use Rattle.algebra.specs.ConjunctParts.{part, rest}
 use Rattle.props.specs.Knowledge.{Knowledge}
+use Rattle.rules.specs.declared.pattern.Operator.TheVariants as operator
+use Rattle.rules.specs.declared.pattern.Operators.TheVariants.{Only}
+use Rattle.rules.specs.declared.pattern.Pattern as lines
+use Rattle.rules.specs.declared.pattern.Pattern.TheVariants.{One}
 use Rattle.rules.specs.declared.shape.Shape.{Shape}
 use Rattle.rules.specs.declared.shape.Shape.TheVariants.{Class, Select, Join}
 use Rattle.rules.specs.declared.unfit.Unfit.{Unfit}
 use Rattle.rules.specs.declared.unfit.Unfit.TheVariants.{Pattern}
 use Rattle.rules.specs.Conjuncts.{is_apart_from, wanted_some}
 use Rattle.rules.specs.Matches.{Matched, one_line}
+
+-- the lines that it takes
+abbrev pub pattern : lines.Pattern
+pattern = One (Only operator.Join)
 
 abbrev pub lowered : Knowledge → List Condition → ℕ → ℕ → Result Shape Unfit
 lowered K D a b = wanted_some (part (is_apart_from K b) D) >>= λ P. Ok (Join (rest (is_apart_from K b) D) (Select P (Class a)) (Class b))

@@ -4,11 +4,19 @@ use Rattle.values.specs.Faults.{◌>>=◌, wanted}
 use Rattle.algebra.specs.declared.expr.Expr.{Expr}
 use Rattle.algebra.specs.declared.expr.Expr.TheVariants as expr
 use Rattle.props.specs.Knowledge.{Knowledge}
+use Rattle.rules.specs.declared.pattern.Operator.TheVariants as operator
+use Rattle.rules.specs.declared.pattern.Operators.TheVariants.{Only}
+use Rattle.rules.specs.declared.pattern.Pattern as lines
+use Rattle.rules.specs.declared.pattern.Pattern.TheVariants.{One}
 use Rattle.rules.specs.declared.shape.Shape.{Shape}
 use Rattle.rules.specs.declared.shape.Shape.TheVariants.{Class, Keep, Distinct}
 use Rattle.rules.specs.declared.unfit.Unfit.{Unfit}
 use Rattle.rules.specs.declared.unfit.Unfit.TheVariants.{Pattern, Condition}
 use Rattle.rules.specs.Matches.{Matched, one_line}
+
+-- the lines that it takes
+abbrev pub pattern : lines.Pattern
+pattern = One (Only operator.Group)
 
 -- the different keys of a class; without keys there is one group, also of no rows
 abbrev pub different_keys : List ℕ → ℕ → Result Shape Unfit

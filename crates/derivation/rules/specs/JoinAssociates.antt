@@ -7,12 +7,21 @@ use Rattle.algebra.specs.declared.expr.Expr.{Expr}
 use Rattle.algebra.specs.declared.expr.Expr.TheVariants as expr
 use Rattle.algebra.specs.ConjunctParts.{union, part, rest}
 use Rattle.props.specs.Knowledge.{Knowledge}
+use Rattle.rules.specs.declared.pattern.Operator.TheVariants as operator
+use Rattle.rules.specs.declared.pattern.Operators.TheVariants.{Only}
+use Rattle.rules.specs.declared.pattern.Pattern as lines
+use Rattle.rules.specs.declared.pattern.Pattern.TheVariants.{Two}
+use Rattle.rules.specs.Patterns.{first}
 use Rattle.rules.specs.declared.shape.Shape.{Shape}
 use Rattle.rules.specs.declared.shape.Shape.TheVariants.{Class, Join}
 use Rattle.rules.specs.declared.unfit.Unfit.{Unfit}
 use Rattle.rules.specs.declared.unfit.Unfit.TheVariants.{Pattern, Condition as FailedCondition}
 use Rattle.rules.specs.Conjuncts.{is_apart_from}
 use Rattle.rules.specs.Matches.{Matched, two_lines}
+
+-- the lines that it takes
+abbrev pub pattern : lines.Pattern
+pattern = Two (Only operator.Join) (first (Only operator.Join))
 
 abbrev pub reordered : Knowledge → List Condition → List Condition → ℕ → ℕ → ℕ → Result Shape Unfit
 reordered K C D a b z =

@@ -3,11 +3,19 @@ use Rattle.std.specs.Prelude.{Result, Ok, Err}
 use Rattle.values.specs.Faults.{◌>>=◌, wanted}
 use Rattle.algebra.specs.declared.expr.Expr.{Expr}
 use Rattle.algebra.specs.declared.expr.Expr.TheVariants as expr
+use Rattle.rules.specs.declared.pattern.Operator.TheVariants as operator
+use Rattle.rules.specs.declared.pattern.Operators.TheVariants.{Only}
+use Rattle.rules.specs.declared.pattern.Pattern as lines
+use Rattle.rules.specs.declared.pattern.Pattern.TheVariants.{One}
 use Rattle.rules.specs.declared.shape.Shape.{Shape}
 use Rattle.rules.specs.declared.shape.Shape.TheVariants.{Class, Join}
 use Rattle.rules.specs.declared.unfit.Unfit.{Unfit}
 use Rattle.rules.specs.declared.unfit.Unfit.TheVariants.{Pattern}
 use Rattle.rules.specs.Matches.{Matched, one_line}
+
+-- the lines that it takes
+abbrev pub pattern : lines.Pattern
+pattern = One (Only operator.Join)
 
 abbrev pub turned : Expr → Result Shape Unfit
 turned (expr.Join C a b) = Ok (Join C (Class b) (Class a))

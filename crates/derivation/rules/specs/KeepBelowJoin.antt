@@ -7,11 +7,20 @@ use Rattle.algebra.specs.declared.expr.Expr.TheVariants as expr
 use Rattle.algebra.specs.Columns.{has, rising, is_same_set}
 use Rattle.algebra.specs.Expressions.{mentioned}
 use Rattle.props.specs.Knowledge.{Knowledge}
+use Rattle.rules.specs.declared.pattern.Operator.TheVariants as operator
+use Rattle.rules.specs.declared.pattern.Operators.TheVariants.{Only}
+use Rattle.rules.specs.declared.pattern.Pattern as lines
+use Rattle.rules.specs.declared.pattern.Pattern.TheVariants.{Two}
+use Rattle.rules.specs.Patterns.{first}
 use Rattle.rules.specs.declared.shape.Shape.{Shape}
 use Rattle.rules.specs.declared.shape.Shape.TheVariants.{Class, Join, Keep}
 use Rattle.rules.specs.declared.unfit.Unfit.{Unfit}
 use Rattle.rules.specs.declared.unfit.Unfit.TheVariants.{Pattern, Condition as FailedCondition}
 use Rattle.rules.specs.Matches.{Matched, two_lines}
+
+-- the lines that it takes
+abbrev pub pattern : lines.Pattern
+pattern = Two (Only operator.Keep) (first (Only operator.Join))
 
 -- the columns of a class that are kept or that the condition reads
 abbrev pub needed : Knowledge → List ℕ → List Condition → ℕ → List ℕ

@@ -2,6 +2,7 @@ pub mod Book
 pub mod ConditionBelowJoin
 pub mod Conjuncts
 pub mod DistinctOfKeyed
+pub mod Formed
 pub mod GroupIsDistinct
 pub mod JoinAssociates
 pub mod JoinCommutes
@@ -9,9 +10,11 @@ pub mod KeepBelowJoin
 pub mod KeepOfAll
 pub mod KeepsMerge
 pub mod Matches
+pub mod Patterns
 pub mod SelectBelowJoin
 pub mod SelectBelowSemi
 pub mod SelectIntoJoin
 pub mod SelectsMerge
 pub mod Shapes
 pub mod Soundness
+pub mod Stability

@@ -6,6 +6,11 @@ use Rattle.algebra.specs.declared.expr.Expr.{Expr}
 use Rattle.algebra.specs.declared.expr.Expr.TheVariants as expr
 use Rattle.algebra.specs.ConjunctParts.{part, rest}
 use Rattle.props.specs.Knowledge.{Knowledge}
+use Rattle.rules.specs.declared.pattern.Operator.TheVariants as operator
+use Rattle.rules.specs.declared.pattern.Operators.TheVariants.{Only}
+use Rattle.rules.specs.declared.pattern.Pattern as lines
+use Rattle.rules.specs.declared.pattern.Pattern.TheVariants.{Two}
+use Rattle.rules.specs.Patterns.{first}
 use Rattle.rules.specs.declared.shape.Shape.{Shape}
 use Rattle.rules.specs.declared.shape.Shape.TheVariants.{Class, Select, Join}
 use Rattle.rules.specs.declared.unfit.Unfit.{Unfit}
@@ -13,6 +18,10 @@ use Rattle.rules.specs.declared.unfit.Unfit.TheVariants.{Pattern}
 use Rattle.rules.specs.Conjuncts.{is_apart_from, wanted_some}
 use Rattle.rules.specs.Matches.{Matched, two_lines}
 use Rattle.rules.specs.Shapes.{selected}
+
+-- the lines that it takes
+abbrev pub pattern : lines.Pattern
+pattern = Two (Only operator.Select) (first (Only operator.Join))
 
 abbrev pub pushed : Knowledge → List Condition → List Condition → ℕ → ℕ → Result Shape Unfit
 pushed K C D a b = wanted_some (part (is_apart_from K b) C) >>= λ P. Ok (selected (rest (is_apart_from K b) C) (Join D (Select P (Class a)) (Class b)))

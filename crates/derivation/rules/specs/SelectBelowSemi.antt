@@ -4,11 +4,20 @@ use Rattle.values.specs.Faults.{◌>>=◌, wanted}
 use Rattle.algebra.specs.declared.expr.Expr.{Expr}
 use Rattle.algebra.specs.declared.expr.Expr.TheVariants as expr
 use Rattle.props.specs.Knowledge.{Knowledge}
+use Rattle.rules.specs.declared.pattern.Operator.TheVariants as operator
+use Rattle.rules.specs.declared.pattern.Operators.TheVariants.{Only, Either}
+use Rattle.rules.specs.declared.pattern.Pattern as lines
+use Rattle.rules.specs.declared.pattern.Pattern.TheVariants.{Two}
+use Rattle.rules.specs.Patterns.{first}
 use Rattle.rules.specs.declared.shape.Shape.{Shape}
 use Rattle.rules.specs.declared.shape.Shape.TheVariants.{Class, Select, Semi, Anti}
 use Rattle.rules.specs.declared.unfit.Unfit.{Unfit}
 use Rattle.rules.specs.declared.unfit.Unfit.TheVariants.{Pattern}
 use Rattle.rules.specs.Matches.{Matched, two_lines}
+
+-- the lines that it takes
+abbrev pub pattern : lines.Pattern
+pattern = Two (Only operator.Select) (first (Either operator.Semi operator.Anti))
 
 abbrev pub below_semi : Knowledge → Expr → Expr → Result Shape Unfit
 below_semi K (expr.Select C x) (expr.Semi D a b) = Ok (Semi D (Select C (Class a)) (Class b))

@@ -6,6 +6,11 @@ use Rattle.algebra.specs.declared.expr.Expr.{Expr}
 use Rattle.algebra.specs.declared.expr.Expr.TheVariants as expr
 use Rattle.algebra.specs.ConjunctParts.{union, part, rest, has_no_class}
 use Rattle.props.specs.Knowledge.{Knowledge}
+use Rattle.rules.specs.declared.pattern.Operator.TheVariants as operator
+use Rattle.rules.specs.declared.pattern.Operators.TheVariants.{Only}
+use Rattle.rules.specs.declared.pattern.Pattern as lines
+use Rattle.rules.specs.declared.pattern.Pattern.TheVariants.{Two}
+use Rattle.rules.specs.Patterns.{first}
 use Rattle.rules.specs.declared.shape.Shape.{Shape}
 use Rattle.rules.specs.declared.shape.Shape.TheVariants.{Class, Join}
 use Rattle.rules.specs.declared.unfit.Unfit.{Unfit}
@@ -13,6 +18,10 @@ use Rattle.rules.specs.declared.unfit.Unfit.TheVariants.{Pattern}
 use Rattle.rules.specs.Conjuncts.{wanted_some}
 use Rattle.rules.specs.Matches.{Matched, two_lines}
 use Rattle.rules.specs.Shapes.{selected}
+
+-- the lines that it takes
+abbrev pub pattern : lines.Pattern
+pattern = Two (Only operator.Select) (first (Only operator.Join))
 
 abbrev pub absorbed : List Condition → List Condition → ℕ → ℕ → Result Shape Unfit
 absorbed C D a b = wanted_some (part has_no_class C) >>= λ P. Ok (selected (rest has_no_class C) (Join (union D P) (Class a) (Class b)))

@@ -5,7 +5,7 @@ ghost use Rattle.std.specs.List.{AllByRecursion};
 ghost use Rattle.rules.specs.declared.book.RuleName.{RuleName};
 ghost use Rattle.values.specs.Faults.{Gives};
 ghost use Rattle.rules.specs.Matches.{matched};
-ghost use Rattle.rules.specs.Book.{BookIsSound};
+ghost use Rattle.rules.specs.Book.{BookIsSound, BookKeepsToPatterns, BookIsFormed, BookIsStable};
 ghost use Rattle.rules.specs.Book as spec;
 
 use crate::condition_below_join::ConditionBelowJoin;
@@ -17,6 +17,7 @@ use crate::keep_below_join::KeepBelowJoin;
 use crate::keep_of_all::KeepOfAll;
 use crate::keeps_merge::KeepsMerge;
 use crate::matching::Match;
+use crate::pattern::Pattern;
 use crate::rule::Rule;
 use crate::select_below_join::SelectBelowJoin;
 use crate::select_below_semi::SelectBelowSemi;
@@ -72,6 +73,13 @@ fn with_code(mut rules: &[RuleName], code: &str) -> Option<RuleName>
 }
 
 impl RuleName {
+    /// The rules of the book.
+    pub fn all() -> &'static [RuleName]
+        ensures { result.now ≡ spec.rules }
+    {
+        &RULES
+    }
+
     /// Its name in certificates.
     pub fn code(self) -> &'static str
         ensures { result.now ≡ spec.code_of self }
@@ -99,6 +107,26 @@ impl RuleName {
         with_code(&RULES, code)
     }
 
+    /// The lines that the rule of this name takes.
+    pub fn pattern(self) -> Pattern
+        ensures { result ≡ spec.pattern_of self }
+    {
+        match self {
+            RuleName::JoinCommutes => JoinCommutes::pattern(),
+            RuleName::JoinAssociates => JoinAssociates::pattern(),
+            RuleName::SelectsMerge => SelectsMerge::pattern(),
+            RuleName::SelectBelowJoin => SelectBelowJoin::pattern(),
+            RuleName::SelectIntoJoin => SelectIntoJoin::pattern(),
+            RuleName::ConditionBelowJoin => ConditionBelowJoin::pattern(),
+            RuleName::SelectBelowSemi => SelectBelowSemi::pattern(),
+            RuleName::KeepsMerge => KeepsMerge::pattern(),
+            RuleName::KeepOfAll => KeepOfAll::pattern(),
+            RuleName::KeepBelowJoin => KeepBelowJoin::pattern(),
+            RuleName::DistinctOfKeyed => DistinctOfKeyed::pattern(),
+            RuleName::GroupIsDistinct => GroupIsDistinct::pattern(),
+        }
+    }
+
     /// What the rule of this name gives.
     pub fn apply(self, alloc: Global, at: Match<'_>) -> Result<Shape, RuleFault>
         ensures { Gives (λ s. s) result (spec.given_by self (matched at.entry)) }
@@ -123,4 +151,22 @@ impl RuleName {
 /// The law of the book: each of its rules is sound. The function does nothing: its contract is the law.
 pub fn book_is_sound()
     ensures { BookIsSound }
+{}
+
+/// So is that each rule refuses what isn't of its pattern,
+#[tactic(auto, using(crate::proofs::RuleLaws::book_keeps))]
+pub fn book_keeps_to_patterns()
+    ensures { BookKeepsToPatterns }
+{}
+
+/// that of lines that may stand it gives what may stand too,
+#[tactic(auto, using(crate::proofs::RuleLaws::book_formed))]
+pub fn book_is_formed()
+    ensures { BookIsFormed }
+{}
+
+/// and that what it gives depends on the classes alone that its lines name.
+#[tactic(auto, using(crate::proofs::RuleLaws::book_stable))]
+pub fn book_is_stable()
+    ensures { BookIsStable }
 {}

@@ -5,6 +5,7 @@ ghost use Rattle.props.specs.Knowledge.{known};
 ghost use Rattle.rules.specs.ConditionBelowJoin as spec;
 
 use crate::matching::Match;
+use crate::pattern::{Operator, Operators, Pattern};
 use crate::rule::Rule;
 use crate::shape::Shape;
 use crate::shaping::{join, select, some};
@@ -34,7 +35,13 @@ pub struct ConditionBelowJoin;
 impl Rule for ConditionBelowJoin {
     const CODE: &'static str = "S4";
 
+    ghost pattern = { spec.pattern };
+
     ghost gives = { spec.condition_below_join };
+
+    fn pattern() -> Pattern {
+        Pattern::One(Operators::Only(Operator::Join))
+    }
 
     fn apply(alloc: Global, at: Match<'_>) -> Result<Shape, RuleFault> {
         match at.one_line()? {
@@ -44,4 +51,13 @@ impl Rule for ConditionBelowJoin {
     }
 
     fn is_sound() {}
+
+    #[tactic(auto, using(crate::proofs::ConditionBelowJoin::condition_below_join_keeps))]
+    fn keeps_to_pattern() {}
+
+    #[tactic(auto, using(crate::proofs::ConditionBelowJoin::condition_below_join_formed))]
+    fn is_formed() {}
+
+    #[tactic(auto, using(crate::proofs::ConditionBelowJoin::condition_below_join_stable))]
+    fn is_stable() {}
 }

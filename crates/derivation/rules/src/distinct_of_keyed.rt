@@ -3,6 +3,7 @@
 ghost use Rattle.rules.specs.DistinctOfKeyed as spec;
 
 use crate::matching::Match;
+use crate::pattern::{Operator, Operators, Pattern};
 use crate::rule::Rule;
 use crate::shape::Shape;
 use crate::unfit::{RuleFault, Unfit};
@@ -16,7 +17,13 @@ pub struct DistinctOfKeyed;
 impl Rule for DistinctOfKeyed {
     const CODE: &'static str = "D1";
 
+    ghost pattern = { spec.pattern };
+
     ghost gives = { spec.distinct_of_keyed };
+
+    fn pattern() -> Pattern {
+        Pattern::One(Operators::Only(Operator::Distinct))
+    }
 
     fn apply(alloc: Global, at: Match<'_>) -> Result<Shape, RuleFault> {
         match at.one_line()? {
@@ -32,4 +39,13 @@ impl Rule for DistinctOfKeyed {
     }
 
     fn is_sound() {}
+
+    #[tactic(auto, using(crate::proofs::DistinctOfKeyed::distinct_of_keyed_keeps))]
+    fn keeps_to_pattern() {}
+
+    #[tactic(auto, using(crate::proofs::DistinctOfKeyed::distinct_of_keyed_formed))]
+    fn is_formed() {}
+
+    #[tactic(auto, using(crate::proofs::DistinctOfKeyed::distinct_of_keyed_stable))]
+    fn is_stable() {}
 }

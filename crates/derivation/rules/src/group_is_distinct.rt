@@ -4,6 +4,7 @@ ghost use Rattle.values.specs.Faults.{Gives};
 ghost use Rattle.rules.specs.GroupIsDistinct as spec;
 
 use crate::matching::Match;
+use crate::pattern::{Operator, Operators, Pattern};
 use crate::rule::Rule;
 use crate::shape::Shape;
 use crate::shaping::keep;
@@ -29,7 +30,13 @@ pub struct GroupIsDistinct;
 impl Rule for GroupIsDistinct {
     const CODE: &'static str = "G1";
 
+    ghost pattern = { spec.pattern };
+
     ghost gives = { spec.group_is_distinct };
+
+    fn pattern() -> Pattern {
+        Pattern::One(Operators::Only(Operator::Group))
+    }
 
     fn apply(alloc: Global, at: Match<'_>) -> Result<Shape, RuleFault> {
         match at.one_line()? {
@@ -39,4 +46,13 @@ impl Rule for GroupIsDistinct {
     }
 
     fn is_sound() {}
+
+    #[tactic(auto, using(crate::proofs::GroupIsDistinct::group_is_distinct_keeps))]
+    fn keeps_to_pattern() {}
+
+    #[tactic(auto, using(crate::proofs::GroupIsDistinct::group_is_distinct_formed))]
+    fn is_formed() {}
+
+    #[tactic(auto, using(crate::proofs::GroupIsDistinct::group_is_distinct_stable))]
+    fn is_stable() {}
 }

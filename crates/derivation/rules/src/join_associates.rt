@@ -5,6 +5,7 @@ ghost use Rattle.props.specs.Knowledge.{known};
 ghost use Rattle.rules.specs.JoinAssociates as spec;
 
 use crate::matching::Match;
+use crate::pattern::{Below, Operator, Operators, Pattern};
 use crate::rule::Rule;
 use crate::shape::Shape;
 use crate::shaping::join;
@@ -41,7 +42,16 @@ pub struct JoinAssociates;
 impl Rule for JoinAssociates {
     const CODE: &'static str = "J2";
 
+    ghost pattern = { spec.pattern };
+
     ghost gives = { spec.join_associates };
+
+    fn pattern() -> Pattern {
+        Pattern::Two(
+            Operators::Only(Operator::Join),
+            Below::first(Operators::Only(Operator::Join)),
+        )
+    }
 
     fn apply(alloc: Global, at: Match<'_>) -> Result<Shape, RuleFault> {
         match at.two_lines()? {
@@ -51,4 +61,13 @@ impl Rule for JoinAssociates {
     }
 
     fn is_sound() {}
+
+    #[tactic(auto, using(crate::proofs::JoinAssociates::join_associates_keeps))]
+    fn keeps_to_pattern() {}
+
+    #[tactic(auto, using(crate::proofs::JoinAssociates::join_associates_formed))]
+    fn is_formed() {}
+
+    #[tactic(auto, using(crate::proofs::JoinAssociates::join_associates_stable))]
+    fn is_stable() {}
 }

@@ -3,6 +3,7 @@
 ghost use Rattle.rules.specs.JoinCommutes as spec;
 
 use crate::matching::Match;
+use crate::pattern::{Operator, Operators, Pattern};
 use crate::rule::Rule;
 use crate::shape::Shape;
 use crate::shaping::join;
@@ -17,7 +18,13 @@ pub struct JoinCommutes;
 impl Rule for JoinCommutes {
     const CODE: &'static str = "J1";
 
+    ghost pattern = { spec.pattern };
+
     ghost gives = { spec.join_commutes };
+
+    fn pattern() -> Pattern {
+        Pattern::One(Operators::Only(Operator::Join))
+    }
 
     fn apply(alloc: Global, at: Match<'_>) -> Result<Shape, RuleFault> {
         match at.one_line()? {
@@ -32,4 +39,13 @@ impl Rule for JoinCommutes {
     }
 
     fn is_sound() {}
+
+    #[tactic(auto, using(crate::proofs::JoinCommutes::join_commutes_keeps))]
+    fn keeps_to_pattern() {}
+
+    #[tactic(auto, using(crate::proofs::JoinCommutes::join_commutes_formed))]
+    fn is_formed() {}
+
+    #[tactic(auto, using(crate::proofs::JoinCommutes::join_commutes_stable))]
+    fn is_stable() {}
 }

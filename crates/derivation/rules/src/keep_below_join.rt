@@ -7,6 +7,7 @@ ghost use Rattle.props.specs.Knowledge.{known};
 ghost use Rattle.rules.specs.KeepBelowJoin as spec;
 
 use crate::matching::Match;
+use crate::pattern::{Below, Operator, Operators, Pattern};
 use crate::rule::Rule;
 use crate::shape::Shape;
 use crate::shaping::{join, keep};
@@ -77,7 +78,16 @@ pub struct KeepBelowJoin;
 impl Rule for KeepBelowJoin {
     const CODE: &'static str = "K3";
 
+    ghost pattern = { spec.pattern };
+
     ghost gives = { spec.keep_below_join };
+
+    fn pattern() -> Pattern {
+        Pattern::Two(
+            Operators::Only(Operator::Keep),
+            Below::first(Operators::Only(Operator::Join)),
+        )
+    }
 
     fn apply(alloc: Global, at: Match<'_>) -> Result<Shape, RuleFault> {
         match at.two_lines()? {
@@ -87,4 +97,13 @@ impl Rule for KeepBelowJoin {
     }
 
     fn is_sound() {}
+
+    #[tactic(auto, using(crate::proofs::KeepBelowJoin::keep_below_join_keeps))]
+    fn keeps_to_pattern() {}
+
+    #[tactic(auto, using(crate::proofs::KeepBelowJoin::keep_below_join_formed))]
+    fn is_formed() {}
+
+    #[tactic(auto, using(crate::proofs::KeepBelowJoin::keep_below_join_stable))]
+    fn is_stable() {}
 }

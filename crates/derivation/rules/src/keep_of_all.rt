@@ -3,6 +3,7 @@
 ghost use Rattle.rules.specs.KeepOfAll as spec;
 
 use crate::matching::Match;
+use crate::pattern::{Operator, Operators, Pattern};
 use crate::rule::Rule;
 use crate::shape::Shape;
 use crate::unfit::{RuleFault, Unfit};
@@ -16,7 +17,13 @@ pub struct KeepOfAll;
 impl Rule for KeepOfAll {
     const CODE: &'static str = "K2";
 
+    ghost pattern = { spec.pattern };
+
     ghost gives = { spec.keep_of_all };
+
+    fn pattern() -> Pattern {
+        Pattern::One(Operators::Only(Operator::Keep))
+    }
 
     fn apply(alloc: Global, at: Match<'_>) -> Result<Shape, RuleFault> {
         match at.one_line()? {
@@ -32,4 +39,13 @@ impl Rule for KeepOfAll {
     }
 
     fn is_sound() {}
+
+    #[tactic(auto, using(crate::proofs::KeepOfAll::keep_of_all_keeps))]
+    fn keeps_to_pattern() {}
+
+    #[tactic(auto, using(crate::proofs::KeepOfAll::keep_of_all_formed))]
+    fn is_formed() {}
+
+    #[tactic(auto, using(crate::proofs::KeepOfAll::keep_of_all_stable))]
+    fn is_stable() {}
 }

@@ -3,6 +3,7 @@
 ghost use Rattle.rules.specs.KeepsMerge as spec;
 
 use crate::matching::Match;
+use crate::pattern::{Below, Operator, Operators, Pattern};
 use crate::rule::Rule;
 use crate::shape::Shape;
 use crate::shaping::keep;
@@ -17,7 +18,16 @@ pub struct KeepsMerge;
 impl Rule for KeepsMerge {
     const CODE: &'static str = "K1";
 
+    ghost pattern = { spec.pattern };
+
     ghost gives = { spec.keeps_merge };
+
+    fn pattern() -> Pattern {
+        Pattern::Two(
+            Operators::Only(Operator::Keep),
+            Below::first(Operators::Only(Operator::Keep)),
+        )
+    }
 
     fn apply(alloc: Global, at: Match<'_>) -> Result<Shape, RuleFault> {
         match at.two_lines()? {
@@ -29,4 +39,13 @@ impl Rule for KeepsMerge {
     }
 
     fn is_sound() {}
+
+    #[tactic(auto, using(crate::proofs::KeepsMerge::keeps_merge_keeps))]
+    fn keeps_to_pattern() {}
+
+    #[tactic(auto, using(crate::proofs::KeepsMerge::keeps_merge_formed))]
+    fn is_formed() {}
+
+    #[tactic(auto, using(crate::proofs::KeepsMerge::keeps_merge_stable))]
+    fn is_stable() {}
 }

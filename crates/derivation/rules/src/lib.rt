@@ -11,6 +11,7 @@ pub mod keep_below_join;
 pub mod keep_of_all;
 pub mod keeps_merge;
 pub mod matching;
+pub mod pattern;
 pub mod rule;
 pub mod select_below_join;
 pub mod select_below_semi;
@@ -22,6 +23,7 @@ pub mod unfit;
 
 pub use book::RuleName;
 pub use matching::{Match, MatchedLine};
+pub use pattern::{Below, Input, Operator, Operators, Pattern};
 pub use rule::Rule;
 pub use shape::Shape;
 pub use unfit::{RuleFault, Unfit};

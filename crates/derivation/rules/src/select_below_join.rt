@@ -5,6 +5,7 @@ ghost use Rattle.props.specs.Knowledge.{known};
 ghost use Rattle.rules.specs.SelectBelowJoin as spec;
 
 use crate::matching::Match;
+use crate::pattern::{Below, Operator, Operators, Pattern};
 use crate::rule::Rule;
 use crate::shape::Shape;
 use crate::shaping::{join, select, selected, some};
@@ -37,7 +38,16 @@ pub struct SelectBelowJoin;
 impl Rule for SelectBelowJoin {
     const CODE: &'static str = "S2";
 
+    ghost pattern = { spec.pattern };
+
     ghost gives = { spec.select_below_join };
+
+    fn pattern() -> Pattern {
+        Pattern::Two(
+            Operators::Only(Operator::Select),
+            Below::first(Operators::Only(Operator::Join)),
+        )
+    }
 
     fn apply(alloc: Global, at: Match<'_>) -> Result<Shape, RuleFault> {
         match at.two_lines()? {
@@ -47,4 +57,13 @@ impl Rule for SelectBelowJoin {
     }
 
     fn is_sound() {}
+
+    #[tactic(auto, using(crate::proofs::SelectBelowJoin::select_below_join_keeps))]
+    fn keeps_to_pattern() {}
+
+    #[tactic(auto, using(crate::proofs::SelectBelowJoin::select_below_join_formed))]
+    fn is_formed() {}
+
+    #[tactic(auto, using(crate::proofs::SelectBelowJoin::select_below_join_stable))]
+    fn is_stable() {}
 }

@@ -3,6 +3,7 @@
 ghost use Rattle.rules.specs.SelectBelowSemi as spec;
 
 use crate::matching::Match;
+use crate::pattern::{Below, Operator, Operators, Pattern};
 use crate::rule::Rule;
 use crate::shape::Shape;
 use crate::shaping::{anti, select, semi};
@@ -17,7 +18,16 @@ pub struct SelectBelowSemi;
 impl Rule for SelectBelowSemi {
     const CODE: &'static str = "S5";
 
+    ghost pattern = { spec.pattern };
+
     ghost gives = { spec.select_below_semi };
+
+    fn pattern() -> Pattern {
+        Pattern::Two(
+            Operators::Only(Operator::Select),
+            Below::first(Operators::Either(Operator::Semi, Operator::Anti)),
+        )
+    }
 
     fn apply(alloc: Global, at: Match<'_>) -> Result<Shape, RuleFault> {
         match at.two_lines()? {
@@ -37,4 +47,13 @@ impl Rule for SelectBelowSemi {
     }
 
     fn is_sound() {}
+
+    #[tactic(auto, using(crate::proofs::SelectBelowSemi::select_below_semi_keeps))]
+    fn keeps_to_pattern() {}
+
+    #[tactic(auto, using(crate::proofs::SelectBelowSemi::select_below_semi_formed))]
+    fn is_formed() {}
+
+    #[tactic(auto, using(crate::proofs::SelectBelowSemi::select_below_semi_stable))]
+    fn is_stable() {}
 }

@@ -4,6 +4,7 @@ ghost use Rattle.values.specs.Faults.{Gives};
 ghost use Rattle.rules.specs.SelectIntoJoin as spec;
 
 use crate::matching::Match;
+use crate::pattern::{Below, Operator, Operators, Pattern};
 use crate::rule::Rule;
 use crate::shape::Shape;
 use crate::shaping::{join, selected, some};
@@ -34,7 +35,16 @@ pub struct SelectIntoJoin;
 impl Rule for SelectIntoJoin {
     const CODE: &'static str = "S3";
 
+    ghost pattern = { spec.pattern };
+
     ghost gives = { spec.select_into_join };
+
+    fn pattern() -> Pattern {
+        Pattern::Two(
+            Operators::Only(Operator::Select),
+            Below::first(Operators::Only(Operator::Join)),
+        )
+    }
 
     fn apply(alloc: Global, at: Match<'_>) -> Result<Shape, RuleFault> {
         match at.two_lines()? {
@@ -44,4 +54,13 @@ impl Rule for SelectIntoJoin {
     }
 
     fn is_sound() {}
+
+    #[tactic(auto, using(crate::proofs::SelectIntoJoin::select_into_join_keeps))]
+    fn keeps_to_pattern() {}
+
+    #[tactic(auto, using(crate::proofs::SelectIntoJoin::select_into_join_formed))]
+    fn is_formed() {}
+
+    #[tactic(auto, using(crate::proofs::SelectIntoJoin::select_into_join_stable))]
+    fn is_stable() {}
 }

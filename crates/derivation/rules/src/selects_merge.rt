@@ -3,6 +3,7 @@
 ghost use Rattle.rules.specs.SelectsMerge as spec;
 
 use crate::matching::Match;
+use crate::pattern::{Below, Operator, Operators, Pattern};
 use crate::rule::Rule;
 use crate::shape::Shape;
 use crate::shaping::select;
@@ -17,7 +18,16 @@ pub struct SelectsMerge;
 impl Rule for SelectsMerge {
     const CODE: &'static str = "S1";
 
+    ghost pattern = { spec.pattern };
+
     ghost gives = { spec.selects_merge };
+
+    fn pattern() -> Pattern {
+        Pattern::Two(
+            Operators::Only(Operator::Select),
+            Below::first(Operators::Only(Operator::Select)),
+        )
+    }
 
     fn apply(alloc: Global, at: Match<'_>) -> Result<Shape, RuleFault> {
         match at.two_lines()? {
@@ -29,4 +39,13 @@ impl Rule for SelectsMerge {
     }
 
     fn is_sound() {}
+
+    #[tactic(auto, using(crate::proofs::SelectsMerge::selects_merge_keeps))]
+    fn keeps_to_pattern() {}
+
+    #[tactic(auto, using(crate::proofs::SelectsMerge::selects_merge_formed))]
+    fn is_formed() {}
+
+    #[tactic(auto, using(crate::proofs::SelectsMerge::selects_merge_stable))]
+    fn is_stable() {}
 }

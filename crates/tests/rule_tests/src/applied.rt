@@ -2,7 +2,7 @@
 
 use crate::classes::{Known, known_classes};
 use crate::shapes::push_shape;
-use crate::words::{line_of, number};
+use crate::words::{lines_of, number};
 use algebra::{ClassId, Expr};
 use fixtures::{Reporting, differences};
 use rules::{Match, MatchedLine, RuleFault, RuleName, Shape, Unfit};
@@ -20,15 +20,6 @@ fn push_applied(
         Err(Fault::Refused(Unfit::Condition)) => reported.push_str("the condition fails"),
         Err(Fault::Memory) => Err(AllocError),
     }
-}
-
-/// The lines of a text, with `,` between them.
-fn lines_of(alloc: Global, text: &str) -> Result<Vec<(ClassId, Expr)>, AllocError> {
-    let mut lines = Vec::new(alloc);
-    for words in text.split(", ") {
-        lines.push(line_of(alloc, words)?)?;
-    }
-    Ok(lines)
 }
 
 fn report_applied(
@@ -130,6 +121,9 @@ fn rules_are_found(rt: HostRuntime) {
         "J1", "J2", "S1", "S2", "S3", "S4", "S5", "K1", "K2", "K3", "D1", "G1",
     ] {
         assert_eq!(rt; RuleName::of_code(code).map(|rule| rule.code()), Some(code));
+    }
+    for rule in RuleName::all() {
+        assert_eq!(rt; RuleName::of_code(rule.code()), Some(*rule));
     }
     for text in ["", "J", "J3", "j1", "J1 ", "JJ1"] {
         assert_eq!(rt; RuleName::of_code(text), None);

@@ -16,6 +16,8 @@ mod numbers;
 #[cfg(test)]
 mod outcomes;
 #[cfg(test)]
+mod patterns;
+#[cfg(test)]
 mod shapes;
 #[cfg(test)]
 mod words;

@@ -133,3 +133,12 @@ pub fn line_of(alloc: Global, text: &str) -> Result<(ClassId, Expr), AllocError>
     };
     Ok((number(class), expr))
 }
+
+/// The lines of a text, with `,` between them.
+pub fn lines_of(alloc: Global, text: &str) -> Result<Vec<(ClassId, Expr)>, AllocError> {
+    let mut lines = Vec::new(alloc);
+    for words in text.split(", ") {
+        lines.push(line_of(alloc, words)?)?;
+    }
+    Ok(lines)
+}

@@ -1,7 +1,7 @@
 use Rattle.std.proofs.Common.{ap, sym, ◌∙◌, subst, [], arith}
 use Rattle.props.specs.Knowledge.{Knowledge}
 use Rattle.derivation.specs.Logs.{founds, knowledge}
-use Rattle.closure.specs.Formed.{Rises}
+use Rattle.rules.specs.Formed.{Rises}
 use Rattle.closure.proofs.Results.{class_rises, none_rise}
 use Rattle.closure.proofs.nearer.rises.Goals as goal
 

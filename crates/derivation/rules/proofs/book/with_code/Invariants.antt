@@ -1,4 +1,4 @@
-use Rattle.std.proofs.Common.{◌≡◌, ◌≢◌, length}
+use Rattle.std.proofs.Common.{◌≢◌, length}
 use Rattle.std.specs.List.{AllByRecursion}
 use Rattle.rules.specs.Book.{code_of}
 use Rattle.rules.proofs.book.with_code.Given as goal

@@ -10,11 +10,9 @@ use Rattle.algebra.specs.declared.expr.Expr.TheVariants.{Get, Select, Join, Left
 use Rattle.algebra.specs.Columns.{is_subset, rising}
 use Rattle.algebra.specs.Expressions.{classes_pass, columns_of, is_formed, names_own, sides_formed, subqueries_pass}
 use Rattle.props.specs.Knowledge.{Knowledge, are_same}
-use Rattle.rules.specs.declared.book.RuleName.{RuleName}
 use Rattle.rules.specs.declared.shape.Shape.{Shape, fold-Shape}
 use Rattle.rules.specs.declared.shape.Shape.TheOpen.{Shape-F}
 use Rattle.rules.specs.declared.unfit.Unfit.{Unfit}
-use Rattle.rules.specs.Book.{given_by}
 use Rattle.rules.specs.Matches.{Line, Matched}
 
 -- the columns of a shape, and whether it is well formed
@@ -73,7 +71,7 @@ module _ (instances : List TableInstance) (own : List Aggregation) (K : Knowledg
       → AllByRecursion IsFormedLine (top ∷ others) → Rises top.expr
       → ((formed instances own K.columns founds s).is_formed ≡ true) × ((formed instances own K.columns founds s).columns ≡ K.columns top.class)
 
--- So does each rule of the book, where classes that are the same have the same columns.
-abbrev pub BookGivesFormed : Type 0
-BookGivesFormed = (rule : RuleName) (instances : List TableInstance) (own : List Aggregation) (K : Knowledge) (founds : ℕ → Bool)
-    → ((g h : ℕ) → are_same K g h ≡ true → K.columns g ≡ K.columns h) → GivesFormed instances own K founds (given_by rule)
+-- So does a rule whatever the query, where classes that are the same have the same columns.
+abbrev pub IsFormed : (Matched → Result Shape Unfit) → Type 0
+IsFormed gives = (instances : List TableInstance) (own : List Aggregation) (K : Knowledge) (founds : ℕ → Bool)
+    → ((g h : ℕ) → are_same K g h ≡ true → K.columns g ≡ K.columns h) → GivesFormed instances own K founds gives

@@ -22,7 +22,7 @@ use Rattle.laws.proofs.Expressions.{has-both}
 use Rattle.rules.specs.declared.shape.Shape.{Shape, roll-Shape, fold-roll-Shape, map-Shape}
 use Rattle.rules.specs.declared.shape.Shape.TheOpen.{Shape-F}
 use Rattle.rules.specs.declared.shape.Shape.TheVariants.{Class, Select, Join, LeftJoin, Semi, Anti, Keep, Distinct, rolls-Class, rolls-Select, rolls-Join, rolls-LeftJoin, rolls-Semi, rolls-Anti, rolls-Keep, rolls-Distinct}
-use Rattle.closure.specs.Formed.{Formed, are_formed, are_joined, formed_layer, formed}
+use Rattle.rules.specs.Formed.{Formed, are_formed, are_joined, formed_layer, formed}
 
 -- the classes of both lists' conditions pass
 pub classes-union : (p : ℕ → Bool) (C D : List Condition) → list_all (λ d. all_classes d p) C ≡ true → list_all (λ d. all_classes d p) D ≡ true → list_all (λ d. all_classes d p) (union C D) ≡ true

@@ -1,0 +1,149 @@
+//! Lines that are of a pattern, and lines that aren't.
+
+use crate::classes::{Known, known_classes};
+use crate::words::{lines_of, number};
+use algebra::{ClassId, Expr};
+use fixtures::{Reporting, differences};
+use rules::{Below, Input, Match, MatchedLine, Operator, Operators, Pattern, RuleName};
+use std::alloc::{AllocError, Global};
+
+/// The pattern of the rule of a code, or one by its name: a pattern of each form that no rule has, among them one whose second line is of the right
+/// side of a join.
+fn pattern_of(name: &str) -> Pattern {
+    if let Some(rule) = RuleName::of_code(name) {
+        return rule.pattern();
+    }
+    let select = Operators::Only(Operator::Select);
+    match name {
+        "right" => Pattern::Two(
+            Operators::Only(Operator::Join),
+            Below {
+                input: Input::Second,
+                operators: select,
+            },
+        ),
+        "three" => Pattern::Three(
+            Operators::Only(Operator::Keep),
+            Below {
+                input: Input::First,
+                operators: select,
+            },
+            Below {
+                input: Input::First,
+                operators: Operators::Either(Operator::Join, Operator::LeftJoin),
+            },
+        ),
+        "subquery" => Pattern::Subquery,
+        "subquery line" => Pattern::SubqueryLine(select),
+        "class line" => Pattern::ClassLine(Operators::Either(Operator::Keep, Operator::Distinct)),
+        _ => Pattern::One(Operators::Only(Operator::Join)),
+    }
+}
+
+fn report_fitting(
+    alloc: Global,
+    pattern: Pattern,
+    pick: u32,
+    lines: &[(ClassId, Expr)],
+    known: &Known,
+    reported: &mut String,
+) -> Result<(), AllocError> {
+    let mut matched = Vec::new(alloc);
+    for line in lines {
+        matched.push(MatchedLine {
+            class: line.0,
+            expr: &line.1,
+        })?;
+    }
+    let at = Match {
+        lines: matched.as_slice(),
+        pick,
+        classes: known.lent(),
+    };
+    if pattern.fits(alloc, at)? {
+        reported.push_str("fits")
+    } else {
+        reported.push_str("another form")
+    }
+}
+
+/// Reports whether lines are of the pattern of a name.
+struct Fitting;
+
+impl Reporting for Fitting {
+    fn report(&self, alloc: Global, text: &str, reported: &mut String) -> Result<(), AllocError> {
+        let (name, lines) = text.split_once(": ").unwrap_or((text, ""));
+        let (name, pick) = name.split_once(" pick ").unwrap_or((name, "0"));
+        let lines = lines_of(alloc, lines)?;
+        report_fitting(
+            alloc,
+            pattern_of(name),
+            number(pick),
+            lines.as_slice(),
+            &known_classes(alloc)?,
+            reported,
+        )
+    }
+}
+
+/// The letters of conditions are those of src/words.rt, the classes those of src/classes.rt: 3 and 4 are the same. A list of conditions is ordered,
+/// subqueries last.
+#[test]
+fn patterns_fit(rt: HostRuntime) {
+    const LINES: &str = "one: 3 join 0 1 m => fits
+one: 3 left 0 1 m => another form
+one pick 1: 3 join 0 1 m => another form
+one: 3 join 0 1 m, 0 select 0 l => another form
+right: 5 join 1 2 , 2 select 2 l => fits
+right: 5 join 1 2 , 1 select 1 l => another form
+right: 7 join 0 4 , 3 select 3 l => fits
+right: 5 join 1 2 , 2 distinct 2 => another form
+right: 5 left 1 2 , 2 select 2 l => another form
+right: 5 select 2 l, 2 select 2 l => another form
+right pick 1: 5 join 1 2 , 2 select 2 l => another form
+three: 7 keep 3 0, 4 select 4 l, 3 left 0 1 m => fits
+three: 7 keep 3 0, 4 select 4 l, 3 join 0 1 m => fits
+three: 7 keep 3 0, 4 select 4 l, 3 semi 0 1 m => another form
+three: 7 keep 3 0, 4 select 4 l, 0 left 0 1 m => another form
+three: 7 keep 3 0, 4 select 4 l => another form";
+    const RULES: &str = "J1: 3 join 0 1 m => fits
+J1: 3 left 0 1 m => another form
+J2: 7 join 3 2 u, 3 join 0 1 m => fits
+J2: 7 join 3 2 u, 5 join 1 2 u => another form
+J2: 7 join 3 2 u => another form
+S1: 7 select 3 lr, 4 select 3 rm => fits
+S2: 7 select 3 rx, 3 join 0 1 m => fits
+S2: 7 select 3 rx, 0 join 0 1 m => another form
+S3: 7 select 3 lx, 3 join 0 1 m => fits
+S3: 7 select 3 lx, 3 left 0 1 m => another form
+S4: 3 join 0 1 lm => fits
+S5: 7 select 0 l, 0 semi 0 1 m => fits
+S5: 7 select 0 l, 0 anti 0 1 m => fits
+S5: 7 select 3 l, 3 join 0 1 m => another form
+K1: 7 keep 3 0, 4 keep 3 0 2 => fits
+K2: 7 keep 1 2 => fits
+K2: 7 distinct 1 => another form
+K3: 7 keep 3 1 3, 3 join 0 1 m => fits
+D1: 7 distinct 1 => fits
+G1: 7 group 3 => fits
+G1: 7 distinct 3 => another form";
+    const PICKS: &str = "subquery pick 1: 7 select 3 lx => fits
+subquery pick 0: 7 select 3 lx => another form
+subquery pick 2: 7 select 3 lx => another form
+subquery pick 1: 7 select 3 le => fits
+subquery: 7 distinct 3 => another form
+subquery line pick 1: 7 select 3 lx, 6 select 2 l => fits
+subquery line pick 1: 7 select 3 lx, 6 get 2 => another form
+subquery line pick 1: 7 select 3 lx, 3 select 2 l => another form
+subquery line pick 0: 7 select 3 lx, 6 select 2 l => another form
+subquery line pick 1: 7 select 3 lx => another form
+class line pick 6: 7 select 3 lx, 6 keep 2 4 => fits
+class line pick 6: 7 select 3 lx, 6 distinct 2 => fits
+class line pick 6: 7 select 3 lx, 6 select 2 l => another form
+class line pick 3: 7 select 3 lx, 3 distinct 2 => another form
+class line pick 6: 7 select 3 l, 6 distinct 2 => another form";
+    assert_eq!(rt;
+        differences(rt.alloc(), &[LINES, PICKS, RULES], &Fitting).as_deref(),
+        Ok("")
+    );
+}
