@@ -82,13 +82,7 @@ fn expect_table(alloc: Global, table: &Table, entries: &Value) -> Result<(), Hal
     let name = table.name.as_str();
     let entry = expect_member(alloc, "tables", entries, name)?;
     let place = member_place(alloc, "tables", name)?;
-    expect_first_keys(
-        alloc,
-        place.as_str(),
-        entry,
-        TABLE_KEYS,
-        NEEDED_TABLE_KEYS,
-    )?;
+    expect_first_keys(alloc, place.as_str(), entry, TABLE_KEYS, NEEDED_TABLE_KEYS)?;
     expect_number(alloc, place.as_str(), entry, "rows")?;
     expect_number(alloc, place.as_str(), entry, "pages")?;
     expect_indexes(alloc, place.as_str(), table, entry)?;

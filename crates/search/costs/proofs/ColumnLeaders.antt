@@ -79,10 +79,10 @@ pub one-counted : (P : List (ℕ × ℕ)) (C : List Condition) (c : Condition) (
     → (counted P (C ++ c ∷ []) ≡ counted P C ++ c ∷ []) × (with_equation leaders e ≡ leader_by (with_equations P (C ++ c ∷ [])))
 one-counted P C c leaders e led is new =
     let more : counted P (C ++ c ∷ []) ≡ counted P C ++ c ∷ [] =
-      counted-more P C c ∙ ap (λ b. counted P C ++ (if b then [] else c ∷ [])) (ap (λ f. is_implied f (equation c)) (sym led) ∙ ap (is_implied leaders) (sym is) ∙ new) in
+    counted-more P C c ∙ ap (λ b. counted P C ++ (if b then [] else c ∷ [])) (ap (λ f. is_implied f (equation c)) (sym led) ∙ ap (is_implied leaders) (sym is) ∙ new) in
     let all : with_equations P (C ++ c ∷ []) ≡ with_equations P C ++ option_to_list (equation c) =
-      ap (λ D. P ++ equations D) more ∙ ap (λ Q. P ++ Q) (flat_map-append (λ d. option_to_list (equation d)) (counted P C) (c ∷ []) ∙ ap (λ Q. equations (counted P C) ++ Q) (append-nil (option_to_list (equation c))))
-      ∙ sym (append_assoc P (equations (counted P C)) (option_to_list (equation c))) in
+    ap (λ D. P ++ equations D) more ∙ ap (λ Q. P ++ Q) (flat_map-append (λ d. option_to_list (equation d)) (counted P C) (c ∷ []) ∙ ap (λ Q. equations (counted P C) ++ Q) (append-nil (option_to_list (equation c))))
+    ∙ sym (append_assoc P (equations (counted P C)) (option_to_list (equation c))) in
     (more, ap (λ f. with_equation f e) led ∙ ap (with_equation (leader_by (with_equations P C))) is ∙ sym (ap leader_by all ∙ leader-more (with_equations P C) (equation c)))
 
 -- one that follows isn't
@@ -90,5 +90,5 @@ pub none-counted : (P : List (ℕ × ℕ)) (C : List Condition) (c : Condition) 
     → (counted P (C ++ c ∷ []) ≡ counted P C) × (leaders ≡ leader_by (with_equations P (C ++ c ∷ [])))
 none-counted P C c leaders e led is known =
     let same : counted P (C ++ c ∷ []) ≡ counted P C =
-      counted-more P C c ∙ ap (λ b. counted P C ++ (if b then [] else c ∷ [])) (ap (λ f. is_implied f (equation c)) (sym led) ∙ ap (is_implied leaders) (sym is) ∙ known) ∙ append-nil (counted P C) in
+    counted-more P C c ∙ ap (λ b. counted P C ++ (if b then [] else c ∷ [])) (ap (λ f. is_implied f (equation c)) (sym led) ∙ ap (is_implied leaders) (sym is) ∙ known) ∙ append-nil (counted P C) in
     (same, led ∙ ap (λ D. leader_by (P ++ equations D)) (sym same))

@@ -221,7 +221,12 @@ fn join_rows<'c>(
     let left = class_rows(alloc, by, left, of_left.as_slice())?;
     let right = class_rows(alloc, by, right, of_right.as_slice())?;
     let on = with_others(alloc, on.as_slice(), of_pairs.as_slice())?;
-    let pairs = by.asked(alloc, equations.as_slice(), on.as_slice(), product(left, right))?;
+    let pairs = by.asked(
+        alloc,
+        equations.as_slice(),
+        on.as_slice(),
+        product(left, right),
+    )?;
     Ok(by.passing(others.as_slice(), pairs))
 }
 
@@ -239,7 +244,12 @@ fn left_join_rows(
     let equations = both(alloc, by.root_equations(left), by.root_equations(right))?;
     let (left, right) = (by.root_rows(left), by.root_rows(right));
     let on = lent(alloc, on.as_slice())?;
-    let pairs = by.asked(alloc, equations.as_slice(), on.as_slice(), product(left, right))?;
+    let pairs = by.asked(
+        alloc,
+        equations.as_slice(),
+        on.as_slice(),
+        product(left, right),
+    )?;
     Ok(left.max(pairs))
 }
 

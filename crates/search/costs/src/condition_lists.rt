@@ -7,8 +7,8 @@ ghost use Rattle.algebra.specs.ConjunctParts.{part, rest, has_no_class};
 ghost use Rattle.props.specs.Knowledge.{known};
 ghost use Rattle.costs.specs.Cardinalities as spec;
 
-use crate::numbers::{ALL, per_million};
 use crate::condition_shares::also;
+use crate::numbers::{ALL, per_million};
 use algebra::{ClassId, Condition};
 use props::KnownClasses;
 use query::TableInstance;

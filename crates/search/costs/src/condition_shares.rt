@@ -103,7 +103,11 @@ fn either(first: u64, second: u64) -> u64
 
 /// The share of the rows that make a condition true, in millionths.
 #[cycle(selectivities)]
-pub fn selectivity(statistics: &Statistics, instances: &[TableInstance], condition: &Condition) -> u64
+pub fn selectivity(
+    statistics: &Statistics,
+    instances: &[TableInstance],
+    condition: &Condition,
+) -> u64
     ensures share { result ≡ spec.selectivity statistics.now instances.now condition.now }
     ensures most { result ≤ 1000000 }
 {

@@ -17,14 +17,14 @@ struct Leaders {
 }
 
 /// The entry, whose leader is another one's now.
-fn handed(
-    old: ColumnId,
-    new: ColumnId,
-    entry: (ColumnId, ColumnId),
-) -> (ColumnId, ColumnId)
+fn handed(old: ColumnId, new: ColumnId, entry: (ColumnId, ColumnId)) -> (ColumnId, ColumnId)
     ensures { result ≡ spec.handed old new entry }
 {
-    if entry.1 == old { (entry.0, new) } else { entry }
+    if entry.1 == old {
+        (entry.0, new)
+    } else {
+        entry
+    }
 }
 
 impl Leaders {

@@ -6,8 +6,8 @@ ghost use Rattle.costs.specs.Costs as spec;
 ghost use Rattle.costs.specs.Selectivity.{list_selectivity};
 ghost use Rattle.costs.specs.Tables.{owns};
 
-use crate::numbers::ALL;
 use crate::condition_shares::also;
+use crate::numbers::ALL;
 use crate::tables::owns;
 use algebra::{Condition, Term};
 use query::TableInstance;

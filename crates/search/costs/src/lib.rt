@@ -13,6 +13,6 @@ pub mod plans;
 mod tables;
 
 pub use cardinalities::Cardinalities;
+pub use condition_shares::{selectivity, share_of_key};
 pub use nodes::{Estimate, Inputs, node_cost};
 pub use plans::{cost, estimates};
-pub use condition_shares::{selectivity, share_of_key};

@@ -4,9 +4,9 @@ ghost use Rattle.std.specs.Prelude.{◌≡◌, slice_get, option_map};
 ghost use Rattle.costs.specs.Costs as spec;
 ghost use Rattle.costs.specs.Numbers.{cut};
 
+use crate::condition_shares::share_of_key;
 use crate::index_conjuncts::{are_equated, bounds_selectivity};
 use crate::numbers::{binary_digits, cut, per_million_of_both, sum, with_each};
-use crate::condition_shares::share_of_key;
 use crate::tables::{index_pages_of, index_places, is_unique, keys_of, pages_of, rows_of};
 use algebra::Condition;
 use physical::{GroupMethod, IndexAccess, JoinMethod, Node, Operator};

@@ -52,7 +52,11 @@ pub fn keys_of(statistics: &Statistics, instance: &TableInstance, index: usize) 
 }
 
 /// The different keys of a column of the table, by its place, where they are known.
-pub fn column_keys_of(statistics: &Statistics, instance: &TableInstance, place: usize) -> Option<u64>
+pub fn column_keys_of(
+    statistics: &Statistics,
+    instance: &TableInstance,
+    place: usize,
+) -> Option<u64>
     ensures { result ≡ spec.column_keys_of statistics.now instance.now place }
 {
     let table = statistics.tables.as_slice().get(instance.table)?;

@@ -179,11 +179,7 @@ fn pass(alloc: Global, memo: &mut Memo<'_>, products: Products) -> Result<(), Al
 
 /// Adds what each rule gives at each binding, until the log is full or a pass adds nothing; at those that make products only where these are wanted. Nothing
 /// is said of what it leaves out.
-pub fn apply_all(
-    alloc: Global,
-    memo: &mut Memo<'_>,
-    products: Products,
-) -> Result<(), AllocError>
+pub fn apply_all(alloc: Global, memo: &mut Memo<'_>, products: Products) -> Result<(), AllocError>
     ensures grows { Grows memo.old.log memo.new.log }
     ensures within { IsWithin memo.old.limit memo.old.log memo.new.log }
     ensures limit { memo.new.limit ≡ memo.old.limit }

@@ -8,11 +8,7 @@ use logs::Log;
 use std::alloc::{AllocError, Global};
 
 /// Sets of leaves, of which those that have some of these are put together.
-fn joined(
-    alloc: Global,
-    sets: &[LeafSet],
-    leaves: LeafSet,
-) -> Result<Vec<LeafSet>, AllocError> {
+fn joined(alloc: Global, sets: &[LeafSet], leaves: LeafSet) -> Result<Vec<LeafSet>, AllocError> {
     let mut joined = Vec::new(alloc);
     let mut together = leaves;
     for set in sets {

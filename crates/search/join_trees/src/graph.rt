@@ -364,8 +364,9 @@ impl Graph {
         let mut share = ALL;
         for edge in &self.edges {
             let leaves = edge.leaves;
-            let is_over_both =
-                leaves.is_within(both) && !leaves.is_within(first) && !leaves.is_within(second);
+            let is_over_both = leaves.is_within(both)
+                && !leaves.is_within(first)
+                && !leaves.is_within(second);
             if is_over_both {
                 let is_new = match &mut leaders {
                     Some(leaders) => leaders.is_new(edge.equation),

@@ -6,8 +6,8 @@
 #![tactic(auto)]
 
 mod choice;
-mod connected;
 mod chosen;
+mod connected;
 mod equations;
 mod estimates;
 mod graph;
@@ -16,8 +16,8 @@ mod sets;
 mod subqueries;
 
 pub use choice::{Choice, choose};
-pub use connected::falls_apart;
 pub use chosen::{JoinTree, Joined};
+pub use connected::falls_apart;
 pub use graph::mentioned;
 pub use regions::{
     Parts, Region, Sides, conditions_of, founding_sides, parts_of, place_of, regions_of,

@@ -48,11 +48,13 @@ class_rows-expr_rows-requires t c =
     let root = c.root-root.result in
     let there = slice_get_read by.lines.now (length by.lines.now) root line refl c.in-Some.ensures.lookup.3.0 (c.in-Some.ensures.lookup.3.1 line) in
     let low : root < length by.lines.now = slice_get_within by.lines.now root line there in
-    let size : length c.before-in-Some-founded.result.lines.now ≡ root = ap length c.before-in-Some-founded.ensures.lines_are ∙ length-take-le root by.lines.now (omega (arith, low)) in
-    (omega (arith, low, size), (
-      c.before-in-Some-founded.ensures.rows_are,
+    let size : length c.before-in-Some-founded.result.lines.now ≡ root = ap length c.before-in-Some-founded.ensures.lines_are ∙ length-take-le root by.lines.now (omega (arith, low)) in (
+      omega (arith, low, size),
+      (
+        c.before-in-Some-founded.ensures.rows_are,
         c.own_equations-equations.ensures
-        ∙ equations-at K.root by.lines.now root line there
-        ∙ ap (spec.founded_equations (λ g. spec.own_equations K.root (reverse (take root by.lines.now)) (K.root g))) (sym c.founded.ensures ∙ ap (option_map (λ x. x.now)) c.in-Some-founded.is)
-        ∙ ap (λ P. spec.expr_equations P c.in-Some-founded.expr.now) (sym (equations-before by c.before-in-Some-founded.result root c.before-in-Some-founded.ensures)),
-    ))
+            ∙ equations-at K.root by.lines.now root line there
+            ∙ ap (spec.founded_equations (λ g. spec.own_equations K.root (reverse (take root by.lines.now)) (K.root g))) (sym c.founded.ensures ∙ ap (option_map (λ x. x.now)) c.in-Some-founded.is)
+            ∙ ap (λ P. spec.expr_equations P c.in-Some-founded.expr.now) (sym (equations-before by c.before-in-Some-founded.result root c.before-in-Some-founded.ensures)),
+      ),
+    )

@@ -16,8 +16,8 @@ returns c =
     let f : ℕ × ℕ → ℕ × ℕ = spec.handed c.leader-other.result c.leader-leader.result in
     let all : length c.as_mut_slice-entries.result.now ≤ c.loop-entry.entry-index = omega (arith, c.loop-entry-test.false) in
     let mapped : c.loop-entry.entry-items ≡ map f old =
-      c.loop-entry.invariant ∙ ap (λ xs. map f xs ++ drop c.loop-entry.entry-index c.as_mut_slice-entries.result.now) (take_all c.loop-entry.entry-index c.as_mut_slice-entries.result.now all)
-      ∙ ap (λ xs. map f c.as_mut_slice-entries.result.now ++ xs) (drop_all c.loop-entry.entry-index c.as_mut_slice-entries.result.now all) ∙ append-nil (map f c.as_mut_slice-entries.result.now) ∙ ap (map f) c.as_mut_slice-entries.ensures.value in
+    c.loop-entry.invariant ∙ ap (λ xs. map f xs ++ drop c.loop-entry.entry-index c.as_mut_slice-entries.result.now) (take_all c.loop-entry.entry-index c.as_mut_slice-entries.result.now all)
+    ∙ ap (λ xs. map f c.as_mut_slice-entries.result.now ++ xs) (drop_all c.loop-entry.entry-index c.as_mut_slice-entries.result.now all) ∙ append-nil (map f c.as_mut_slice-entries.result.now) ∙ ap (map f) c.as_mut_slice-entries.ensures.value in
     let kept = with_items_is c.args.self.now.entries c.loop-entry.entry-items (c.loop-entry.auto.entry-items ∙ c.as_mut_slice-entries.ensures.len) in
     leaders-joined old c.push.new.self.items c.args.equation (c.in_ok-push.ensures.items ∙ ap (λ xs. xs ++ (c.leader-other.result, c.leader-leader.result) ∷ []) (kept ∙ mapped)
     ∙ ap (λ (other : ℕ). map (spec.handed other c.leader-leader.result) old ++ (other, c.leader-leader.result) ∷ []) c.leader-other.ensures
