@@ -129,25 +129,37 @@ fn cheapest(
     )
 }
 
+/// What is known of a query's joins once trees are chosen for them.
+#[derive(Clone, Copy)]
+struct Prepared {
+    /// Whether products are to be explored: only where what is joined doesn't hang together by conditions.
+    products: Products,
+    /// What the trees are guessed to cost, if there are any.
+    tree_cost: Option<u64>,
+}
+
 /// Adds what is simpler, and lines by which good join trees are among a log's plans. These put selections over selections, so it is simplified
-/// again. Whether products are to be explored: only where what is joined doesn't hang together by conditions.
+/// again.
 fn prepare(
     alloc: Global,
     planning: Planning<'_>,
     memo: &mut Memo<'_>,
-) -> Result<Products, AllocError> {
+) -> Result<Prepared, AllocError> {
     simplify(alloc, memo)?;
     let products = if falls_apart(alloc, memo.log())? {
         Products::Made
     } else {
         Products::LeftOut
     };
-    seed(alloc, memo, planning.statistics)?;
+    let tree_cost = seed(alloc, memo, planning.statistics)?;
     simplify(alloc, memo)?;
-    Ok(products)
+    Ok(Prepared {
+        products,
+        tree_cost,
+    })
 }
 
-/// How many lines a log may have, so many at most, for it to be worth exploring where a plan is estimated to cost so much.
+/// How many lines a log may have, so many at most, for it to be worth exploring where joins, or a plan without any, are estimated to cost so much.
 fn worthwhile(limit: usize, cost: u64) -> usize {
     match usize::try_from(cost / COST_OF_LINE) {
         Ok(lines) => lines.min(limit),
@@ -195,14 +207,15 @@ fn explored_while_worthwhile(
     alloc: Global,
     planning: Planning<'_>,
     memo: &mut Memo<'_>,
-    products: Products,
+    prepared: Prepared,
 ) -> Result<Option<ExploredPlan>, AllocError> {
     let Some(mut best) = cheapest(alloc, planning, memo.log())? else {
         return Ok(None);
     };
-    let most = worthwhile(planning.limit, best.cost);
+    let worth = prepared.tree_cost.unwrap_or(best.cost);
+    let most = worthwhile(planning.limit, worth.min(best.cost));
     for _ in 0..MOST_DOUBLINGS {
-        match cheaper_over_twice(alloc, planning, memo, products, most, best.cost)? {
+        match cheaper_over_twice(alloc, planning, memo, prepared.products, most, best.cost)? {
             Some(cheaper) => best = cheaper,
             None => break,
         }
@@ -219,9 +232,9 @@ fn cheapest_explored(
     planning: Planning<'_>,
     memo: &mut Memo<'_>,
 ) -> Result<Option<ExploredPlan>, AllocError> {
-    let products = prepare(alloc, planning, memo)?;
+    let prepared = prepare(alloc, planning, memo)?;
     match planning.exploration {
-        Exploration::WhileWorthwhile => explored_while_worthwhile(alloc, planning, memo, products),
+        Exploration::WhileWorthwhile => explored_while_worthwhile(alloc, planning, memo, prepared),
         Exploration::ToLimit => explored(alloc, planning, memo),
     }
 }

@@ -100,24 +100,34 @@ fn seed_tree(
     reach(alloc, memo, &mut nodes, wishes, tree, top)
 }
 
+/// Seeds a region. What its tree is guessed to cost, if one is chosen.
 fn seed_region(
     alloc: Global,
     memo: &mut Memo<'_>,
     statistics: &Statistics,
     region: Region,
-) -> Result<(), AllocError> {
+) -> Result<Option<u64>, AllocError> {
     let parts = parts_of(alloc, memo.log(), region.join)?;
     if parts.leaves.len() > MOST_LEAVES {
-        return Ok(());
+        return Ok(None);
     }
     let choice = choose(alloc, memo.log(), statistics, region, &parts)?;
-    seed_tree(alloc, memo, region, &parts, &choice)
+    seed_tree(alloc, memo, region, &parts, &choice)?;
+    Ok(Some(choice.tree.root().cost))
 }
 
-/// Adds lines to a log so that for each group of inner joins that hang together a tree that seems good is among its plans.
-pub fn seed(alloc: Global, memo: &mut Memo<'_>, statistics: &Statistics) -> Result<(), AllocError> {
+/// Adds lines to a log so that for each group of inner joins that hang together a tree that seems good is among its plans. What these trees are guessed to
+/// cost together, without what stands above them, if any is chosen.
+pub fn seed(
+    alloc: Global,
+    memo: &mut Memo<'_>,
+    statistics: &Statistics,
+) -> Result<Option<u64>, AllocError> {
+    let mut all: Option<u64> = None;
     for region in regions_of(alloc, memo.log())? {
-        seed_region(alloc, memo, statistics, region)?;
+        if let Some(cost) = seed_region(alloc, memo, statistics, region)? {
+            all = Some(all.unwrap_or(0).saturating_add(cost));
+        }
     }
-    Ok(())
+    Ok(all)
 }

@@ -72,7 +72,7 @@ fn explored<'q>(alloc: Global, planning: Planning<'q>) -> Result<Log<'q>, AllocE
     }
     let mut memo = Memo::of(alloc, log, LIMIT)?;
     simplify(alloc, &mut memo)?;
-    seed(alloc, &mut memo, planning.statistics)?;
+    let _ = seed(alloc, &mut memo, planning.statistics)?;
     simplify(alloc, &mut memo)?;
     apply_all(alloc, &mut memo, Products::Made)?;
     Ok(memo.into_log())
