@@ -281,7 +281,7 @@ fn logs_are_explored(rt: HostRuntime) {
 #[test]
 fn logs_are_given_what_they_lack(rt: HostRuntime) {
     const SELECTED: &str =
-        "SELECT d.id FROM dept d, emp e => F get 0; F get 1; F join [] 0 1; F select [>(c0,i5)] 2 / closed; give; closed; explore; give => open; 6; closed; whole; 0; lines F F F F A2 A3 F A3 A3 A3";
+        "SELECT d.id FROM dept d, emp e => F get 0; F get 1; F join [] 0 1; F select [>(c0,i5)] 2 / closed; give; closed; explore; give => open; 6; closed; whole; 0; lines F F F F A2 F A3 A3 A3 A3";
     const ALIKE: &str =
         "SELECT d.id FROM dept d, emp e => F get 0; F get 1; F get 0; F join [] 0 1; F join [] 1 0 / give; closed; explore => 1; closed; whole; lines F F F F F G0,2 A3 G4,6";
     assert_eq!(rt;
