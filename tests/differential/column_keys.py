@@ -38,7 +38,7 @@ def estimated_keys(values):
     there = [value for value in values if value is not None]
     marked = len({mix(number_of(value)) * slots // HALF for value in there})
     thousandths = sum(1000 * slots // (slots - j) for j in range(marked))
-    return min(len(there), -(-thousandths // 1000))
+    return min(len(there), (thousandths + 500) // 1000)
 
 
 def column_keys(values, unique=False):

@@ -1,7 +1,7 @@
 -- How many different keys a column has, Null left out: exactly where it is unique, else as estimated by linear counting (Whang,
 -- Vander-Zanden and Taylor, A linear-time probabilistic counting algorithm for database applications, ACM TODS 15(2), 1990).
 use Rattle.std.specs.Prelude.{◌≡◌, ◌<◌, ℕ, ◌+◌, ◌-◌, ◌*◌, ◌/◌, ◌%◌, ◌^◌, ◌==◌, ◌&&◌, Bool, false, not, List, [], length, map, filter, min, max, sum, nat_eq, slice_index_or, Option, Some, None, if◌then◌else◌}
-use Rattle.std.specs.Int.{cast_unsigned, div_ceil, w64}
+use Rattle.std.specs.Int.{cast_unsigned, w64}
 use Rattle.std.specs.List.{fold, list_any, range_with_len}
 use Rattle.std.specs.Set.{is_member, distinct_count}
 use Rattle.values.specs.Short.{IsShort}
@@ -58,9 +58,9 @@ AreMarked slots values marks = (s : ℕ) → slice_index_or marks s false ≡ is
 abbrev pub thousandths : ℕ → ℕ → ℕ
 thousandths slots marked = sum (map (λ j. 1000 * slots / (slots - j)) (range_with_len 0 marked))
 
--- how many different values are expected, rounded up, of no more than there are values
+-- how many different values are expected, as the nearest whole number, and no more than there are values
 abbrev pub estimate : ℕ → ℕ → ℕ → ℕ
-estimate slots marked values = min values (div_ceil (thousandths slots marked) 1000)
+estimate slots marked values = min values ((thousandths slots marked + 500) / 1000)
 
 -- as many slots as rows
 abbrev pub estimated_keys : ℕ → List Row → ℕ

@@ -130,7 +130,7 @@ fn estimate(slots: usize, marked: usize, values: usize) -> usize
     for taken in 0..marked {
         thousandths += whole / (slots - taken);
     }
-    values.min(thousandths.div_ceil(1000))
+    values.min((thousandths + 500) / 1000)
 }
 
 fn estimated_keys(alloc: Global, rows: &Table, place: usize) -> Result<usize, AllocError>
