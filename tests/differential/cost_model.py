@@ -141,15 +141,20 @@ class Model:
     # ---- cardinality
 
     def passing(self, rows, conditions, sets=()):
-        """Of so many rows those at which conditions are true, a millionth at least. An equality that follows from those before it isn't counted."""
-        counted = []
+        """Of so many rows those at which conditions are true. An equality that follows from those before it isn't counted, and a condition by which a list would
+        keep less than a millionth begins a list of its own."""
+        share, kept = MILLION, lambda: up(rows * max(1, share), MILLION)
         for condition in conditions:
             columns = equated(condition)
             if columns and are_equal(sets, columns):
                 continue
-            counted.append(condition)
             sets = with_equal(sets, columns) if columns else sets
-        return up(rows * max(1, self.all_of(counted)), MILLION)
+            own = self.selectivity(condition)
+            if share * own < MILLION:
+                rows, share = kept(), own
+            else:
+                share = up(share * own, MILLION)
+        return kept()
 
     def of_join(self, conditions, left, right, asked):
         """What names a subquery is asked last; of the rest, what names no column of one side is asked of the other side's rows."""

@@ -1,8 +1,8 @@
 -- The rows of classes at which conditions are true, and the equations of classes, by the first lines of a log.
-use Rattle.std.proofs.Common.{◌≡◌, refl, ap, sym, ◌∙◌, subst, ℕ, zero, suc, ◌+◌, ◌<◌, ◌≤◌, ◌==◌, Bool, true, false, nat_lt, if◌then◌else◌, List, [], ◌∷◌, ◌++◌, length, get_or, reverse, take, drop, Some, slice_get, take-append-drop, inl, inr, arith}
+use Rattle.std.proofs.Common.{◌≡◌, refl, ap, sym, ◌∙◌, ℕ, zero, suc, ◌+◌, ◌<◌, ◌≤◌, ◌==◌, Bool, true, false, nat_lt, if◌then◌else◌, List, [], ◌∷◌, ◌++◌, length, get_or, reverse, take, drop, Some, slice_get, take-append-drop, inl, inr, arith}
 use Rattle.std.proofs.lemmas.Bool.Decides.{eqb_tells}
 use Rattle.std.proofs.lemmas.Bool.{eq-eqb, ne_eqb, ltb-true, ltb-false}
-use Rattle.std.proofs.lemmas.List.{take_more, length-reverse, length-append, length-take-le, reverse-append, get_or-take}
+use Rattle.std.proofs.lemmas.List.{take_more, length-reverse, length-append, length-take-le, reverse-append}
 use Rattle.std.proofs.lemmas.Option.{slice_get_within}
 use Rattle.algebra.specs.declared.condition.Condition.{Condition}
 use Rattle.query.specs.declared.query.TableInstance.{TableInstance}

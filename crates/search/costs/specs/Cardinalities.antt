@@ -3,7 +3,7 @@
 -- What is asked of the rows of an inner join is asked of a side's rows where it names no column of the other side, as JOIN .. ON asks it: so a selection over
 -- joins has the rows of the join of selections. That filters go below joins: Selinger et al., Access path selection in a relational database management system,
 -- 1979. Conditions that follow from others aren't counted (Equalities). The numbers are this project's own.
-use Rattle.std.specs.Prelude.{◌≡◌, ℕ, ◌*◌, ◌==◌, ◌<◌, Bool, max, not, if◌then◌else◌, List, [], ◌∷◌, ◌++◌, filter, length, reverse, take, slice_get, slice_index_or, Option, Some, None}
+use Rattle.std.specs.Prelude.{◌≡◌, ℕ, ◌*◌, ◌==◌, ◌<◌, Bool, nat_lt, max, not, if◌then◌else◌, List, [], ◌∷◌, ◌++◌, fold, map, filter, length, reverse, take, slice_get, slice_index_or, Option, Some, None}
 use Rattle.std.specs.Int.{div_ceil}
 use Rattle.std.specs.List.{list_any}
 use Rattle.query.specs.declared.query.TableInstance.{TableInstance}
@@ -18,20 +18,28 @@ use Rattle.derivation.specs.declared.line.Line.TheVariants.{Founds, Adds, Unites
 use Rattle.derivation.specs.Logs.{Log, knowledge}
 use Rattle.statistics.specs.declared.counts.Statistics.{Statistics}
 use Rattle.costs.specs.declared.cardinalities.Estimator.{Estimator}
+use Rattle.costs.specs.declared.condition_lists.Asked.{Asked}
 use Rattle.costs.specs.Equalities.{counted, with_equations, within}
 use Rattle.costs.specs.Numbers.{cut, per_million}
 use Rattle.costs.specs.Tables.{rows_of}
-use Rattle.costs.specs.Selectivity.{list_selectivity}
+use Rattle.costs.specs.Selectivity.{both, selectivity}
 
 -- ---- conditions
 
--- a millionth at least
-abbrev pub share : Statistics → List TableInstance → List Condition → ℕ
-share S instances C = max 1 (list_selectivity S instances C)
+-- of so many rows those of a share, a millionth at least
+abbrev pub kept : Asked → ℕ
+kept asked = per_million asked.rows (max 1 asked.share)
+
+-- one condition more: where all together would keep less than a millionth, it is asked of the rows that those before it leave
+unfoldable pub also_asked : Asked → ℕ → Asked
+also_asked asked share = if nat_lt (asked.share * share) 1000000 then record { rows = kept asked; share = share } else record { rows = asked.rows; share = both asked.share share }
+
+abbrev pub all_asked : ℕ → List ℕ → Asked
+all_asked rows shares = fold also_asked (record { rows = rows; share = 1000000 }) shares
 
 -- of so many rows, those at which conditions are true
 abbrev pub passing : Statistics → List TableInstance → List Condition → ℕ → ℕ
-passing S instances C rows = per_million rows (share S instances C)
+passing S instances C rows = kept (all_asked rows (map (selectivity S instances) C))
 
 -- the pairs of so many rows that make all conjuncts true
 abbrev pub condition_pairs : Statistics → List TableInstance → List Condition → ℕ → ℕ → ℕ

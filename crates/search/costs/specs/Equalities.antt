@@ -1,6 +1,6 @@
 -- Which columns of rows are equal, by the equations that were asked of them: a condition that follows from others leaves out no row more. That a join's rows
 -- are estimated by one condition for each column that becomes equal to others: Swami and Schiefer, On the estimation of join result sizes, 1994.
-use Rattle.std.specs.Prelude.{◌≡◌, ℕ, ◌==◌, ◌||◌, Bool, false, if◌then◌else◌, List, [], ◌∷◌, ◌++◌, fold, filter, flat_map, Option, Some, None, option_to_list}
+use Rattle.std.specs.Prelude.{ℕ, ◌==◌, ◌||◌, Bool, false, if◌then◌else◌, List, [], ◌∷◌, ◌++◌, fold, filter, flat_map, Option, Some, None, option_to_list}
 use Rattle.std.specs.List.{find, list_any}
 use Rattle.std.specs.Option.{unwrap_or}
 use Rattle.algebra.specs.declared.condition.Condition.{Condition}

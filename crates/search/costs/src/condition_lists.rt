@@ -7,7 +7,7 @@ ghost use Rattle.algebra.specs.ConjunctParts.{part, rest, has_no_class};
 ghost use Rattle.props.specs.Knowledge.{known};
 ghost use Rattle.costs.specs.Cardinalities as spec;
 
-use crate::condition_shares::also;
+use crate::condition_shares::selectivity;
 use crate::numbers::{ALL, per_million};
 use algebra::{ClassId, Condition};
 use props::KnownClasses;
@@ -15,16 +15,42 @@ use query::TableInstance;
 use statistics::Statistics;
 use std::alloc::{AllocError, Global};
 
-/// The share of the rows that make all of the conditions true: a millionth at least.
-fn share(statistics: &Statistics, instances: &[TableInstance], conditions: &[&Condition]) -> u64
-    ensures share { result ≡ spec.share statistics.now instances.now (map (λ c. c.now) conditions.now) }
-    ensures most { result ≤ 1000000 }
-{
-    let mut all = ALL;
-    for condition in conditions {
-        all = also(statistics, instances, all, condition);
+/// So many rows, and the share of them that makes the conditions true that were asked of them.
+#[derive(Clone, Copy)]
+struct Asked {
+    rows: u64,
+    share: u64,
+}
+
+impl Asked {
+    /// The rows of the share, a millionth at least.
+    fn kept(self) -> u64
+        requires { self.share ≤ 1000000 }
+        ensures kept { result ≡ spec.kept self }
+        ensures most { result ≤ self.rows }
+    {
+        per_million(self.rows, self.share.max(1))
     }
-    all.max(1)
+
+    /// Asked a condition more, which so large a share makes true.
+    #[tactic(auto, unfolding(crate::specs::Cardinalities::also_asked))]
+    fn also(self, share: u64) -> Asked
+        requires own { self.share ≤ 1000000 }
+        requires share { share ≤ 1000000 }
+        ensures asked { result ≡ spec.also_asked self share }
+        ensures most { result.share ≤ 1000000 }
+    {
+        if self.share * share < ALL {
+            return Asked {
+                rows: self.kept(),
+                share,
+            };
+        }
+        Asked {
+            rows: self.rows,
+            share: per_million(self.share, share),
+        }
+    }
 }
 
 /// Of so many rows, those that make all of the conditions true.
@@ -36,7 +62,11 @@ pub fn passing(
 ) -> u64
     ensures { result ≡ spec.passing statistics.now instances.now (map (λ c. c.now) conditions.now) rows }
 {
-    per_million(rows, share(statistics, instances, conditions))
+    let mut asked = Asked { rows, share: ALL };
+    for condition in conditions {
+        asked = asked.also(selectivity(statistics, instances, condition));
+    }
+    asked.kept()
 }
 
 /// The conditions that name no column of a class, and the others.

@@ -1,6 +1,6 @@
 //! The join tree that is chosen for a region.
 
-use crate::estimates::{ALL, per_million};
+use crate::estimates::{ALL, Share, per_million};
 use crate::graph::Graph;
 use crate::sets::{LeafSet, MOST_LEAVES};
 use crate::subqueries::Subquery;
@@ -269,11 +269,11 @@ struct Sides<'a> {
     /// How many rows they have together, where that is known, however they are joined.
     rows: Option<u64>,
     /// Which share of their pairs makes the conditions over both true, once it was asked.
-    share: Option<u64>,
+    share: Option<Share>,
 }
 
 impl Sides<'_> {
-    fn joined_share(&mut self) -> u64 {
+    fn joined_share(&mut self) -> Share {
         match self.share {
             Some(share) => share,
             None => {
@@ -295,9 +295,8 @@ impl Sides<'_> {
         found.rows = match self.rows {
             Some(rows) => rows,
             None => {
-                let share = per_million(self.joined_share(), left.share);
-                let pairs = left.rows.saturating_mul(right.rows);
-                per_million(pairs, per_million(share, right.share))
+                let share = self.joined_share().also(left.share).also(right.share);
+                share.of(left.rows.saturating_mul(right.rows))
             }
         };
         best.keep(found);
@@ -374,7 +373,7 @@ fn look_at_sides(
     best: &mut KeptOfSet,
 ) {
     let set = left.union(right);
-    let mut share: Option<u64> = None;
+    let mut share: Option<Share> = None;
     for left_asked in 0..cells.asked_sets {
         let first = cells.at(left, left_asked);
         for right_asked in 0..cells.asked_sets {

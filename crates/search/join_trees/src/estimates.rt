@@ -23,6 +23,40 @@ pub fn per_million(number: u64, share: u64) -> u64 {
     }
 }
 
+/// Which share of rows makes conditions true. As the costs have it, a condition by which a list would keep less than a millionth is asked of the rows that
+/// those before it leave.
+#[derive(Clone, Copy, Drop)]
+pub struct Share {
+    before: u64,
+    last: u64,
+}
+
+impl Share {
+    pub const ALL: Share = Share {
+        before: ALL,
+        last: ALL,
+    };
+
+    /// The share that makes one condition more true.
+    pub fn also(self, share: u64) -> Share {
+        if self.last.saturating_mul(share) < ALL {
+            return Share {
+                before: per_million(self.before, self.last.max(1)),
+                last: share,
+            };
+        }
+        Share {
+            before: self.before,
+            last: per_million(self.last, share),
+        }
+    }
+
+    /// So much of a number of rows.
+    pub fn of(self, rows: u64) -> u64 {
+        per_million(per_million(rows, self.before), self.last.max(1))
+    }
+}
+
 /// The table instance whose column it is.
 fn owner(instances: &[TableInstance], column: ColumnId) -> Option<&TableInstance> {
     let mut found = None;

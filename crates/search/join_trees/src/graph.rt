@@ -1,7 +1,7 @@
 //! What is to be joined: leaves, and the conditions over them.
 
 use crate::equations::{Equation, Equations};
-use crate::estimates::{ALL, filter_cost, per_million, probed, scan_cost};
+use crate::estimates::{ALL, Share, filter_cost, per_million, probed, scan_cost};
 use crate::regions::{Parts, Region, conditions_of};
 use crate::sets::{LeafSet, MOST_LEAVES};
 use crate::subqueries::{Subquery, class_cost, subqueries_of};
@@ -99,7 +99,7 @@ impl Leaf {
     /// Its rows that make the conditions on it alone true.
     pub fn rows(self) -> u64 {
         match self.share {
-            Some(share) => per_million(self.bare_rows, share),
+            Some(share) => per_million(self.bare_rows, share.max(1)),
             None => self.bare_rows,
         }
     }
@@ -356,12 +356,12 @@ impl Graph {
         least
     }
 
-    /// Which share of the pairs of two sets makes the conditions true that are over both and over neither alone. As the costs guess them, so a list
-    /// of conditions keeps a millionth at least, and an equality that follows from others keeps all.
-    pub fn joined_share(&self, first: LeafSet, second: LeafSet) -> u64 {
+    /// Which share of the pairs of two sets makes the conditions true that are over both and over neither alone. As the costs guess them, so an equality
+    /// that follows from others keeps all.
+    pub fn joined_share(&self, first: LeafSet, second: LeafSet) -> Share {
         let both = first.union(second);
         let mut leaders = self.equations.leaders_within(first, second);
-        let mut share = ALL;
+        let mut share = Share::ALL;
         for edge in &self.edges {
             let leaves = edge.leaves;
             let is_over_both = leaves.is_within(both)
@@ -373,7 +373,7 @@ impl Graph {
                     None => true,
                 };
                 if is_new {
-                    share = per_million(share, edge.share);
+                    share = share.also(edge.share);
                 }
             }
         }
@@ -398,7 +398,7 @@ impl Graph {
     pub fn joined_rows(&self, first: LeafSet, second: LeafSet, pairs: u64) -> u64 {
         match self.known_rows(first.union(second)) {
             Some(rows) => rows,
-            None => per_million(pairs, self.joined_share(first, second)),
+            None => self.joined_share(first, second).of(pairs),
         }
     }
 }

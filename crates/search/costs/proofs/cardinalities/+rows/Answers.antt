@@ -1,4 +1,4 @@
-use Rattle.std.proofs.Common.{refl, ap, ◌<◌, arith, sym, ◌∙◌, subst, ◌≡◌, ◌≤◌, List, length, map, reverse, take, slice_get, option_map, Some, IfOk}
+use Rattle.std.proofs.Common.{refl, ap, ◌<◌, arith, sym, ◌∙◌, subst, ◌≡◌, ◌≤◌, length, map, reverse, take, option_map, IfOk}
 use Rattle.std.proofs.lemmas.List.{length-reverse, length-take-le}
 use Rattle.std.proofs.lemmas.Option.{slice_get_read, slice_get_within}
 use Rattle.props.specs.Knowledge.{known}

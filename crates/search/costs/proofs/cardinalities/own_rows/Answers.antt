@@ -1,4 +1,4 @@
-use Rattle.std.proofs.Common.{rules, ◌≡◌, ◌∙◌, ap, [], arith}
+use Rattle.std.proofs.Common.{rules, ◌∙◌, []}
 use Rattle.props.specs.Knowledge.{known}
 use Rattle.costs.proofs.RowsWhere.{equations-more, rows-more}
 use Rattle.costs.proofs.cardinalities.own_rows.Goals as goal

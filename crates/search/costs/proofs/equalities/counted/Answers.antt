@@ -1,4 +1,4 @@
-use Rattle.std.proofs.Common.{◌≡◌, ◌+◌, ◌++◌, ◌∷◌, [], List, length, map, take, append-nil, ap, ◌∙◌, sym}
+use Rattle.std.proofs.Common.{◌≡◌, ◌+◌, ◌++◌, ◌∷◌, [], List, map, take, append-nil, ap, ◌∙◌, sym}
 use Rattle.std.proofs.lemmas.List.{take_more, map-append}
 use Rattle.algebra.specs.declared.condition.Condition.{Condition}
 use Rattle.costs.specs.Equalities as spec

@@ -1,4 +1,4 @@
-use Rattle.std.proofs.Common.{◌≡◌, ◌≤◌, ◌++◌, ◌∷◌, [], List, ℕ, length, get_or, set, map, take, drop, refl, ap, sym, subst, ◌<◌, ◌∙◌, append-nil, arith}
+use Rattle.std.proofs.Common.{◌≡◌, ◌≤◌, ◌++◌, ◌∷◌, [], List, ℕ, length, set, map, drop, ap, sym, subst, ◌<◌, ◌∙◌, append-nil, arith}
 use Rattle.std.proofs.lemmas.List.{get_or_default, with_items_is, take_all, drop_all}
 use Rattle.std.proofs.lemmas.List.Edits.{map_over_more}
 use Rattle.costs.specs.Equalities as spec
