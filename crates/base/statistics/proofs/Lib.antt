@@ -3,8 +3,10 @@ pub mod DifferentKeys
 pub mod ItemCounts
 pub mod KeySlots
 pub mod Marks
+pub mod NumberKeys
 pub mod PairedLists
 pub mod ReadBack
+pub mod Sifts
 pub mod Spelled
 pub mod UniqueColumns
 pub mod UniqueRows

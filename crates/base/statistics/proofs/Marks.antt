@@ -21,15 +21,15 @@ use Rattle.statistics.proofs.KeySlots.{slot_alike}
 
 -- ---- a mark more
 
-or_false : (b : Bool) → (b || false) ≡ b
+pub or_false : (b : Bool) → (b || false) ≡ b
 or_false true = refl
 or_false false = refl
 
-or_true : (b : Bool) → (b || true) ≡ true
+pub or_true : (b : Bool) → (b || true) ≡ true
 or_true true = refl
 or_true false = refl
 
-eqb_same : (n : ℕ) → nat_eq n n ≡ true
+pub eqb_same : (n : ℕ) → nat_eq n n ≡ true
 eqb_same n = elim (eqb_tells n n) [ inl same ↦ same.0 | inr other ↦ absurd (other.1 refl) ]
 
 pub no_marks : (n s : ℕ) → get_or (replicate n false) s false ≡ false
@@ -65,7 +65,7 @@ length_places n [] = refl
 length_places n (true ∷ ms) = let rest = length_places (n + 1) ms in let more = sum_by-cons (λ m. cond m 1 0) true ms in omega (arith, rest, more)
 length_places n (false ∷ ms) = let rest = length_places (n + 1) ms in let more = sum_by-cons (λ m. cond m 1 0) false ms in omega (arith, rest, more)
 
-apart : (m n : ℕ) → m ≢ n → nat_eq m n ≡ false
+pub apart : (m n : ℕ) → m ≢ n → nat_eq m n ≡ false
 apart m n ne = elim (eqb_tells m n) [ inl same ↦ absurd (ne same.1) | inr other ↦ other.0 ]
 
 places_apart : (x n : ℕ) (ms : List Bool) → x < n → AllByRecursion (λ y. nat_eq x y ≡ false) (places_from n ms)

@@ -2,6 +2,7 @@ pub mod ColumnKeys
 pub mod Counting
 pub mod Digits
 pub mod Entries
+pub mod NumberKeys
 pub mod Reading
 pub mod Refusals
 pub mod Spelling

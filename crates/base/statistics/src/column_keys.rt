@@ -1,6 +1,6 @@
 //! How many different keys a column has: exactly where it is unique, else as an estimate by linear counting.
 
-ghost use Rattle.std.specs.Prelude.{◌≡◌, ◌≤◌, ◌<◌, ◌^◌, ◌+◌, ℕ, false, length, map, slice_index_or, nat_eq, max, IfOk};
+ghost use Rattle.std.specs.Prelude.{◌≡◌, ◌≤◌, ◌<◌, ◌^◌, ◌+◌, ◌*◌, ℕ, false, length, map, slice_index_or, nat_eq, max, IfOk};
 ghost use Rattle.std.specs.Set.{is_member};
 ghost use Rattle.values.specs.Cells.{value_of};
 ghost use Rattle.values.specs.Short.{IsShort};
@@ -34,9 +34,10 @@ fn mix(number: u64) -> u64
     (upper * upper).wrapping_mul(SECOND_FACTOR) >> 32
 }
 
-fn slot_of(number: u64, slots: usize) -> usize
+/// The slot of a number, among so many.
+pub fn slot_of(number: u64, slots: usize) -> usize
     requires some { 0 < slots }
-    requires few { slots ≤ most_rows }
+    requires few { slots ≤ 2 * most_rows }
     ensures slot { result ≡ spec.slot_at slots number }
     ensures within { result < slots }
 {

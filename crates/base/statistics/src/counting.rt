@@ -1,12 +1,14 @@
 //! Statistics of a database, by a pass over a table for each of its indexes whose keys may repeat.
 
-ghost use Rattle.std.specs.Prelude.{◌≡◌, map, IfOk};
-ghost use Rattle.schema.specs.Databases.{SatisfiesTable, SatisfyTables};
+ghost use Rattle.std.specs.Prelude.{◌≡◌, ◌≤◌, ℕ, length, map, IfOk};
+ghost use Rattle.schema.specs.Databases.{SatisfiesTable, SatisfyTables, most_rows};
+ghost use Rattle.statistics.specs.ColumnKeys.{AreShort};
 ghost use Rattle.statistics.specs.Counting as spec;
 
 use crate::column_keys::column_keys;
 use crate::counts::{IndexStatistics, Statistics, TableColumn, TableStatistics};
 use crate::digits::keys_by_slots;
+use crate::number_keys::keys_by_numbers;
 use crate::unique_columns::{is_unique_column, unique_column_keys};
 use crate::unique_lists::holds_unique_list;
 use std::alloc::{AllocError, Global};
@@ -29,13 +31,21 @@ fn keys_by_set(alloc: Global, rows: &Table, places: &[usize]) -> Result<u64, All
     Ok(keys.len() as u64)
 }
 
+/// By marks where numbers lie close together, by slots where one column of them doesn't, else by a set.
 fn different_keys(alloc: Global, rows: &Table, places: &[usize]) -> Result<u64, AllocError>
+    requires few { length rows.now ≤ most_rows }
+    requires short { (place : ℕ) → AreShort place rows.now }
     ensures { IfOk result (λ keys. keys ≡ spec.different_keys rows.now places.now) }
 {
-    match keys_by_slots(alloc, rows, places)? {
-        Some(keys) => Ok(keys),
-        None => keys_by_set(alloc, rows, places),
+    if let Some(keys) = keys_by_slots(alloc, rows, places)? {
+        return Ok(keys);
     }
+    if let [place] = places {
+        if let Some(keys) = keys_by_numbers(alloc, rows, *place)? {
+            return Ok(keys);
+        }
+    }
+    keys_by_set(alloc, rows, places)
 }
 
 /// The same of rows that satisfy their table's entry, with no pass where they can't agree on the index, or only those with a Null can.

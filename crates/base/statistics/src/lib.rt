@@ -7,6 +7,7 @@ pub mod counts;
 mod digits;
 mod entries;
 pub mod fault;
+mod number_keys;
 mod reading;
 mod unique_columns;
 mod unique_lists;

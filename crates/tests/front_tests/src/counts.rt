@@ -343,7 +343,8 @@ a,b~1,\N~2,\N~ => loaded 2 1 / 1 1 / 2 1 / 2 1";
     assert_eq!(rt; differences(rt.alloc(), &[CASES], &by).as_deref(), Ok(""));
 }
 
-/// Numbers close together, of either sign, beside Null and the least and greatest of 64 bits, and some just too far apart for their rows.
+/// Numbers close together, of either sign, beside Null and the least and greatest of 64 bits, some just too far apart for their rows, and so many that lie
+/// far apart that some want a slot which another one has.
 #[test]
 fn statistics_of_numbers(rt: HostRuntime) {
     const SCHEMA: &str =
@@ -358,7 +359,9 @@ a,b~0,0~6,0~ => loaded 2 1 / 2 1 / 2 1 / 2 1
 a,b~0,0~7,0~ => loaded 2 1 / 2 1 / 2 1 / 2 1
 a,b~-9223372036854775808,1~-9223372036854775807,1~\N,1~ => loaded 3 1 / 3 1 / 3 1 / 3 1
 a,b~9223372036854775807,1~9223372036854775806,\N~\N,1~ => loaded 3 1 / 3 1 / 3 1 / 3 1
-a,b~-9223372036854775808,0~9223372036854775807,0~\N,0~0,0~9223372036854775807,0~ => loaded 5 1 / 4 1 / 4 1 / 4 1";
+a,b~-9223372036854775808,0~9223372036854775807,0~\N,0~0,0~9223372036854775807,0~ => loaded 5 1 / 4 1 / 4 1 / 4 1
+a,b~|200*1#000,0~|\N,0~|100*1#000,0~|\N,0~ => loaded 302 7 / 201 4 / 201 4 / 201 4
+a,b~|2000*1#000,0~|10000,0~ => loaded 2001 41 / 2000 21 / 2000 21 / 2000 21";
     let by = Counted {
         schema: SCHEMA,
         columns: &[],
@@ -378,8 +381,8 @@ a,b,k,u~5,"",1,5~ => loaded 1 1 c0 1 c1 1 c2 1 c3 1
 a,b,k,u~5,x,1,\N~5,x,2,\N~ => loaded 2 1 c0 1 c1 1 c2 2 c3 0
 a,b,k,u~\N,x,1,7~5,\N,2,\N~5,y,3,\N~ => loaded 3 1 c0 1 c1 2 c2 3 c3 1
 a,b,k,u~-9223372036854775808,ab,1,1~9223372036854775807,ba,2,2~-1,ü,3,3~0,"",4,4~-1,ü,5,5~ => loaded 5 1 c0 4 c1 4 c2 5 c3 5
-a,b,k,u~|200*#,x,#,\N~| => loaded 200 4 c0 188 c1 1 c2 200 c3 0
-a,b,k,u~|1000*7,k#,#,#~| => loaded 1000 20 c0 1 c1 962 c2 1000 c3 1000"#;
+a,b,k,u~|200*#,x,#,\N~| => loaded 200 4 c0 187 c1 1 c2 200 c3 0
+a,b,k,u~|1000*7,k#,#,#~| => loaded 1000 20 c0 1 c1 961 c2 1000 c3 1000"#;
     const COLUMNS: &[TableColumn] = &[
         TableColumn { table: 0, place: 1 },
         TableColumn { table: 0, place: 0 },

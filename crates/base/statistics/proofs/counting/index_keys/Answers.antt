@@ -1,5 +1,6 @@
 use Rattle.std.proofs.Common.{◌≡◌, ◌<◌, ℕ, List, [], ◌∷◌, length, get_or, refl, ap, sym, ◌∙◌, arith}
 use Rattle.statistics.specs.Counting.{different_keys}
+use Rattle.statistics.proofs.ColumnValues.{are_short}
 use Rattle.statistics.proofs.UniqueColumns.{unique_column}
 use Rattle.statistics.proofs.UniqueRows.{each_differs}
 use Rattle.statistics.proofs.counting.index_keys.Goals as goal
@@ -17,3 +18,6 @@ one_place (p ∷ q ∷ ps) some few = absurd (omega (arith, few))
 
 pub returns-then-is_unique_column : goal.returns-then-is_unique_column
 returns-then-is_unique_column c = c.unique_column_keys.ensures ∙ ap (different_keys c.args.rows.now) (sym (one_place c.args.places.now (omega arith) (omega arith)))
+
+pub different_keys-requires-clause-short : goal.different_keys-requires-clause-short
+different_keys-requires-clause-short c = λ place. are_short c.args.entry.now c.args.rows.now place c.requires
