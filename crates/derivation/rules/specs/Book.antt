@@ -5,6 +5,7 @@ use Rattle.rules.specs.declared.book.RuleName.TheVariants.{JoinCommutes, JoinAss
 use Rattle.rules.specs.declared.shape.Shape.{Shape}
 use Rattle.rules.specs.declared.unfit.Unfit.{Unfit}
 use Rattle.rules.specs.declared.pattern.Pattern.{Pattern}
+use Rattle.rules.specs.declared.promise.Promise.{Promise}
 use Rattle.rules.specs.Formed.{IsFormed}
 use Rattle.rules.specs.Matches.{Matched}
 use Rattle.rules.specs.Patterns.{KeepsTo}
@@ -67,6 +68,20 @@ pattern_of KeepOfAll = keep_of_all.pattern
 pattern_of KeepBelowJoin = keep_below_join.pattern
 pattern_of DistinctOfKeyed = distinct_of_keyed.pattern
 pattern_of GroupIsDistinct = group_is_distinct.pattern
+
+abbrev pub promise_of : RuleName → Matched → Promise
+promise_of JoinCommutes = join_commutes.promise
+promise_of JoinAssociates = join_associates.promise
+promise_of SelectsMerge = selects_merge.promise
+promise_of SelectBelowJoin = select_below_join.promise
+promise_of SelectIntoJoin = select_into_join.promise
+promise_of ConditionBelowJoin = condition_below_join.promise
+promise_of SelectBelowSemi = select_below_semi.promise
+promise_of KeepsMerge = keeps_merge.promise
+promise_of KeepOfAll = keep_of_all.promise
+promise_of KeepBelowJoin = keep_below_join.promise
+promise_of DistinctOfKeyed = distinct_of_keyed.promise
+promise_of GroupIsDistinct = group_is_distinct.promise
 
 -- ---- laws of each rule of the book
 

@@ -10,6 +10,8 @@ use Rattle.rules.specs.declared.pattern.Operator.TheVariants as operator
 use Rattle.rules.specs.declared.pattern.Operators.TheVariants.{Only}
 use Rattle.rules.specs.declared.pattern.Pattern as lines
 use Rattle.rules.specs.declared.pattern.Pattern.TheVariants.{One}
+use Rattle.rules.specs.declared.promise.Promise.{Promise}
+use Rattle.rules.specs.declared.promise.Promise.TheVariants.{Connected}
 use Rattle.rules.specs.declared.shape.Shape.{Shape}
 use Rattle.rules.specs.declared.shape.Shape.TheVariants.{Class, Select, Join}
 use Rattle.rules.specs.declared.unfit.Unfit.{Unfit}
@@ -30,3 +32,7 @@ lowered_below K x = Err Pattern
 
 abbrev pub condition_below_join : Matched → Result Shape Unfit
 condition_below_join m = wanted Pattern (one_line m) >>= lowered_below m.classes
+
+-- when it is tried
+abbrev pub promise : Matched → Promise
+promise m = Connected

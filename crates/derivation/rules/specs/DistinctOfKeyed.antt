@@ -8,6 +8,8 @@ use Rattle.rules.specs.declared.pattern.Operator.TheVariants as operator
 use Rattle.rules.specs.declared.pattern.Operators.TheVariants.{Only}
 use Rattle.rules.specs.declared.pattern.Pattern as lines
 use Rattle.rules.specs.declared.pattern.Pattern.TheVariants.{One}
+use Rattle.rules.specs.declared.promise.Promise.{Promise}
+use Rattle.rules.specs.declared.promise.Promise.TheVariants.{Simpler}
 use Rattle.rules.specs.declared.shape.Shape.{Shape}
 use Rattle.rules.specs.declared.shape.Shape.TheVariants.{Class}
 use Rattle.rules.specs.declared.unfit.Unfit.{Unfit}
@@ -24,3 +26,7 @@ dropped K x = Err Pattern
 
 abbrev pub distinct_of_keyed : Matched → Result Shape Unfit
 distinct_of_keyed m = wanted Pattern (one_line m) >>= dropped m.classes
+
+-- when it is tried
+abbrev pub promise : Matched → Promise
+promise m = Simpler

@@ -8,6 +8,8 @@ use Rattle.rules.specs.declared.pattern.Operator.TheVariants as operator
 use Rattle.rules.specs.declared.pattern.Operators.TheVariants.{Only}
 use Rattle.rules.specs.declared.pattern.Pattern as lines
 use Rattle.rules.specs.declared.pattern.Pattern.TheVariants.{One}
+use Rattle.rules.specs.declared.promise.Promise.{Promise}
+use Rattle.rules.specs.declared.promise.Promise.TheVariants.{Simpler}
 use Rattle.rules.specs.declared.shape.Shape.{Shape}
 use Rattle.rules.specs.declared.shape.Shape.TheVariants.{Class, Keep, Distinct}
 use Rattle.rules.specs.declared.unfit.Unfit.{Unfit}
@@ -29,3 +31,7 @@ as_distinct K x = Err Pattern
 
 abbrev pub group_is_distinct : Matched → Result Shape Unfit
 group_is_distinct m = wanted Pattern (one_line m) >>= as_distinct m.classes
+
+-- when it is tried
+abbrev pub promise : Matched → Promise
+promise m = Simpler

@@ -1,5 +1,5 @@
 -- Join associativity: of three sides the last two are joined first. Each conjunct that doesn't mention the first side is asked there.
-use Rattle.std.specs.Prelude.{ℕ, List, Result, Err}
+use Rattle.std.specs.Prelude.{ℕ, ◌||◌, List, [], ◌∷◌, Result, Err}
 use Rattle.std.specs.List.{list_all}
 use Rattle.values.specs.Faults.{◌>>=◌, wanted, wanted_if}
 use Rattle.algebra.specs.declared.condition.Condition.{Condition}
@@ -12,12 +12,15 @@ use Rattle.rules.specs.declared.pattern.Operators.TheVariants.{Only}
 use Rattle.rules.specs.declared.pattern.Pattern as lines
 use Rattle.rules.specs.declared.pattern.Pattern.TheVariants.{Two}
 use Rattle.rules.specs.Patterns.{first}
+use Rattle.rules.specs.declared.promise.Promise.{Promise}
+use Rattle.rules.specs.declared.promise.Promise.TheVariants.{Products}
 use Rattle.rules.specs.declared.shape.Shape.{Shape}
 use Rattle.rules.specs.declared.shape.Shape.TheVariants.{Class, Join}
 use Rattle.rules.specs.declared.unfit.Unfit.{Unfit}
 use Rattle.rules.specs.declared.unfit.Unfit.TheVariants.{Pattern, Condition as FailedCondition}
 use Rattle.rules.specs.Conjuncts.{is_apart_from}
-use Rattle.rules.specs.Matches.{Matched, two_lines}
+use Rattle.rules.specs.Matches.{Line, Matched, two_lines}
+use Rattle.rules.specs.Promises.{are_connected, of_join}
 
 -- the lines that it takes
 abbrev pub pattern : lines.Pattern
@@ -34,3 +37,15 @@ associated K x y = Err Pattern
 
 abbrev pub join_associates : Matched → Result Shape Unfit
 join_associates m = wanted Pattern (two_lines m) >>= λ l. associated m.classes l.0 l.1
+
+-- when it is tried: a condition of either join may connect the two sides that are joined first
+abbrev pub promised : Knowledge → Expr → Expr → Promise
+promised K (expr.Join D x z) (expr.Join C a b) = of_join (are_connected K D b z || are_connected K C b z)
+promised K x y = Products
+
+abbrev pub promised_at : Knowledge → List Line → Promise
+promised_at K (l ∷ k ∷ []) = promised K l.expr k.expr
+promised_at K lines = Products
+
+abbrev pub promise : Matched → Promise
+promise m = promised_at m.classes m.lines

@@ -12,6 +12,8 @@ use Rattle.rules.specs.declared.pattern.Operators.TheVariants.{Only}
 use Rattle.rules.specs.declared.pattern.Pattern as lines
 use Rattle.rules.specs.declared.pattern.Pattern.TheVariants.{Two}
 use Rattle.rules.specs.Patterns.{first}
+use Rattle.rules.specs.declared.promise.Promise.{Promise}
+use Rattle.rules.specs.declared.promise.Promise.TheVariants.{Projections}
 use Rattle.rules.specs.declared.shape.Shape.{Shape}
 use Rattle.rules.specs.declared.shape.Shape.TheVariants.{Class, Join, Keep}
 use Rattle.rules.specs.declared.unfit.Unfit.{Unfit}
@@ -35,3 +37,7 @@ narrowed_below K x y = Err Pattern
 
 abbrev pub keep_below_join : Matched → Result Shape Unfit
 keep_below_join m = wanted Pattern (two_lines m) >>= λ l. narrowed_below m.classes l.0 l.1
+
+-- when it is tried
+abbrev pub promise : Matched → Promise
+promise m = Projections

@@ -9,6 +9,8 @@ use Rattle.rules.specs.declared.pattern.Operators.TheVariants.{Only}
 use Rattle.rules.specs.declared.pattern.Pattern as lines
 use Rattle.rules.specs.declared.pattern.Pattern.TheVariants.{Two}
 use Rattle.rules.specs.Patterns.{first}
+use Rattle.rules.specs.declared.promise.Promise.{Promise}
+use Rattle.rules.specs.declared.promise.Promise.TheVariants.{Simpler}
 use Rattle.rules.specs.declared.shape.Shape.{Shape}
 use Rattle.rules.specs.declared.shape.Shape.TheVariants.{Class, Keep}
 use Rattle.rules.specs.declared.unfit.Unfit.{Unfit}
@@ -25,3 +27,7 @@ merged K x y = Err Pattern
 
 abbrev pub keeps_merge : Matched → Result Shape Unfit
 keeps_merge m = wanted Pattern (two_lines m) >>= λ l. merged m.classes l.0 l.1
+
+-- when it is tried
+abbrev pub promise : Matched → Promise
+promise m = Simpler

@@ -11,6 +11,7 @@ pub mod KeepOfAll
 pub mod KeepsMerge
 pub mod Matches
 pub mod Patterns
+pub mod Promises
 pub mod SelectBelowJoin
 pub mod SelectBelowSemi
 pub mod SelectIntoJoin

@@ -9,6 +9,8 @@ use Rattle.rules.specs.declared.pattern.Operators.TheVariants.{Only, Either}
 use Rattle.rules.specs.declared.pattern.Pattern as lines
 use Rattle.rules.specs.declared.pattern.Pattern.TheVariants.{Two}
 use Rattle.rules.specs.Patterns.{first}
+use Rattle.rules.specs.declared.promise.Promise.{Promise}
+use Rattle.rules.specs.declared.promise.Promise.TheVariants.{Connected}
 use Rattle.rules.specs.declared.shape.Shape.{Shape}
 use Rattle.rules.specs.declared.shape.Shape.TheVariants.{Class, Select, Semi, Anti}
 use Rattle.rules.specs.declared.unfit.Unfit.{Unfit}
@@ -26,3 +28,7 @@ below_semi K x y = Err Pattern
 
 abbrev pub select_below_semi : Matched → Result Shape Unfit
 select_below_semi m = wanted Pattern (two_lines m) >>= λ l. below_semi m.classes l.0 l.1
+
+-- when it is tried
+abbrev pub promise : Matched → Promise
+promise m = Connected

@@ -11,6 +11,8 @@ use Rattle.rules.specs.declared.pattern.Operators.TheVariants.{Only}
 use Rattle.rules.specs.declared.pattern.Pattern as lines
 use Rattle.rules.specs.declared.pattern.Pattern.TheVariants.{Two}
 use Rattle.rules.specs.Patterns.{first}
+use Rattle.rules.specs.declared.promise.Promise.{Promise}
+use Rattle.rules.specs.declared.promise.Promise.TheVariants.{Connected}
 use Rattle.rules.specs.declared.shape.Shape.{Shape}
 use Rattle.rules.specs.declared.shape.Shape.TheVariants.{Class, Join}
 use Rattle.rules.specs.declared.unfit.Unfit.{Unfit}
@@ -32,3 +34,7 @@ into_join K x y = Err Pattern
 
 abbrev pub select_into_join : Matched → Result Shape Unfit
 select_into_join m = wanted Pattern (two_lines m) >>= λ l. into_join m.classes l.0 l.1
+
+-- when it is tried
+abbrev pub promise : Matched → Promise
+promise m = Connected

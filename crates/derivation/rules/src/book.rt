@@ -1,6 +1,6 @@
 //! The rule book: the rules by their names in certificates.
 
-ghost use Rattle.std.specs.Prelude.{◌≡◌, ◌≢◌, MatchOption};
+ghost use Rattle.std.specs.Prelude.{◌≡◌, ◌≢◌, IfOk, MatchOption};
 ghost use Rattle.std.specs.List.{AllByRecursion};
 ghost use Rattle.rules.specs.declared.book.RuleName.{RuleName};
 ghost use Rattle.values.specs.Faults.{Gives};
@@ -18,6 +18,7 @@ use crate::keep_of_all::KeepOfAll;
 use crate::keeps_merge::KeepsMerge;
 use crate::matching::Match;
 use crate::pattern::Pattern;
+use crate::promise::Promise;
 use crate::rule::Rule;
 use crate::select_below_join::SelectBelowJoin;
 use crate::select_below_semi::SelectBelowSemi;
@@ -25,7 +26,7 @@ use crate::select_into_join::SelectIntoJoin;
 use crate::selects_merge::SelectsMerge;
 use crate::shape::Shape;
 use crate::unfit::RuleFault;
-use std::alloc::Global;
+use std::alloc::{AllocError, Global};
 
 /// A rule of the book.
 #[derive(Clone, Copy, Debug, PartialEq, Eq)]
@@ -124,6 +125,26 @@ impl RuleName {
             RuleName::KeepBelowJoin => KeepBelowJoin::pattern(),
             RuleName::DistinctOfKeyed => DistinctOfKeyed::pattern(),
             RuleName::GroupIsDistinct => GroupIsDistinct::pattern(),
+        }
+    }
+
+    /// When the rule of this name is tried at lines that it takes.
+    pub fn promise(self, alloc: Global, at: Match<'_>) -> Result<Promise, AllocError>
+        ensures { IfOk result (λ p. p ≡ spec.promise_of self (matched at.entry)) }
+    {
+        match self {
+            RuleName::JoinCommutes => JoinCommutes::promise(alloc, at),
+            RuleName::JoinAssociates => JoinAssociates::promise(alloc, at),
+            RuleName::SelectsMerge => SelectsMerge::promise(alloc, at),
+            RuleName::SelectBelowJoin => SelectBelowJoin::promise(alloc, at),
+            RuleName::SelectIntoJoin => SelectIntoJoin::promise(alloc, at),
+            RuleName::ConditionBelowJoin => ConditionBelowJoin::promise(alloc, at),
+            RuleName::SelectBelowSemi => SelectBelowSemi::promise(alloc, at),
+            RuleName::KeepsMerge => KeepsMerge::promise(alloc, at),
+            RuleName::KeepOfAll => KeepOfAll::promise(alloc, at),
+            RuleName::KeepBelowJoin => KeepBelowJoin::promise(alloc, at),
+            RuleName::DistinctOfKeyed => DistinctOfKeyed::promise(alloc, at),
+            RuleName::GroupIsDistinct => GroupIsDistinct::promise(alloc, at),
         }
     }
 

@@ -6,12 +6,13 @@ ghost use Rattle.rules.specs.ConditionBelowJoin as spec;
 
 use crate::matching::Match;
 use crate::pattern::{Operator, Operators, Pattern};
+use crate::promise::Promise;
 use crate::rule::Rule;
 use crate::shape::Shape;
 use crate::shaping::{join, select, some};
 use crate::unfit::{RuleFault, Unfit};
 use algebra::{ClassId, Conjuncts, Expr};
-use std::alloc::Global;
+use std::alloc::{AllocError, Global};
 use values::Fault;
 
 /// The join of the classes, with a part of its condition below the join.
@@ -39,6 +40,8 @@ impl Rule for ConditionBelowJoin {
 
     ghost gives = { spec.condition_below_join };
 
+    ghost promise = { spec.promise };
+
     fn pattern() -> Pattern {
         Pattern::One(Operators::Only(Operator::Join))
     }
@@ -48,6 +51,10 @@ impl Rule for ConditionBelowJoin {
             Expr::Join(d, a, b) => lowered(alloc, at, d, *a, *b),
             _ => Err(Fault::Refused(Unfit::Pattern)),
         }
+    }
+
+    fn promise(_alloc: Global, _at: Match<'_>) -> Result<Promise, AllocError> {
+        Ok(Promise::Connected)
     }
 
     fn is_sound() {}

@@ -4,11 +4,12 @@ ghost use Rattle.rules.specs.DistinctOfKeyed as spec;
 
 use crate::matching::Match;
 use crate::pattern::{Operator, Operators, Pattern};
+use crate::promise::Promise;
 use crate::rule::Rule;
 use crate::shape::Shape;
 use crate::unfit::{RuleFault, Unfit};
 use algebra::Expr;
-use std::alloc::Global;
+use std::alloc::{AllocError, Global};
 use values::Fault;
 
 /// Rows of which no two agree on a key stand once already.
@@ -20,6 +21,8 @@ impl Rule for DistinctOfKeyed {
     ghost pattern = { spec.pattern };
 
     ghost gives = { spec.distinct_of_keyed };
+
+    ghost promise = { spec.promise };
 
     fn pattern() -> Pattern {
         Pattern::One(Operators::Only(Operator::Distinct))
@@ -36,6 +39,10 @@ impl Rule for DistinctOfKeyed {
             }
             _ => Err(Fault::Refused(Unfit::Pattern)),
         }
+    }
+
+    fn promise(_alloc: Global, _at: Match<'_>) -> Result<Promise, AllocError> {
+        Ok(Promise::Simpler)
     }
 
     fn is_sound() {}

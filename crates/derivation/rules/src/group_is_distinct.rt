@@ -5,12 +5,13 @@ ghost use Rattle.rules.specs.GroupIsDistinct as spec;
 
 use crate::matching::Match;
 use crate::pattern::{Operator, Operators, Pattern};
+use crate::promise::Promise;
 use crate::rule::Rule;
 use crate::shape::Shape;
 use crate::shaping::keep;
 use crate::unfit::{RuleFault, Unfit};
 use algebra::{ClassId, Columns, Expr};
-use std::alloc::Global;
+use std::alloc::{AllocError, Global};
 use values::{Boxed, Fault};
 
 /// The different keys of a class.
@@ -34,6 +35,8 @@ impl Rule for GroupIsDistinct {
 
     ghost gives = { spec.group_is_distinct };
 
+    ghost promise = { spec.promise };
+
     fn pattern() -> Pattern {
         Pattern::One(Operators::Only(Operator::Group))
     }
@@ -43,6 +46,10 @@ impl Rule for GroupIsDistinct {
             Expr::Group(k, added, x) if added.as_slice().is_empty() => different_keys(alloc, k, *x),
             _ => Err(Fault::Refused(Unfit::Pattern)),
         }
+    }
+
+    fn promise(_alloc: Global, _at: Match<'_>) -> Result<Promise, AllocError> {
+        Ok(Promise::Simpler)
     }
 
     fn is_sound() {}

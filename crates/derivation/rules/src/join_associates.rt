@@ -1,17 +1,19 @@
 //! Join associativity.
 
+ghost use Rattle.std.specs.Prelude.{◌≡◌, IfOk};
 ghost use Rattle.values.specs.Faults.{Gives};
 ghost use Rattle.props.specs.Knowledge.{known};
 ghost use Rattle.rules.specs.JoinAssociates as spec;
 
 use crate::matching::Match;
 use crate::pattern::{Below, Operator, Operators, Pattern};
+use crate::promise::{Promise, are_connected};
 use crate::rule::Rule;
 use crate::shape::Shape;
 use crate::shaping::join;
 use crate::unfit::{RuleFault, Unfit};
 use algebra::{ClassId, Conjuncts, Expr};
-use std::alloc::Global;
+use std::alloc::{AllocError, Global};
 use values::Fault;
 
 /// The join of a join of the classes, with the last two joined first.
@@ -35,6 +37,20 @@ fn reordered(
     Ok(join(alloc, rest, Shape::Class(first), joined)?)
 }
 
+/// What the join of the last two of three sides promises.
+fn promised(alloc: Global, at: Match<'_>, top: &Expr, below: &Expr) -> Result<Promise, AllocError>
+    ensures { IfOk result (λ p. p ≡ spec.promised (known at.entry.classes) top.now below.now) }
+{
+    match (top, below) {
+        (Expr::Join(outer, _, third), Expr::Join(inner, _, second)) => {
+            let is_connected = are_connected(alloc, at.classes, outer, *second, *third)?
+                || are_connected(alloc, at.classes, inner, *second, *third)?;
+            Ok(Promise::of_join(is_connected))
+        }
+        _ => Ok(Promise::Products),
+    }
+}
+
 /// Of three sides the last two are joined first. Each conjunct that doesn't mention the first side is asked there; the inner
 /// condition of before must not mention the third side.
 pub struct JoinAssociates;
@@ -45,6 +61,8 @@ impl Rule for JoinAssociates {
     ghost pattern = { spec.pattern };
 
     ghost gives = { spec.join_associates };
+
+    ghost promise = { spec.promise };
 
     fn pattern() -> Pattern {
         Pattern::Two(
@@ -57,6 +75,13 @@ impl Rule for JoinAssociates {
         match at.two_lines()? {
             (Expr::Join(d, _, z), Expr::Join(c, a, b)) => reordered(alloc, at, c, d, *a, *b, *z),
             _ => Err(Fault::Refused(Unfit::Pattern)),
+        }
+    }
+
+    fn promise(alloc: Global, at: Match<'_>) -> Result<Promise, AllocError> {
+        match at.lines {
+            [top, below] => promised(alloc, at, top.expr, below.expr),
+            _ => Ok(Promise::Products),
         }
     }
 

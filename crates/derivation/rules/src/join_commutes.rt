@@ -1,16 +1,28 @@
 //! Join commutativity.
 
+ghost use Rattle.std.specs.Prelude.{◌≡◌};
 ghost use Rattle.rules.specs.JoinCommutes as spec;
 
 use crate::matching::Match;
 use crate::pattern::{Operator, Operators, Pattern};
+use crate::promise::Promise;
 use crate::rule::Rule;
 use crate::shape::Shape;
 use crate::shaping::join;
 use crate::unfit::{RuleFault, Unfit};
 use algebra::Expr;
-use std::alloc::Global;
+use std::alloc::{AllocError, Global};
 use values::Fault;
+
+/// What the join promises, turned.
+fn turned(expr: &Expr) -> Promise
+    ensures { result ≡ spec.promised expr.now }
+{
+    match expr {
+        Expr::Join(conjuncts, _, _) => Promise::of_join(!conjuncts.as_slice().is_empty()),
+        _ => Promise::Products,
+    }
+}
 
 /// The sides of a join change places.
 pub struct JoinCommutes;
@@ -21,6 +33,8 @@ impl Rule for JoinCommutes {
     ghost pattern = { spec.pattern };
 
     ghost gives = { spec.join_commutes };
+
+    ghost promise = { spec.promise };
 
     fn pattern() -> Pattern {
         Pattern::One(Operators::Only(Operator::Join))
@@ -36,6 +50,13 @@ impl Rule for JoinCommutes {
             )?),
             _ => Err(Fault::Refused(Unfit::Pattern)),
         }
+    }
+
+    fn promise(_alloc: Global, at: Match<'_>) -> Result<Promise, AllocError> {
+        Ok(match at.lines {
+            [line] => turned(line.expr),
+            _ => Promise::Products,
+        })
     }
 
     fn is_sound() {}

@@ -8,6 +8,7 @@ ghost use Rattle.rules.specs.KeepBelowJoin as spec;
 
 use crate::matching::Match;
 use crate::pattern::{Below, Operator, Operators, Pattern};
+use crate::promise::Promise;
 use crate::rule::Rule;
 use crate::shape::Shape;
 use crate::shaping::{join, keep};
@@ -82,6 +83,8 @@ impl Rule for KeepBelowJoin {
 
     ghost gives = { spec.keep_below_join };
 
+    ghost promise = { spec.promise };
+
     fn pattern() -> Pattern {
         Pattern::Two(
             Operators::Only(Operator::Keep),
@@ -94,6 +97,10 @@ impl Rule for KeepBelowJoin {
             (Expr::Keep(k, _), Expr::Join(d, a, b)) => narrowed(alloc, at, k, d, *a, *b),
             _ => Err(Fault::Refused(Unfit::Pattern)),
         }
+    }
+
+    fn promise(_alloc: Global, _at: Match<'_>) -> Result<Promise, AllocError> {
+        Ok(Promise::Projections)
     }
 
     fn is_sound() {}

@@ -4,11 +4,12 @@ ghost use Rattle.rules.specs.KeepOfAll as spec;
 
 use crate::matching::Match;
 use crate::pattern::{Operator, Operators, Pattern};
+use crate::promise::Promise;
 use crate::rule::Rule;
 use crate::shape::Shape;
 use crate::unfit::{RuleFault, Unfit};
 use algebra::Expr;
-use std::alloc::Global;
+use std::alloc::{AllocError, Global};
 use values::Fault;
 
 /// A projection to all columns changes nothing.
@@ -20,6 +21,8 @@ impl Rule for KeepOfAll {
     ghost pattern = { spec.pattern };
 
     ghost gives = { spec.keep_of_all };
+
+    ghost promise = { spec.promise };
 
     fn pattern() -> Pattern {
         Pattern::One(Operators::Only(Operator::Keep))
@@ -36,6 +39,10 @@ impl Rule for KeepOfAll {
             }
             _ => Err(Fault::Refused(Unfit::Pattern)),
         }
+    }
+
+    fn promise(_alloc: Global, _at: Match<'_>) -> Result<Promise, AllocError> {
+        Ok(Promise::Simpler)
     }
 
     fn is_sound() {}

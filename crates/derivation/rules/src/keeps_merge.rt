@@ -4,12 +4,13 @@ ghost use Rattle.rules.specs.KeepsMerge as spec;
 
 use crate::matching::Match;
 use crate::pattern::{Below, Operator, Operators, Pattern};
+use crate::promise::Promise;
 use crate::rule::Rule;
 use crate::shape::Shape;
 use crate::shaping::keep;
 use crate::unfit::{RuleFault, Unfit};
 use algebra::Expr;
-use std::alloc::Global;
+use std::alloc::{AllocError, Global};
 use values::Fault;
 
 /// Of two projections the outer one counts.
@@ -21,6 +22,8 @@ impl Rule for KeepsMerge {
     ghost pattern = { spec.pattern };
 
     ghost gives = { spec.keeps_merge };
+
+    ghost promise = { spec.promise };
 
     fn pattern() -> Pattern {
         Pattern::Two(
@@ -36,6 +39,10 @@ impl Rule for KeepsMerge {
             }
             _ => Err(Fault::Refused(Unfit::Pattern)),
         }
+    }
+
+    fn promise(_alloc: Global, _at: Match<'_>) -> Result<Promise, AllocError> {
+        Ok(Promise::Simpler)
     }
 
     fn is_sound() {}

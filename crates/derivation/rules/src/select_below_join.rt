@@ -6,12 +6,13 @@ ghost use Rattle.rules.specs.SelectBelowJoin as spec;
 
 use crate::matching::Match;
 use crate::pattern::{Below, Operator, Operators, Pattern};
+use crate::promise::Promise;
 use crate::rule::Rule;
 use crate::shape::Shape;
 use crate::shaping::{join, select, selected, some};
 use crate::unfit::{RuleFault, Unfit};
 use algebra::{ClassId, Conjuncts, Expr};
-use std::alloc::Global;
+use std::alloc::{AllocError, Global};
 use values::Fault;
 
 /// The selection from a join of the classes, with a part of its conjuncts below the join.
@@ -42,6 +43,8 @@ impl Rule for SelectBelowJoin {
 
     ghost gives = { spec.select_below_join };
 
+    ghost promise = { spec.promise };
+
     fn pattern() -> Pattern {
         Pattern::Two(
             Operators::Only(Operator::Select),
@@ -54,6 +57,10 @@ impl Rule for SelectBelowJoin {
             (Expr::Select(c, _), Expr::Join(d, a, b)) => pushed(alloc, at, c, d, *a, *b),
             _ => Err(Fault::Refused(Unfit::Pattern)),
         }
+    }
+
+    fn promise(_alloc: Global, _at: Match<'_>) -> Result<Promise, AllocError> {
+        Ok(Promise::Connected)
     }
 
     fn is_sound() {}

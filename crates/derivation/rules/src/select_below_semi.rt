@@ -4,12 +4,13 @@ ghost use Rattle.rules.specs.SelectBelowSemi as spec;
 
 use crate::matching::Match;
 use crate::pattern::{Below, Operator, Operators, Pattern};
+use crate::promise::Promise;
 use crate::rule::Rule;
 use crate::shape::Shape;
 use crate::shaping::{anti, select, semi};
 use crate::unfit::{RuleFault, Unfit};
 use algebra::Expr;
-use std::alloc::Global;
+use std::alloc::{AllocError, Global};
 use values::Fault;
 
 /// A selection from a semijoin or an antijoin goes below it, to the left side.
@@ -21,6 +22,8 @@ impl Rule for SelectBelowSemi {
     ghost pattern = { spec.pattern };
 
     ghost gives = { spec.select_below_semi };
+
+    ghost promise = { spec.promise };
 
     fn pattern() -> Pattern {
         Pattern::Two(
@@ -44,6 +47,10 @@ impl Rule for SelectBelowSemi {
             }
             _ => Err(Fault::Refused(Unfit::Pattern)),
         }
+    }
+
+    fn promise(_alloc: Global, _at: Match<'_>) -> Result<Promise, AllocError> {
+        Ok(Promise::Connected)
     }
 
     fn is_sound() {}

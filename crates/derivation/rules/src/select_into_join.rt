@@ -5,12 +5,13 @@ ghost use Rattle.rules.specs.SelectIntoJoin as spec;
 
 use crate::matching::Match;
 use crate::pattern::{Below, Operator, Operators, Pattern};
+use crate::promise::Promise;
 use crate::rule::Rule;
 use crate::shape::Shape;
 use crate::shaping::{join, selected, some};
 use crate::unfit::{RuleFault, Unfit};
 use algebra::{ClassId, Conjuncts, Expr};
-use std::alloc::Global;
+use std::alloc::{AllocError, Global};
 use values::Fault;
 
 /// The selection from a join of the classes, with the conjuncts without subqueries in the join's condition.
@@ -39,6 +40,8 @@ impl Rule for SelectIntoJoin {
 
     ghost gives = { spec.select_into_join };
 
+    ghost promise = { spec.promise };
+
     fn pattern() -> Pattern {
         Pattern::Two(
             Operators::Only(Operator::Select),
@@ -51,6 +54,10 @@ impl Rule for SelectIntoJoin {
             (Expr::Select(c, _), Expr::Join(d, a, b)) => absorbed(alloc, c, d, *a, *b),
             _ => Err(Fault::Refused(Unfit::Pattern)),
         }
+    }
+
+    fn promise(_alloc: Global, _at: Match<'_>) -> Result<Promise, AllocError> {
+        Ok(Promise::Connected)
     }
 
     fn is_sound() {}

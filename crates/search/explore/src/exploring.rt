@@ -5,14 +5,14 @@ ghost use Rattle.closure.specs.Closed.{IsClosed};
 ghost use Rattle.closure.specs.Lacking.{IsMissing};
 ghost use Rattle.memo.specs.Growth.{Grows, IsWithin, Extends, FoundsDirectly};
 
-use crate::bindings::{Products, level_of, rules_of_one, rules_of_two};
+use crate::bindings::{Products, classes_below, rank_of};
 use crate::queue::Queue;
-use algebra::{Expr, LineId};
+use algebra::{ClassId, LineId};
 use closure::{Binding, Missing, missing};
 use derivation::Line;
 use memo::Memo;
 use query::ids::id_of;
-use rules::RuleName;
+use rules::{Match, MatchedLine, RuleName};
 use std::alloc::{AllocError, Global};
 
 /// So many bindings are tried at most in one pass.
@@ -29,35 +29,35 @@ fn width_of(memo: &Memo<'_>, line: LineId) -> usize {
     }
 }
 
-/// The class that an expression takes first.
-fn first_input(expr: &Expr) -> Option<u32> {
-    let (first, _) = expr.children();
-    first
-}
-
-/// Puts a rule into the queue, at a line and one below it, if there is one.
+/// Puts the rules that fit there into the queue, at the line of this number alone or over another one.
 fn enqueue(
     alloc: Global,
     memo: &Memo<'_>,
     queue: &mut Queue,
     products: Products,
-    binding: Binding,
+    top: LineId,
+    below: Option<LineId>,
+    lines: &[MatchedLine<'_>],
 ) -> Result<(), AllocError> {
-    let Some(top) = memo.log().member(binding.top) else {
-        return Ok(());
+    let at = Match {
+        lines,
+        pick: 0,
+        classes: memo.log().classes(),
     };
-    let below = match binding.below {
-        Some(line) => memo.log().member(line).map(|member| member.expr),
-        None => None,
-    };
-    let level = level_of(alloc, memo, binding.rule, top.expr, below)?;
-    if !products.allow(level) {
-        return Ok(());
+    for rule in RuleName::all() {
+        if rule.pattern().fits(alloc, at)? {
+            let promise = rule.promise(alloc, at)?;
+            if products.allow(promise) {
+                let rule = *rule;
+                let binding = Binding { rule, top, below };
+                queue.add(binding, rank_of(promise), width_of(memo, top))?;
+            }
+        }
     }
-    queue.add(binding, level.number(), width_of(memo, binding.top))
+    Ok(())
 }
 
-/// Puts what may fit into the queue where one line stands over another.
+/// Puts what fits into the queue where one line stands over another.
 fn enqueue_pair(
     alloc: Global,
     memo: &Memo<'_>,
@@ -69,19 +69,37 @@ fn enqueue_pair(
     let (Some(upper), Some(lower)) = (memo.log().member(top), memo.log().member(below)) else {
         return Ok(());
     };
-    for rule in rules_of_two(upper.expr, lower.expr) {
-        let binding = Binding {
-            rule: *rule,
-            top,
-            below: Some(below),
-        };
-        enqueue(alloc, memo, queue, products, binding)?;
+    let lines = [upper, lower];
+    enqueue(
+        alloc,
+        memo,
+        queue,
+        products,
+        top,
+        Some(below),
+        lines.as_slice(),
+    )
+}
+
+/// Puts into the queue what fits at a line over the earlier lines of a class and itself.
+fn enqueue_over(
+    alloc: Global,
+    memo: &Memo<'_>,
+    queue: &mut Queue,
+    products: Products,
+    line: LineId,
+    class: ClassId,
+) -> Result<(), AllocError> {
+    for below in memo.log().members(alloc, class)? {
+        if below <= line {
+            enqueue_pair(alloc, memo, queue, products, line, below)?;
+        }
     }
     Ok(())
 }
 
-/// Puts into the queue what may fit at a line alone, over earlier lines and itself, and below earlier ones. So each pair is put there once, by
-/// the later of the two.
+/// Puts into the queue what fits at a line alone, over earlier lines and itself, and below earlier ones. So each pair is put there once, by the
+/// later of the two.
 fn enter(
     alloc: Global,
     memo: &Memo<'_>,
@@ -92,30 +110,22 @@ fn enter(
     let Some(member) = memo.log().member(line) else {
         return Ok(());
     };
-    for rule in rules_of_one(member.expr) {
-        let binding = Binding {
-            rule: *rule,
-            top: line,
-            below: None,
-        };
-        enqueue(alloc, memo, queue, products, binding)?;
-    }
-    if let Some(input) = first_input(member.expr) {
-        for below in memo.log().members(alloc, input)? {
-            if below <= line {
-                enqueue_pair(alloc, memo, queue, products, line, below)?;
-            }
+    enqueue(
+        alloc,
+        memo,
+        queue,
+        products,
+        line,
+        None,
+        [member].as_slice(),
+    )?;
+    for class in classes_below(memo, member.expr) {
+        if let Some(class) = class {
+            enqueue_over(alloc, memo, queue, products, line, class)?;
         }
     }
     for top in memo.parents(member.class)? {
-        let is_over = match memo.log().member(top) {
-            Some(parent) => match first_input(parent.expr) {
-                Some(input) => memo.log().are_same(input, member.class),
-                None => false,
-            },
-            None => false,
-        };
-        if is_over && top < line {
+        if top < line {
             enqueue_pair(alloc, memo, queue, products, top, line)?;
         }
     }
