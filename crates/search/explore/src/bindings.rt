@@ -1,8 +1,9 @@
-//! Which rules fit lines, by their patterns, and whether they are wanted.
+//! Which rules may fit lines, by their patterns, and when they are tried.
 
-use algebra::{ClassId, Expr};
-use memo::Memo;
-use rules::{Input, Pattern, Promise, RuleName};
+use algebra::Expr;
+use book::RuleName;
+use rules::{Input, Pattern, Promise};
+use std::alloc::{AllocError, Global};
 
 /// Whether products of what no condition connects are made.
 #[derive(Clone, Copy)]
@@ -31,37 +32,39 @@ pub(crate) fn rank_of(promise: Promise) -> u8 {
     }
 }
 
-/// Whether a rule takes a line with this expression over one of the class that it takes there.
-fn is_over(expr: &Expr, input: Input) -> bool {
+fn are_same(one: Input, other: Input) -> bool {
+    match (one, other) {
+        (Input::First, Input::First) | (Input::Second, Input::Second) => true,
+        (Input::First, Input::Second) | (Input::Second, Input::First) => false,
+    }
+}
+
+/// The rules that take a line with this expression over one of the class that it takes there.
+pub(crate) fn rules_over(
+    alloc: Global,
+    expr: &Expr,
+    input: Input,
+) -> Result<Vec<RuleName>, AllocError> {
+    let mut rules = Vec::new(alloc);
     for rule in RuleName::all() {
         if let Pattern::Two(operators, below) = rule.pattern() {
-            let is_there = match (below.input, input) {
-                (Input::First, Input::First) | (Input::Second, Input::Second) => true,
-                _ => false,
-            };
-            if is_there && operators.include(expr) {
-                return true;
+            if are_same(below.input, input) && operators.include(expr) {
+                rules.push(*rule)?;
             }
         }
     }
-    false
+    Ok(rules)
 }
 
-/// The class that the expression takes there, if rules take lines of it.
-fn class_below(expr: &Expr, input: Input) -> Option<ClassId> {
-    if is_over(expr, input) {
-        input.of(expr)
-    } else {
-        None
+/// The rules that take a line with this expression below another one.
+pub(crate) fn rules_under(alloc: Global, expr: &Expr) -> Result<Vec<RuleName>, AllocError> {
+    let mut rules = Vec::new(alloc);
+    for rule in RuleName::all() {
+        if let Pattern::Two(_, below) = rule.pattern() {
+            if below.operators.include(expr) {
+                rules.push(*rule)?;
+            }
+        }
     }
-}
-
-/// The classes of whose lines a rule may take one below a line with this expression, each once.
-pub(crate) fn classes_below(memo: &Memo<'_>, expr: &Expr) -> [Option<ClassId>; 2] {
-    let first = class_below(expr, Input::First);
-    let second = class_below(expr, Input::Second);
-    match (first, second) {
-        (Some(left), Some(right)) if memo.log().are_same(left, right) => [first, None],
-        _ => [first, second],
-    }
+    Ok(rules)
 }

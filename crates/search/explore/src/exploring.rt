@@ -5,14 +5,15 @@ ghost use Rattle.closure.specs.Closed.{IsClosed};
 ghost use Rattle.closure.specs.Lacking.{IsMissing};
 ghost use Rattle.memo.specs.Growth.{Grows, IsWithin, Extends, FoundsDirectly};
 
-use crate::bindings::{Products, classes_below, rank_of};
+use crate::bindings::{Products, rank_of, rules_over, rules_under};
 use crate::queue::Queue;
-use algebra::{ClassId, LineId};
+use algebra::LineId;
+use book::RuleName;
 use closure::{Binding, Missing, missing};
 use derivation::Line;
 use memo::Memo;
 use query::ids::id_of;
-use rules::{Match, MatchedLine, RuleName};
+use rules::{Input, Match, MatchedLine};
 use std::alloc::{AllocError, Global};
 
 /// So many bindings are tried at most in one pass.
@@ -29,14 +30,14 @@ fn width_of(memo: &Memo<'_>, line: LineId) -> usize {
     }
 }
 
-/// Puts the rules that fit there into the queue, at the line of this number alone or over another one.
+/// Puts those of the rules into the queue that fit there: at the line of this number alone or over another one.
 fn enqueue(
     alloc: Global,
     memo: &Memo<'_>,
     queue: &mut Queue,
     products: Products,
-    top: LineId,
-    below: Option<LineId>,
+    rules: &[RuleName],
+    (top, below): (LineId, Option<LineId>),
     lines: &[MatchedLine<'_>],
 ) -> Result<(), AllocError> {
     let at = Match {
@@ -44,7 +45,7 @@ fn enqueue(
         pick: 0,
         classes: memo.log().classes(),
     };
-    for rule in RuleName::all() {
+    for rule in rules {
         if rule.pattern().fits(alloc, at)? {
             let promise = rule.promise(alloc, at)?;
             if products.allow(promise) {
@@ -57,42 +58,69 @@ fn enqueue(
     Ok(())
 }
 
-/// Puts what fits into the queue where one line stands over another.
-fn enqueue_pair(
-    alloc: Global,
-    memo: &Memo<'_>,
-    queue: &mut Queue,
-    products: Products,
-    top: LineId,
-    below: LineId,
-) -> Result<(), AllocError> {
-    let (Some(upper), Some(lower)) = (memo.log().member(top), memo.log().member(below)) else {
-        return Ok(());
-    };
-    let lines = [upper, lower];
-    enqueue(
-        alloc,
-        memo,
-        queue,
-        products,
-        top,
-        Some(below),
-        lines.as_slice(),
-    )
-}
-
-/// Puts into the queue what fits at a line over the earlier lines of a class and itself.
-fn enqueue_over(
+/// Puts into the queue what fits at a line over the earlier lines of a class that it takes, and over itself.
+fn enter_over(
     alloc: Global,
     memo: &Memo<'_>,
     queue: &mut Queue,
     products: Products,
     line: LineId,
-    class: ClassId,
+    upper: MatchedLine<'_>,
+    input: Input,
 ) -> Result<(), AllocError> {
+    let rules = rules_over(alloc, upper.expr, input)?;
+    let Some(class) = input.of(upper.expr) else {
+        return Ok(());
+    };
+    if rules.is_empty() {
+        return Ok(());
+    }
     for below in memo.log().members(alloc, class)? {
-        if below <= line {
-            enqueue_pair(alloc, memo, queue, products, line, below)?;
+        if let (true, Some(lower)) = (below <= line, memo.log().member(below)) {
+            let numbers = (line, Some(below));
+            let lines = [upper, lower];
+            let rules = rules.as_slice();
+            enqueue(
+                alloc,
+                memo,
+                queue,
+                products,
+                rules,
+                numbers,
+                lines.as_slice(),
+            )?;
+        }
+    }
+    Ok(())
+}
+
+/// Puts into the queue what fits at a line below earlier ones.
+fn enter_under(
+    alloc: Global,
+    memo: &Memo<'_>,
+    queue: &mut Queue,
+    products: Products,
+    line: LineId,
+    lower: MatchedLine<'_>,
+) -> Result<(), AllocError> {
+    let rules = rules_under(alloc, lower.expr)?;
+    if rules.is_empty() {
+        return Ok(());
+    }
+    for top in memo.parents(lower.class)? {
+        if let (true, Some(upper)) = (top < line, memo.log().member(top)) {
+            let numbers = (top, Some(line));
+            let lines = [upper, lower];
+            let rules = rules.as_slice();
+            enqueue(
+                alloc,
+                memo,
+                queue,
+                products,
+                rules,
+                numbers,
+                lines.as_slice(),
+            )?;
         }
     }
     Ok(())
@@ -110,26 +138,21 @@ fn enter(
     let Some(member) = memo.log().member(line) else {
         return Ok(());
     };
+    let alone = [member];
+    let numbers = (line, None);
     enqueue(
         alloc,
         memo,
         queue,
         products,
-        line,
-        None,
-        [member].as_slice(),
+        RuleName::all(),
+        numbers,
+        alone.as_slice(),
     )?;
-    for class in classes_below(memo, member.expr) {
-        if let Some(class) = class {
-            enqueue_over(alloc, memo, queue, products, line, class)?;
-        }
+    for input in [Input::First, Input::Second] {
+        enter_over(alloc, memo, queue, products, line, member, input)?;
     }
-    for top in memo.parents(member.class)? {
-        if top < line {
-            enqueue_pair(alloc, memo, queue, products, top, line)?;
-        }
-    }
-    Ok(())
+    enter_under(alloc, memo, queue, products, line, member)
 }
 
 /// Applies a rule at the lines of a binding.

@@ -1,11 +1,12 @@
 //! Each line of a log is simplified, those that come of it among them.
 
-use crate::bindings::classes_below;
+use crate::bindings::rules_over;
 use crate::keys::learn_keys;
 use algebra::{ClassId, Expr, LineId};
+use book::RuleName;
 use memo::Memo;
 use query::ids::id_of;
-use rules::{Match, MatchedLine, Promise, RuleName};
+use rules::{Input, Match, MatchedLine, Promise};
 use std::alloc::{AllocError, Global};
 
 /// Of a longer log the first lines alone are looked at, which bounds the time that is spent.
@@ -65,15 +66,16 @@ fn simplify_alone(alloc: Global, memo: &mut Memo<'_>, line: LineId) -> Result<()
     Ok(())
 }
 
-/// Applies the rules to the line and each line of the class below it that make them simpler.
+/// Applies those of the rules to the line and each line of the class below it that make them simpler.
 fn simplify_over(
     alloc: Global,
     memo: &mut Memo<'_>,
+    rules: &[RuleName],
     line: LineId,
     class: ClassId,
 ) -> Result<(), AllocError> {
     for below in memo.log().members(alloc, class)? {
-        for rule in RuleName::all() {
+        for rule in rules {
             if makes_simpler_at(alloc, memo, *rule, line, Some(below))? {
                 let _ = memo.apply(alloc, *rule, [line, below].as_slice())?;
             }
@@ -82,27 +84,39 @@ fn simplify_over(
     Ok(())
 }
 
+/// The rules that take a line over one of the class that it takes there, and that class; no rules where there is no such class.
+fn below(
+    alloc: Global,
+    memo: &Memo<'_>,
+    line: LineId,
+    input: Input,
+) -> Result<(Vec<RuleName>, ClassId), AllocError> {
+    let Some(member) = memo.log().member(line) else {
+        return Ok((Vec::new(alloc), 0));
+    };
+    match input.of(member.expr) {
+        Some(class) => Ok((rules_over(alloc, member.expr, input)?, class)),
+        None => Ok((Vec::new(alloc), 0)),
+    }
+}
+
 /// The class of which keys are asked: that of which a line has the distinct rows.
-fn keyed(expr: &Expr) -> Option<ClassId> {
-    match expr {
+fn keyed(memo: &Memo<'_>, line: LineId) -> Option<ClassId> {
+    match memo.log().member(line)?.expr {
         Expr::Distinct(x) => Some(*x),
         _ => None,
     }
 }
 
 fn simplify_line(alloc: Global, memo: &mut Memo<'_>, line: LineId) -> Result<(), AllocError> {
-    let Some(member) = memo.log().member(line) else {
-        return Ok(());
-    };
-    let keyed = keyed(member.expr);
-    let classes = classes_below(memo, member.expr);
-    if let Some(class) = keyed {
+    if let Some(class) = keyed(memo, line) {
         learn_keys(alloc, memo, class)?;
     }
     simplify_alone(alloc, memo, line)?;
-    for class in classes {
-        if let Some(class) = class {
-            simplify_over(alloc, memo, line, class)?;
+    for input in [Input::First, Input::Second] {
+        let (rules, class) = below(alloc, memo, line, input)?;
+        if !rules.is_empty() {
+            simplify_over(alloc, memo, rules.as_slice(), line, class)?;
         }
     }
     Ok(())
