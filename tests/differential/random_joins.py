@@ -61,8 +61,24 @@ class Conditions:
         parts = [self.rng.sample([shared, self.condition(0)], 2) if self.rng.random() < 0.9 else [self.condition(0), self.condition(0)] for _ in range(count)]
         return ("or", [("and", part) for part in parts])
 
+    def alone(self, columns):
+        """A condition of these columns and literals."""
+        column = self.rng.choice(columns)
+        if self.rng.random() < 0.2:
+            return ("null", ("c", column))
+        kind = self.layout.kind(column)
+        return ("compare", self.rng.choice(["=", "=", "<", "<>"]), ("c", column), ("i" if kind == "INT" else "t", self.rng.choice(VALUES[kind])))
+
+    def sided(self):
+        """An OR whose branches each say something of one side alone, but now and then one of them."""
+        columns, count = self.layout.columns_of(self.rng.choice([0, 1, 1])), self.rng.choice([2, 2, 3])
+        said = lambda: ("and", self.rng.sample([self.alone(columns), self.condition(0)], 2))
+        return ("or", [said() if self.rng.random() < 0.9 else self.condition(0) for _ in range(count)])
+
     def condition(self, depth=1):
         choice = self.rng.random()
+        if depth and self.rng.random() < 0.15:
+            return self.sided()
         if depth and self.rng.random() < 0.1:
             return self.branches()
         if depth and choice < 0.08:

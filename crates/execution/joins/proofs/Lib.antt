@@ -6,5 +6,6 @@ pub mod FoundRows
 pub mod JoinRows
 pub mod Merges
 pub mod Outputs
+pub mod RightParts
 pub mod SharedKeys
 pub mod TestedPairs

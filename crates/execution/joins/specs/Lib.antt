@@ -3,4 +3,5 @@ pub mod Hashes
 pub mod Joins
 pub mod Keys
 pub mod Merges
+pub mod RightParts
 pub mod TestedPairs

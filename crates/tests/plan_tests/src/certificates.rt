@@ -214,6 +214,11 @@ SELECT c, a FROM u JOIN t ON c = a AND b IS NOT NULL => scan 0 0 | scan 1 1 | ha
 SELECT x.a, y.a FROM t x JOIN t y ON x.a = x.b => scan 0 0 | scan 1 1 | hash 2 | cut 3: 0 2 => K06 line 5
 SELECT a, c FROM t JOIN u ON c = 3 => scan 0 0 | scan 1 1 | hash 2 | cut 3: 0 2 => K06 line 5
 SELECT a, c FROM t JOIN u ON a = c OR b = c => scan 0 0 | scan 1 1 | hash 2 | cut 3: 0 2 => K06 line 5
+SELECT a, c, d FROM t JOIN u ON a = c AND (d = 'x' AND b < 20 OR d = 'y' AND b > 10) => scan 0 0 | scan 1 1 | hash 2 | cut 3: 0 2 3 => accepted ;3,3,x,
+SELECT a, c, d FROM t LEFT JOIN u ON a = c AND (d = 'x' AND b < 20 OR d = 'y' AND b > 10) => scan 0 0 | scan 1 1 | hash 2 | cut 3: 0 2 3 => accepted ;1,-,-,;2,-,-,;3,3,x,;4,-,-,;5,-,-,
+SELECT x.a, y.a FROM t x LEFT JOIN t y ON x.b = y.b AND (y.a > 3 AND x.a < 5 OR y.b IS NULL AND x.a = 2) => scan 0 0 | scan 1 1 | hash 2 | cut 3: 0 2 => accepted ;1,5,;2,-,;3,-,;4,-,;5,-,
+SELECT a, c, d FROM t LEFT JOIN u ON d = 'x' AND b < 20 OR d IS NULL AND b = 20 => scan 0 0 | scan 1 1 | left 2 | cut 3: 0 2 3 => accepted ;1,1,-,;2,-,-,;3,3,x,;4,-,-,;5,1,-,
+SELECT a, c, d FROM t LEFT JOIN u ON d = 'x' AND b < 20 OR a = c => scan 0 0 | scan 1 1 | left 2 | cut 3: 0 2 3 => accepted ;1,1,-,;2,-,-,;3,3,x,;3,3,y,;4,-,-,;5,-,-,
 SELECT a, c FROM t, u WHERE a = c => scan 0 0 | scan 1 1 | hash 2 | filter 3 | cut 4: 0 2 => K06 line 7
 SELECT a, c, d FROM t JOIN u ON a = c => scan 0 0 | sort: 0 | scan 1 1 | sort: 2 | merge 2: 0 2 | cut 3: 0 2 3 => accepted ;1,1,-,;3,3,x,;3,3,y,
 SELECT a, c, d FROM t JOIN u ON a = c => scan 0 0 | scan 1 1 | sort: 2 | merge 2: 0 2 | cut 3: 0 2 3 => K07 line 5

@@ -72,6 +72,10 @@ const SUBQUERIES: &str =
 SELECT d.name FROM dept d WHERE EXISTS (SELECT * FROM emp e WHERE e.dept = d.id AND EXISTS (SELECT * FROM emp f WHERE f.pay = e.pay AND f.id <> e.id)) => name;ops
 SELECT d.name FROM dept d WHERE EXISTS (SELECT * FROM emp e WHERE e.dept = d.id AND e.id IN (SELECT f.id FROM emp f WHERE f.id = d.boss)) => name;ops;dev
 SELECT d.name FROM dept d WHERE NOT EXISTS (SELECT * FROM emp e WHERE e.dept = d.id AND NOT EXISTS (SELECT * FROM emp f WHERE f.dept = d.id AND f.pay > 400)) => name;ops;lab
+SELECT d.name FROM dept d WHERE EXISTS (SELECT * FROM emp e WHERE e.pay > 400 AND e.dept = d.id OR e.badge IS NULL AND e.id = d.boss) => name;ops;dev
+SELECT d.name FROM dept d WHERE NOT EXISTS (SELECT * FROM emp e WHERE e.pay > 400 AND e.dept = d.id OR e.badge IS NULL AND e.id = d.boss) => name;lab
+SELECT d.name FROM dept d WHERE EXISTS (SELECT * FROM emp e WHERE e.badge > 7 AND d.boss IS NULL OR e.id = d.boss AND d.id = 1) => name;ops;lab
+SELECT e.id FROM emp e WHERE e.badge NOT IN (SELECT d.boss FROM dept d WHERE d.id > 1 AND e.pay > 400 OR d.boss = 10 AND e.dept = 1) => id;12
 SELECT id FROM emp WHERE dept IN (SELECT id FROM dept WHERE boss IN (SELECT id FROM emp WHERE pay = 500)) => id;10;11
 SELECT e.id FROM emp e WHERE EXISTS (SELECT * FROM dept d WHERE d.id = e.dept AND EXISTS (SELECT * FROM emp f WHERE f.dept = d.id AND f.id NOT IN (SELECT g.id FROM emp g WHERE g.id <= e.id))) => id;10
 SELECT id FROM emp e WHERE e.pay IN (SELECT pay FROM emp WHERE id <> e.id) => id;10;13
