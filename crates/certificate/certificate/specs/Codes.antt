@@ -1,6 +1,6 @@
 -- The codes by which the program reports a faulty certificate.
 use Rattle.std.specs.Prelude.{ℕ, List, Option, Some, None, codes}
-use Rattle.rules.specs.Book as book
+use Rattle.book.specs.Book as book
 use Rattle.certificate.specs.declared.certificate.CheckReason.{CheckReason}
 use Rattle.certificate.specs.declared.certificate.CheckReason.TheVariants.{UnknownLine, OtherForm, OtherLine, IllFormed, FailedCondition, FailedFact, OtherOperator, UnsortedInput, UnsortedAnswer}
 

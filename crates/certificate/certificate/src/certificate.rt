@@ -4,9 +4,9 @@ ghost use Rattle.std.specs.Prelude.{◌≡◌, option_map};
 ghost use Rattle.certificate.specs.Codes.{code_of, rule_of};
 ghost use Rattle.certificate.specs.Replay.{reason_of};
 
+use book::RuleName;
 use derivation::{Line, LineReason};
 use physical::Plan;
-use rules::RuleName;
 use thiserror::Error;
 use values::{Fault, Items};
 

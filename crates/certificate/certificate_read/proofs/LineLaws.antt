@@ -1,14 +1,15 @@
 -- Expressions, steps, facts and lines are told by their words.
-use Rattle.std.proofs.Common.{◌≡◌, Bool, if◌then◌else◌, refl, sym, ◌∙◌, ap, codes}
+use Rattle.std.proofs.Common.{rules, ◌≡◌, Bool, if◌then◌else◌, List, [], ◌∷◌, Option, Some, None, refl, sym, ◌∙◌, ap, codes}
 use lib.Dec.{eqb}
 use lib.Pointwise.{pointwise}
 use Rattle.algebra.specs.declared.expr.Expr.{Expr}
 use Rattle.algebra.specs.declared.expr.Expr.TheVariants.{Get, Select, Join, LeftJoin, Semi, Anti, Keep, Distinct, Group}
 use Rattle.props.specs.declared.fact.Fact.{Fact}
 use Rattle.props.specs.declared.fact.Fact.TheVariants.{NotNull, WeakKey, StrongKey}
-use Rattle.rules.specs.Book.{code_of}
-use Rattle.rules.specs.declared.book.RuleName.{RuleName}
-use Rattle.rules.specs.declared.book.RuleName.TheVariants as rule
+use Rattle.book.specs.Book as book
+use Rattle.book.specs.Book.{code_of}
+use Rattle.book.specs.declared.names.RuleName.{RuleName}
+use Rattle.book.proofs.RuleLaws.{each_rule}
 use Rattle.derivation.specs.declared.line.Step.{Step}
 use Rattle.derivation.specs.declared.line.Line.{Line}
 use Rattle.derivation.specs.declared.line.Line.TheVariants.{Founds, Adds, Unites, Alike, Gives}
@@ -76,30 +77,19 @@ line_names f g e = sym (at_line f) ∙ ap line_at e ∙ at_line g
 
 -- ---- rules
 
-abbrev rule_at : Text → RuleName
-rule_at w =
-    if is_text w (code_of rule.JoinCommutes) then rule.JoinCommutes else if is_text w (code_of rule.JoinAssociates) then rule.JoinAssociates else if is_text w (code_of rule.SelectsMerge) then rule.SelectsMerge
-    else if is_text w (code_of rule.SelectBelowJoin) then rule.SelectBelowJoin else if is_text w (code_of rule.SelectIntoJoin) then rule.SelectIntoJoin
-    else if is_text w (code_of rule.ConditionBelowJoin) then rule.ConditionBelowJoin else if is_text w (code_of rule.SelectBelowSemi) then rule.SelectBelowSemi
-    else if is_text w (code_of rule.KeepsMerge) then rule.KeepsMerge else if is_text w (code_of rule.KeepOfAll) then rule.KeepOfAll else if is_text w (code_of rule.KeepBelowJoin) then rule.KeepBelowJoin
-    else if is_text w (code_of rule.DistinctOfKeyed) then rule.DistinctOfKeyed else rule.GroupIsDistinct
+-- the first of the rules with this code
+abbrev first_with : Text → List RuleName → Option RuleName
+first_with w [] = None
+first_with w (r ∷ R) = if is_text w (code_of r) then Some r else first_with w R
 
-at_rule : (r : RuleName) → rule_at (code_of r) ≡ r
-at_rule rule.JoinCommutes = refl
-at_rule rule.JoinAssociates = refl
-at_rule rule.SelectsMerge = refl
-at_rule rule.SelectBelowJoin = refl
-at_rule rule.SelectIntoJoin = refl
-at_rule rule.ConditionBelowJoin = refl
-at_rule rule.SelectBelowSemi = refl
-at_rule rule.KeepsMerge = refl
-at_rule rule.KeepOfAll = refl
-at_rule rule.KeepBelowJoin = refl
-at_rule rule.DistinctOfKeyed = refl
-at_rule rule.GroupIsDistinct = refl
+at_rule : (r : RuleName) → first_with (code_of r) book.rules ≡ Some r
+at_rule = each_rule (λ r. first_with (code_of r) book.rules ≡ Some r) (search rules)
+
+codes_differ : (r s : RuleName) → code_of r ≡ code_of s → r ≡ s
+codes_differ r s e = let same : Some r ≡ Some s = sym (at_rule r) ∙ ap (λ w. first_with w book.rules) e ∙ at_rule s in cc
 
 pub rule_told : AreTold rule_wording
-rule_told = one_told code_of IsAny IsAny IsNever (λ x y h k e. sym (at_rule x) ∙ ap rule_at e ∙ at_rule y) (λ x h over. over)
+rule_told = one_told code_of IsAny IsAny IsNever (λ x y h k e. codes_differ x y e) (λ x h over. over)
 
 -- ---- expressions
 

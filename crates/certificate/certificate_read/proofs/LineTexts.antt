@@ -1,5 +1,5 @@
 -- The text of a line is cut into its words: single spaces stand between them, and none has a space in it. It is text, and has no LF.
-use Rattle.std.proofs.Common.{◌≡◌, ℕ, ◌<◌, ◌==◌, ◌||◌, Bool, true, false, List, Result, [], ◌∷◌, ◌++◌, flat_map, append-nil, append_assoc, refl, sym, ◌∙◌, ap, subst, codes, decimal, arith}
+use Rattle.std.proofs.Common.{rules, ◌≡◌, ℕ, ◌<◌, ◌==◌, ◌||◌, Bool, true, false, List, Result, [], ◌∷◌, ◌++◌, flat_map, append-nil, append_assoc, refl, sym, ◌∙◌, ap, subst, codes, decimal, arith}
 use Rattle.std.proofs.lemmas.List.Splits.{slice_split_none, slice_split_at}
 use Rattle.std.proofs.lemmas.Bool.{and_parts}
 use Rattle.std.proofs.lemmas.Bool.Decides.{nat_tests}
@@ -18,9 +18,9 @@ use Rattle.algebra.specs.ConjunctOrder.{condition_text}
 use Rattle.physical.specs.declared.plan.OrderKey.{OrderKey}
 use Rattle.props.specs.declared.fact.Fact.{Fact}
 use Rattle.props.specs.declared.fact.Fact.TheVariants.{NotNull, WeakKey, StrongKey}
-use Rattle.rules.specs.Book.{code_of}
-use Rattle.rules.specs.declared.book.RuleName.{RuleName}
-use Rattle.rules.specs.declared.book.RuleName.TheVariants as rule
+use Rattle.book.specs.Book.{code_of}
+use Rattle.book.specs.declared.names.RuleName.{RuleName}
+use Rattle.book.proofs.RuleLaws.{each_rule}
 use Rattle.derivation.specs.declared.line.Step.{Step}
 use Rattle.derivation.specs.declared.line.Line.{Line}
 use Rattle.derivation.specs.declared.line.Line.TheVariants.{Founds, Adds, Unites, Alike, Gives}
@@ -104,18 +104,7 @@ key_graphic : (k : OrderKey) → IsShortKey k → IsGraphic (text.key_text k)
 key_graphic k s = pass_both is_graphic (decimal k.column) (direction_text k.descending) (number_graphic k.column s) (direction_graphic k.descending)
 
 code_graphic : (r : RuleName) → IsGraphic (code_of r)
-code_graphic rule.JoinCommutes = refl
-code_graphic rule.JoinAssociates = refl
-code_graphic rule.SelectsMerge = refl
-code_graphic rule.SelectBelowJoin = refl
-code_graphic rule.SelectIntoJoin = refl
-code_graphic rule.ConditionBelowJoin = refl
-code_graphic rule.SelectBelowSemi = refl
-code_graphic rule.KeepsMerge = refl
-code_graphic rule.KeepOfAll = refl
-code_graphic rule.KeepBelowJoin = refl
-code_graphic rule.DistinctOfKeyed = refl
-code_graphic rule.GroupIsDistinct = refl
+code_graphic = each_rule (λ r. IsGraphic (code_of r)) (search rules)
 
 -- ---- words with single spaces between them
 

@@ -6,8 +6,8 @@ use Rattle.algebra.specs.declared.expr.Expr.{Expr}
 use Rattle.algebra.specs.declared.expr.Expr.TheVariants.{Get, Select, Join, LeftJoin, Semi, Anti, Keep, Distinct, Group}
 use Rattle.props.specs.declared.fact.Fact.{Fact}
 use Rattle.props.specs.declared.fact.Fact.TheVariants.{NotNull, WeakKey, StrongKey}
-use Rattle.rules.specs.Book.{code_of}
-use Rattle.rules.specs.declared.book.RuleName.{RuleName}
+use Rattle.book.specs.Book.{code_of}
+use Rattle.book.specs.declared.names.RuleName.{RuleName}
 use Rattle.derivation.specs.declared.line.Step.{Step}
 use Rattle.derivation.specs.declared.line.Line.{Line}
 use Rattle.derivation.specs.declared.line.Line.TheVariants.{Founds, Adds, Unites, Alike, Gives}

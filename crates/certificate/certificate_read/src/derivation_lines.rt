@@ -1,7 +1,7 @@
 //! The lines of a derivation.
 
 ghost use Rattle.algebra.specs.declared.expr.Expr.TheVariants as algebra;
-ghost use Rattle.rules.specs.Book.{code_of};
+ghost use Rattle.book.specs.Book.{code_of};
 ghost use Rattle.derivation.specs.declared.line.Line.TheVariants as derivation;
 ghost use Rattle.certificate_read.specs.LineReading as spec;
 ghost use Rattle.certificate_read.specs.WordReading.{words_in};
@@ -13,9 +13,9 @@ use crate::forms::{ExprForm, FactForm, LineForm, expr_form, fact_form, line_form
 use crate::line_fault::LineFault;
 use crate::words::{Words, words_of};
 use algebra::Expr;
+use book::RuleName;
 use derivation::{Line, Step};
 use props::Fact;
-use rules::RuleName;
 use std::alloc::Global;
 use values::Boxed;
 

@@ -11,7 +11,7 @@ use Rattle.algebra.specs.declared.expr.Expr.TheVariants.{Get, Select, Join, Left
 use Rattle.algebra.specs.ConjunctOrder.{condition_text}
 use Rattle.props.specs.declared.fact.Fact.{Fact}
 use Rattle.props.specs.declared.fact.Fact.TheVariants.{NotNull, WeakKey, StrongKey}
-use Rattle.rules.specs.Book.{code_of}
+use Rattle.book.specs.Book.{code_of}
 use Rattle.derivation.specs.declared.line.Step.{Step}
 use Rattle.derivation.specs.declared.line.Line.{Line}
 use Rattle.derivation.specs.declared.line.Line.TheVariants.{Founds, Adds, Unites, Alike, Gives}

@@ -9,7 +9,7 @@ use Rattle.algebra.specs.declared.condition.Term.TheVariants.{Column, Literal}
 use Rattle.algebra.specs.declared.expr.Aggregation.{Aggregation}
 use Rattle.algebra.specs.declared.expr.Expr.TheVariants.{Get, Select, Join, LeftJoin, Semi, Anti, Keep, Distinct, Group}
 use Rattle.props.specs.declared.fact.Fact.TheVariants.{NotNull, WeakKey, StrongKey}
-use Rattle.rules.specs.declared.book.RuleName.TheVariants.{KeepsMerge, DistinctOfKeyed}
+use Rattle.book.specs.declared.names.RuleName.TheVariants.{KeepsMerge, DistinctOfKeyed}
 use Rattle.derivation.specs.declared.line.Line.TheVariants.{Founds, Adds, Unites, Alike, Gives}
 use Rattle.physical.specs.declared.plan.GroupMethod.TheVariants as group
 use Rattle.physical.specs.declared.plan.IndexAccess.{IndexAccess}

@@ -3,10 +3,10 @@
 use crate::facts::{Claim, GivenFacts, Ground};
 use crate::sameness::{Sameness, class_at};
 use algebra::{ClassId, Expr, LineId};
+use book::RuleName;
 use derivation::{Line, Step};
 use logs::Log;
 use props::Fact;
-use rules::RuleName;
 use std::alloc::{AllocError, Global};
 
 /// The lines of a log that are known to be needed.

@@ -4,17 +4,17 @@ use Rattle.std.proofs.lemmas.Bool.{and_parts, eqb-true, eq-eqb}
 use Rattle.query.specs.declared.query.TableInstance.{TableInstance}
 use Rattle.props.specs.Knowledge.{Knowledge}
 use Rattle.props.specs.Knowledge as knowledge
-use Rattle.rules.specs.declared.book.RuleName.{RuleName}
+use Rattle.book.specs.declared.names.RuleName.{RuleName}
 use Rattle.rules.specs.declared.pattern.Below.{Below}
 use Rattle.rules.specs.declared.pattern.Pattern.{Pattern}
 use Rattle.rules.specs.declared.pattern.Pattern.TheVariants.{One, Two, Three, Subquery, SubqueryLine, ClassLine}
 use Rattle.rules.specs.declared.shape.Shape.{Shape}
 use Rattle.rules.specs.declared.unfit.Unfit.TheVariants.{Pattern as Unfitting}
-use Rattle.rules.specs.Book.{given_by, pattern_of}
+use Rattle.book.specs.Book.{given_by, pattern_of}
 use Rattle.rules.specs.Matches as matches
 use Rattle.rules.specs.Matches.{Matched}
 use Rattle.rules.specs.Patterns.{input_of, is_below, is_line_of, lines_fit}
-use Rattle.rules.proofs.RuleLaws.{book_keeps, each_rule}
+use Rattle.book.proofs.RuleLaws.{book_keeps, each_rule}
 use Rattle.derivation.specs.Logs as logs
 use Rattle.derivation.specs.Logs.{Log, member}
 use Rattle.derivation.specs.Replay.{both_lines, members}

@@ -16,7 +16,7 @@ use Rattle.derivation.specs.Replay.{Replays, both_lines, members}
 use Rattle.derivation.proofs.Lookups.{columns-stay, founded, member-stays}
 use Rattle.closure.specs.declared.lacks.Binding.{Binding}
 use Rattle.closure.specs.Lacking.{GivesBinding}
-use Rattle.rules.proofs.RuleLaws.{book_stable}
+use Rattle.book.proofs.RuleLaws.{book_stable}
 use Rattle.closure.proofs.FormedLogs.{kept_by}
 
 module _ (instances : List TableInstance) (own : List Aggregation) (E : Log) where

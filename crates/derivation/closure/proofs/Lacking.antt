@@ -3,14 +3,14 @@ use Rattle.std.proofs.Common.{◌≡◌, ap, sym, ◌∙◌, subst, ℕ, Bool, t
 use Rattle.query.specs.declared.query.TableInstance.{TableInstance}
 use Rattle.algebra.specs.Alike.{AreAlike}
 use Rattle.algebra.specs.Columns.{has, columns_at}
-use Rattle.rules.specs.declared.book.RuleName.{RuleName}
+use Rattle.book.specs.declared.names.RuleName.{RuleName}
 use Rattle.rules.specs.declared.pattern.Input.{Input}
 use Rattle.rules.specs.declared.shape.Shape.{Shape}
 use Rattle.rules.specs.declared.unfit.Unfit.{Unfit}
-use Rattle.rules.specs.Book.{given_by, pattern_of, rules}
+use Rattle.book.specs.Book.{given_by, pattern_of, rules}
 use Rattle.rules.specs.Matches as matches
 use Rattle.rules.specs.Patterns.{input_of}
-use Rattle.rules.proofs.RuleLaws.{each_rule}
+use Rattle.book.proofs.RuleLaws.{each_rule}
 use Rattle.derivation.specs.Logs.{Log, member, least, are_same, knowledge}
 use Rattle.derivation.proofs.Lookups.{member-within}
 use Rattle.logs.specs.Members.{is_member, once_if}

@@ -16,7 +16,7 @@ use Rattle.props.specs.Knowledge as knowledge_
 use Rattle.rules.specs.declared.shape.Shape.{Shape}
 use Rattle.rules.specs.declared.shape.Shape.TheVariants as shape
 use Rattle.rules.specs.declared.unfit.Unfit.{Unfit}
-use Rattle.rules.specs.Book.{given_by}
+use Rattle.book.specs.Book.{given_by}
 use Rattle.rules.specs.Matches as matches
 use Rattle.derivation.specs.declared.line.Line.{Line}
 use Rattle.derivation.specs.declared.line.Line.TheVariants.{Adds, Unites, Alike}
@@ -35,7 +35,7 @@ use Rattle.closure.specs.Results.{uses_of, step_of, AreMatched, IsResult}
 use Rattle.closure.specs.Spelt.{cols, MayStand, shape_columns, IsSpelt}
 use Rattle.closure.proofs.Agreeing.{are-alike}
 use Rattle.closure.proofs.FormedLogs.{AreKept, kept_by}
-use Rattle.rules.proofs.RuleLaws.{book_formed}
+use Rattle.book.proofs.RuleLaws.{book_formed}
 use Rattle.rules.proofs.FormedShapes.{formed_class}
 
 -- a class is the same as itself

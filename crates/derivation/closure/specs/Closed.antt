@@ -9,10 +9,10 @@ use Rattle.algebra.specs.Equality.{same_expr}
 use Rattle.algebra.specs.Expressions.{children}
 use Rattle.props.specs.Knowledge.{Knowledge}
 use Rattle.props.specs.Knowledge as knowledge
-use Rattle.rules.specs.declared.book.RuleName.{RuleName}
+use Rattle.book.specs.declared.names.RuleName.{RuleName}
 use Rattle.rules.specs.declared.shape.Shape.{Shape, fold-Shape}
 use Rattle.rules.specs.declared.shape.Shape.TheOpen.{Shape-F}
-use Rattle.rules.specs.Book.{given_by}
+use Rattle.book.specs.Book.{given_by}
 use Rattle.rules.specs.Matches as matches
 use Rattle.derivation.specs.Logs as logs
 use Rattle.derivation.specs.Logs.{Log, as_member, member, are_same}

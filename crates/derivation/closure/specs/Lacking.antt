@@ -3,11 +3,11 @@ use Rattle.std.specs.Prelude.{◌≡◌, ℕ, Bool, true, false, List, [], ◌�
 use Rattle.std.specs.List.{AllByRecursion}
 use Rattle.query.specs.declared.query.TableInstance.{TableInstance}
 use Rattle.algebra.specs.Alike.{AreAlike}
-use Rattle.rules.specs.declared.book.RuleName.{RuleName}
+use Rattle.book.specs.declared.names.RuleName.{RuleName}
 use Rattle.rules.specs.declared.pattern.Input.{Input}
 use Rattle.rules.specs.declared.pattern.Pattern.{Pattern}
 use Rattle.rules.specs.declared.shape.Shape.{Shape}
-use Rattle.rules.specs.Book.{given_by, pattern_of}
+use Rattle.book.specs.Book.{given_by, pattern_of}
 use Rattle.rules.specs.Matches as matches
 use Rattle.derivation.specs.Logs.{Log, member, least, are_same, knowledge}
 use Rattle.derivation.specs.Replay.{members}

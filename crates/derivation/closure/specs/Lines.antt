@@ -1,11 +1,11 @@
 -- What the rules give at each line of a log, by their patterns: alone, or over each line of a class that it takes.
 use Rattle.std.specs.Prelude.{◌≡◌, ℕ, Bool, true, false, List, [], ◌∷◌, Some}
 use Rattle.query.specs.declared.query.TableInstance.{TableInstance}
-use Rattle.rules.specs.declared.book.RuleName.{RuleName}
+use Rattle.book.specs.declared.names.RuleName.{RuleName}
 use Rattle.rules.specs.declared.pattern.Input.{Input}
 use Rattle.rules.specs.declared.pattern.Pattern.{Pattern}
 use Rattle.rules.specs.declared.pattern.Pattern.TheVariants.{One, Two}
-use Rattle.rules.specs.Book.{pattern_of}
+use Rattle.book.specs.Book.{pattern_of}
 use Rattle.rules.specs.Matches as matches
 use Rattle.rules.specs.Patterns.{has_one_of, input_of}
 use Rattle.derivation.specs.Logs.{Log, member}

@@ -2,7 +2,7 @@
 
 ghost use Rattle.std.specs.Prelude.{◌≡◌, ◌↔◌, length, map, IsTrue, IfOk, IfSome, None, Some};
 ghost use Rattle.rules.specs.declared.pattern.Pattern.TheVariants.{One, Two};
-ghost use Rattle.rules.specs.Book.{pattern_of};
+ghost use Rattle.book.specs.Book.{pattern_of};
 ghost use Rattle.rules.specs.Matches.{line_in};
 ghost use Rattle.derivation.specs.Logs.{member};
 ghost use Rattle.closure.specs.Closed as spec;
@@ -14,9 +14,10 @@ use crate::lacks::{Binding, Missing};
 use crate::pairs::{disagreeing, lines_over};
 use crate::standing::is_there;
 use algebra::LineId;
+use book::RuleName;
 use logs::Log;
 use query::ids::id_of;
-use rules::{Below, Input, Match, MatchedLine, Operators, Pattern, RuleName};
+use rules::{Below, Input, Match, MatchedLine, Operators, Pattern};
 use std::alloc::{AllocError, Global};
 use values::Fault;
 

@@ -1,7 +1,7 @@
 //! What a log lacks to be closed.
 
 use algebra::LineId;
-use rules::RuleName;
+use book::RuleName;
 
 /// A rule, and the lines that it is applied to: one, or the top one and one of the class that it takes first.
 #[derive(Clone, Copy)]

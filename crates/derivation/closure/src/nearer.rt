@@ -4,7 +4,7 @@ ghost use Rattle.std.specs.Prelude.{◌≡◌, [], map, true, Ok, IfOk};
 ghost use Rattle.rules.specs.Matches.{line_in};
 ghost use Rattle.derivation.specs.Logs.{founds, knowledge};
 ghost use Rattle.derivation.specs.Replay.{stands};
-ghost use Rattle.rules.specs.Book.{BookIsFormed};
+ghost use Rattle.book.specs.Book.{BookIsFormed};
 ghost use Rattle.rules.specs.Formed.{Rises};
 ghost use Rattle.closure.specs.Lacking.{GivesBinding, IsMissing};
 ghost use Rattle.closure.specs.Results as spec;

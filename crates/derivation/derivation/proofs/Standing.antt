@@ -24,7 +24,7 @@ use Rattle.derivation.specs.declared.line.Line.TheVariants.{Founds, Adds, Unites
 use Rattle.derivation.specs.declared.line.LineReason.{LineReason}
 use Rattle.derivation.specs.declared.line.LineReason.TheVariants.{UnknownLine, IllFormed, OtherForm, FailedFact, OtherLine}
 use Rattle.derivation.specs.declared.line.Step.{Step}
-use Rattle.rules.specs.Book.{given_by}
+use Rattle.book.specs.Book.{given_by}
 use Rattle.derivation.specs.Logs.{Log, entries, member, founds, least, are_same, knowledge}
 use Rattle.derivation.specs.Replay.{stands, is_known, is_earlier, cites, is_of, applied_to, or_unfit, given, gives_fact, are_alike}
 use Rattle.derivation.specs.Spelling.{is_expr, is_class}

@@ -30,13 +30,13 @@ use Rattle.rules.specs.Soundness.{World, IsLine}
 use Rattle.derivation.specs.declared.line.Line.{Line}
 use Rattle.derivation.specs.declared.line.Line.TheVariants.{Founds, Adds, Unites, Alike, Gives}
 use Rattle.derivation.specs.declared.line.Step.{Step}
-use Rattle.rules.specs.Book.{given_by}
+use Rattle.book.specs.Book.{given_by}
 use Rattle.derivation.specs.Laws.{world, LogsAreTrue}
 use Rattle.derivation.specs.Logs.{Log, entry, entries, member, or_class, class_at, founds, least, are_same, facts, knowledge}
 use Rattle.derivation.specs.Replay as spec
 use Rattle.derivation.specs.Replay.{Replays, members}
 use Rattle.derivation.specs.Spelling.{is_whole}
-use Rattle.rules.proofs.RuleLaws.{book_sound}
+use Rattle.book.proofs.RuleLaws.{book_sound}
 use Rattle.derivation.proofs.Invariants.{same_bag-turned, AreAlike, alike-turned, alike-along, AgreeBelow, IsMember, IsFact, AreTrue, member-true, facts-true, member-stays, fact-stays, all-stay}
 use Rattle.derivation.proofs.Agreement.{means-agree, columns-agree, formed-agree}
 use Rattle.derivation.proofs.Lookups.{columns-stay, rows-stay, founded, below, classes-wider, member-within}

@@ -11,7 +11,7 @@ use Rattle.algebra.proofs.Same.{same_columns-refl, tested_condition, tested_colu
 use Rattle.algebra.proofs.MentionedColumns.{mentions-Compare, mentions-IsNull}
 use Rattle.algebra.proofs.ConditionNames.{columns-Compare, columns-IsNull, classes-Compare, classes-IsNull}
 use Rattle.rules.specs.declared.shape.Shape.TheVariants.{Class, Join, Keep}
-use Rattle.rules.specs.declared.book.RuleName.TheVariants as rule
+use Rattle.book.specs.declared.names.RuleName.TheVariants as rule
 use Rattle.derivation.specs.declared.line.Line.TheVariants.{Founds}
 use Rattle.derivation.specs.Examples.{WorkedLines, WorkedRules, WorkedConditions, WorkedRefusals, WorkedLogs, emps, joined, twice_joined, by_rule, equal_ids, falling_ids, without_dept, both}
 use Rattle.derivation.proofs.WorkedEquations.{parts-Compare, parts-IsNull, text-Compare, text-IsNull, by-texts, union-of-two, adds-stands, spelling-Class, spelling-Select, spelling-Join, spelling-Semi, spelling-Anti, spelling-Keep, spelling-Distinct}

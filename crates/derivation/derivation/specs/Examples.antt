@@ -9,8 +9,8 @@ use Rattle.algebra.specs.declared.condition.Condition.TheVariants.{Compare, IsNu
 use Rattle.algebra.specs.declared.condition.Term.TheVariants.{Column}
 use Rattle.algebra.specs.declared.expr.Expr.TheVariants.{Get, Select, Join, Semi, Anti, Keep, Distinct, Group}
 use Rattle.props.specs.declared.fact.Fact.TheVariants.{NotNull, WeakKey, StrongKey}
-use Rattle.rules.specs.declared.book.RuleName.{RuleName}
-use Rattle.rules.specs.declared.book.RuleName.TheVariants as rule
+use Rattle.book.specs.declared.names.RuleName.{RuleName}
+use Rattle.book.specs.declared.names.RuleName.TheVariants as rule
 use Rattle.derivation.specs.declared.line.Line.{Line}
 use Rattle.derivation.specs.declared.line.Line.TheVariants.{Founds, Adds, Unites, Alike, Gives}
 use Rattle.derivation.specs.declared.line.LineReason.{LineReason}

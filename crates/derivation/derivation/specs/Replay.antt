@@ -18,13 +18,13 @@ use Rattle.rules.specs.declared.unfit.Unfit.{Unfit}
 use Rattle.rules.specs.declared.unfit.Unfit.TheVariants.{Pattern, Condition}
 use Rattle.rules.specs.Matches as matches
 use Rattle.rules.specs.Matches.{Matched}
-use Rattle.rules.specs.declared.book.RuleName.{RuleName}
+use Rattle.book.specs.declared.names.RuleName.{RuleName}
 use Rattle.derivation.specs.declared.line.Line.{Line}
 use Rattle.derivation.specs.declared.line.Line.TheVariants.{Founds, Adds, Unites, Alike, Gives}
 use Rattle.derivation.specs.declared.line.LineReason.{LineReason}
 use Rattle.derivation.specs.declared.line.LineReason.TheVariants.{UnknownLine, IllFormed, OtherForm, FailedCondition, FailedFact, OtherLine}
 use Rattle.derivation.specs.declared.line.Step.{Step}
-use Rattle.rules.specs.Book.{given_by}
+use Rattle.book.specs.Book.{given_by}
 use Rattle.derivation.specs.Logs.{Log, founds, member, knowledge}
 use Rattle.derivation.specs.Spelling.{is_expr, is_class}
 

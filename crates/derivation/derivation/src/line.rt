@@ -2,8 +2,8 @@
 
 use crate::numbers::Numbers;
 use algebra::{ClassId, Expr, LineId};
+use book::RuleName;
 use props::Fact;
-use rules::RuleName;
 use thiserror::Error;
 use values::Boxed;
 

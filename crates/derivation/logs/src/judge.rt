@@ -18,11 +18,12 @@ use crate::alike::are_alike;
 use crate::lookups::{cites, founds, is_earlier, is_known, member, members};
 use crate::spelling::{is_class, is_expr};
 use algebra::{Aggregation, ClassId, Expr, LineId};
+use book::RuleName;
 use derivation::{Line, LineReason, Step};
 use props::given::gives;
 use props::{Fact, KnownClasses};
 use query::TableInstance;
-use rules::{Match, MatchedLine, RuleName, Shape, Unfit};
+use rules::{Match, MatchedLine, Shape, Unfit};
 use std::alloc::{AllocError, Global};
 use values::Fault;
 

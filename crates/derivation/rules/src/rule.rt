@@ -1,8 +1,9 @@
 //! Rules.
 
-ghost use Rattle.std.specs.Prelude.{◌≡◌, Result};
+ghost use Rattle.std.specs.Prelude.{◌≡◌, Result, IfOk};
 ghost use Rattle.values.specs.Faults.{Gives};
 ghost use Rattle.rules.specs.declared.pattern.Pattern.{Pattern};
+ghost use Rattle.rules.specs.declared.promise.Promise.{Promise};
 ghost use Rattle.rules.specs.declared.shape.Shape.{Shape};
 ghost use Rattle.rules.specs.declared.unfit.Unfit.{Unfit};
 ghost use Rattle.rules.specs.Formed.{IsFormed};
@@ -13,9 +14,10 @@ ghost use Rattle.rules.specs.Stability.{IsStable};
 
 use crate::matching::Match;
 use crate::pattern::Pattern;
+use crate::promise::Promise;
 use crate::shape::Shape;
 use crate::unfit::RuleFault;
-use std::alloc::Global;
+use std::alloc::{AllocError, Global};
 
 /// A rule of the book.
 pub trait Rule {
@@ -28,6 +30,9 @@ pub trait Rule {
     /// What the rule gives.
     ghost gives: { Matched → Result Shape Unfit };
 
+    /// When the rule is tried.
+    ghost promise: { Matched → Promise };
+
     /// The lines that the rule takes. Of these it may still refuse some for their form.
     fn pattern() -> Pattern
         ensures { result ≡ pattern };
@@ -36,6 +41,10 @@ pub trait Rule {
     /// form first.
     fn apply(alloc: Global, at: Match<'_>) -> Result<Shape, RuleFault>
         ensures { Gives (λ s. s) result (gives (matched at.entry)) };
+
+    /// When the rule is tried at lines that it takes. Of others nobody asks.
+    fn promise(alloc: Global, at: Match<'_>) -> Result<Promise, AllocError>
+        ensures { IfOk result (λ p. p ≡ promise (matched at.entry)) };
 
     /// What the rule gives has the rows of what is matched.
     fn is_sound()

@@ -13,7 +13,7 @@ use std::alloc::{AllocError, Global};
 use values::{Boxed, Fault};
 
 /// The conjuncts, which have to be some.
-pub(crate) fn some(conjuncts: Conjuncts) -> Result<Conjuncts, RuleFault>
+pub fn some(conjuncts: Conjuncts) -> Result<Conjuncts, RuleFault>
     ensures { Gives (λ c. c) result (wanted_some conjuncts) }
 {
     if conjuncts.as_slice().is_empty() {
@@ -23,18 +23,14 @@ pub(crate) fn some(conjuncts: Conjuncts) -> Result<Conjuncts, RuleFault>
     }
 }
 
-pub(crate) fn select(alloc: Global, conjuncts: Conjuncts, input: Shape) -> Result<Shape, AllocError>
+pub fn select(alloc: Global, conjuncts: Conjuncts, input: Shape) -> Result<Shape, AllocError>
     ensures { IfOk result (λ s. s ≡ shape.Select conjuncts input) }
 {
     Ok(Shape::Select(conjuncts, Boxed::new(alloc, input)?))
 }
 
 /// The selection, or its input where there are no conjuncts.
-pub(crate) fn selected(
-    alloc: Global,
-    conjuncts: Conjuncts,
-    input: Shape,
-) -> Result<Shape, AllocError>
+pub fn selected(alloc: Global, conjuncts: Conjuncts, input: Shape) -> Result<Shape, AllocError>
     ensures { IfOk result (λ s. s ≡ spec.selected conjuncts input) }
 {
     if conjuncts.as_slice().is_empty() {
@@ -57,7 +53,7 @@ fn boxed(
     Ok((left, right?))
 }
 
-pub(crate) fn join(
+pub fn join(
     alloc: Global,
     conjuncts: Conjuncts,
     left: Shape,
@@ -69,13 +65,13 @@ pub(crate) fn join(
     Ok(Shape::Join(conjuncts, left, right))
 }
 
-pub(crate) fn keep(alloc: Global, columns: Columns, input: Shape) -> Result<Shape, AllocError>
+pub fn keep(alloc: Global, columns: Columns, input: Shape) -> Result<Shape, AllocError>
     ensures { IfOk result (λ s. s ≡ shape.Keep columns input) }
 {
     Ok(Shape::Keep(columns, Boxed::new(alloc, input)?))
 }
 
-pub(crate) fn semi(
+pub fn semi(
     alloc: Global,
     conjuncts: Conjuncts,
     left: Shape,
@@ -88,7 +84,7 @@ pub(crate) fn semi(
 }
 
 /// An antijoin, of ordinary and of null-aware conditions.
-pub(crate) fn anti(
+pub fn anti(
     alloc: Global,
     lists: (Conjuncts, Conjuncts),
     left: Shape,

@@ -5,14 +5,15 @@ ghost use Rattle.closure.specs.Closed.{IsClosed};
 ghost use Rattle.closure.specs.Lacking.{IsMissing};
 ghost use Rattle.memo.specs.Growth.{Grows, IsWithin, Extends, FoundsDirectly};
 
-use crate::bindings::{Products, level_of, rules_of_one, rules_of_two};
+use crate::bindings::{Products, rank_of, rules_over, rules_under};
 use crate::queue::Queue;
-use algebra::{Expr, LineId};
+use algebra::LineId;
+use book::RuleName;
 use closure::{Binding, Missing, missing};
 use derivation::Line;
 use memo::Memo;
 use query::ids::id_of;
-use rules::RuleName;
+use rules::{Input, Match, MatchedLine};
 use std::alloc::{AllocError, Global};
 
 /// So many bindings are tried at most in one pass.
@@ -29,59 +30,104 @@ fn width_of(memo: &Memo<'_>, line: LineId) -> usize {
     }
 }
 
-/// The class that an expression takes first.
-fn first_input(expr: &Expr) -> Option<u32> {
-    let (first, _) = expr.children();
-    first
-}
-
-/// Puts a rule into the queue, at a line and one below it, if there is one.
+/// Puts those of the rules into the queue that fit there: at the line of this number alone or over another one.
 fn enqueue(
     alloc: Global,
     memo: &Memo<'_>,
     queue: &mut Queue,
     products: Products,
-    binding: Binding,
+    rules: &[RuleName],
+    (top, below): (LineId, Option<LineId>),
+    lines: &[MatchedLine<'_>],
 ) -> Result<(), AllocError> {
-    let Some(top) = memo.log().member(binding.top) else {
-        return Ok(());
+    let at = Match {
+        lines,
+        pick: 0,
+        classes: memo.log().classes(),
     };
-    let below = match binding.below {
-        Some(line) => memo.log().member(line).map(|member| member.expr),
-        None => None,
-    };
-    let level = level_of(alloc, memo, binding.rule, top.expr, below)?;
-    if !products.allow(level) {
-        return Ok(());
-    }
-    queue.add(binding, level.number(), width_of(memo, binding.top))
-}
-
-/// Puts what may fit into the queue where one line stands over another.
-fn enqueue_pair(
-    alloc: Global,
-    memo: &Memo<'_>,
-    queue: &mut Queue,
-    products: Products,
-    top: LineId,
-    below: LineId,
-) -> Result<(), AllocError> {
-    let (Some(upper), Some(lower)) = (memo.log().member(top), memo.log().member(below)) else {
-        return Ok(());
-    };
-    for rule in rules_of_two(upper.expr, lower.expr) {
-        let binding = Binding {
-            rule: *rule,
-            top,
-            below: Some(below),
-        };
-        enqueue(alloc, memo, queue, products, binding)?;
+    for rule in rules {
+        if rule.pattern().fits(alloc, at)? {
+            let promise = rule.promise(alloc, at)?;
+            if products.allow(promise) {
+                let rule = *rule;
+                let binding = Binding { rule, top, below };
+                queue.add(binding, rank_of(promise), width_of(memo, top))?;
+            }
+        }
     }
     Ok(())
 }
 
-/// Puts into the queue what may fit at a line alone, over earlier lines and itself, and below earlier ones. So each pair is put there once, by
-/// the later of the two.
+/// Puts into the queue what fits at a line over the earlier lines of a class that it takes, and over itself.
+fn enter_over(
+    alloc: Global,
+    memo: &Memo<'_>,
+    queue: &mut Queue,
+    products: Products,
+    line: LineId,
+    upper: MatchedLine<'_>,
+    input: Input,
+) -> Result<(), AllocError> {
+    let rules = rules_over(alloc, upper.expr, input)?;
+    let Some(class) = input.of(upper.expr) else {
+        return Ok(());
+    };
+    if rules.is_empty() {
+        return Ok(());
+    }
+    for below in memo.log().members(alloc, class)? {
+        if let (true, Some(lower)) = (below <= line, memo.log().member(below)) {
+            let numbers = (line, Some(below));
+            let lines = [upper, lower];
+            let rules = rules.as_slice();
+            enqueue(
+                alloc,
+                memo,
+                queue,
+                products,
+                rules,
+                numbers,
+                lines.as_slice(),
+            )?;
+        }
+    }
+    Ok(())
+}
+
+/// Puts into the queue what fits at a line below earlier ones.
+fn enter_under(
+    alloc: Global,
+    memo: &Memo<'_>,
+    queue: &mut Queue,
+    products: Products,
+    line: LineId,
+    lower: MatchedLine<'_>,
+) -> Result<(), AllocError> {
+    let rules = rules_under(alloc, lower.expr)?;
+    if rules.is_empty() {
+        return Ok(());
+    }
+    for top in memo.parents(lower.class)? {
+        if let (true, Some(upper)) = (top < line, memo.log().member(top)) {
+            let numbers = (top, Some(line));
+            let lines = [upper, lower];
+            let rules = rules.as_slice();
+            enqueue(
+                alloc,
+                memo,
+                queue,
+                products,
+                rules,
+                numbers,
+                lines.as_slice(),
+            )?;
+        }
+    }
+    Ok(())
+}
+
+/// Puts into the queue what fits at a line alone, over earlier lines and itself, and below earlier ones. So each pair is put there once, by the
+/// later of the two.
 fn enter(
     alloc: Global,
     memo: &Memo<'_>,
@@ -92,34 +138,21 @@ fn enter(
     let Some(member) = memo.log().member(line) else {
         return Ok(());
     };
-    for rule in rules_of_one(member.expr) {
-        let binding = Binding {
-            rule: *rule,
-            top: line,
-            below: None,
-        };
-        enqueue(alloc, memo, queue, products, binding)?;
+    let alone = [member];
+    let numbers = (line, None);
+    enqueue(
+        alloc,
+        memo,
+        queue,
+        products,
+        RuleName::all(),
+        numbers,
+        alone.as_slice(),
+    )?;
+    for input in [Input::First, Input::Second] {
+        enter_over(alloc, memo, queue, products, line, member, input)?;
     }
-    if let Some(input) = first_input(member.expr) {
-        for below in memo.log().members(alloc, input)? {
-            if below <= line {
-                enqueue_pair(alloc, memo, queue, products, line, below)?;
-            }
-        }
-    }
-    for top in memo.parents(member.class)? {
-        let is_over = match memo.log().member(top) {
-            Some(parent) => match first_input(parent.expr) {
-                Some(input) => memo.log().are_same(input, member.class),
-                None => false,
-            },
-            None => false,
-        };
-        if is_over && top < line {
-            enqueue_pair(alloc, memo, queue, products, top, line)?;
-        }
-    }
-    Ok(())
+    enter_under(alloc, memo, queue, products, line, member)
 }
 
 /// Applies a rule at the lines of a binding.

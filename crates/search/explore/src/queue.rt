@@ -5,12 +5,12 @@ use std::alloc::{AllocError, Global};
 use std::cmp::Reverse;
 use std::collections::BinaryHeap;
 
-/// Bindings that are still to be tried: those of a lower level first, of one level those over fewer columns, and of these the earlier ones. So none
+/// Bindings that are still to be tried: those of a lower rank first, of one rank those over fewer columns, and of these the earlier ones. So none
 /// waits for ever.
 #[derive(Drop)]
 pub(crate) struct Queue {
     bindings: Vec<Binding>,
-    /// For each binding that wasn't taken, its level, how many columns it is about, and its place among the bindings.
+    /// For each binding that wasn't taken, its rank, how many columns it is about, and its place among the bindings.
     waiting: BinaryHeap<Reverse<(u8, usize, usize)>>,
 }
 
@@ -25,12 +25,12 @@ impl Queue {
     pub(crate) fn add(
         &mut self,
         binding: Binding,
-        level: u8,
+        rank: u8,
         width: usize,
     ) -> Result<(), AllocError> {
         let place = self.bindings.len();
         self.bindings.push(binding)?;
-        self.waiting.push(Reverse((level, width, place)))?;
+        self.waiting.push(Reverse((rank, width, place)))?;
         Ok(())
     }
 

@@ -1,10 +1,12 @@
 //! Each line of a log is simplified, those that come of it among them.
 
+use crate::bindings::rules_over;
 use crate::keys::learn_keys;
 use algebra::{ClassId, Expr, LineId};
+use book::RuleName;
 use memo::Memo;
 use query::ids::id_of;
-use rules::RuleName;
+use rules::{Input, Match, MatchedLine, Promise};
 use std::alloc::{AllocError, Global};
 
 /// Of a longer log the first lines alone are looked at, which bounds the time that is spent.
@@ -13,71 +15,111 @@ const MOST_LINES: usize = 2_000;
 /// How often a log is gone through. Classes that become the same can let a rule fit earlier lines, so there may be several passes.
 const MOST_PASSES: usize = 8;
 
-/// What a line may be simplified to, by its operator.
-#[derive(Clone, Copy)]
-enum Simplified {
-    /// A selection, from this class.
-    Select(ClassId),
-    /// A projection of this class.
-    Keep(ClassId),
-    /// The distinct rows of this class.
-    Distinct(ClassId),
-    /// Groups without aggregates.
-    Groups,
+/// Whether a rule fits at lines, and promises that they are simpler then.
+fn makes_simpler(
+    alloc: Global,
+    memo: &Memo<'_>,
+    rule: RuleName,
+    lines: &[MatchedLine<'_>],
+) -> Result<bool, AllocError> {
+    let at = Match {
+        lines,
+        pick: 0,
+        classes: memo.log().classes(),
+    };
+    if !rule.pattern().fits(alloc, at)? {
+        return Ok(false);
+    }
+    Ok(match rule.promise(alloc, at)? {
+        Promise::Simpler => true,
+        Promise::Connected | Promise::Products | Promise::Projections => false,
+    })
 }
 
-fn simplification(memo: &Memo<'_>, line: LineId) -> Option<Simplified> {
-    match memo.log().member(line)?.expr {
-        Expr::Select(_, x) => Some(Simplified::Select(*x)),
-        Expr::Keep(_, x) => Some(Simplified::Keep(*x)),
-        Expr::Distinct(x) => Some(Simplified::Distinct(*x)),
-        Expr::Group(_, added, _) => if added.as_slice().is_empty() {
-            Some(Simplified::Groups)
-        } else {
-            None
-        },
-        Expr::Get(_)
-        | Expr::Join(_, _, _)
-        | Expr::LeftJoin(_, _, _)
-        | Expr::Semi(_, _, _)
-        | Expr::Anti(_, _, _, _) => None,
+/// The same of the line of a number, over another one if there is one.
+fn makes_simpler_at(
+    alloc: Global,
+    memo: &Memo<'_>,
+    rule: RuleName,
+    top: LineId,
+    below: Option<LineId>,
+) -> Result<bool, AllocError> {
+    let Some(upper) = memo.log().member(top) else {
+        return Ok(false);
+    };
+    let Some(below) = below else {
+        return makes_simpler(alloc, memo, rule, [upper].as_slice());
+    };
+    match memo.log().member(below) {
+        Some(lower) => makes_simpler(alloc, memo, rule, [upper, lower].as_slice()),
+        None => Ok(false),
     }
 }
 
-/// Applies the rule to the line and each line of the class below it.
-fn merge(
-    alloc: Global,
-    memo: &mut Memo<'_>,
-    rule: RuleName,
-    line: LineId,
-    class: ClassId,
-) -> Result<(), AllocError> {
-    for below in memo.log().members(alloc, class)? {
-        let uses = [line, below];
-        let _ = memo.apply(alloc, rule, uses.as_slice())?;
+/// Applies the rules to the line that make it simpler.
+fn simplify_alone(alloc: Global, memo: &mut Memo<'_>, line: LineId) -> Result<(), AllocError> {
+    for rule in RuleName::all() {
+        if makes_simpler_at(alloc, memo, *rule, line, None)? {
+            let _ = memo.apply(alloc, *rule, [line].as_slice())?;
+        }
     }
     Ok(())
 }
 
-fn simplify_line(alloc: Global, memo: &mut Memo<'_>, line: LineId) -> Result<(), AllocError> {
-    let alone = [line];
-    match simplification(memo, line) {
-        Some(Simplified::Select(x)) => merge(alloc, memo, RuleName::SelectsMerge, line, x),
-        Some(Simplified::Keep(x)) => {
-            let _ = memo.apply(alloc, RuleName::KeepOfAll, alone.as_slice())?;
-            merge(alloc, memo, RuleName::KeepsMerge, line, x)
+/// Applies those of the rules to the line and each line of the class below it that make them simpler.
+fn simplify_over(
+    alloc: Global,
+    memo: &mut Memo<'_>,
+    rules: &[RuleName],
+    line: LineId,
+    class: ClassId,
+) -> Result<(), AllocError> {
+    for below in memo.log().members(alloc, class)? {
+        for rule in rules {
+            if makes_simpler_at(alloc, memo, *rule, line, Some(below))? {
+                let _ = memo.apply(alloc, *rule, [line, below].as_slice())?;
+            }
         }
-        Some(Simplified::Distinct(x)) => {
-            learn_keys(alloc, memo, x)?;
-            let _ = memo.apply(alloc, RuleName::DistinctOfKeyed, alone.as_slice())?;
-            Ok(())
-        }
-        Some(Simplified::Groups) => {
-            let _ = memo.apply(alloc, RuleName::GroupIsDistinct, alone.as_slice())?;
-            Ok(())
-        }
-        None => Ok(()),
     }
+    Ok(())
+}
+
+/// The rules that take a line over one of the class that it takes there, and that class; no rules where there is no such class.
+fn below(
+    alloc: Global,
+    memo: &Memo<'_>,
+    line: LineId,
+    input: Input,
+) -> Result<(Vec<RuleName>, ClassId), AllocError> {
+    let Some(member) = memo.log().member(line) else {
+        return Ok((Vec::new(alloc), 0));
+    };
+    match input.of(member.expr) {
+        Some(class) => Ok((rules_over(alloc, member.expr, input)?, class)),
+        None => Ok((Vec::new(alloc), 0)),
+    }
+}
+
+/// The class of which keys are asked: that of which a line has the distinct rows.
+fn keyed(memo: &Memo<'_>, line: LineId) -> Option<ClassId> {
+    match memo.log().member(line)?.expr {
+        Expr::Distinct(x) => Some(*x),
+        _ => None,
+    }
+}
+
+fn simplify_line(alloc: Global, memo: &mut Memo<'_>, line: LineId) -> Result<(), AllocError> {
+    if let Some(class) = keyed(memo, line) {
+        learn_keys(alloc, memo, class)?;
+    }
+    simplify_alone(alloc, memo, line)?;
+    for input in [Input::First, Input::Second] {
+        let (rules, class) = below(alloc, memo, line, input)?;
+        if !rules.is_empty() {
+            simplify_over(alloc, memo, rules.as_slice(), line, class)?;
+        }
+    }
+    Ok(())
 }
 
 /// Goes through the log once, and through what is added meanwhile.
@@ -90,8 +132,9 @@ fn pass(alloc: Global, memo: &mut Memo<'_>) -> Result<(), AllocError> {
     Ok(())
 }
 
-/// Adds what the rules give that only make expressions simpler: selections and projections one over the other become one, a projection to all columns
-/// and distinct rows of a class with a key are that class, and groups without aggregates are distinct rows.
+/// Adds what the rules give that promise to make expressions simpler, after learning keys of the classes whose distinct rows a line has. As the rules
+/// of the book are, selections and projections one over the other become one, a projection to all columns and distinct rows of a class with a key are
+/// that class, and groups without aggregates are distinct rows.
 pub fn simplify(alloc: Global, memo: &mut Memo<'_>) -> Result<(), AllocError> {
     for _ in 0..MOST_PASSES {
         let before = memo.log().len();

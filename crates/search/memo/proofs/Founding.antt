@@ -7,7 +7,7 @@ use Rattle.std.proofs.lemmas.List.Folds.{list_all-append}
 use Rattle.query.specs.declared.query.TableInstance.{TableInstance}
 use Rattle.algebra.specs.declared.expr.Aggregation.{Aggregation}
 use Rattle.rules.specs.declared.shape.Shape.{Shape}
-use Rattle.rules.specs.Book.{given_by}
+use Rattle.book.specs.Book.{given_by}
 use Rattle.rules.specs.Matches as matches
 use Rattle.derivation.specs.declared.line.Line.{Line}
 use Rattle.derivation.specs.declared.line.Line.TheVariants.{Founds, Adds, Unites, Alike, Gives}

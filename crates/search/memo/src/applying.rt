@@ -12,9 +12,10 @@ use crate::keys::{Operation, Operator};
 use crate::lines::{Member, Memo};
 use crate::unadded::{Unadded, unless_refused};
 use algebra::{ClassId, Condition, Expr, LineId};
+use book::RuleName;
 use closure::{Binding, step_of};
 use derivation::Line;
-use rules::{Match, MatchedLine, RuleName, Shape};
+use rules::{Match, MatchedLine, Shape};
 use std::alloc::{AllocError, Global};
 use values::{Boxed, Fault};
 

@@ -2,7 +2,9 @@
 #![tactic(auto)]
 
 mod certificates;
+mod complete;
 mod planned;
 
 pub use certificates::canonical;
+pub use complete::is_complete;
 pub use planned::{Exploration, Planned, plan};

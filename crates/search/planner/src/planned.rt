@@ -4,16 +4,15 @@ ghost use Rattle.std.specs.Prelude.{◌≡◌, ◌≤◌, true, false, length, r
 ghost use Rattle.query.specs.Bound.{is_bound};
 ghost use Rattle.costs.specs.Costs.{plan_cost};
 ghost use Rattle.certificate.specs.Replay.{replayed};
-ghost use Rattle.closure.specs.Closed.{IsClosed};
-ghost use Rattle.planner.specs.Complete.{IsComplete};
+ghost use Rattle.planner.specs.Complete.{search_lines};
 ghost use Rattle.planner.specs.Framed.{IsFramed};
 ghost use Rattle.planner.specs.NotDearer.{IsAsCheap, IsNotDearer, certificate_cost};
 
 use crate::certificates::certificate_of;
+use crate::complete::log_of;
 use algebra::{Aggregation, Expr};
 use certificate::judging::{judged_log, own_aggregates};
 use certificate::{Certificate, query_order};
-use closure::is_closed;
 use costs::{Cardinalities, cost};
 use derivation::Line;
 use explore::{Products, apply_all, simplify};
@@ -40,8 +39,19 @@ pub struct Planned {
     pub log: Items<Line>,
     pub cost: u64,
     pub is_searched: bool,
-    /// Whether the lines of the search are closed: whether no rule adds anything to them.
-    pub is_complete: bool,
+}
+
+impl Planned {
+    /// The lines of the search, those of its certificate among them.
+    pub fn search_lines(&self) -> &[Line]
+        ensures { result.now ≡ search_lines self.now }
+    {
+        if self.log.is_empty() {
+            self.certificate.lines.as_slice()
+        } else {
+            self.log.as_slice()
+        }
+    }
 }
 
 /// How far the plans of a query are explored.
@@ -65,47 +75,18 @@ struct Planning<'q> {
     exploration: Exploration,
 }
 
-/// A plan over a log's lines, and whether these were explored with room for more.
-#[derive(Drop)]
-struct ExploredPlan {
-    plan: Plan,
-    is_explored: bool,
-}
-
-/// What a search found: a plan over all lines of its log, the certificate of that plan with the lines that it needs, and whether the log was explored
-/// with room for more.
+/// What a search found: a plan over all lines of its log, and the certificate of that plan with the lines that it needs.
 #[derive(Drop)]
 struct Found {
     certificate: Certificate,
     whole: Certificate,
-    is_explored: bool,
 }
-
-/// Of more lines nobody asks whether they are closed. For so many it takes some tens of milliseconds.
-const MOST_JUDGED: usize = 1_000;
 
 /// So much a plan has to cost for each line that its log may have: a line takes a small part of the time to explore that is estimated at so much.
 const COST_OF_LINE: u64 = 50_000;
 
 /// A log doubles this often at most: no machine holds more lines.
 const MOST_DOUBLINGS: usize = 64;
-
-/// A log of the lines; none where some line may not stand.
-fn log_of<'q>(
-    alloc: Global,
-    planning: Planning<'q>,
-    lines: &[Line],
-) -> Result<Option<Log<'q>>, AllocError> {
-    let mut log = Log::new(alloc, planning.query.tables.as_slice(), planning.own);
-    for line in lines {
-        match log.push(alloc, line.copy(alloc)?) {
-            Ok(()) => {}
-            Err(Fault::Memory) => return Err(AllocError),
-            Err(Fault::Refused(_)) => return Ok(None),
-        }
-    }
-    Ok(Some(log))
-}
 
 /// The cheapest plan that is found of the query's class in its order.
 fn cheapest(
@@ -172,13 +153,12 @@ fn explored(
     alloc: Global,
     planning: Planning<'_>,
     memo: &mut Memo<'_>,
-) -> Result<Option<ExploredPlan>, AllocError> {
+) -> Result<Option<Plan>, AllocError> {
     if !memo.is_full() {
         apply_all(alloc, memo, Products::Made)?;
     }
-    let is_explored = !memo.is_full();
     match cheapest(alloc, planning, memo.log())? {
-        Some(BestPlan { plan, .. }) => Ok(Some(ExploredPlan { plan, is_explored })),
+        Some(BestPlan { plan, .. }) => Ok(Some(plan)),
         None => Ok(None),
     }
 }
@@ -208,7 +188,7 @@ fn explored_while_worthwhile(
     planning: Planning<'_>,
     memo: &mut Memo<'_>,
     prepared: Prepared,
-) -> Result<Option<ExploredPlan>, AllocError> {
+) -> Result<Option<Plan>, AllocError> {
     let Some(mut best) = cheapest(alloc, planning, memo.log())? else {
         return Ok(None);
     };
@@ -220,10 +200,7 @@ fn explored_while_worthwhile(
             None => break,
         }
     }
-    Ok(Some(ExploredPlan {
-        plan: best.plan,
-        is_explored: !memo.is_full(),
-    }))
+    Ok(Some(best.plan))
 }
 
 /// The cheapest plan that is found over a log's lines and others behind them, as far as these are to be explored.
@@ -231,7 +208,7 @@ fn cheapest_explored(
     alloc: Global,
     planning: Planning<'_>,
     memo: &mut Memo<'_>,
-) -> Result<Option<ExploredPlan>, AllocError> {
+) -> Result<Option<Plan>, AllocError> {
     let prepared = prepare(alloc, planning, memo)?;
     match planning.exploration {
         Exploration::WhileWorthwhile => explored_while_worthwhile(alloc, planning, memo, prepared),
@@ -244,15 +221,13 @@ fn found_over(
     alloc: Global,
     planning: Planning<'_>,
     log: Log<'_>,
-    best: ExploredPlan,
+    plan: Plan,
 ) -> Result<Found, AllocError> {
-    let ExploredPlan { plan, is_explored } = best;
     let certificate = trimmed(alloc, &log, planning.frame.len(), &plan)?;
     let lines = Items::from_vec(log.into_lines());
     Ok(Found {
         certificate,
         whole: Certificate { lines, plan },
-        is_explored,
     })
 }
 
@@ -264,8 +239,8 @@ fn found_by_log(
 ) -> Result<Option<Found>, AllocError> {
     let mut memo = Memo::of(alloc, log, planning.limit)?;
     match cheapest_explored(alloc, planning, &mut memo)? {
-        Some(best) => {
-            let found = found_over(alloc, planning, memo.into_log(), best)?;
+        Some(plan) => {
+            let found = found_over(alloc, planning, memo.into_log(), plan)?;
             Ok(Some(found))
         }
         None => Ok(None),
@@ -278,7 +253,8 @@ fn searched(
     planning: Planning<'_>,
     known: &Certificate,
 ) -> Result<Option<Found>, AllocError> {
-    match log_of(alloc, planning, known.lines.as_slice())? {
+    let lines = known.lines.as_slice();
+    match log_of(alloc, planning.query.tables.as_slice(), planning.own, lines)? {
         Some(log) => found_by_log(alloc, planning, log),
         None => Ok(None),
     }
@@ -358,52 +334,6 @@ fn fitting_cost(
     Ok(cost)
 }
 
-/// Whether lines that were explored with room for more are closed, which is asked of few.
-fn are_closed(
-    alloc: Global,
-    planning: Planning<'_>,
-    certificate: &Certificate,
-    is_explored: bool,
-) -> Result<bool, AllocError>
-    requires { IsFramed planning.query.now planning.frame.now planning.own.now }
-    ensures { IfOk result (λ closed. closed ≡ true → IsClosed planning.entry.query.now.tables (reverse certificate.now.lines)) }
-{
-    if !is_explored || certificate.lines.len() > MOST_JUDGED {
-        return Ok(false);
-    }
-    match fitting_log(alloc, planning, certificate)? {
-        Some(log) => {
-            let closed = is_closed(alloc, &log)?;
-            Ok(closed)
-        }
-        None => Ok(false),
-    }
-}
-
-/// What is planned by a certificate that fits, at this cost, with lines that its plan needs of these.
-fn planned_by_part(
-    alloc: Global,
-    planning: Planning<'_>,
-    certificate: Certificate,
-    whole: Certificate,
-    is_explored: bool,
-    cost: u64,
-) -> Result<Planned, AllocError>
-    requires { IsFramed planning.query.now planning.frame.now planning.own.now }
-    ensures certificate { IfOk result (λ planned. planned.certificate ≡ certificate) }
-    ensures cost { IfOk result (λ planned. planned.cost ≡ cost) }
-    ensures complete { IfOk result (λ planned. IsComplete planning.entry.query.now planned) }
-{
-    let is_complete = are_closed(alloc, planning, &whole, is_explored)?;
-    Ok(Planned {
-        certificate,
-        log: whole.into_lines(),
-        cost,
-        is_searched: true,
-        is_complete,
-    })
-}
-
 /// What is planned by a certificate, if it has no more lines than a log may have, replays for the query, and its plan costs no more than the known one.
 fn planned_by_all(
     alloc: Global,
@@ -416,7 +346,6 @@ fn planned_by_all(
     ensures cost { IfOk result (λ fitting. IfSome fitting (λ planned. planned.cost ≡ certificate_cost planning.entry.statistics.now planning.entry.query.now planned.certificate)) }
     ensures cheap { IfOk result (λ fitting. IfSome fitting (λ planned. IsAsCheap planning.entry.statistics.now planning.entry.query.now planned.certificate known.now)) }
     ensures within { IfOk result (λ fitting. IfSome fitting (λ planned. length planned.certificate.lines ≤ planning.entry.limit)) }
-    ensures complete { IfOk result (λ fitting. IfSome fitting (λ planned. IsComplete planning.entry.query.now planned)) }
 {
     match fitting_cost(alloc, planning, &certificate, known)? {
         Some(cost) => Ok(Some(Planned {
@@ -424,7 +353,6 @@ fn planned_by_all(
             log: Items::new(alloc),
             cost,
             is_searched: true,
-            is_complete: false,
         })),
         None => Ok(None),
     }
@@ -442,18 +370,15 @@ fn fitting(
     ensures cost { IfOk result (λ fitting. IfSome fitting (λ planned. planned.cost ≡ certificate_cost planning.entry.statistics.now planning.entry.query.now planned.certificate)) }
     ensures cheap { IfOk result (λ fitting. IfSome fitting (λ planned. IsAsCheap planning.entry.statistics.now planning.entry.query.now planned.certificate known.now)) }
     ensures within { IfOk result (λ fitting. IfSome fitting (λ planned. length planned.certificate.lines ≤ planning.entry.limit)) }
-    ensures complete { IfOk result (λ fitting. IfSome fitting (λ planned. IsComplete planning.entry.query.now planned)) }
 {
-    let Found {
-        certificate,
-        whole,
-        is_explored,
-    } = found;
+    let Found { certificate, whole } = found;
     match fitting_cost(alloc, planning, &certificate, known)? {
-        Some(cost) => {
-            let planned = planned_by_part(alloc, planning, certificate, whole, is_explored, cost)?;
-            Ok(Some(planned))
-        }
+        Some(cost) => Ok(Some(Planned {
+            certificate,
+            log: whole.into_lines(),
+            cost,
+            is_searched: true,
+        })),
         None => planned_by_all(alloc, planning, whole, known),
     }
 }
@@ -488,7 +413,6 @@ fn plan_of_frame(alloc: Global, planning: Planning<'_>) -> Result<Planned, Alloc
     ensures cost { IfOk result (λ planned. planned.cost ≡ certificate_cost planning.entry.statistics.now planning.entry.query.now planned.certificate) }
     ensures cheap { IfOk result (λ planned. IsNotDearer planning.entry.statistics.now planning.entry.query.now planned.certificate) }
     ensures within { IfOk result (λ planned. planned.is_searched ≡ true → length planned.certificate.lines ≤ planning.entry.limit) }
-    ensures complete { IfOk result (λ planned. IsComplete planning.entry.query.now planned) }
 {
     let known = certificate_of(alloc, planning.query)?;
     if let Some(found) = searched(alloc, planning, &known)? {
@@ -502,7 +426,6 @@ fn plan_of_frame(alloc: Global, planning: Planning<'_>) -> Result<Planned, Alloc
         log: Items::new(alloc),
         cost,
         is_searched: false,
-        is_complete: false,
     })
 }
 
@@ -518,7 +441,6 @@ fn plan_of_tree(
     ensures cost { IfOk result (λ planned. planned.cost ≡ certificate_cost statistics.now query.now planned.certificate) }
     ensures cheap { IfOk result (λ planned. IsNotDearer statistics.now query.now planned.certificate) }
     ensures within { IfOk result (λ planned. planned.is_searched ≡ true → length planned.certificate.lines ≤ limit) }
-    ensures complete { IfOk result (λ planned. IsComplete query.now planned) }
 {
     let frame = frame_of(alloc, query)?;
     let own = own_aggregates(alloc, frame.as_slice())?;
@@ -549,7 +471,6 @@ pub fn plan(
     ensures cheap { IfOk result (λ planned. IsNotDearer statistics.now query.now planned.certificate) }
     // No line is added past the limit. The canonical certificate has the lines of its query's frame, however many these are.
     ensures within { IfOk result (λ planned. planned.is_searched ≡ true → length planned.certificate.lines ≤ limit) }
-    ensures complete { IfOk result (λ planned. IsComplete query.now planned) }
 {
     plan_of_tree(alloc, query.query(), statistics, limit, exploration)
 }

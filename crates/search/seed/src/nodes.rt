@@ -1,9 +1,9 @@
 //! Joins that are there, and the steps by which a class gets a join of other sides.
 
 use algebra::{ClassId, Expr, LineId};
+use book::RuleName;
 use join_trees::LeafSet;
 use memo::Memo;
-use rules::RuleName;
 use std::alloc::{AllocError, Global};
 
 /// Most lines that a log grows to.

@@ -7,9 +7,9 @@
 use crate::founding::{SetClass, class_of};
 use crate::nodes::{join_line, line_over, step};
 use algebra::{ClassId, Condition, Conjuncts, Expr, LineId};
+use book::RuleName;
 use join_trees::{JoinTree, LeafSet, Subquery, conditions_of};
 use memo::Memo;
-use rules::RuleName;
 use std::alloc::{AllocError, Global};
 
 /// So many selections at most are looked at.

@@ -2,9 +2,9 @@
 
 use crate::nodes::{Nodes, join_line, line_over, step};
 use algebra::{ClassId, Expr, LineId};
+use book::RuleName;
 use join_trees::{LeafSet, conditions_of, mentioned};
 use memo::Memo;
-use rules::RuleName;
 use std::alloc::{AllocError, Global};
 
 /// Deep enough for each split.

@@ -126,7 +126,7 @@ fn push_unsearched(
     if !planned.is_searched {
         writeln!(found, "{text}: the canonical plan")?;
     }
-    if !planned.is_complete && planned.log.len() <= 1_000 {
+    if planned.log.len() <= 1_000 && !planner::is_complete(alloc, query, &planned)? {
         writeln!(found, "{text}: not complete")?;
     }
     match check(alloc, schema, query, &planned.certificate) {

@@ -5,9 +5,9 @@
 
 use crate::plans::{cut, id};
 use algebra::{Aggregations, Columns, Condition, Conjuncts, Expr, Term};
+use book::RuleName;
 use derivation::{Line, Numbers, Step};
 use props::Fact;
-use rules::RuleName;
 use std::alloc::{AllocError, Global};
 use values::{Boxed, Comparison, Items, Literal};
 

@@ -4,8 +4,9 @@ use crate::classes::{Known, known_classes};
 use crate::shapes::push_shape;
 use crate::words::{lines_of, number};
 use algebra::{ClassId, Expr};
+use book::RuleName;
 use fixtures::{Reporting, differences};
-use rules::{Match, MatchedLine, RuleFault, RuleName, Shape, Unfit};
+use rules::{Match, MatchedLine, RuleFault, Shape, Unfit};
 use std::alloc::{AllocError, Global};
 use values::Fault;
 

@@ -1,4 +1,4 @@
-//! Tests of the rule book: `rules`, what they read of `props` and `algebra`, and `logs` of lines that cite rules.
+//! Tests of the rule book: `book`, what they read of `props` and `algebra`, and `logs` of lines that cite rules.
 #![tactic(auto)]
 
 #[cfg(test)]
@@ -17,6 +17,8 @@ mod numbers;
 mod outcomes;
 #[cfg(test)]
 mod patterns;
+#[cfg(test)]
+mod promises;
 #[cfg(test)]
 mod shapes;
 #[cfg(test)]

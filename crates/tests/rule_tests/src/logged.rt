@@ -3,11 +3,11 @@
 use crate::answers::TABLES;
 use crate::classes::fact_of;
 use crate::words::{cut, line_of, number, numbers_of};
+use book::RuleName;
 use derivation::{Line, LineReason, Step};
 use fixtures::{QueryReporting, push_number, query_differences};
 use logs::Log;
 use query::BoundQuery;
-use rules::RuleName;
 use std::alloc::{AllocError, Global};
 use store::Database;
 use values::{Boxed, Fault};

@@ -3,8 +3,9 @@
 use crate::classes::{Known, known_classes};
 use crate::words::{lines_of, number};
 use algebra::{ClassId, Expr};
+use book::RuleName;
 use fixtures::{Reporting, differences};
-use rules::{Below, Input, Match, MatchedLine, Operator, Operators, Pattern, RuleName};
+use rules::{Below, Input, Match, MatchedLine, Operator, Operators, Pattern};
 use std::alloc::{AllocError, Global};
 
 /// The pattern of the rule of a code, or one by its name: a pattern of each form that no rule has, among them one whose second line is of the right

@@ -1,5 +1,5 @@
 use Rattle.std.proofs.Common.{◌≡◌, refl, ◌∙◌, ap}
-use Rattle.rules.specs.Book.{code_of}
+use Rattle.book.specs.Book.{code_of}
 use Rattle.certificate_read.specs.LineReading.{rule_wording, step_wording, step_parts}
 use Rattle.certificate_read.specs.WordReading.{number_wording, numbers_wording}
 use Rattle.certificate_read.specs.Wordings.{◌␣◌, left_words}

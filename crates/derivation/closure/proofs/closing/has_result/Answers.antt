@@ -1,7 +1,7 @@
 use Rattle.std.proofs.Common.{ap, sym, ◌∙◌, subst, map}
 use Rattle.values.specs.Faults.{Fails}
 use Rattle.props.specs.Knowledge.{Knowledge, known as known_by}
-use Rattle.rules.specs.Book.{given_by}
+use Rattle.book.specs.Book.{given_by}
 use Rattle.rules.specs.Matches.{line_in}
 use Rattle.closure.proofs.Lacking.{result_told, unfit_told}
 use Rattle.closure.proofs.closing.has_result.Goals as goal

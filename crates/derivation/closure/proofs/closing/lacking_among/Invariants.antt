@@ -1,7 +1,7 @@
 use Rattle.std.proofs.Common.{List, length}
 use Rattle.std.specs.List.{AllByRecursion}
-use Rattle.rules.specs.declared.book.RuleName.{RuleName}
-use Rattle.rules.specs.Book.{pattern_of}
+use Rattle.book.specs.declared.names.RuleName.{RuleName}
+use Rattle.book.specs.Book.{pattern_of}
 use Rattle.rules.specs.Matches.{line_in}
 use Rattle.closure.specs.Lines.{HasResultsBy}
 use Rattle.closure.proofs.closing.lacking_among.Given as goal

@@ -1,5 +1,5 @@
 use Rattle.std.proofs.Common.{ap, sym, ◌∙◌, subst, List, option_map}
-use Rattle.rules.specs.declared.book.RuleName.{RuleName}
+use Rattle.book.specs.declared.names.RuleName.{RuleName}
 use Rattle.rules.specs.Matches.{line_in}
 use Rattle.closure.specs.Lacking.{LackingAmong}
 use Rattle.closure.proofs.Lacking.{at_line}

@@ -1,5 +1,5 @@
 use Rattle.std.proofs.Common.{}
-use Rattle.rules.proofs.RuleLaws.{book_formed}
+use Rattle.book.proofs.RuleLaws.{book_formed}
 use Rattle.closure.proofs.nearer.results_may_stand.Goals as goal
 
 pub returns : goal.returns

@@ -1,7 +1,7 @@
 use Rattle.std.proofs.Common.{ap, sym, ◌∙◌, map}
 use Rattle.props.specs.Knowledge.{Knowledge}
 use Rattle.derivation.specs.Logs.{knowledge}
-use Rattle.rules.specs.Book.{given_by}
+use Rattle.book.specs.Book.{given_by}
 use Rattle.rules.specs.Matches.{line_in}
 use Rattle.logs.specs.Logged.{Logged}
 use Rattle.memo.proofs.Founding.{gives_of}

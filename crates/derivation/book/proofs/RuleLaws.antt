@@ -1,0 +1,88 @@
+-- The laws of the rules of the book.
+use Rattle.std.specs.List.{AllByRecursion}
+use Rattle.plain_rules.proofs.ConditionBelowJoin.{condition_below_join_sound, condition_below_join_keeps, condition_below_join_formed, condition_below_join_stable}
+use Rattle.plain_rules.proofs.DistinctOfKeyed.{distinct_of_keyed_sound, distinct_of_keyed_keeps, distinct_of_keyed_formed, distinct_of_keyed_stable}
+use Rattle.plain_rules.proofs.GroupIsDistinct.{group_is_distinct_sound, group_is_distinct_keeps, group_is_distinct_formed, group_is_distinct_stable}
+use Rattle.plain_rules.proofs.JoinAssociates.{join_associates_sound, join_associates_keeps, join_associates_formed, join_associates_stable}
+use Rattle.plain_rules.proofs.JoinCommutes.{join_commutes_sound, join_commutes_keeps, join_commutes_formed, join_commutes_stable}
+use Rattle.plain_rules.proofs.KeepBelowJoin.{keep_below_join_sound, keep_below_join_keeps, keep_below_join_formed, keep_below_join_stable}
+use Rattle.plain_rules.proofs.KeepOfAll.{keep_of_all_sound, keep_of_all_keeps, keep_of_all_formed, keep_of_all_stable}
+use Rattle.plain_rules.proofs.KeepsMerge.{keeps_merge_sound, keeps_merge_keeps, keeps_merge_formed, keeps_merge_stable}
+use Rattle.plain_rules.proofs.SelectBelowJoin.{select_below_join_sound, select_below_join_keeps, select_below_join_formed, select_below_join_stable}
+use Rattle.plain_rules.proofs.SelectBelowSemi.{select_below_semi_sound, select_below_semi_keeps, select_below_semi_formed, select_below_semi_stable}
+use Rattle.plain_rules.proofs.SelectIntoJoin.{select_into_join_sound, select_into_join_keeps, select_into_join_formed, select_into_join_stable}
+use Rattle.plain_rules.proofs.SelectsMerge.{selects_merge_sound, selects_merge_keeps, selects_merge_formed, selects_merge_stable}
+use Rattle.book.specs.declared.names.RuleName.{RuleName}
+use Rattle.book.specs.declared.names.RuleName.TheVariants.{JoinCommutes, JoinAssociates, SelectsMerge, SelectBelowJoin, SelectIntoJoin, ConditionBelowJoin, SelectBelowSemi, KeepsMerge, KeepOfAll, KeepBelowJoin, DistinctOfKeyed, GroupIsDistinct}
+use Rattle.book.specs.Book.{rules, BookIsSound, BookKeepsToPatterns, BookIsFormed, BookIsStable}
+
+pub book_sound : BookIsSound
+book_sound JoinCommutes = join_commutes_sound
+book_sound JoinAssociates = join_associates_sound
+book_sound SelectsMerge = selects_merge_sound
+book_sound SelectBelowJoin = select_below_join_sound
+book_sound SelectIntoJoin = select_into_join_sound
+book_sound ConditionBelowJoin = condition_below_join_sound
+book_sound SelectBelowSemi = select_below_semi_sound
+book_sound KeepsMerge = keeps_merge_sound
+book_sound KeepOfAll = keep_of_all_sound
+book_sound KeepBelowJoin = keep_below_join_sound
+book_sound DistinctOfKeyed = distinct_of_keyed_sound
+book_sound GroupIsDistinct = group_is_distinct_sound
+
+pub book_keeps : BookKeepsToPatterns
+book_keeps JoinCommutes = join_commutes_keeps
+book_keeps JoinAssociates = join_associates_keeps
+book_keeps SelectsMerge = selects_merge_keeps
+book_keeps SelectBelowJoin = select_below_join_keeps
+book_keeps SelectIntoJoin = select_into_join_keeps
+book_keeps ConditionBelowJoin = condition_below_join_keeps
+book_keeps SelectBelowSemi = select_below_semi_keeps
+book_keeps KeepsMerge = keeps_merge_keeps
+book_keeps KeepOfAll = keep_of_all_keeps
+book_keeps KeepBelowJoin = keep_below_join_keeps
+book_keeps DistinctOfKeyed = distinct_of_keyed_keeps
+book_keeps GroupIsDistinct = group_is_distinct_keeps
+
+pub book_formed : BookIsFormed
+book_formed JoinCommutes = join_commutes_formed
+book_formed JoinAssociates = join_associates_formed
+book_formed SelectsMerge = selects_merge_formed
+book_formed SelectBelowJoin = select_below_join_formed
+book_formed SelectIntoJoin = select_into_join_formed
+book_formed ConditionBelowJoin = condition_below_join_formed
+book_formed SelectBelowSemi = select_below_semi_formed
+book_formed KeepsMerge = keeps_merge_formed
+book_formed KeepOfAll = keep_of_all_formed
+book_formed KeepBelowJoin = keep_below_join_formed
+book_formed DistinctOfKeyed = distinct_of_keyed_formed
+book_formed GroupIsDistinct = group_is_distinct_formed
+
+pub book_stable : BookIsStable
+book_stable JoinCommutes = join_commutes_stable
+book_stable JoinAssociates = join_associates_stable
+book_stable SelectsMerge = selects_merge_stable
+book_stable SelectBelowJoin = select_below_join_stable
+book_stable SelectIntoJoin = select_into_join_stable
+book_stable ConditionBelowJoin = condition_below_join_stable
+book_stable SelectBelowSemi = select_below_semi_stable
+book_stable KeepsMerge = keeps_merge_stable
+book_stable KeepOfAll = keep_of_all_stable
+book_stable KeepBelowJoin = keep_below_join_stable
+book_stable DistinctOfKeyed = distinct_of_keyed_stable
+book_stable GroupIsDistinct = group_is_distinct_stable
+
+-- what is so of each rule that is listed is so of each
+pub each_rule : (P : RuleName → Type 0) → AllByRecursion P rules → (rule : RuleName) → P rule
+each_rule P all JoinCommutes = all.0
+each_rule P all JoinAssociates = all.1.0
+each_rule P all SelectsMerge = all.1.1.0
+each_rule P all SelectBelowJoin = all.1.1.1.0
+each_rule P all SelectIntoJoin = all.1.1.1.1.0
+each_rule P all ConditionBelowJoin = all.1.1.1.1.1.0
+each_rule P all SelectBelowSemi = all.1.1.1.1.1.1.0
+each_rule P all KeepsMerge = all.1.1.1.1.1.1.1.0
+each_rule P all KeepOfAll = all.1.1.1.1.1.1.1.1.0
+each_rule P all KeepBelowJoin = all.1.1.1.1.1.1.1.1.1.0
+each_rule P all DistinctOfKeyed = all.1.1.1.1.1.1.1.1.1.1.0
+each_rule P all GroupIsDistinct = all.1.1.1.1.1.1.1.1.1.1.1.0

@@ -1,0 +1,98 @@
+-- The rules by their names in certificates, the lines that each takes, and what it gives.
+use Rattle.std.specs.Prelude.{ℕ, List, [], ◌∷◌, Result, codes}
+use Rattle.book.specs.declared.names.RuleName.{RuleName}
+use Rattle.book.specs.declared.names.RuleName.TheVariants.{JoinCommutes, JoinAssociates, SelectsMerge, SelectBelowJoin, SelectIntoJoin, ConditionBelowJoin, SelectBelowSemi, KeepsMerge, KeepOfAll, KeepBelowJoin, DistinctOfKeyed, GroupIsDistinct}
+use Rattle.rules.specs.declared.shape.Shape.{Shape}
+use Rattle.rules.specs.declared.unfit.Unfit.{Unfit}
+use Rattle.rules.specs.declared.pattern.Pattern.{Pattern}
+use Rattle.rules.specs.declared.promise.Promise.{Promise}
+use Rattle.rules.specs.Formed.{IsFormed}
+use Rattle.rules.specs.Matches.{Matched}
+use Rattle.rules.specs.Patterns.{KeepsTo}
+use Rattle.rules.specs.Soundness.{IsSound}
+use Rattle.rules.specs.Stability.{IsStable}
+use Rattle.plain_rules.specs.ConditionBelowJoin as condition_below_join
+use Rattle.plain_rules.specs.DistinctOfKeyed as distinct_of_keyed
+use Rattle.plain_rules.specs.GroupIsDistinct as group_is_distinct
+use Rattle.plain_rules.specs.JoinAssociates as join_associates
+use Rattle.plain_rules.specs.JoinCommutes as join_commutes
+use Rattle.plain_rules.specs.KeepBelowJoin as keep_below_join
+use Rattle.plain_rules.specs.KeepOfAll as keep_of_all
+use Rattle.plain_rules.specs.KeepsMerge as keeps_merge
+use Rattle.plain_rules.specs.SelectBelowJoin as select_below_join
+use Rattle.plain_rules.specs.SelectBelowSemi as select_below_semi
+use Rattle.plain_rules.specs.SelectIntoJoin as select_into_join
+use Rattle.plain_rules.specs.SelectsMerge as selects_merge
+
+abbrev pub rules : List RuleName
+rules = JoinCommutes ∷ JoinAssociates ∷ SelectsMerge ∷ SelectBelowJoin ∷ SelectIntoJoin ∷ ConditionBelowJoin ∷ SelectBelowSemi ∷ KeepsMerge ∷ KeepOfAll ∷ KeepBelowJoin ∷ DistinctOfKeyed ∷ GroupIsDistinct ∷ []
+
+abbrev pub code_of : RuleName → List ℕ
+code_of JoinCommutes = codes "J1"
+code_of JoinAssociates = codes "J2"
+code_of SelectsMerge = codes "S1"
+code_of SelectBelowJoin = codes "S2"
+code_of SelectIntoJoin = codes "S3"
+code_of ConditionBelowJoin = codes "S4"
+code_of SelectBelowSemi = codes "S5"
+code_of KeepsMerge = codes "K1"
+code_of KeepOfAll = codes "K2"
+code_of KeepBelowJoin = codes "K3"
+code_of DistinctOfKeyed = codes "D1"
+code_of GroupIsDistinct = codes "G1"
+
+abbrev pub given_by : RuleName → Matched → Result Shape Unfit
+given_by JoinCommutes = join_commutes.join_commutes
+given_by JoinAssociates = join_associates.join_associates
+given_by SelectsMerge = selects_merge.selects_merge
+given_by SelectBelowJoin = select_below_join.select_below_join
+given_by SelectIntoJoin = select_into_join.select_into_join
+given_by ConditionBelowJoin = condition_below_join.condition_below_join
+given_by SelectBelowSemi = select_below_semi.select_below_semi
+given_by KeepsMerge = keeps_merge.keeps_merge
+given_by KeepOfAll = keep_of_all.keep_of_all
+given_by KeepBelowJoin = keep_below_join.keep_below_join
+given_by DistinctOfKeyed = distinct_of_keyed.distinct_of_keyed
+given_by GroupIsDistinct = group_is_distinct.group_is_distinct
+
+abbrev pub pattern_of : RuleName → Pattern
+pattern_of JoinCommutes = join_commutes.pattern
+pattern_of JoinAssociates = join_associates.pattern
+pattern_of SelectsMerge = selects_merge.pattern
+pattern_of SelectBelowJoin = select_below_join.pattern
+pattern_of SelectIntoJoin = select_into_join.pattern
+pattern_of ConditionBelowJoin = condition_below_join.pattern
+pattern_of SelectBelowSemi = select_below_semi.pattern
+pattern_of KeepsMerge = keeps_merge.pattern
+pattern_of KeepOfAll = keep_of_all.pattern
+pattern_of KeepBelowJoin = keep_below_join.pattern
+pattern_of DistinctOfKeyed = distinct_of_keyed.pattern
+pattern_of GroupIsDistinct = group_is_distinct.pattern
+
+abbrev pub promise_of : RuleName → Matched → Promise
+promise_of JoinCommutes = join_commutes.promise
+promise_of JoinAssociates = join_associates.promise
+promise_of SelectsMerge = selects_merge.promise
+promise_of SelectBelowJoin = select_below_join.promise
+promise_of SelectIntoJoin = select_into_join.promise
+promise_of ConditionBelowJoin = condition_below_join.promise
+promise_of SelectBelowSemi = select_below_semi.promise
+promise_of KeepsMerge = keeps_merge.promise
+promise_of KeepOfAll = keep_of_all.promise
+promise_of KeepBelowJoin = keep_below_join.promise
+promise_of DistinctOfKeyed = distinct_of_keyed.promise
+promise_of GroupIsDistinct = group_is_distinct.promise
+
+-- ---- laws of each rule of the book
+
+abbrev pub BookIsSound : Type 0
+BookIsSound = (rule : RuleName) → IsSound (given_by rule)
+
+abbrev pub BookKeepsToPatterns : Type 0
+BookKeepsToPatterns = (rule : RuleName) → KeepsTo (pattern_of rule) (given_by rule)
+
+abbrev pub BookIsFormed : Type 0
+BookIsFormed = (rule : RuleName) → IsFormed (given_by rule)
+
+abbrev pub BookIsStable : Type 0
+BookIsStable = (rule : RuleName) → IsStable (given_by rule)

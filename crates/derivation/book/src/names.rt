@@ -1,0 +1,164 @@
+//! The rules by their names in certificates.
+
+ghost use Rattle.std.specs.Prelude.{◌≡◌, ◌≢◌, IfOk, MatchOption};
+ghost use Rattle.std.specs.List.{AllByRecursion};
+ghost use Rattle.book.specs.declared.names.RuleName.{RuleName};
+ghost use Rattle.values.specs.Faults.{Gives};
+ghost use Rattle.rules.specs.Matches.{matched};
+ghost use Rattle.book.specs.Book as spec;
+
+use plain_rules::condition_below_join::ConditionBelowJoin;
+use plain_rules::distinct_of_keyed::DistinctOfKeyed;
+use plain_rules::group_is_distinct::GroupIsDistinct;
+use plain_rules::join_associates::JoinAssociates;
+use plain_rules::join_commutes::JoinCommutes;
+use plain_rules::keep_below_join::KeepBelowJoin;
+use plain_rules::keep_of_all::KeepOfAll;
+use plain_rules::keeps_merge::KeepsMerge;
+use plain_rules::select_below_join::SelectBelowJoin;
+use plain_rules::select_below_semi::SelectBelowSemi;
+use plain_rules::select_into_join::SelectIntoJoin;
+use plain_rules::selects_merge::SelectsMerge;
+use rules::{Match, Pattern, Promise, Rule, RuleFault, Shape};
+use std::alloc::{AllocError, Global};
+
+/// A rule of the book.
+#[derive(Clone, Copy, Debug, PartialEq, Eq)]
+pub enum RuleName {
+    JoinCommutes,
+    JoinAssociates,
+    SelectsMerge,
+    SelectBelowJoin,
+    SelectIntoJoin,
+    ConditionBelowJoin,
+    SelectBelowSemi,
+    KeepsMerge,
+    KeepOfAll,
+    KeepBelowJoin,
+    DistinctOfKeyed,
+    GroupIsDistinct,
+}
+
+const RULES: [RuleName; 12] = [
+    RuleName::JoinCommutes,
+    RuleName::JoinAssociates,
+    RuleName::SelectsMerge,
+    RuleName::SelectBelowJoin,
+    RuleName::SelectIntoJoin,
+    RuleName::ConditionBelowJoin,
+    RuleName::SelectBelowSemi,
+    RuleName::KeepsMerge,
+    RuleName::KeepOfAll,
+    RuleName::KeepBelowJoin,
+    RuleName::DistinctOfKeyed,
+    RuleName::GroupIsDistinct,
+];
+
+/// The first of the rules that has the code.
+fn with_code(mut rules: &[RuleName], code: &str) -> Option<RuleName>
+    ensures { MatchOption result (AllByRecursion (λ rule. spec.code_of rule ≢ code.now) rules.entry.now) (λ rule. spec.code_of rule ≡ code.now) }
+{
+    'rules: while let [rule, rest @ ..] = rules {
+        if rule.code() == code {
+            return Some(*rule);
+        }
+        rules = rest;
+    }
+    None
+}
+
+impl RuleName {
+    /// The rules of the book.
+    pub fn all() -> &'static [RuleName]
+        ensures { result.now ≡ spec.rules }
+    {
+        &RULES
+    }
+
+    /// Its name in certificates.
+    pub fn code(self) -> &'static str
+        ensures { result.now ≡ spec.code_of self }
+    {
+        match self {
+            RuleName::JoinCommutes => JoinCommutes::CODE,
+            RuleName::JoinAssociates => JoinAssociates::CODE,
+            RuleName::SelectsMerge => SelectsMerge::CODE,
+            RuleName::SelectBelowJoin => SelectBelowJoin::CODE,
+            RuleName::SelectIntoJoin => SelectIntoJoin::CODE,
+            RuleName::ConditionBelowJoin => ConditionBelowJoin::CODE,
+            RuleName::SelectBelowSemi => SelectBelowSemi::CODE,
+            RuleName::KeepsMerge => KeepsMerge::CODE,
+            RuleName::KeepOfAll => KeepOfAll::CODE,
+            RuleName::KeepBelowJoin => KeepBelowJoin::CODE,
+            RuleName::DistinctOfKeyed => DistinctOfKeyed::CODE,
+            RuleName::GroupIsDistinct => GroupIsDistinct::CODE,
+        }
+    }
+
+    /// The rule with this name in certificates, if there is one.
+    pub fn of_code(code: &str) -> Option<RuleName>
+        ensures { MatchOption result ((rule : RuleName) → spec.code_of rule ≢ code.now) (λ rule. spec.code_of rule ≡ code.now) }
+    {
+        with_code(&RULES, code)
+    }
+
+    /// The lines that the rule of this name takes.
+    pub fn pattern(self) -> Pattern
+        ensures { result ≡ spec.pattern_of self }
+    {
+        match self {
+            RuleName::JoinCommutes => JoinCommutes::pattern(),
+            RuleName::JoinAssociates => JoinAssociates::pattern(),
+            RuleName::SelectsMerge => SelectsMerge::pattern(),
+            RuleName::SelectBelowJoin => SelectBelowJoin::pattern(),
+            RuleName::SelectIntoJoin => SelectIntoJoin::pattern(),
+            RuleName::ConditionBelowJoin => ConditionBelowJoin::pattern(),
+            RuleName::SelectBelowSemi => SelectBelowSemi::pattern(),
+            RuleName::KeepsMerge => KeepsMerge::pattern(),
+            RuleName::KeepOfAll => KeepOfAll::pattern(),
+            RuleName::KeepBelowJoin => KeepBelowJoin::pattern(),
+            RuleName::DistinctOfKeyed => DistinctOfKeyed::pattern(),
+            RuleName::GroupIsDistinct => GroupIsDistinct::pattern(),
+        }
+    }
+
+    /// When the rule of this name is tried at lines that it takes.
+    pub fn promise(self, alloc: Global, at: Match<'_>) -> Result<Promise, AllocError>
+        ensures { IfOk result (λ p. p ≡ spec.promise_of self (matched at.entry)) }
+    {
+        match self {
+            RuleName::JoinCommutes => JoinCommutes::promise(alloc, at),
+            RuleName::JoinAssociates => JoinAssociates::promise(alloc, at),
+            RuleName::SelectsMerge => SelectsMerge::promise(alloc, at),
+            RuleName::SelectBelowJoin => SelectBelowJoin::promise(alloc, at),
+            RuleName::SelectIntoJoin => SelectIntoJoin::promise(alloc, at),
+            RuleName::ConditionBelowJoin => ConditionBelowJoin::promise(alloc, at),
+            RuleName::SelectBelowSemi => SelectBelowSemi::promise(alloc, at),
+            RuleName::KeepsMerge => KeepsMerge::promise(alloc, at),
+            RuleName::KeepOfAll => KeepOfAll::promise(alloc, at),
+            RuleName::KeepBelowJoin => KeepBelowJoin::promise(alloc, at),
+            RuleName::DistinctOfKeyed => DistinctOfKeyed::promise(alloc, at),
+            RuleName::GroupIsDistinct => GroupIsDistinct::promise(alloc, at),
+        }
+    }
+
+    /// What the rule of this name gives.
+    pub fn apply(self, alloc: Global, at: Match<'_>) -> Result<Shape, RuleFault>
+        ensures { Gives (λ s. s) result (spec.given_by self (matched at.entry)) }
+    {
+        match self {
+            RuleName::JoinCommutes => JoinCommutes::apply(alloc, at),
+            RuleName::JoinAssociates => JoinAssociates::apply(alloc, at),
+            RuleName::SelectsMerge => SelectsMerge::apply(alloc, at),
+            RuleName::SelectBelowJoin => SelectBelowJoin::apply(alloc, at),
+            RuleName::SelectIntoJoin => SelectIntoJoin::apply(alloc, at),
+            RuleName::ConditionBelowJoin => ConditionBelowJoin::apply(alloc, at),
+            RuleName::SelectBelowSemi => SelectBelowSemi::apply(alloc, at),
+            RuleName::KeepsMerge => KeepsMerge::apply(alloc, at),
+            RuleName::KeepOfAll => KeepOfAll::apply(alloc, at),
+            RuleName::KeepBelowJoin => KeepBelowJoin::apply(alloc, at),
+            RuleName::DistinctOfKeyed => DistinctOfKeyed::apply(alloc, at),
+            RuleName::GroupIsDistinct => GroupIsDistinct::apply(alloc, at),
+        }
+    }
+}

@@ -1,0 +1,12 @@
+pub mod ConditionBelowJoin
+pub mod DistinctOfKeyed
+pub mod GroupIsDistinct
+pub mod JoinAssociates
+pub mod JoinCommutes
+pub mod KeepBelowJoin
+pub mod KeepOfAll
+pub mod KeepsMerge
+pub mod SelectBelowJoin
+pub mod SelectBelowSemi
+pub mod SelectIntoJoin
+pub mod SelectsMerge

@@ -1,0 +1,82 @@
+//! When rules are tried.
+
+use crate::classes::{Known, known_classes};
+use crate::words::lines_of;
+use algebra::{ClassId, Expr};
+use book::RuleName;
+use fixtures::{Reporting, differences};
+use rules::{Match, MatchedLine, Promise};
+use std::alloc::{AllocError, Global};
+
+fn report_promise(
+    alloc: Global,
+    rule: RuleName,
+    lines: &[(ClassId, Expr)],
+    known: &Known,
+    reported: &mut String,
+) -> Result<(), AllocError> {
+    let mut matched = Vec::new(alloc);
+    for line in lines {
+        matched.push(MatchedLine {
+            class: line.0,
+            expr: &line.1,
+        })?;
+    }
+    let at = Match {
+        lines: matched.as_slice(),
+        pick: 0,
+        classes: known.lent(),
+    };
+    reported.push_str(match rule.promise(alloc, at)? {
+        Promise::Simpler => "simpler",
+        Promise::Connected => "connected",
+        Promise::Products => "a product",
+        Promise::Projections => "a projection more",
+    })
+}
+
+/// Reports what the rule of a code promises at lines.
+struct Promising;
+
+impl Reporting for Promising {
+    fn report(&self, alloc: Global, text: &str, reported: &mut String) -> Result<(), AllocError> {
+        let (code, lines) = text.split_once(": ").unwrap_or((text, ""));
+        let Some(rule) = RuleName::of_code(code) else {
+            return reported.push_str("no such rule");
+        };
+        let lines = lines_of(alloc, lines)?;
+        report_promise(
+            alloc,
+            rule,
+            lines.as_slice(),
+            &known_classes(alloc)?,
+            reported,
+        )
+    }
+}
+
+/// The letters of conditions are those of src/words.rt, the classes those of src/classes.rt.
+#[test]
+fn rules_promise(rt: HostRuntime) {
+    const JOINS: &str = "J1: 3 join 0 1 m => connected
+J1: 3 join 0 1  => a product
+J2: 7 join 3 2 u, 3 join 0 1 m => connected
+J2: 7 join 3 2 u, 4 join 0 1  => connected
+J2: 7 join 3 2 t, 3 join 0 1 m => a product
+J2: 7 join 3 2 , 4 join 0 1  => a product
+J2: 7 join 3 2 rt, 3 join 0 1 m => a product
+S2: 7 select 3 l, 3 join 0 1 m => connected
+S3: 7 select 3 l, 4 join 0 1  => connected
+S4: 3 join 0 1 lm => connected
+S5: 7 select 0 l, 0 semi 0 1 m => connected";
+    const OTHERS: &str = "S1: 7 select 3 lr, 4 select 3 rm => simpler
+K1: 7 keep 3 0, 4 keep 3 0 2 => simpler
+K2: 7 keep 1 2 => simpler
+K3: 7 keep 3 1 3, 3 join 0 1 m => a projection more
+D1: 7 distinct 1 => simpler
+G1: 7 group 3 0 2 => simpler";
+    assert_eq!(rt;
+        differences(rt.alloc(), &[JOINS, OTHERS], &Promising).as_deref(),
+        Ok("")
+    );
+}
