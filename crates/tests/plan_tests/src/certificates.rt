@@ -377,7 +377,13 @@ fn derivations_are_judged(rt: HostRuntime) {
         second: EMP,
     };
     assert_eq!(rt;
-        query_differences(rt.alloc(), company, &[FACTS, MEMBERS, OUTER_JOINS], &Derivations).as_deref(),
+        query_differences(
+            rt.alloc(),
+            company,
+            &[FACTS, MEMBERS, OUTER_JOINS],
+            &Derivations
+        )
+        .as_deref(),
         Ok("")
     );
 }
