@@ -9,7 +9,7 @@ import re
 import sys
 
 SHORT = {"J1": "join commutes", "J2": "join associates", "S1": "selections merge", "S2": "selection below join", "S3": "selection into join", "S4": "condition below join"}
-SHORT |= {"S5": "selection below semijoin", "K1": "projections merge", "K2": "projection of all", "K3": "projection below join", "D1": "distinct of keyed", "G1": "group is distinct", "O1": "outer join is inner"}
+SHORT |= {"S5": "selection below semijoin", "K1": "projections merge", "K2": "projection of all", "K3": "projection below join", "D1": "distinct of keyed", "G1": "group is distinct"}
 
 
 def inputs_of(words):
@@ -33,7 +33,7 @@ def main():
             roots[number] = number
             members.setdefault(number, []).append((number, words, ""))
         elif kind == "A":
-            members.setdefault(int(words[0]), []).append((number, words[5:], SHORT[words[1]]))
+            members.setdefault(int(words[0]), []).append((number, words[5:], SHORT.get(words[1], words[1])))
         elif kind == "L":
             facts.setdefault(int(words[0]), []).append(" ".join(words[2:]))
         else:
