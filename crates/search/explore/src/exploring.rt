@@ -6,6 +6,7 @@ ghost use Rattle.closure.specs.Lacking.{IsMissing};
 ghost use Rattle.memo.specs.Growth.{Grows, IsWithin, Extends, FoundsDirectly};
 
 use crate::bindings::{Products, rank_of, rules_over, rules_under};
+use crate::learning::learn_all;
 use crate::queue::Queue;
 use algebra::LineId;
 use book::RuleName;
@@ -228,7 +229,8 @@ pub fn apply_all(alloc: Global, memo: &mut Memo<'_>, products: Products) -> Resu
     Ok(())
 }
 
-/// Adds something of what a log lacks that isn't full.
+/// Adds something of what a log lacks that isn't full. Behind a fact come all others that lines give, so that a log without results to add is gone through
+/// a few times and not once a fact.
 fn add_missing(alloc: Global, memo: &mut Memo<'_>, lacking: Missing) -> Result<(), AllocError>
     requires lacks { IsMissing memo.old.log.instances memo.old.log.log lacking }
     requires room { length memo.old.log.log < memo.old.limit }
@@ -240,11 +242,17 @@ fn add_missing(alloc: Global, memo: &mut Memo<'_>, lacking: Missing) -> Result<(
     match lacking {
         Missing::Alike(first, second) => memo.add(alloc, Line::Alike(first, second)),
         Missing::Result(binding) => memo.add_result(alloc, binding),
+        Missing::Fact(class, line, fact) => {
+            let _lines = memo.log().lines();
+            memo.add(alloc, Line::Gives(class, line, fact))?;
+            learn_all(alloc, memo)
+        }
     }
 }
 
 /// Adds what each rule gives at each binding, until nothing more can be added or the log is full. Whether nothing can be added: false only where the log
-/// is full. What passes left out is added result by result, each time with what follows from it.
+/// is full. What passes left out is added result by result, each time with what follows from it. Facts come when no result is left to add, and with them
+/// what rules give by them.
 #[tactic(auto, using(crate::proofs::Along::not_closed))]
 pub fn explore(alloc: Global, memo: &mut Memo<'_>) -> Result<bool, AllocError>
     ensures closed { IfOk result (λ closed. IsTrue closed ↔ IsClosed memo.new.log.instances memo.new.log.log) }

@@ -7,6 +7,7 @@
 mod bindings;
 mod exploring;
 mod keys;
+mod learning;
 mod queue;
 mod simplifying;
 
