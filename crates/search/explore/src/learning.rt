@@ -1,6 +1,9 @@
 //! Facts that lines give are learned.
 
-ghost use Rattle.std.specs.Prelude.{◌≡◌, OnOk};
+ghost use Rattle.std.specs.Prelude.{◌≡◌, ◌<◌, length, Ok, OnOk};
+ghost use Rattle.derivation.specs.declared.line.Line.TheVariants.{Gives};
+ghost use Rattle.derivation.specs.Replay.{stands};
+ghost use Rattle.closure.specs.Lacking.{LacksGiven};
 ghost use Rattle.memo.specs.Growth.{Extends, FoundsDirectly};
 
 use algebra::{ClassId, LineId};
@@ -28,6 +31,7 @@ fn learn(
     ensures extends { Extends memo.old.limit memo.old.log memo.new.log }
     ensures direct { OnOk result (FoundsDirectly memo.old.limit memo.old.log memo.new.log) }
     ensures limit { memo.new.limit ≡ memo.old.limit }
+    ensures added { OnOk result (length memo.old.log.log < memo.old.limit → stands memo.old.log.instances memo.old.log.own memo.old.log.log (Gives class line fact) ≡ Ok (Gives class line fact) → length memo.old.log.log < length memo.new.log.log) }
 {
     memo.add(alloc, Line::Gives(class, line, fact))
 }
@@ -81,5 +85,27 @@ pub(crate) fn learn_all(alloc: Global, memo: &mut Memo<'_>) -> Result<(), AllocE
             break;
         }
     }
+    Ok(())
+}
+
+/// Adds a fact that a line lacks to a log that isn't full, and behind it all others that lines give: so a log without results to add is gone through a few
+/// times, and not once a fact.
+pub(crate) fn add_fact(
+    alloc: Global,
+    memo: &mut Memo<'_>,
+    class: ClassId,
+    line: LineId,
+    fact: Fact,
+) -> Result<(), AllocError>
+    requires lacks { LacksGiven memo.old.log.instances memo.old.log.log class line fact }
+    requires room { length memo.old.log.log < memo.old.limit }
+    ensures extends { Extends memo.old.limit memo.old.log memo.new.log }
+    ensures direct { OnOk result (FoundsDirectly memo.old.limit memo.old.log memo.new.log) }
+    ensures limit { memo.new.limit ≡ memo.old.limit }
+    ensures added { OnOk result (length memo.old.log.log < length memo.new.log.log) }
+{
+    let _replays = memo.log().lines();
+    learn(alloc, memo, class, line, fact)?;
+    learn_all(alloc, memo)?;
     Ok(())
 }

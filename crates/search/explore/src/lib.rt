@@ -12,5 +12,5 @@ mod queue;
 mod simplifying;
 
 pub use bindings::Products;
-pub use exploring::{apply_all, explore};
+pub use exploring::{apply_all, apply_and_learn, explore};
 pub use simplifying::simplify;

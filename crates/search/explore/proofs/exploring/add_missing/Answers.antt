@@ -8,6 +8,3 @@ pub returns-in-Alike-clause-added : goal.returns-in-Alike-clause-added
 returns-in-Alike-clause-added c =
     let log = c.args.memo.now.log in
     on_ok c.add.result (λ added. added c.requires.room (alike_stands log.instances log.own log.log c.in-Alike.first c.in-Alike.second (subst (IsMissing log.instances log.log) c.in-Alike.is c.requires.lacks))) c.add.ensures.added
-
-pub returns-in-Fact-clause-added : goal.returns-in-Fact-clause-added
-returns-in-Fact-clause-added c = ?
