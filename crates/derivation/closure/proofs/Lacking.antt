@@ -4,6 +4,7 @@ use Rattle.query.specs.declared.query.TableInstance.{TableInstance}
 use Rattle.algebra.specs.Alike.{AreAlike}
 use Rattle.algebra.specs.Columns.{has, columns_at}
 use Rattle.book.specs.declared.names.RuleName.{RuleName}
+use Rattle.props.specs.declared.fact.Fact.{Fact}
 use Rattle.rules.specs.declared.pattern.Input.{Input}
 use Rattle.rules.specs.declared.shape.Shape.{Shape}
 use Rattle.rules.specs.declared.unfit.Unfit.{Unfit}
@@ -19,7 +20,7 @@ use Rattle.closure.specs.declared.lacks.Binding.{Binding}
 use Rattle.closure.specs.declared.lacks.Missing.{Missing}
 use Rattle.closure.specs.declared.lacks.Missing.TheVariants as lacks
 use Rattle.closure.specs.Closed.{alike, is_there, IsClosed}
-use Rattle.closure.specs.Lacking.{Disagrees, LacksAlike, LacksResult, LacksOver, LacksBinding, IsMissing, DisagreeingAmong, DisagreeingWith, ResultTold, LackingOver, LackingOverInput, LackingAmong, LackingAt}
+use Rattle.closure.specs.Lacking.{Disagrees, LacksAlike, LacksResult, LacksOver, LacksBinding, LacksGiven, IsMissing, DisagreeingAmong, DisagreeingWith, ResultTold, LackingOver, LackingOverInput, LackingAmong, LackingAt}
 use Rattle.closure.specs.Lines.{HasResultOver, HasResultsBy}
 use Rattle.closure.specs.Places.{place, AreEntered, AgreesAt, Disagree}
 use Rattle.closure.proofs.Agreeing.{alike-are, are-alike, alike-place, each-of}
@@ -99,6 +100,10 @@ module _ (instances : List TableInstance) (E : Log) where
   alike_open : (i j : ℕ) → LacksAlike E i j → IsClosed instances E → ⊥
   alike_open i j it closed = let never : true ≡ false = sym (closed.united i it.first it.there j it.second.line it.second.there it.second.alike) ∙ it.second.differ in cc
 
+  fact_open : (g m : ℕ) (f : Fact) → LacksGiven instances E g m f → IsClosed instances E → ⊥
+  fact_open g m f it closed = let never : true ≡ false = sym it.fact.lacks ∙ closed.learnt m it.line it.there f it.fact.rises in cc
+
   pub missing_open : (m : Missing) → IsMissing instances E m → IsClosed instances E → ⊥
   missing_open (lacks.Alike i j) it = alike_open i j it
   missing_open (lacks.Result b) it = binding_open b it
+  missing_open (lacks.Fact g m f) it = fact_open g m f it

@@ -3,6 +3,7 @@ pub mod AnyLine
 pub mod Fits
 pub mod FormedLogs
 pub mod Founding
+pub mod LackedFacts
 pub mod Lacking
 pub mod Results
 pub mod Shapes

@@ -1,8 +1,8 @@
 -- What a rule gives at lines of a log may be added as a line.
-use Rattle.std.proofs.Common.{◌≡◌, refl, ap, sym, ◌∙◌, subst, ℕ, true, ◌&&◌, ◌==◌, if◌then◌else◌, List, [], ◌∷◌, length, append-nil, arith, Option, Some, None, Result, Ok, Err, option_to_list}
+use Rattle.std.proofs.Common.{◌≡◌, refl, ap, sym, ◌∙◌, subst, ℕ, true, not, ◌&&◌, ◌==◌, if◌then◌else◌, List, [], ◌∷◌, length, append-nil, arith, Option, Some, None, Result, Ok, Err, option_to_list}
 use Rattle.std.specs.List.{AllByRecursion, list_all}
 use Rattle.std.specs.List.Sorted.{IsStrictlyIncreasing}
-use Rattle.std.proofs.lemmas.Bool.{and_from, eq-eqb, eqb-true, lt-ltb}
+use Rattle.std.proofs.lemmas.Bool.{and_from, and_parts, eq-eqb, eqb-true, lt-ltb}
 use Rattle.values.specs.Faults.{◌>>=◌, wanted, wanted_if}
 use Rattle.query.specs.declared.query.TableInstance.{TableInstance}
 use Rattle.algebra.specs.declared.expr.Aggregation.{Aggregation}
@@ -11,6 +11,11 @@ use Rattle.algebra.specs.declared.expr.Expr.TheVariants.{Keep}
 use Rattle.algebra.specs.Equality.{same_columns, same_expr}
 use Rattle.algebra.specs.Expressions.{columns_of, is_formed}
 use Rattle.algebra.proofs.Same.{same-expr, same_columns-refl}
+use Rattle.algebra.specs.Columns.{is_subset}
+use Rattle.props.specs.declared.fact.Fact.{Fact}
+use Rattle.props.specs.Facts.{fact_columns}
+use Rattle.props.specs.Given as facts
+use Rattle.props.specs.Given.{gives}
 use Rattle.props.specs.Knowledge.{Knowledge}
 use Rattle.props.specs.Knowledge as knowledge_
 use Rattle.rules.specs.declared.shape.Shape.{Shape}
@@ -19,18 +24,18 @@ use Rattle.rules.specs.declared.unfit.Unfit.{Unfit}
 use Rattle.book.specs.Book.{given_by}
 use Rattle.rules.specs.Matches as matches
 use Rattle.derivation.specs.declared.line.Line.{Line}
-use Rattle.derivation.specs.declared.line.Line.TheVariants.{Adds, Unites, Alike}
+use Rattle.derivation.specs.declared.line.Line.TheVariants.{Adds, Unites, Alike, Gives}
 use Rattle.derivation.specs.declared.line.LineReason.{LineReason}
-use Rattle.derivation.specs.declared.line.LineReason.TheVariants.{UnknownLine, IllFormed, OtherForm, OtherLine}
+use Rattle.derivation.specs.declared.line.LineReason.TheVariants.{UnknownLine, IllFormed, OtherForm, OtherLine, FailedFact}
 use Rattle.derivation.specs.Logs.{Log, founds, member, least, knowledge}
-use Rattle.derivation.specs.Replay.{Replays, is_earlier, is_known, cites, both_lines, members, matched_at, or_unfit, given, are_alike, stands}
+use Rattle.derivation.specs.Replay.{Replays, is_earlier, is_known, cites, both_lines, members, matched_at, or_unfit, given, is_of, gives_fact, are_alike, stands}
 use Rattle.derivation.specs.Spelling.{is_expr, is_class, is_whole, spelling}
 use Rattle.derivation.proofs.Lookups.{member-within}
 use Rattle.derivation.proofs.Standing.{StandsFounds, founds-stands}
 use Rattle.logs.proofs.Equations.{class_Class}
 use Rattle.closure.specs.declared.lacks.Binding.{Binding}
 use Rattle.rules.specs.Formed.{formed, IsFormedLine, Rises}
-use Rattle.closure.specs.Lacking.{LacksAlike, GivesBinding, LacksBinding}
+use Rattle.closure.specs.Lacking.{LacksAlike, LacksGiven, GivesBinding, LacksBinding}
 use Rattle.closure.specs.Results.{uses_of, step_of, AreMatched, IsResult}
 use Rattle.closure.specs.Spelt.{cols, MayStand, shape_columns, IsSpelt}
 use Rattle.closure.proofs.Agreeing.{are-alike}
@@ -53,6 +58,37 @@ module _ (instances : List TableInstance) (own : List Aggregation) (E : Log) whe
       ap (λ b. wanted_if UnknownLine b (Alike i j) >>= λ l. wanted_if OtherForm (are_alike K (member E i) (member E j)) l)
       (and_from _ _ (lt-ltb i (length E) (member-within E i it.first it.there)) (lt-ltb j (length E) (member-within E j it.second.line it.second.there)))
       ∙ ap (λ b. wanted_if OtherForm b (Alike i j)) (ap (λ o. are_alike K o (member E j)) it.there ∙ ap (are_alike K (Some it.first)) it.second.there ∙ are-alike instances E it.first.expr it.second.line.expr it.second.alike)
+
+  pub gives_stands : Replays instances own E → (g m : ℕ) (f : Fact) → LacksGiven instances E g m f → stands instances own E (Gives g m f) ≡ Ok (Gives g m f)
+  gives_stands replays g m f it =
+      ap (λ b. wanted_if UnknownLine b line >>= formed_) named ∙ ap (λ b. wanted_if IllFormed b line >>= of_) within ∙ ap (λ b. wanted_if OtherForm b line >>= last) class ∙ ap (λ b. wanted_if FailedFact b line) given_
+    where
+      line : Line
+      line = Gives g m f
+
+      last : Line → Result Line LineReason
+      last l = wanted_if FailedFact (gives_fact instances K g f (member E m)) l
+
+      of_ : Line → Result Line LineReason
+      of_ l = wanted_if OtherForm (is_of K g (member E m)) l >>= last
+
+      formed_ : Line → Result Line LineReason
+      formed_ l = wanted_if IllFormed (is_subset (fact_columns f) (K.columns g)) l >>= of_
+
+      both : (not (facts.is_known K it.line.class f) && is_subset (fact_columns f) (K.columns it.line.class) ≡ true) × (gives instances K it.line.class it.line.expr f ≡ true)
+      both = and_parts _ _ it.fact.lacks
+
+      named : (founds E g && is_earlier E m) ≡ true
+      named = and_from _ _ (ap (founds E) (sym it.class_is) ∙ ((kept_by instances own E replays).lines m it.line it.there).class) (lt-ltb m (length E) (member-within E m it.line it.there))
+
+      within : is_subset (fact_columns f) (K.columns g) ≡ true
+      within = ap (λ g. is_subset (fact_columns f) (K.columns g)) (sym it.class_is) ∙ (and_parts (not (facts.is_known K it.line.class f)) _ both.0).1
+
+      class : is_of K g (member E m) ≡ true
+      class = ap (is_of K g) it.there ∙ eq-eqb _ _ (ap (least E) it.class_is)
+
+      given_ : gives_fact instances K g f (member E m) ≡ true
+      given_ = ap (gives_fact instances K g f) it.there ∙ ap (λ g. gives instances K g it.line.expr f) (sym it.class_is) ∙ both.1
 
   pub adds_stand : (b : Binding) (class : ℕ) (s : Shape) (x : Expr) (makes : List ℕ) → IsResult instances own E b class s → IsSpelt instances own E s x makes
       → stands instances own E (Adds class (step_of b makes) x) ≡ Ok (Adds class (step_of b makes) x)

@@ -1,12 +1,17 @@
 -- Closed logs: whatever a rule gives stands there already, up to which classes are the same.
 -- Exploration until no rule adds anything: Graefe, The Cascades framework for query optimization, 1995.
-use Rattle.std.specs.Prelude.{◌≡◌, ℕ, Bool, true, false, ◌&&◌, ◌||◌, List, [], ◌∷◌, length, Option, Some, None, Ok}
+use Rattle.std.specs.Prelude.{◌≡◌, ℕ, Bool, true, false, not, ◌&&◌, ◌||◌, List, [], ◌∷◌, length, Option, Some, None, Ok}
+use Rattle.std.specs.List.Sorted.{IsStrictlyIncreasing}
 use Rattle.query.specs.declared.query.TableInstance.{TableInstance}
 use Rattle.algebra.specs.declared.expr.Expr.{Expr}
 use Rattle.algebra.specs.declared.expr.Expr.TheVariants as expr
 use Rattle.algebra.specs.Alike.{rooted, AreAlike}
+use Rattle.algebra.specs.Columns.{is_subset}
 use Rattle.algebra.specs.Equality.{same_expr}
 use Rattle.algebra.specs.Expressions.{children}
+use Rattle.props.specs.declared.fact.Fact.{Fact}
+use Rattle.props.specs.Facts.{fact_columns}
+use Rattle.props.specs.Given.{gives, is_known}
 use Rattle.props.specs.Knowledge.{Knowledge}
 use Rattle.props.specs.Knowledge as knowledge
 use Rattle.book.specs.declared.names.RuleName.{RuleName}
@@ -72,6 +77,12 @@ module _ (K : Knowledge) where
     unfoldable pub is_there : Shape → ℕ → Bool
     is_there = fold-Shape (ℕ → Bool) standing_layer
 
+-- ---- facts
+
+-- whether a line gives a fact of its class that isn't known of it
+abbrev pub lacks_fact : List TableInstance → Knowledge → matches.Line → Fact → Bool
+lacks_fact instances K l f = not (is_known K l.class f) && is_subset (fact_columns f) (K.columns l.class) && gives instances K l.class l.expr f
+
 -- ---- closed logs
 
 -- lines that are alike are of classes that are the same
@@ -88,6 +99,11 @@ module _ (instances : List TableInstance) (E : Log) where
   abbrev pub HasResults : Type 0
   HasResults = (rule : RuleName) (pick : ℕ) (uses : List ℕ) (top : matches.Line) (others : List matches.Line) → members E uses ≡ Some (top ∷ others) → HasResult rule pick top others
 
+  -- no line lacks a fact. The columns of each stand in rising order, as in a set of columns.
+  abbrev pub AreLearnt : Type 0
+  AreLearnt = (i : ℕ) (l : matches.Line) → member E i ≡ Some l → (f : Fact) → IsStrictlyIncreasing (fact_columns f) → lacks_fact instances (logs.knowledge instances E) l f ≡ false
+
   pub record IsClosed : Type 0 where
     pub results : HasResults
     pub united : AreUnited E
+    pub learnt : AreLearnt

@@ -8,13 +8,15 @@ use Rattle.rules.specs.declared.pattern.Input.{Input}
 use Rattle.rules.specs.declared.pattern.Pattern.{Pattern}
 use Rattle.rules.specs.declared.shape.Shape.{Shape}
 use Rattle.book.specs.Book.{given_by, pattern_of}
+use Rattle.props.specs.declared.fact.Fact.{Fact}
 use Rattle.rules.specs.Matches as matches
 use Rattle.derivation.specs.Logs.{Log, member, least, are_same, knowledge}
 use Rattle.derivation.specs.Replay.{members}
 use Rattle.closure.specs.declared.lacks.Binding.{Binding}
 use Rattle.closure.specs.declared.lacks.Missing.{Missing}
 use Rattle.closure.specs.declared.lacks.Missing.TheVariants as lacks
-use Rattle.closure.specs.Closed.{is_there, AreUnited, HasResults}
+use Rattle.closure.specs.Closed.{is_there, AreLearnt, AreUnited, HasResults}
+use Rattle.closure.specs.Learnt.{LacksFact, LineTold}
 use Rattle.closure.specs.Lines.{HasResultOver, HasResultsOverInput, HasResultsBy, HasResultsOf}
 use Rattle.closure.specs.Places.{AgreesAt, AgreesWithAll}
 
@@ -59,9 +61,17 @@ module _ (instances : List TableInstance) (E : Log) where
     pub lines : members E (b.top ∷ option_to_list b.below) ≡ Some (top ∷ others)
     pub result : LacksResult b.rule (top ∷ others) top.class
 
+  -- a line of the class lacks a fact
+  pub record LacksGiven (g m : ℕ) (f : Fact) : Type 0 where
+    pub line : matches.Line
+    pub there : member E m ≡ Some line
+    pub class_is : line.class ≡ g
+    pub fact : LacksFact instances (knowledge instances E) line f
+
   abbrev pub IsMissing : Missing → Type 0
   IsMissing (lacks.Alike i j) = LacksAlike E i j
   IsMissing (lacks.Result b) = LacksBinding b
+  IsMissing (lacks.Fact g m f) = LacksGiven g m f
 
 -- ---- what is found among lines
 
@@ -110,3 +120,12 @@ module _ (instances : List TableInstance) (E : Log) where
   abbrev pub Lacking : Option Binding → Type 0
   Lacking (Some b) = LacksBinding instances E b
   Lacking None = HasResults instances E
+
+  -- the facts of a line, and of all
+  abbrev pub UnlearntAt : ℕ → Option Missing → Type 0
+  UnlearntAt i (Some m) = IsMissing instances E m
+  UnlearntAt i None = (l : matches.Line) → member E i ≡ Some l → LineTold instances (knowledge instances E) l None
+
+  abbrev pub Unlearnt : Option Missing → Type 0
+  Unlearnt (Some m) = IsMissing instances E m
+  Unlearnt None = AreLearnt instances E

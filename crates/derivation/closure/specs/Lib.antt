@@ -1,5 +1,6 @@
 pub mod Closed
 pub mod Lacking
+pub mod Learnt
 pub mod Lines
 pub mod Operators
 pub mod Places

@@ -11,6 +11,7 @@ ghost use Rattle.closure.specs.Lacking as lacking_;
 ghost use Rattle.closure.specs.Places.{AreEntered};
 
 use crate::lacks::{Binding, Missing};
+use crate::learning::lacking_fact;
 use crate::pairs::{disagreeing, lines_over};
 use crate::standing::is_there;
 use algebra::LineId;
@@ -262,8 +263,33 @@ fn lacking(
     Ok(None)
 }
 
+/// A fact that the line of a number lacks, if there is one.
+fn unlearnt_of(alloc: Global, log: &Log<'_>, line: LineId) -> Result<Option<Missing>, AllocError>
+    ensures { IfOk result (λ found. lacking_.UnlearntAt log.now.instances log.now.log line found) }
+{
+    let Some(member) = log.member(line) else {
+        return Ok(None);
+    };
+    match lacking_fact(alloc, log, member)? {
+        Some(fact) => Ok(Some(Missing::Fact(member.class, line, fact))),
+        None => Ok(None),
+    }
+}
+
+/// A fact that a line lacks, if there is one.
+fn unlearnt(alloc: Global, log: &Log<'_>) -> Result<Option<Missing>, AllocError>
+    ensures { IfOk result (λ found. lacking_.Unlearnt log.now.instances log.now.log found) }
+{
+    for line in 0..id_of(log.len())? {
+        if let Some(missing) = unlearnt_of(alloc, log, line)? {
+            return Ok(Some(missing));
+        }
+    }
+    Ok(None)
+}
+
 /// What a log lacks to be closed: two lines that are alike and of classes that aren't the same, else a rule with lines whose result doesn't stand in the
-/// class of the top one. None where the log is closed.
+/// class of the top one, else a fact that a line gives. None where the log is closed.
 pub fn missing(alloc: Global, log: &Log<'_>) -> Result<Option<Missing>, AllocError>
     ensures none { IfOk result (λ found. found ≡ None → spec.IsClosed log.now.instances log.now.log) }
     ensures some { IfOk result (λ found. IfSome found (λ m. lacking_.IsMissing log.now.instances log.now.log m)) }
@@ -272,13 +298,15 @@ pub fn missing(alloc: Global, log: &Log<'_>) -> Result<Option<Missing>, AllocErr
     if let Some((first, second)) = disagreeing(alloc, log, over.as_slice())? {
         return Ok(Some(Missing::Alike(first, second)));
     }
-    match lacking(alloc, log, over.as_slice())? {
-        Some(binding) => Ok(Some(Missing::Result(binding))),
-        None => Ok(None),
+    if let Some(binding) = lacking(alloc, log, over.as_slice())? {
+        return Ok(Some(Missing::Result(binding)));
     }
+    let found = unlearnt(alloc, log)?;
+    Ok(found)
 }
 
-/// Whether a log is closed: whether whatever rules give at its lines stands there already, and lines that are alike are of classes that are the same.
+/// Whether a log is closed: whether whatever rules give at its lines stands there already, lines that are alike are of classes that are the same, and
+/// each fact that a line gives is known.
 #[tactic(auto, using(crate::proofs::Lacking::missing_open))]
 pub fn is_closed(alloc: Global, log: &Log<'_>) -> Result<bool, AllocError>
     ensures { IfOk result (λ closed. IsTrue closed ↔ spec.IsClosed log.now.instances log.now.log) }

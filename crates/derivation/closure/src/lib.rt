@@ -3,6 +3,7 @@
 
 mod closing;
 mod lacks;
+mod learning;
 mod nearer;
 mod pairs;
 mod spelt;
@@ -10,4 +11,5 @@ mod standing;
 
 pub use closing::{is_closed, missing};
 pub use lacks::{Binding, Missing};
+pub use learning::lacking_fact;
 pub use nearer::{line_of, next_line, results_may_stand, step_of};

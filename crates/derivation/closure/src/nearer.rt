@@ -141,8 +141,8 @@ pub fn results_may_stand()
     ensures { BookIsFormed }
 {}
 
-/// A line that may stand behind the log and adds something of what it lacks: that two lines are alike, what the rule gives, or else the first expression
-/// of it that no line has.
+/// A line that may stand behind the log and adds something of what it lacks: that two lines are alike; what the rule gives, or else the first expression
+/// of it that no line has; that a fact holds.
 #[tactic(auto, using(crate::proofs::Results::alike_stands, crate::proofs::Results::lacking_gives))]
 pub fn next_line(alloc: Global, log: &Log<'_>, missing: Missing) -> Result<Line, AllocError>
     requires { IsMissing log.now.instances log.now.log missing }
@@ -153,6 +153,10 @@ pub fn next_line(alloc: Global, log: &Log<'_>, missing: Missing) -> Result<Line,
         Missing::Result(binding) => {
             let line = line_of(alloc, log, binding)?;
             Ok(line)
+        }
+        Missing::Fact(class, line, fact) => {
+            let _replays = log.lines();
+            Ok(Line::Gives(class, line, fact))
         }
     }
 }

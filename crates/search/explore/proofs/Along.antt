@@ -1,5 +1,5 @@
 -- What passes and single lines do to a log, one after the other.
-use Rattle.std.proofs.Common.{◌≡◌, ◌↔◌, ap, ◌∙◌, subst, ℕ, ◌+◌, ◌-◌, ◌≤◌, true, false, List, length, IsTrue, arith}
+use Rattle.std.proofs.Common.{◌≡◌, ◌↔◌, ap, ◌∙◌, subst, ℕ, ◌+◌, ◌≤◌, true, false, List, length, IsTrue, arith}
 use Rattle.std.proofs.lemmas.List.{length-append}
 use Rattle.query.specs.declared.query.TableInstance.{TableInstance}
 use Rattle.derivation.specs.Logs.{Log}

@@ -6,6 +6,7 @@ ghost use Rattle.closure.specs.Lacking.{IsMissing};
 ghost use Rattle.memo.specs.Growth.{Grows, IsWithin, Extends, FoundsDirectly};
 
 use crate::bindings::{Products, rank_of, rules_over, rules_under};
+use crate::learning::{add_fact, learn_all};
 use crate::queue::Queue;
 use algebra::LineId;
 use book::RuleName;
@@ -228,6 +229,34 @@ pub fn apply_all(alloc: Global, memo: &mut Memo<'_>, products: Products) -> Resu
     Ok(())
 }
 
+/// The same with products, and then what facts lines give. Whether some were learned.
+fn apply_then_learn(alloc: Global, memo: &mut Memo<'_>) -> Result<bool, AllocError>
+    ensures extends { Extends memo.old.limit memo.old.log memo.new.log }
+    ensures direct { OnOk result (FoundsDirectly memo.old.limit memo.old.log memo.new.log) }
+    ensures limit { memo.new.limit ≡ memo.old.limit }
+{
+    apply_all(alloc, memo, Products::Made)?;
+    let before = memo.log().len();
+    learn_all(alloc, memo)?;
+    Ok(before < memo.log().len())
+}
+
+/// Adds what each rule gives at each binding, then what facts lines give, and so on with what rules give by these, until the log is full or nothing is learned.
+/// Nothing is said of what it leaves out.
+pub fn apply_and_learn(alloc: Global, memo: &mut Memo<'_>) -> Result<(), AllocError>
+    ensures extends { Extends memo.old.limit memo.old.log memo.new.log }
+    ensures direct { OnOk result (FoundsDirectly memo.old.limit memo.old.log memo.new.log) }
+    ensures limit { memo.new.limit ≡ memo.old.limit }
+{
+    for _ in 0..MOST_PASSES {
+        let has_learned = apply_then_learn(alloc, memo)?;
+        if !has_learned {
+            break;
+        }
+    }
+    Ok(())
+}
+
 /// Adds something of what a log lacks that isn't full.
 fn add_missing(alloc: Global, memo: &mut Memo<'_>, lacking: Missing) -> Result<(), AllocError>
     requires lacks { IsMissing memo.old.log.instances memo.old.log.log lacking }
@@ -240,11 +269,13 @@ fn add_missing(alloc: Global, memo: &mut Memo<'_>, lacking: Missing) -> Result<(
     match lacking {
         Missing::Alike(first, second) => memo.add(alloc, Line::Alike(first, second)),
         Missing::Result(binding) => memo.add_result(alloc, binding),
+        Missing::Fact(class, line, fact) => add_fact(alloc, memo, class, line, fact),
     }
 }
 
 /// Adds what each rule gives at each binding, until nothing more can be added or the log is full. Whether nothing can be added: false only where the log
-/// is full. What passes left out is added result by result, each time with what follows from it.
+/// is full. What passes left out is added result by result, each time with what follows from it. Facts come when no result is left to add, and with them
+/// what rules give by them.
 #[tactic(auto, using(crate::proofs::Along::not_closed))]
 pub fn explore(alloc: Global, memo: &mut Memo<'_>) -> Result<bool, AllocError>
     ensures closed { IfOk result (λ closed. IsTrue closed ↔ IsClosed memo.new.log.instances memo.new.log.log) }

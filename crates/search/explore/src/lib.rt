@@ -7,9 +7,10 @@
 mod bindings;
 mod exploring;
 mod keys;
+mod learning;
 mod queue;
 mod simplifying;
 
 pub use bindings::Products;
-pub use exploring::{apply_all, explore};
+pub use exploring::{apply_all, apply_and_learn, explore};
 pub use simplifying::simplify;

@@ -15,7 +15,7 @@ use certificate::judging::{judged_log, own_aggregates};
 use certificate::{Certificate, query_order};
 use costs::{Cardinalities, cost};
 use derivation::Line;
-use explore::{Products, apply_all, simplify};
+use explore::{Products, apply_all, apply_and_learn, simplify};
 use frame::frame_of;
 use join_trees::falls_apart;
 use logs::Log;
@@ -148,14 +148,15 @@ fn worthwhile(limit: usize, cost: u64) -> usize {
     }
 }
 
-/// The cheapest plan that is found over a log's lines and all others that its limit leaves room for.
+/// The cheapest plan that is found over a log's lines and all others that its limit leaves room for, facts among them: so where there is room the lines are
+/// closed.
 fn explored(
     alloc: Global,
     planning: Planning<'_>,
     memo: &mut Memo<'_>,
 ) -> Result<Option<Plan>, AllocError> {
     if !memo.is_full() {
-        apply_all(alloc, memo, Products::Made)?;
+        apply_and_learn(alloc, memo)?;
     }
     match cheapest(alloc, planning, memo.log())? {
         Some(BestPlan { plan, .. }) => Ok(Some(plan)),

@@ -1,7 +1,10 @@
 use Rattle.std.proofs.Common.{subst}
 use Rattle.closure.specs.Lacking.{IsMissing}
-use Rattle.closure.proofs.Results.{alike_stands}
+use Rattle.closure.proofs.Results.{alike_stands, gives_stands}
 use Rattle.closure.proofs.nearer.next_line.Goals as goal
 
 pub returns-in-Alike : goal.returns-in-Alike
 returns-in-Alike c = alike_stands c.args.log.now.instances c.args.log.now.own c.args.log.now.log c.in-Alike.first c.in-Alike.second (subst (IsMissing c.args.log.now.instances c.args.log.now.log) c.in-Alike.is c.requires)
+
+pub returns-in-Fact : goal.returns-in-Fact
+returns-in-Fact c = gives_stands c.args.log.now.instances c.args.log.now.own c.args.log.now.log c.lines-replays.ensures.replays c.in-Fact.class c.in-Fact.line c.in-Fact.fact (subst (IsMissing c.args.log.now.instances c.args.log.now.log) c.in-Fact.is c.requires)
