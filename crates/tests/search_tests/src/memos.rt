@@ -296,6 +296,26 @@ fn logs_are_given_what_they_lack(rt: HostRuntime) {
     );
 }
 
+/// Facts that lines give are learned where no result is left to add, and results follow from them: that the rows of a table differ by its key makes the
+/// distinct ones the same. A key of a join comes of keys of both sides.
+#[test]
+fn facts_are_learned(rt: HostRuntime) {
+    const DISTINCT: &str =
+        "SELECT id FROM emp => F get 0; F distinct 0 / closed; members 1; explore; members 1; closed; learn 1 strong 0 => open; 1; whole; 0 1; closed; known; lines F F";
+    const JOINED: &str =
+        "SELECT d.id FROM dept d, emp e => F get 0; F get 1; F join [=(c0,c4)] 0 1; F distinct 2 / explore; members 3; learn 2 strong 3; learn 2 strong 0,3; learn 2 strong 0; learn 2 notnull 4 => whole; 2 3; known; known; not known; known; lines F F F F";
+    assert_eq!(rt;
+        query_differences(
+            rt.alloc(),
+            TABLES,
+            &[DISTINCT, JOINED],
+            &Grown { limit: LIMIT }
+        )
+        .as_deref(),
+        Ok("")
+    );
+}
+
 /// A log that is full isn't whole.
 #[test]
 fn full_logs_are_not_explored(rt: HostRuntime) {
