@@ -215,7 +215,7 @@ def text_rows(drawn, places):
     for place in places[1:]:
         seen.add(place)
         parts = [edge_share(tables, edge) for edge in drawn.edges if place in (edge[0], edge[2]) and {edge[0], edge[2]} <= seen]
-        rows = per_million(rows * tables[place].rows, all_of(parts))
+        rows = quality.passing(rows * tables[place].rows, parts)
     return rows
 
 

@@ -33,7 +33,7 @@ def main():
             roots[number] = number
             members.setdefault(number, []).append((number, words, ""))
         elif kind == "A":
-            members.setdefault(int(words[0]), []).append((number, words[5:], SHORT[words[1]]))
+            members.setdefault(int(words[0]), []).append((number, words[5:], SHORT.get(words[1], words[1])))
         elif kind == "L":
             facts.setdefault(int(words[0]), []).append(" ".join(words[2:]))
         else:

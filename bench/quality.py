@@ -30,7 +30,7 @@ import crates
 ROOT = pathlib.Path(__file__).resolve().parent.parent
 NAME = "plan_quality"
 LIBRARIES = (
-    "values schema store statistics sql_parse query binder algebra laws props rules plain_rules book derivation logs frame physical costs memo closure explore seed search"
+    "values schema store statistics sql_parse query binder algebra laws props rules plain_rules outer_rules book derivation logs frame physical costs memo closure explore seed search"
     " certificate trimming certificate_text planner anyhow"
 )
 BATCH = 60
@@ -201,6 +201,17 @@ def all_of(shares):
     return part
 
 
+def passing(rows, shares):
+    """Of so many rows those at which conditions are true: one by which a list would keep less than a millionth is asked of what those before it leave."""
+    part = MILLION
+    for one in shares:
+        if part * one < MILLION:
+            rows, part = per_million(rows, max(1, part)), one
+        else:
+            part = per_million(part, one)
+    return per_million(rows, max(1, part))
+
+
 def filter_share(table, condition):
     column, operator, _ = condition
     if operator == "=":
@@ -260,8 +271,11 @@ def leaf_sides(table):
 
 
 def joined_rows(left, right, part):
-    """The rows of two sides joined by conditions of this share: a list of them keeps a millionth at least."""
-    return per_million(left.rows * right.rows, math.ceil(part * left.shares * right.shares * MILLION - 1e-6) or 1)
+    """The rows of two sides joined by conditions of this share. Less than a millionth is counted by several lists, whose rounding is left out here."""
+    pairs, whole = left.rows * right.rows, part * left.shares * right.shares
+    if whole * MILLION < 1:
+        return max(math.ceil(pairs * whole), min(pairs, 1))
+    return per_million(pairs, math.ceil(whole * MILLION - 1e-6))
 
 
 def undominated(trees):
@@ -355,8 +369,8 @@ class Priced:
         place, column = a or b
         return filter_share(self.tables[place], (column, operator, 0))
 
-    def shares(self, text):
-        return all_of(self.share(c) for c in conditions_in(text))
+    def passing(self, rows, text):
+        return passing(rows, [self.share(c) for c in conditions_in(text)])
 
     def index_of(self, instance, index):
         table = self.tables[self.from_order[int(instance)]]
@@ -377,20 +391,20 @@ class Priced:
             for condition in conditions_in(words[4]):
                 operator, first, second = re.fullmatch(r"(\S+?)\((\S+),(\S+)\)", condition).groups()
                 filters.append((self.columns[int((first if first[0] == "c" else second)[1:])][1], operator, 0))
-            return per_million(table.rows, self.shares(words[4])), index_scan_cost(table, column, filters)
+            return self.passing(table.rows, words[4]), index_scan_cost(table, column, filters)
         if name == "filter":
             rows, cost = self.price()
-            return per_million(rows, self.shares(words[1])), cost + rows
+            return self.passing(rows, words[1]), cost + rows
         if name == "cut":
             rows, cost = self.price()
             return rows, cost + 1
         if name == "iloop":
             table, column = self.index_of(words[3], words[4])
             rows, cost = self.price()
-            return per_million(rows * table.rows, self.shares(words[5])), cost + rows * probe_cost(table, column)
+            return self.passing(rows * table.rows, words[5]), cost + rows * probe_cost(table, column)
         left_rows, left_cost = self.price()
         right_rows, right_cost = self.price()
-        rows = per_million(left_rows * right_rows, self.shares(words[-1]))
+        rows = self.passing(left_rows * right_rows, words[-1])
         if name == "loop":
             return rows, left_cost + left_rows * right_cost
         if name == "hash":

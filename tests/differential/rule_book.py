@@ -4,6 +4,7 @@ What a rule gives is a shape: an expression whose inputs are classes or shapes, 
 """
 
 import collections
+import itertools
 
 from certificates import conjuncts
 
@@ -130,6 +131,38 @@ def group_is_distinct(_, top):
     return ("distinct", ("keep", top[1], top[3]))
 
 
+def is_never_true(condition, nulls):
+    """Whether the condition can't be true where the columns are Null."""
+    return True not in outcomes(condition, nulls)
+
+
+def outcomes(condition, nulls):
+    """The truths that the condition can have where the columns are Null: True, False, and None for unknown."""
+    kind, *parts = condition
+    is_nulled = lambda term: term[0] == "n" or term[0] == "c" and term[1] in nulls
+    if kind == "null":
+        return {True} if is_nulled(parts[0]) else {True, False} if parts[0][0] == "c" else {False}
+    if kind == "not":
+        return {None if truth is None else not truth for truth in outcomes(parts[0], nulls)}
+    if kind in ("and", "or"):
+        decisive = kind == "or"
+        found = [outcomes(part, nulls) for part in parts[0]]
+        return {decisive if decisive in truths else None if None in truths else not decisive for truths in itertools.product(*found)}
+    if kind == "exists":
+        return {True, False}
+    if kind == "in":
+        return {False, None} if is_nulled(parts[0]) else {True, False, None}
+    return {None} if any(map(is_nulled, parts[-2:])) else {True, False, None}
+
+
+def outer_join_is_inner(lines, top, below):
+    wants(top, "select")
+    wants(below, "left")
+    (_, kept, _), (_, conditions, left, right) = top, below
+    holds(any(is_never_true(condition, lines.columns(right)) for condition in kept))
+    return ("select", kept, ("join", conditions, left, right))
+
+
 Rule = collections.namedtuple("Rule", "gives count kind")
 BOOK = {
     "J1": Rule(join_commutes, 1, "join"),
@@ -144,5 +177,6 @@ BOOK = {
     "K3": Rule(keep_below_join, 2, "keep"),
     "D1": Rule(distinct_of_keyed, 1, "distinct"),
     "G1": Rule(group_is_distinct, 1, "group"),
+    "O1": Rule(outer_join_is_inner, 2, "select"),
 }
 """Of each code what the rule gives, to how many lines it is applied, and what the first of them is."""

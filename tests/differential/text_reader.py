@@ -3,11 +3,13 @@
 It knows nothing of the program's reader: it goes through each line character by character.
 """
 
+from rule_book import BOOK
+
 RANGE = 2**32
 MOST_LINES = MOST_NODES = 200_000
 MOST_NESTED = 256
 MOST_DEEP = 1_024
-RULES = "J1 J2 S1 S2 S3 S4 S5 K1 K2 K3 D1 G1".split()
+RULES = list(BOOK)
 
 
 class Refused(Exception):

@@ -1,12 +1,13 @@
 -- Expressions, steps, facts and lines are told by their words.
-use Rattle.std.proofs.Common.{◌≡◌, Bool, if◌then◌else◌, List, [], ◌∷◌, Option, Some, None, refl, sym, ◌∙◌, ap, codes}
+use Rattle.std.proofs.Common.{rules, ◌≡◌, Bool, if◌then◌else◌, List, [], ◌∷◌, Option, Some, None, refl, sym, ◌∙◌, ap, codes}
 use lib.Dec.{eqb}
 use lib.Pointwise.{pointwise}
 use Rattle.algebra.specs.declared.expr.Expr.{Expr}
 use Rattle.algebra.specs.declared.expr.Expr.TheVariants.{Get, Select, Join, LeftJoin, Semi, Anti, Keep, Distinct, Group}
 use Rattle.props.specs.declared.fact.Fact.{Fact}
 use Rattle.props.specs.declared.fact.Fact.TheVariants.{NotNull, WeakKey, StrongKey}
-use Rattle.book.specs.Book.{code_of, rules}
+use Rattle.book.specs.Book as book
+use Rattle.book.specs.Book.{code_of}
 use Rattle.book.specs.declared.names.RuleName.{RuleName}
 use Rattle.book.proofs.RuleLaws.{each_rule}
 use Rattle.derivation.specs.declared.line.Step.{Step}
@@ -77,15 +78,15 @@ line_names f g e = sym (at_line f) ∙ ap line_at e ∙ at_line g
 -- ---- rules
 
 -- the first of the rules with this code
-first_with : Text → List RuleName → Option RuleName
+abbrev first_with : Text → List RuleName → Option RuleName
 first_with w [] = None
 first_with w (r ∷ R) = if is_text w (code_of r) then Some r else first_with w R
 
-at_rule : (r : RuleName) → first_with (code_of r) rules ≡ Some r
-at_rule = each_rule (λ r. first_with (code_of r) rules ≡ Some r) (search rules)
+at_rule : (r : RuleName) → first_with (code_of r) book.rules ≡ Some r
+at_rule = each_rule (λ r. first_with (code_of r) book.rules ≡ Some r) (search rules)
 
 codes_differ : (r s : RuleName) → code_of r ≡ code_of s → r ≡ s
-codes_differ r s e = let same : Some r ≡ Some s = sym (at_rule r) ∙ ap (λ w. first_with w rules) e ∙ at_rule s in cc
+codes_differ r s e = let same : Some r ≡ Some s = sym (at_rule r) ∙ ap (λ w. first_with w book.rules) e ∙ at_rule s in cc
 
 pub rule_told : AreTold rule_wording
 rule_told = one_told code_of IsAny IsAny IsNever (λ x y h k e. codes_differ x y e) (λ x h over. over)

@@ -1,5 +1,5 @@
 -- The text of a line is cut into its words: single spaces stand between them, and none has a space in it. It is text, and has no LF.
-use Rattle.std.proofs.Common.{◌≡◌, ℕ, ◌<◌, ◌==◌, ◌||◌, Bool, true, false, List, Result, [], ◌∷◌, ◌++◌, flat_map, append-nil, append_assoc, refl, sym, ◌∙◌, ap, subst, codes, decimal, arith}
+use Rattle.std.proofs.Common.{rules, ◌≡◌, ℕ, ◌<◌, ◌==◌, ◌||◌, Bool, true, false, List, Result, [], ◌∷◌, ◌++◌, flat_map, append-nil, append_assoc, refl, sym, ◌∙◌, ap, subst, codes, decimal, arith}
 use Rattle.std.proofs.lemmas.List.Splits.{slice_split_none, slice_split_at}
 use Rattle.std.proofs.lemmas.Bool.{and_parts}
 use Rattle.std.proofs.lemmas.Bool.Decides.{nat_tests}

@@ -1,7 +1,7 @@
 -- The rules by their names in certificates, the lines that each takes, and what it gives.
 use Rattle.std.specs.Prelude.{ℕ, List, [], ◌∷◌, Result, codes}
 use Rattle.book.specs.declared.names.RuleName.{RuleName}
-use Rattle.book.specs.declared.names.RuleName.TheVariants.{JoinCommutes, JoinAssociates, SelectsMerge, SelectBelowJoin, SelectIntoJoin, ConditionBelowJoin, SelectBelowSemi, KeepsMerge, KeepOfAll, KeepBelowJoin, DistinctOfKeyed, GroupIsDistinct}
+use Rattle.book.specs.declared.names.RuleName.TheVariants.{JoinCommutes, JoinAssociates, SelectsMerge, SelectBelowJoin, SelectIntoJoin, ConditionBelowJoin, SelectBelowSemi, KeepsMerge, KeepOfAll, KeepBelowJoin, DistinctOfKeyed, GroupIsDistinct, OuterJoinIsInner}
 use Rattle.rules.specs.declared.shape.Shape.{Shape}
 use Rattle.rules.specs.declared.unfit.Unfit.{Unfit}
 use Rattle.rules.specs.declared.pattern.Pattern.{Pattern}
@@ -11,6 +11,7 @@ use Rattle.rules.specs.Matches.{Matched}
 use Rattle.rules.specs.Patterns.{KeepsTo}
 use Rattle.rules.specs.Soundness.{IsSound}
 use Rattle.rules.specs.Stability.{IsStable}
+use Rattle.outer_rules.specs.OuterJoinIsInner as outer_join_is_inner
 use Rattle.plain_rules.specs.ConditionBelowJoin as condition_below_join
 use Rattle.plain_rules.specs.DistinctOfKeyed as distinct_of_keyed
 use Rattle.plain_rules.specs.GroupIsDistinct as group_is_distinct
@@ -25,7 +26,7 @@ use Rattle.plain_rules.specs.SelectIntoJoin as select_into_join
 use Rattle.plain_rules.specs.SelectsMerge as selects_merge
 
 abbrev pub rules : List RuleName
-rules = JoinCommutes ∷ JoinAssociates ∷ SelectsMerge ∷ SelectBelowJoin ∷ SelectIntoJoin ∷ ConditionBelowJoin ∷ SelectBelowSemi ∷ KeepsMerge ∷ KeepOfAll ∷ KeepBelowJoin ∷ DistinctOfKeyed ∷ GroupIsDistinct ∷ []
+rules = JoinCommutes ∷ JoinAssociates ∷ SelectsMerge ∷ SelectBelowJoin ∷ SelectIntoJoin ∷ ConditionBelowJoin ∷ SelectBelowSemi ∷ KeepsMerge ∷ KeepOfAll ∷ KeepBelowJoin ∷ DistinctOfKeyed ∷ GroupIsDistinct ∷ OuterJoinIsInner ∷ []
 
 abbrev pub code_of : RuleName → List ℕ
 code_of JoinCommutes = codes "J1"
@@ -40,6 +41,7 @@ code_of KeepOfAll = codes "K2"
 code_of KeepBelowJoin = codes "K3"
 code_of DistinctOfKeyed = codes "D1"
 code_of GroupIsDistinct = codes "G1"
+code_of OuterJoinIsInner = codes "O1"
 
 abbrev pub given_by : RuleName → Matched → Result Shape Unfit
 given_by JoinCommutes = join_commutes.join_commutes
@@ -54,6 +56,7 @@ given_by KeepOfAll = keep_of_all.keep_of_all
 given_by KeepBelowJoin = keep_below_join.keep_below_join
 given_by DistinctOfKeyed = distinct_of_keyed.distinct_of_keyed
 given_by GroupIsDistinct = group_is_distinct.group_is_distinct
+given_by OuterJoinIsInner = outer_join_is_inner.outer_join_is_inner
 
 abbrev pub pattern_of : RuleName → Pattern
 pattern_of JoinCommutes = join_commutes.pattern
@@ -68,6 +71,7 @@ pattern_of KeepOfAll = keep_of_all.pattern
 pattern_of KeepBelowJoin = keep_below_join.pattern
 pattern_of DistinctOfKeyed = distinct_of_keyed.pattern
 pattern_of GroupIsDistinct = group_is_distinct.pattern
+pattern_of OuterJoinIsInner = outer_join_is_inner.pattern
 
 abbrev pub promise_of : RuleName → Matched → Promise
 promise_of JoinCommutes = join_commutes.promise
@@ -82,6 +86,7 @@ promise_of KeepOfAll = keep_of_all.promise
 promise_of KeepBelowJoin = keep_below_join.promise
 promise_of DistinctOfKeyed = distinct_of_keyed.promise
 promise_of GroupIsDistinct = group_is_distinct.promise
+promise_of OuterJoinIsInner = outer_join_is_inner.promise
 
 -- ---- laws of each rule of the book
 

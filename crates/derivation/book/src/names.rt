@@ -7,6 +7,7 @@ ghost use Rattle.values.specs.Faults.{Gives};
 ghost use Rattle.rules.specs.Matches.{matched};
 ghost use Rattle.book.specs.Book as spec;
 
+use outer_rules::outer_join_is_inner::OuterJoinIsInner;
 use plain_rules::condition_below_join::ConditionBelowJoin;
 use plain_rules::distinct_of_keyed::DistinctOfKeyed;
 use plain_rules::group_is_distinct::GroupIsDistinct;
@@ -37,9 +38,10 @@ pub enum RuleName {
     KeepBelowJoin,
     DistinctOfKeyed,
     GroupIsDistinct,
+    OuterJoinIsInner,
 }
 
-const RULES: [RuleName; 12] = [
+const RULES: [RuleName; 13] = [
     RuleName::JoinCommutes,
     RuleName::JoinAssociates,
     RuleName::SelectsMerge,
@@ -52,6 +54,7 @@ const RULES: [RuleName; 12] = [
     RuleName::KeepBelowJoin,
     RuleName::DistinctOfKeyed,
     RuleName::GroupIsDistinct,
+    RuleName::OuterJoinIsInner,
 ];
 
 /// The first of the rules that has the code.
@@ -92,6 +95,7 @@ impl RuleName {
             RuleName::KeepBelowJoin => KeepBelowJoin::CODE,
             RuleName::DistinctOfKeyed => DistinctOfKeyed::CODE,
             RuleName::GroupIsDistinct => GroupIsDistinct::CODE,
+            RuleName::OuterJoinIsInner => OuterJoinIsInner::CODE,
         }
     }
 
@@ -119,6 +123,7 @@ impl RuleName {
             RuleName::KeepBelowJoin => KeepBelowJoin::pattern(),
             RuleName::DistinctOfKeyed => DistinctOfKeyed::pattern(),
             RuleName::GroupIsDistinct => GroupIsDistinct::pattern(),
+            RuleName::OuterJoinIsInner => OuterJoinIsInner::pattern(),
         }
     }
 
@@ -139,6 +144,7 @@ impl RuleName {
             RuleName::KeepBelowJoin => KeepBelowJoin::promise(alloc, at),
             RuleName::DistinctOfKeyed => DistinctOfKeyed::promise(alloc, at),
             RuleName::GroupIsDistinct => GroupIsDistinct::promise(alloc, at),
+            RuleName::OuterJoinIsInner => OuterJoinIsInner::promise(alloc, at),
         }
     }
 
@@ -159,6 +165,7 @@ impl RuleName {
             RuleName::KeepBelowJoin => KeepBelowJoin::apply(alloc, at),
             RuleName::DistinctOfKeyed => DistinctOfKeyed::apply(alloc, at),
             RuleName::GroupIsDistinct => GroupIsDistinct::apply(alloc, at),
+            RuleName::OuterJoinIsInner => OuterJoinIsInner::apply(alloc, at),
         }
     }
 }

@@ -10,6 +10,7 @@ use Rattle.algebra.specs.Equality.{same_columns, same_expr}
 use Rattle.algebra.proofs.Same.{same_columns-refl, tested_condition, tested_columns, tested_expr, same-expr}
 use Rattle.algebra.proofs.MentionedColumns.{mentions-Compare, mentions-IsNull}
 use Rattle.algebra.proofs.ConditionNames.{columns-Compare, columns-IsNull, classes-Compare, classes-IsNull}
+use Rattle.props.proofs.OutcomeForms.{outcomes-Compare, outcomes-IsNull}
 use Rattle.rules.specs.declared.shape.Shape.TheVariants.{Class, Join, Keep}
 use Rattle.book.specs.declared.names.RuleName.TheVariants as rule
 use Rattle.derivation.specs.declared.line.Line.TheVariants.{Founds}
@@ -67,6 +68,7 @@ rules = record {
       (simp (spelling-Keep, spelling-Join, spelling-Class, same-expr) refl);
   distinct_of_keyed = simp (same_columns-refl, spelling-Class) refl;
   group_is_distinct = simp (same_columns-refl, spelling-Distinct, spelling-Keep, spelling-Class, same-expr) refl;
+  outer_join_is_inner = simp (columns-Compare, classes-Compare, same_columns-refl, outcomes-Compare, spelling-Select, spelling-Join, spelling-Class, same-expr) refl;
 }
 
 conditions : WorkedConditions
@@ -76,6 +78,7 @@ conditions = record {
   keep_below_join = simp (same_columns-refl, mentions-Compare) refl;
   distinct_of_keyed = simp same_columns-refl refl;
   group_is_distinct = simp same_columns-refl refl;
+  outer_join_is_inner = simp (columns-Compare, columns-IsNull, classes-Compare, classes-IsNull, same_columns-refl, outcomes-IsNull) refl;
 }
 
 -- ---- expressions that differ

@@ -7,7 +7,7 @@ use Rattle.query.specs.declared.query.TableInstance.{TableInstance}
 use Rattle.algebra.specs.declared.condition.Condition.{Condition}
 use Rattle.algebra.specs.declared.condition.Condition.TheVariants.{Compare, IsNull}
 use Rattle.algebra.specs.declared.condition.Term.TheVariants.{Column}
-use Rattle.algebra.specs.declared.expr.Expr.TheVariants.{Get, Select, Join, Semi, Anti, Keep, Distinct, Group}
+use Rattle.algebra.specs.declared.expr.Expr.TheVariants.{Get, Select, Join, LeftJoin, Semi, Anti, Keep, Distinct, Group}
 use Rattle.props.specs.declared.fact.Fact.TheVariants.{NotNull, WeakKey, StrongKey}
 use Rattle.book.specs.declared.names.RuleName.{RuleName}
 use Rattle.book.specs.declared.names.RuleName.TheVariants as rule
@@ -81,6 +81,10 @@ two_tables = Founds (Get 0) ∷ Founds (Get 1) ∷ []
 abbrev pub joined : List Line
 joined = two_tables ++ Founds (Join equal_ids 0 1) ∷ []
 
+-- two tables and, in line 2, their left join
+abbrev pub left_joined : List Line
+left_joined = two_tables ++ Founds (LeftJoin equal_ids 0 1) ∷ []
+
 -- three tables, in line 3 the join of the first two, in line 4 its join with the third
 abbrev pub twice_joined : List Line
 twice_joined = two_tables ++ Founds (Get 2) ∷ Founds (Join equal_ids 0 1) ∷ Founds (Join falling_ids 3 2) ∷ []
@@ -122,6 +126,9 @@ pub record WorkedRules : Type 0 where
       (Adds 3 (by_rule rule.KeepBelowJoin (3 ∷ 2 ∷ []) (5 ∷ 4 ∷ [])) (Keep (2 ∷ []) 5))
   pub distinct_of_keyed : Stands (weakly_keyed ++ Gives 0 0 (StrongKey (0 ∷ [])) ∷ Founds (Distinct 0) ∷ []) (Unites 4 0 (by_rule rule.DistinctOfKeyed (4 ∷ []) []))
   pub group_is_distinct : Stands (one_table ++ Founds (Group (1 ∷ []) [] 0) ∷ Founds (Keep (1 ∷ []) 0) ∷ []) (Adds 1 (by_rule rule.GroupIsDistinct (1 ∷ []) (2 ∷ [])) (Distinct 2))
+  -- where e1.id is Null, e0.id = e1.id isn't true
+  pub outer_join_is_inner : Stands (left_joined ++ Founds (Select equal_ids 2) ∷ Founds (Join equal_ids 0 1) ∷ [])
+      (Adds 3 (by_rule rule.OuterJoinIsInner (3 ∷ 2 ∷ []) (4 ∷ [])) (Select equal_ids 4))
 
 -- each rule that has a condition, where it fails
 pub record WorkedConditions : Type 0 where
@@ -136,6 +143,9 @@ pub record WorkedConditions : Type 0 where
   -- there is no key
   pub group_is_distinct : IsRefused (one_table ++ Founds (Group [] [] 0) ∷ []) (Adds 1 (by_rule rule.GroupIsDistinct (1 ∷ []) []) (Group [] [] 0))
       (reason.FailedCondition rule.GroupIsDistinct)
+  -- a row of e0 without a match may have no dept
+  pub outer_join_is_inner : IsRefused (left_joined ++ Founds (Select without_dept 2) ∷ Founds (Join equal_ids 0 1) ∷ [])
+      (Adds 3 (by_rule rule.OuterJoinIsInner (3 ∷ 2 ∷ []) (4 ∷ [])) (Select without_dept 4)) (reason.FailedCondition rule.OuterJoinIsInner)
 
 -- each other reason why a line may not stand
 pub record WorkedRefusals : Type 0 where

@@ -96,7 +96,7 @@ among-both p q disjoint E both is = elim is [
 
 -- ---- classes of one least
 
-equal-turned : (x y : ℕ) → (x == y) ≡ (y == x)
+pub equal-turned : (x y : ℕ) → (x == y) ≡ (y == x)
 equal-turned x y = by (x == y) (y == x) refl refl
   where
     by : (c d : Bool) → (x == y) ≡ c → (y == x) ≡ d → c ≡ d

@@ -38,11 +38,11 @@ one-keeps O rewrite keeps m = by m.lines
 abbrev pub TwoKeepTo : Operators → Operators → (Knowledge → Expr → Expr → Result Shape Unfit) → Type 0
 TwoKeepTo O P rewrite = (K : Knowledge) (x y : Expr) → (has_one_of x O && has_one_of y P) ≡ false → rewrite K x y ≡ Err Pattern
 
-abbrev pair : Line → Line → Expr × Expr
+abbrev pub pair : Line → Line → Expr × Expr
 pair l k = (l.expr, k.expr)
 
 -- what a rule makes of two lines, if there are two
-abbrev made : (Knowledge → Expr → Expr → Result Shape Unfit) → Knowledge → Option (Expr × Expr) → Result Shape Unfit
+abbrev pub made : (Knowledge → Expr → Expr → Result Shape Unfit) → Knowledge → Option (Expr × Expr) → Result Shape Unfit
 made rewrite K lines = wanted Pattern lines >>= λ l. rewrite K l.0 l.1
 
 pub two-keep : (O P : Operators) (rewrite : Knowledge → Expr → Expr → Result Shape Unfit) → TwoKeepTo O P rewrite

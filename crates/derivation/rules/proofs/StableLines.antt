@@ -18,6 +18,7 @@ use Rattle.rules.specs.declared.unfit.Unfit.TheVariants.{Pattern}
 use Rattle.rules.specs.Conjuncts.{is_apart_from}
 use Rattle.rules.specs.Matches.{Line, takes, is_first_same, the_one, the_two, one_line, two_lines}
 use Rattle.rules.specs.Stability.{Agree, IsStable}
+use Rattle.rules.proofs.PatternedLines.{made, pair}
 
 module _ (p : ℕ → Bool) (K L : Knowledge) (agree : Agree p K L) where
   -- ---- what conditions mention
@@ -129,12 +130,6 @@ one-stable rewrite stable p K L agree pick lines known = unpick (pick == 0)
     unpick : (b : Bool) → (wanted Pattern (if b then the_one lines else None) >>= rewrite K) ≡ (wanted Pattern (if b then the_one lines else None) >>= rewrite L)
     unpick true = by lines known
     unpick false = refl
-
-abbrev pair : Line → Line → Expr × Expr
-pair l k = (l.expr, k.expr)
-
-abbrev made : (Knowledge → Expr → Expr → Result Shape Unfit) → Knowledge → Option (Expr × Expr) → Result Shape Unfit
-made rewrite K lines = wanted Pattern lines >>= λ l. rewrite K l.0 l.1
 
 pub two-stable : (rewrite : Knowledge → Expr → Expr → Result Shape Unfit) → TwoAreStable rewrite → IsStable (λ m. wanted Pattern (two_lines m) >>= λ l. rewrite m.classes l.0 l.1)
 two-stable rewrite stable p K L agree pick lines known = unpick (pick == 0)

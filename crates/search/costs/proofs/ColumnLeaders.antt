@@ -5,21 +5,13 @@ use Rattle.std.proofs.lemmas.Grind.{flat_map-append}
 use Rattle.std.proofs.lemmas.List.Sums.{fold-append, fold_more}
 use Rattle.algebra.specs.declared.condition.Condition.{Condition}
 use Rattle.algebra.proofs.Puts.{pointwise}
+use Rattle.logs.proofs.UnitedFacts.{equal-turned}
 use Rattle.costs.specs.Equalities.{joined, leader_by, equation, equations, is_implied, counted, with_equations, leads, leader_in, handed, with_equation}
 
 -- ---- leaders
 
-eqb_swapped : (a b : ℕ) → (a == b) ≡ (b == a)
-eqb_swapped a b = elim (eqb_tells a b) [
-  | inl same ↦ rw same.1 refl
-  | inr other ↦ elim (eqb_tells b a) [
-    | inl same ↦ absurd (other.1 (sym same.1))
-    | inr too ↦ other.0 ∙ sym too.0
-  ]
-]
-
 pub leads-handed : (old new : ℕ) (es : List (ℕ × ℕ)) (c : ℕ) → leader_in (map (handed old new) es ++ (old, new) ∷ []) c ≡ (if leader_in es c == old then new else leader_in es c)
-leads-handed old new [] c = ap (λ b. leads (if b then Some (old, new) else None) c) (eqb_swapped old c) ∙ at (c == old)
+leads-handed old new [] c = ap (λ b. leads (if b then Some (old, new) else None) c) (equal-turned old c) ∙ at (c == old)
   where
     at : (b : Bool) → leads (if b then Some (old, new) else None) c ≡ (if b then new else c)
     at true = refl

@@ -36,11 +36,7 @@ pub fn log_of<'q>(
 
 /// Whether the lines of the search are closed: no rule adds anything to them. So they may be where a plan was explored to its limit, and the log has room left.
 /// It is asked of what was planned, and not while planning, since it takes some tens of milliseconds for a thousand lines.
-pub fn is_complete(
-    alloc: Global,
-    query: &BoundQuery,
-    planned: &Planned,
-) -> Result<bool, AllocError>
+pub fn is_complete(alloc: Global, query: &BoundQuery, planned: &Planned) -> Result<bool, AllocError>
     ensures { IfOk result (λ complete. IsTrue complete → IsComplete query.now planned.now) }
 {
     let query = query.query();

@@ -1,7 +1,7 @@
 //! Lines of derivations, read from words with `; ` between them: `F EXPR`, `A CLASS RULE PICK USES MAKES EXPR`,
 //! `S CLASS CLASS RULE PICK USES MAKES`, `G LINE LINE`, `L CLASS LINE FACT`. Numbers are joined by `,`, none are `-`. An expression is
 //! `get INSTANCE`, `select [..] CLASS`, `join [..] CLASS CLASS`, `semi` and `anti [..] [..]` so, `keep COLUMNS CLASS`, `distinct CLASS`,
-//! `group KEYS CLASS`, with comparisons of columns, numbers and NULL, and `exists(CLASS)`, as conditions: `[=(c4,c0);<>(c2,i500)]`.
+//! `group KEYS CLASS`, with comparisons of columns, numbers and NULL, `null(c2)` and `exists(CLASS)` as conditions: `[=(c4,c0);<>(c2,i500)]`.
 
 use crate::plans::{cut, id};
 use algebra::{Aggregations, Columns, Condition, Conjuncts, Expr, Term};
@@ -59,6 +59,9 @@ fn condition_of(text: &str) -> Condition {
     let (first, second) = cut(terms, ",");
     if sign == "exists" {
         return Condition::Exists(id(first));
+    }
+    if sign == "null" {
+        return Condition::IsNull(term_of(first));
     }
     Condition::Compare(comparison_of(sign), term_of(first), term_of(second))
 }

@@ -109,8 +109,20 @@ D1: 7 keep 0 0 1 => another form
 G1: 7 group 3 0 2 => distinct (keep 0 2 (3))
 G1: 7 group 3 => the condition fails
 G1: 7 count 3 0 => another form";
+    const OUTER_JOINS: &str =
+        "O1: 7 select 3 r, 3 left 0 1 m => select [=(c2,i7)] (join [=(c0,c2)] (0) (1))
+O1: 7 select 4 lrx, 3 left 0 1 m => select [=(c0,i7);=(c2,i7);exists(6)] (join [=(c0,c2)] (0) (1))
+O1: 7 select 3 m, 3 left 0 1  => select [=(c0,c2)] (join [] (0) (1))
+O1: 7 select 3 l, 3 left 0 1 m => the condition fails
+O1: 7 select 3 lnx, 3 left 0 1 m => the condition fails
+O1: 7 select 3 r, 3 left 1 0 m => the condition fails
+O1: 7 select 3 r, 3 join 0 1 m => another form
+O1: 7 select 3 r, 5 left 0 1 m => another form
+O1: 7 distinct 3, 3 left 0 1 m => another form
+O1: 7 select 3 r => another form
+O1 pick 1: 7 select 3 r, 3 left 0 1 m => another form";
     assert_eq!(rt;
-        differences(rt.alloc(), &[JOINS, SELECTS, KEEPS], &Applied).as_deref(),
+        differences(rt.alloc(), &[JOINS, SELECTS, KEEPS, OUTER_JOINS], &Applied).as_deref(),
         Ok("")
     );
 }
@@ -119,14 +131,14 @@ G1: 7 count 3 0 => another form";
 #[test]
 fn rules_are_found(rt: HostRuntime) {
     for code in [
-        "J1", "J2", "S1", "S2", "S3", "S4", "S5", "K1", "K2", "K3", "D1", "G1",
+        "J1", "J2", "S1", "S2", "S3", "S4", "S5", "K1", "K2", "K3", "D1", "G1", "O1",
     ] {
         assert_eq!(rt; RuleName::of_code(code).map(|rule| rule.code()), Some(code));
     }
     for rule in RuleName::all() {
         assert_eq!(rt; RuleName::of_code(rule.code()), Some(*rule));
     }
-    for text in ["", "J", "J3", "j1", "J1 ", "JJ1"] {
+    for text in ["", "J", "J3", "j1", "J1 ", "JJ1", "O2"] {
         assert_eq!(rt; RuleName::of_code(text), None);
     }
 }

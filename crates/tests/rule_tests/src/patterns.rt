@@ -127,7 +127,10 @@ K2: 7 distinct 1 => another form
 K3: 7 keep 3 1 3, 3 join 0 1 m => fits
 D1: 7 distinct 1 => fits
 G1: 7 group 3 => fits
-G1: 7 distinct 3 => another form";
+G1: 7 distinct 3 => another form
+O1: 7 select 3 r, 3 left 0 1 m => fits
+O1: 7 select 3 l, 4 left 0 1 m => fits
+O1: 7 select 3 r, 3 join 0 1 m => another form";
     const PICKS: &str = "subquery pick 1: 7 select 3 lx => fits
 subquery pick 0: 7 select 3 lx => another form
 subquery pick 2: 7 select 3 lx => another form

@@ -74,7 +74,9 @@ K1: 7 keep 3 0, 4 keep 3 0 2 => simpler
 K2: 7 keep 1 2 => simpler
 K3: 7 keep 3 1 3, 3 join 0 1 m => a projection more
 D1: 7 distinct 1 => simpler
-G1: 7 group 3 0 2 => simpler";
+G1: 7 group 3 0 2 => simpler
+O1: 7 select 3 r, 3 left 0 1 m => simpler
+O1: 7 select 3 l, 3 left 0 1 m => simpler";
     assert_eq!(rt;
         differences(rt.alloc(), &[JOINS, OTHERS], &Promising).as_deref(),
         Ok("")

@@ -1,0 +1,2 @@
+pub mod OuterJoinIsInner
+pub mod OuterJoins
