@@ -262,9 +262,9 @@ fn full_logs_stay(rt: HostRuntime) {
 #[test]
 fn logs_are_explored(rt: HostRuntime) {
     const SELECTED: &str =
-        "SELECT d.id FROM dept d, emp e => F get 0; F get 1; F join [] 0 1; F select [>(c0,i5)] 2 / closed; explore; closed; members 2; members 3; explore => open; whole; closed; 2 8; 3 5 6 7 9; whole; lines F F F F F A3 A3 A3 A2 A3";
+        "SELECT d.id FROM dept d, emp e => F get 0; F get 1; F join [] 0 1; F select [>(c0,i5)] 2 / closed; explore; closed; members 2; members 3; explore => open; whole; closed; 2 8; 3 5 6 7 9; whole; lines F F F F F A3 A3 A3 A2 A3 L0 L0 L0 L0 L1 L1 L1 L1 L2 L2 L2 L2 L2 L2 L3 L3 L3 L3 L3 L3 L4 L4 L4 L4";
     const JOINED: &str =
-        "SELECT d.id FROM dept d, emp e, emp f => F get 0; F get 1; F get 2; F join [] 0 1; F join [=(c0,c4)] 3 2 / explore; members 3; members 4; unnamed; explore => whole; 3 10; 4 5 7 12 13 15 17 18; 5; whole; lines F F F F F A4 F A4 A6 A6 A3 F A4 A4 A11 A4 F A4 A4 A16";
+        "SELECT d.id FROM dept d, emp e, emp f => F get 0; F get 1; F get 2; F join [] 0 1; F join [=(c0,c4)] 3 2 / explore; members 3; members 4; unnamed; explore => whole; 3 10; 4 5 7 12 13 15 17 18; 5; whole; lines F F F F F A4 F A4 A6 A6 A3 F A4 A4 A11 A4 F A4 A4 A16 L0 L0 L0 L0 L1 L1 L1 L1 L2 L2 L2 L2 L3 L3 L3 L3 L3 L3 L4 L4 L4 L4 L4 L4 L4 L4 L4 L4 L6 L6 L6 L6 L6 L6 L6 L6 L6 L6 L11 L11 L11 L11 L11 L11 L11 L4 L4 L4 L4 L4 L16 L16 L16 L16 L16 L16";
     assert_eq!(rt;
         query_differences(
             rt.alloc(),
@@ -277,18 +277,38 @@ fn logs_are_explored(rt: HostRuntime) {
     );
 }
 
-/// What a log lacks, given line by line, closes it as exploring does: with as many expressions, in another order.
+/// What a log lacks, given line by line, closes it as exploring does: with as many expressions, in another order, and as many facts.
 #[test]
 fn logs_are_given_what_they_lack(rt: HostRuntime) {
     const SELECTED: &str =
-        "SELECT d.id FROM dept d, emp e => F get 0; F get 1; F join [] 0 1; F select [>(c0,i5)] 2 / closed; give; closed; explore; give => open; 6; closed; whole; 0; lines F F F F A2 F A3 A3 A3 A3";
+        "SELECT d.id FROM dept d, emp e => F get 0; F get 1; F join [] 0 1; F select [>(c0,i5)] 2 / closed; give; closed; explore; give => open; 30; closed; whole; 0; lines F F F F A2 F A3 A3 A3 A3 L0 L0 L0 L0 L1 L1 L1 L1 L2 L2 L2 L2 L2 L2 L3 L3 L3 L3 L3 L3 L5 L5 L5 L5";
     const ALIKE: &str =
-        "SELECT d.id FROM dept d, emp e => F get 0; F get 1; F get 0; F join [] 0 1; F join [] 1 0 / give; closed; explore => 1; closed; whole; lines F F F F F G0,2 A3 G4,6";
+        "SELECT d.id FROM dept d, emp e => F get 0; F get 1; F get 0; F join [] 0 1; F join [] 1 0 / give; closed; explore => 15; closed; whole; lines F F F F F G0,2 A3 G4,6 L0 L0 L0 L0 L1 L1 L1 L1 L3 L3 L3 L3 L3 L3";
     assert_eq!(rt;
         query_differences(
             rt.alloc(),
             TABLES,
             &[SELECTED, ALIKE],
+            &Grown { limit: LIMIT }
+        )
+        .as_deref(),
+        Ok("")
+    );
+}
+
+/// Facts that lines give are learned where no result is left to add, and results follow from them: that the rows of a table differ by its key makes the
+/// distinct ones the same. A key of a join comes of keys of both sides.
+#[test]
+fn facts_are_learned(rt: HostRuntime) {
+    const DISTINCT: &str =
+        "SELECT id FROM emp => F get 0; F distinct 0 / closed; members 1; explore; members 1; closed; learn 1 strong 0 => open; 1; whole; 0 1; closed; known; lines F F L0 L0 L0 L0 L1 L1 L1 L1 L1 L1 S1,0";
+    const JOINED: &str =
+        "SELECT d.id FROM dept d, emp e => F get 0; F get 1; F join [=(c0,c4)] 0 1; F distinct 2 / explore; members 3; learn 2 strong 3; learn 2 strong 0,3; learn 2 strong 0; learn 2 notnull 4 => whole; 2 3 4; known; known; not known; known; lines F F F F A2 L0 L0 L0 L0 L1 L1 L1 L1 L2 L2 L2 L2 L2 L2 L2 L2 L2 L2 L3 L3 L3 L3 L3 L3 L3 L3 L3 L3 S3,2";
+    assert_eq!(rt;
+        query_differences(
+            rt.alloc(),
+            TABLES,
+            &[DISTINCT, JOINED],
             &Grown { limit: LIMIT }
         )
         .as_deref(),
