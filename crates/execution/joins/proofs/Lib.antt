@@ -4,6 +4,7 @@ pub mod Chains
 pub mod FilteredJoins
 pub mod FoundRows
 pub mod JoinRows
+pub mod LeftKeys
 pub mod Merges
 pub mod Outputs
 pub mod RightParts
