@@ -7,6 +7,6 @@ pub mod JoinRows
 pub mod LeftKeys
 pub mod Merges
 pub mod Outputs
-pub mod RightParts
 pub mod SharedKeys
+pub mod SideParts
 pub mod TestedPairs

@@ -4,5 +4,5 @@ pub mod Joins
 pub mod Keys
 pub mod LeftKeys
 pub mod Merges
-pub mod RightParts
+pub mod SideParts
 pub mod TestedPairs

@@ -4,7 +4,7 @@ use Rattle.joins.specs.declared.keys.Equality.{Equality}
 use Rattle.joins.specs.LeftKeys.{AreMarked, has_mark}
 use Rattle.joins.proofs.LeftKeys.{matches-marked}
 use Rattle.joins.proofs.Outputs.{both-ok}
-use Rattle.joins.proofs.RightParts.{kept-rows}
+use Rattle.joins.proofs.SideParts.{kept-rows}
 use Rattle.joins.proofs.left_keys.with_left_keys.Goals as goal
 
 pub returns : goal.returns

@@ -4,10 +4,10 @@ use Rattle.algebra.specs.Columns.{has}
 use Rattle.algebra.specs.Conditions.{holds}
 use Rattle.physical.specs.Outputs.{no_classes}
 use Rattle.relations.specs.Relations.{env_of}
-use Rattle.joins.specs.RightParts.{IsPart}
+use Rattle.joins.specs.SideParts.{IsPart}
 use Rattle.joins.proofs.Outputs.{both-ok}
-use Rattle.joins.proofs.RightParts.{restricted-rows, restricted-twice}
-use Rattle.joins.proofs.right_parts.restricted.Goals as goal
+use Rattle.joins.proofs.SideParts.{restricted-rows, restricted-twice}
+use Rattle.joins.proofs.side_parts.restricted_right.Goals as goal
 
 pub returns : goal.returns
 returns c =
