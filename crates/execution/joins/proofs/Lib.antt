@@ -4,8 +4,9 @@ pub mod Chains
 pub mod FilteredJoins
 pub mod FoundRows
 pub mod JoinRows
+pub mod LeftKeys
 pub mod Merges
 pub mod Outputs
-pub mod RightParts
 pub mod SharedKeys
+pub mod SideParts
 pub mod TestedPairs

@@ -2,6 +2,7 @@ pub mod Chains
 pub mod Hashes
 pub mod Joins
 pub mod Keys
+pub mod LeftKeys
 pub mod Merges
-pub mod RightParts
+pub mod SideParts
 pub mod TestedPairs

@@ -1,5 +1,3 @@
-use Rattle.std.proofs.Common.{List, [], ◌∷◌}
-use Rattle.std.specs.List.{AllByRecursion}
 use Rattle.values.specs.Truth.{is_true}
 use Rattle.values.proofs.Lists.{all_weaker}
 use Rattle.algebra.specs.Conditions.{truth}

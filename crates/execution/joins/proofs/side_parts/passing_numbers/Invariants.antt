@@ -1,7 +1,7 @@
 use Rattle.std.proofs.Common.{◌≡◌, ◌<◌, ◌≤◌, ◌-◌, true, filter}
 use Rattle.std.specs.List.{range_with_len}
 use Rattle.relations.specs.Resolved.{all_pass, inner_row}
-use Rattle.joins.proofs.right_parts.passing_numbers.Given as goal
+use Rattle.joins.proofs.side_parts.passing_numbers.Given as goal
 
 abbrev pub invariant-loop-number : goal.invariant-loop-number
 invariant-loop-number l =

@@ -4,7 +4,7 @@ use Rattle.relations.specs.Relations.{numbers_of}
 use Rattle.relations.specs.declared.resolved.Test.{Test}
 use Rattle.relations.specs.Resolved.{IsNextPassing, all_pass, inner_row}
 use Rattle.joins.proofs.Candidates.{next-numbers, skipped}
-use Rattle.joins.proofs.right_parts.passing_numbers.Goals as goal
+use Rattle.joins.proofs.side_parts.passing_numbers.Goals as goal
 
 pub loop-number-init : goal.loop-number-init
 loop-number-init c =
