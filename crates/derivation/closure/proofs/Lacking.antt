@@ -1,5 +1,6 @@
 -- What a log lacks, and that it is closed where it lacks nothing.
-use Rattle.std.proofs.Common.{◌≡◌, ap, sym, ◌∙◌, subst, ℕ, Bool, true, false, List, [], ◌∷◌, length, Option, Some, None, Ok, Err, IsTrue, option_to_list}
+use Rattle.std.proofs.Common.{◌≡◌, refl, ap, sym, ◌∙◌, subst, ℕ, Bool, true, false, List, [], ◌∷◌, length, Option, Some, None, Result, Ok, Err, IsTrue}
+use Rattle.std.specs.List.{AllByRecursion}
 use Rattle.query.specs.declared.query.TableInstance.{TableInstance}
 use Rattle.algebra.specs.Alike.{AreAlike}
 use Rattle.algebra.specs.Columns.{has, columns_at}
@@ -8,24 +9,25 @@ use Rattle.props.specs.declared.fact.Fact.{Fact}
 use Rattle.rules.specs.declared.pattern.Input.{Input}
 use Rattle.rules.specs.declared.shape.Shape.{Shape}
 use Rattle.rules.specs.declared.unfit.Unfit.{Unfit}
-use Rattle.book.specs.Book.{given_by, pattern_of, rules}
+use Rattle.book.specs.Book.{pattern_of, rules}
 use Rattle.rules.specs.Matches as matches
 use Rattle.rules.specs.Patterns.{input_of}
 use Rattle.book.proofs.RuleLaws.{each_rule}
 use Rattle.derivation.specs.Logs.{Log, member, least, are_same, knowledge}
+use Rattle.derivation.specs.Replay.{both_lines, members}
 use Rattle.derivation.proofs.Lookups.{member-within}
 use Rattle.logs.specs.Members.{is_member, once_if}
 use Rattle.logs.specs.Sets.{times}
-use Rattle.closure.specs.declared.lacks.Binding.{Binding}
+use Rattle.bindings.specs.declared.binding.Binding.{Binding}
+use Rattle.bindings.specs.Bindings.{applied, given_among, shape_given, uses_of}
 use Rattle.closure.specs.declared.lacks.Missing.{Missing}
 use Rattle.closure.specs.declared.lacks.Missing.TheVariants as lacks
-use Rattle.closure.specs.Closed.{alike, is_there, IsClosed}
-use Rattle.closure.specs.Lacking.{Disagrees, LacksAlike, LacksResult, LacksOver, LacksBinding, LacksGiven, IsMissing, DisagreeingAmong, DisagreeingWith, ResultTold, LackingOver, LackingOverInput, LackingAmong, LackingAt}
-use Rattle.closure.specs.Lines.{HasResultOver, HasResultsBy}
+use Rattle.closure.specs.Closed.{alike, HasResults, IsClosed}
+use Rattle.closure.specs.Lacking.{Disagrees, LacksAlike, LacksGiven, IsMissing, DisagreeingAmong, DisagreeingWith, BindingTold}
+use Rattle.closure.specs.Lines.{stands_in_class, has_result, has_result_of, HasPairs, HasTriples, HasTriplesOver, HasResultsBy, HasResultsOf}
 use Rattle.closure.specs.Places.{place, AreEntered, AgreesAt, Disagree}
 use Rattle.closure.proofs.Agreeing.{alike-are, are-alike, alike-place, each-of}
 use Rattle.closure.proofs.AnyLine.{is-listed}
-use Rattle.closure.proofs.Fits.{cited-one, cited-two}
 
 -- ---- lines that are alike
 
@@ -62,40 +64,54 @@ disagreeing_there E over line k lines None entered there is agree = λ m at j l 
 -- ---- results
 
 module _ (instances : List TableInstance) (E : Log) where
-  pub result_told : (rule : RuleName) (lines : List matches.Line) (g : ℕ) (shape : Shape) (b : Bool) → given_by rule (record { lines = lines; pick = 0; classes = knowledge instances E }) ≡ Ok shape
-      → b ≡ is_there (knowledge instances E) E shape g → ResultTold instances E rule lines g b
-  result_told rule lines g shape true given there = λ s at.
-      let same : shape ≡ s = let e : Ok shape ≡ Ok s = sym given ∙ at in cc in
-      ap (λ s. is_there (knowledge instances E) E s g) (sym same) ∙ sym there
-  result_told rule lines g shape false given there = record { shape = shape; given = given; missing = sym there }
-
-  pub unfit_told : (rule : RuleName) (lines : List matches.Line) (g : ℕ) (u : Unfit) → given_by rule (record { lines = lines; pick = 0; classes = knowledge instances E }) ≡ Err u → ResultTold instances E rule lines g true
-  unfit_told rule lines g u given = λ s at. absurd (let never : Err u ≡ Ok s = sym given ∙ at in cc)
-
   -- over the lines of a class
-  pub over_input : (rule : RuleName) (top : matches.Line) (input : Input) (class : ℕ) (lines : List ℕ) (found : Option ℕ) → input_of top.expr input ≡ Some class
-      → ((n : ℕ) → times n lines ≡ once_if (is_member E class n)) → LackingOver instances E rule top lines found → LackingOverInput instances E rule top input found
-  over_input rule top input class lines (Some n) is exact found = found
-  over_input rule top input class lines None is exact all = λ g n at of.
-      let same : g ≡ class = let e : Some g ≡ Some class = sym at ∙ is in cc in
-      each-of (HasResultOver instances E rule top) lines all n (is-listed E class lines exact n (ap (λ g. is_member E g n) (sym same) ∙ of))
+  pub pairs_of : (rule : RuleName) (pick i class : ℕ) (lines : List ℕ) → ((n : ℕ) → times n lines ≡ once_if (is_member E class n))
+      → AllByRecursion (λ n. has_result instances E rule pick (i ∷ n ∷ []) ≡ true) lines → HasPairs instances E rule pick i (Some class)
+  pairs_of rule pick i class lines exact all g n is of =
+      let same : class ≡ g = let e : Some class ≡ Some g = is in cc in
+      each-of (λ n. has_result instances E rule pick (i ∷ n ∷ []) ≡ true) lines all n (is-listed E class lines exact n (ap (λ g. is_member E g n) same ∙ of))
 
-  pub at_line : (i : ℕ) (l : matches.Line) (found : Option Binding) → member E i ≡ Some l → LackingAmong instances E rules l found → LackingAt instances E i found
-  at_line i l (Some b) there lacking = lacking
-  at_line i l None there all = λ top at.
-      let same : l ≡ top = let e : Some l ≡ Some top = sym there ∙ at in cc in
-      subst (λ (top : matches.Line). (rule : RuleName) → HasResultsBy instances E rule top (pattern_of rule)) same (each_rule (λ rule. HasResultsBy instances E rule l (pattern_of rule)) all)
+  pub triples_of : (rule : RuleName) (i below class : ℕ) (input : Input) (lines : List ℕ) (l : matches.Line) → member E below ≡ Some l → input_of l.expr input ≡ Some class → ((n : ℕ) → times n lines ≡ once_if (is_member E class n))
+      → AllByRecursion (λ n. has_result instances E rule 0 (i ∷ below ∷ n ∷ []) ≡ true) lines → HasTriples instances E rule i input below
+  triples_of rule i below class input lines l at is exact all k there g m at_input of =
+      let line : l ≡ k = let e : Some l ≡ Some k = sym at ∙ there in cc in
+      let same : class ≡ g = let e : Some class ≡ Some g = sym is ∙ ap (λ (l : matches.Line). input_of l.expr input) line ∙ at_input in cc in
+      each-of (λ n. has_result instances E rule 0 (i ∷ below ∷ n ∷ []) ≡ true) lines all m (is-listed E class lines exact m (ap (λ g. is_member E g m) same ∙ of))
 
-  -- a result that a binding lacks
-  pub lacks_alone : (i : ℕ) (top : matches.Line) (rule : RuleName) → member E i ≡ Some top → LacksResult instances E rule (top ∷ []) top.class → LacksBinding instances E (record { rule = rule; top = i; below = None })
-  lacks_alone i top rule there result = record { top = top; others = []; lines = cited-one instances E i top there; result = result }
+  pub no_triples_of : (rule : RuleName) (i below : ℕ) (input : Input) (l : matches.Line) → member E below ≡ Some l → input_of l.expr input ≡ None → HasTriples instances E rule i input below
+  no_triples_of rule i below input l at none k there g m at_input of =
+      let line : l ≡ k = let e : Some l ≡ Some k = sym at ∙ there in cc in
+      absurd (let never : None ≡ Some g = sym none ∙ ap (λ (l : matches.Line). input_of l.expr input) line ∙ at_input in cc)
 
-  pub lacks_over : (i n : ℕ) (top : matches.Line) (rule : RuleName) → member E i ≡ Some top → LacksOver instances E top rule n → LacksBinding instances E (record { rule = rule; top = i; below = Some n })
-  lacks_over i n top rule there it = record { top = top; others = it.line ∷ []; lines = cited-two instances E i n top it.line there it.there; result = it.result }
+  pub triples_over : (rule : RuleName) (i class : ℕ) (input : Input) (lines : List ℕ) → ((n : ℕ) → times n lines ≡ once_if (is_member E class n))
+      → AllByRecursion (HasTriples instances E rule i input) lines → HasTriplesOver instances E rule i input (Some class)
+  triples_over rule i class input lines exact all g n is of =
+      let same : class ≡ g = let e : Some class ≡ Some g = is in cc in
+      each-of (HasTriples instances E rule i input) lines all n (is-listed E class lines exact n (ap (λ g. is_member E g n) same ∙ of))
+
+  pub at_line : (i : ℕ) (found : Option Binding) → BindingTold instances E (AllByRecursion (λ rule. HasResultsBy instances E rule i (pattern_of rule)) rules) found → BindingTold instances E (HasResultsOf instances E i) found
+  at_line i (Some b) lacking = lacking
+  at_line i None all = each_rule (λ rule. HasResultsBy instances E rule i (pattern_of rule)) all
+
+  -- no line has the number
+  pub no_line : (i : ℕ) → member E i ≡ None → HasResultsOf instances E i
+  no_line i none rule pick rest lines is fits = absurd (let never : None ≡ Some lines = sym (ap (λ o. both_lines o (members E rest)) none) ∙ is in cc)
 
   -- where something is missing, the log isn't closed
-  binding_open : (b : Binding) → LacksBinding instances E b → IsClosed instances E → ⊥
-  binding_open b it closed = let never : true ≡ false = sym (closed.results b.rule 0 (b.top ∷ option_to_list b.below) it.top it.others it.lines it.result.shape it.result.given) ∙ it.result.missing in cc
+  result-stands : (rule : RuleName) (pick : ℕ) (uses : List ℕ) → HasResults instances E → has_result instances E rule pick uses ≡ true
+  result-stands rule pick uses results = by (members E uses) refl
+    where
+      by : (o : Option (List matches.Line)) → members E uses ≡ o → stands_in_class (knowledge instances E) E (given_among (knowledge instances E) rule pick o) ≡ true
+      by None at = refl
+      by (Some []) at = refl
+      by (Some (top ∷ others)) at = or (applied (knowledge instances E) rule pick (top ∷ others)) refl
+        where
+          or : (r : Result Shape Unfit) → applied (knowledge instances E) rule pick (top ∷ others) ≡ r → stands_in_class (knowledge instances E) E (shape_given top.class r) ≡ true
+          or (Ok s) given = results rule pick uses top others at s given
+          or (Err u) given = refl
+
+  binding_open : (b : Binding) → has_result_of instances E b ≡ false → IsClosed instances E → ⊥
+  binding_open b it closed = let never : false ≡ true = sym it ∙ result-stands b.rule b.pick (uses_of b) closed.results in cc
 
   alike_open : (i j : ℕ) → LacksAlike E i j → IsClosed instances E → ⊥
   alike_open i j it closed = let never : true ≡ false = sym (closed.united i it.first it.there j it.second.line it.second.there it.second.alike) ∙ it.second.differ in cc

@@ -1,11 +1,8 @@
 pub mod Agreeing
 pub mod AnyLine
 pub mod Fits
-pub mod FormedLogs
-pub mod Founding
 pub mod LackedFacts
 pub mod Lacking
-pub mod Results
 pub mod Shapes
-pub mod SpeltShapes
+pub mod Standing
 pub mod Unique

@@ -4,6 +4,3 @@ pub mod Learnt
 pub mod Lines
 pub mod Operators
 pub mod Places
-pub mod Results
-pub mod Spelt
-pub mod Steps

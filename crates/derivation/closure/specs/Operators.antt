@@ -1,29 +1,13 @@
--- Operators over inputs that are still to be found, and what it means that a class is found.
+-- What it means that a class is found whose line has an expression, or in which a shape stands.
 use Rattle.std.specs.Prelude.{◌≡◌, ℕ, true, false, List, Option, Some, None}
 use Rattle.std.specs.List.{AllByRecursion}
 use Rattle.algebra.specs.declared.expr.Expr.{Expr}
-use Rattle.algebra.specs.declared.expr.Expr.TheVariants as expr
 use Rattle.algebra.specs.Alike.{AreAlike}
 use Rattle.props.specs.Knowledge.{Knowledge}
 use Rattle.rules.specs.declared.shape.Shape.{Shape}
 use Rattle.rules.specs.Matches as matches
 use Rattle.derivation.specs.Logs.{Log, member, least}
-use Rattle.closure.specs.declared.standing.OverOne.{OverOne}
-use Rattle.closure.specs.declared.standing.OverOne.TheVariants as one
-use Rattle.closure.specs.declared.standing.OverTwo.{OverTwo}
-use Rattle.closure.specs.declared.standing.OverTwo.TheVariants as two
 use Rattle.closure.specs.Closed.{is_there}
-
-abbrev pub over_one : OverOne → ℕ → Expr
-over_one (one.Select C) = expr.Select C.now
-over_one (one.Keep L) = expr.Keep L.now
-over_one one.Distinct = expr.Distinct
-
-abbrev pub over_two : OverTwo → ℕ → ℕ → Expr
-over_two (two.Join C) = expr.Join C.now
-over_two (two.LeftJoin C) = expr.LeftJoin C.now
-over_two (two.Semi C) = expr.Semi C.now
-over_two (two.Anti S M) = expr.Anti S.now M.now
 
 -- ---- lines with an expression, up to which classes are the same
 

@@ -1,180 +1,288 @@
 //! What a log lacks to be closed.
 
-ghost use Rattle.std.specs.Prelude.{◌≡◌, ◌↔◌, length, map, IsTrue, IfOk, IfSome, None, Some};
-ghost use Rattle.rules.specs.declared.pattern.Pattern.TheVariants.{One, Two};
+ghost use Rattle.std.specs.Prelude.{◌≡◌, ◌<◌, ◌↔◌, ℕ, [], ◌∷◌, length, map, slice_get, true, IsTrue, IfOk, IfSome, None, Some};
+ghost use Rattle.std.specs.List.{AllByRecursion};
 ghost use Rattle.book.specs.Book.{pattern_of};
 ghost use Rattle.rules.specs.Matches.{line_in};
+ghost use Rattle.rules.specs.Patterns.{picked_subquery};
 ghost use Rattle.derivation.specs.Logs.{member};
 ghost use Rattle.closure.specs.Closed as spec;
 ghost use Rattle.closure.specs.Closed.{AreUnited};
 ghost use Rattle.closure.specs.Lacking as lacking_;
+ghost use Rattle.closure.specs.Lines as lines_;
 ghost use Rattle.closure.specs.Places.{AreEntered};
 
-use crate::lacks::{Binding, Missing};
+use crate::lacks::Missing;
 use crate::learning::lacking_fact;
 use crate::pairs::{disagreeing, lines_over};
+use crate::picks::{classes_named, conjunct_count};
 use crate::standing::is_there;
-use algebra::LineId;
+use algebra::{ClassId, Expr, LineId};
+use bindings::{Binding, BoundLines};
 use book::RuleName;
 use logs::Log;
 use query::ids::id_of;
-use rules::{Below, Input, Match, MatchedLine, Operators, Pattern};
+use rules::{Input, MatchedLine, Pattern, picked_subquery};
 use std::alloc::{AllocError, Global};
-use values::Fault;
 
-/// Whether what a rule gives at lines, if it fits, stands in the class of the top one.
+/// Whether what the rule of a binding gives, if it gives something, stands in the class of the top line.
 fn has_result(
     alloc: Global,
     log: &Log<'_>,
     over: &[Vec<LineId>],
-    rule: RuleName,
-    lines: &[MatchedLine<'_>],
-    top: MatchedLine<'_>,
+    binding: Binding,
 ) -> Result<bool, AllocError>
     requires entered { AreEntered log.now.log (length log.now.log) (map (λ v. v.items) over.now) }
     requires united { AreUnited log.now.log }
-    ensures { IfOk result (λ has. lacking_.ResultTold log.now.instances log.now.log rule (map line_in lines.now) top.entry.class has) }
+    ensures { IfOk result (λ has. has ≡ lines_.has_result_of log.now.instances log.now.log binding) }
 {
-    let at = Match {
-        lines,
-        pick: 0,
-        classes: log.classes(),
-    };
-    match rule.apply(alloc, at) {
-        Ok(shape) => {
-            let has = is_there(alloc, log, over, &shape, top.class)?;
-            Ok(has)
-        }
-        Err(Fault::Refused(_)) => Ok(true),
-        Err(Fault::Memory) => Err(AllocError),
-    }
-}
-
-/// Whether what a rule gives at a line over another one, if it fits, stands in the class of the first.
-fn has_result_over(
-    alloc: Global,
-    log: &Log<'_>,
-    over: &[Vec<LineId>],
-    rule: RuleName,
-    top: MatchedLine<'_>,
-    line: LineId,
-) -> Result<bool, AllocError>
-    requires entered { AreEntered log.now.log (length log.now.log) (map (λ v. v.items) over.now) }
-    requires united { AreUnited log.now.log }
-    ensures { IfOk result (λ has. lacking_.OverLineTold log.now.instances log.now.log rule (line_in top.entry) line has) }
-{
-    match log.member(line) {
-        Some(below) => {
-            let has = has_result(alloc, log, over, rule, &[top, below], top)?;
+    match binding.given(alloc, log)? {
+        Some(given) => {
+            let has = is_there(alloc, log, over, &given.shape, given.class)?;
             Ok(has)
         }
         None => Ok(true),
     }
 }
 
-/// The first of the lines over which the rule's result at a line doesn't stand in its class, if there is one.
-fn lacking_over(
+/// The binding, if its result doesn't stand there.
+fn lacking_at(
+    alloc: Global,
+    log: &Log<'_>,
+    over: &[Vec<LineId>],
+    binding: Binding,
+) -> Result<Option<Binding>, AllocError>
+    requires entered { AreEntered log.now.log (length log.now.log) (map (λ v. v.items) over.now) }
+    requires united { AreUnited log.now.log }
+    ensures { IfOk result (λ found. lacking_.BindingTold log.now.instances log.now.log (lines_.has_result_of log.now.instances log.now.log binding ≡ true) found) }
+{
+    if has_result(alloc, log, over, binding)? {
+        return Ok(None);
+    }
+    Ok(Some(binding))
+}
+
+/// The first binding of a rule at a line over one of these whose result doesn't stand there, if there is one.
+fn lacking_pair(
     alloc: Global,
     log: &Log<'_>,
     over: &[Vec<LineId>],
     rule: RuleName,
-    top: MatchedLine<'_>,
+    pick: u32,
+    top: LineId,
     mut lines: &[LineId],
-) -> Result<Option<LineId>, AllocError>
+) -> Result<Option<Binding>, AllocError>
     requires entered { AreEntered log.now.log (length log.now.log) (map (λ v. v.items) over.now) }
     requires united { AreUnited log.now.log }
-    ensures { IfOk result (λ found. lacking_.LackingOver log.now.instances log.now.log rule (line_in top.entry) lines.entry.now found) }
+    ensures { IfOk result (λ found. lacking_.BindingTold log.now.instances log.now.log (AllByRecursion (λ n. lines_.has_result log.now.instances log.now.log rule pick (top ∷ n ∷ []) ≡ true) lines.entry.now) found) }
 {
     'lines: while let [line, rest @ ..] = lines {
-        if !has_result_over(alloc, log, over, rule, top, *line)? {
-            return Ok(Some(*line));
+        let lines_bound = BoundLines::Two(top, *line);
+        let binding = Binding {
+            rule,
+            pick,
+            lines: lines_bound,
+        };
+        if !has_result(alloc, log, over, binding)? {
+            return Ok(Some(binding));
         }
         lines = rest;
     }
     Ok(None)
 }
 
-/// Such a line among those of the class that the line takes there.
-fn lacking_over_input(
+/// The same over the lines of a class, if there is one.
+fn lacking_pair_of(
     alloc: Global,
     log: &Log<'_>,
     over: &[Vec<LineId>],
     rule: RuleName,
-    top: MatchedLine<'_>,
-    input: Input,
-) -> Result<Option<LineId>, AllocError>
-    requires entered { AreEntered log.now.log (length log.now.log) (map (λ v. v.items) over.now) }
-    requires united { AreUnited log.now.log }
-    ensures { IfOk result (λ found. lacking_.LackingOverInput log.now.instances log.now.log rule (line_in top.entry) input found) }
-{
-    match input.of(top.expr) {
-        Some(class) => {
-            let lines = log.members(alloc, class)?;
-            let found = lacking_over(alloc, log, over, rule, top, lines.as_slice())?;
-            Ok(found)
-        }
-        None => Ok(None),
-    }
-}
-
-/// The binding of a rule of one line, where its result doesn't stand in the line's class.
-fn lacking_alone(
-    alloc: Global,
-    log: &Log<'_>,
-    over: &[Vec<LineId>],
-    rule: RuleName,
-    line: LineId,
-    top: MatchedLine<'_>,
-    operators: Operators,
+    pick: u32,
+    top: LineId,
+    class: Option<ClassId>,
 ) -> Result<Option<Binding>, AllocError>
     requires entered { AreEntered log.now.log (length log.now.log) (map (λ v. v.items) over.now) }
     requires united { AreUnited log.now.log }
-    requires there { member log.now.log line ≡ Some (line_in top) }
-    ensures { IfOk result (λ found. lacking_.LackingBy log.now.instances log.now.log rule (line_in top.entry) (One operators) found) }
+    ensures { IfOk result (λ found. lacking_.BindingTold log.now.instances log.now.log (lines_.HasPairs log.now.instances log.now.log rule pick top class) found) }
 {
-    if !operators.include(top.expr) {
+    let Some(class) = class else {
         return Ok(None);
-    }
-    if has_result(alloc, log, over, rule, &[top], top)? {
-        return Ok(None);
-    }
-    Ok(Some(Binding {
-        rule,
-        top: line,
-        below: None,
-    }))
+    };
+    let lines = log.members(alloc, class)?;
+    let found = lacking_pair(alloc, log, over, rule, pick, top, lines.as_slice())?;
+    Ok(found)
 }
 
-/// The first binding of a rule of two lines whose result doesn't stand in the class of the first, if there is one.
-fn lacking_pair(
+/// The first binding of a rule at a line over another one over one of these whose result doesn't stand there, if there is one.
+fn lacking_triple(
     alloc: Global,
     log: &Log<'_>,
     over: &[Vec<LineId>],
     rule: RuleName,
-    line: LineId,
-    top: MatchedLine<'_>,
-    operators: Operators,
-    below: Below,
+    top: LineId,
+    below: LineId,
+    mut lines: &[LineId],
 ) -> Result<Option<Binding>, AllocError>
     requires entered { AreEntered log.now.log (length log.now.log) (map (λ v. v.items) over.now) }
     requires united { AreUnited log.now.log }
-    requires there { member log.now.log line ≡ Some (line_in top) }
-    ensures { IfOk result (λ found. lacking_.LackingBy log.now.instances log.now.log rule (line_in top.entry) (Two operators below) found) }
+    ensures { IfOk result (λ found. lacking_.BindingTold log.now.instances log.now.log (AllByRecursion (λ n. lines_.has_result log.now.instances log.now.log rule 0 (top ∷ below ∷ n ∷ []) ≡ true) lines.entry.now) found) }
 {
-    if !operators.include(top.expr) {
-        return Ok(None);
-    }
-    match lacking_over_input(alloc, log, over, rule, top, below.input)? {
-        Some(lower) => Ok(Some(Binding {
+    'lines: while let [line, rest @ ..] = lines {
+        let binding = Binding {
             rule,
-            top: line,
-            below: Some(lower),
-        })),
-        None => Ok(None),
+            pick: 0,
+            lines: BoundLines::Three(top, below, *line),
+        };
+        if !has_result(alloc, log, over, binding)? {
+            return Ok(Some(binding));
+        }
+        lines = rest;
     }
+    Ok(None)
 }
 
-/// The first binding of a rule with the line on top whose result doesn't stand in the line's class, if there is one.
+/// The same over the lines of the class that the second one takes there.
+fn lacking_triple_of(
+    alloc: Global,
+    log: &Log<'_>,
+    over: &[Vec<LineId>],
+    rule: RuleName,
+    top: LineId,
+    below: LineId,
+    input: Input,
+) -> Result<Option<Binding>, AllocError>
+    requires entered { AreEntered log.now.log (length log.now.log) (map (λ v. v.items) over.now) }
+    requires united { AreUnited log.now.log }
+    ensures { IfOk result (λ found. lacking_.BindingTold log.now.instances log.now.log (lines_.HasTriples log.now.instances log.now.log rule top input below) found) }
+{
+    let Some(member) = log.member(below) else {
+        return Ok(None);
+    };
+    let Some(class) = input.of(member.expr) else {
+        return Ok(None);
+    };
+    let lines = log.members(alloc, class)?;
+    let found = lacking_triple(alloc, log, over, rule, top, below, lines.as_slice())?;
+    Ok(found)
+}
+
+/// The same over each of these.
+fn lacking_triple_among(
+    alloc: Global,
+    log: &Log<'_>,
+    over: &[Vec<LineId>],
+    rule: RuleName,
+    top: LineId,
+    mut lines: &[LineId],
+    input: Input,
+) -> Result<Option<Binding>, AllocError>
+    requires entered { AreEntered log.now.log (length log.now.log) (map (λ v. v.items) over.now) }
+    requires united { AreUnited log.now.log }
+    ensures { IfOk result (λ found. lacking_.BindingTold log.now.instances log.now.log (AllByRecursion (lines_.HasTriples log.now.instances log.now.log rule top input) lines.entry.now) found) }
+{
+    'lines: while let [line, rest @ ..] = lines {
+        if let Some(binding) = lacking_triple_of(alloc, log, over, rule, top, *line, input)? {
+            return Ok(Some(binding));
+        }
+        lines = rest;
+    }
+    Ok(None)
+}
+
+/// The same over the lines of a class, if there is one.
+fn lacking_triple_over(
+    alloc: Global,
+    log: &Log<'_>,
+    over: &[Vec<LineId>],
+    rule: RuleName,
+    top: LineId,
+    class: Option<ClassId>,
+    input: Input,
+) -> Result<Option<Binding>, AllocError>
+    requires entered { AreEntered log.now.log (length log.now.log) (map (λ v. v.items) over.now) }
+    requires united { AreUnited log.now.log }
+    ensures { IfOk result (λ found. lacking_.BindingTold log.now.instances log.now.log (lines_.HasTriplesOver log.now.instances log.now.log rule top input class) found) }
+{
+    let Some(class) = class else {
+        return Ok(None);
+    };
+    let lines = log.members(alloc, class)?;
+    let found = lacking_triple_among(alloc, log, over, rule, top, lines.as_slice(), input)?;
+    Ok(found)
+}
+
+/// The first binding of a rule that picks one of so many conjuncts whose result doesn't stand there, if there is one.
+fn lacking_pick(
+    alloc: Global,
+    log: &Log<'_>,
+    over: &[Vec<LineId>],
+    rule: RuleName,
+    top: LineId,
+    count: u32,
+) -> Result<Option<Binding>, AllocError>
+    requires entered { AreEntered log.now.log (length log.now.log) (map (λ v. v.items) over.now) }
+    requires united { AreUnited log.now.log }
+    ensures { IfOk result (λ found. lacking_.BindingTold log.now.instances log.now.log ((pick : ℕ) → pick < count → lines_.has_result log.now.instances log.now.log rule pick (top ∷ []) ≡ true) found) }
+{
+    for pick in 0..count {
+        let binding = Binding {
+            rule,
+            pick,
+            lines: BoundLines::One(top),
+        };
+        if !has_result(alloc, log, over, binding)? {
+            return Ok(Some(binding));
+        }
+    }
+    Ok(None)
+}
+
+/// The same over the lines of the class of the subquery that is picked.
+fn lacking_pick_over(
+    alloc: Global,
+    log: &Log<'_>,
+    over: &[Vec<LineId>],
+    rule: RuleName,
+    top: LineId,
+    expr: &Expr,
+    count: u32,
+) -> Result<Option<Binding>, AllocError>
+    requires entered { AreEntered log.now.log (length log.now.log) (map (λ v. v.items) over.now) }
+    requires united { AreUnited log.now.log }
+    ensures { IfOk result (λ found. lacking_.BindingTold log.now.instances log.now.log ((pick : ℕ) → pick < count → lines_.HasPairs log.now.instances log.now.log rule pick top (picked_subquery expr.now pick)) found) }
+{
+    for pick in 0..count {
+        let class = picked_subquery(expr, pick);
+        if let Some(binding) = lacking_pair_of(alloc, log, over, rule, pick, top, class)? {
+            return Ok(Some(binding));
+        }
+    }
+    Ok(None)
+}
+
+/// The first binding of a rule that picks one of these classes, over one of its lines, whose result doesn't stand there, if there is one.
+fn lacking_class(
+    alloc: Global,
+    log: &Log<'_>,
+    over: &[Vec<LineId>],
+    rule: RuleName,
+    top: LineId,
+    mut classes: &[ClassId],
+) -> Result<Option<Binding>, AllocError>
+    requires entered { AreEntered log.now.log (length log.now.log) (map (λ v. v.items) over.now) }
+    requires united { AreUnited log.now.log }
+    ensures { IfOk result (λ found. lacking_.BindingTold log.now.instances log.now.log (AllByRecursion (λ g. lines_.HasPairs log.now.instances log.now.log rule g top (Some g)) classes.entry.now) found) }
+{
+    'classes: while let [class, rest @ ..] = classes {
+        if let Some(binding) = lacking_pair_of(alloc, log, over, rule, *class, top, Some(*class))? {
+            return Ok(Some(binding));
+        }
+        classes = rest;
+    }
+    Ok(None)
+}
+
+/// The first binding of a rule with the line on top whose result doesn't stand there, if there is one.
 fn lacking_by(
     alloc: Global,
     log: &Log<'_>,
@@ -186,21 +294,52 @@ fn lacking_by(
     requires entered { AreEntered log.now.log (length log.now.log) (map (λ v. v.items) over.now) }
     requires united { AreUnited log.now.log }
     requires there { member log.now.log line ≡ Some (line_in top) }
-    ensures { IfOk result (λ found. lacking_.LackingBy log.now.instances log.now.log rule (line_in top.entry) (pattern_of rule) found) }
+    ensures { IfOk result (λ found. lacking_.BindingTold log.now.instances log.now.log (lines_.HasResultsBy log.now.instances log.now.log rule line (pattern_of rule)) found) }
 {
     match rule.pattern() {
         Pattern::One(operators) => {
-            let found = lacking_alone(alloc, log, over, rule, line, top, operators)?;
+            if !operators.include(top.expr) {
+                return Ok(None);
+            }
+            let binding = Binding {
+                rule,
+                pick: 0,
+                lines: BoundLines::One(line),
+            };
+            let found = lacking_at(alloc, log, over, binding)?;
             Ok(found)
         }
         Pattern::Two(operators, below) => {
-            let found = lacking_pair(alloc, log, over, rule, line, top, operators, below)?;
+            if !operators.include(top.expr) {
+                return Ok(None);
+            }
+            let class = below.input.of(top.expr);
+            let found = lacking_pair_of(alloc, log, over, rule, 0, line, class)?;
             Ok(found)
         }
-        Pattern::Three(_, _, _) => Ok(None),
-        Pattern::Subquery => Ok(None),
-        Pattern::SubqueryLine(_) => Ok(None),
-        Pattern::ClassLine(_) => Ok(None),
+        Pattern::Three(operators, below, lowest) => {
+            if !operators.include(top.expr) {
+                return Ok(None);
+            }
+            let class = below.input.of(top.expr);
+            let found = lacking_triple_over(alloc, log, over, rule, line, class, lowest.input)?;
+            Ok(found)
+        }
+        Pattern::Subquery => {
+            let count = conjunct_count(top.expr)?;
+            let found = lacking_pick(alloc, log, over, rule, line, count)?;
+            Ok(found)
+        }
+        Pattern::SubqueryLine(_) => {
+            let count = conjunct_count(top.expr)?;
+            let found = lacking_pick_over(alloc, log, over, rule, line, top.expr, count)?;
+            Ok(found)
+        }
+        Pattern::ClassLine(_) => {
+            let classes = classes_named(alloc, top.expr)?;
+            let found = lacking_class(alloc, log, over, rule, line, classes.as_slice())?;
+            Ok(found)
+        }
     }
 }
 
@@ -216,7 +355,7 @@ fn lacking_among(
     requires entered { AreEntered log.now.log (length log.now.log) (map (λ v. v.items) over.now) }
     requires united { AreUnited log.now.log }
     requires there { member log.now.log line ≡ Some (line_in top) }
-    ensures { IfOk result (λ found. lacking_.LackingAmong log.now.instances log.now.log rules.entry.now (line_in top.entry) found) }
+    ensures { IfOk result (λ found. lacking_.BindingTold log.now.instances log.now.log (AllByRecursion (λ rule. lines_.HasResultsBy log.now.instances log.now.log rule line (pattern_of rule)) rules.entry.now) found) }
 {
     'rules: while let [rule, rest @ ..] = rules {
         if let Some(binding) = lacking_by(alloc, log, over, *rule, line, top)? {
@@ -236,7 +375,7 @@ fn lacking_of(
 ) -> Result<Option<Binding>, AllocError>
     requires entered { AreEntered log.now.log (length log.now.log) (map (λ v. v.items) over.now) }
     requires united { AreUnited log.now.log }
-    ensures { IfOk result (λ found. lacking_.LackingAt log.now.instances log.now.log line found) }
+    ensures { IfOk result (λ found. lacking_.BindingTold log.now.instances log.now.log (lines_.HasResultsOf log.now.instances log.now.log line) found) }
 {
     let Some(top) = log.member(line) else {
         return Ok(None);
@@ -245,7 +384,7 @@ fn lacking_of(
     Ok(found)
 }
 
-/// A rule with lines whose result doesn't stand in the class of the top one, if there is one.
+/// A binding whose result doesn't stand there, if there is one.
 fn lacking(
     alloc: Global,
     log: &Log<'_>,
@@ -253,7 +392,7 @@ fn lacking(
 ) -> Result<Option<Binding>, AllocError>
     requires entered { AreEntered log.now.log (length log.now.log) (map (λ v. v.items) over.now) }
     requires united { AreUnited log.now.log }
-    ensures { IfOk result (λ found. lacking_.Lacking log.now.instances log.now.log found) }
+    ensures { IfOk result (λ found. lacking_.BindingTold log.now.instances log.now.log (spec.HasResults log.now.instances log.now.log) found) }
 {
     for line in 0..id_of(log.len())? {
         if let Some(binding) = lacking_of(alloc, log, over, line)? {

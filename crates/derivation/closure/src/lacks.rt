@@ -1,16 +1,8 @@
 //! What a log lacks to be closed.
 
 use algebra::{ClassId, LineId};
-use book::RuleName;
+use bindings::Binding;
 use props::Fact;
-
-/// A rule, and the lines that it is applied to: one, or the top one and one of the class that it takes first.
-#[derive(Clone, Copy)]
-pub struct Binding {
-    pub rule: RuleName,
-    pub top: LineId,
-    pub below: Option<LineId>,
-}
 
 /// Something that a log lacks to be closed.
 #[derive(Drop)]

@@ -6,10 +6,10 @@ mod lacks;
 mod learning;
 mod nearer;
 mod pairs;
-mod spelt;
+mod picks;
 mod standing;
 
 pub use closing::{is_closed, missing};
-pub use lacks::{Binding, Missing};
+pub use lacks::Missing;
 pub use learning::lacking_fact;
-pub use nearer::{line_of, next_line, results_may_stand, step_of};
+pub use nearer::next_line;

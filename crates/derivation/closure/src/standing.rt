@@ -2,64 +2,17 @@
 
 ghost use Rattle.std.specs.Prelude.{◌≡◌, ℕ, length, map, IfOk};
 ghost use Rattle.derivation.specs.Logs.{knowledge};
+ghost use Rattle.bindings.specs.Operators.{over_one, over_two};
 ghost use Rattle.closure.specs.Closed as spec;
 ghost use Rattle.closure.specs.Operators as operators;
 ghost use Rattle.closure.specs.Places as places;
 
 use crate::pairs::{alike, place_of, take_same};
-use algebra::{ClassId, Columns, Conjuncts, Expr, LineId};
+use algebra::{ClassId, Expr, LineId};
+use bindings::{OverOne, OverTwo};
 use logs::Log;
 use rules::Shape;
 use std::alloc::{AllocError, Global};
-
-/// An operator over one input, which is still to be found.
-#[derive(Clone, Copy)]
-pub(crate) enum OverOne<'a> {
-    Select(&'a Conjuncts),
-    Keep(&'a Columns),
-    Distinct,
-}
-
-/// An operator over two.
-#[derive(Clone, Copy)]
-pub(crate) enum OverTwo<'a> {
-    Join(&'a Conjuncts),
-    LeftJoin(&'a Conjuncts),
-    Semi(&'a Conjuncts),
-    Anti(&'a Conjuncts, &'a Conjuncts),
-}
-
-impl OverOne<'_> {
-    /// The operator over a class.
-    pub(crate) fn over(self, alloc: Global, class: ClassId) -> Result<Expr, AllocError>
-        ensures { IfOk result (λ expr. expr ≡ operators.over_one self.entry class) }
-    {
-        match self {
-            OverOne::Select(c) => Ok(Expr::Select(c.copy(alloc)?, class)),
-            OverOne::Keep(k) => Ok(Expr::Keep(k.copy(alloc)?, class)),
-            OverOne::Distinct => Ok(Expr::Distinct(class)),
-        }
-    }
-}
-
-impl OverTwo<'_> {
-    /// The operator over two classes.
-    pub(crate) fn over(
-        self,
-        alloc: Global,
-        left: ClassId,
-        right: ClassId,
-    ) -> Result<Expr, AllocError>
-        ensures { IfOk result (λ expr. expr ≡ operators.over_two self.entry left right) }
-    {
-        match self {
-            OverTwo::Join(c) => Ok(Expr::Join(c.copy(alloc)?, left, right)),
-            OverTwo::LeftJoin(c) => Ok(Expr::LeftJoin(c.copy(alloc)?, left, right)),
-            OverTwo::Semi(c) => Ok(Expr::Semi(c.copy(alloc)?, left, right)),
-            OverTwo::Anti(s, m) => Ok(Expr::Anti(s.copy(alloc)?, m.copy(alloc)?, left, right)),
-        }
-    }
-}
 
 /// The class of a line whose expression is this one up to which classes are the same; none where it is another.
 #[tactic(auto, using(crate::proofs::Agreeing::alike_found, crate::proofs::Agreeing::alike_not, crate::proofs::Agreeing::unlike_taken, crate::proofs::Agreeing::unlike_none))]
@@ -125,7 +78,7 @@ fn with_one(
     input: Option<ClassId>,
 ) -> Result<Option<ClassId>, AllocError>
     requires { places.AreEntered log.now.log (length log.now.log) (map (λ v. v.items) over.now) }
-    ensures { IfOk result (λ found. operators.OneAnswers log.now.log (operators.over_one operator.entry) input found) }
+    ensures { IfOk result (λ found. operators.OneAnswers log.now.log (over_one operator.entry) input found) }
 {
     let Some(class) = input else {
         return Ok(None);
@@ -145,7 +98,7 @@ fn with_two(
     right: Option<ClassId>,
 ) -> Result<Option<ClassId>, AllocError>
     requires { places.AreEntered log.now.log (length log.now.log) (map (λ v. v.items) over.now) }
-    ensures { IfOk result (λ found. operators.TwoAnswers log.now.log (operators.over_two operator.entry) left right found) }
+    ensures { IfOk result (λ found. operators.TwoAnswers log.now.log (over_two operator.entry) left right found) }
 {
     let Some(left) = left else {
         return Ok(None);

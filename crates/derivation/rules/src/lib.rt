@@ -10,7 +10,7 @@ pub mod shaping;
 pub mod unfit;
 
 pub use matching::{Match, MatchedLine};
-pub use pattern::{Below, Input, Operator, Operators, Pattern};
+pub use pattern::{Below, Input, Operator, Operators, Pattern, picked_subquery};
 pub use promise::Promise;
 pub use rule::Rule;
 pub use shape::Shape;

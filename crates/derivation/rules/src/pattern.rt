@@ -120,7 +120,7 @@ fn subquery_of(condition: &Condition) -> Option<ClassId>
 }
 
 /// The class of a selection's conjunct of this number, if it has one and it is a subquery.
-fn picked_subquery(expr: &Expr, pick: u32) -> Option<ClassId>
+pub fn picked_subquery(expr: &Expr, pick: u32) -> Option<ClassId>
     ensures { result ≡ spec.picked_subquery expr.now pick }
 {
     match expr {

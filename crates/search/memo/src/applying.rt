@@ -1,10 +1,8 @@
 //! A log grows by rules.
 
-ghost use Rattle.std.specs.Prelude.{◌≡◌, map, true, IfOk, IfSome, OnOk};
-ghost use Rattle.rules.specs.Matches.{line_in};
-ghost use Rattle.closure.specs.Lacking.{GivesBinding};
-ghost use Rattle.closure.specs.Results.{AreMatched};
-ghost use Rattle.closure.specs.Steps.{is_result};
+ghost use Rattle.std.specs.Prelude.{◌≡◌, true, IfOk, IfSome, OnOk};
+ghost use Rattle.bindings.specs.Bindings.{GivesBinding};
+ghost use Rattle.bindings.specs.Steps.{is_result};
 ghost use Rattle.memo.specs.Founding.{FoundsAlone, FoundsNothing};
 ghost use Rattle.memo.specs.Growth.{Extends, FoundsDirectly, Grows, IsWithin};
 
@@ -12,35 +10,17 @@ use crate::keys::{Operation, Operator};
 use crate::lines::{Member, Memo};
 use crate::unadded::{Unadded, unless_refused};
 use algebra::{ClassId, Condition, Expr, LineId};
-use book::RuleName;
-use closure::{Binding, step_of};
+use bindings::{Binding, Given, step_of};
 use derivation::Line;
-use rules::{Match, MatchedLine, Shape};
+use rules::Shape;
 use std::alloc::{AllocError, Global};
-use values::{Boxed, Fault};
+use values::Boxed;
 
 /// A line that says what a rule gives, and the line that has its expression, unless it is this one.
 #[derive(Drop)]
 struct ResultLine {
     line: Line,
     stands_in: Option<LineId>,
-}
-
-/// What a rule gives of a class.
-#[derive(Drop)]
-struct Given {
-    class: ClassId,
-    shape: Shape,
-}
-
-/// A rule with one line or two; no rule fits other lines.
-fn binding_of(rule: RuleName, uses: &[LineId]) -> Option<Binding> {
-    let (top, below) = match uses {
-        [top] => (*top, None),
-        [top, below] => (*top, Some(*below)),
-        _ => return None,
-    };
-    Some(Binding { rule, top, below })
 }
 
 /// An operator under conditions, whose inputs are still to be found.
@@ -59,55 +39,6 @@ fn under<'a>(
 }
 
 impl<'q> Memo<'q> {
-    /// What the rule of a binding gives at these lines, which are its own, if it fits.
-    fn shape_at(
-        &self,
-        alloc: Global,
-        binding: Binding,
-        lines: &[MatchedLine<'_>],
-        top: MatchedLine<'_>,
-    ) -> Result<Option<Given>, AllocError>
-        requires { AreMatched self.now.log.log binding (map line_in lines.now) (line_in top) }
-        ensures { IfOk result (λ found. IfSome found (λ given. GivesBinding self.now.log.instances self.now.log.log binding)) }
-    {
-        let at = Match {
-            lines,
-            pick: 0,
-            classes: self.log().classes(),
-        };
-        match binding.rule.apply(alloc, at) {
-            Ok(shape) => Ok(Some(Given {
-                class: top.class,
-                shape,
-            })),
-            Err(Fault::Refused(_)) => Ok(None),
-            Err(Fault::Memory) => Err(AllocError),
-        }
-    }
-
-    /// What the rule of a binding gives of the class of its first line, if it fits.
-    #[tactic(auto, using(closure::proofs::Results::one_matched, closure::proofs::Results::two_matched))]
-    fn given(&self, alloc: Global, binding: Binding) -> Result<Option<Given>, AllocError>
-        ensures { IfOk result (λ found. IfSome found (λ given. GivesBinding self.now.log.instances self.now.log.log binding)) }
-    {
-        let Some(top) = self.log().member(binding.top) else {
-            return Ok(None);
-        };
-        match binding.below {
-            Some(below) => {
-                let Some(below) = self.log().member(below) else {
-                    return Ok(None);
-                };
-                let given = self.shape_at(alloc, binding, &[top, below], top)?;
-                Ok(given)
-            }
-            None => {
-                let given = self.shape_at(alloc, binding, &[top], top)?;
-                Ok(given)
-            }
-        }
-    }
-
     /// A line with the operator over a class, if there is one.
     fn line_over(
         &mut self,
@@ -383,7 +314,7 @@ impl<'q> Memo<'q> {
         ensures limit { self.new.limit ≡ self.old.limit }
     {
         if self.log().are_same(class, other) {
-            return Ok(Some(binding.top));
+            return Ok(Some(binding.lines.top()));
         }
         let step = step_of(alloc, binding, &[])?;
         let added = self.append(alloc, Line::Unites(class, other, step))?;
@@ -391,25 +322,17 @@ impl<'q> Memo<'q> {
         Ok(added)
     }
 
-    /// A line of what the rule gives at these lines, the top first, of the first one's class or of one that is the same: a new one directly behind the
+    /// A line of what the rule of a binding gives at its lines, of the first one's class or of one that is the same: a new one directly behind the
     /// lines that found what it is made of, unless it is there up to which classes are the same. Where another class has it, a line says that the
     /// two are the same. Where the rule gives a class, the line is one that says that the two are the same; where they were, it is the first of
     /// these lines. None where the rule doesn't fit, or the log is full.
-    pub fn apply(
-        &mut self,
-        alloc: Global,
-        rule: RuleName,
-        uses: &[LineId],
-    ) -> Result<Option<LineId>, AllocError>
+    pub fn apply(&mut self, alloc: Global, binding: Binding) -> Result<Option<LineId>, AllocError>
         ensures grows { Grows self.old.log self.new.log }
         ensures within { IsWithin self.old.limit self.old.log self.new.log }
         ensures limit { self.new.limit ≡ self.old.limit }
         ensures direct { OnOk result (FoundsDirectly self.old.limit self.old.log self.new.log) }
     {
-        let Some(binding) = binding_of(rule, uses) else {
-            return Ok(None);
-        };
-        let Some(Given { class, shape }) = self.given(alloc, binding)? else {
+        let Some(Given { class, shape }) = binding.given(alloc, self.log())? else {
             return Ok(None);
         };
         if let Shape::Class(other) = shape {

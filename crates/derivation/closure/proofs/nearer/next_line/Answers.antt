@@ -1,6 +1,6 @@
 use Rattle.std.proofs.Common.{subst}
 use Rattle.closure.specs.Lacking.{IsMissing}
-use Rattle.closure.proofs.Results.{alike_stands, gives_stands}
+use Rattle.closure.proofs.Standing.{alike_stands, gives_stands}
 use Rattle.closure.proofs.nearer.next_line.Goals as goal
 
 pub returns-in-Alike : goal.returns-in-Alike
