@@ -1,5 +1,5 @@
 -- A rule gives something at lines of its pattern alone. So where each line has its results by the patterns of the rules, all are there.
-use Rattle.std.proofs.Common.{◌≡◌, ◌≢◌, refl, ap, sym, ◌∙◌, subst, ℕ, suc, ◌+◌, ◌<◌, Bool, true, false, ◌==◌, if◌then◌else◌, List, [], ◌∷◌, length, slice_get, Ok, Err, Option, Some, None, arith}
+use Rattle.std.proofs.Common.{◌≡◌, ◌≢◌, refl, ap, sym, ◌∙◌, subst, ℕ, zero, suc, ◌+◌, ◌<◌, Bool, true, false, ◌==◌, if◌then◌else◌, List, [], ◌∷◌, length, slice_get, Ok, Err, Option, Some, None, arith}
 use Rattle.std.specs.List.{AllByRecursion}
 use Rattle.std.proofs.lemmas.Bool.{and_parts, eqb-true, eq-eqb}
 use Rattle.query.specs.declared.query.TableInstance.{TableInstance}
@@ -75,7 +75,7 @@ input-is K (Some g) O l below = record { number = g; is = refl; same = (and_part
 
 index-within : {X : Type 0} (xs : List X) (i : ℕ) (x : X) → slice_get xs i ≡ Some x → i < length xs
 index-within [] i x is = cc
-index-within (y ∷ xs) 0 x is = omega arith
+index-within (y ∷ xs) zero x is = omega arith
 index-within (y ∷ xs) (suc i) x is = let less : i < length xs = index-within xs i x is in omega (arith, less)
 
 subquery-within : (C : List Condition) (pick g : ℕ) → subquery_at (slice_get C pick) ≡ Some g → pick < length C
@@ -149,9 +149,11 @@ module _ (instances : List TableInstance) (E : Log) (rule : RuleName) (i : ℕ) 
 
     -- what is so of the first line and the others is so of the lines
     with-others : (P : Pattern) → ((pick : ℕ) (rest : List ℕ) (others : List matches.Line) → members E rest ≡ Some others → lines_fit K pick P (top ∷ others) ≡ true → Has pick rest) → HasResultsBy instances E rule i P
-    with-others P each pick rest lines is fits =
-        let it : Others rest lines = others-of rest lines is in
-        each pick rest it.others it.at (ap (lines_fit K pick P) (sym it.are) ∙ fits)
+    with-others P each = record {
+      at = λ pick rest lines is fits.
+          let it : Others rest lines = others-of rest lines is in
+          each pick rest it.others it.at (ap (lines_fit K pick P) (sym it.are) ∙ fits);
+    }
 
     -- no other lines are those of no numbers
     none-left : (rest : List ℕ) → members E rest ≡ Some [] → rest ≡ []
@@ -165,7 +167,7 @@ module _ (instances : List TableInstance) (E : Log) (rule : RuleName) (i : ℕ) 
 
     -- what is there where nothing is picked is there whatever is
     unpicked : (pick : ℕ) (rest : List ℕ) → (pick == 0) ≡ true → Has 0 rest → Has pick rest
-    unpicked pick rest zero is = subst (λ n. Has n rest) (sym (eqb-true pick 0 zero)) is
+    unpicked pick rest none is = subst (λ n. Has n rest) (sym (eqb-true pick 0 none)) is
 
     alone : (pick : ℕ) (rest : List ℕ) → members E rest ≡ Some [] → Has pick [] → Has pick rest
     alone pick rest at is = subst (Has pick) (sym (none-left rest at)) is
@@ -260,7 +262,7 @@ results-from instances E each rule pick uses top others is s given =
     let first : Cited E uses top others = cited E uses top others is in
     let at : members E (first.first ∷ first.rest) ≡ Some (top ∷ others) = ap (members E) (sym first.uses_are) ∙ is in
     sym (ap (λ o. stands_in_class K E (given_among K rule pick o)) at ∙ ap (λ r. stands_in_class K E (shape_given top.class r)) given)
-    ∙ each first.first (member-within E first.first top first.first_at) rule pick first.rest (top ∷ others) at (fitting K rule pick (top ∷ others) s given)
+    ∙ (each first.first (member-within E first.first top first.first_at) rule).at pick first.rest (top ∷ others) at (fitting K rule pick (top ∷ others) s given)
 
 -- ---- so far
 

@@ -64,6 +64,11 @@ disagreeing_there E over line k lines None entered there is agree = λ m at j l 
 -- ---- results
 
 module _ (instances : List TableInstance) (E : Log) where
+  -- what is so where no binding is told
+  pub told : (P Q : Type 0) (found : Option Binding) → (P → Q) → BindingTold instances E P found → BindingTold instances E Q found
+  told P Q (Some b) f is = is
+  told P Q None f is = f is
+
   -- over the lines of a class
   pub pairs_of : (rule : RuleName) (pick i class : ℕ) (lines : List ℕ) → ((n : ℕ) → times n lines ≡ once_if (is_member E class n))
       → AllByRecursion (λ n. has_result instances E rule pick (i ∷ n ∷ []) ≡ true) lines → HasPairs instances E rule pick i (Some class)
@@ -95,7 +100,7 @@ module _ (instances : List TableInstance) (E : Log) where
 
   -- no line has the number
   pub no_line : (i : ℕ) → member E i ≡ None → HasResultsOf instances E i
-  no_line i none rule pick rest lines is fits = absurd (let never : None ≡ Some lines = sym (ap (λ o. both_lines o (members E rest)) none) ∙ is in cc)
+  no_line i none rule = record { at = λ pick rest lines is fits. absurd (let never : None ≡ Some lines = sym (ap (λ o. both_lines o (members E rest)) none) ∙ is in cc) }
 
   -- where something is missing, the log isn't closed
   result-stands : (rule : RuleName) (pick : ℕ) (uses : List ℕ) → HasResults instances E → has_result instances E rule pick uses ≡ true

@@ -3,6 +3,6 @@ pub mod AnyLine
 pub mod Fits
 pub mod LackedFacts
 pub mod Lacking
+pub mod MissingLines
 pub mod Shapes
-pub mod Standing
 pub mod Unique

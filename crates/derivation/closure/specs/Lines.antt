@@ -53,8 +53,8 @@ module _ (instances : List TableInstance) (E : Log) where
   HasTriplesOver rule i input class = (g n : ℕ) → class ≡ Some g → is_member E g n ≡ true → HasTriples rule i input n
 
   -- so it is wherever lines fit a pattern of which this is the first
-  abbrev pub HasResultsBy : RuleName → ℕ → Pattern → Type 0
-  HasResultsBy rule i pattern = (pick : ℕ) (rest : List ℕ) (lines : List matches.Line) → members E (i ∷ rest) ≡ Some lines → lines_fit (knowledge instances E) pick pattern lines ≡ true → has_result rule pick (i ∷ rest) ≡ true
+  pub record HasResultsBy (rule : RuleName) (i : ℕ) (pattern : Pattern) : Type 0 where
+    pub at : (pick : ℕ) (rest : List ℕ) (lines : List matches.Line) → members E (i ∷ rest) ≡ Some lines → lines_fit (knowledge instances E) pick pattern lines ≡ true → has_result rule pick (i ∷ rest) ≡ true
 
   abbrev pub HasResultsOf : ℕ → Type 0
   HasResultsOf i = (rule : RuleName) → HasResultsBy rule i (pattern_of rule)

@@ -12,7 +12,7 @@ use std::alloc::{AllocError, Global};
 
 /// A line that may stand behind the log and adds something of what it lacks: that two lines are alike; what the rule gives, or else the first expression
 /// of it that no line has; that a fact holds.
-#[tactic(auto, using(crate::proofs::Standing::alike_stands, crate::proofs::Standing::lacking_gives))]
+#[tactic(auto, using(crate::proofs::MissingLines::alike_stands, crate::proofs::MissingLines::lacking_gives))]
 pub fn next_line(alloc: Global, log: &Log<'_>, missing: Missing) -> Result<Line, AllocError>
     requires { IsMissing log.now.instances log.now.log missing }
     ensures { IfOk result (λ line. stands log.now.instances log.now.own log.now.log line ≡ Ok line) }

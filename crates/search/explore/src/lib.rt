@@ -4,13 +4,15 @@
 //! loops alone.
 #![tactic(auto)]
 
-mod bindings;
+mod entering;
 mod exploring;
 mod keys;
 mod learning;
+mod promises;
 mod queue;
 mod simplifying;
+mod takers;
 
-pub use bindings::Products;
 pub use exploring::{apply_all, apply_and_learn, explore};
+pub use promises::Products;
 pub use simplifying::simplify;

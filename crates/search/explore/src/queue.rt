@@ -1,6 +1,6 @@
 //! Bindings that are still to be tried.
 
-use closure::Binding;
+use bindings::Binding;
 use std::alloc::{AllocError, Global};
 use std::cmp::Reverse;
 use std::collections::BinaryHeap;

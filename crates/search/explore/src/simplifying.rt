@@ -1,8 +1,9 @@
 //! Each line of a log is simplified, those that come of it among them.
 
-use crate::bindings::rules_over;
 use crate::keys::learn_keys;
+use crate::takers::Takers;
 use algebra::{ClassId, Expr, LineId};
+use bindings::{Binding, BoundLines};
 use book::RuleName;
 use memo::Memo;
 use query::ids::id_of;
@@ -14,6 +15,15 @@ const MOST_LINES: usize = 2_000;
 
 /// How often a log is gone through. Classes that become the same can let a rule fit earlier lines, so there may be several passes.
 const MOST_PASSES: usize = 8;
+
+/// The rule at these lines, where nothing is picked.
+fn unpicked(rule: RuleName, lines: BoundLines) -> Binding {
+    Binding {
+        rule,
+        pick: 0,
+        lines,
+    }
+}
 
 /// Whether a rule fits at lines, and promises that they are simpler then.
 fn makes_simpler(
@@ -36,37 +46,28 @@ fn makes_simpler(
     })
 }
 
-/// The same of the line of a number, over another one if there is one.
-fn makes_simpler_at(
+/// Applies the rules of one line that make the line simpler.
+fn simplify_alone(
     alloc: Global,
-    memo: &Memo<'_>,
-    rule: RuleName,
-    top: LineId,
-    below: Option<LineId>,
-) -> Result<bool, AllocError> {
-    let Some(upper) = memo.log().member(top) else {
-        return Ok(false);
+    memo: &mut Memo<'_>,
+    takers: &Takers,
+    line: LineId,
+) -> Result<(), AllocError> {
+    let Some(rules) = memo.log().member(line).map(|top| takers.alone.of(top.expr)) else {
+        return Ok(());
     };
-    let Some(below) = below else {
-        return makes_simpler(alloc, memo, rule, [upper].as_slice());
-    };
-    match memo.log().member(below) {
-        Some(lower) => makes_simpler(alloc, memo, rule, [upper, lower].as_slice()),
-        None => Ok(false),
-    }
-}
-
-/// Applies the rules to the line that make it simpler.
-fn simplify_alone(alloc: Global, memo: &mut Memo<'_>, line: LineId) -> Result<(), AllocError> {
-    for rule in RuleName::all() {
-        if makes_simpler_at(alloc, memo, *rule, line, None)? {
-            let _ = memo.apply(alloc, *rule, [line].as_slice())?;
+    for rule in rules {
+        if let Some(top) = memo.log().member(line) {
+            if makes_simpler(alloc, memo, *rule, [top].as_slice())? {
+                let lines = BoundLines::One(line);
+                let _ = memo.apply(alloc, unpicked(*rule, lines))?;
+            }
         }
     }
     Ok(())
 }
 
-/// Applies those of the rules to the line and each line of the class below it that make them simpler.
+/// Applies those of the rules to the line and each line of the class that make them simpler.
 fn simplify_over(
     alloc: Global,
     memo: &mut Memo<'_>,
@@ -76,28 +77,15 @@ fn simplify_over(
 ) -> Result<(), AllocError> {
     for below in memo.log().members(alloc, class)? {
         for rule in rules {
-            if makes_simpler_at(alloc, memo, *rule, line, Some(below))? {
-                let _ = memo.apply(alloc, *rule, [line, below].as_slice())?;
+            if let (Some(top), Some(lower)) = (memo.log().member(line), memo.log().member(below)) {
+                if makes_simpler(alloc, memo, *rule, [top, lower].as_slice())? {
+                    let lines = BoundLines::Two(line, below);
+                    let _ = memo.apply(alloc, unpicked(*rule, lines))?;
+                }
             }
         }
     }
     Ok(())
-}
-
-/// The rules that take a line over one of the class that it takes there, and that class; no rules where there is no such class.
-fn below(
-    alloc: Global,
-    memo: &Memo<'_>,
-    line: LineId,
-    input: Input,
-) -> Result<(Vec<RuleName>, ClassId), AllocError> {
-    let Some(member) = memo.log().member(line) else {
-        return Ok((Vec::new(alloc), 0));
-    };
-    match input.of(member.expr) {
-        Some(class) => Ok((rules_over(alloc, member.expr, input)?, class)),
-        None => Ok((Vec::new(alloc), 0)),
-    }
 }
 
 /// The class of which keys are asked: that of which a line has the distinct rows.
@@ -108,25 +96,33 @@ fn keyed(memo: &Memo<'_>, line: LineId) -> Option<ClassId> {
     }
 }
 
-fn simplify_line(alloc: Global, memo: &mut Memo<'_>, line: LineId) -> Result<(), AllocError> {
+fn simplify_line(
+    alloc: Global,
+    memo: &mut Memo<'_>,
+    takers: &Takers,
+    line: LineId,
+) -> Result<(), AllocError> {
     if let Some(class) = keyed(memo, line) {
         learn_keys(alloc, memo, class)?;
     }
-    simplify_alone(alloc, memo, line)?;
+    simplify_alone(alloc, memo, takers, line)?;
     for input in [Input::First, Input::Second] {
-        let (rules, class) = below(alloc, memo, line, input)?;
-        if !rules.is_empty() {
-            simplify_over(alloc, memo, rules.as_slice(), line, class)?;
+        let Some(top) = memo.log().member(line) else {
+            return Ok(());
+        };
+        let rules = takers.over(top.expr, input);
+        if let (false, Some(class)) = (rules.is_empty(), input.of(top.expr)) {
+            simplify_over(alloc, memo, rules, line, class)?;
         }
     }
     Ok(())
 }
 
 /// Goes through the log once, and through what is added meanwhile.
-fn pass(alloc: Global, memo: &mut Memo<'_>) -> Result<(), AllocError> {
+fn pass(alloc: Global, memo: &mut Memo<'_>, takers: &Takers) -> Result<(), AllocError> {
     for line in 0..MOST_LINES {
         if line < memo.log().len() {
-            simplify_line(alloc, memo, id_of(line)?)?;
+            simplify_line(alloc, memo, takers, id_of(line)?)?;
         }
     }
     Ok(())
@@ -136,9 +132,10 @@ fn pass(alloc: Global, memo: &mut Memo<'_>) -> Result<(), AllocError> {
 /// of the book are, selections and projections one over the other become one, a projection to all columns and distinct rows of a class with a key are
 /// that class, and groups without aggregates are distinct rows.
 pub fn simplify(alloc: Global, memo: &mut Memo<'_>) -> Result<(), AllocError> {
+    let takers = Takers::of_book(alloc)?;
     for _ in 0..MOST_PASSES {
         let before = memo.log().len();
-        pass(alloc, memo)?;
+        pass(alloc, memo, &takers)?;
         if memo.log().len() == before {
             break;
         }

@@ -6,19 +6,15 @@ use Rattle.std.proofs.lemmas.List.{length-append}
 use Rattle.std.proofs.lemmas.List.Folds.{list_all-append}
 use Rattle.query.specs.declared.query.TableInstance.{TableInstance}
 use Rattle.algebra.specs.declared.expr.Aggregation.{Aggregation}
-use Rattle.rules.specs.declared.shape.Shape.{Shape}
-use Rattle.book.specs.Book.{given_by}
-use Rattle.rules.specs.Matches as matches
 use Rattle.derivation.specs.declared.line.Line.{Line}
 use Rattle.derivation.specs.declared.line.Line.TheVariants.{Founds, Adds, Unites, Alike, Gives}
-use Rattle.derivation.specs.Logs.{Log, knowledge}
+use Rattle.derivation.specs.Logs.{Log}
 use Rattle.derivation.specs.Replay.{Replays}
 use Rattle.logs.specs.Logged.{Logged, with_line}
-use Rattle.closure.specs.declared.lacks.Binding.{Binding}
-use Rattle.closure.specs.Lacking.{GivesBinding}
-use Rattle.closure.specs.Results.{AreMatched}
-use Rattle.closure.specs.Steps.{is_result, is_step}
-use Rattle.closure.proofs.Founding.{gives_still}
+use Rattle.bindings.specs.declared.binding.Binding.{Binding}
+use Rattle.bindings.specs.Bindings.{GivesBinding}
+use Rattle.bindings.specs.Steps.{is_result, is_step}
+use Rattle.bindings.proofs.Founding.{gives_still}
 use Rattle.memo.specs.Founding.{founds_something, FoundsAlone, FoundsNothing, Finishes}
 use Rattle.memo.specs.Growth.{Grows, IsWithin, Extends, waits, are_direct, FoundsDirectly}
 use Rattle.memo.proofs.Growth.{grows-itself, grows-by_one, grows-along, extended_along}
@@ -195,17 +191,6 @@ result_steps (Adds g s x) is = (refl, refl)
 result_steps (Unites g h s) is = (refl, refl)
 result_steps (Alike i j) is = cc
 result_steps (Gives g m f) is = cc
-
--- what a rule gives at lines that are matched, it gives at a binding
-pub gives_of : (instances : List TableInstance) (E : Log) (b : Binding) (lines : List matches.Line) (top : matches.Line) (s : Shape) → AreMatched E b lines top
-    → given_by b.rule (record { lines = lines; pick = 0; classes = knowledge instances E }) ≡ Ok s → GivesBinding instances E b
-gives_of instances E b lines top s matched gives = record {
-  top = top;
-  others = matched.others;
-  lines = matched.there ∙ ap Some matched.first;
-  shape = s;
-  given = ap (λ ls. given_by b.rule (record { lines = ls; pick = 0; classes = knowledge instances E })) (sym matched.first) ∙ gives;
-}
 
 pub where_ok : {T E P : Type 0} (r : Result T E) → P → OnOk r P
 where_ok (Ok x) p = p

@@ -3,7 +3,7 @@ use Rattle.std.specs.Prelude.{◌≡◌, ℕ, ◌≤◌, Bool, true, false, not,
 use Rattle.derivation.specs.declared.line.Line.{Line}
 use Rattle.derivation.specs.Logs.{is_founding}
 use Rattle.logs.specs.Logged.{Logged}
-use Rattle.closure.specs.Steps.{is_step}
+use Rattle.bindings.specs.Steps.{is_step}
 
 -- the lines before stand unchanged, and others only behind them, over the same table instances and aggregates
 pub record Grows (old new : Logged) : Type 0 where

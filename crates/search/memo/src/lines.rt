@@ -7,7 +7,7 @@ ghost use Rattle.derivation.specs.Replay.{stands};
 ghost use Rattle.logs.specs.Members.{is_member, once_if};
 ghost use Rattle.logs.specs.Sets.{times};
 ghost use Rattle.logs.specs.Logged.{with_line};
-ghost use Rattle.closure.specs.Lacking.{GivesBinding};
+ghost use Rattle.bindings.specs.Bindings.{GivesBinding};
 ghost use Rattle.memo.specs.Founding.{FoundsAlone, FoundsNothing, Finishes, founds_something};
 ghost use Rattle.memo.specs.Growth.{Extends, FoundsDirectly, Grows, IsWithin};
 
@@ -15,7 +15,7 @@ use crate::groups::Groups;
 use crate::keys::{ConditionNumbers, Key, Keys, Operation, named_key, operation_of};
 use crate::unadded::{Unadded, unless_refused};
 use algebra::{ClassId, Expr, LineId};
-use closure::{Binding, line_of};
+use bindings::{Binding, line_of};
 use derivation::Line;
 use indexmap::IndexMap;
 use logs::Log;

@@ -1,6 +1,7 @@
 //! Joins that are there, and the steps by which a class gets a join of other sides.
 
 use algebra::{ClassId, Expr, LineId};
+use bindings::{Binding, BoundLines};
 use book::RuleName;
 use join_trees::LeafSet;
 use memo::Memo;
@@ -94,12 +95,19 @@ pub(crate) fn step(
     alloc: Global,
     memo: &mut Memo<'_>,
     rule: RuleName,
-    uses: &[LineId],
+    lines: BoundLines,
 ) -> Result<Option<LineId>, AllocError> {
     if memo.log().len() >= MOST_LINES {
         return Ok(None);
     }
-    memo.apply(alloc, rule, uses)
+    memo.apply(
+        alloc,
+        Binding {
+            rule,
+            pick: 0,
+            lines,
+        },
+    )
 }
 
 impl Nodes {
@@ -174,8 +182,8 @@ impl Nodes {
             return Ok(None);
         };
         let node = self.node(number);
-        let uses = [node.line];
-        let line = step(alloc, memo, RuleName::JoinCommutes, uses.as_slice())?;
+        let lines = BoundLines::One(node.line);
+        let line = step(alloc, memo, RuleName::JoinCommutes, lines)?;
         self.add_join(node.class, line, right, left)
     }
 
@@ -194,8 +202,8 @@ impl Nodes {
             return Ok(None);
         };
         let node = self.node(outer);
-        let uses = [node.line, self.node(inner).line];
-        let Some(line) = step(alloc, memo, RuleName::JoinAssociates, uses.as_slice())? else {
+        let lines = BoundLines::Two(node.line, self.node(inner).line);
+        let Some(line) = step(alloc, memo, RuleName::JoinAssociates, lines)? else {
             return Ok(None);
         };
         let Some(join) = join_line(memo, line) else {

@@ -7,6 +7,7 @@
 use crate::founding::{SetClass, class_of};
 use crate::nodes::{join_line, line_over, step};
 use algebra::{ClassId, Condition, Conjuncts, Expr, LineId};
+use bindings::BoundLines;
 use book::RuleName;
 use join_trees::{JoinTree, LeafSet, Subquery, conditions_of};
 use memo::Memo;
@@ -121,8 +122,8 @@ fn lower(
     join: LineId,
     right: ClassId,
 ) -> Result<Option<Lowered>, AllocError> {
-    let uses = [select, join];
-    let Some(line) = step(alloc, memo, RuleName::SelectBelowJoin, uses.as_slice())? else {
+    let lines = BoundLines::Two(select, join);
+    let Some(line) = step(alloc, memo, RuleName::SelectBelowJoin, lines)? else {
         return Ok(None);
     };
     if join_line(memo, line).is_some() {
@@ -147,8 +148,8 @@ fn lower(
 
 /// The join with its sides the other way round.
 fn turned(alloc: Global, memo: &mut Memo<'_>, join: LineId) -> Result<Option<LineId>, AllocError> {
-    let uses = [join];
-    step(alloc, memo, RuleName::JoinCommutes, uses.as_slice())
+    let lines = BoundLines::One(join);
+    step(alloc, memo, RuleName::JoinCommutes, lines)
 }
 
 /// The selection that founds the left side of a join, or another line of its class that selects.

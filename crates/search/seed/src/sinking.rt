@@ -2,6 +2,7 @@
 
 use crate::nodes::{Nodes, join_line, line_over, step};
 use algebra::{ClassId, Expr, LineId};
+use bindings::BoundLines;
 use book::RuleName;
 use join_trees::{LeafSet, conditions_of, mentioned};
 use memo::Memo;
@@ -93,8 +94,8 @@ fn filtered_leaf(
     let Some((_, rest)) = nodes.sides(split) else {
         return Ok(None);
     };
-    let uses = [select, nodes.node(split).line];
-    let Some(line) = step(alloc, memo, RuleName::SelectBelowJoin, uses.as_slice())? else {
+    let lines = BoundLines::Two(select, nodes.node(split).line);
+    let Some(line) = step(alloc, memo, RuleName::SelectBelowJoin, lines)? else {
         return Ok(None);
     };
     match selected_class(memo, line) {
@@ -129,8 +130,8 @@ fn absorbing(
     let Some((left, right)) = nodes.sides(number) else {
         return Ok(None);
     };
-    let uses = [select, nodes.node(number).line];
-    let Some(line) = step(alloc, memo, RuleName::SelectIntoJoin, uses.as_slice())? else {
+    let lines = BoundLines::Two(select, nodes.node(number).line);
+    let Some(line) = step(alloc, memo, RuleName::SelectIntoJoin, lines)? else {
         return Ok(None);
     };
     match selected_class(memo, line) {
@@ -274,8 +275,8 @@ fn lowered_left(
     if below.sides.is_none() && !below.set.is_within(wishes.pushed) {
         return Ok(number);
     }
-    let uses = [nodes.node(number).line];
-    let Some(line) = step(alloc, memo, RuleName::ConditionBelowJoin, uses.as_slice())? else {
+    let lines = BoundLines::One(nodes.node(number).line);
+    let Some(line) = step(alloc, memo, RuleName::ConditionBelowJoin, lines)? else {
         return Ok(number);
     };
     let Some(join) = join_line(memo, line) else {

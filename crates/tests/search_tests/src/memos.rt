@@ -1,5 +1,6 @@
 //! Memos: logs whose lines are found by their expressions up to which classes are the same.
 
+use bindings::{Binding, BoundLines};
 use closure::{is_closed, missing, next_line};
 use derivation::{Line, Step};
 use explore::explore;
@@ -79,6 +80,16 @@ fn count_unnamed(alloc: Global, lines: &[Line]) -> Result<usize, AllocError> {
     Ok(count)
 }
 
+/// The lines of a binding, if there are one to three.
+fn lines_bound(uses: &[u32]) -> Option<BoundLines> {
+    match uses {
+        [top] => Some(BoundLines::One(*top)),
+        [top, below] => Some(BoundLines::Two(*top, *below)),
+        [top, below, lowest] => Some(BoundLines::Three(*top, *below, *lowest)),
+        _ => None,
+    }
+}
+
 /// Does what the words say, and adds what comes of it: `found EXPR` the class, `line CLASS EXPR` and `apply RULE LINES` the line,
 /// `learn CLASS FACT` whether it is known, `members CLASS` and `parents CLASS` lines, `explore` and `closed` whether nothing more can be added,
 /// `give` how many lines the log lacked, `unnamed` how many lines found something that the next result doesn't name.
@@ -98,10 +109,21 @@ fn push_done(
         ),
         "apply" => {
             let uses = numbers_of(alloc, rest)?;
-            push_found(
-                reported,
-                memo.apply(alloc, rule_of(first), uses.as_slice())?,
-            )
+            let found = match lines_bound(uses.as_slice()) {
+                Some(lines) => {
+                    let rule = rule_of(first);
+                    memo.apply(
+                        alloc,
+                        Binding {
+                            rule,
+                            pick: 0,
+                            lines,
+                        },
+                    )?
+                }
+                None => None,
+            };
+            push_found(reported, found)
         }
         "learn" => {
             let is_known = memo.learn(alloc, id(first), fact_of(alloc, rest)?)?;

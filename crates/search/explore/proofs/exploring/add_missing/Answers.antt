@@ -1,7 +1,7 @@
 use Rattle.std.proofs.Common.{subst}
 use Rattle.algebra.proofs.MentionedColumns.{on_ok}
 use Rattle.closure.specs.Lacking.{IsMissing}
-use Rattle.closure.proofs.Results.{alike_stands}
+use Rattle.closure.proofs.MissingLines.{alike_stands}
 use Rattle.explore.proofs.exploring.add_missing.Goals as goal
 
 pub returns-in-Alike-clause-added : goal.returns-in-Alike-clause-added

@@ -4,7 +4,7 @@ use Rattle.logs.specs.Logged.{Logged}
 use Rattle.memo.specs.Growth.{Extends}
 use Rattle.memo.proofs.Growth.{extended_along}
 use Rattle.explore.proofs.Along.{grown_along, longer}
-use Rattle.closure.proofs.Results.{gives_stands}
+use Rattle.closure.proofs.MissingLines.{gives_stands}
 use Rattle.explore.proofs.learning.add_fact.Goals as goal
 
 pub returns-clause-extends : goal.returns-clause-extends

@@ -1,14 +1,9 @@
-use Rattle.std.proofs.Common.{subst, sym}
-use Rattle.closure.specs.Lacking.{GivesBinding}
-use Rattle.logs.specs.Logged.{Logged}
+use Rattle.std.proofs.Common.{}
 use Rattle.memo.proofs.Founding.{nothing_at_first, same_extends, same_nothing, nothing_directly, where_ok}
 use Rattle.memo.proofs.lines.Memo.apply.Goals as goal
 
 pub returns-in_default-clause-direct : goal.returns-in_default-clause-direct
 returns-in_default-clause-direct c = nothing_directly _ _ _ (nothing_at_first _ _)
-
-pub returns-in_default-2-clause-direct : goal.returns-in_default-2-clause-direct
-returns-in_default-2-clause-direct c = nothing_directly _ _ _ (nothing_at_first _ _)
 
 pub returns-in-Class-clause-direct : goal.returns-in-Class-clause-direct
 returns-in-Class-clause-direct c = where_ok c.united.result (nothing_directly _ _ _ c.united.ensures.nothing)

@@ -1,5 +1,5 @@
 use Rattle.std.proofs.Common.{◌≡◌, ◌-◌, length}
-use Rattle.closure.specs.Lacking.{GivesBinding}
+use Rattle.bindings.specs.Bindings.{GivesBinding}
 use Rattle.memo.specs.Founding.{FoundsAlone}
 use Rattle.memo.proofs.lines.Memo.finish.Given as goal
 

@@ -1,6 +1,6 @@
 use Rattle.std.proofs.Common.{◌≡◌, sym, ◌∙◌, subst, true, Option, IfSome}
 use Rattle.logs.specs.Logged.{with_line}
-use Rattle.closure.specs.Steps.{is_result}
+use Rattle.bindings.specs.Steps.{is_result}
 use Rattle.memo.specs.declared.applying.ResultLine.{ResultLine}
 use Rattle.memo.specs.Founding.{FoundsAlone, FoundsNothing, Finishes}
 use Rattle.memo.specs.Growth.{Extends}

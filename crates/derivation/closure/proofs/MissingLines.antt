@@ -66,10 +66,10 @@ module _ (instances : List TableInstance) (own : List Aggregation) (E : Log) whe
       given_ : gives_fact instances K g f (member E m) ≡ true
       given_ = ap (gives_fact instances K g f) it.there ∙ ap (λ g. gives instances K g it.line.expr f) (sym it.class_is) ∙ both.1
 
-  -- what is missing is given
-  pub lacking_gives : (b : Binding) → has_result_of instances E b ≡ false → GivesBinding instances E b
-  lacking_gives b lacks = by (given_by_binding instances E b) refl lacks
-    where
-      by : (o : Option Given) → given_by_binding instances E b ≡ o → stands_in_class K E o ≡ false → GivesBinding instances E b
-      by None at is = cc
-      by (Some given) at is = record { given = given; is = at }
+-- what is missing is given
+pub lacking_gives : (instances : List TableInstance) (E : Log) (b : Binding) → has_result_of instances E b ≡ false → GivesBinding instances E b
+lacking_gives instances E b lacks = by (given_by_binding instances E b) refl lacks
+  where
+    by : (o : Option Given) → given_by_binding instances E b ≡ o → stands_in_class (knowledge instances E) E o ≡ false → GivesBinding instances E b
+    by None at is = cc
+    by (Some given) at is = record { given = given; is = at }

@@ -1,0 +1,334 @@
+//! The bindings that come with a line: those of this line and of earlier ones.
+
+use crate::promises::{Products, rank_of};
+use crate::queue::Queue;
+use crate::takers::Takers;
+use algebra::{ClassId, Expr, LineId};
+use bindings::{Binding, BoundLines};
+use book::RuleName;
+use memo::Memo;
+use query::ids::id_of;
+use rules::{Input, Match, MatchedLine, Pattern, picked_subquery};
+use std::alloc::{AllocError, Global};
+
+/// A line with its number.
+#[derive(Clone, Copy)]
+struct Numbered<'m> {
+    number: LineId,
+    line: MatchedLine<'m>,
+}
+
+/// A line that comes into the queue.
+#[derive(Clone, Copy)]
+struct Entry<'m, 'q> {
+    memo: &'m Memo<'q>,
+    takers: &'m Takers,
+    products: Products,
+    new: Numbered<'m>,
+}
+
+impl<'m, 'q> Entry<'m, 'q> {
+    fn numbered(self, number: LineId) -> Option<Numbered<'m>> {
+        let line = self.memo.log().member(number)?;
+        Some(Numbered { number, line })
+    }
+
+    /// The lines of a class that are no later, if there is one.
+    fn lines_of(self, alloc: Global, class: Option<ClassId>) -> Result<Vec<LineId>, AllocError> {
+        let Some(class) = class else {
+            return Ok(Vec::new(alloc));
+        };
+        let mut lines = self.memo.log().members(alloc, class)?;
+        lines.retain(|line| *line <= self.new.number);
+        Ok(lines)
+    }
+
+    /// The earlier lines that take a class.
+    fn lines_over(self, class: ClassId) -> Result<Vec<LineId>, AllocError> {
+        let mut lines = self.memo.parents(class)?;
+        lines.retain(|line| *line < self.new.number);
+        Ok(lines)
+    }
+
+    /// Puts a binding into the queue, if its rule may fit these lines, which are its own.
+    fn offer(
+        self,
+        alloc: Global,
+        queue: &mut Queue,
+        binding: Binding,
+        lines: &[MatchedLine<'_>],
+    ) -> Result<(), AllocError> {
+        let classes = self.memo.log().classes();
+        let at = Match {
+            lines,
+            pick: binding.pick,
+            classes,
+        };
+        let Some(top) = lines.first() else {
+            return Ok(());
+        };
+        if !binding.rule.pattern().fits(alloc, at)? {
+            return Ok(());
+        }
+        let promise = binding.rule.promise(alloc, at)?;
+        if self.products.allow(promise) {
+            let width = classes.columns.columns_of(top.class).len();
+            queue.add(binding, rank_of(promise), width)?;
+        }
+        Ok(())
+    }
+
+    fn offer_alone(
+        self,
+        alloc: Global,
+        queue: &mut Queue,
+        rule: RuleName,
+        pick: u32,
+    ) -> Result<(), AllocError> {
+        let lines = BoundLines::One(self.new.number);
+        let binding = Binding { rule, pick, lines };
+        self.offer(alloc, queue, binding, [self.new.line].as_slice())
+    }
+
+    fn offer_pair(
+        self,
+        alloc: Global,
+        queue: &mut Queue,
+        rule: RuleName,
+        pick: u32,
+        top: Numbered<'_>,
+        below: Numbered<'_>,
+    ) -> Result<(), AllocError> {
+        let lines = BoundLines::Two(top.number, below.number);
+        let binding = Binding { rule, pick, lines };
+        self.offer(alloc, queue, binding, [top.line, below.line].as_slice())
+    }
+
+    /// The line over each of a class.
+    fn offer_pairs(
+        self,
+        alloc: Global,
+        queue: &mut Queue,
+        rules: &[RuleName],
+        pick: u32,
+        class: Option<ClassId>,
+    ) -> Result<(), AllocError> {
+        for number in self.lines_of(alloc, class)? {
+            if let Some(below) = self.numbered(number) {
+                for rule in rules {
+                    self.offer_pair(alloc, queue, *rule, pick, self.new, below)?;
+                }
+            }
+        }
+        Ok(())
+    }
+
+    /// Two lines over each of the class that the second one takes there.
+    fn offer_triples(
+        self,
+        alloc: Global,
+        queue: &mut Queue,
+        rule: RuleName,
+        top: Numbered<'_>,
+        below: Numbered<'_>,
+        input: Input,
+    ) -> Result<(), AllocError> {
+        for number in self.lines_of(alloc, input.of(below.line.expr))? {
+            if let Some(lowest) = self.numbered(number) {
+                let lines = BoundLines::Three(top.number, below.number, number);
+                let binding = Binding {
+                    rule,
+                    pick: 0,
+                    lines,
+                };
+                let matched = [top.line, below.line, lowest.line];
+                self.offer(alloc, queue, binding, matched.as_slice())?;
+            }
+        }
+        Ok(())
+    }
+
+    /// What fits at the line alone, and over others.
+    fn enter_on_top(self, alloc: Global, queue: &mut Queue) -> Result<(), AllocError> {
+        let expr = self.new.line.expr;
+        for rule in self.takers.alone.of(expr) {
+            self.offer_alone(alloc, queue, *rule, 0)?;
+        }
+        for input in [Input::First, Input::Second] {
+            let rules = self.takers.over(expr, input);
+            if !rules.is_empty() {
+                self.offer_pairs(alloc, queue, rules, 0, input.of(expr))?;
+            }
+        }
+        for rule in self.takers.first.of(expr) {
+            self.enter_first(alloc, queue, *rule)?;
+        }
+        Ok(())
+    }
+
+    /// The same of a rule of three lines or with a pick.
+    fn enter_first(
+        self,
+        alloc: Global,
+        queue: &mut Queue,
+        rule: RuleName,
+    ) -> Result<(), AllocError> {
+        let expr = self.new.line.expr;
+        match rule.pattern() {
+            Pattern::Three(_, below, lowest) => {
+                for number in self.lines_of(alloc, below.input.of(expr))? {
+                    if let Some(second) = self.numbered(number) {
+                        self.offer_triples(alloc, queue, rule, self.new, second, lowest.input)?;
+                    }
+                }
+            }
+            Pattern::Subquery => {
+                for pick in 0..conjunct_count(expr)? {
+                    self.offer_alone(alloc, queue, rule, pick)?;
+                }
+            }
+            Pattern::SubqueryLine(_) => {
+                for pick in 0..conjunct_count(expr)? {
+                    let class = picked_subquery(expr, pick);
+                    self.offer_pairs(alloc, queue, [rule].as_slice(), pick, class)?;
+                }
+            }
+            Pattern::ClassLine(_) => {
+                for class in classes_named(alloc, expr)? {
+                    self.offer_pairs(alloc, queue, [rule].as_slice(), class, Some(class))?;
+                }
+            }
+            Pattern::One(_) | Pattern::Two(_, _) => {}
+        }
+        Ok(())
+    }
+
+    /// What fits at earlier lines over this one.
+    fn enter_under(self, alloc: Global, queue: &mut Queue) -> Result<(), AllocError> {
+        let expr = self.new.line.expr;
+        let pairs = self.takers.under.of(expr);
+        let others = self.takers.second.of(expr);
+        if pairs.is_empty() && others.is_empty() {
+            return Ok(());
+        }
+        for number in self.lines_over(self.new.line.class)? {
+            if let Some(top) = self.numbered(number) {
+                for rule in pairs {
+                    self.offer_pair(alloc, queue, *rule, 0, top, self.new)?;
+                }
+                for rule in others {
+                    self.enter_second(alloc, queue, *rule, top)?;
+                }
+            }
+        }
+        Ok(())
+    }
+
+    /// The same of a rule of three lines or with a pick.
+    fn enter_second(
+        self,
+        alloc: Global,
+        queue: &mut Queue,
+        rule: RuleName,
+        top: Numbered<'_>,
+    ) -> Result<(), AllocError> {
+        match rule.pattern() {
+            Pattern::Three(_, _, lowest) => {
+                self.offer_triples(alloc, queue, rule, top, self.new, lowest.input)
+            }
+            Pattern::SubqueryLine(_) => {
+                for pick in 0..conjunct_count(top.line.expr)? {
+                    self.offer_pair(alloc, queue, rule, pick, top, self.new)?;
+                }
+                Ok(())
+            }
+            Pattern::ClassLine(_) => {
+                for class in classes_named(alloc, top.line.expr)? {
+                    self.offer_pair(alloc, queue, rule, class, top, self.new)?;
+                }
+                Ok(())
+            }
+            Pattern::One(_) | Pattern::Two(_, _) | Pattern::Subquery => Ok(()),
+        }
+    }
+
+    /// What fits at two earlier lines over this one.
+    fn enter_third(self, alloc: Global, queue: &mut Queue) -> Result<(), AllocError> {
+        let rules = self.takers.third.of(self.new.line.expr);
+        if rules.is_empty() {
+            return Ok(());
+        }
+        for number in self.lines_over(self.new.line.class)? {
+            if let Some(second) = self.numbered(number) {
+                for first in self.lines_over(second.line.class)? {
+                    if let Some(top) = self.numbered(first) {
+                        self.offer_lowest(alloc, queue, rules, top, second)?;
+                    }
+                }
+            }
+        }
+        Ok(())
+    }
+
+    /// This line below two others.
+    fn offer_lowest(
+        self,
+        alloc: Global,
+        queue: &mut Queue,
+        rules: &[RuleName],
+        top: Numbered<'_>,
+        below: Numbered<'_>,
+    ) -> Result<(), AllocError> {
+        let lines = BoundLines::Three(top.number, below.number, self.new.number);
+        let matched = [top.line, below.line, self.new.line];
+        for rule in rules {
+            let binding = Binding {
+                rule: *rule,
+                pick: 0,
+                lines,
+            };
+            self.offer(alloc, queue, binding, matched.as_slice())?;
+        }
+        Ok(())
+    }
+}
+
+/// How many conjuncts a selection has; of what isn't one, none.
+fn conjunct_count(expr: &Expr) -> Result<u32, AllocError> {
+    match expr {
+        Expr::Select(conjuncts, _) => id_of(conjuncts.as_slice().len()),
+        _ => Ok(0),
+    }
+}
+
+/// The classes that the conjuncts of a selection name.
+fn classes_named(alloc: Global, expr: &Expr) -> Result<Vec<ClassId>, AllocError> {
+    match expr {
+        Expr::Select(conjuncts, _) => conjuncts.classes(alloc),
+        _ => Ok(Vec::new(alloc)),
+    }
+}
+
+/// Puts into the queue what fits at a line alone, over earlier lines and itself, and below earlier ones. So each binding is put there once, by the
+/// latest of its lines.
+pub(crate) fn enter(
+    alloc: Global,
+    memo: &Memo<'_>,
+    takers: &Takers,
+    queue: &mut Queue,
+    products: Products,
+    number: LineId,
+) -> Result<(), AllocError> {
+    let Some(line) = memo.log().member(number) else {
+        return Ok(());
+    };
+    let entry = Entry {
+        memo,
+        takers,
+        products,
+        new: Numbered { number, line },
+    };
+    entry.enter_on_top(alloc, queue)?;
+    entry.enter_under(alloc, queue)?;
+    entry.enter_third(alloc, queue)
+}
