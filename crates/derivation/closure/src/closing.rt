@@ -36,13 +36,11 @@ fn has_result(
     requires united { AreUnited log.now.log }
     ensures { IfOk result (λ has. has ≡ lines_.has_result_of log.now.instances log.now.log binding) }
 {
-    match binding.given(alloc, log)? {
-        Some(given) => {
-            let has = is_there(alloc, log, over, &given.shape, given.class)?;
-            Ok(has)
-        }
-        None => Ok(true),
-    }
+    let Some(given) = binding.given(alloc, log)? else {
+        return Ok(true);
+    };
+    let has = is_there(alloc, log, over, &given.shape, given.class)?;
+    Ok(has)
 }
 
 /// The binding, if its result doesn't stand there.

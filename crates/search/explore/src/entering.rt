@@ -1,5 +1,6 @@
 //! The bindings that come with a line: those of this line and of earlier ones.
 
+use crate::news::has_news;
 use crate::promises::{Products, rank_of};
 use crate::queue::Queue;
 use crate::takers::Takers;
@@ -18,13 +19,38 @@ struct Numbered<'m> {
     line: MatchedLine<'m>,
 }
 
+/// Which bindings an earlier pass has tried: those of the lines that there were, where nothing has become known of their classes since.
+#[derive(Clone, Copy)]
+pub(crate) struct Tried {
+    /// So many lines there were.
+    lines: usize,
+    /// What was known when the log had so many lines was known when the pass began.
+    since: usize,
+}
+
+/// What is entered.
+#[derive(Clone, Copy)]
+pub(crate) struct Wishes<'t> {
+    pub takers: &'t Takers,
+    pub products: Products,
+    pub tried: Tried,
+}
+
 /// A line that comes into the queue.
 #[derive(Clone, Copy)]
 struct Entry<'m, 'q> {
     memo: &'m Memo<'q>,
-    takers: &'m Takers,
-    products: Products,
+    wishes: Wishes<'m>,
     new: Numbered<'m>,
+}
+
+impl Tried {
+    pub(crate) const NOTHING: Tried = Tried { lines: 0, since: 0 };
+
+    /// What a pass tries that begins with so many lines and ends with so many.
+    pub(crate) fn between(since: usize, lines: usize) -> Tried {
+        Tried { lines, since }
+    }
 }
 
 impl<'m, 'q> Entry<'m, 'q> {
@@ -50,6 +76,22 @@ impl<'m, 'q> Entry<'m, 'q> {
         Ok(lines)
     }
 
+    /// Whether an earlier pass has tried these lines, of which the new one is the latest, and would find nothing else now. What is known of classes that
+    /// conditions name isn't asked.
+    fn is_tried(self, lines: &[MatchedLine<'_>]) -> bool {
+        let tried = self.wishes.tried;
+        let latest = self.new.number as usize;
+        if latest >= tried.lines {
+            return false;
+        }
+        for line in lines {
+            if has_news(self.memo, *line, latest.max(tried.since)) {
+                return false;
+            }
+        }
+        true
+    }
+
     /// Puts a binding into the queue, if its rule may fit these lines, which are its own.
     fn offer(
         self,
@@ -67,11 +109,14 @@ impl<'m, 'q> Entry<'m, 'q> {
         let Some(top) = lines.first() else {
             return Ok(());
         };
+        if self.is_tried(lines) {
+            return Ok(());
+        }
         if !binding.rule.pattern().fits(alloc, at)? {
             return Ok(());
         }
         let promise = binding.rule.promise(alloc, at)?;
-        if self.products.allow(promise) {
+        if self.wishes.products.allow(promise) {
             let width = classes.columns.columns_of(top.class).len();
             queue.add(binding, rank_of(promise), width)?;
         }
@@ -151,16 +196,16 @@ impl<'m, 'q> Entry<'m, 'q> {
     /// What fits at the line alone, and over others.
     fn enter_on_top(self, alloc: Global, queue: &mut Queue) -> Result<(), AllocError> {
         let expr = self.new.line.expr;
-        for rule in self.takers.alone.of(expr) {
+        for rule in self.wishes.takers.alone.of(expr) {
             self.offer_alone(alloc, queue, *rule, 0)?;
         }
         for input in [Input::First, Input::Second] {
-            let rules = self.takers.over(expr, input);
+            let rules = self.wishes.takers.over(expr, input);
             if !rules.is_empty() {
                 self.offer_pairs(alloc, queue, rules, 0, input.of(expr))?;
             }
         }
-        for rule in self.takers.first.of(expr) {
+        for rule in self.wishes.takers.first.of(expr) {
             self.enter_first(alloc, queue, *rule)?;
         }
         Ok(())
@@ -206,8 +251,8 @@ impl<'m, 'q> Entry<'m, 'q> {
     /// What fits at earlier lines over this one.
     fn enter_under(self, alloc: Global, queue: &mut Queue) -> Result<(), AllocError> {
         let expr = self.new.line.expr;
-        let pairs = self.takers.under.of(expr);
-        let others = self.takers.second.of(expr);
+        let pairs = self.wishes.takers.under.of(expr);
+        let others = self.wishes.takers.second.of(expr);
         if pairs.is_empty() && others.is_empty() {
             return Ok(());
         }
@@ -254,7 +299,7 @@ impl<'m, 'q> Entry<'m, 'q> {
 
     /// What fits at two earlier lines over this one.
     fn enter_third(self, alloc: Global, queue: &mut Queue) -> Result<(), AllocError> {
-        let rules = self.takers.third.of(self.new.line.expr);
+        let rules = self.wishes.takers.third.of(self.new.line.expr);
         if rules.is_empty() {
             return Ok(());
         }
@@ -314,9 +359,8 @@ fn classes_named(alloc: Global, expr: &Expr) -> Result<Vec<ClassId>, AllocError>
 pub(crate) fn enter(
     alloc: Global,
     memo: &Memo<'_>,
-    takers: &Takers,
+    wishes: Wishes<'_>,
     queue: &mut Queue,
-    products: Products,
     number: LineId,
 ) -> Result<(), AllocError> {
     let Some(line) = memo.log().member(number) else {
@@ -324,8 +368,7 @@ pub(crate) fn enter(
     };
     let entry = Entry {
         memo,
-        takers,
-        products,
+        wishes,
         new: Numbered { number, line },
     };
     entry.enter_on_top(alloc, queue)?;

@@ -5,11 +5,12 @@ ghost use Rattle.closure.specs.Closed.{IsClosed};
 ghost use Rattle.closure.specs.Lacking.{IsMissing};
 ghost use Rattle.memo.specs.Growth.{Grows, IsWithin, Extends, FoundsDirectly};
 
-use crate::entering::enter;
-use crate::learning::{add_fact, learn_all};
+use crate::entering::{Tried, Wishes, enter};
+use crate::learning::{Looks, add_fact, learn_all};
 use crate::promises::Products;
 use crate::queue::Queue;
 use crate::takers::Takers;
+use bindings::Binding;
 use closure::{Missing, missing};
 use derivation::Line;
 use memo::Memo;
@@ -26,36 +27,55 @@ const MOST_PASSES: usize = 100;
 fn enter_new(
     alloc: Global,
     memo: &Memo<'_>,
-    takers: &Takers,
+    wishes: Wishes<'_>,
     queue: &mut Queue,
-    products: Products,
     entered: usize,
 ) -> Result<usize, AllocError> {
     let count = memo.log().len();
     for line in entered..count {
-        enter(alloc, memo, takers, queue, products, id_of(line)?)?;
+        enter(alloc, memo, wishes, queue, id_of(line)?)?;
     }
     Ok(count)
 }
 
-/// Goes through all bindings, those of lines that are added meanwhile among them, until the log is full.
-fn pass(alloc: Global, memo: &mut Memo<'_>, products: Products) -> Result<(), AllocError>
+/// Applies the rule of a binding.
+fn apply(alloc: Global, memo: &mut Memo<'_>, binding: Binding) -> Result<(), AllocError>
+    ensures extends { Extends memo.old.limit memo.old.log memo.new.log }
+    ensures direct { OnOk result (FoundsDirectly memo.old.limit memo.old.log memo.new.log) }
+    ensures limit { memo.new.limit ≡ memo.old.limit }
+{
+    let _ = memo.apply(alloc, binding)?;
+    Ok(())
+}
+
+/// Goes through all bindings, those of lines that are added meanwhile among them, until the log is full; without those that an earlier pass has tried.
+fn pass(
+    alloc: Global,
+    memo: &mut Memo<'_>,
+    products: Products,
+    tried: Tried,
+) -> Result<(), AllocError>
     ensures extends { Extends memo.old.limit memo.old.log memo.new.log }
     ensures direct { OnOk result (FoundsDirectly memo.old.limit memo.old.log memo.new.log) }
     ensures limit { memo.new.limit ≡ memo.old.limit }
 {
     let takers = Takers::of_book(alloc)?;
+    let wishes = Wishes {
+        takers: &takers,
+        products,
+        tried,
+    };
     let mut queue = Queue::new(alloc);
     let mut entered = 0;
     for _ in 0..MOST_BINDINGS {
-        entered = enter_new(alloc, memo, &takers, &mut queue, products, entered)?;
+        entered = enter_new(alloc, memo, wishes, &mut queue, entered)?;
         if memo.is_full() {
             break;
         }
         let Some(binding) = queue.next() else {
             break;
         };
-        let _ = memo.apply(alloc, binding)?;
+        apply(alloc, memo, binding)?;
     }
     Ok(())
 }
@@ -68,40 +88,50 @@ pub fn apply_all(alloc: Global, memo: &mut Memo<'_>, products: Products) -> Resu
     ensures limit { memo.new.limit ≡ memo.old.limit }
     ensures direct { OnOk result (FoundsDirectly memo.old.limit memo.old.log memo.new.log) }
 {
+    let mut tried = Tried::NOTHING;
     for _ in 0..MOST_PASSES {
         let before = memo.log().len();
-        pass(alloc, memo, products)?;
+        pass(alloc, memo, products, tried)?;
         if memo.log().len() == before {
             break;
         }
+        tried = Tried::between(before, memo.log().len());
     }
     Ok(())
 }
 
-/// The same with products, and then what facts lines give. Whether some were learned.
-fn apply_then_learn(alloc: Global, memo: &mut Memo<'_>) -> Result<bool, AllocError>
+/// One such pass with products, and then what facts lines give.
+fn pass_and_learn(
+    alloc: Global,
+    memo: &mut Memo<'_>,
+    tried: Tried,
+    looks: &mut Looks,
+) -> Result<(), AllocError>
     ensures extends { Extends memo.old.limit memo.old.log memo.new.log }
     ensures direct { OnOk result (FoundsDirectly memo.old.limit memo.old.log memo.new.log) }
     ensures limit { memo.new.limit ≡ memo.old.limit }
 {
-    apply_all(alloc, memo, Products::Made)?;
-    let before = memo.log().len();
-    learn_all(alloc, memo)?;
-    Ok(before < memo.log().len())
+    pass(alloc, memo, Products::Made, tried)?;
+    learn_all(alloc, memo, looks)?;
+    Ok(())
 }
 
-/// Adds what each rule gives at each binding, then what facts lines give, and so on with what rules give by these, until the log is full or nothing is learned.
-/// Nothing is said of what it leaves out.
+/// Adds what each rule gives at each binding, then what facts lines give, and so on with what rules give by these, until the log is full or nothing is
+/// added. Nothing is said of what it leaves out.
 pub fn apply_and_learn(alloc: Global, memo: &mut Memo<'_>) -> Result<(), AllocError>
     ensures extends { Extends memo.old.limit memo.old.log memo.new.log }
     ensures direct { OnOk result (FoundsDirectly memo.old.limit memo.old.log memo.new.log) }
     ensures limit { memo.new.limit ≡ memo.old.limit }
 {
+    let mut looks = Looks::none(alloc);
+    let mut tried = Tried::NOTHING;
     for _ in 0..MOST_PASSES {
-        let has_learned = apply_then_learn(alloc, memo)?;
-        if !has_learned {
+        let before = memo.log().len();
+        pass_and_learn(alloc, memo, tried, &mut looks)?;
+        if memo.log().len() == before {
             break;
         }
+        tried = Tried::between(before, memo.log().len());
     }
     Ok(())
 }

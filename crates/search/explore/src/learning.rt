@@ -6,6 +6,7 @@ ghost use Rattle.derivation.specs.Replay.{stands};
 ghost use Rattle.closure.specs.Lacking.{LacksGiven};
 ghost use Rattle.memo.specs.Growth.{Extends, FoundsDirectly};
 
+use crate::news::has_news;
 use algebra::{ClassId, LineId};
 use closure::lacking_fact;
 use derivation::Line;
@@ -19,6 +20,38 @@ const MOST_FACTS: usize = 1_000;
 
 /// A log is gone through so often at most.
 const MOST_PASSES: usize = 100;
+
+/// How many lines the log had behind the last look at each of its first lines.
+#[derive(Drop)]
+pub(crate) struct Looks {
+    at: Vec<usize>,
+}
+
+impl Looks {
+    pub(crate) fn none(alloc: Global) -> Looks {
+        Looks {
+            at: Vec::new(alloc),
+        }
+    }
+
+    /// Whether a line may give something that it didn't give then.
+    fn is_due(&self, memo: &Memo<'_>, line: LineId) -> bool {
+        match (self.at.get(line as usize), memo.log().member(line)) {
+            (Some(at), Some(member)) => has_news(memo, member, *at),
+            (None, Some(_)) => true,
+            (_, None) => false,
+        }
+    }
+
+    /// Notes that the line was looked at. Of the lines that weren't it is the first.
+    fn note(&mut self, line: LineId, lines: usize) -> Result<(), AllocError> {
+        match self.at.get_mut(line as usize) {
+            Some(at) => *at = lines,
+            None => self.at.push(lines)?,
+        }
+        Ok(())
+    }
+}
 
 /// Adds that a fact holds of a class by a line of it, if there is room.
 fn learn(
@@ -58,29 +91,50 @@ fn learn_of(alloc: Global, memo: &mut Memo<'_>, line: LineId) -> Result<(), Allo
     Ok(())
 }
 
+/// The same, unless nothing has become known of what the line names since the last look at it.
+fn look_at(
+    alloc: Global,
+    memo: &mut Memo<'_>,
+    looks: &mut Looks,
+    line: LineId,
+) -> Result<(), AllocError>
+    ensures extends { Extends memo.old.limit memo.old.log memo.new.log }
+    ensures direct { OnOk result (FoundsDirectly memo.old.limit memo.old.log memo.new.log) }
+    ensures limit { memo.new.limit ≡ memo.old.limit }
+{
+    if looks.is_due(memo, line) {
+        learn_of(alloc, memo, line)?;
+    }
+    looks.note(line, memo.log().len())
+}
+
 /// Learns what each line gives, from the first to the last. So what a line takes is known before what it gives, where it takes classes that were founded
 /// earlier.
-fn pass(alloc: Global, memo: &mut Memo<'_>) -> Result<(), AllocError>
+fn pass(alloc: Global, memo: &mut Memo<'_>, looks: &mut Looks) -> Result<(), AllocError>
     ensures extends { Extends memo.old.limit memo.old.log memo.new.log }
     ensures direct { OnOk result (FoundsDirectly memo.old.limit memo.old.log memo.new.log) }
     ensures limit { memo.new.limit ≡ memo.old.limit }
 {
     for line in 0..memo.log().len() {
-        learn_of(alloc, memo, id_of(line)?)?;
+        look_at(alloc, memo, looks, id_of(line)?)?;
     }
     Ok(())
 }
 
 /// Learns what lines give by the facts that are known, those that come meanwhile among them, until a pass adds nothing or the log is full. Nothing is said of
 /// what it leaves out.
-pub(crate) fn learn_all(alloc: Global, memo: &mut Memo<'_>) -> Result<(), AllocError>
+pub(crate) fn learn_all(
+    alloc: Global,
+    memo: &mut Memo<'_>,
+    looks: &mut Looks,
+) -> Result<(), AllocError>
     ensures extends { Extends memo.old.limit memo.old.log memo.new.log }
     ensures direct { OnOk result (FoundsDirectly memo.old.limit memo.old.log memo.new.log) }
     ensures limit { memo.new.limit ≡ memo.old.limit }
 {
     for _ in 0..MOST_PASSES {
         let before = memo.log().len();
-        pass(alloc, memo)?;
+        pass(alloc, memo, looks)?;
         if memo.log().len() == before {
             break;
         }
@@ -106,6 +160,6 @@ pub(crate) fn add_fact(
 {
     let _replays = memo.log().lines();
     learn(alloc, memo, class, line, fact)?;
-    learn_all(alloc, memo)?;
+    learn_all(alloc, memo, &mut Looks::none(alloc))?;
     Ok(())
 }

@@ -8,6 +8,7 @@ mod entering;
 mod exploring;
 mod keys;
 mod learning;
+mod news;
 mod promises;
 mod queue;
 mod simplifying;

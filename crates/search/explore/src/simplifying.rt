@@ -46,22 +46,36 @@ fn makes_simpler(
     })
 }
 
-/// Applies the rules of one line that make the line simpler.
+/// The same of the line of a number, over another one if there is one.
+fn makes_simpler_at(
+    alloc: Global,
+    memo: &Memo<'_>,
+    rule: RuleName,
+    top: LineId,
+    below: Option<LineId>,
+) -> Result<bool, AllocError> {
+    let Some(upper) = memo.log().member(top) else {
+        return Ok(false);
+    };
+    let Some(below) = below else {
+        return makes_simpler(alloc, memo, rule, [upper].as_slice());
+    };
+    match memo.log().member(below) {
+        Some(lower) => makes_simpler(alloc, memo, rule, [upper, lower].as_slice()),
+        None => Ok(false),
+    }
+}
+
+/// Applies those of the rules to the line that make it simpler.
 fn simplify_alone(
     alloc: Global,
     memo: &mut Memo<'_>,
-    takers: &Takers,
+    rules: &[RuleName],
     line: LineId,
 ) -> Result<(), AllocError> {
-    let Some(rules) = memo.log().member(line).map(|top| takers.alone.of(top.expr)) else {
-        return Ok(());
-    };
     for rule in rules {
-        if let Some(top) = memo.log().member(line) {
-            if makes_simpler(alloc, memo, *rule, [top].as_slice())? {
-                let lines = BoundLines::One(line);
-                let _ = memo.apply(alloc, unpicked(*rule, lines))?;
-            }
+        if makes_simpler_at(alloc, memo, *rule, line, None)? {
+            let _ = memo.apply(alloc, unpicked(*rule, BoundLines::One(line)))?;
         }
     }
     Ok(())
@@ -77,15 +91,36 @@ fn simplify_over(
 ) -> Result<(), AllocError> {
     for below in memo.log().members(alloc, class)? {
         for rule in rules {
-            if let (Some(top), Some(lower)) = (memo.log().member(line), memo.log().member(below)) {
-                if makes_simpler(alloc, memo, *rule, [top, lower].as_slice())? {
-                    let lines = BoundLines::Two(line, below);
-                    let _ = memo.apply(alloc, unpicked(*rule, lines))?;
-                }
+            if makes_simpler_at(alloc, memo, *rule, line, Some(below))? {
+                let _ = memo.apply(alloc, unpicked(*rule, BoundLines::Two(line, below)))?;
             }
         }
     }
     Ok(())
+}
+
+/// The rules of one line that take a line.
+fn rules_alone<'t>(memo: &Memo<'_>, takers: &'t Takers, line: LineId) -> &'t [RuleName] {
+    match memo.log().member(line) {
+        Some(top) => takers.alone.of(top.expr),
+        None => &[],
+    }
+}
+
+/// The rules that take a line over one of the class that it takes there, and that class; no rules where there is no such class.
+fn rules_over<'t>(
+    memo: &Memo<'_>,
+    takers: &'t Takers,
+    line: LineId,
+    input: Input,
+) -> (&'t [RuleName], ClassId) {
+    let Some(top) = memo.log().member(line) else {
+        return (&[], 0);
+    };
+    match input.of(top.expr) {
+        Some(class) => (takers.over(top.expr, input), class),
+        None => (&[], 0),
+    }
 }
 
 /// The class of which keys are asked: that of which a line has the distinct rows.
@@ -105,13 +140,11 @@ fn simplify_line(
     if let Some(class) = keyed(memo, line) {
         learn_keys(alloc, memo, class)?;
     }
-    simplify_alone(alloc, memo, takers, line)?;
+    let rules = rules_alone(memo, takers, line);
+    simplify_alone(alloc, memo, rules, line)?;
     for input in [Input::First, Input::Second] {
-        let Some(top) = memo.log().member(line) else {
-            return Ok(());
-        };
-        let rules = takers.over(top.expr, input);
-        if let (false, Some(class)) = (rules.is_empty(), input.of(top.expr)) {
+        let (rules, class) = rules_over(memo, takers, line, input);
+        if !rules.is_empty() {
             simplify_over(alloc, memo, rules, line, class)?;
         }
     }

@@ -10,6 +10,8 @@ use std::mem;
 struct Group {
     classes: Vec<ClassId>,
     parents: Vec<LineId>,
+    /// How many lines there were when something of it became known last: a class more, or a fact.
+    changed_at: usize,
 }
 
 /// Groups by their numbers, each of which is that of a class. A line that founds no class has a group of its own too, so that the lists are as
@@ -38,6 +40,7 @@ impl Group {
         Group {
             classes: Vec::new(alloc),
             parents: Vec::new(alloc),
+            changed_at: 0,
         }
     }
 
@@ -96,6 +99,23 @@ impl Groups {
         Ok(parents)
     }
 
+    /// How many lines there were when something became known last of the class, or of one that is the same: that another is the same, or a fact.
+    pub(crate) fn changed_at(&self, class: ClassId) -> usize {
+        match self.groups.get(self.of(class) as usize) {
+            Some(group) => group.changed_at,
+            None => 0,
+        }
+    }
+
+    /// Notes that something became known of a class by the last line.
+    pub(crate) fn note_change(&mut self, class: ClassId) {
+        let count = self.groups.len();
+        let group = self.of(class);
+        if let Some(group) = self.groups.get_mut(group as usize) {
+            group.changed_at = count;
+        }
+    }
+
     /// How much there is to move of a group.
     fn size(&self, group: u32) -> usize {
         match self.groups.get(group as usize) {
@@ -134,7 +154,12 @@ impl Groups {
         } else {
             (one, other)
         };
-        let Group { classes, parents } = self.moved(into, from)?;
+        let Group {
+            classes,
+            parents,
+            changed_at: _,
+        } = self.moved(into, from)?;
+        self.note_change(into);
         for class in &classes {
             if let Some(group) = self.group_of.get_mut(*class as usize) {
                 *group = into;

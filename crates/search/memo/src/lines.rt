@@ -92,6 +92,8 @@ enum Said {
     Member,
     /// These two are the same.
     Same(ClassId, ClassId),
+    /// Something of a class.
+    Fact(ClassId),
     Nothing,
 }
 
@@ -172,7 +174,8 @@ impl<'q> Memo<'q> {
                 self.class_at(*first),
                 self.class_at(*second),
             ),
-            Some(Line::Gives(_, _, _)) | None => Said::Nothing,
+            Some(Line::Gives(class, _, _)) => Said::Fact(*class),
+            None => Said::Nothing,
         }
     }
 
@@ -185,6 +188,10 @@ impl<'q> Memo<'q> {
         match self.said(line) {
             Said::Member => self.note_member(alloc, line),
             Said::Same(first, second) => self.unite(alloc, first, second),
+            Said::Fact(class) => {
+                self.groups.note_change(class);
+                Ok(())
+            }
             Said::Nothing => Ok(()),
         }
     }
@@ -436,6 +443,12 @@ impl<'q> Memo<'q> {
     /// The lines whose expressions have the class, or one that is the same, as an input or in a condition: each once, rising.
     pub fn parents(&self, class: ClassId) -> Result<Vec<LineId>, AllocError> {
         self.groups.parents(class)
+    }
+
+    /// How many lines there were when something became known last of the class, or of one that is the same: that another is the same, or a fact. 0 where
+    /// nothing did.
+    pub fn changed_at(&self, class: ClassId) -> usize {
+        self.groups.changed_at(class)
     }
 
     /// Adds that the fact holds of a class by the line that founds it, unless it is known. Whether it is known now.

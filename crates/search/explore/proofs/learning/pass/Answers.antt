@@ -8,7 +8,7 @@ pub loop-line-init : goal.loop-line-init
 loop-line-init c = (grown_at_first _ _, refl)
 
 pub loop-line-preserved : goal.loop-line-preserved
-loop-line-preserved c = (grown_along _ _ _ _ _ c.loop-line.invariant.0 c.loop-line.invariant.1 c.learn_of.ensures.extends c.in_ok-learn_of.ensures.direct, c.learn_of.ensures.limit ∙ c.loop-line.invariant.1)
+loop-line-preserved c = (grown_along _ _ _ _ _ c.loop-line.invariant.0 c.loop-line.invariant.1 c.look_at.ensures.extends c.in_ok-look_at.ensures.direct, c.look_at.ensures.limit ∙ c.loop-line.invariant.1)
 
-pub returns-in_err-learn_of-clause-extends : goal.returns-in_err-learn_of-clause-extends
-returns-in_err-learn_of-clause-extends c = extended_along _ _ _ _ c.loop-line.invariant.0.extends (subst (λ n. Extends n c.loop-line.memo.log c.learn_of.new.memo.log) c.loop-line.invariant.1 c.learn_of.ensures.extends)
+pub returns-in_err-look_at-clause-extends : goal.returns-in_err-look_at-clause-extends
+returns-in_err-look_at-clause-extends c = extended_along _ _ _ _ c.loop-line.invariant.0.extends (subst (λ n. Extends n c.loop-line.memo.log c.look_at.new.memo.log) c.loop-line.invariant.1 c.look_at.ensures.extends)

@@ -1,4 +1,6 @@
-use Rattle.std.proofs.Common.{}
+use Rattle.std.proofs.Common.{◌≡◌, sym, ◌∙◌, subst}
+use Rattle.bindings.specs.Bindings.{GivesBinding}
+use Rattle.logs.specs.Logged.{Logged}
 use Rattle.memo.proofs.Founding.{nothing_at_first, same_extends, same_nothing, nothing_directly, where_ok}
 use Rattle.memo.proofs.lines.Memo.apply.Goals as goal
 
@@ -15,3 +17,8 @@ returns-then-are_same c = record {
   limit = c.line_there.ensures.limit;
   direct = nothing_directly _ _ _ (same_nothing _ _ _ c.line_there.ensures.log);
 }
+
+pub with_result-requires : goal.with_result-requires
+with_result-requires c =
+    let Gives = λ (l : Logged). GivesBinding l.instances l.log c.args.binding in
+    subst Gives (sym c.line_there.ensures.log) (subst Gives c.log.ensures (record { given = c.in-Some.field-0; is = sym c.in_ok-class.ensures ∙ c.in-Some.is }))
