@@ -1,9 +1,13 @@
+pub mod BoundForms
+pub mod BoundLines
 pub mod Conditions
+pub mod FormedBindings
 pub mod FormedLines
 pub mod FormedShapes
 pub mod MatchedLines
 pub mod PatternedLines
 pub mod Sets
 pub mod ShapeMeanings
+pub mod SoundBindings
 pub mod StableLines
 pub mod Subqueries

@@ -1,0 +1,111 @@
+-- What a rule gives is well formed if what it makes of what it binds is.
+use Rattle.std.proofs.Common.{◌≡◌, refl, ap, sym, ◌∙◌, subst, ℕ, Bool, true, List, [], ◌∷◌, Result, Ok, Option, Some, None}
+use Rattle.std.specs.List.{AllByRecursion}
+use Rattle.values.specs.Faults.{◌>>=◌, wanted}
+use Rattle.query.specs.declared.query.TableInstance.{TableInstance}
+use Rattle.algebra.specs.declared.expr.Aggregation.{Aggregation}
+use Rattle.algebra.specs.declared.expr.Expr.{Expr}
+use Rattle.props.specs.Knowledge.{Knowledge, are_same}
+use Rattle.rules.specs.declared.pattern.Input.{Input}
+use Rattle.rules.specs.declared.shape.Shape.{Shape}
+use Rattle.rules.specs.declared.unfit.Unfit.{Unfit}
+use Rattle.rules.specs.declared.unfit.Unfit.TheVariants.{Pattern}
+use Rattle.rules.specs.Bindings.{is_same_as, two_lines_over, three_lines_over, SubqueryPick, ClassPick, subquery, subquery_line, class_line}
+use Rattle.rules.specs.Formed.{IsFormed, IsFormedLine, formed}
+use Rattle.rules.specs.Matches.{Line, Matched}
+use Rattle.rules.specs.Patterns.{input_of}
+use Rattle.rules.proofs.BoundLines.{Placed, IsPlaced, Binding, IsBound, Binds, all-placed}
+use Rattle.rules.proofs.BoundForms.{two, two-binds, three, three-binds, IsPicked, IsNamed, selection, class_selection, subquery_alone, subquery-binds, with_subquery_line, subquery_line-binds, with_class_line, class_line-binds}
+use Rattle.rules.proofs.FormedLines.{Site, MayStand, Rising, Is, cols}
+
+-- an expression of a class that may stand: it has its columns
+pub record StandsFor (S : Site) (g : ℕ) (y : Expr) : Type 0 where
+  pub stands : MayStand S y
+  pub columns : S.classes.columns g ≡ cols S y
+
+-- of the class, if there is one
+abbrev pub StandsForSome : Site → Placed → Type 0
+StandsForSome S b = (g : ℕ) → b.0 ≡ Some g → StandsFor S g b.1
+
+abbrev pub BoundIsFormed : {X : Type 0} → Binding X → (Knowledge → X → Result Shape Unfit) → Type 0
+BoundIsFormed {X} B rewrite = (S : Site) (x : X) (s : Shape) → MayStand S (B.top x) → Rising S (B.top x) → B.IsSo x → AllByRecursion (StandsForSome S) (B.below x) → rewrite S.classes x ≡ Ok s
+    → Is S s (cols S (B.top x))
+
+pub bound-formed : {X : Type 0} (B : Binding X) → Binds B → (rewrite : Knowledge → X → Result Shape Unfit) → BoundIsFormed B rewrite → IsFormed (λ m. wanted Pattern (B.bound m) >>= rewrite m.classes)
+bound-formed {X} B binds rewrite made instances own classes founds agree pick top others s is all rise = by (B.bound m) refl is
+  where
+    S : Site
+    S = record { instances = instances; own = own; classes = classes; founds = founds }
+
+    m : Matched
+    m = record { lines = top ∷ others; pick = pick; classes = classes }
+
+    Stands : Line → Type 0
+    Stands = IsFormedLine instances own classes founds
+
+    stands-for : (b : Placed) (l : Line) → IsPlaced classes b l → Stands l → StandsForSome S b
+    stands-for b l placed line g at = subst (StandsFor S g) placed.expr (record {
+      stands = record { known = line.known; formed = line.formed };
+      columns = agree g l.class (sym (ap (λ o. is_same_as classes o l.class) at) ∙ placed.class) ∙ sym line.columns;
+    })
+
+    Given : Type 0
+    Given = ((formed instances own classes.columns founds s).is_formed ≡ true) × ((formed instances own classes.columns founds s).columns ≡ classes.columns top.class)
+
+    at : (x : X) → IsBound B m x → rewrite classes x ≡ Ok s → Given
+    at x i is =
+        let first : top ≡ i.first = let e : m.lines ≡ i.first ∷ i.others = i.lines in cc in
+        let rest : others ≡ i.others = let e : m.lines ≡ i.first ∷ i.others = i.lines in cc in
+        let same : top.expr ≡ B.top x = ap (λ (l : Line). l.expr) first ∙ i.top in
+        let below = all-placed classes Stands (StandsForSome S) stands-for (B.below x) i.others i.below (subst (AllByRecursion Stands) rest all.1) in
+        let made_ = made S x s (subst (MayStand S) same (record { known = all.0.known; formed = all.0.formed })) (subst (Rising S) same rise) i.so below is in
+        (made_.formed_, made_.columns_ ∙ ap (cols S) (sym same) ∙ all.0.columns)
+
+    by : (o : Option X) → B.bound m ≡ o → (wanted Pattern o >>= rewrite classes) ≡ Ok s → Given
+    by None bound is = cc
+    by (Some x) bound is = at x (binds m x bound) is
+
+-- ---- each form
+
+-- an expression of the class that another one takes there
+abbrev pub IsInput : Site → Input → Expr → Expr → Type 0
+IsInput S i x y = StandsForSome S (input_of x i, y)
+
+abbrev pub TwoOverAreFormed : Input → (Knowledge → Expr → Expr → Result Shape Unfit) → Type 0
+TwoOverAreFormed i rewrite = (S : Site) (x y : Expr) (s : Shape) → MayStand S x → IsInput S i x y → rewrite S.classes x y ≡ Ok s → Is S s (cols S x)
+
+pub two_over-formed : (i : Input) (rewrite : Knowledge → Expr → Expr → Result Shape Unfit) → TwoOverAreFormed i rewrite
+    → IsFormed (λ m. wanted Pattern (two_lines_over i m) >>= λ l. rewrite m.classes l.0 l.1)
+two_over-formed i rewrite made = bound-formed (two i) (two-binds i) (λ K l. rewrite K l.0 l.1) (λ S l s stands rise so below. made S l.0 l.1 s stands below.0)
+
+abbrev pub ThreeOverAreFormed : Input → Input → (Knowledge → Expr → Expr → Expr → Result Shape Unfit) → Type 0
+ThreeOverAreFormed i n rewrite = (S : Site) (x y z : Expr) (s : Shape) → MayStand S x → IsInput S i x y → IsInput S n y z → rewrite S.classes x y z ≡ Ok s → Is S s (cols S x)
+
+pub three_over-formed : (i n : Input) (rewrite : Knowledge → Expr → Expr → Expr → Result Shape Unfit) → ThreeOverAreFormed i n rewrite
+    → IsFormed (λ m. wanted Pattern (three_lines_over i n m) >>= λ l. rewrite m.classes l.0 l.1 l.2)
+three_over-formed i n rewrite made =
+    bound-formed (three i n) (three-binds i n) (λ K l. rewrite K l.0 l.1 l.2) (λ S l s stands rise so below. made S l.0 l.1 l.2 s stands below.0 below.1.0)
+
+abbrev pub SubqueryIsFormed : (Knowledge → SubqueryPick → Result Shape Unfit) → Type 0
+SubqueryIsFormed rewrite = (S : Site) (p : SubqueryPick) (s : Shape) → MayStand S (selection p) → IsPicked p → rewrite S.classes p ≡ Ok s → Is S s (S.classes.columns p.input)
+
+pub subquery-formed : (rewrite : Knowledge → SubqueryPick → Result Shape Unfit) → SubqueryIsFormed rewrite → IsFormed (λ m. wanted Pattern (subquery m) >>= rewrite m.classes)
+subquery-formed rewrite made = bound-formed subquery_alone subquery-binds rewrite (λ S p s stands rise so below. made S p s stands so)
+
+abbrev pub SubqueryLineIsFormed : (Knowledge → SubqueryPick → Expr → Result Shape Unfit) → Type 0
+SubqueryLineIsFormed rewrite = (S : Site) (p : SubqueryPick) (y : Expr) (s : Shape) → MayStand S (selection p) → IsPicked p → StandsFor S p.class y → rewrite S.classes p y ≡ Ok s
+    → Is S s (S.classes.columns p.input)
+
+pub subquery_line-formed : (rewrite : Knowledge → SubqueryPick → Expr → Result Shape Unfit) → SubqueryLineIsFormed rewrite
+    → IsFormed (λ m. wanted Pattern (subquery_line m) >>= λ p. rewrite m.classes p.0 p.1)
+subquery_line-formed rewrite made =
+    bound-formed with_subquery_line subquery_line-binds (λ K p. rewrite K p.0 p.1) (λ S p s stands rise so below. made S p.0 p.1 s stands so (below.0 p.0.class refl))
+
+abbrev pub ClassLineIsFormed : (Knowledge → ClassPick → Expr → Result Shape Unfit) → Type 0
+ClassLineIsFormed rewrite = (S : Site) (p : ClassPick) (y : Expr) (s : Shape) → MayStand S (class_selection p) → IsNamed p → StandsFor S p.class y → rewrite S.classes p y ≡ Ok s
+    → Is S s (S.classes.columns p.input)
+
+pub class_line-formed : (rewrite : Knowledge → ClassPick → Expr → Result Shape Unfit) → ClassLineIsFormed rewrite
+    → IsFormed (λ m. wanted Pattern (class_line m) >>= λ p. rewrite m.classes p.0 p.1)
+class_line-formed rewrite made =
+    bound-formed with_class_line class_line-binds (λ K p. rewrite K p.0 p.1) (λ S p s stands rise so below. made S p.0 p.1 s stands so (below.0 p.0.class refl))
