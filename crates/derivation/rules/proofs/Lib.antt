@@ -5,9 +5,12 @@ pub mod FormedBindings
 pub mod FormedLines
 pub mod FormedShapes
 pub mod MatchedLines
+pub mod PatternedBindings
 pub mod PatternedLines
+pub mod Picks
 pub mod Sets
 pub mod ShapeMeanings
 pub mod SoundBindings
+pub mod StableBindings
 pub mod StableLines
 pub mod Subqueries
