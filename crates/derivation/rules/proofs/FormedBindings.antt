@@ -18,14 +18,10 @@ use Rattle.rules.proofs.BoundLines.{Placed, IsPlaced, Binding, IsBound, Binds, a
 use Rattle.rules.proofs.BoundForms.{two, two-binds, three, three-binds, IsPicked, IsNamed, selection, class_selection, subquery_alone, subquery-binds, with_subquery_line, subquery_line-binds, with_class_line, class_line-binds}
 use Rattle.rules.proofs.FormedLines.{Site, MayStand, Rising, Is, cols}
 
--- an expression of a class that may stand: it has its columns
-pub record StandsFor (S : Site) (g : ℕ) (y : Expr) : Type 0 where
-  pub stands : MayStand S y
-  pub columns : S.classes.columns g ≡ cols S y
-
--- of the class, if there is one
-abbrev pub StandsForSome : Site → Placed → Type 0
-StandsForSome S b = (g : ℕ) → b.0 ≡ Some g → StandsFor S g b.1
+-- an expression that may stand, of a class, if there is one: it has its columns
+pub record StandsForSome (S : Site) (b : Placed) : Type 0 where
+  pub stands : MayStand S b.1
+  pub columns : (g : ℕ) → b.0 ≡ Some g → S.classes.columns g ≡ cols S b.1
 
 abbrev pub BoundIsFormed : {X : Type 0} → Binding X → (Knowledge → X → Result Shape Unfit) → Type 0
 BoundIsFormed {X} B rewrite = (S : Site) (x : X) (s : Shape) → MayStand S (B.top x) → Rising S (B.top x) → B.IsSo x → AllByRecursion (StandsForSome S) (B.below x) → rewrite S.classes x ≡ Ok s
@@ -44,9 +40,9 @@ bound-formed {X} B binds rewrite made instances own classes founds agree pick to
     Stands = IsFormedLine instances own classes founds
 
     stands-for : (b : Placed) (l : Line) → IsPlaced classes b l → Stands l → StandsForSome S b
-    stands-for b l placed line g at = subst (StandsFor S g) placed.expr (record {
+    stands-for b l placed line = subst (λ y. StandsForSome S (b.0, y)) placed.expr (record {
       stands = record { known = line.known; formed = line.formed };
-      columns = agree g l.class (sym (ap (λ o. is_same_as classes o l.class) at) ∙ placed.class) ∙ sym line.columns;
+      columns = λ g at. agree g l.class (sym (ap (λ o. is_same_as classes o l.class) at) ∙ placed.class) ∙ sym line.columns;
     })
 
     Given : Type 0
@@ -86,6 +82,14 @@ pub three_over-formed : (i n : Input) (rewrite : Knowledge → Expr → Expr →
 three_over-formed i n rewrite made =
     bound-formed (three i n) (three-binds i n) (λ K l. rewrite K l.0 l.1 l.2) (λ S l s stands rise so below. made S l.0 l.1 l.2 s stands below.0 below.1.0)
 
+-- an expression of a class that may stand
+pub record StandsFor (S : Site) (g : ℕ) (y : Expr) : Type 0 where
+  pub stands : MayStand S y
+  pub columns : S.classes.columns g ≡ cols S y
+
+for-the : (S : Site) (g : ℕ) (y : Expr) → StandsForSome S (Some g, y) → StandsFor S g y
+for-the S g y of = record { stands = of.stands; columns = of.columns g refl }
+
 abbrev pub SubqueryIsFormed : (Knowledge → SubqueryPick → Result Shape Unfit) → Type 0
 SubqueryIsFormed rewrite = (S : Site) (p : SubqueryPick) (s : Shape) → MayStand S (selection p) → IsPicked p → rewrite S.classes p ≡ Ok s → Is S s (S.classes.columns p.input)
 
@@ -99,7 +103,7 @@ SubqueryLineIsFormed rewrite = (S : Site) (p : SubqueryPick) (y : Expr) (s : Sha
 pub subquery_line-formed : (rewrite : Knowledge → SubqueryPick → Expr → Result Shape Unfit) → SubqueryLineIsFormed rewrite
     → IsFormed (λ m. wanted Pattern (subquery_line m) >>= λ p. rewrite m.classes p.0 p.1)
 subquery_line-formed rewrite made =
-    bound-formed with_subquery_line subquery_line-binds (λ K p. rewrite K p.0 p.1) (λ S p s stands rise so below. made S p.0 p.1 s stands so (below.0 p.0.class refl))
+    bound-formed with_subquery_line subquery_line-binds (λ K p. rewrite K p.0 p.1) (λ S p s stands rise so below. made S p.0 p.1 s stands so (for-the S p.0.class p.1 below.0))
 
 abbrev pub ClassLineIsFormed : (Knowledge → ClassPick → Expr → Result Shape Unfit) → Type 0
 ClassLineIsFormed rewrite = (S : Site) (p : ClassPick) (y : Expr) (s : Shape) → MayStand S (class_selection p) → IsNamed p → StandsFor S p.class y → rewrite S.classes p y ≡ Ok s
@@ -108,4 +112,4 @@ ClassLineIsFormed rewrite = (S : Site) (p : ClassPick) (y : Expr) (s : Shape) �
 pub class_line-formed : (rewrite : Knowledge → ClassPick → Expr → Result Shape Unfit) → ClassLineIsFormed rewrite
     → IsFormed (λ m. wanted Pattern (class_line m) >>= λ p. rewrite m.classes p.0 p.1)
 class_line-formed rewrite made =
-    bound-formed with_class_line class_line-binds (λ K p. rewrite K p.0 p.1) (λ S p s stands rise so below. made S p.0 p.1 s stands so (below.0 p.0.class refl))
+    bound-formed with_class_line class_line-binds (λ K p. rewrite K p.0 p.1) (λ S p s stands rise so below. made S p.0 p.1 s stands so (for-the S p.0.class p.1 below.0))

@@ -19,25 +19,21 @@ use Rattle.rules.proofs.BoundLines.{Placed, IsPlaced, Binding, IsBound, Binds, a
 use Rattle.rules.proofs.BoundForms.{two, two-binds, three, three-binds, IsPicked, IsNamed, selection, class_selection, subquery_alone, subquery-binds, with_subquery_line, subquery_line-binds, with_class_line, class_line-binds}
 use Rattle.rules.proofs.MatchedLines.{Stands, rows_of, shape_rows}
 
--- an expression of a class: it has its columns and its rows
-pub record IsOf (K : Knowledge) (W : World) (g : ℕ) (y : Expr) : Type 0 where
-  pub formed : is_formed W.instances W.own K.columns y ≡ true
-  pub columns : K.columns g ≡ columns_of W.instances K.columns y
-  pub rows : SameBag (W.rows g) (rows_of K W y)
-
--- of the class, if there is one
-abbrev pub IsOfSome : Knowledge → World → Placed → Type 0
-IsOfSome K W b = (g : ℕ) → b.0 ≡ Some g → IsOf K W g b.1
+-- an expression of a class, if there is one: it has its columns and its rows
+pub record IsOfSome (K : Knowledge) (W : World) (b : Placed) : Type 0 where
+  pub formed : is_formed W.instances W.own K.columns b.1 ≡ true
+  pub columns : (g : ℕ) → b.0 ≡ Some g → K.columns g ≡ columns_of W.instances K.columns b.1
+  pub rows : (g : ℕ) → b.0 ≡ Some g → SameBag (W.rows g) (rows_of K W b.1)
 
 is-of : (K : Knowledge) (W : World) → IsTrueOf K W.rows → (b : Placed) (l : Line) → IsPlaced K b l → IsLine K W l → IsOfSome K W b
-is-of K W classes b l placed line g at = subst (IsOf K W g) placed.expr (record {
+is-of K W classes b l placed line = subst (λ y. IsOfSome K W (b.0, y)) placed.expr (record {
   formed = line.formed;
-  columns = same.0 ∙ sym line.columns;
-  rows = same_bag-trans _ _ _ same.1 line.rows;
+  columns = λ g at. (same g at).0 ∙ sym line.columns;
+  rows = λ g at. same_bag-trans _ _ _ (same g at).1 line.rows;
 })
   where
-    same : (K.columns g ≡ K.columns l.class) × SameBag (W.rows g) (W.rows l.class)
-    same = classes.same g l.class (sym (ap (λ o. is_same_as K o l.class) at) ∙ placed.class)
+    same : (g : ℕ) → b.0 ≡ Some g → (K.columns g ≡ K.columns l.class) × SameBag (W.rows g) (W.rows l.class)
+    same g at = classes.same g l.class (sym (ap (λ o. is_same_as K o l.class) at) ∙ placed.class)
 
 abbrev pub BoundIsSound : {X : Type 0} → Binding X → (Knowledge → X → Result Shape Unfit) → Type 0
 BoundIsSound {X} B rewrite = (K : Knowledge) (W : World) (x : X) (s : Shape) → Stands K W (B.top x) → B.IsSo x → AllByRecursion (IsOfSome K W) (B.below x) → rewrite K x ≡ Ok s
@@ -80,6 +76,15 @@ pub three_over-sound : (i n : Input) (rewrite : Knowledge → Expr → Expr → 
 three_over-sound i n rewrite sound =
     bound-sound (three i n) (three-binds i n) (λ K l. rewrite K l.0 l.1 l.2) (λ K W l s stands so below. sound K W l.0 l.1 l.2 s stands below.0 below.1.0)
 
+-- an expression of a class
+pub record IsOf (K : Knowledge) (W : World) (g : ℕ) (y : Expr) : Type 0 where
+  pub formed : is_formed W.instances W.own K.columns y ≡ true
+  pub columns : K.columns g ≡ columns_of W.instances K.columns y
+  pub rows : SameBag (W.rows g) (rows_of K W y)
+
+of-the : (K : Knowledge) (W : World) (g : ℕ) (y : Expr) → IsOfSome K W (Some g, y) → IsOf K W g y
+of-the K W g y of = record { formed = of.formed; columns = of.columns g refl; rows = of.rows g refl }
+
 abbrev pub SubqueryIsSound : (Knowledge → SubqueryPick → Result Shape Unfit) → Type 0
 SubqueryIsSound rewrite = (K : Knowledge) (W : World) (p : SubqueryPick) (s : Shape) → Stands K W (selection p) → IsPicked p → rewrite K p ≡ Ok s
     → SameBag (rows_of K W (selection p)) (shape_rows K W s)
@@ -94,7 +99,7 @@ SubqueryLineIsSound rewrite = (K : Knowledge) (W : World) (p : SubqueryPick) (y 
 pub subquery_line-sound : (rewrite : Knowledge → SubqueryPick → Expr → Result Shape Unfit) → SubqueryLineIsSound rewrite
     → IsSound (λ m. wanted Pattern (subquery_line m) >>= λ p. rewrite m.classes p.0 p.1)
 subquery_line-sound rewrite sound =
-    bound-sound with_subquery_line subquery_line-binds (λ K p. rewrite K p.0 p.1) (λ K W p s stands so below. sound K W p.0 p.1 s stands so (below.0 p.0.class refl))
+    bound-sound with_subquery_line subquery_line-binds (λ K p. rewrite K p.0 p.1) (λ K W p s stands so below. sound K W p.0 p.1 s stands so (of-the K W p.0.class p.1 below.0))
 
 abbrev pub ClassLineIsSound : (Knowledge → ClassPick → Expr → Result Shape Unfit) → Type 0
 ClassLineIsSound rewrite = (K : Knowledge) (W : World) (p : ClassPick) (y : Expr) (s : Shape) → Stands K W (class_selection p) → IsNamed p → IsOf K W p.class y → rewrite K p y ≡ Ok s
@@ -103,4 +108,4 @@ ClassLineIsSound rewrite = (K : Knowledge) (W : World) (p : ClassPick) (y : Expr
 pub class_line-sound : (rewrite : Knowledge → ClassPick → Expr → Result Shape Unfit) → ClassLineIsSound rewrite
     → IsSound (λ m. wanted Pattern (class_line m) >>= λ p. rewrite m.classes p.0 p.1)
 class_line-sound rewrite sound =
-    bound-sound with_class_line class_line-binds (λ K p. rewrite K p.0 p.1) (λ K W p s stands so below. sound K W p.0 p.1 s stands so (below.0 p.0.class refl))
+    bound-sound with_class_line class_line-binds (λ K p. rewrite K p.0 p.1) (λ K W p s stands so below. sound K W p.0 p.1 s stands so (of-the K W p.0.class p.1 below.0))

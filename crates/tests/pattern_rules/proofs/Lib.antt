@@ -1,0 +1,2 @@
+pub mod InputExists
+pub mod RightSelectsMerge
