@@ -6,12 +6,28 @@ use Rattle.algebra.specs.declared.expr.Expr.{Expr}
 use Rattle.algebra.specs.declared.expr.Expr.TheVariants as expr
 use Rattle.algebra.specs.Columns.{has}
 use Rattle.algebra.specs.Conditions.{classes_in}
-use Rattle.props.specs.Knowledge.{Knowledge, are_same}
+use Rattle.algebra.specs.Expressions.{children}
+use Rattle.props.specs.Knowledge.{are_same}
 use Rattle.rules.specs.declared.pattern.Input.{Input}
+use Rattle.rules.specs.declared.pattern.Input.TheVariants.{First}
 use Rattle.rules.specs.Bindings.{is_same_as, two_over, two_lines_over, three_over, three_lines_over, SubqueryPick, ClassPick, subquery_pick, class_pick, with_line, the_subquery, subquery, the_subquery_line, subquery_line, the_class_line, class_line, with_conjunct}
-use Rattle.rules.specs.Matches.{Line, Matched}
+use Rattle.rules.specs.Matches.{Line, Matched, is_first_same, the_one, the_two, one_line, two_lines, unpicked}
 use Rattle.rules.specs.Patterns.{input_of, subquery_of}
 use Rattle.rules.proofs.BoundLines.{Binding, IsBound, Binds}
+
+-- ---- one line
+
+abbrev pub one : Binding Expr
+one = record { bound = one_line; top = λ x. x; below = λ x. []; IsSo = λ x. Unit {0} }
+
+pub one-binds : Binds one
+one-binds m x is = by (m.pick == 0) m.lines refl is
+  where
+    by : (b : Bool) (L : List Line) → m.lines ≡ L → (if b then the_one L else None) ≡ Some x → IsBound one m x
+    by true [] lines is = cc
+    by true (l ∷ []) lines is = let e : l.expr ≡ x = cc in record { first = l; others = []; lines = lines; top = e; below = tt; so = tt }
+    by true (l ∷ k ∷ L) lines is = cc
+    by false L lines is = cc
 
 -- ---- two lines
 
@@ -44,6 +60,28 @@ two-binds i m x is = by (m.pick == 0) m.lines refl is
     by true (l ∷ k ∷ j ∷ L) lines is = cc
     by false L lines is = cc
 
+-- the second of the class that the first takes first
+abbrev pub two_first : Binding (Expr × Expr)
+two_first = record { bound = two_lines; top = λ x. x.0; below = λ x. (slice_get (children x.0) 0, x.1) ∷ []; IsSo = λ x. Unit {0} }
+
+pub two_lines_are : (m : Matched) → two_lines m ≡ two_lines_over First m
+two_lines_are m = ap (unpicked m.pick) (by m.lines)
+  where
+    same : (inputs : List ℕ) (g : ℕ) → is_first_same m.classes inputs g ≡ is_same_as m.classes (slice_get inputs 0) g
+    same [] g = refl
+    same (x ∷ inputs) g = refl
+
+    by : (L : List Line) → the_two m.classes L ≡ two_over m.classes First L
+    by [] = refl
+    by (l ∷ []) = refl
+    by (l ∷ k ∷ []) = ap (λ (b : Bool). if b then Some (pair l k) else None) (same (children l.expr) k.class)
+    by (l ∷ k ∷ j ∷ L) = refl
+
+pub two_first-binds : Binds two_first
+two_first-binds m x is =
+    let i = two-binds First m x (sym (two_lines_are m) ∙ is) in
+    record { first = i.first; others = i.others; lines = i.lines; top = i.top; below = i.below; so = tt }
+
 -- ---- three lines
 
 abbrev pub three : Input → Input → Binding (Expr × Expr × Expr)
@@ -67,7 +105,8 @@ three-binds i n m x is = by (m.pick == 0) m.lines refl is
           top = ap (λ x. x.0) e;
           below = (
             record { class = ap (λ (x : Expr × Expr × Expr). is_same_as m.classes (input_of x.0 i) k.class) (sym e) ∙ both.0; expr = ap (λ x. x.1) e },
-            (record { class = ap (λ (x : Expr × Expr × Expr). is_same_as m.classes (input_of x.1 n) j.class) (sym e) ∙ both.1; expr = ap (λ x. x.2) e }, tt));
+            (record { class = ap (λ (x : Expr × Expr × Expr). is_same_as m.classes (input_of x.1 n) j.class) (sym e) ∙ both.1; expr = ap (λ x. x.2) e }, tt),
+          );
           so = tt;
         }
     or l k j lines false taken is = cc

@@ -1,5 +1,5 @@
 -- What is bound of lines: an expression of the top line, and those of the lines below it, each with the class that it is of.
-use Rattle.std.proofs.Common.{◌≡◌, refl, ap, ℕ, Bool, true, false, ◌&&◌, ◌==◌, if◌then◌else◌, List, [], ◌∷◌, Option, Some, None, Result}
+use Rattle.std.proofs.Common.{◌≡◌, ℕ, true, List, [], ◌∷◌, Option, Some}
 use Rattle.std.specs.List.{AllByRecursion}
 use Rattle.algebra.specs.declared.expr.Expr.{Expr}
 use Rattle.props.specs.Knowledge.{Knowledge}

@@ -1,67 +1,17 @@
--- What a rule gives is well formed if what it makes of what it binds is.
-use Rattle.std.proofs.Common.{◌≡◌, refl, ap, sym, ◌∙◌, subst, ℕ, Bool, true, List, [], ◌∷◌, Result, Ok, Option, Some, None}
-use Rattle.std.specs.List.{AllByRecursion}
+-- What a rule gives is well formed if what it makes of lines over named inputs is, or of a pick and a line of its class.
+use Rattle.std.proofs.Common.{◌≡◌, refl, ℕ, Result, Ok, Some}
 use Rattle.values.specs.Faults.{◌>>=◌, wanted}
-use Rattle.query.specs.declared.query.TableInstance.{TableInstance}
-use Rattle.algebra.specs.declared.expr.Aggregation.{Aggregation}
 use Rattle.algebra.specs.declared.expr.Expr.{Expr}
-use Rattle.props.specs.Knowledge.{Knowledge, are_same}
+use Rattle.props.specs.Knowledge.{Knowledge}
 use Rattle.rules.specs.declared.pattern.Input.{Input}
 use Rattle.rules.specs.declared.shape.Shape.{Shape}
 use Rattle.rules.specs.declared.unfit.Unfit.{Unfit}
 use Rattle.rules.specs.declared.unfit.Unfit.TheVariants.{Pattern}
-use Rattle.rules.specs.Bindings.{is_same_as, two_lines_over, three_lines_over, SubqueryPick, ClassPick, subquery, subquery_line, class_line}
-use Rattle.rules.specs.Formed.{IsFormed, IsFormedLine, formed}
-use Rattle.rules.specs.Matches.{Line, Matched}
+use Rattle.rules.specs.Bindings.{two_lines_over, three_lines_over, SubqueryPick, ClassPick, subquery, subquery_line, class_line}
+use Rattle.rules.specs.Formed.{IsFormed}
 use Rattle.rules.specs.Patterns.{input_of}
-use Rattle.rules.proofs.BoundLines.{Placed, IsPlaced, Binding, IsBound, Binds, all-placed}
 use Rattle.rules.proofs.BoundForms.{two, two-binds, three, three-binds, IsPicked, IsNamed, selection, class_selection, subquery_alone, subquery-binds, with_subquery_line, subquery_line-binds, with_class_line, class_line-binds}
-use Rattle.rules.proofs.FormedLines.{Site, MayStand, Rising, Is, cols}
-
--- an expression that may stand, of a class, if there is one: it has its columns
-pub record StandsForSome (S : Site) (b : Placed) : Type 0 where
-  pub stands : MayStand S b.1
-  pub columns : (g : ℕ) → b.0 ≡ Some g → S.classes.columns g ≡ cols S b.1
-
-abbrev pub BoundIsFormed : {X : Type 0} → Binding X → (Knowledge → X → Result Shape Unfit) → Type 0
-BoundIsFormed {X} B rewrite = (S : Site) (x : X) (s : Shape) → MayStand S (B.top x) → Rising S (B.top x) → B.IsSo x → AllByRecursion (StandsForSome S) (B.below x) → rewrite S.classes x ≡ Ok s
-    → Is S s (cols S (B.top x))
-
-pub bound-formed : {X : Type 0} (B : Binding X) → Binds B → (rewrite : Knowledge → X → Result Shape Unfit) → BoundIsFormed B rewrite → IsFormed (λ m. wanted Pattern (B.bound m) >>= rewrite m.classes)
-bound-formed {X} B binds rewrite made instances own classes founds agree pick top others s is all rise = by (B.bound m) refl is
-  where
-    S : Site
-    S = record { instances = instances; own = own; classes = classes; founds = founds }
-
-    m : Matched
-    m = record { lines = top ∷ others; pick = pick; classes = classes }
-
-    Stands : Line → Type 0
-    Stands = IsFormedLine instances own classes founds
-
-    stands-for : (b : Placed) (l : Line) → IsPlaced classes b l → Stands l → StandsForSome S b
-    stands-for b l placed line = subst (λ y. StandsForSome S (b.0, y)) placed.expr (record {
-      stands = record { known = line.known; formed = line.formed };
-      columns = λ g at. agree g l.class (sym (ap (λ o. is_same_as classes o l.class) at) ∙ placed.class) ∙ sym line.columns;
-    })
-
-    Given : Type 0
-    Given = ((formed instances own classes.columns founds s).is_formed ≡ true) × ((formed instances own classes.columns founds s).columns ≡ classes.columns top.class)
-
-    at : (x : X) → IsBound B m x → rewrite classes x ≡ Ok s → Given
-    at x i is =
-        let first : top ≡ i.first = let e : m.lines ≡ i.first ∷ i.others = i.lines in cc in
-        let rest : others ≡ i.others = let e : m.lines ≡ i.first ∷ i.others = i.lines in cc in
-        let same : top.expr ≡ B.top x = ap (λ (l : Line). l.expr) first ∙ i.top in
-        let below = all-placed classes Stands (StandsForSome S) stands-for (B.below x) i.others i.below (subst (AllByRecursion Stands) rest all.1) in
-        let made_ = made S x s (subst (MayStand S) same (record { known = all.0.known; formed = all.0.formed })) (subst (Rising S) same rise) i.so below is in
-        (made_.formed_, made_.columns_ ∙ ap (cols S) (sym same) ∙ all.0.columns)
-
-    by : (o : Option X) → B.bound m ≡ o → (wanted Pattern o >>= rewrite classes) ≡ Ok s → Given
-    by None bound is = cc
-    by (Some x) bound is = at x (binds m x bound) is
-
--- ---- each form
+use Rattle.rules.proofs.FormedLines.{Site, MayStand, Is, cols, StandsForSome, bound-formed}
 
 -- an expression of the class that another one takes there
 abbrev pub IsInput : Site → Input → Expr → Expr → Type 0

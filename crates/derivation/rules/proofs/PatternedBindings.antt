@@ -1,4 +1,4 @@
--- A rule keeps to its pattern if what it makes of what it binds does.
+-- A rule keeps to its pattern if what it makes of lines over named inputs does, or of a pick and a line of its class.
 use Rattle.std.proofs.Common.{◌≡◌, refl, ap, sym, ◌∙◌, ℕ, Bool, true, false, ◌&&◌, ◌==◌, if◌then◌else◌, List, [], ◌∷◌, slice_get, option_map, Result, Err, Option, Some, None}
 use Rattle.std.proofs.lemmas.Bool.{and_parts}
 use Rattle.values.specs.Faults.{◌>>=◌, wanted}
@@ -9,73 +9,18 @@ use Rattle.algebra.specs.Columns.{has}
 use Rattle.algebra.specs.Conditions.{classes_in}
 use Rattle.algebra.proofs.Lists.{two as both}
 use Rattle.props.specs.Knowledge.{Knowledge, are_same}
-use Rattle.rules.specs.declared.pattern.Below.{Below}
 use Rattle.rules.specs.declared.pattern.Input.{Input}
 use Rattle.rules.specs.declared.pattern.Operators.{Operators}
-use Rattle.rules.specs.declared.pattern.Pattern as lines
 use Rattle.rules.specs.declared.pattern.Pattern.TheVariants.{Two, Three, Subquery, SubqueryLine, ClassLine}
 use Rattle.rules.specs.declared.shape.Shape.{Shape}
 use Rattle.rules.specs.declared.unfit.Unfit.{Unfit}
 use Rattle.rules.specs.declared.unfit.Unfit.TheVariants.{Pattern}
-use Rattle.rules.specs.Bindings.{is_same_as, two_over, two_lines_over, three_over, three_lines_over, SubqueryPick, ClassPick, subquery_pick, class_pick, with_conjunct, with_line, the_subquery, subquery, the_subquery_line, subquery_line, the_class_line, class_line}
-use Rattle.rules.specs.Matches.{Line, Matched}
-use Rattle.rules.specs.Patterns.{KeepsTo, fits, has_one_of, input_of, is_line_of, is_some, lines_fit, picked_subquery, picked_class, subquery_at, subquery_of}
-
--- where something is bound, whether the lines are of the pattern is whether it passes the test
-abbrev pub FitsBy : {X : Type 0} → lines.Pattern → (Matched → Option X) → (X → Bool) → Type 0
-FitsBy {X} pattern bound test = (m : Matched) (x : X) → bound m ≡ Some x → fits pattern m ≡ test x
-
-abbrev pub BoundKeepsTo : {X : Type 0} → (X → Bool) → (Knowledge → X → Result Shape Unfit) → Type 0
-BoundKeepsTo {X} test rewrite = (K : Knowledge) (x : X) → test x ≡ false → rewrite K x ≡ Err Pattern
-
-pub bound-keeps : {X : Type 0} (pattern : lines.Pattern) (bound : Matched → Option X) (test : X → Bool) → FitsBy pattern bound test → (rewrite : Knowledge → X → Result Shape Unfit)
-    → BoundKeepsTo test rewrite → KeepsTo pattern (λ m. wanted Pattern (bound m) >>= rewrite m.classes)
-bound-keeps {X} pattern bound test by_test rewrite keeps m other = by (bound m) refl
-  where
-    by : (o : Option X) → bound m ≡ o → (wanted Pattern o >>= rewrite m.classes) ≡ Err Pattern
-    by None is = refl
-    by (Some x) is = keeps m.classes x (sym (by_test m x is) ∙ other)
+use Rattle.rules.specs.Bindings.{is_same_as, two_lines_over, three_over, three_lines_over, SubqueryPick, ClassPick, subquery_pick, class_pick, with_conjunct, with_line, the_subquery, subquery, the_subquery_line, subquery_line, the_class_line, class_line}
+use Rattle.rules.specs.Matches.{Line}
+use Rattle.rules.proofs.PatternedLines.{FitsBy, bound-keeps, line-fits, nothing, two_test, two-fits, under}
+use Rattle.rules.specs.Patterns.{KeepsTo, has_one_of, input_of, is_line_of, is_some, lines_fit, picked_subquery, picked_class, subquery_at, subquery_of}
 
 -- ---- lines below each other
-
--- a line over an input
-abbrev pub under : Input → Operators → Below
-under i O = record { input = i; operators = O }
-
--- a line of the class is told by its operators
-line-fits : (K : Knowledge) (o : Option ℕ) (O : Operators) (k : Line) → is_same_as K o k.class ≡ true → is_line_of K o O k ≡ has_one_of k.expr O
-line-fits K None O k is = cc
-line-fits K (Some g) O k is = ap (λ b. b && has_one_of k.expr O) is
-
--- nothing is bound
-nothing : {X A : Type 0} (b : Bool) (x : X) → (if b then None else None) ≡ Some x → A
-nothing true x is = cc
-nothing false x is = cc
-
-abbrev pair : Line → Line → Expr × Expr
-pair l k = (l.expr, k.expr)
-
-abbrev two_test : Operators → Operators → Expr × Expr → Bool
-two_test O P x = has_one_of x.0 O && has_one_of x.1 P
-
-two-fits : (i : Input) (O P : Operators) → FitsBy (Two O (under i P)) (two_lines_over i) (two_test O P)
-two-fits i O P m x is = by m.lines is
-  where
-    or : (l k : Line) (b : Bool) → is_same_as m.classes (input_of l.expr i) k.class ≡ b → (if b then Some (pair l k) else None) ≡ Some x
-        → (has_one_of l.expr O && is_line_of m.classes (input_of l.expr i) P k) ≡ two_test O P x
-    or l k true taken is = let e : pair l k ≡ x = cc in ap (λ b. has_one_of l.expr O && b) (line-fits m.classes (input_of l.expr i) P k taken) ∙ ap (two_test O P) e
-    or l k false taken is = cc
-
-    two : (l k : Line) (b : Bool) → (if b then (if is_same_as m.classes (input_of l.expr i) k.class then Some (pair l k) else None) else None) ≡ Some x
-        → (b && has_one_of l.expr O && is_line_of m.classes (input_of l.expr i) P k) ≡ two_test O P x
-    two l k true is = or l k (is_same_as m.classes (input_of l.expr i) k.class) refl is
-    two l k false is = cc
-
-    by : (L : List Line) → (if m.pick == 0 then two_over m.classes i L else None) ≡ Some x → lines_fit m.classes m.pick (Two O (under i P)) L ≡ two_test O P x
-    by [] is = nothing (m.pick == 0) x is
-    by (l ∷ []) is = nothing (m.pick == 0) x is
-    by (l ∷ k ∷ []) is = two l k (m.pick == 0) is
-    by (l ∷ k ∷ j ∷ L) is = nothing (m.pick == 0) x is
 
 abbrev triple : Line → Line → Line → Expr × Expr × Expr
 triple l k j = (l.expr, k.expr, j.expr)

@@ -1,5 +1,5 @@
 -- What passes a test of all conjuncts passes it of what is picked of them.
-use Rattle.std.proofs.Common.{◌≡◌, ap, sym, ◌∙◌, subst, ℕ, Bool, true, List, Option, Some}
+use Rattle.std.proofs.Common.{◌≡◌, ap, sym, ◌∙◌, subst, ℕ, Bool, true, Option, Some}
 use Rattle.std.specs.List.{list_all}
 use Rattle.values.proofs.Lists.{passes_at}
 use Rattle.algebra.specs.declared.condition.Condition.{Condition, roll-Condition, fold-roll-Condition, ind-Condition, map-Condition}

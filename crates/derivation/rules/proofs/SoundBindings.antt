@@ -1,60 +1,19 @@
--- A rule is sound if what it makes of what it binds is.
-use Rattle.std.proofs.Common.{◌≡◌, refl, ap, sym, ◌∙◌, subst, ℕ, true, List, [], ◌∷◌, Result, Ok, Option, Some, None}
-use Rattle.std.specs.List.{AllByRecursion}
+-- A rule is sound if what it makes of lines over named inputs is, or of a pick and a line of its class.
+use Rattle.std.proofs.Common.{◌≡◌, refl, ℕ, true, Result, Ok, Some}
 use Rattle.values.specs.Faults.{◌>>=◌, wanted}
 use Rattle.algebra.specs.declared.expr.Expr.{Expr}
 use Rattle.algebra.specs.Bags.{SameBag}
 use Rattle.algebra.specs.Expressions.{columns_of, is_formed}
-use Rattle.algebra.proofs.SameBags.{same_bag-trans}
-use Rattle.props.specs.Knowledge.{Knowledge, IsTrueOf}
+use Rattle.props.specs.Knowledge.{Knowledge}
 use Rattle.rules.specs.declared.pattern.Input.{Input}
 use Rattle.rules.specs.declared.shape.Shape.{Shape}
 use Rattle.rules.specs.declared.unfit.Unfit.{Unfit}
 use Rattle.rules.specs.declared.unfit.Unfit.TheVariants.{Pattern}
-use Rattle.rules.specs.Bindings.{is_same_as, two_lines_over, three_lines_over, SubqueryPick, ClassPick, subquery, subquery_line, class_line}
-use Rattle.rules.specs.Matches.{Line}
+use Rattle.rules.specs.Bindings.{two_lines_over, three_lines_over, SubqueryPick, ClassPick, subquery, subquery_line, class_line}
 use Rattle.rules.specs.Patterns.{input_of}
-use Rattle.rules.specs.Soundness.{World, IsLine, IsSound}
-use Rattle.rules.proofs.BoundLines.{Placed, IsPlaced, Binding, IsBound, Binds, all-placed}
+use Rattle.rules.specs.Soundness.{World, IsSound}
 use Rattle.rules.proofs.BoundForms.{two, two-binds, three, three-binds, IsPicked, IsNamed, selection, class_selection, subquery_alone, subquery-binds, with_subquery_line, subquery_line-binds, with_class_line, class_line-binds}
-use Rattle.rules.proofs.MatchedLines.{Stands, rows_of, shape_rows}
-
--- an expression of a class, if there is one: it has its columns and its rows
-pub record IsOfSome (K : Knowledge) (W : World) (b : Placed) : Type 0 where
-  pub formed : is_formed W.instances W.own K.columns b.1 ≡ true
-  pub columns : (g : ℕ) → b.0 ≡ Some g → K.columns g ≡ columns_of W.instances K.columns b.1
-  pub rows : (g : ℕ) → b.0 ≡ Some g → SameBag (W.rows g) (rows_of K W b.1)
-
-is-of : (K : Knowledge) (W : World) → IsTrueOf K W.rows → (b : Placed) (l : Line) → IsPlaced K b l → IsLine K W l → IsOfSome K W b
-is-of K W classes b l placed line = subst (λ y. IsOfSome K W (b.0, y)) placed.expr (record {
-  formed = line.formed;
-  columns = λ g at. (same g at).0 ∙ sym line.columns;
-  rows = λ g at. same_bag-trans _ _ _ (same g at).1 line.rows;
-})
-  where
-    same : (g : ℕ) → b.0 ≡ Some g → (K.columns g ≡ K.columns l.class) × SameBag (W.rows g) (W.rows l.class)
-    same g at = classes.same g l.class (sym (ap (λ o. is_same_as K o l.class) at) ∙ placed.class)
-
-abbrev pub BoundIsSound : {X : Type 0} → Binding X → (Knowledge → X → Result Shape Unfit) → Type 0
-BoundIsSound {X} B rewrite = (K : Knowledge) (W : World) (x : X) (s : Shape) → Stands K W (B.top x) → B.IsSo x → AllByRecursion (IsOfSome K W) (B.below x) → rewrite K x ≡ Ok s
-    → SameBag (rows_of K W (B.top x)) (shape_rows K W s)
-
-pub bound-sound : {X : Type 0} (B : Binding X) → Binds B → (rewrite : Knowledge → X → Result Shape Unfit) → BoundIsSound B rewrite → IsSound (λ m. wanted Pattern (B.bound m) >>= rewrite m.classes)
-bound-sound {X} B binds rewrite sound m s is W true_ top others lines = by (B.bound m) refl is
-  where
-    at : (x : X) → IsBound B m x → rewrite m.classes x ≡ Ok s → SameBag (rows_of m.classes W top.expr) (shape_rows m.classes W s)
-    at x i is =
-        let all : AllByRecursion (IsLine m.classes W) (i.first ∷ i.others) = subst (AllByRecursion (IsLine m.classes W)) i.lines true_.lines in
-        let same : i.first ≡ top = cc in
-        subst (λ (y : Expr). SameBag (rows_of m.classes W y) (shape_rows m.classes W s)) (sym i.top ∙ ap (λ (l : Line). l.expr) same)
-        (sound m.classes W x s (record { classes = true_.classes; formed = subst (λ y. is_formed W.instances W.own m.classes.columns y ≡ true) i.top all.0.formed }) i.so
-        (all-placed m.classes (IsLine m.classes W) (IsOfSome m.classes W) (is-of m.classes W true_.classes) (B.below x) i.others i.below all.1) is)
-
-    by : (o : Option X) → B.bound m ≡ o → (wanted Pattern o >>= rewrite m.classes) ≡ Ok s → SameBag (rows_of m.classes W top.expr) (shape_rows m.classes W s)
-    by None bound is = cc
-    by (Some x) bound is = at x (binds m x bound) is
-
--- ---- each form
+use Rattle.rules.proofs.MatchedLines.{IsOfSome, Stands, bound-sound, rows_of, shape_rows}
 
 -- an expression of the class that another one takes there
 abbrev pub IsInput : Knowledge → World → Input → Expr → Expr → Type 0

@@ -1,6 +1,5 @@
--- What a rule gives depends on named classes alone if what it makes of what it binds does.
-use Rattle.std.proofs.Common.{◌≡◌, refl, ap, sym, ◌∙◌, subst, ℕ, Bool, true, ◌&&◌, ◌==◌, if◌then◌else◌, List, [], ◌∷◌, Result, Option, Some, None}
-use Rattle.std.specs.List.{AllByRecursion}
+-- What a rule gives depends on named classes alone if what it makes of lines over named inputs does, or of a pick and a line of its class.
+use Rattle.std.proofs.Common.{◌≡◌, refl, ap, ℕ, Bool, ◌&&◌, ◌==◌, if◌then◌else◌, List, [], ◌∷◌, Result, Option, Some, None}
 use Rattle.values.specs.Faults.{◌>>=◌, wanted}
 use Rattle.algebra.specs.declared.expr.Expr.{Expr}
 use Rattle.algebra.proofs.Lists.{two as both}
@@ -10,42 +9,11 @@ use Rattle.rules.specs.declared.shape.Shape.{Shape}
 use Rattle.rules.specs.declared.unfit.Unfit.{Unfit}
 use Rattle.rules.specs.declared.unfit.Unfit.TheVariants.{Pattern}
 use Rattle.rules.specs.Bindings.{is_same_as, two_over, two_lines_over, three_over, three_lines_over, SubqueryPick, ClassPick, subquery_pick, class_pick, with_line, subquery, the_subquery_line, subquery_line, the_class_line, class_line}
-use Rattle.rules.specs.Matches.{Line, Matched, unpicked}
+use Rattle.rules.specs.Matches.{Line, unpicked}
 use Rattle.rules.specs.Patterns.{input_of}
 use Rattle.rules.specs.Stability.{Agree, IsStable}
-use Rattle.rules.proofs.BoundLines.{Placed, IsPlaced, Binding, IsBound, Binds, all-placed}
 use Rattle.rules.proofs.BoundForms.{two, two-binds, three, three-binds, IsPicked, IsNamed, selection, class_selection, subquery_alone, subquery-binds, with_subquery_line, subquery_line-binds, with_class_line, class_line-binds}
-use Rattle.rules.proofs.StableLines.{Knows}
-
--- lines over classes
-abbrev pub over : Knowledge → ℕ → List Line → Matched
-over K pick lines = record { lines = lines; pick = pick; classes = K }
-
--- what is bound depends on which classes are the same alone
-abbrev pub IsSteady : {X : Type 0} → Binding X → Type 0
-IsSteady B = (p : ℕ → Bool) (K L : Knowledge) → Agree p K L → (pick : ℕ) (lines : List Line) → B.bound (over K pick lines) ≡ B.bound (over L pick lines)
-
-abbrev pub BoundIsStable : {X : Type 0} → Binding X → (Knowledge → X → Result Shape Unfit) → Type 0
-BoundIsStable {X} B rewrite = (p : ℕ → Bool) (K L : Knowledge) → Agree p K L → (x : X) → Knows p (B.top x) → B.IsSo x → AllByRecursion (λ (b : Placed). Knows p b.1) (B.below x)
-    → rewrite K x ≡ rewrite L x
-
-pub bound-stable : {X : Type 0} (B : Binding X) → Binds B → IsSteady B → (rewrite : Knowledge → X → Result Shape Unfit) → BoundIsStable B rewrite
-    → IsStable (λ m. wanted Pattern (B.bound m) >>= rewrite m.classes)
-bound-stable {X} B binds steady rewrite stable p K L agree pick lines known =
-    by (B.bound (over K pick lines)) refl ∙ ap (λ o. wanted Pattern o >>= rewrite L) (steady p K L agree pick lines)
-  where
-    KnowsLine : Line → Type 0
-    KnowsLine l = Knows p l.expr
-
-    at : (x : X) → IsBound B (over K pick lines) x → rewrite K x ≡ rewrite L x
-    at x i =
-        let all : AllByRecursion KnowsLine (i.first ∷ i.others) = subst (AllByRecursion KnowsLine) i.lines known in
-        stable p K L agree x (subst (Knows p) i.top all.0) i.so
-        (all-placed K KnowsLine (λ (b : Placed). Knows p b.1) (λ b l placed knows. subst (Knows p) placed.expr knows) (B.below x) i.others i.below all.1)
-
-    by : (o : Option X) → B.bound (over K pick lines) ≡ o → (wanted Pattern o >>= rewrite K) ≡ (wanted Pattern o >>= rewrite L)
-    by None bound = refl
-    by (Some x) bound = at x (binds (over K pick lines) x bound)
+use Rattle.rules.proofs.StableLines.{Knows, bound-stable}
 
 -- ---- which classes are the same
 

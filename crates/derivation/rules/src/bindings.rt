@@ -117,7 +117,9 @@ impl<'a> Match<'a> {
                 if self.pick == 0
                     && is_input(self.classes, top.expr, input, below.class)
                     && is_input(self.classes, below.expr, lower, lowest.class) => Ok((
-                top.expr, below.expr, lowest.expr,
+                top.expr,
+                below.expr,
+                lowest.expr,
             )),
             _ => Err(Fault::Refused(Unfit::Pattern)),
         }

@@ -140,7 +140,11 @@ fn is_among(classes: &[ClassId], class: ClassId) -> bool
 }
 
 /// The class, if a selection's conjuncts name it.
-pub(crate) fn picked_class(alloc: Global, expr: &Expr, pick: u32) -> Result<Option<ClassId>, AllocError>
+pub(crate) fn picked_class(
+    alloc: Global,
+    expr: &Expr,
+    pick: u32,
+) -> Result<Option<ClassId>, AllocError>
     ensures { IfOk result (λ class. class ≡ spec.picked_class expr.now pick) }
 {
     match expr {
