@@ -1,20 +1,17 @@
 -- Where a selection or a projection has a row, so has what it is made of: its laws.
-use Rattle.std.proofs.Common.{◌≡◌, refl, ap, sym, ◌∙◌, subst, Bool, true, false, not, ◌&&◌, if◌then◌else◌, ℕ, List, [], ◌∷◌, map, filter, Result, Ok}
-use Rattle.std.specs.List.{list_all}
-use Rattle.std.proofs.lemmas.Bool.{and_from}
+use Rattle.std.proofs.Common.{◌≡◌, refl, ap, sym, ◌∙◌, Bool, true, false, not, ◌&&◌, ℕ, List, [], ◌∷◌, map, filter, Result, Ok}
 use Rattle.values.specs.Faults.{wanted_if}
 use Rattle.values.specs.Truth.{is_true, truth_of}
 use Rattle.algebra.specs.declared.condition.Condition.{Condition}
 use Rattle.algebra.specs.declared.condition.Condition.TheVariants.{Exists}
-use Rattle.algebra.specs.declared.expr.Expr.{Expr}
 use Rattle.algebra.specs.declared.expr.Expr.TheVariants.{Select, Keep}
 use Rattle.algebra.specs.Bags.{Env, Test, Bag, SameBag, lay}
 use Rattle.algebra.specs.Columns.{has}
-use Rattle.algebra.specs.Conditions.{truth, holds, is_empty, all_classes}
+use Rattle.algebra.specs.Conditions.{truth, holds, is_empty}
 use Rattle.algebra.specs.ConditionEquality.{same_condition}
 use Rattle.algebra.specs.ConjunctOrder.{conjuncts}
 use Rattle.algebra.specs.ConjunctParts.{union}
-use Rattle.algebra.specs.Expressions.{Classes, is_query_column}
+use Rattle.algebra.specs.Expressions.{is_query_column}
 use Rattle.algebra.proofs.ConditionNames.{classes-Exists, columns-Exists}
 use Rattle.algebra.proofs.ConjunctSplits.{union_holds}
 use Rattle.algebra.proofs.ConnectiveParts.{conjuncts-hold, conjuncts-classes, conjuncts-columns}

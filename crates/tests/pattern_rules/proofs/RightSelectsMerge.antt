@@ -1,5 +1,5 @@
 -- On the right side of a join two selections are one: its laws.
-use Rattle.std.proofs.Common.{◌≡◌, refl, ap, sym, ◌∙◌, subst, List, [], ◌++◌, ℕ}
+use Rattle.std.proofs.Common.{◌≡◌, refl, ap, sym, ◌∙◌, subst, ◌++◌}
 use Rattle.algebra.specs.declared.expr.Expr.TheVariants.{Select, Join}
 use Rattle.algebra.specs.Bags.{SameBag, join, select}
 use Rattle.algebra.specs.Columns.{has, rising}

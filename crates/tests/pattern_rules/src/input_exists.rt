@@ -21,11 +21,7 @@ fn is_exists(pick: PickedSubquery<'_>) -> bool
 }
 
 /// The selection with EXISTS of one more class, where EXISTS is what is picked.
-fn exists_too(
-    alloc: Global,
-    pick: PickedSubquery<'_>,
-    input: ClassId,
-) -> Result<Shape, RuleFault>
+fn exists_too(alloc: Global, pick: PickedSubquery<'_>, input: ClassId) -> Result<Shape, RuleFault>
     ensures { Gives (λ s. s) result (spec.exists_too (subquery_in pick.entry) input) }
 {
     if !is_exists(pick) {
