@@ -2,4 +2,5 @@
 #![tactic(auto)]
 
 pub mod input_exists;
+pub mod right_select_of_none;
 pub mod right_selects_merge;

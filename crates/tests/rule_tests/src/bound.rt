@@ -175,5 +175,8 @@ class line pick 6: 7 select 3 lx, 3 select 3 l => another form
 class line pick 6: 7 select 3 l, 6 keep 2 4 => another form
 class line pick 6: 7 select 3 lx => another form
 class line pick 6: 7 join 0 1 m, 6 keep 2 4 => another form";
-    assert_eq!(rt; differences(rt.alloc(), &[INPUTS, PICKS], &Bound).as_deref(), Ok(""));
+    assert_eq!(rt;
+        differences(rt.alloc(), &[INPUTS, PICKS], &Bound).as_deref(),
+        Ok("")
+    );
 }

@@ -64,7 +64,8 @@ impl Reporting for Unlisted {
 /// The letters of conditions are those of src/words.rt, the classes those of src/classes.rt: 3 and 4 are the same.
 #[test]
 fn unlisted_rules_apply(rt: HostRuntime) {
-    const RIGHT: &str = "right-selects-merge: 7 join 2 4 u, 3 select 4 lr, 4 select 3 rm => join [=(c2,c4)] (2) (select [=(c0,c2);=(c0,i7);=(c2,i7)] (3))
+    const RIGHT: &str =
+        "right-selects-merge: 7 join 2 4 u, 3 select 4 lr, 4 select 3 rm => join [=(c2,c4)] (2) (select [=(c0,c2);=(c0,i7);=(c2,i7)] (3))
 right-selects-merge: 7 join 2 4 , 4 select 3 l, 3 select 4 l => join [] (2) (select [=(c0,i7)] (4))
 right-selects-merge: 7 join 4 2 u, 3 select 4 lr, 4 select 3 rm => another form, another pattern
 right-selects-merge: 7 join 2 4 u, 3 select 4 lr, 0 select 0 l => another form, another pattern
@@ -74,7 +75,8 @@ right-selects-merge: 7 join 2 4 u, 3 distinct 4, 4 select 3 rm => another form, 
 right-selects-merge: 7 join 2 4 u, 3 select 4 lr, 4 join 0 1 m => another form, another pattern
 right-selects-merge: 7 join 2 4 u, 3 select 4 lr => another form, another pattern
 right-selects-merge pick 1: 7 join 2 4 u, 3 select 4 lr, 4 select 3 rm => another form, another pattern";
-    const EXISTS: &str = "input-exists pick 1: 7 select 3 lx, 6 keep 2 4 => select [=(c0,i7);exists(2);exists(6)] (3)
+    const EXISTS: &str =
+        "input-exists pick 1: 7 select 3 lx, 6 keep 2 4 => select [=(c0,i7);exists(2);exists(6)] (3)
 input-exists pick 1: 7 select 3 lx, 6 select 2 u => select [=(c0,i7);exists(2);exists(6)] (3)
 input-exists: 7 select 3 x, 6 keep 6 4 => select [exists(6)] (3)
 input-exists pick 1: 7 select 3 le, 6 keep 2 4 => another form
@@ -84,5 +86,8 @@ input-exists pick 1: 7 select 3 lx, 6 distinct 2 => another form, another patter
 input-exists pick 1: 7 select 3 lx, 3 select 3 l => another form, another pattern
 input-exists pick 1: 7 select 3 lx => another form, another pattern
 input-exists: 7 join 0 1 m, 6 keep 2 4 => another form, another pattern";
-    assert_eq!(rt; differences(rt.alloc(), &[RIGHT, EXISTS], &Unlisted).as_deref(), Ok(""));
+    assert_eq!(rt;
+        differences(rt.alloc(), &[RIGHT, EXISTS], &Unlisted).as_deref(),
+        Ok("")
+    );
 }
