@@ -1,5 +1,5 @@
 -- On the right side of a join a selection without conjuncts changes nothing: its laws.
-use Rattle.std.proofs.Common.{◌≡◌, refl, ap, sym, ◌∙◌, subst, true, List, [], ◌∷◌, ◌++◌, filter}
+use Rattle.std.proofs.Common.{◌≡◌, refl, ap, sym, subst, true, List, [], ◌∷◌, ◌++◌, filter}
 use Rattle.algebra.specs.declared.expr.Expr.TheVariants.{Select, Join}
 use Rattle.algebra.specs.Bags.{Env, SameBag, join}
 use Rattle.algebra.specs.Columns.{has, rising}

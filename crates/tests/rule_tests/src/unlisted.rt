@@ -6,6 +6,7 @@ use crate::words::{lines_of, matched_lines, number};
 use algebra::{ClassId, Expr};
 use fixtures::{Reporting, differences};
 use pattern_rules::input_exists::InputExists;
+use pattern_rules::right_select_of_none::RightSelectOfNone;
 use pattern_rules::right_selects_merge::RightSelectsMerge;
 use rules::{Match, Rule};
 use std::alloc::{AllocError, Global};
@@ -29,6 +30,10 @@ fn report_unlisted(
         "right-selects-merge" => {
             push_applied(alloc, reported, &RightSelectsMerge::apply(alloc, at))?;
             push_fitting(reported, RightSelectsMerge::pattern().fits(alloc, at)?)
+        }
+        "right-select-of-none" => {
+            push_applied(alloc, reported, &RightSelectOfNone::apply(alloc, at))?;
+            push_fitting(reported, RightSelectOfNone::pattern().fits(alloc, at)?)
         }
         "input-exists" => {
             push_applied(alloc, reported, &InputExists::apply(alloc, at))?;
@@ -75,6 +80,13 @@ right-selects-merge: 7 join 2 4 u, 3 distinct 4, 4 select 3 rm => another form, 
 right-selects-merge: 7 join 2 4 u, 3 select 4 lr, 4 join 0 1 m => another form, another pattern
 right-selects-merge: 7 join 2 4 u, 3 select 4 lr => another form, another pattern
 right-selects-merge pick 1: 7 join 2 4 u, 3 select 4 lr, 4 select 3 rm => another form, another pattern";
+    const NONE: &str = "right-select-of-none: 7 join 2 4 u, 3 select 4  => join [=(c2,c4)] (2) (4)
+right-select-of-none: 7 join 2 4 u, 3 select 4 l => another form
+right-select-of-none: 7 join 4 2 u, 3 select 4  => another form, another pattern
+right-select-of-none: 7 left 2 4 u, 3 select 4  => another form, another pattern
+right-select-of-none: 7 join 2 4 u, 3 distinct 4 => another form, another pattern
+right-select-of-none: 7 join 2 4 u => another form, another pattern
+right-select-of-none pick 1: 7 join 2 4 u, 3 select 4  => another form, another pattern";
     const EXISTS: &str =
         "input-exists pick 1: 7 select 3 lx, 6 keep 2 4 => select [=(c0,i7);exists(2);exists(6)] (3)
 input-exists pick 1: 7 select 3 lx, 6 select 2 u => select [=(c0,i7);exists(2);exists(6)] (3)
@@ -87,7 +99,7 @@ input-exists pick 1: 7 select 3 lx, 3 select 3 l => another form, another patter
 input-exists pick 1: 7 select 3 lx => another form, another pattern
 input-exists: 7 join 0 1 m, 6 keep 2 4 => another form, another pattern";
     assert_eq!(rt;
-        differences(rt.alloc(), &[RIGHT, EXISTS], &Unlisted).as_deref(),
+        differences(rt.alloc(), &[RIGHT, NONE, EXISTS], &Unlisted).as_deref(),
         Ok("")
     );
 }
