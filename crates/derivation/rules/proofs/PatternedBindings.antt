@@ -17,8 +17,8 @@ use Rattle.rules.specs.declared.unfit.Unfit.{Unfit}
 use Rattle.rules.specs.declared.unfit.Unfit.TheVariants.{Pattern}
 use Rattle.rules.specs.Bindings.{is_same_as, two_lines_over, three_over, three_lines_over, SubqueryPick, ClassPick, subquery_pick, class_pick, with_conjunct, with_line, the_subquery, subquery, the_subquery_line, subquery_line, the_class_line, class_line}
 use Rattle.rules.specs.Matches.{Line}
-use Rattle.rules.proofs.PatternedLines.{FitsBy, bound-keeps, line-fits, nothing, two_test, two-fits, under}
 use Rattle.rules.specs.Patterns.{KeepsTo, has_one_of, input_of, is_line_of, is_some, lines_fit, picked_subquery, picked_class, subquery_at, subquery_of}
+use Rattle.rules.proofs.PatternedLines.{FitsBy, bound-keeps, line-fits, nothing, two_test, two-fits, under}
 
 -- ---- lines below each other
 
