@@ -7,6 +7,7 @@ mod exchanged;
 pub mod headings;
 pub mod number_column;
 pub mod parts;
+pub mod passing;
 pub mod relation;
 pub mod resolved;
 pub mod row_columns;
