@@ -1,6 +1,7 @@
 //! Rows at work: relations, whose rows are lent from tables by their numbers, and the truth of conditions at these.
 #![tactic(auto)]
 
+mod admitted;
 mod building;
 pub mod environment;
 mod exchanged;

@@ -21,5 +21,5 @@ loop-test-preserved c =
     c.in_ok-keep_true.ensures
     ∙ ap (filter (λ n. passes n c.test-item.result)) c.loop-test.invariant
     ∙ filter_twice (all_pass right l (take i tests)) (λ n. passes n c.test-item.result) (all_pass right l (take (i + 1) tests))
-      (λ n. list_all_more (passes n) tests i c.test-item.result (omega arith) ∙ ap (λ (t : Test). list_all (passes n) (take i tests) && passes n t) (sym c.test-item.is))
-      c.args.rows.now.items
+    (λ n. list_all_more (passes n) tests i c.test-item.result (omega arith) ∙ ap (λ (t : Test). list_all (passes n) (take i tests) && passes n t) (sym c.test-item.is))
+    c.args.rows.now.items

@@ -11,7 +11,7 @@ loop-start-preserved c =
     let passes : ℕ → Bool = all_pass c.args.right.now (inner_row c.args.beside.now) c.args.tests.now in
     let length : start + more - start ≡ more = omega arith in
     let chunk : c.push_range.new.rows.items ≡ range_with_len start more =
-        c.in_ok-push_range.ensures ∙ ap (λ (l : List ℕ). l ++ range_with_len start (start + more - start)) c.loop-start.invariant.chunk ∙ ap (range_with_len start) length in
+    c.in_ok-push_range.ensures ∙ ap (λ (l : List ℕ). l ++ range_with_len start (start + more - start)) c.loop-start.invariant.chunk ∙ ap (range_with_len start) length in
     record {
       within = omega (arith, c.min.ensures);
       chunk = c.in_ok-append.ensures.other_items;

@@ -10,5 +10,5 @@ abbrev pub invariant-loop-start : goal.invariant-loop-start
 invariant-loop-start l = record {
   within : l.start ≤ l.count;
   chunk : l.chunk.items ≡ [];
-  kept : l.kept.items ≡ filter (all_pass l.right (inner_row l.beside) l.tests) (range_with_len 0 l.start)
+  kept : l.kept.items ≡ filter (all_pass l.right (inner_row l.beside) l.tests) (range_with_len 0 l.start);
 }
