@@ -4,6 +4,7 @@ pub mod Chains
 pub mod FilteredJoins
 pub mod FoundRows
 pub mod JoinRows
+pub mod KeyColumns
 pub mod LeftKeys
 pub mod Merges
 pub mod Outputs

@@ -13,9 +13,8 @@ ghost use Rattle.relations.specs.Relations.{IsOutput, env_of, numbered_env, numb
 ghost use Rattle.operators.specs.Sources.{AreTableRows};
 
 use algebra::{Columns, Condition};
-use joins::push_if;
 use query::{ColumnId, InstanceId, TableInstance};
-use relations::resolved::{passes_all, resolve};
+use relations::passing::satisfying;
 use relations::{Env, Heading, Part, Relation, Rows, row_cell};
 use std::alloc::{AllocError, Global};
 use store::Table;
@@ -50,27 +49,6 @@ pub fn scanned<'t>(
     Ok(Relation { heading, rows })
 }
 
-/// The numbers of the rows at which all conditions are true.
-fn passing<'t>(
-    alloc: Global,
-    conditions: &[Condition],
-    input: &Relation<'t>,
-    env: &Env<'_, 't>,
-) -> Result<Vec<usize>, AllocError>
-    ensures { IfOk result (λ kept. kept.items ≡ filter (λ n. spec.holds no_classes conditions.now (numbered_env input.now (env_of env.now) n)) (numbers_of input.now)) }
-{
-    let tests = resolve(alloc, conditions, input, env)?;
-    let mut kept = Vec::new(alloc);
-    for number in 0..input.rows.count {
-        push_if(
-            &mut kept,
-            number,
-            passes_all(tests.as_slice(), input, number, env),
-        )?;
-    }
-    Ok(kept)
-}
-
 /// The rows at which all conditions are true.
 pub fn filtered<'t>(
     alloc: Global,
@@ -80,7 +58,7 @@ pub fn filtered<'t>(
 ) -> Result<Relation<'t>, AllocError>
     ensures { IfOk result (IsOutput input.entry.heading.columns (bags.select (spec.holds no_classes conditions.now) (rows_of input.entry) (env_of env.now)) (env_of env.now)) }
 {
-    let kept = passing(alloc, conditions, &input, env)?;
+    let kept = satisfying(alloc, conditions, &input, env)?;
     input.chosen(alloc, kept.as_slice())
 }
 

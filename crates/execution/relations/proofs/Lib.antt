@@ -1,5 +1,6 @@
 pub mod ColumnPlaces
 pub mod Comparisons
+pub mod Narrowed
 pub mod Numbers
 pub mod PairedRows
 pub mod RelationRows

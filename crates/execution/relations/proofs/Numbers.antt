@@ -1,5 +1,5 @@
 -- Rows by their numbers.
-use Rattle.std.proofs.Common.{◌≡◌, refl, ap, sym, ◌∙◌, ℕ, zero, suc, ◌+◌, ◌<◌, ◌≤◌, Bool, true, false, if◌then◌else◌, List, [], ◌∷◌, ◌++◌, length, get_or, map, flat_map, filter, append-nil, arith, add-one, zero-add}
+use Rattle.std.proofs.Common.{◌≡◌, refl, ap, sym, ◌∙◌, ℕ, zero, suc, ◌+◌, ◌<◌, ◌≤◌, Bool, true, false, if◌then◌else◌, List, [], ◌∷◌, ◌++◌, length, get_or, map, flat_map, filter, append-nil, append_assoc, arith, add-one, zero-add}
 use Rattle.std.specs.List.{list_any, range_with_len}
 use Rattle.std.proofs.lemmas.List.{get_or-map, map-append}
 use Rattle.std.proofs.lemmas.List.FromFn.{get_or-range_with_len, length-range_with_len}
@@ -41,6 +41,16 @@ any_found p n end below here =
 
 pub flat_map_number : {Y : Type 0} (f : ℕ → List Y) (n : ℕ) → flat_map f (range_with_len 0 (n + 1)) ≡ flat_map f (range_with_len 0 n) ++ f n
 flat_map_number f n = ap (flat_map f) (numbers_more n) ∙ flat_map-append f (range_with_len 0 n) (n ∷ []) ∙ ap (λ l. flat_map f (range_with_len 0 n) ++ l) (append-nil (f n))
+
+-- the numbers up to one, and those from it on
+pub range_split : (a n : ℕ) → range_with_len 0 (a + n) ≡ range_with_len 0 a ++ range_with_len a n
+range_split a zero = ap (range_with_len 0) (omega arith) ∙ sym (append-nil (range_with_len 0 a))
+range_split a (suc n) =
+    let more : a + suc n ≡ a + 1 + n = omega arith in
+    ap (range_with_len 0) more ∙ range_split (a + 1) n ∙ ap (λ l. l ++ range_with_len (a + 1) n) (numbers_more a) ∙ append_assoc (range_with_len 0 a) (a ∷ []) (range_with_len (a + 1) n)
+
+pub filter_split : (p : ℕ → Bool) (a n : ℕ) → filter p (range_with_len 0 a) ++ filter p (range_with_len a n) ≡ filter p (range_with_len 0 (a + n))
+filter_split p a n = sym (ap (filter p) (range_split a n) ∙ filter-append p (range_with_len 0 a) (range_with_len a n))
 
 -- ---- rows that are chosen
 

@@ -3,3 +3,4 @@ pub mod Parts
 pub mod Places
 pub mod Relations
 pub mod Resolved
+pub mod RowColumns

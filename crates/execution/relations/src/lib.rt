@@ -1,13 +1,17 @@
 //! Rows at work: relations, whose rows are lent from tables by their numbers, and the truth of conditions at these.
 #![tactic(auto)]
 
+mod admitted;
 mod building;
 pub mod environment;
 mod exchanged;
 pub mod headings;
+pub mod number_column;
 pub mod parts;
+pub mod passing;
 pub mod relation;
 pub mod resolved;
+pub mod row_columns;
 pub mod rows;
 mod terms;
 pub mod truth;
@@ -15,6 +19,8 @@ pub mod truth;
 pub use environment::{Env, row_cell};
 pub use exchanged::turned;
 pub use headings::{Heading, Place};
+pub use number_column::NumberColumn;
 pub use parts::Part;
 pub use relation::Relation;
+pub use row_columns::RowColumn;
 pub use rows::Rows;

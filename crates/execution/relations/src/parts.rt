@@ -1,11 +1,14 @@
 //! Parts of rows: rows of one source, by their numbers.
 
-ghost use Rattle.std.specs.Prelude.{◌≡◌, List, ◌∷◌, [], length, map, slice_index_or, IfOk};
+ghost use Rattle.std.specs.Prelude.{◌≡◌, ℕ, List, ◌∷◌, [], length, map, slice_index_or, IfOk, IfSome};
 ghost use Rattle.values.specs.Cells.{value_of};
 ghost use Rattle.schema.specs.Databases.{Row};
 ghost use Rattle.query.specs.Rows.{value_at};
 ghost use Rattle.relations.specs.Parts.{cell_rows, numbered_rows, source_rows};
+ghost use Rattle.relations.specs.RowColumns.{column_value, number_value};
 
+use crate::number_column::NumberColumn;
+use crate::row_columns::RowColumn;
 use std::alloc::{AllocError, Global};
 use std::marker::Model;
 use store::{RowCells, RowSource, Table};
@@ -150,6 +153,31 @@ impl<'t> Part<'t> {
                 Some(row) => self.source.cell(*row, at),
                 None => Cell::Null,
             },
+        }
+    }
+
+    /// The numbers of a place of the rows, where a table lends them.
+    fn number_column(&self, at: usize) -> Option<NumberColumn<'_>>
+        ensures { IfSome result (λ c. (n : ℕ) → number_value c n ≡ value_at at (slice_index_or self.now n [])) }
+    {
+        let Source::Stored(table) = &self.source else {
+            return None;
+        };
+        let numbers = table.numbers(at)?;
+        let rows = match &self.numbers {
+            None => None,
+            Some(rows) => Some(rows.as_slice()),
+        };
+        Some(NumberColumn { numbers, rows })
+    }
+
+    /// A place of the rows, looked up once.
+    pub fn column(&self, at: usize) -> RowColumn<'_, 't>
+        ensures { (n : ℕ) → column_value result n ≡ value_at at (slice_index_or self.now n []) }
+    {
+        match self.number_column(at) {
+            Some(column) => RowColumn::Numbers(column),
+            None => RowColumn::Placed(&*self, at),
         }
     }
 

@@ -1,0 +1,44 @@
+//! What a comparison says of each order, known before many numbers are compared.
+
+ghost use Rattle.std.specs.Prelude.{◌≡◌};
+ghost use Rattle.std.specs.declared.cmp.Ordering.TheVariants as by;
+ghost use Rattle.values.specs.Truth as logic;
+
+use std::cmp::Ordering;
+use values::Comparison;
+
+/// A comparison, and whether it is true of values in each order: so a loop over numbers needn't ask which comparison it is.
+#[derive(Clone, Copy)]
+pub(crate) struct Admitted {
+    pub comparison: Comparison,
+    less: bool,
+    equal: bool,
+    greater: bool,
+    ghost of_less: { less ≡ logic.admits comparison by.Less },
+    ghost of_equal: { equal ≡ logic.admits comparison by.Equal },
+    ghost of_greater: { greater ≡ logic.admits comparison by.Greater },
+}
+
+impl Admitted {
+    pub fn by(comparison: Comparison) -> Admitted
+        ensures { result.comparison ≡ comparison }
+    {
+        Admitted {
+            comparison,
+            less: comparison.admits(Ordering::Less),
+            equal: comparison.admits(Ordering::Equal),
+            greater: comparison.admits(Ordering::Greater),
+        }
+    }
+
+    #[inline(always)]
+    pub fn admits(self, order: Ordering) -> bool
+        ensures { result ≡ logic.admits self.comparison order }
+    {
+        match order {
+            Ordering::Less => self.less,
+            Ordering::Equal => self.equal,
+            Ordering::Greater => self.greater,
+        }
+    }
+}
