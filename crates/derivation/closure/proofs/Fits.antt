@@ -190,7 +190,7 @@ module _ (instances : List TableInstance) (E : Log) (rule : RuleName) (i : ℕ) 
         let under : IsInput K (input_of k.expr c.input) j = input-is K (input_of k.expr c.input) c.operators j lowest in
         subst (Has 0) (sym (next.uses_are ∙ ap (λ ns. next.first ∷ ns) (last.uses_are ∙ ap (λ ns. last.first ∷ ns) (none-left last.rest last.rest_at))))
         (triples input.number next.first input.is (ap (is_of E input.number) next.first_at ∙ equal-turned _ _ input.same) k next.first_at
-          under.number last.first under.is (ap (is_of E under.number) last.first_at ∙ equal-turned _ _ under.same))
+        under.number last.first under.is (ap (is_of E under.number) last.first_at ∙ equal-turned _ _ under.same))
 
     pub one_all : (O : Operators) → (has_one_of top.expr O ≡ true → Has 0 []) → HasResultsBy instances E rule i (One O)
     one_all O has = with-others (One O) by

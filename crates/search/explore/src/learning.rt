@@ -102,9 +102,10 @@ fn look_at(
     ensures direct { OnOk result (FoundsDirectly memo.old.limit memo.old.log memo.new.log) }
     ensures limit { memo.new.limit ≡ memo.old.limit }
 {
-    if looks.is_due(memo, line) {
-        learn_of(alloc, memo, line)?;
+    if !looks.is_due(memo, line) {
+        return looks.note(line, memo.log().len());
     }
+    learn_of(alloc, memo, line)?;
     looks.note(line, memo.log().len())
 }
 

@@ -12,4 +12,4 @@ returns c =
     told instances E _ _ c.in_ok-found.found (λ all.
     subst (HasPairs instances E c.args.rule c.args.pick c.args.top) (sym c.in-Some.is)
     (pairs_of instances E c.args.rule c.args.pick c.args.top c.in-Some.class c.as_slice.result.now
-      (subst (λ (ns : List ℕ). (n : ℕ) → times n ns ≡ once_if (is_member E c.in-Some.class n)) (sym c.as_slice.ensures.value) c.in_ok-lines.ensures) all)) c.in_ok-found.ensures
+    (subst (λ (ns : List ℕ). (n : ℕ) → times n ns ≡ once_if (is_member E c.in-Some.class n)) (sym c.as_slice.ensures.value) c.in_ok-lines.ensures) all)) c.in_ok-found.ensures
