@@ -1,0 +1,4 @@
+pub mod FormedLogs
+pub mod Founding
+pub mod Results
+pub mod SpeltShapes

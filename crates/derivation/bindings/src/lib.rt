@@ -1,0 +1,13 @@
+//! Bindings: rules with the lines that they are applied to, and the lines by which what they give comes into a log.
+#![tactic(auto)]
+
+mod binding;
+mod given;
+mod operators;
+mod result_lines;
+mod spelt;
+
+pub use binding::{Binding, BoundLines, step_of};
+pub use given::Given;
+pub use operators::{OverOne, OverTwo};
+pub use result_lines::{line_of, results_may_stand};
