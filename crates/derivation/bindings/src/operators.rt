@@ -38,12 +38,7 @@ impl OverOne<'_> {
 
 impl OverTwo<'_> {
     /// The operator over two classes.
-    pub fn over(
-        self,
-        alloc: Global,
-        left: ClassId,
-        right: ClassId,
-    ) -> Result<Expr, AllocError>
+    pub fn over(self, alloc: Global, left: ClassId, right: ClassId) -> Result<Expr, AllocError>
         ensures { IfOk result (λ expr. expr ≡ spec.over_two self.entry left right) }
     {
         match self {
