@@ -1,5 +1,5 @@
 -- What a rule gives is well formed if what it makes of its lines' expressions is.
-use Rattle.std.proofs.Common.{◌≡◌, refl, ap, sym, ◌∙◌, subst, ℕ, Bool, true, false, ◌&&◌, ◌==◌, if◌then◌else◌, List, [], ◌∷◌, ◌++◌, Result, Ok, Some, None}
+use Rattle.std.proofs.Common.{◌≡◌, refl, ap, sym, ◌∙◌, subst, ℕ, Bool, true, ◌&&◌, List, [], ◌∷◌, ◌++◌, slice_get, Result, Ok, Option, Some, None}
 use Rattle.std.specs.List.{AllByRecursion, list_all}
 use Rattle.std.proofs.lemmas.Bool.{and_parts}
 use Rattle.values.specs.Faults.{◌>>=◌, wanted}
@@ -17,8 +17,11 @@ use Rattle.rules.specs.declared.shape.Shape.TheVariants.{Class, Select, Join, Se
 use Rattle.rules.specs.declared.unfit.Unfit.{Unfit}
 use Rattle.rules.specs.declared.unfit.Unfit.TheVariants.{Pattern}
 use Rattle.rules.specs.Formed.{IsFormed, IsFormedLine, Rises, formed}
-use Rattle.rules.specs.Matches.{Line, takes, is_first_same, the_one, the_two, one_line, two_lines}
+use Rattle.rules.specs.Bindings.{is_same_as}
+use Rattle.rules.specs.Matches.{Line, Matched, one_line, two_lines}
 use Rattle.rules.specs.Shapes.{selected}
+use Rattle.rules.proofs.BoundLines.{Placed, IsPlaced, Binding, IsBound, Binds, all-placed}
+use Rattle.rules.proofs.BoundForms.{one, one-binds, two_first, two_first-binds}
 use Rattle.rules.proofs.FormedShapes as shapes
 use Rattle.rules.proofs.FormedShapes.{AreApart, apart-at, apart-from}
 
@@ -124,6 +127,51 @@ module _ (S : Site) where
   pub union-are : (C D : List Condition) → Are C → Are D → Are (union C D)
   union-are = shapes.union-formed S.instances S.own K.columns S.founds
 
+-- ---- what is bound
+
+-- an expression that may stand, of a class, if there is one: it has its columns
+pub record StandsForSome (S : Site) (b : Placed) : Type 0 where
+  pub stands : MayStand S b.1
+  pub columns : (g : ℕ) → b.0 ≡ Some g → S.classes.columns g ≡ cols S b.1
+
+abbrev pub BoundIsFormed : {X : Type 0} → Binding X → (Knowledge → X → Result Shape Unfit) → Type 0
+BoundIsFormed {X} B rewrite = (S : Site) (x : X) (s : Shape) → MayStand S (B.top x) → Rising S (B.top x) → B.IsSo x → AllByRecursion (StandsForSome S) (B.below x) → rewrite S.classes x ≡ Ok s
+    → Is S s (cols S (B.top x))
+
+pub bound-formed : {X : Type 0} (B : Binding X) → Binds B → (rewrite : Knowledge → X → Result Shape Unfit) → BoundIsFormed B rewrite → IsFormed (λ m. wanted Pattern (B.bound m) >>= rewrite m.classes)
+bound-formed {X} B binds rewrite made instances own classes founds agree pick top others s is all rise = by (B.bound m) refl is
+  where
+    S : Site
+    S = record { instances = instances; own = own; classes = classes; founds = founds }
+
+    m : Matched
+    m = record { lines = top ∷ others; pick = pick; classes = classes }
+
+    Stands : Line → Type 0
+    Stands = IsFormedLine instances own classes founds
+
+    stands-for : (b : Placed) (l : Line) → IsPlaced classes b l → Stands l → StandsForSome S b
+    stands-for b l placed line = subst (λ y. StandsForSome S (b.0, y)) placed.expr (record {
+      stands = record { known = line.known; formed = line.formed };
+      columns = λ g at. agree g l.class (sym (ap (λ o. is_same_as classes o l.class) at) ∙ placed.class) ∙ sym line.columns;
+    })
+
+    Given : Type 0
+    Given = ((formed instances own classes.columns founds s).is_formed ≡ true) × ((formed instances own classes.columns founds s).columns ≡ classes.columns top.class)
+
+    at : (x : X) → IsBound B m x → rewrite classes x ≡ Ok s → Given
+    at x i is =
+        let first : top ≡ i.first = let e : m.lines ≡ i.first ∷ i.others = i.lines in cc in
+        let rest : others ≡ i.others = let e : m.lines ≡ i.first ∷ i.others = i.lines in cc in
+        let same : top.expr ≡ B.top x = ap (λ (l : Line). l.expr) first ∙ i.top in
+        let below = all-placed classes Stands (StandsForSome S) stands-for (B.below x) i.others i.below (subst (AllByRecursion Stands) rest all.1) in
+        let made_ = made S x s (subst (MayStand S) same (record { known = all.0.known; formed = all.0.formed })) (subst (Rising S) same rise) i.so below is in
+        (made_.formed_, made_.columns_ ∙ ap (cols S) (sym same) ∙ all.0.columns)
+
+    by : (o : Option X) → B.bound m ≡ o → (wanted Pattern o >>= rewrite classes) ≡ Ok s → Given
+    by None bound is = cc
+    by (Some x) bound is = at x (binds m x bound) is
+
 -- ---- what is matched
 
 -- what is made of an expression that may stand may stand, with its columns
@@ -135,49 +183,9 @@ abbrev pub TwoAreFormed : (Knowledge → Expr → Expr → Result Shape Unfit) �
 TwoAreFormed rewrite = (S : Site) (x y : Expr) (s : Shape) → MayStand S x → MayStand S y → ((g : ℕ) (others : List ℕ) → children x ≡ g ∷ others → S.classes.columns g ≡ cols S y)
     → rewrite S.classes x y ≡ Ok s → Is S s (cols S x)
 
-line-stands : (S : Site) (l : Line) → IsFormedLine S.instances S.own S.classes S.founds l → MayStand S l.expr
-line-stands S l is = record { known = is.known; formed = is.formed }
-
-abbrev Result-of : Site → Line → Shape → Type 0
-Result-of S top s = ((formed S.instances S.own S.classes.columns S.founds s).is_formed ≡ true) × ((formed S.instances S.own S.classes.columns S.founds s).columns ≡ S.classes.columns top.class)
-
-result : (S : Site) (top : Line) (s : Shape) → IsFormedLine S.instances S.own S.classes S.founds top → Is S s (cols S top.expr) → Result-of S top s
-result S top s line is = (is.formed_, is.columns_ ∙ line.columns)
-
 pub one-formed : (rewrite : Knowledge → Expr → Result Shape Unfit) → OneIsFormed rewrite → IsFormed (λ m. wanted Pattern (one_line m) >>= rewrite m.classes)
-one-formed rewrite formed instances own classes founds agree pick top others s is all rise = unpick (pick == 0) is
-  where
-    S : Site
-    S = record { instances = instances; own = own; classes = classes; founds = founds }
-
-    by : (others : List Line) → (wanted Pattern (the_one (top ∷ others)) >>= rewrite classes) ≡ Ok s → Is S s (cols S top.expr)
-    by [] is = formed S top.expr s (line-stands S top all.0) rise is
-    by (k ∷ others) is = cc
-
-    unpick : (b : Bool) → (wanted Pattern (if b then the_one (top ∷ others) else None) >>= rewrite classes) ≡ Ok s → Result-of S top s
-    unpick true is = result S top s all.0 (by others is)
-    unpick false is = cc
-
-abbrev both : Line → Line → Expr × Expr
-both l k = (l.expr, k.expr)
+one-formed rewrite made = bound-formed one one-binds rewrite (λ S x s stands rise so of. made S x s stands rise)
 
 pub two-formed : (rewrite : Knowledge → Expr → Expr → Result Shape Unfit) → TwoAreFormed rewrite → IsFormed (λ m. wanted Pattern (two_lines m) >>= λ l. rewrite m.classes l.0 l.1)
-two-formed rewrite formed instances own classes founds agree pick top others s is all rise = unpick (pick == 0) is
-  where
-    S : Site
-    S = record { instances = instances; own = own; classes = classes; founds = founds }
-
-    or : (k : Line) → IsFormedLine instances own classes founds k → (b : Bool) → takes classes top.expr k.class ≡ b → (wanted Pattern (if b then Some (both top k) else None) >>= λ l. rewrite classes l.0 l.1) ≡ Ok s
-        → Is S s (cols S top.expr)
-    or k line true taken is = formed S top.expr k.expr s (line-stands S top all.0) (line-stands S k line)
-        (λ g others first. agree g k.class (sym (ap (λ L. is_first_same classes L k.class) first) ∙ taken) ∙ sym line.columns) is
-    or k line false taken is = cc
-
-    by : (others : List Line) → AllByRecursion (IsFormedLine instances own classes founds) others → (wanted Pattern (the_two classes (top ∷ others)) >>= λ l. rewrite classes l.0 l.1) ≡ Ok s → Is S s (cols S top.expr)
-    by [] lines is = cc
-    by (k ∷ []) lines is = or k lines.0 (takes classes top.expr k.class) refl is
-    by (k ∷ j ∷ others) lines is = cc
-
-    unpick : (b : Bool) → (wanted Pattern (if b then the_two classes (top ∷ others) else None) >>= λ l. rewrite classes l.0 l.1) ≡ Ok s → Result-of S top s
-    unpick true is = result S top s all.0 (by others all.1 is)
-    unpick false is = cc
+two-formed rewrite made = bound-formed two_first two_first-binds (λ K l. rewrite K l.0 l.1)
+    (λ S l s stands rise so of. made S l.0 l.1 s stands of.0.stands (λ g others first. of.0.columns g (ap (λ L. slice_get L 0) first)))

@@ -1,9 +1,16 @@
+pub mod BoundForms
+pub mod BoundLines
 pub mod Conditions
+pub mod FormedBindings
 pub mod FormedLines
 pub mod FormedShapes
 pub mod MatchedLines
+pub mod PatternedBindings
 pub mod PatternedLines
+pub mod Picks
 pub mod Sets
 pub mod ShapeMeanings
+pub mod SoundBindings
+pub mod StableBindings
 pub mod StableLines
 pub mod Subqueries

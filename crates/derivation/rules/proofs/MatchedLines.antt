@@ -1,18 +1,21 @@
--- A rule is sound if what it makes of its lines' expressions is.
-use Rattle.std.proofs.Common.{◌≡◌, refl, ap, sym, ◌∙◌, subst, ℕ, Bool, true, false, ◌==◌, if◌then◌else◌, List, [], ◌∷◌, Result, Ok, Some, None}
+-- A rule is sound if what it makes of what it binds is: of its lines' expressions.
+use Rattle.std.proofs.Common.{◌≡◌, refl, ap, sym, ◌∙◌, subst, ℕ, true, List, ◌∷◌, slice_get, Result, Ok, Option, Some, None}
 use Rattle.std.specs.List.{AllByRecursion}
 use Rattle.values.specs.Faults.{◌>>=◌, wanted}
 use Rattle.algebra.specs.declared.expr.Expr.{Expr}
 use Rattle.algebra.specs.Bags.{Bag, SameBag}
 use Rattle.algebra.specs.Expressions.{children, means, columns_of, is_formed}
 use Rattle.algebra.proofs.SameBags.{same_bag-trans}
-use Rattle.props.specs.Knowledge.{Knowledge, IsTrueOf, with_rows, are_same}
+use Rattle.props.specs.Knowledge.{Knowledge, IsTrueOf, with_rows}
 use Rattle.rules.specs.declared.shape.Shape.{Shape}
 use Rattle.rules.specs.declared.unfit.Unfit.{Unfit}
 use Rattle.rules.specs.declared.unfit.Unfit.TheVariants.{Pattern}
-use Rattle.rules.specs.Matches.{Line, takes, is_first_same, the_one, the_two, one_line, two_lines}
+use Rattle.rules.specs.Bindings.{is_same_as}
+use Rattle.rules.specs.Matches.{Line, one_line, two_lines}
 use Rattle.rules.specs.Shapes.{meant}
 use Rattle.rules.specs.Soundness.{World, IsLine, IsSound}
+use Rattle.rules.proofs.BoundLines.{Placed, IsPlaced, Binding, IsBound, Binds, all-placed}
+use Rattle.rules.proofs.BoundForms.{one, one-binds, two_first, two_first-binds}
 
 -- the rows of an expression and of a shape
 abbrev pub rows_of : Knowledge → World → Expr → Bag
@@ -25,35 +28,57 @@ shape_rows K W s = (meant (with_rows K W.rows) s).rows
 pub given : (K : Knowledge) (W : World) (x : Bag) (t s : Shape) → ◌≡◌ {A = Result Shape Unfit} (Ok t) (Ok s) → SameBag x (shape_rows K W t) → SameBag x (shape_rows K W s)
 given K W x t s is same = subst (λ s. SameBag x (shape_rows K W s)) (let e : t ≡ s = cc in e) same
 
--- ---- one line
+-- ---- what is bound
 
 -- an expression over classes
 pub record Stands (K : Knowledge) (W : World) (x : Expr) : Type 0 where
   pub classes : IsTrueOf K W.rows
   pub formed : is_formed W.instances W.own K.columns x ≡ true
 
+-- an expression of a class, if there is one: it has its columns and its rows
+pub record IsOfSome (K : Knowledge) (W : World) (b : Placed) : Type 0 where
+  pub formed : is_formed W.instances W.own K.columns b.1 ≡ true
+  pub columns : (g : ℕ) → b.0 ≡ Some g → K.columns g ≡ columns_of W.instances K.columns b.1
+  pub rows : (g : ℕ) → b.0 ≡ Some g → SameBag (W.rows g) (rows_of K W b.1)
+
+is-of : (K : Knowledge) (W : World) → IsTrueOf K W.rows → (b : Placed) (l : Line) → IsPlaced K b l → IsLine K W l → IsOfSome K W b
+is-of K W classes b l placed line = subst (λ y. IsOfSome K W (b.0, y)) placed.expr (record {
+  formed = line.formed;
+  columns = λ g at. (same g at).0 ∙ sym line.columns;
+  rows = λ g at. same_bag-trans _ _ _ (same g at).1 line.rows;
+})
+  where
+    same : (g : ℕ) → b.0 ≡ Some g → (K.columns g ≡ K.columns l.class) × SameBag (W.rows g) (W.rows l.class)
+    same g at = classes.same g l.class (sym (ap (λ o. is_same_as K o l.class) at) ∙ placed.class)
+
+abbrev pub BoundIsSound : {X : Type 0} → Binding X → (Knowledge → X → Result Shape Unfit) → Type 0
+BoundIsSound {X} B rewrite = (K : Knowledge) (W : World) (x : X) (s : Shape) → Stands K W (B.top x) → B.IsSo x → AllByRecursion (IsOfSome K W) (B.below x) → rewrite K x ≡ Ok s
+    → SameBag (rows_of K W (B.top x)) (shape_rows K W s)
+
+pub bound-sound : {X : Type 0} (B : Binding X) → Binds B → (rewrite : Knowledge → X → Result Shape Unfit) → BoundIsSound B rewrite → IsSound (λ m. wanted Pattern (B.bound m) >>= rewrite m.classes)
+bound-sound {X} B binds rewrite sound m s is W true_ top others lines = by (B.bound m) refl is
+  where
+    at : (x : X) → IsBound B m x → rewrite m.classes x ≡ Ok s → SameBag (rows_of m.classes W top.expr) (shape_rows m.classes W s)
+    at x i is =
+        let all : AllByRecursion (IsLine m.classes W) (i.first ∷ i.others) = subst (AllByRecursion (IsLine m.classes W)) i.lines true_.lines in
+        let same : i.first ≡ top = cc in
+        subst (λ (y : Expr). SameBag (rows_of m.classes W y) (shape_rows m.classes W s)) (sym i.top ∙ ap (λ (l : Line). l.expr) same)
+        (sound m.classes W x s (record { classes = true_.classes; formed = subst (λ y. is_formed W.instances W.own m.classes.columns y ≡ true) i.top all.0.formed }) i.so
+        (all-placed m.classes (IsLine m.classes W) (IsOfSome m.classes W) (is-of m.classes W true_.classes) (B.below x) i.others i.below all.1) is)
+
+    by : (o : Option X) → B.bound m ≡ o → (wanted Pattern o >>= rewrite m.classes) ≡ Ok s → SameBag (rows_of m.classes W top.expr) (shape_rows m.classes W s)
+    by None bound is = cc
+    by (Some x) bound is = at x (binds m x bound) is
+
+-- ---- one line
+
 abbrev pub OneIsSound : (Knowledge → Expr → Result Shape Unfit) → Type 0
 OneIsSound rewrite = (K : Knowledge) (W : World) (x : Expr) (s : Shape) → Stands K W x → rewrite K x ≡ Ok s → SameBag (rows_of K W x) (shape_rows K W s)
 
 pub one-sound : (rewrite : Knowledge → Expr → Result Shape Unfit) → OneIsSound rewrite → IsSound (λ m. wanted Pattern (one_line m) >>= rewrite m.classes)
-one-sound rewrite sound m s is W true_ top others lines = unpick (m.pick == 0) is (λ is. by m.lines is true_.lines lines)
-  where
-    unpick : (b : Bool) → (wanted Pattern (if b then the_one m.lines else None) >>= rewrite m.classes) ≡ Ok s
-        → ((wanted Pattern (the_one m.lines) >>= rewrite m.classes) ≡ Ok s → SameBag (rows_of m.classes W top.expr) (shape_rows m.classes W s)) → SameBag (rows_of m.classes W top.expr) (shape_rows m.classes W s)
-    unpick true is given_ = given_ is
-    unpick false is given_ = cc
-
-    by : (L : List Line) → (wanted Pattern (the_one L) >>= rewrite m.classes) ≡ Ok s → AllByRecursion (IsLine m.classes W) L → L ≡ top ∷ others → SameBag (rows_of m.classes W top.expr) (shape_rows m.classes W s)
-    by [] is all lines = cc
-    by (l ∷ []) is all lines =
-        let same : l ≡ top = cc in
-        subst (λ (t : Line). SameBag (rows_of m.classes W t.expr) (shape_rows m.classes W s)) same (sound m.classes W l.expr s (record { classes = true_.classes; formed = all.0.formed }) is)
-    by (l ∷ k ∷ L) is all lines = cc
+one-sound rewrite sound = bound-sound one one-binds rewrite (λ K W x s stands so of. sound K W x s stands)
 
 -- ---- two lines
-
-abbrev both : Line → Line → Expr × Expr
-both l k = (l.expr, k.expr)
 
 -- the second is of the class that the first takes
 pub record IsBelow (K : Knowledge) (W : World) (x y : Expr) : Type 0 where
@@ -64,36 +89,12 @@ pub record IsBelow (K : Knowledge) (W : World) (x y : Expr) : Type 0 where
 abbrev pub TwoAreSound : (Knowledge → Expr → Expr → Result Shape Unfit) → Type 0
 TwoAreSound rewrite = (K : Knowledge) (W : World) (x y : Expr) (s : Shape) → Stands K W x → IsBelow K W x y → rewrite K x y ≡ Ok s → SameBag (rows_of K W x) (shape_rows K W s)
 
-below : (K : Knowledge) (W : World) (l k : Line) → IsTrueOf K W.rows → takes K l.expr k.class ≡ true → IsLine K W k → IsBelow K W l.expr k.expr
-below K W l k classes is line = record {
-  formed = line.formed;
-  columns = λ g others first. (classes.same g k.class (taken g others first)).0 ∙ sym line.columns;
-  rows = λ g others first. same_bag-trans _ _ _ (classes.same g k.class (taken g others first)).1 line.rows;
+below : (K : Knowledge) (W : World) (x y : Expr) → IsOfSome K W (slice_get (children x) 0, y) → IsBelow K W x y
+below K W x y of = record {
+  formed = of.formed;
+  columns = λ g others first. of.columns g (ap (λ L. slice_get L 0) first);
+  rows = λ g others first. of.rows g (ap (λ L. slice_get L 0) first);
 }
-  where
-    taken : (g : ℕ) (others : List ℕ) → children l.expr ≡ g ∷ others → are_same K g k.class ≡ true
-    taken g others first = sym (ap (λ L. is_first_same K L k.class) first) ∙ is
 
 pub two-sound : (rewrite : Knowledge → Expr → Expr → Result Shape Unfit) → TwoAreSound rewrite → IsSound (λ m. wanted Pattern (two_lines m) >>= λ l. rewrite m.classes l.0 l.1)
-two-sound rewrite sound m s is W true_ top others lines = unpick (m.pick == 0) is (λ is. by m.lines is true_.lines lines)
-  where
-    unpick : (b : Bool) → (wanted Pattern (if b then the_two m.classes m.lines else None) >>= λ l. rewrite m.classes l.0 l.1) ≡ Ok s
-        → ((wanted Pattern (the_two m.classes m.lines) >>= λ l. rewrite m.classes l.0 l.1) ≡ Ok s → SameBag (rows_of m.classes W top.expr) (shape_rows m.classes W s))
-        → SameBag (rows_of m.classes W top.expr) (shape_rows m.classes W s)
-    unpick true is given_ = given_ is
-    unpick false is given_ = cc
-
-    by : (L : List Line) → (wanted Pattern (the_two m.classes L) >>= λ l. rewrite m.classes l.0 l.1) ≡ Ok s → AllByRecursion (IsLine m.classes W) L → L ≡ top ∷ others
-        → SameBag (rows_of m.classes W top.expr) (shape_rows m.classes W s)
-    by [] is all lines = cc
-    by (l ∷ []) is all lines = cc
-    by (l ∷ k ∷ []) is all lines = or (takes m.classes l.expr k.class) refl is
-      where
-        or : (b : Bool) → takes m.classes l.expr k.class ≡ b → (wanted Pattern (if b then Some (both l k) else None) >>= λ l. rewrite m.classes l.0 l.1) ≡ Ok s
-            → SameBag (rows_of m.classes W top.expr) (shape_rows m.classes W s)
-        or true taken is =
-            let same : l ≡ top = cc in
-            subst (λ (t : Line). SameBag (rows_of m.classes W t.expr) (shape_rows m.classes W s)) same
-            (sound m.classes W l.expr k.expr s (record { classes = true_.classes; formed = all.0.formed }) (below m.classes W l k true_.classes taken all.1.0) is)
-        or false taken is = cc
-    by (l ∷ k ∷ j ∷ L) is all lines = cc
+two-sound rewrite sound = bound-sound two_first two_first-binds (λ K l. rewrite K l.0 l.1) (λ K W l s stands so of. sound K W l.0 l.1 s stands (below K W l.0 l.1 of.0))

@@ -1,5 +1,5 @@
 -- What a rule gives depends on named classes alone if what it makes of its lines' expressions does: on their columns, on what mentions these, on facts.
-use Rattle.std.proofs.Common.{◌≡◌, refl, ap, sym, ◌∙◌, subst, ℕ, Bool, true, false, not, ◌&&◌, ◌||◌, ◌==◌, if◌then◌else◌, List, [], ◌∷◌, filter, map, Result, Option, Some, None}
+use Rattle.std.proofs.Common.{◌≡◌, refl, ap, sym, ◌∙◌, subst, ℕ, Bool, true, not, ◌&&◌, ◌||◌, ◌==◌, if◌then◌else◌, List, [], ◌∷◌, filter, map, Result, Option, Some, None}
 use Rattle.std.specs.List.{AllByRecursion, list_all, list_any}
 use Rattle.std.proofs.lemmas.Bool.{and_parts}
 use Rattle.values.specs.Faults.{◌>>=◌, wanted}
@@ -16,9 +16,10 @@ use Rattle.rules.specs.declared.shape.Shape.{Shape}
 use Rattle.rules.specs.declared.unfit.Unfit.{Unfit}
 use Rattle.rules.specs.declared.unfit.Unfit.TheVariants.{Pattern}
 use Rattle.rules.specs.Conjuncts.{is_apart_from}
-use Rattle.rules.specs.Matches.{Line, takes, is_first_same, the_one, the_two, one_line, two_lines}
+use Rattle.rules.specs.Matches.{Line, Matched, is_first_same, the_two, one_line, two_lines, unpicked}
 use Rattle.rules.specs.Stability.{Agree, IsStable}
-use Rattle.rules.proofs.PatternedLines.{made, pair}
+use Rattle.rules.proofs.BoundLines.{Placed, Binding, IsBound, Binds, all-placed}
+use Rattle.rules.proofs.BoundForms.{one, one-binds, two_first, two_first-binds}
 
 module _ (p : ℕ → Bool) (K L : Knowledge) (agree : Agree p K L) where
   -- ---- what conditions mention
@@ -111,6 +112,38 @@ module _ (p : ℕ → Bool) where
   pub sides : (a b : ℕ) (C : List Condition) → (list_all p (a ∷ b ∷ []) && subqueries_pass p C) ≡ true → (p a ≡ true) × (p b ≡ true) × (subqueries_pass p C ≡ true)
   sides a b C known = let parts = and_parts _ _ known in let both = and_parts _ _ parts.0 in (both.0, (and_parts _ _ both.1).0, parts.1)
 
+-- ---- what is bound
+
+-- lines over classes
+abbrev pub over : Knowledge → ℕ → List Line → Matched
+over K pick lines = record { lines = lines; pick = pick; classes = K }
+
+-- what is bound depends on which classes are the same alone
+abbrev pub IsSteady : {X : Type 0} → Binding X → Type 0
+IsSteady B = (p : ℕ → Bool) (K L : Knowledge) → Agree p K L → (pick : ℕ) (lines : List Line) → B.bound (over K pick lines) ≡ B.bound (over L pick lines)
+
+abbrev pub BoundIsStable : {X : Type 0} → Binding X → (Knowledge → X → Result Shape Unfit) → Type 0
+BoundIsStable {X} B rewrite = (p : ℕ → Bool) (K L : Knowledge) → Agree p K L → (x : X) → Knows p (B.top x) → B.IsSo x → AllByRecursion (λ (b : Placed). Knows p b.1) (B.below x)
+    → rewrite K x ≡ rewrite L x
+
+pub bound-stable : {X : Type 0} (B : Binding X) → Binds B → IsSteady B → (rewrite : Knowledge → X → Result Shape Unfit) → BoundIsStable B rewrite
+    → IsStable (λ m. wanted Pattern (B.bound m) >>= rewrite m.classes)
+bound-stable {X} B binds steady rewrite stable p K L agree pick lines known =
+    by (B.bound (over K pick lines)) refl ∙ ap (λ o. wanted Pattern o >>= rewrite L) (steady p K L agree pick lines)
+  where
+    KnowsLine : Line → Type 0
+    KnowsLine l = Knows p l.expr
+
+    at : (x : X) → IsBound B (over K pick lines) x → rewrite K x ≡ rewrite L x
+    at x i =
+        let all : AllByRecursion KnowsLine (i.first ∷ i.others) = subst (AllByRecursion KnowsLine) i.lines known in
+        stable p K L agree x (subst (Knows p) i.top all.0) i.so
+        (all-placed K KnowsLine (λ (b : Placed). Knows p b.1) (λ b l placed knows. subst (Knows p) placed.expr knows) (B.below x) i.others i.below all.1)
+
+    by : (o : Option X) → B.bound (over K pick lines) ≡ o → (wanted Pattern o >>= rewrite K) ≡ (wanted Pattern o >>= rewrite L)
+    by None bound = refl
+    by (Some x) bound = at x (binds (over K pick lines) x bound)
+
 -- ---- what is matched
 
 abbrev pub OneIsStable : (Knowledge → Expr → Result Shape Unfit) → Type 0
@@ -120,32 +153,16 @@ abbrev pub TwoAreStable : (Knowledge → Expr → Expr → Result Shape Unfit) �
 TwoAreStable rewrite = (p : ℕ → Bool) (K L : Knowledge) → Agree p K L → (x y : Expr) → Knows p x → Knows p y → rewrite K x y ≡ rewrite L x y
 
 pub one-stable : (rewrite : Knowledge → Expr → Result Shape Unfit) → OneIsStable rewrite → IsStable (λ m. wanted Pattern (one_line m) >>= rewrite m.classes)
-one-stable rewrite stable p K L agree pick lines known = unpick (pick == 0)
-  where
-    by : (lines : List Line) → AllByRecursion (λ (l : Line). Knows p l.expr) lines → (wanted Pattern (the_one lines) >>= rewrite K) ≡ (wanted Pattern (the_one lines) >>= rewrite L)
-    by [] known = refl
-    by (l ∷ []) known = stable p K L agree l.expr known.0
-    by (l ∷ k ∷ others) known = refl
+one-stable rewrite stable = bound-stable one one-binds (λ p K L agree pick lines. refl) rewrite (λ p K L agree x known so below. stable p K L agree x known)
 
-    unpick : (b : Bool) → (wanted Pattern (if b then the_one lines else None) >>= rewrite K) ≡ (wanted Pattern (if b then the_one lines else None) >>= rewrite L)
-    unpick true = by lines known
-    unpick false = refl
+two-steady : IsSteady two_first
+two-steady p K L agree pick lines = ap (unpicked pick) (by lines)
+  where
+    by : (lines : List Line) → the_two K lines ≡ the_two L lines
+    by [] = refl
+    by (l ∷ []) = refl
+    by (l ∷ k ∷ []) = ap (λ (b : Bool). if b then Some (l.expr, k.expr) else None) (taken-same p K L agree (children l.expr) k.class)
+    by (l ∷ k ∷ j ∷ others) = refl
 
 pub two-stable : (rewrite : Knowledge → Expr → Expr → Result Shape Unfit) → TwoAreStable rewrite → IsStable (λ m. wanted Pattern (two_lines m) >>= λ l. rewrite m.classes l.0 l.1)
-two-stable rewrite stable p K L agree pick lines known = unpick (pick == 0)
-  where
-    or : (l k : Line) → Knows p l.expr → Knows p k.expr → (b : Bool) → made rewrite K (if b then Some (pair l k) else None) ≡ made rewrite L (if b then Some (pair l k) else None)
-    or l k first second true = stable p K L agree l.expr k.expr first second
-    or l k first second false = refl
-
-    by : (lines : List Line) → AllByRecursion (λ (l : Line). Knows p l.expr) lines → made rewrite K (the_two K lines) ≡ made rewrite L (the_two L lines)
-    by [] known = refl
-    by (l ∷ []) known = refl
-    by (l ∷ k ∷ []) known =
-        or l k known.0 known.1.0 (takes K l.expr k.class)
-        ∙ ap (λ b. made rewrite L (if b then Some (pair l k) else None)) (taken-same p K L agree (children l.expr) k.class)
-    by (l ∷ k ∷ j ∷ others) known = refl
-
-    unpick : (b : Bool) → made rewrite K (if b then the_two K lines else None) ≡ made rewrite L (if b then the_two L lines else None)
-    unpick true = by lines known
-    unpick false = refl
+two-stable rewrite stable = bound-stable two_first two_first-binds two-steady (λ K l. rewrite K l.0 l.1) (λ p K L agree l known so below. stable p K L agree l.0 l.1 known below.0)

@@ -1,3 +1,4 @@
+pub mod Bindings
 pub mod Conjuncts
 pub mod Formed
 pub mod Matches

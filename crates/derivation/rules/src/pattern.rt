@@ -105,7 +105,7 @@ impl Input {
 }
 
 /// The class of a condition that is EXISTS or IN of a class, or NOT of such a condition.
-fn subquery_of(condition: &Condition) -> Option<ClassId>
+pub(crate) fn subquery_of(condition: &Condition) -> Option<ClassId>
     ensures { result ≡ spec.subquery_of condition.now }
 {
     match condition {
@@ -140,7 +140,11 @@ fn is_among(classes: &[ClassId], class: ClassId) -> bool
 }
 
 /// The class, if a selection's conjuncts name it.
-fn picked_class(alloc: Global, expr: &Expr, pick: u32) -> Result<Option<ClassId>, AllocError>
+pub(crate) fn picked_class(
+    alloc: Global,
+    expr: &Expr,
+    pick: u32,
+) -> Result<Option<ClassId>, AllocError>
     ensures { IfOk result (λ class. class ≡ spec.picked_class expr.now pick) }
 {
     match expr {

@@ -2,15 +2,15 @@
 
 use crate::classes::{Known, known_classes};
 use crate::shapes::push_shape;
-use crate::words::{lines_of, number};
+use crate::words::{lines_of, matched_lines, number};
 use algebra::{ClassId, Expr};
 use book::RuleName;
 use fixtures::{Reporting, differences};
-use rules::{Match, MatchedLine, RuleFault, Shape, Unfit};
+use rules::{Match, RuleFault, Shape, Unfit};
 use std::alloc::{AllocError, Global};
 use values::Fault;
 
-fn push_applied(
+pub fn push_applied(
     alloc: Global,
     reported: &mut String,
     applied: &Result<Shape, RuleFault>,
@@ -31,13 +31,7 @@ fn report_applied(
     known: &Known,
     reported: &mut String,
 ) -> Result<(), AllocError> {
-    let mut matched = Vec::new(alloc);
-    for line in lines {
-        matched.push(MatchedLine {
-            class: line.0,
-            expr: &line.1,
-        })?;
-    }
+    let matched = matched_lines(alloc, lines)?;
     let at = Match {
         lines: matched.as_slice(),
         pick,

@@ -6,6 +6,8 @@ mod answers;
 #[cfg(test)]
 mod applied;
 #[cfg(test)]
+mod bound;
+#[cfg(test)]
 mod classes;
 #[cfg(test)]
 mod facts;
@@ -21,5 +23,7 @@ mod patterns;
 mod promises;
 #[cfg(test)]
 mod shapes;
+#[cfg(test)]
+mod unlisted;
 #[cfg(test)]
 mod words;

@@ -1,11 +1,11 @@
 //! Lines that are of a pattern, and lines that aren't.
 
 use crate::classes::{Known, known_classes};
-use crate::words::{lines_of, number};
+use crate::words::{lines_of, matched_lines, number};
 use algebra::{ClassId, Expr};
 use book::RuleName;
 use fixtures::{Reporting, differences};
-use rules::{Below, Input, Match, MatchedLine, Operator, Operators, Pattern};
+use rules::{Below, Input, Match, Operator, Operators, Pattern};
 use std::alloc::{AllocError, Global};
 
 /// The pattern of the rule of a code, or one by its name: a pattern of each form that no rule has, among them one whose second line is of the right
@@ -49,13 +49,7 @@ fn report_fitting(
     known: &Known,
     reported: &mut String,
 ) -> Result<(), AllocError> {
-    let mut matched = Vec::new(alloc);
-    for line in lines {
-        matched.push(MatchedLine {
-            class: line.0,
-            expr: &line.1,
-        })?;
-    }
+    let matched = matched_lines(alloc, lines)?;
     let at = Match {
         lines: matched.as_slice(),
         pick,

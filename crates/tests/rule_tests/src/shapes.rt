@@ -6,7 +6,7 @@ use fixtures::push_number;
 use rules::Shape;
 use std::alloc::{AllocError, Global};
 
-fn push_conjuncts(
+pub fn push_conjuncts(
     alloc: Global,
     reported: &mut String,
     conjuncts: &Conjuncts,

@@ -4,6 +4,7 @@
 use algebra::{Aggregation, Aggregations, ClassId, Columns, Condition, Conjuncts, Expr, Term};
 use derivation::Numbers;
 use query::{Aggregate, ColumnId};
+use rules::MatchedLine;
 use std::alloc::{AllocError, Global};
 use values::{Comparison, Literal};
 
@@ -141,4 +142,19 @@ pub fn lines_of(alloc: Global, text: &str) -> Result<Vec<(ClassId, Expr)>, Alloc
         lines.push(line_of(alloc, words)?)?;
     }
     Ok(lines)
+}
+
+/// The lines as rules take them.
+pub fn matched_lines<'a>(
+    alloc: Global,
+    lines: &'a [(ClassId, Expr)],
+) -> Result<Vec<MatchedLine<'a>>, AllocError> {
+    let mut matched = Vec::new(alloc);
+    for line in lines {
+        matched.push(MatchedLine {
+            class: line.0,
+            expr: &line.1,
+        })?;
+    }
+    Ok(matched)
 }

@@ -1,0 +1,3 @@
+pub mod InputExists
+pub mod RightSelectOfNone
+pub mod RightSelectsMerge
