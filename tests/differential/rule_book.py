@@ -163,6 +163,19 @@ def outer_join_is_inner(lines, top, below):
     return ("select", kept, ("join", conditions, left, right))
 
 
+def select_below_left_join(lines, top, below):
+    wants(top, "select")
+    wants(below, "left")
+    moved = some(without(lines, top[1], below[3]))
+    return selected(less(top[1], moved), ("left", below[1], ("select", moved, below[2]), below[3]))
+
+
+def condition_below_left_join(lines, top):
+    wants(top, "left")
+    moved = some(without(lines, top[1], top[2]))
+    return ("left", less(top[1], moved), top[2], ("select", moved, top[3]))
+
+
 Rule = collections.namedtuple("Rule", "gives count kind")
 BOOK = {
     "J1": Rule(join_commutes, 1, "join"),
@@ -178,5 +191,7 @@ BOOK = {
     "D1": Rule(distinct_of_keyed, 1, "distinct"),
     "G1": Rule(group_is_distinct, 1, "group"),
     "O1": Rule(outer_join_is_inner, 2, "select"),
+    "O2": Rule(select_below_left_join, 2, "select"),
+    "O3": Rule(condition_below_left_join, 1, "left"),
 }
 """Of each code what the rule gives, to how many lines it is applied, and what the first of them is."""

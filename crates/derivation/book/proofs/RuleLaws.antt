@@ -1,6 +1,8 @@
 -- The laws of the rules of the book.
 use Rattle.std.specs.List.{AllByRecursion}
+use Rattle.outer_rules.proofs.ConditionBelowLeftJoin.{condition_below_left_join_sound, condition_below_left_join_keeps, condition_below_left_join_formed, condition_below_left_join_stable}
 use Rattle.outer_rules.proofs.OuterJoinIsInner.{outer_join_is_inner_sound, outer_join_is_inner_keeps, outer_join_is_inner_formed, outer_join_is_inner_stable}
+use Rattle.outer_rules.proofs.SelectBelowLeftJoin.{select_below_left_join_sound, select_below_left_join_keeps, select_below_left_join_formed, select_below_left_join_stable}
 use Rattle.plain_rules.proofs.ConditionBelowJoin.{condition_below_join_sound, condition_below_join_keeps, condition_below_join_formed, condition_below_join_stable}
 use Rattle.plain_rules.proofs.DistinctOfKeyed.{distinct_of_keyed_sound, distinct_of_keyed_keeps, distinct_of_keyed_formed, distinct_of_keyed_stable}
 use Rattle.plain_rules.proofs.GroupIsDistinct.{group_is_distinct_sound, group_is_distinct_keeps, group_is_distinct_formed, group_is_distinct_stable}
@@ -14,7 +16,7 @@ use Rattle.plain_rules.proofs.SelectBelowSemi.{select_below_semi_sound, select_b
 use Rattle.plain_rules.proofs.SelectIntoJoin.{select_into_join_sound, select_into_join_keeps, select_into_join_formed, select_into_join_stable}
 use Rattle.plain_rules.proofs.SelectsMerge.{selects_merge_sound, selects_merge_keeps, selects_merge_formed, selects_merge_stable}
 use Rattle.book.specs.declared.names.RuleName.{RuleName}
-use Rattle.book.specs.declared.names.RuleName.TheVariants.{JoinCommutes, JoinAssociates, SelectsMerge, SelectBelowJoin, SelectIntoJoin, ConditionBelowJoin, SelectBelowSemi, KeepsMerge, KeepOfAll, KeepBelowJoin, DistinctOfKeyed, GroupIsDistinct, OuterJoinIsInner}
+use Rattle.book.specs.declared.names.RuleName.TheVariants.{JoinCommutes, JoinAssociates, SelectsMerge, SelectBelowJoin, SelectIntoJoin, ConditionBelowJoin, SelectBelowSemi, KeepsMerge, KeepOfAll, KeepBelowJoin, DistinctOfKeyed, GroupIsDistinct, OuterJoinIsInner, SelectBelowLeftJoin, ConditionBelowLeftJoin}
 use Rattle.book.specs.Book.{rules, BookIsSound, BookKeepsToPatterns, BookIsFormed, BookIsStable}
 
 pub book_sound : BookIsSound
@@ -31,6 +33,8 @@ book_sound KeepBelowJoin = keep_below_join_sound
 book_sound DistinctOfKeyed = distinct_of_keyed_sound
 book_sound GroupIsDistinct = group_is_distinct_sound
 book_sound OuterJoinIsInner = outer_join_is_inner_sound
+book_sound SelectBelowLeftJoin = select_below_left_join_sound
+book_sound ConditionBelowLeftJoin = condition_below_left_join_sound
 
 pub book_keeps : BookKeepsToPatterns
 book_keeps JoinCommutes = join_commutes_keeps
@@ -46,6 +50,8 @@ book_keeps KeepBelowJoin = keep_below_join_keeps
 book_keeps DistinctOfKeyed = distinct_of_keyed_keeps
 book_keeps GroupIsDistinct = group_is_distinct_keeps
 book_keeps OuterJoinIsInner = outer_join_is_inner_keeps
+book_keeps SelectBelowLeftJoin = select_below_left_join_keeps
+book_keeps ConditionBelowLeftJoin = condition_below_left_join_keeps
 
 pub book_formed : BookIsFormed
 book_formed JoinCommutes = join_commutes_formed
@@ -61,6 +67,8 @@ book_formed KeepBelowJoin = keep_below_join_formed
 book_formed DistinctOfKeyed = distinct_of_keyed_formed
 book_formed GroupIsDistinct = group_is_distinct_formed
 book_formed OuterJoinIsInner = outer_join_is_inner_formed
+book_formed SelectBelowLeftJoin = select_below_left_join_formed
+book_formed ConditionBelowLeftJoin = condition_below_left_join_formed
 
 pub book_stable : BookIsStable
 book_stable JoinCommutes = join_commutes_stable
@@ -76,6 +84,8 @@ book_stable KeepBelowJoin = keep_below_join_stable
 book_stable DistinctOfKeyed = distinct_of_keyed_stable
 book_stable GroupIsDistinct = group_is_distinct_stable
 book_stable OuterJoinIsInner = outer_join_is_inner_stable
+book_stable SelectBelowLeftJoin = select_below_left_join_stable
+book_stable ConditionBelowLeftJoin = condition_below_left_join_stable
 
 -- what is so of each rule that is listed is so of each
 pub each_rule : (P : RuleName → Type 0) → AllByRecursion P rules → (rule : RuleName) → P rule
@@ -92,3 +102,5 @@ each_rule P all KeepBelowJoin = all.1.1.1.1.1.1.1.1.1.0
 each_rule P all DistinctOfKeyed = all.1.1.1.1.1.1.1.1.1.1.0
 each_rule P all GroupIsDistinct = all.1.1.1.1.1.1.1.1.1.1.1.0
 each_rule P all OuterJoinIsInner = all.1.1.1.1.1.1.1.1.1.1.1.1.0
+each_rule P all SelectBelowLeftJoin = all.1.1.1.1.1.1.1.1.1.1.1.1.1.0
+each_rule P all ConditionBelowLeftJoin = all.1.1.1.1.1.1.1.1.1.1.1.1.1.1.0

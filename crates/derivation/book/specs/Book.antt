@@ -1,7 +1,7 @@
 -- The rules by their names in certificates, the lines that each takes, and what it gives.
 use Rattle.std.specs.Prelude.{ℕ, List, [], ◌∷◌, Result, codes}
 use Rattle.book.specs.declared.names.RuleName.{RuleName}
-use Rattle.book.specs.declared.names.RuleName.TheVariants.{JoinCommutes, JoinAssociates, SelectsMerge, SelectBelowJoin, SelectIntoJoin, ConditionBelowJoin, SelectBelowSemi, KeepsMerge, KeepOfAll, KeepBelowJoin, DistinctOfKeyed, GroupIsDistinct, OuterJoinIsInner}
+use Rattle.book.specs.declared.names.RuleName.TheVariants.{JoinCommutes, JoinAssociates, SelectsMerge, SelectBelowJoin, SelectIntoJoin, ConditionBelowJoin, SelectBelowSemi, KeepsMerge, KeepOfAll, KeepBelowJoin, DistinctOfKeyed, GroupIsDistinct, OuterJoinIsInner, SelectBelowLeftJoin, ConditionBelowLeftJoin}
 use Rattle.rules.specs.declared.shape.Shape.{Shape}
 use Rattle.rules.specs.declared.unfit.Unfit.{Unfit}
 use Rattle.rules.specs.declared.pattern.Pattern.{Pattern}
@@ -11,7 +11,9 @@ use Rattle.rules.specs.Matches.{Matched}
 use Rattle.rules.specs.Patterns.{KeepsTo}
 use Rattle.rules.specs.Soundness.{IsSound}
 use Rattle.rules.specs.Stability.{IsStable}
+use Rattle.outer_rules.specs.ConditionBelowLeftJoin as condition_below_left_join
 use Rattle.outer_rules.specs.OuterJoinIsInner as outer_join_is_inner
+use Rattle.outer_rules.specs.SelectBelowLeftJoin as select_below_left_join
 use Rattle.plain_rules.specs.ConditionBelowJoin as condition_below_join
 use Rattle.plain_rules.specs.DistinctOfKeyed as distinct_of_keyed
 use Rattle.plain_rules.specs.GroupIsDistinct as group_is_distinct
@@ -26,7 +28,7 @@ use Rattle.plain_rules.specs.SelectIntoJoin as select_into_join
 use Rattle.plain_rules.specs.SelectsMerge as selects_merge
 
 abbrev pub rules : List RuleName
-rules = JoinCommutes ∷ JoinAssociates ∷ SelectsMerge ∷ SelectBelowJoin ∷ SelectIntoJoin ∷ ConditionBelowJoin ∷ SelectBelowSemi ∷ KeepsMerge ∷ KeepOfAll ∷ KeepBelowJoin ∷ DistinctOfKeyed ∷ GroupIsDistinct ∷ OuterJoinIsInner ∷ []
+rules = JoinCommutes ∷ JoinAssociates ∷ SelectsMerge ∷ SelectBelowJoin ∷ SelectIntoJoin ∷ ConditionBelowJoin ∷ SelectBelowSemi ∷ KeepsMerge ∷ KeepOfAll ∷ KeepBelowJoin ∷ DistinctOfKeyed ∷ GroupIsDistinct ∷ OuterJoinIsInner ∷ SelectBelowLeftJoin ∷ ConditionBelowLeftJoin ∷ []
 
 abbrev pub code_of : RuleName → List ℕ
 code_of JoinCommutes = codes "J1"
@@ -42,6 +44,8 @@ code_of KeepBelowJoin = codes "K3"
 code_of DistinctOfKeyed = codes "D1"
 code_of GroupIsDistinct = codes "G1"
 code_of OuterJoinIsInner = codes "O1"
+code_of SelectBelowLeftJoin = codes "O2"
+code_of ConditionBelowLeftJoin = codes "O3"
 
 abbrev pub given_by : RuleName → Matched → Result Shape Unfit
 given_by JoinCommutes = join_commutes.join_commutes
@@ -57,6 +61,8 @@ given_by KeepBelowJoin = keep_below_join.keep_below_join
 given_by DistinctOfKeyed = distinct_of_keyed.distinct_of_keyed
 given_by GroupIsDistinct = group_is_distinct.group_is_distinct
 given_by OuterJoinIsInner = outer_join_is_inner.outer_join_is_inner
+given_by SelectBelowLeftJoin = select_below_left_join.select_below_left_join
+given_by ConditionBelowLeftJoin = condition_below_left_join.condition_below_left_join
 
 abbrev pub pattern_of : RuleName → Pattern
 pattern_of JoinCommutes = join_commutes.pattern
@@ -72,6 +78,8 @@ pattern_of KeepBelowJoin = keep_below_join.pattern
 pattern_of DistinctOfKeyed = distinct_of_keyed.pattern
 pattern_of GroupIsDistinct = group_is_distinct.pattern
 pattern_of OuterJoinIsInner = outer_join_is_inner.pattern
+pattern_of SelectBelowLeftJoin = select_below_left_join.pattern
+pattern_of ConditionBelowLeftJoin = condition_below_left_join.pattern
 
 abbrev pub promise_of : RuleName → Matched → Promise
 promise_of JoinCommutes = join_commutes.promise
@@ -87,6 +95,8 @@ promise_of KeepBelowJoin = keep_below_join.promise
 promise_of DistinctOfKeyed = distinct_of_keyed.promise
 promise_of GroupIsDistinct = group_is_distinct.promise
 promise_of OuterJoinIsInner = outer_join_is_inner.promise
+promise_of SelectBelowLeftJoin = select_below_left_join.promise
+promise_of ConditionBelowLeftJoin = condition_below_left_join.promise
 
 -- ---- laws of each rule of the book
 

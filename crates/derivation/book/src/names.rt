@@ -7,7 +7,9 @@ ghost use Rattle.values.specs.Faults.{Gives};
 ghost use Rattle.rules.specs.Matches.{matched};
 ghost use Rattle.book.specs.Book as spec;
 
+use outer_rules::condition_below_left_join::ConditionBelowLeftJoin;
 use outer_rules::outer_join_is_inner::OuterJoinIsInner;
+use outer_rules::select_below_left_join::SelectBelowLeftJoin;
 use plain_rules::condition_below_join::ConditionBelowJoin;
 use plain_rules::distinct_of_keyed::DistinctOfKeyed;
 use plain_rules::group_is_distinct::GroupIsDistinct;
@@ -39,9 +41,11 @@ pub enum RuleName {
     DistinctOfKeyed,
     GroupIsDistinct,
     OuterJoinIsInner,
+    SelectBelowLeftJoin,
+    ConditionBelowLeftJoin,
 }
 
-const RULES: [RuleName; 13] = [
+const RULES: [RuleName; 15] = [
     RuleName::JoinCommutes,
     RuleName::JoinAssociates,
     RuleName::SelectsMerge,
@@ -55,6 +59,8 @@ const RULES: [RuleName; 13] = [
     RuleName::DistinctOfKeyed,
     RuleName::GroupIsDistinct,
     RuleName::OuterJoinIsInner,
+    RuleName::SelectBelowLeftJoin,
+    RuleName::ConditionBelowLeftJoin,
 ];
 
 /// The first of the rules that has the code.
@@ -96,6 +102,8 @@ impl RuleName {
             RuleName::DistinctOfKeyed => DistinctOfKeyed::CODE,
             RuleName::GroupIsDistinct => GroupIsDistinct::CODE,
             RuleName::OuterJoinIsInner => OuterJoinIsInner::CODE,
+            RuleName::SelectBelowLeftJoin => SelectBelowLeftJoin::CODE,
+            RuleName::ConditionBelowLeftJoin => ConditionBelowLeftJoin::CODE,
         }
     }
 
@@ -124,6 +132,8 @@ impl RuleName {
             RuleName::DistinctOfKeyed => DistinctOfKeyed::pattern(),
             RuleName::GroupIsDistinct => GroupIsDistinct::pattern(),
             RuleName::OuterJoinIsInner => OuterJoinIsInner::pattern(),
+            RuleName::SelectBelowLeftJoin => SelectBelowLeftJoin::pattern(),
+            RuleName::ConditionBelowLeftJoin => ConditionBelowLeftJoin::pattern(),
         }
     }
 
@@ -145,6 +155,8 @@ impl RuleName {
             RuleName::DistinctOfKeyed => DistinctOfKeyed::promise(alloc, at),
             RuleName::GroupIsDistinct => GroupIsDistinct::promise(alloc, at),
             RuleName::OuterJoinIsInner => OuterJoinIsInner::promise(alloc, at),
+            RuleName::SelectBelowLeftJoin => SelectBelowLeftJoin::promise(alloc, at),
+            RuleName::ConditionBelowLeftJoin => ConditionBelowLeftJoin::promise(alloc, at),
         }
     }
 
@@ -166,6 +178,8 @@ impl RuleName {
             RuleName::DistinctOfKeyed => DistinctOfKeyed::apply(alloc, at),
             RuleName::GroupIsDistinct => GroupIsDistinct::apply(alloc, at),
             RuleName::OuterJoinIsInner => OuterJoinIsInner::apply(alloc, at),
+            RuleName::SelectBelowLeftJoin => SelectBelowLeftJoin::apply(alloc, at),
+            RuleName::ConditionBelowLeftJoin => ConditionBelowLeftJoin::apply(alloc, at),
         }
     }
 }

@@ -14,8 +14,8 @@ use Rattle.props.proofs.OutcomeForms.{outcomes-Compare, outcomes-IsNull}
 use Rattle.rules.specs.declared.shape.Shape.TheVariants.{Class, Join, Keep}
 use Rattle.book.specs.declared.names.RuleName.TheVariants as rule
 use Rattle.derivation.specs.declared.line.Line.TheVariants.{Founds}
-use Rattle.derivation.specs.Examples.{WorkedLines, WorkedRules, WorkedConditions, WorkedRefusals, WorkedLogs, emps, joined, twice_joined, by_rule, equal_ids, falling_ids, without_dept, both}
-use Rattle.derivation.proofs.WorkedEquations.{parts-Compare, parts-IsNull, text-Compare, text-IsNull, by-texts, union-of-two, adds-stands, spelling-Class, spelling-Select, spelling-Join, spelling-Semi, spelling-Anti, spelling-Keep, spelling-Distinct}
+use Rattle.derivation.specs.Examples.{WorkedLines, WorkedRules, WorkedConditions, WorkedForms, WorkedRefusals, WorkedLogs, emps, joined, twice_joined, by_rule, equal_ids, falling_ids, without_dept, both}
+use Rattle.derivation.proofs.WorkedEquations.{parts-Compare, parts-IsNull, text-Compare, text-IsNull, by-texts, union-of-two, adds-stands, spelling-Class, spelling-Select, spelling-Join, spelling-LeftJoin, spelling-Semi, spelling-Anti, spelling-Keep, spelling-Distinct}
 
 lines : WorkedLines
 lines = record {
@@ -69,6 +69,8 @@ rules = record {
   distinct_of_keyed = simp (same_columns-refl, spelling-Class) refl;
   group_is_distinct = simp (same_columns-refl, spelling-Distinct, spelling-Keep, spelling-Class, same-expr) refl;
   outer_join_is_inner = simp (columns-Compare, classes-Compare, same_columns-refl, outcomes-Compare, spelling-Select, spelling-Join, spelling-Class, same-expr) refl;
+  select_below_left_join = simp (columns-Compare, classes-Compare, same_columns-refl, mentions-IsNull, spelling-LeftJoin, spelling-Select, spelling-Class, same-expr) refl;
+  condition_below_left_join = simp (columns-Compare, classes-Compare, same_columns-refl, mentions-Compare, mentions-IsNull, spelling-LeftJoin, spelling-Select, spelling-Class, same-expr) refl;
 }
 
 conditions : WorkedConditions
@@ -79,6 +81,12 @@ conditions = record {
   distinct_of_keyed = simp same_columns-refl refl;
   group_is_distinct = simp same_columns-refl refl;
   outer_join_is_inner = simp (columns-Compare, columns-IsNull, classes-Compare, classes-IsNull, same_columns-refl, outcomes-IsNull) refl;
+}
+
+forms : WorkedForms
+forms = record {
+  select_below_left_join = simp (columns-Compare, classes-Compare, same_columns-refl, mentions-IsNull) refl;
+  condition_below_left_join = simp (columns-Compare, columns-IsNull, classes-Compare, classes-IsNull, same_columns-refl, mentions-Compare, mentions-IsNull) refl;
 }
 
 -- ---- expressions that differ
@@ -105,4 +113,4 @@ refusals = record {
 }
 
 pub worked : WorkedLogs
-worked = record { lines = lines; rules = rules; conditions = conditions; refusals = refusals }
+worked = record { lines = lines; rules = rules; conditions = conditions; forms = forms; refusals = refusals }

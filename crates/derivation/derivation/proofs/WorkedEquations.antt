@@ -21,7 +21,7 @@ use Rattle.algebra.proofs.Lists.{two}
 use Rattle.algebra.proofs.Same.{tested_expr, same-expr}
 use Rattle.rules.specs.declared.shape.Shape.{Shape, fold-roll-Shape}
 use Rattle.rules.specs.declared.shape.Shape.TheOpen.{Shape-F}
-use Rattle.rules.specs.declared.shape.Shape.TheVariants.{Class, Select, Join, Semi, Anti, Keep, Distinct, rolls-Class, rolls-Select, rolls-Join, rolls-Semi, rolls-Anti, rolls-Keep, rolls-Distinct}
+use Rattle.rules.specs.declared.shape.Shape.TheVariants.{Class, Select, Join, LeftJoin, Semi, Anti, Keep, Distinct, rolls-Class, rolls-Select, rolls-Join, rolls-LeftJoin, rolls-Semi, rolls-Anti, rolls-Keep, rolls-Distinct}
 use Rattle.rules.specs.Matches.{Line}
 use Rattle.derivation.specs.declared.line.Line.TheVariants.{Adds}
 use Rattle.derivation.specs.declared.line.Step.{Step}
@@ -71,6 +71,10 @@ module _ (member : ℕ → Option Line) where
   pub spelling-Join : (C : List Condition) (a b : Shape) → spelling member (Join C a b) ≡ over_two member (expr.Join C) (spelling member a) (spelling member b)
   unfolding spelling
   spelling-Join C a b = ap (spelling member) (sym (rolls-Join C a b)) ∙ fold-roll-Shape Spelling (spelling_layer member) (Shape-F.Join C a b)
+
+  pub spelling-LeftJoin : (C : List Condition) (a b : Shape) → spelling member (LeftJoin C a b) ≡ over_two member (expr.LeftJoin C) (spelling member a) (spelling member b)
+  unfolding spelling
+  spelling-LeftJoin C a b = ap (spelling member) (sym (rolls-LeftJoin C a b)) ∙ fold-roll-Shape Spelling (spelling_layer member) (Shape-F.LeftJoin C a b)
 
   pub spelling-Semi : (C : List Condition) (a b : Shape) → spelling member (Semi C a b) ≡ over_two member (expr.Semi C) (spelling member a) (spelling member b)
   unfolding spelling

@@ -69,6 +69,14 @@ without_dept = IsNull (Column 1) ∷ []
 abbrev pub both : List Condition
 both = Compare by.Equal (Column 0) (Column 2) ∷ IsNull (Column 1) ∷ []
 
+-- e1.dept IS NULL
+abbrev pub without_right_dept : List Condition
+without_right_dept = IsNull (Column 3) ∷ []
+
+-- e0.id = e1.id AND e1.dept IS NULL
+abbrev pub both_right : List Condition
+both_right = Compare by.Equal (Column 0) (Column 2) ∷ IsNull (Column 3) ∷ []
+
 -- ---- the first lines of logs
 
 abbrev pub one_table : List Line
@@ -129,6 +137,10 @@ pub record WorkedRules : Type 0 where
   -- where e1.id is Null, e0.id = e1.id isn't true
   pub outer_join_is_inner : Stands (left_joined ++ Founds (Select equal_ids 2) ∷ Founds (Join equal_ids 0 1) ∷ [])
       (Adds 3 (by_rule rule.OuterJoinIsInner (3 ∷ 2 ∷ []) (4 ∷ [])) (Select equal_ids 4))
+  pub select_below_left_join : Stands (left_joined ++ Founds (Select without_dept 2) ∷ Founds (Select without_dept 0) ∷ [])
+      (Adds 3 (by_rule rule.SelectBelowLeftJoin (3 ∷ 2 ∷ []) (4 ∷ [])) (LeftJoin equal_ids 4 1))
+  pub condition_below_left_join : Stands (two_tables ++ Founds (LeftJoin both_right 0 1) ∷ Founds (Select without_right_dept 1) ∷ [])
+      (Adds 2 (by_rule rule.ConditionBelowLeftJoin (2 ∷ []) (3 ∷ [])) (LeftJoin equal_ids 0 3))
 
 -- each rule that has a condition, where it fails
 pub record WorkedConditions : Type 0 where
@@ -146,6 +158,15 @@ pub record WorkedConditions : Type 0 where
   -- a row of e0 without a match may have no dept
   pub outer_join_is_inner : IsRefused (left_joined ++ Founds (Select without_dept 2) ∷ Founds (Join equal_ids 0 1) ∷ [])
       (Adds 3 (by_rule rule.OuterJoinIsInner (3 ∷ 2 ∷ []) (4 ∷ [])) (Select without_dept 4)) (reason.FailedCondition rule.OuterJoinIsInner)
+
+-- each rule of outer joins that moves conjuncts, where there are none that it may move
+pub record WorkedForms : Type 0 where
+  -- e1's columns are Null of a row of e0 without a match
+  pub select_below_left_join : IsRefused (left_joined ++ Founds (Select without_right_dept 2) ∷ [])
+      (Adds 3 (by_rule rule.SelectBelowLeftJoin (3 ∷ 2 ∷ []) []) (LeftJoin equal_ids 0 1)) reason.OtherForm
+  -- a row of e0 that has a dept isn't lost
+  pub condition_below_left_join : IsRefused (two_tables ++ Founds (LeftJoin both 0 1) ∷ Founds (Select without_dept 0) ∷ [])
+      (Adds 2 (by_rule rule.ConditionBelowLeftJoin (2 ∷ []) (3 ∷ [])) (LeftJoin equal_ids 3 1)) reason.OtherForm
 
 -- each other reason why a line may not stand
 pub record WorkedRefusals : Type 0 where
@@ -166,4 +187,5 @@ pub record WorkedLogs : Type 0 where
   pub lines : WorkedLines
   pub rules : WorkedRules
   pub conditions : WorkedConditions
+  pub forms : WorkedForms
   pub refusals : WorkedRefusals

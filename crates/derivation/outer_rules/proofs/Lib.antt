@@ -1,2 +1,5 @@
+pub mod ConditionBelowLeftJoin
+pub mod KeepOfLeftSide
 pub mod OuterJoinIsInner
 pub mod OuterJoins
+pub mod SelectBelowLeftJoin

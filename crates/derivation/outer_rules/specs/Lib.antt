@@ -1,1 +1,4 @@
+pub mod ConditionBelowLeftJoin
+pub mod KeepOfLeftSide
 pub mod OuterJoinIsInner
+pub mod SelectBelowLeftJoin

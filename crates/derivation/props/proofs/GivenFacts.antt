@@ -63,7 +63,8 @@ module _ (K : Knowledge) (rows : ℕ → Bag) (true_ : IsTrueOf K rows) where
     | inr later ↦ strong-among g keys (λ N in_. all N (or_right (same_columns L N) _ in_)) p later
   ]
 
-  single : (g : ℕ) (C : List Condition) → spec.is_single K g C ≡ true → IsSingle (holds rows C) (has (K.columns g)) (rows g)
+  -- a class of which a known key is pinned
+  pub single : (g : ℕ) (C : List Condition) → spec.is_single K g C ≡ true → IsSingle (holds rows C) (has (K.columns g)) (rows g)
   single g C is = elim (or_cases (list_any (spec.are_pinned (K.columns g) C) (K.facts g).weak_keys) (list_any (spec.are_pinned (K.columns g) C) (K.facts g).strong_keys) is) [
     | inl weak ↦
         let key = weak-among g (K.facts g).weak_keys (λ L in_. in_) (spec.are_pinned (K.columns g) C) weak in

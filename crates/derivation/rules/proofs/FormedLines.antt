@@ -13,7 +13,7 @@ use Rattle.algebra.specs.ConjunctParts.{union, part, rest}
 use Rattle.algebra.specs.Expressions.{children, classes_pass, columns_of, is_formed, is_plain, names_own, sides_formed, subqueries_pass}
 use Rattle.props.specs.Knowledge.{Knowledge}
 use Rattle.rules.specs.declared.shape.Shape.{Shape}
-use Rattle.rules.specs.declared.shape.Shape.TheVariants.{Class, Select, Join, Semi, Anti, Keep, Distinct}
+use Rattle.rules.specs.declared.shape.Shape.TheVariants.{Class, Select, Join, LeftJoin, Semi, Anti, Keep, Distinct}
 use Rattle.rules.specs.declared.unfit.Unfit.{Unfit}
 use Rattle.rules.specs.declared.unfit.Unfit.TheVariants.{Pattern}
 use Rattle.rules.specs.Formed.{IsFormed, IsFormedLine, Rises, formed}
@@ -104,6 +104,9 @@ module _ (S : Site) where
 
   pub join-stands : (C : List Condition) (a b : Shape) (A B : List ℕ) → Is a A → Is b B → Are C → is_plain C ≡ true → AreApart A B → Is (Join C a b) (rising (A ++ B))
   join-stands C a b A B left right are plain apart = shapes.join-formed S.instances S.own K.columns S.founds C a b A B left right are plain (apart-from A B apart)
+
+  pub left_join-stands : (C : List Condition) (a b : Shape) (A B : List ℕ) → Is a A → Is b B → Are C → is_plain C ≡ true → AreApart A B → Is (LeftJoin C a b) (rising (A ++ B))
+  left_join-stands C a b A B left right are plain apart = shapes.left_join-formed S.instances S.own K.columns S.founds C a b A B left right are plain (apart-from A B apart)
 
   pub semi-stands : (C : List Condition) (a b : Shape) (A B : List ℕ) → Is a A → Is b B → Are C → is_plain C ≡ true → AreApart A B → Is (Semi C a b) A
   semi-stands C a b A B left right are plain apart = shapes.semi-formed S.instances S.own K.columns S.founds C a b A B left right are plain (apart-from A B apart)

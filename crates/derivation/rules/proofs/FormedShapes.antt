@@ -96,6 +96,13 @@ module _ (instances : List TableInstance) (own : List Aggregation) (columns : �
     columns_ = ap (λ f. f.columns) (formed_join C a b) ∙ two (λ X Y. rising (X ++ Y)) left.columns_ right.columns_;
   }
 
+  pub left_join-formed : (C : List Condition) (a b : Shape) (A B : List ℕ) → IsFormed a A → IsFormed b B → AreFormed C → is_plain C ≡ true → are_disjoint A B ≡ true
+      → IsFormed (LeftJoin C a b) (rising (A ++ B))
+  left_join-formed C a b A B left right are plain apart = record {
+    formed_ = ap (λ f. f.is_formed) (formed_left_join C a b) ∙ joined C a b A B left right are plain apart;
+    columns_ = ap (λ f. f.columns) (formed_left_join C a b) ∙ two (λ X Y. rising (X ++ Y)) left.columns_ right.columns_;
+  }
+
   pub semi-formed : (C : List Condition) (a b : Shape) (A B : List ℕ) → IsFormed a A → IsFormed b B → AreFormed C → is_plain C ≡ true → are_disjoint A B ≡ true → IsFormed (Semi C a b) A
   semi-formed C a b A B left right are plain apart = record {
     formed_ = ap (λ f. f.is_formed) (formed_semi C a b) ∙ joined C a b A B left right are plain apart;

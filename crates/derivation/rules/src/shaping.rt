@@ -65,6 +65,18 @@ pub fn join(
     Ok(Shape::Join(conjuncts, left, right))
 }
 
+pub fn left_join(
+    alloc: Global,
+    conjuncts: Conjuncts,
+    left: Shape,
+    right: Shape,
+) -> Result<Shape, AllocError>
+    ensures { IfOk result (λ s. s ≡ shape.LeftJoin conjuncts left right) }
+{
+    let (left, right) = boxed(alloc, left, right)?;
+    Ok(Shape::LeftJoin(conjuncts, left, right))
+}
+
 pub fn keep(alloc: Global, columns: Columns, input: Shape) -> Result<Shape, AllocError>
     ensures { IfOk result (λ s. s ≡ shape.Keep columns input) }
 {

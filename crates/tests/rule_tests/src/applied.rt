@@ -114,7 +114,23 @@ O1: 7 select 3 r, 3 join 0 1 m => another form
 O1: 7 select 3 r, 5 left 0 1 m => another form
 O1: 7 distinct 3, 3 left 0 1 m => another form
 O1: 7 select 3 r => another form
-O1 pick 1: 7 select 3 r, 3 left 0 1 m => another form";
+O1 pick 1: 7 select 3 r, 3 left 0 1 m => another form
+O2: 7 select 3 lrm, 3 left 0 1  => select [=(c0,c2);=(c2,i7)] (left [] (select [=(c0,i7)] (0)) (1))
+O2: 7 select 3 l, 3 left 0 1 m => left [=(c0,c2)] (select [=(c0,i7)] (0)) (1)
+O2: 7 select 3 r, 3 left 1 0 m => left [=(c0,c2)] (select [=(c2,i7)] (1)) (0)
+O2: 7 select 5 x, 5 left 1 2 u => left [=(c2,c4)] (select [exists(6)] (1)) (2)
+O2: 7 select 3 rx, 3 left 0 1 m => another form
+O2: 7 select 3 l, 3 join 0 1 m => another form
+O2: 7 select 3 l, 5 left 0 1 m => another form
+O2: 7 select 3 l => another form
+O2 pick 1: 7 select 3 l, 3 left 0 1 m => another form
+O3: 3 left 0 1 rm => left [=(c0,c2)] (0) (select [=(c2,i7)] (1))
+O3: 3 left 0 1 r => left [] (0) (select [=(c2,i7)] (1))
+O3: 3 left 0 1 lr => left [=(c0,i7)] (0) (select [=(c2,i7)] (1))
+O3: 3 left 0 1 lm => another form
+O3: 3 join 0 1 rm => another form
+O3: 3 left 0 1 rm, 0 get 0 => another form
+O3 pick 1: 3 left 0 1 rm => another form";
     assert_eq!(rt;
         differences(rt.alloc(), &[JOINS, SELECTS, KEEPS, OUTER_JOINS], &Applied).as_deref(),
         Ok("")
@@ -125,14 +141,14 @@ O1 pick 1: 7 select 3 r, 3 left 0 1 m => another form";
 #[test]
 fn rules_are_found(rt: HostRuntime) {
     for code in [
-        "J1", "J2", "S1", "S2", "S3", "S4", "S5", "K1", "K2", "K3", "D1", "G1", "O1",
+        "J1", "J2", "S1", "S2", "S3", "S4", "S5", "K1", "K2", "K3", "D1", "G1", "O1", "O2", "O3",
     ] {
         assert_eq!(rt; RuleName::of_code(code).map(|rule| rule.code()), Some(code));
     }
     for rule in RuleName::all() {
         assert_eq!(rt; RuleName::of_code(rule.code()), Some(*rule));
     }
-    for text in ["", "J", "J3", "j1", "J1 ", "JJ1", "O2"] {
+    for text in ["", "J", "J3", "j1", "J1 ", "JJ1", "O4"] {
         assert_eq!(rt; RuleName::of_code(text), None);
     }
 }

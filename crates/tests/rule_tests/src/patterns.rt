@@ -124,7 +124,14 @@ G1: 7 group 3 => fits
 G1: 7 distinct 3 => another form
 O1: 7 select 3 r, 3 left 0 1 m => fits
 O1: 7 select 3 l, 4 left 0 1 m => fits
-O1: 7 select 3 r, 3 join 0 1 m => another form";
+O1: 7 select 3 r, 3 join 0 1 m => another form
+O2: 7 select 3 r, 3 left 0 1 m => fits
+O2: 7 select 3 l, 4 left 0 1 m => fits
+O2: 7 select 3 l, 3 join 0 1 m => another form
+O2: 7 select 3 l, 0 left 0 1 m => another form
+O3: 3 left 0 1 lm => fits
+O3: 3 join 0 1 rm => another form
+O3: 3 left 0 1 rm, 0 get 0 => another form";
     const PICKS: &str = "subquery pick 1: 7 select 3 lx => fits
 subquery pick 0: 7 select 3 lx => another form
 subquery pick 2: 7 select 3 lx => another form

@@ -68,7 +68,9 @@ J2: 7 join 3 2 rt, 3 join 0 1 m => a product
 S2: 7 select 3 l, 3 join 0 1 m => connected
 S3: 7 select 3 l, 4 join 0 1  => connected
 S4: 3 join 0 1 lm => connected
-S5: 7 select 0 l, 0 semi 0 1 m => connected";
+S5: 7 select 0 l, 0 semi 0 1 m => connected
+O2: 7 select 3 l, 3 left 0 1 m => connected
+O3: 3 left 0 1 rm => connected";
     const OTHERS: &str = "S1: 7 select 3 lr, 4 select 3 rm => simpler
 K1: 7 keep 3 0, 4 keep 3 0 2 => simpler
 K2: 7 keep 1 2 => simpler
