@@ -94,6 +94,13 @@ class Lines:
     def has_strong_key(self, g):
         return any(name == "strong" for name, _ in self.facts_of(g))
 
+    def keys(self, g):
+        """The keys that are known of a class, weak and strong ones."""
+        return [columns for name, columns in self.facts_of(g) if name != "notnull"]
+
+    def is_not_null(self, g, column):
+        return ("notnull", column) in self.facts_of(g)
+
     def unite(self, g, h):
         low, high = sorted((self.roots[g], self.roots[h]))
         self.roots = [low if root == high else root for root in self.roots]

@@ -19,7 +19,7 @@ from rule_book import BOOK, Unfit, has_subquery
 SEED, ROUND, PLANS, FAULTS = 19, 100, 2, 4
 MOST_LINES = 120
 """A query with more lines than these is left out, for the time that it takes to look for matches in them."""
-WEIGHTS = [1, 6, 1, 4, 2, 2, 2, 1, 1, 5, 1, 1, 4, 4, 2]
+WEIGHTS = [1, 6, 1, 4, 2, 2, 2, 1, 1, 5, 1, 1, 4, 4, 2, 4, 4, 4, 6]
 """How often each rule is tried, in the order of the book: more often where fewer lines fit."""
 NEVER = ("null", ("i", 1))
 """A condition that no query has."""
@@ -73,14 +73,17 @@ class Growth:
     # ---- matches
 
     def match(self, code, *kinds):
-        """Lines that a rule may be applied to, the first of these kinds: of two, the second is of the class that the first stands on."""
+        """Lines that a rule may be applied to, the first of these kinds: each other one is of the class that the one above it stands on."""
         top = self.one(self.expressions(*kinds))
         if top is None:
             return None
-        if BOOK[code].count == 1:
-            return [top]
-        below = inputs_of(self.lines.expression(top))
-        return [top, self.one(self.lines.members(below[0]))] if below else None
+        uses = [top]
+        while len(uses) < BOOK[code].count:
+            below = inputs_of(self.lines.expression(uses[-1]))
+            if not below:
+                return None
+            uses.append(self.one(self.lines.members(below[0])))
+        return uses
 
     def given(self, code, uses):
         """What the rule book gives."""

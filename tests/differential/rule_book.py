@@ -176,6 +176,55 @@ def condition_below_left_join(lines, top):
     return ("left", less(top[1], moved), top[2], ("select", moved, top[3]))
 
 
+def change_places(lines, inner, outer, inner_right, outer_right):
+    """Neither the outer join's condition mentions the inner join's right side, nor the other way round."""
+    return not (less(outer, without(lines, outer, inner_right)) or less(inner, without(lines, inner, outer_right)))
+
+
+def left_join_below_join(lines, top, below):
+    wants(top, "left")
+    wants(below, "join")
+    (_, d, _, c_side), (_, c, left, right) = top, below
+    holds(change_places(lines, c, d, right, c_side))
+    return ("join", c, ("left", d, left, c_side), right)
+
+
+def left_join_above_join(lines, top, below):
+    wants(top, "join")
+    wants(below, "left")
+    (_, c, _, right), (_, d, left, c_side) = top, below
+    holds(change_places(lines, c, d, right, c_side))
+    return ("left", d, ("join", c, left, right), c_side)
+
+
+def is_elsewhere(lines, columns, g):
+    return not set(columns) & set(lines.columns(g))
+
+
+def keep_of_left_side(lines, top, below):
+    wants(top, "keep")
+    wants(below, "left")
+    (_, kept, _), (_, conditions, left, right) = top, below
+    own = lines.columns(right)
+    is_other = lambda term: term[0] == "i" or term[0] == "c" and term[1] not in own
+    pinned = {one[1] for kind, *terms in conditions if kind == "=" for one, other in (terms, terms[::-1]) if one[0] == "c" and is_other(other)}
+    holds(is_elsewhere(lines, kept, right) and any(set(key) <= pinned for key in lines.keys(right)))
+    return ("keep", kept, left)
+
+
+def outer_join_is_anti(lines, top, below, lowest):
+    wants(top, "keep")
+    wants(below, "select")
+    wants(lowest, "left")
+    (_, kept, _), (_, asked, _), (_, conditions, left, right) = top, below, lowest
+    own = lines.columns(right)
+    nulls = [condition for condition in asked if condition[0] == "null" and condition[1][0] == "c" and condition[1][1] in own]
+    others = less(asked, nulls)
+    is_filled = lambda column: lines.is_not_null(right, column) or any(is_never_true(condition, [column]) for condition in conditions)
+    holds(is_elsewhere(lines, kept, right) and without(lines, others, right) == others and any(is_filled(condition[1][1]) for condition in nulls))
+    return ("keep", kept, selected(others, ("anti", conditions, [], left, right)))
+
+
 Rule = collections.namedtuple("Rule", "gives count kind")
 BOOK = {
     "J1": Rule(join_commutes, 1, "join"),
@@ -193,5 +242,9 @@ BOOK = {
     "O1": Rule(outer_join_is_inner, 2, "select"),
     "O2": Rule(select_below_left_join, 2, "select"),
     "O3": Rule(condition_below_left_join, 1, "left"),
+    "O4": Rule(left_join_below_join, 2, "left"),
+    "O5": Rule(left_join_above_join, 2, "join"),
+    "O6": Rule(keep_of_left_side, 2, "keep"),
+    "O7": Rule(outer_join_is_anti, 3, "keep"),
 }
 """Of each code what the rule gives, to how many lines it is applied, and what the first of them is."""

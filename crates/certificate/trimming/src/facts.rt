@@ -1,13 +1,15 @@
-//! The lines by whose facts a line gives its own.
+//! The lines by whose facts a line gives its own, or a rule what it gives.
 
 use crate::sameness::Sameness;
 use algebra::{ClassId, Expr, LineId};
-use derivation::Line;
+use derivation::{Line, Step};
 use logs::Log;
 use props::given::gives;
 use props::{Fact, Facts, KnownClasses};
 use query::ids::id_of;
+use rules::{Match, MatchedLine};
 use std::alloc::{AllocError, Global};
+use values::Fault;
 
 /// A line that gives a fact, with the class that stands for all that are the same as its own.
 #[derive(Clone, Copy, Drop)]
@@ -23,13 +25,17 @@ pub(crate) struct Ground {
     pub class: ClassId,
 }
 
-/// A line that gives a fact of its class by a line of it with an expression.
+/// What may rest on facts.
 #[derive(Clone, Copy)]
-pub(crate) struct Claim<'a> {
-    pub line: LineId,
-    pub class: ClassId,
-    pub expr: &'a Expr,
-    pub fact: &'a Fact,
+pub(crate) enum Claim<'a> {
+    /// A class has a fact, by a line of it with this expression.
+    Fact {
+        class: ClassId,
+        expr: &'a Expr,
+        fact: &'a Fact,
+    },
+    /// A rule gives something of some lines.
+    Step(&'a Step),
 }
 
 /// The lines of a log that give facts.
@@ -49,17 +55,90 @@ fn given_at<'a>(log: &'a Log<'_>, line: LineId) -> Option<(ClassId, &'a Fact)> {
     }
 }
 
-/// The classes of whose facts a line's fact may follow: its own and those that its expression takes. Each once.
-fn classes_of(alloc: Global, claim: Claim<'_>) -> Result<Vec<ClassId>, AllocError> {
-    let mut classes = Vec::new(alloc);
-    classes.push(claim.class)?;
-    let (left, right) = claim.expr.children();
+/// Adds a class, unless it is there.
+fn add_class(class: ClassId, classes: &mut Vec<ClassId>) -> Result<(), AllocError> {
+    if !classes.as_slice().contains(&class) {
+        classes.push(class)?;
+    }
+    Ok(())
+}
+
+/// Adds the classes that an expression takes.
+fn add_inputs(expr: &Expr, classes: &mut Vec<ClassId>) -> Result<(), AllocError> {
+    let (left, right) = expr.children();
     for class in left.into_iter().chain(right) {
-        if !classes.as_slice().contains(&class) {
-            classes.push(class)?;
+        add_class(class, classes)?;
+    }
+    Ok(())
+}
+
+/// The lines to which a rule is applied, each below the first of the class that the one above it takes first.
+fn matched_lines<'a>(
+    alloc: Global,
+    log: &'a Log<'_>,
+    step: &Step,
+) -> Result<Vec<MatchedLine<'a>>, AllocError> {
+    let mut lines: Vec<MatchedLine<'a>> = Vec::new(alloc);
+    let mut taken = None;
+    for line in step.uses.as_slice() {
+        if let Some(member) = log.member(*line) {
+            let (first, _) = member.expr.children();
+            lines.push(MatchedLine {
+                class: taken.unwrap_or(member.class),
+                expr: member.expr,
+            })?;
+            taken = first;
         }
     }
-    Ok(classes)
+    Ok(lines)
+}
+
+impl Claim<'_> {
+    /// The classes on whose facts it may rest: each once.
+    fn classes(self, alloc: Global, log: &Log<'_>) -> Result<Vec<ClassId>, AllocError> {
+        let mut classes = Vec::new(alloc);
+        match self {
+            Claim::Fact { class, expr, .. } => {
+                add_class(class, &mut classes)?;
+                add_inputs(expr, &mut classes)?;
+            }
+            Claim::Step(step) => {
+                for line in step.uses.as_slice() {
+                    if let Some(member) = log.member(*line) {
+                        add_inputs(member.expr, &mut classes)?;
+                    }
+                }
+            }
+        }
+        Ok(classes)
+    }
+
+    /// Whether it is so by what is known of classes.
+    fn holds(
+        self,
+        alloc: Global,
+        log: &Log<'_>,
+        known: KnownClasses<'_>,
+    ) -> Result<bool, AllocError> {
+        match self {
+            Claim::Fact { class, expr, fact } => {
+                Ok(gives(log.instances(), known, class, expr, fact))
+            }
+            Claim::Step(step) => {
+                let lines = matched_lines(alloc, log, step)?;
+                let at = Match {
+                    lines: lines.as_slice(),
+                    pick: step.pick,
+                    classes: known,
+                };
+                match step.rule.apply(alloc, at) {
+                    Ok(_) => Ok(true),
+                    Err(Fault::Refused(_)) => Ok(false),
+                    Err(Fault::Memory) => Err(AllocError),
+                }
+            }
+        }
+    }
 }
 
 /// Facts by the places of their classes; nothing at the first.
@@ -118,25 +197,6 @@ impl GivenFacts {
         Ok(())
     }
 
-    /// The first line before one that gave a strong key of a class.
-    pub(crate) fn strong_key(
-        &self,
-        alloc: Global,
-        log: &Log<'_>,
-        sameness: &Sameness,
-        class: ClassId,
-        before: LineId,
-    ) -> Result<Option<Ground>, AllocError> {
-        let mut grounds = Vec::new(alloc);
-        self.add_grounds(log, sameness, class, before, &mut grounds)?;
-        for ground in &grounds {
-            if let Some((_, Fact::StrongKey(_))) = given_at(log, ground.line) {
-                return Ok(Some(*ground));
-            }
-        }
-        Ok(None)
-    }
-
     /// Says at which places facts of these classes are, from the first on.
     fn place(&mut self, classes: &[ClassId]) {
         let mut next = 0_u32;
@@ -173,19 +233,24 @@ impl GivenFacts {
         Ok(())
     }
 
-    /// Whether a line gives its fact where no other facts than these are known.
-    fn gives(&self, log: &Log<'_>, claim: Claim<'_>, facts: &[Facts]) -> bool {
+    /// Whether a claim holds where no other facts than these are known.
+    fn holds(
+        &self,
+        alloc: Global,
+        log: &Log<'_>,
+        claim: Claim<'_>,
+        facts: &[Facts],
+    ) -> Result<bool, AllocError> {
         let known = KnownClasses {
             columns: log.classes().columns,
             sets: self.places.as_slice(),
             roots: &[],
             facts,
         };
-        gives(log.instances(), known, claim.class, claim.expr, claim.fact)
+        claim.holds(alloc, log, known)
     }
 
-    /// How many of the grounds, from the first on, a line needs beside others to give its fact; none where it gives it without them, or not with
-    /// all.
+    /// How many of the grounds, from the first on, a claim needs beside others; none where it holds without them, or not with all.
     fn needed_count(
         &self,
         alloc: Global,
@@ -199,30 +264,31 @@ impl GivenFacts {
         for ground in others {
             self.try_fact(alloc, log, *ground, facts.as_mut_slice())?;
         }
-        if self.gives(log, claim, facts.as_slice()) {
+        if self.holds(alloc, log, claim, facts.as_slice())? {
             return Ok(0);
         }
         for (place, ground) in grounds.iter().enumerate() {
             self.try_fact(alloc, log, *ground, facts.as_mut_slice())?;
-            if self.gives(log, claim, facts.as_slice()) {
+            if self.holds(alloc, log, claim, facts.as_slice())? {
                 return Ok(place.saturating_add(1));
             }
         }
         Ok(0)
     }
 
-    /// The grounds by which a line gives its fact, none of which can be left out, and as early ones as there are.
+    /// The grounds, given before a line, by which a claim of it holds, none of which can be left out, and as early ones as there are.
     pub(crate) fn grounds(
         &mut self,
         alloc: Global,
         log: &Log<'_>,
         sameness: &Sameness,
         claim: Claim<'_>,
+        line: LineId,
     ) -> Result<Vec<Ground>, AllocError> {
-        let classes = classes_of(alloc, claim)?;
+        let classes = claim.classes(alloc, log)?;
         let mut grounds = Vec::new(alloc);
         for class in &classes {
-            self.add_grounds(log, sameness, *class, claim.line, &mut grounds)?;
+            self.add_grounds(log, sameness, *class, line, &mut grounds)?;
         }
         grounds.sort_unstable_by_key(|ground| (ground.line, ground.class));
         self.place(classes.as_slice());

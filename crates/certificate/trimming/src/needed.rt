@@ -3,7 +3,6 @@
 use crate::facts::{Claim, GivenFacts, Ground};
 use crate::sameness::{Sameness, class_at};
 use algebra::{ClassId, Expr, LineId};
-use book::RuleName;
 use derivation::{Line, Step};
 use logs::Log;
 use props::Fact;
@@ -138,31 +137,16 @@ impl<'a, 'q> Needed<'a, 'q> {
         self.lines(classes.as_slice())
     }
 
-    /// The second of two lines, if there are two, is of the class that the first one takes first.
-    fn second_below_first(&mut self, uses: &[LineId]) -> Result<(), AllocError> {
-        let [top, below, ..] = uses else {
-            return Ok(());
-        };
-        if let Some(member) = self.log.member(*top) {
-            if let Some(input) = first_input(member.expr) {
-                self.same(input, class_at(self.log, *below))?;
+    /// Each line but the first is of the class that the one above it takes first.
+    fn each_below(&mut self, uses: &[LineId]) -> Result<(), AllocError> {
+        for (top, below) in uses.iter().zip(uses.iter().skip(1)) {
+            if let Some(member) = self.log.member(*top) {
+                if let Some(input) = first_input(member.expr) {
+                    self.same(input, class_at(self.log, *below))?;
+                }
             }
         }
         Ok(())
-    }
-
-    /// The class that a line with a distinct takes has a strong key.
-    fn strong_key(&mut self, uses: &[LineId], line: LineId) -> Result<(), AllocError> {
-        let Some(class) = self.input_of_first(uses) else {
-            return Ok(());
-        };
-        let found = self
-            .facts
-            .strong_key(self.alloc, self.log, &self.sameness, class, line)?;
-        match found {
-            Some(ground) => self.fact(ground),
-            None => Ok(()),
-        }
     }
 
     /// The fact that a line gives is known of a class.
@@ -173,13 +157,24 @@ impl<'a, 'q> Needed<'a, 'q> {
         self.line(ground.line)
     }
 
+    /// The facts on which a claim of a line rests.
+    fn claim(&mut self, claim: Claim<'_>, line: LineId) -> Result<(), AllocError> {
+        let grounds = self
+            .facts
+            .grounds(self.alloc, self.log, &self.sameness, claim, line)?;
+        for ground in &grounds {
+            self.fact(*ground)?;
+        }
+        Ok(())
+    }
+
     /// The class that the first of some lines takes first.
     fn input_of_first(&self, uses: &[LineId]) -> Option<ClassId> {
         let member = self.log.member(*uses.first()?)?;
         first_input(member.expr)
     }
 
-    /// What a step of a class needs that stands in a line. One rule of the book asks for facts.
+    /// What a step of a class needs that stands in a line.
     fn step(&mut self, class: ClassId, step: &Step, line: LineId) -> Result<(), AllocError> {
         let uses = step.uses.as_slice();
         self.lines(uses)?;
@@ -187,11 +182,8 @@ impl<'a, 'q> Needed<'a, 'q> {
         if let Some(first) = uses.first() {
             self.same(class_at(self.log, *first), class)?;
         }
-        self.second_below_first(uses)?;
-        if step.rule == RuleName::DistinctOfKeyed {
-            self.strong_key(uses, line)?;
-        }
-        Ok(())
+        self.each_below(uses)?;
+        self.claim(Claim::Step(step), line)
     }
 
     /// What a step gives, a class or the expression of the first line that it makes, is of a class.
@@ -251,19 +243,12 @@ impl<'a, 'q> Needed<'a, 'q> {
             return Ok(());
         };
         self.same(found.class, class)?;
-        let claim = Claim {
-            line,
+        let claim = Claim::Fact {
             class,
             expr: found.expr,
             fact,
         };
-        let grounds = self
-            .facts
-            .grounds(self.alloc, self.log, &self.sameness, claim)?;
-        for ground in &grounds {
-            self.fact(*ground)?;
-        }
-        Ok(())
+        self.claim(claim, line)
     }
 
     /// What a line needs.

@@ -1,6 +1,10 @@
 -- The laws of the rules of the book.
 use Rattle.std.specs.List.{AllByRecursion}
 use Rattle.outer_rules.proofs.ConditionBelowLeftJoin.{condition_below_left_join_sound, condition_below_left_join_keeps, condition_below_left_join_formed, condition_below_left_join_stable}
+use Rattle.outer_rules.proofs.KeepOfLeftSide.{keep_of_left_side_sound, keep_of_left_side_keeps, keep_of_left_side_formed, keep_of_left_side_stable}
+use Rattle.outer_rules.proofs.LeftJoinAboveJoin.{left_join_above_join_sound, left_join_above_join_keeps, left_join_above_join_formed, left_join_above_join_stable}
+use Rattle.outer_rules.proofs.LeftJoinBelowJoin.{left_join_below_join_sound, left_join_below_join_keeps, left_join_below_join_formed, left_join_below_join_stable}
+use Rattle.outer_rules.proofs.OuterJoinIsAnti.{outer_join_is_anti_sound, outer_join_is_anti_keeps, outer_join_is_anti_formed, outer_join_is_anti_stable}
 use Rattle.outer_rules.proofs.OuterJoinIsInner.{outer_join_is_inner_sound, outer_join_is_inner_keeps, outer_join_is_inner_formed, outer_join_is_inner_stable}
 use Rattle.outer_rules.proofs.SelectBelowLeftJoin.{select_below_left_join_sound, select_below_left_join_keeps, select_below_left_join_formed, select_below_left_join_stable}
 use Rattle.plain_rules.proofs.ConditionBelowJoin.{condition_below_join_sound, condition_below_join_keeps, condition_below_join_formed, condition_below_join_stable}
@@ -16,7 +20,7 @@ use Rattle.plain_rules.proofs.SelectBelowSemi.{select_below_semi_sound, select_b
 use Rattle.plain_rules.proofs.SelectIntoJoin.{select_into_join_sound, select_into_join_keeps, select_into_join_formed, select_into_join_stable}
 use Rattle.plain_rules.proofs.SelectsMerge.{selects_merge_sound, selects_merge_keeps, selects_merge_formed, selects_merge_stable}
 use Rattle.book.specs.declared.names.RuleName.{RuleName}
-use Rattle.book.specs.declared.names.RuleName.TheVariants.{JoinCommutes, JoinAssociates, SelectsMerge, SelectBelowJoin, SelectIntoJoin, ConditionBelowJoin, SelectBelowSemi, KeepsMerge, KeepOfAll, KeepBelowJoin, DistinctOfKeyed, GroupIsDistinct, OuterJoinIsInner, SelectBelowLeftJoin, ConditionBelowLeftJoin}
+use Rattle.book.specs.declared.names.RuleName.TheVariants.{JoinCommutes, JoinAssociates, SelectsMerge, SelectBelowJoin, SelectIntoJoin, ConditionBelowJoin, SelectBelowSemi, KeepsMerge, KeepOfAll, KeepBelowJoin, DistinctOfKeyed, GroupIsDistinct, OuterJoinIsInner, SelectBelowLeftJoin, ConditionBelowLeftJoin, LeftJoinBelowJoin, LeftJoinAboveJoin, KeepOfLeftSide, OuterJoinIsAnti}
 use Rattle.book.specs.Book.{rules, BookIsSound, BookKeepsToPatterns, BookIsFormed, BookIsStable}
 
 pub book_sound : BookIsSound
@@ -35,6 +39,10 @@ book_sound GroupIsDistinct = group_is_distinct_sound
 book_sound OuterJoinIsInner = outer_join_is_inner_sound
 book_sound SelectBelowLeftJoin = select_below_left_join_sound
 book_sound ConditionBelowLeftJoin = condition_below_left_join_sound
+book_sound LeftJoinBelowJoin = left_join_below_join_sound
+book_sound LeftJoinAboveJoin = left_join_above_join_sound
+book_sound KeepOfLeftSide = keep_of_left_side_sound
+book_sound OuterJoinIsAnti = outer_join_is_anti_sound
 
 pub book_keeps : BookKeepsToPatterns
 book_keeps JoinCommutes = join_commutes_keeps
@@ -52,6 +60,10 @@ book_keeps GroupIsDistinct = group_is_distinct_keeps
 book_keeps OuterJoinIsInner = outer_join_is_inner_keeps
 book_keeps SelectBelowLeftJoin = select_below_left_join_keeps
 book_keeps ConditionBelowLeftJoin = condition_below_left_join_keeps
+book_keeps LeftJoinBelowJoin = left_join_below_join_keeps
+book_keeps LeftJoinAboveJoin = left_join_above_join_keeps
+book_keeps KeepOfLeftSide = keep_of_left_side_keeps
+book_keeps OuterJoinIsAnti = outer_join_is_anti_keeps
 
 pub book_formed : BookIsFormed
 book_formed JoinCommutes = join_commutes_formed
@@ -69,6 +81,10 @@ book_formed GroupIsDistinct = group_is_distinct_formed
 book_formed OuterJoinIsInner = outer_join_is_inner_formed
 book_formed SelectBelowLeftJoin = select_below_left_join_formed
 book_formed ConditionBelowLeftJoin = condition_below_left_join_formed
+book_formed LeftJoinBelowJoin = left_join_below_join_formed
+book_formed LeftJoinAboveJoin = left_join_above_join_formed
+book_formed KeepOfLeftSide = keep_of_left_side_formed
+book_formed OuterJoinIsAnti = outer_join_is_anti_formed
 
 pub book_stable : BookIsStable
 book_stable JoinCommutes = join_commutes_stable
@@ -86,6 +102,10 @@ book_stable GroupIsDistinct = group_is_distinct_stable
 book_stable OuterJoinIsInner = outer_join_is_inner_stable
 book_stable SelectBelowLeftJoin = select_below_left_join_stable
 book_stable ConditionBelowLeftJoin = condition_below_left_join_stable
+book_stable LeftJoinBelowJoin = left_join_below_join_stable
+book_stable LeftJoinAboveJoin = left_join_above_join_stable
+book_stable KeepOfLeftSide = keep_of_left_side_stable
+book_stable OuterJoinIsAnti = outer_join_is_anti_stable
 
 -- what is so of each rule that is listed is so of each
 pub each_rule : (P : RuleName → Type 0) → AllByRecursion P rules → (rule : RuleName) → P rule

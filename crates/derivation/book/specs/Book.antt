@@ -1,7 +1,7 @@
 -- The rules by their names in certificates, the lines that each takes, and what it gives.
 use Rattle.std.specs.Prelude.{ℕ, List, [], ◌∷◌, Result, codes}
 use Rattle.book.specs.declared.names.RuleName.{RuleName}
-use Rattle.book.specs.declared.names.RuleName.TheVariants.{JoinCommutes, JoinAssociates, SelectsMerge, SelectBelowJoin, SelectIntoJoin, ConditionBelowJoin, SelectBelowSemi, KeepsMerge, KeepOfAll, KeepBelowJoin, DistinctOfKeyed, GroupIsDistinct, OuterJoinIsInner, SelectBelowLeftJoin, ConditionBelowLeftJoin}
+use Rattle.book.specs.declared.names.RuleName.TheVariants.{JoinCommutes, JoinAssociates, SelectsMerge, SelectBelowJoin, SelectIntoJoin, ConditionBelowJoin, SelectBelowSemi, KeepsMerge, KeepOfAll, KeepBelowJoin, DistinctOfKeyed, GroupIsDistinct, OuterJoinIsInner, SelectBelowLeftJoin, ConditionBelowLeftJoin, LeftJoinBelowJoin, LeftJoinAboveJoin, KeepOfLeftSide, OuterJoinIsAnti}
 use Rattle.rules.specs.declared.shape.Shape.{Shape}
 use Rattle.rules.specs.declared.unfit.Unfit.{Unfit}
 use Rattle.rules.specs.declared.pattern.Pattern.{Pattern}
@@ -12,6 +12,10 @@ use Rattle.rules.specs.Patterns.{KeepsTo}
 use Rattle.rules.specs.Soundness.{IsSound}
 use Rattle.rules.specs.Stability.{IsStable}
 use Rattle.outer_rules.specs.ConditionBelowLeftJoin as condition_below_left_join
+use Rattle.outer_rules.specs.KeepOfLeftSide as keep_of_left_side
+use Rattle.outer_rules.specs.LeftJoinAboveJoin as left_join_above_join
+use Rattle.outer_rules.specs.LeftJoinBelowJoin as left_join_below_join
+use Rattle.outer_rules.specs.OuterJoinIsAnti as outer_join_is_anti
 use Rattle.outer_rules.specs.OuterJoinIsInner as outer_join_is_inner
 use Rattle.outer_rules.specs.SelectBelowLeftJoin as select_below_left_join
 use Rattle.plain_rules.specs.ConditionBelowJoin as condition_below_join
@@ -28,7 +32,7 @@ use Rattle.plain_rules.specs.SelectIntoJoin as select_into_join
 use Rattle.plain_rules.specs.SelectsMerge as selects_merge
 
 abbrev pub rules : List RuleName
-rules = JoinCommutes ∷ JoinAssociates ∷ SelectsMerge ∷ SelectBelowJoin ∷ SelectIntoJoin ∷ ConditionBelowJoin ∷ SelectBelowSemi ∷ KeepsMerge ∷ KeepOfAll ∷ KeepBelowJoin ∷ DistinctOfKeyed ∷ GroupIsDistinct ∷ OuterJoinIsInner ∷ SelectBelowLeftJoin ∷ ConditionBelowLeftJoin ∷ []
+rules = JoinCommutes ∷ JoinAssociates ∷ SelectsMerge ∷ SelectBelowJoin ∷ SelectIntoJoin ∷ ConditionBelowJoin ∷ SelectBelowSemi ∷ KeepsMerge ∷ KeepOfAll ∷ KeepBelowJoin ∷ DistinctOfKeyed ∷ GroupIsDistinct ∷ OuterJoinIsInner ∷ SelectBelowLeftJoin ∷ ConditionBelowLeftJoin ∷ LeftJoinBelowJoin ∷ LeftJoinAboveJoin ∷ KeepOfLeftSide ∷ OuterJoinIsAnti ∷ []
 
 abbrev pub code_of : RuleName → List ℕ
 code_of JoinCommutes = codes "J1"
@@ -46,6 +50,10 @@ code_of GroupIsDistinct = codes "G1"
 code_of OuterJoinIsInner = codes "O1"
 code_of SelectBelowLeftJoin = codes "O2"
 code_of ConditionBelowLeftJoin = codes "O3"
+code_of LeftJoinBelowJoin = codes "O4"
+code_of LeftJoinAboveJoin = codes "O5"
+code_of KeepOfLeftSide = codes "O6"
+code_of OuterJoinIsAnti = codes "O7"
 
 abbrev pub given_by : RuleName → Matched → Result Shape Unfit
 given_by JoinCommutes = join_commutes.join_commutes
@@ -63,6 +71,10 @@ given_by GroupIsDistinct = group_is_distinct.group_is_distinct
 given_by OuterJoinIsInner = outer_join_is_inner.outer_join_is_inner
 given_by SelectBelowLeftJoin = select_below_left_join.select_below_left_join
 given_by ConditionBelowLeftJoin = condition_below_left_join.condition_below_left_join
+given_by LeftJoinBelowJoin = left_join_below_join.left_join_below_join
+given_by LeftJoinAboveJoin = left_join_above_join.left_join_above_join
+given_by KeepOfLeftSide = keep_of_left_side.keep_of_left_side
+given_by OuterJoinIsAnti = outer_join_is_anti.outer_join_is_anti
 
 abbrev pub pattern_of : RuleName → Pattern
 pattern_of JoinCommutes = join_commutes.pattern
@@ -80,6 +92,10 @@ pattern_of GroupIsDistinct = group_is_distinct.pattern
 pattern_of OuterJoinIsInner = outer_join_is_inner.pattern
 pattern_of SelectBelowLeftJoin = select_below_left_join.pattern
 pattern_of ConditionBelowLeftJoin = condition_below_left_join.pattern
+pattern_of LeftJoinBelowJoin = left_join_below_join.pattern
+pattern_of LeftJoinAboveJoin = left_join_above_join.pattern
+pattern_of KeepOfLeftSide = keep_of_left_side.pattern
+pattern_of OuterJoinIsAnti = outer_join_is_anti.pattern
 
 abbrev pub promise_of : RuleName → Matched → Promise
 promise_of JoinCommutes = join_commutes.promise
@@ -97,6 +113,10 @@ promise_of GroupIsDistinct = group_is_distinct.promise
 promise_of OuterJoinIsInner = outer_join_is_inner.promise
 promise_of SelectBelowLeftJoin = select_below_left_join.promise
 promise_of ConditionBelowLeftJoin = condition_below_left_join.promise
+promise_of LeftJoinBelowJoin = left_join_below_join.promise
+promise_of LeftJoinAboveJoin = left_join_above_join.promise
+promise_of KeepOfLeftSide = keep_of_left_side.promise
+promise_of OuterJoinIsAnti = outer_join_is_anti.promise
 
 -- ---- laws of each rule of the book
 

@@ -8,6 +8,10 @@ ghost use Rattle.rules.specs.Matches.{matched};
 ghost use Rattle.book.specs.Book as spec;
 
 use outer_rules::condition_below_left_join::ConditionBelowLeftJoin;
+use outer_rules::keep_of_left_side::KeepOfLeftSide;
+use outer_rules::left_join_above_join::LeftJoinAboveJoin;
+use outer_rules::left_join_below_join::LeftJoinBelowJoin;
+use outer_rules::outer_join_is_anti::OuterJoinIsAnti;
 use outer_rules::outer_join_is_inner::OuterJoinIsInner;
 use outer_rules::select_below_left_join::SelectBelowLeftJoin;
 use plain_rules::condition_below_join::ConditionBelowJoin;
@@ -43,9 +47,13 @@ pub enum RuleName {
     OuterJoinIsInner,
     SelectBelowLeftJoin,
     ConditionBelowLeftJoin,
+    LeftJoinBelowJoin,
+    LeftJoinAboveJoin,
+    KeepOfLeftSide,
+    OuterJoinIsAnti,
 }
 
-const RULES: [RuleName; 15] = [
+const RULES: [RuleName; 19] = [
     RuleName::JoinCommutes,
     RuleName::JoinAssociates,
     RuleName::SelectsMerge,
@@ -61,6 +69,10 @@ const RULES: [RuleName; 15] = [
     RuleName::OuterJoinIsInner,
     RuleName::SelectBelowLeftJoin,
     RuleName::ConditionBelowLeftJoin,
+    RuleName::LeftJoinBelowJoin,
+    RuleName::LeftJoinAboveJoin,
+    RuleName::KeepOfLeftSide,
+    RuleName::OuterJoinIsAnti,
 ];
 
 /// The first of the rules that has the code.
@@ -104,6 +116,10 @@ impl RuleName {
             RuleName::OuterJoinIsInner => OuterJoinIsInner::CODE,
             RuleName::SelectBelowLeftJoin => SelectBelowLeftJoin::CODE,
             RuleName::ConditionBelowLeftJoin => ConditionBelowLeftJoin::CODE,
+            RuleName::LeftJoinBelowJoin => LeftJoinBelowJoin::CODE,
+            RuleName::LeftJoinAboveJoin => LeftJoinAboveJoin::CODE,
+            RuleName::KeepOfLeftSide => KeepOfLeftSide::CODE,
+            RuleName::OuterJoinIsAnti => OuterJoinIsAnti::CODE,
         }
     }
 
@@ -134,6 +150,10 @@ impl RuleName {
             RuleName::OuterJoinIsInner => OuterJoinIsInner::pattern(),
             RuleName::SelectBelowLeftJoin => SelectBelowLeftJoin::pattern(),
             RuleName::ConditionBelowLeftJoin => ConditionBelowLeftJoin::pattern(),
+            RuleName::LeftJoinBelowJoin => LeftJoinBelowJoin::pattern(),
+            RuleName::LeftJoinAboveJoin => LeftJoinAboveJoin::pattern(),
+            RuleName::KeepOfLeftSide => KeepOfLeftSide::pattern(),
+            RuleName::OuterJoinIsAnti => OuterJoinIsAnti::pattern(),
         }
     }
 
@@ -157,6 +177,10 @@ impl RuleName {
             RuleName::OuterJoinIsInner => OuterJoinIsInner::promise(alloc, at),
             RuleName::SelectBelowLeftJoin => SelectBelowLeftJoin::promise(alloc, at),
             RuleName::ConditionBelowLeftJoin => ConditionBelowLeftJoin::promise(alloc, at),
+            RuleName::LeftJoinBelowJoin => LeftJoinBelowJoin::promise(alloc, at),
+            RuleName::LeftJoinAboveJoin => LeftJoinAboveJoin::promise(alloc, at),
+            RuleName::KeepOfLeftSide => KeepOfLeftSide::promise(alloc, at),
+            RuleName::OuterJoinIsAnti => OuterJoinIsAnti::promise(alloc, at),
         }
     }
 
@@ -180,6 +204,10 @@ impl RuleName {
             RuleName::OuterJoinIsInner => OuterJoinIsInner::apply(alloc, at),
             RuleName::SelectBelowLeftJoin => SelectBelowLeftJoin::apply(alloc, at),
             RuleName::ConditionBelowLeftJoin => ConditionBelowLeftJoin::apply(alloc, at),
+            RuleName::LeftJoinBelowJoin => LeftJoinBelowJoin::apply(alloc, at),
+            RuleName::LeftJoinAboveJoin => LeftJoinAboveJoin::apply(alloc, at),
+            RuleName::KeepOfLeftSide => KeepOfLeftSide::apply(alloc, at),
+            RuleName::OuterJoinIsAnti => OuterJoinIsAnti::apply(alloc, at),
         }
     }
 }

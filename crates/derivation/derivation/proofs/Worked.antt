@@ -10,7 +10,9 @@ use Rattle.algebra.specs.Equality.{same_columns, same_expr}
 use Rattle.algebra.proofs.Same.{same_columns-refl, tested_condition, tested_columns, tested_expr, same-expr}
 use Rattle.algebra.proofs.MentionedColumns.{mentions-Compare, mentions-IsNull}
 use Rattle.algebra.proofs.ConditionNames.{columns-Compare, columns-IsNull, classes-Compare, classes-IsNull}
+use Rattle.outer_rules.proofs.NullConditions.{null_column-IsNull}
 use Rattle.props.proofs.OutcomeForms.{outcomes-Compare, outcomes-IsNull}
+use Rattle.props.proofs.SingleMatches.{pins-Compare}
 use Rattle.rules.specs.declared.shape.Shape.TheVariants.{Class, Join, Keep}
 use Rattle.book.specs.declared.names.RuleName.TheVariants as rule
 use Rattle.derivation.specs.declared.line.Line.TheVariants.{Founds}
@@ -71,6 +73,10 @@ rules = record {
   outer_join_is_inner = simp (columns-Compare, classes-Compare, same_columns-refl, outcomes-Compare, spelling-Select, spelling-Join, spelling-Class, same-expr) refl;
   select_below_left_join = simp (columns-Compare, classes-Compare, same_columns-refl, mentions-IsNull, spelling-LeftJoin, spelling-Select, spelling-Class, same-expr) refl;
   condition_below_left_join = simp (columns-Compare, classes-Compare, same_columns-refl, mentions-Compare, mentions-IsNull, spelling-LeftJoin, spelling-Select, spelling-Class, same-expr) refl;
+  left_join_below_join = simp (columns-Compare, classes-Compare, same_columns-refl, mentions-Compare, spelling-Join, spelling-LeftJoin, spelling-Class, same-expr) refl;
+  left_join_above_join = simp (columns-Compare, classes-Compare, same_columns-refl, mentions-Compare, spelling-LeftJoin, spelling-Join, spelling-Class, same-expr) refl;
+  keep_of_left_side = simp (same_columns-refl, pins-Compare, spelling-Keep, spelling-Class, same-expr) refl;
+  outer_join_is_anti = simp (same_columns-refl, mentions-IsNull, null_column-IsNull, outcomes-Compare, spelling-Keep, spelling-Anti, spelling-Class, same-expr) refl;
 }
 
 conditions : WorkedConditions
@@ -81,6 +87,10 @@ conditions = record {
   distinct_of_keyed = simp same_columns-refl refl;
   group_is_distinct = simp same_columns-refl refl;
   outer_join_is_inner = simp (columns-Compare, columns-IsNull, classes-Compare, classes-IsNull, same_columns-refl, outcomes-IsNull) refl;
+  left_join_below_join = simp (columns-Compare, classes-Compare, same_columns-refl, mentions-Compare) refl;
+  left_join_above_join = simp (columns-Compare, classes-Compare, same_columns-refl, mentions-Compare) refl;
+  keep_of_left_side = simp same_columns-refl refl;
+  outer_join_is_anti = simp (same_columns-refl, mentions-IsNull, null_column-IsNull, outcomes-Compare) refl;
 }
 
 forms : WorkedForms

@@ -77,6 +77,14 @@ without_right_dept = IsNull (Column 3) ∷ []
 abbrev pub both_right : List Condition
 both_right = Compare by.Equal (Column 0) (Column 2) ∷ IsNull (Column 3) ∷ []
 
+-- e0.id = e2.id
+abbrev pub equal_third_ids : List Condition
+equal_third_ids = Compare by.Equal (Column 0) (Column 4) ∷ []
+
+-- e1.id IS NULL
+abbrev pub without_right_id : List Condition
+without_right_id = IsNull (Column 2) ∷ []
+
 -- ---- the first lines of logs
 
 abbrev pub one_table : List Line
@@ -96,6 +104,14 @@ left_joined = two_tables ++ Founds (LeftJoin equal_ids 0 1) ∷ []
 -- three tables, in line 3 the join of the first two, in line 4 its join with the third
 abbrev pub twice_joined : List Line
 twice_joined = two_tables ++ Founds (Get 2) ∷ Founds (Join equal_ids 0 1) ∷ Founds (Join falling_ids 3 2) ∷ []
+
+-- three tables, in line 3 the join of the first two
+abbrev pub joined_of_three : List Line
+joined_of_three = two_tables ++ Founds (Get 2) ∷ Founds (Join equal_ids 0 1) ∷ []
+
+-- the same of their left join
+abbrev pub left_joined_of_three : List Line
+left_joined_of_three = two_tables ++ Founds (Get 2) ∷ Founds (LeftJoin equal_ids 0 1) ∷ []
 
 -- a table of which a weak key is known, of NOT NULL columns
 abbrev pub weakly_keyed : List Line
@@ -141,6 +157,15 @@ pub record WorkedRules : Type 0 where
       (Adds 3 (by_rule rule.SelectBelowLeftJoin (3 ∷ 2 ∷ []) (4 ∷ [])) (LeftJoin equal_ids 4 1))
   pub condition_below_left_join : Stands (two_tables ++ Founds (LeftJoin both_right 0 1) ∷ Founds (Select without_right_dept 1) ∷ [])
       (Adds 2 (by_rule rule.ConditionBelowLeftJoin (2 ∷ []) (3 ∷ [])) (LeftJoin equal_ids 0 3))
+  pub left_join_below_join : Stands (joined_of_three ++ Founds (LeftJoin equal_third_ids 3 2) ∷ Founds (LeftJoin equal_third_ids 0 2) ∷ [])
+      (Adds 4 (by_rule rule.LeftJoinBelowJoin (4 ∷ 3 ∷ []) (5 ∷ [])) (Join equal_ids 5 1))
+  pub left_join_above_join : Stands (left_joined_of_three ++ Founds (Join equal_third_ids 3 2) ∷ Founds (Join equal_third_ids 0 2) ∷ [])
+      (Adds 4 (by_rule rule.LeftJoinAboveJoin (4 ∷ 3 ∷ []) (5 ∷ [])) (LeftJoin equal_ids 5 1))
+  pub keep_of_left_side : Stands (two_tables ++ Gives 1 1 (WeakKey (2 ∷ [])) ∷ Founds (LeftJoin equal_ids 0 1) ∷ Founds (Keep (0 ∷ []) 3) ∷ [])
+      (Adds 4 (by_rule rule.KeepOfLeftSide (4 ∷ 3 ∷ []) []) (Keep (0 ∷ []) 0))
+  -- e1.id isn't Null where it is equal to e0.id
+  pub outer_join_is_anti : Stands (left_joined ++ Founds (Select without_right_id 2) ∷ Founds (Keep (0 ∷ []) 3) ∷ Founds (Anti equal_ids [] 0 1) ∷ [])
+      (Adds 4 (by_rule rule.OuterJoinIsAnti (4 ∷ 3 ∷ 2 ∷ []) (5 ∷ [])) (Keep (0 ∷ []) 5))
 
 -- each rule that has a condition, where it fails
 pub record WorkedConditions : Type 0 where
@@ -158,6 +183,17 @@ pub record WorkedConditions : Type 0 where
   -- a row of e0 without a match may have no dept
   pub outer_join_is_inner : IsRefused (left_joined ++ Founds (Select without_dept 2) ∷ Founds (Join equal_ids 0 1) ∷ [])
       (Adds 3 (by_rule rule.OuterJoinIsInner (3 ∷ 2 ∷ []) (4 ∷ [])) (Select without_dept 4)) (reason.FailedCondition rule.OuterJoinIsInner)
+  -- which rows of e2 a row finds depends on e1
+  pub left_join_below_join : IsRefused (joined_of_three ++ Founds (LeftJoin falling_ids 3 2) ∷ [])
+      (Adds 4 (by_rule rule.LeftJoinBelowJoin (4 ∷ 3 ∷ []) []) (Join equal_ids 0 1)) (reason.FailedCondition rule.LeftJoinBelowJoin)
+  pub left_join_above_join : IsRefused (left_joined_of_three ++ Founds (Join falling_ids 3 2) ∷ [])
+      (Adds 4 (by_rule rule.LeftJoinAboveJoin (4 ∷ 3 ∷ []) []) (LeftJoin equal_ids 0 1)) (reason.FailedCondition rule.LeftJoinAboveJoin)
+  -- no key of e1 is known
+  pub keep_of_left_side : IsRefused (left_joined ++ Founds (Keep (0 ∷ []) 2) ∷ [])
+      (Adds 3 (by_rule rule.KeepOfLeftSide (3 ∷ 2 ∷ []) []) (Keep (0 ∷ []) 0)) (reason.FailedCondition rule.KeepOfLeftSide)
+  -- a row of e1 may have no dept
+  pub outer_join_is_anti : IsRefused (left_joined ++ Founds (Select without_right_dept 2) ∷ Founds (Keep (0 ∷ []) 3) ∷ Founds (Anti equal_ids [] 0 1) ∷ [])
+      (Adds 4 (by_rule rule.OuterJoinIsAnti (4 ∷ 3 ∷ 2 ∷ []) (5 ∷ [])) (Keep (0 ∷ []) 5)) (reason.FailedCondition rule.OuterJoinIsAnti)
 
 -- each rule of outer joins that moves conjuncts, where there are none that it may move
 pub record WorkedForms : Type 0 where

@@ -1,5 +1,10 @@
 pub mod ConditionBelowLeftJoin
+pub mod JoinedSides
 pub mod KeepOfLeftSide
+pub mod LeftJoinAboveJoin
+pub mod LeftJoinBelowJoin
+pub mod NullConditions
+pub mod OuterJoinIsAnti
 pub mod OuterJoinIsInner
 pub mod OuterJoins
 pub mod SelectBelowLeftJoin

@@ -1,16 +1,17 @@
 -- Outer joins with selections above and below them.
 -- Null rejection: Galindo-Legaria and Rosenthal, Outerjoin simplification and reordering for query optimization, ACM TODS 22(1), 1997.
-use Rattle.std.proofs.Common.{◌≡◌, refl, ap, sym, ◌∙◌, ℕ, ◌+◌, ◌≤◌, ◌==◌, Bool, true, false, if◌then◌else◌, List, [], ◌∷◌, arith}
+use Rattle.std.proofs.Common.{◌≡◌, refl, ap, sym, ◌∙◌, ℕ, ◌+◌, ◌≤◌, ◌==◌, Bool, true, false, not, ◌&&◌, ◌||◌, if◌then◌else◌, List, [], ◌∷◌, arith}
+use Rattle.std.specs.List.{list_any}
 use Rattle.values.specs.declared.value.Value.{Value}
 use Rattle.values.specs.declared.value.Value.TheVariants as value
 use Rattle.query.specs.Meaning.{or_else_row}
 use Rattle.algebra.specs.Columns.{ColumnSet}
-use Rattle.algebra.specs.Bags.{Env, Test, Bag, total, SameBag, lay, nulls, matches, select, join, left_join, keep}
-use Rattle.algebra.proofs.BagSums.{if_passes, total-map, total-filter, total-flat_map, total-same}
+use Rattle.algebra.specs.Bags.{Env, Test, Bag, total, SameBag, lay, nulls, matches, has_match, select, join, left_join, anti, keep}
+use Rattle.algebra.proofs.BagSums.{if_passes, total-map, total-filter, total-flat_map, total-same, total-plus}
 use Rattle.laws.specs.Fitting.{Fits}
 use Rattle.laws.specs.Keys.{count, IsSingle}
 use Rattle.laws.specs.Rewriting.{IsBoth, Ignores, AreApart}
-use Rattle.laws.proofs.JoinSums.{when_both, when_swap, total_when, total_laid}
+use Rattle.laws.proofs.JoinSums.{when_both, when_swap, total_when, total_swap, total_join, total_laid}
 use Rattle.laws.proofs.KeyCounts.{total_none, total_left}
 use Rattle.laws.proofs.Overlays.{pointwise, by_columns, lay-over}
 use Rattle.props.specs.Outcomes.{IsNullIn}
@@ -128,3 +129,109 @@ keeps_of_left_sides S B d a b apart single e f =
     row r =
         sum (count (λ s. d (lay B s r)) (b e) == 0) (total-same _ _ (λ s. ap (λ n. if d (lay B s r) then n else 0) (alike r s)) (b e)) (alike r nulls)
         ∙ once (λ s. d (lay B s r)) (f (lay S r e)) (b e) (single e r)
+
+-- ---- an outer join changes places with an inner one
+
+-- neither condition mentions the side that the other join brings
+pub left_joins_go_below_joins : (c d : Test) (B C : ColumnSet) (a b z : Bag) → AreApart B C → Ignores B d → Ignores C c → SameBag (left_join d C (join c B a b) z) (join c B (left_join d C a z) b)
+left_joins_go_below_joins c d B C a b z apart ignores_b ignores_c e f =
+    total_left f d C (join c B a b) z e
+    ∙ total_join _ c B a b e
+    ∙ total-same _ _ row (a e)
+    ∙ sym (total_join f c B (left_join d C a z) b e ∙ total_left _ d C a z e)
+  where
+    -- it doesn't matter which side is laid first
+    laid : (r s u : Env) → lay C u (lay B s r) ≡ lay B s (lay C u r)
+    laid r s u = pointwise (λ k. at (B k) (C k) (s k) (u k) (r k) (apart k))
+      where
+        at : (x y : Bool) (v w t : Value) → (x ≡ true → y ≡ false) → (if y then w else if x then v else t) ≡ (if x then v else if y then w else t)
+        at true true v w t no = cc (no refl)
+        at true false v w t no = refl
+        at false y v w t no = refl
+
+    c-is : (r s u : Env) → c (lay B s r) ≡ c (lay B s (lay C u r))
+    c-is r s u = sym (ignores_c (lay B s r) u) ∙ ap c (laid r s u)
+
+    d-is : (r s u : Env) → d (lay C u (lay B s r)) ≡ d (lay C u r)
+    d-is r s u = ap d (laid r s u) ∙ ignores_b (lay C u r) s
+
+    -- the rows of the inner join that a row finds
+    pairs : Env → ℕ
+    pairs w = total (λ s. if_passes c f (lay B s w)) (b e)
+
+    is_padded : Env → Bool
+    is_padded w = count (λ u. d (lay C u w)) (z e) == 0
+
+    padded-is : (r s : Env) → is_padded (lay B s r) ≡ is_padded r
+    padded-is r s = ap (λ n. n == 0) (total-same _ _ (λ u. ap (λ v. if v then 1 else 0) (d-is r s u)) (z e))
+
+    when-sum : (t : Bool) (m n : ℕ) → (if t then m + n else 0) ≡ (if t then m else 0) + (if t then n else 0)
+    when-sum true m n = refl
+    when-sum false m n = refl
+
+    sum : {m n k l : ℕ} → m ≡ n → k ≡ l → m + k ≡ n + l
+    sum g h = rw (g, h) refl
+
+    turned : (t v : Bool) {x y : Bool} {m n : ℕ} → t ≡ x → v ≡ y → m ≡ n → (if t then (if v then m else 0) else 0) ≡ (if y then (if x then n else 0) else 0)
+    turned t v {x} {y} {m} {n} g h k = rw (g, h, k) (when_swap x y n)
+
+    each : (r s : Env) → (if c (lay B s r) then total (λ u. if_passes d f (lay C u (lay B s r))) (z e) + (if is_padded (lay B s r) then f (lay C nulls (lay B s r)) else 0) else 0)
+        ≡ total (λ u. if d (lay C u r) then if_passes c f (lay B s (lay C u r)) else 0) (z e) + (if is_padded r then if_passes c f (lay B s (lay C nulls r)) else 0)
+    each r s =
+        when-sum (c (lay B s r)) _ _
+        ∙ sum (sym (total_when (c (lay B s r)) _ (z e)) ∙ total-same _ _ (λ u. turned _ _ (c-is r s u) (d-is r s u) (ap f (laid r s u))) (z e))
+        (turned _ _ (c-is r s nulls) (padded-is r s) (ap f (laid r s nulls)))
+
+    row : (r : Env) → total (λ s. if c (lay B s r) then total (λ u. if_passes d f (lay C u (lay B s r))) (z e) + (if is_padded (lay B s r) then f (lay C nulls (lay B s r)) else 0) else 0) (b e)
+        ≡ total (λ u. if_passes d pairs (lay C u r)) (z e) + (if is_padded r then pairs (lay C nulls r) else 0)
+    row r =
+        total-same _ _ (each r) (b e)
+        ∙ total-plus (λ s. total (λ u. if d (lay C u r) then if_passes c f (lay B s (lay C u r)) else 0) (z e)) _ (b e)
+        ∙ sum (total_swap (λ s u. if d (lay C u r) then if_passes c f (lay B s (lay C u r)) else 0) (b e) (z e) ∙ total-same _ _ (λ u. total_when (d (lay C u r)) _ (b e)) (z e))
+        (total_when (is_padded r) _ (b e))
+
+-- ---- the rows that find none
+
+-- no row of the list passes where none is counted
+none-passes : (p : Test) (rows : List Env) → (count p rows == 0) ≡ not (list_any p rows)
+none-passes p [] = refl
+none-passes p (r ∷ rows) = by (p r) (none-passes p rows)
+  where
+    by : (b : Bool) → (count p rows == 0) ≡ not (list_any p rows) → ((if b then 1 else 0) + count p rows == 0) ≡ not (b || list_any p rows)
+    by true later = refl
+    by false later = later
+
+-- a part of the conditions passes padded rows, and no row with one that it found
+pub outer_joins_are_anti : (S B : ColumnSet) (c d p n : Test) (a b : Bag) → AreApart S B → IsBoth c p n → Ignores B p → ((r : Env) → n (lay B nulls r) ≡ true)
+    → ((e r : Env) → count (λ s. d (lay B s r) && n (lay B s r)) (b e) ≡ 0) → SameBag (keep S (select c (left_join d B a b))) (keep S (select p (anti d B a b)))
+outer_joins_are_anti S B c d p n a b apart both ignores padded none e f =
+    total-map f (λ r. lay S r e) (select c (left_join d B a b) e)
+    ∙ total-filter g c (left_join d B a b e)
+    ∙ total_left (if_passes c g) d B a b e
+    ∙ total-same _ _ row (a e)
+    ∙ sym (total-map f (λ r. lay S r e) (select p (anti d B a b) e)
+    ∙ total-filter g p (anti d B a b e)
+    ∙ total-filter (if_passes p g) (λ r. not (has_match d B (b e) r)) (a e))
+  where
+    g : Env → ℕ
+    g r = f (lay S r e)
+
+    found : (r : Env) → total (λ s. if_passes d (if_passes c g) (lay B s r)) (b e) ≡ 0
+    found r = total_none (λ s. d (lay B s r) && n (lay B s r)) _ (λ s fails. rw (both (lay B s r)) (by (d (lay B s r)) (p (lay B s r)) (n (lay B s r)) (g (lay B s r)) fails)) (b e) (none e r)
+      where
+        by : (x y z : Bool) (m : ℕ) → (x && z) ≡ false → (if x then (if y && z then m else 0) else 0) ≡ 0
+        by true true true m fails = cc
+        by true true false m fails = refl
+        by true false z m fails = refl
+        by false y z m fails = refl
+
+    left : (r : Env) → if_passes c g (lay B nulls r) ≡ if_passes p g r
+    left r = rw (both (lay B nulls r), ignores r nulls, padded r) (by (p r) (ap f (by_columns S _ _ (λ k is. rw (is, apart k is) refl) (λ k isnt. rw isnt refl))))
+      where
+        by : (x : Bool) → g (lay B nulls r) ≡ g r → (if x && true then g (lay B nulls r) else 0) ≡ (if x then g r else 0)
+        by true is = is
+        by false is = refl
+
+    row : (r : Env) → total (λ s. if_passes d (if_passes c g) (lay B s r)) (b e) + (if count (λ s. d (lay B s r)) (b e) == 0 then if_passes c g (lay B nulls r) else 0)
+        ≡ (if not (has_match d B (b e) r) then if_passes p g r else 0)
+    row r = rw (found r, none-passes (λ s. d (lay B s r)) (b e), left r) refl

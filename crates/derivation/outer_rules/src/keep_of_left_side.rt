@@ -16,7 +16,7 @@ use std::alloc::{AllocError, Global};
 use values::Fault;
 
 /// Whether none of the columns is one of the class.
-fn are_elsewhere(columns: &[ColumnId], classes: ClassColumns<'_>, class: ClassId) -> bool
+pub(crate) fn are_elsewhere(columns: &[ColumnId], classes: ClassColumns<'_>, class: ClassId) -> bool
     ensures { result ≡ are_disjoint columns.now (given_columns classes.entry class) }
 {
     columns.iter().all(|column| !classes.has(class, *column))

@@ -131,8 +131,50 @@ O3: 3 left 0 1 lm => another form
 O3: 3 join 0 1 rm => another form
 O3: 3 left 0 1 rm, 0 get 0 => another form
 O3 pick 1: 3 left 0 1 rm => another form";
+    const CHANGED_PLACES: &str = "O4: 5 left 3 2 t, 3 join 0 1 m => join [=(c0,c2)] (left [=(c0,c4)] (0) (2)) (1)
+O4: 5 left 3 2 l, 3 join 0 1 r => join [=(c2,i7)] (left [=(c0,i7)] (0) (2)) (1)
+O4: 5 left 3 2 , 3 join 0 1  => join [] (left [] (0) (2)) (1)
+O4: 5 left 3 2 u, 3 join 0 1 m => the condition fails
+O4: 5 left 3 2 u, 3 join 1 0 m => join [=(c0,c2)] (left [=(c2,c4)] (1) (2)) (0)
+O4: 5 left 3 2 t, 3 join 0 1 t => the condition fails
+O4: 5 left 3 2 t, 3 left 0 1 m => another form
+O4: 5 join 3 2 t, 3 join 0 1 m => another form
+O4: 5 left 1 2 t, 3 join 0 1 m => another form
+O4: 5 left 3 2 t => another form
+O4 pick 1: 5 left 3 2 t, 3 join 0 1 m => another form
+O5: 5 join 3 2 t, 3 left 0 1 m => left [=(c0,c2)] (join [=(c0,c4)] (0) (2)) (1)
+O5: 5 join 3 2 , 3 left 0 1 l => left [=(c0,i7)] (join [] (0) (2)) (1)
+O5: 5 join 3 2 u, 3 left 0 1 m => the condition fails
+O5: 5 join 3 2 t, 3 left 0 1 t => the condition fails
+O5: 5 join 3 2 t, 3 join 0 1 m => another form
+O5: 5 left 3 2 t, 3 left 0 1 m => another form
+O5: 5 join 1 2 t, 3 left 0 1 m => another form
+O5 pick 1: 5 join 3 2 t, 3 left 0 1 m => another form";
+    const ELIMINATED: &str = "O6: 7 keep 3 0, 3 left 0 1 m => keep 0 (0)
+O6: 7 keep 3 0, 3 left 0 1 lm => keep 0 (0)
+O6: 7 keep 3 0 1, 4 left 0 1 r => keep 0 1 (0)
+O6: 7 keep 3 0, 3 left 0 1 l => the condition fails
+O6: 7 keep 3 0 2, 3 left 0 1 m => the condition fails
+O6: 7 keep 5 2, 5 left 1 2 u => the condition fails
+O6: 7 keep 3 0, 3 join 0 1 m => another form
+O6: 7 distinct 3, 3 left 0 1 m => another form
+O6 pick 1: 7 keep 3 0, 3 left 0 1 m => another form
+O7: 7 keep 3 2, 4 select 4 n, 3 left 1 0 m => keep 2 (anti [=(c0,c2)] [] (1) (0))
+O7: 7 keep 3 2, 4 select 4 n, 3 left 1 0  => keep 2 (anti [] [] (1) (0))
+O7: 7 keep 3 2, 4 select 4 nr, 3 left 1 0 m => keep 2 (select [=(c2,i7)] (anti [=(c0,c2)] [] (1) (0)))
+O7: 7 keep 3 0, 4 select 4 z, 3 left 0 1 m => keep 0 (anti [=(c0,c2)] [] (0) (1))
+O7: 7 keep 3 0, 4 select 4 zw, 3 left 0 1 m => keep 0 (anti [=(c0,c2)] [] (0) (1))
+O7: 7 keep 3 0, 4 select 4 w, 3 left 0 1 m => the condition fails
+O7: 7 keep 3 0, 4 select 4 z, 3 left 0 1 l => the condition fails
+O7: 7 keep 3 0 2, 4 select 4 z, 3 left 0 1 m => the condition fails
+O7: 7 keep 3 0, 4 select 4 zr, 3 left 0 1 m => the condition fails
+O7: 7 keep 3 0, 4 select 4 l, 3 left 0 1 m => the condition fails
+O7: 7 keep 3 0, 4 select 4 z, 3 join 0 1 m => another form
+O7: 7 keep 3 0, 3 left 0 1 m => another form
+O7: 7 distinct 3, 4 select 4 z, 3 left 0 1 m => another form
+O7 pick 1: 7 keep 3 0, 4 select 4 z, 3 left 0 1 m => another form";
     assert_eq!(rt;
-        differences(rt.alloc(), &[JOINS, SELECTS, KEEPS, OUTER_JOINS], &Applied).as_deref(),
+        differences(rt.alloc(), &[JOINS, SELECTS, KEEPS, OUTER_JOINS, CHANGED_PLACES, ELIMINATED], &Applied).as_deref(),
         Ok("")
     );
 }
@@ -142,13 +184,14 @@ O3 pick 1: 3 left 0 1 rm => another form";
 fn rules_are_found(rt: HostRuntime) {
     for code in [
         "J1", "J2", "S1", "S2", "S3", "S4", "S5", "K1", "K2", "K3", "D1", "G1", "O1", "O2", "O3",
+        "O4", "O5", "O6", "O7",
     ] {
         assert_eq!(rt; RuleName::of_code(code).map(|rule| rule.code()), Some(code));
     }
     for rule in RuleName::all() {
         assert_eq!(rt; RuleName::of_code(rule.code()), Some(*rule));
     }
-    for text in ["", "J", "J3", "j1", "J1 ", "JJ1", "O4"] {
+    for text in ["", "J", "J3", "j1", "J1 ", "JJ1", "O8"] {
         assert_eq!(rt; RuleName::of_code(text), None);
     }
 }

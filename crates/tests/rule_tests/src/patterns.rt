@@ -131,7 +131,16 @@ O2: 7 select 3 l, 3 join 0 1 m => another form
 O2: 7 select 3 l, 0 left 0 1 m => another form
 O3: 3 left 0 1 lm => fits
 O3: 3 join 0 1 rm => another form
-O3: 3 left 0 1 rm, 0 get 0 => another form";
+O3: 3 left 0 1 rm, 0 get 0 => another form
+O4: 5 left 3 2 u, 3 join 0 1 m => fits
+O4: 5 left 3 2 u, 5 join 1 2 m => another form
+O5: 5 join 3 2 u, 4 left 0 1 m => fits
+O5: 5 join 3 2 u, 4 join 0 1 m => another form
+O6: 7 keep 3 0 2, 3 left 0 1 l => fits
+O6: 7 keep 3 0, 3 join 0 1 m => another form
+O7: 7 keep 3 0 2, 4 select 4 l, 3 left 0 1 m => fits
+O7: 7 keep 3 0, 4 select 4 z, 3 anti 0 1 m => another form
+O7: 7 keep 3 0, 4 select 4 z => another form";
     const PICKS: &str = "subquery pick 1: 7 select 3 lx => fits
 subquery pick 0: 7 select 3 lx => another form
 subquery pick 2: 7 select 3 lx => another form

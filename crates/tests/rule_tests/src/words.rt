@@ -58,8 +58,8 @@ fn is_seven(column: ColumnId) -> Condition {
 }
 
 /// The condition of a letter: `l` and `r` read a column of the class 0 and of the class 1, `m` one of each, `t` and `u` one of the
-/// class 0 and of the class 1 and one of the class 2; `n` is IS NULL of a column of the class 0, `e` its IN among the class 6; `x` is
-/// EXISTS of the class 6, which has the free column 2.
+/// class 0 and of the class 1 and one of the class 2; `n` is IS NULL of a column of the class 0, `e` its IN among the class 6; `z` and `w`
+/// are IS NULL of the columns of the class 1; `x` is EXISTS of the class 6, which has the free column 2.
 pub fn condition_of(letter: char) -> Condition {
     match letter {
         'l' => is_seven(0),
@@ -68,6 +68,8 @@ pub fn condition_of(letter: char) -> Condition {
         't' => equal(0, 4),
         'u' => equal(2, 4),
         'n' => Condition::IsNull(Term::Column(0)),
+        'z' => Condition::IsNull(Term::Column(2)),
+        'w' => Condition::IsNull(Term::Column(3)),
         'e' => Condition::In(Term::Column(0), 6, 4),
         _ => Condition::Exists(6),
     }
