@@ -11,7 +11,7 @@ use Rattle.rules.specs.declared.pattern.Operators.TheVariants.{Only}
 use Rattle.rules.specs.declared.pattern.Pattern as lines
 use Rattle.rules.specs.declared.pattern.Pattern.TheVariants.{One}
 use Rattle.rules.specs.declared.promise.Promise.{Promise}
-use Rattle.rules.specs.declared.promise.Promise.TheVariants.{Connected}
+use Rattle.rules.specs.declared.promise.Promise.TheVariants.{Simpler}
 use Rattle.rules.specs.declared.shape.Shape.{Shape}
 use Rattle.rules.specs.declared.shape.Shape.TheVariants.{Class, Select, LeftJoin}
 use Rattle.rules.specs.declared.unfit.Unfit.{Unfit}
@@ -35,4 +35,4 @@ condition_below_left_join m = wanted Pattern (one_line m) >>= lowered_below m.cl
 
 -- when it is tried
 abbrev pub promise : Matched → Promise
-promise m = Connected
+promise m = Simpler

@@ -12,7 +12,7 @@ use Rattle.rules.specs.declared.pattern.Pattern as lines
 use Rattle.rules.specs.declared.pattern.Pattern.TheVariants.{Two}
 use Rattle.rules.specs.Patterns.{first}
 use Rattle.rules.specs.declared.promise.Promise.{Promise}
-use Rattle.rules.specs.declared.promise.Promise.TheVariants.{Connected}
+use Rattle.rules.specs.declared.promise.Promise.TheVariants.{Simpler}
 use Rattle.rules.specs.declared.shape.Shape.{Shape}
 use Rattle.rules.specs.declared.shape.Shape.TheVariants.{Class, Select, LeftJoin}
 use Rattle.rules.specs.declared.unfit.Unfit.{Unfit}
@@ -37,4 +37,4 @@ select_below_left_join m = wanted Pattern (two_lines m) >>= λ l. pushed_below m
 
 -- when it is tried
 abbrev pub promise : Matched → Promise
-promise m = Connected
+promise m = Simpler

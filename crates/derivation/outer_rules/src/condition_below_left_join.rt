@@ -49,7 +49,7 @@ impl Rule for ConditionBelowLeftJoin {
     }
 
     fn promise(_alloc: Global, _at: Match<'_>) -> Result<Promise, AllocError> {
-        Ok(Promise::Connected)
+        Ok(Promise::Simpler)
     }
 
     #[tactic(auto, using(crate::proofs::ConditionBelowLeftJoin::condition_below_left_join_sound))]

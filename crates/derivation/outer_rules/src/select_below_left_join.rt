@@ -55,7 +55,7 @@ impl Rule for SelectBelowLeftJoin {
     }
 
     fn promise(_alloc: Global, _at: Match<'_>) -> Result<Promise, AllocError> {
-        Ok(Promise::Connected)
+        Ok(Promise::Simpler)
     }
 
     #[tactic(auto, using(crate::proofs::SelectBelowLeftJoin::select_below_left_join_sound))]

@@ -156,7 +156,7 @@ fn mark(marks: &mut [bool], class: Option<ClassId>) {
 }
 
 /// The classes on which a class stands by its founding line, and itself, in rising order.
-fn classes_below(
+pub(crate) fn classes_below(
     alloc: Global,
     memo: &Memo<'_>,
     class: ClassId,

@@ -4,6 +4,7 @@
 //! loops alone.
 #![tactic(auto)]
 
+mod asked_facts;
 mod entering;
 mod exploring;
 mod keys;

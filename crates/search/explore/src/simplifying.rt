@@ -1,13 +1,13 @@
 //! Each line of a log is simplified, those that come of it among them.
 
-use crate::keys::learn_keys;
+use crate::asked_facts::learn_asked;
 use crate::takers::Takers;
-use algebra::{ClassId, Expr, LineId};
+use algebra::{ClassId, LineId};
 use bindings::{Binding, BoundLines};
 use book::RuleName;
 use memo::Memo;
 use query::ids::id_of;
-use rules::{Input, Match, MatchedLine, Promise};
+use rules::{Input, Match, MatchedLine, Pattern, Promise};
 use std::alloc::{AllocError, Global};
 
 /// Of a longer log the first lines alone are looked at, which bounds the time that is spent.
@@ -46,23 +46,60 @@ fn makes_simpler(
     })
 }
 
-/// The same of the line of a number, over another one if there is one.
+/// The same of the lines of these numbers.
 fn makes_simpler_at(
     alloc: Global,
     memo: &Memo<'_>,
     rule: RuleName,
-    top: LineId,
-    below: Option<LineId>,
+    numbers: BoundLines,
 ) -> Result<bool, AllocError> {
-    let Some(upper) = memo.log().member(top) else {
-        return Ok(false);
-    };
-    let Some(below) = below else {
-        return makes_simpler(alloc, memo, rule, [upper].as_slice());
-    };
-    match memo.log().member(below) {
-        Some(lower) => makes_simpler(alloc, memo, rule, [upper, lower].as_slice()),
-        None => Ok(false),
+    let member = |number: LineId| memo.log().member(number);
+    match numbers {
+        BoundLines::One(top) => match member(top) {
+            Some(top) => makes_simpler(alloc, memo, rule, [top].as_slice()),
+            None => Ok(false),
+        },
+        BoundLines::Two(top, below) => match (member(top), member(below)) {
+            (Some(top), Some(below)) => makes_simpler(alloc, memo, rule, [top, below].as_slice()),
+            _ => Ok(false),
+        },
+        BoundLines::Three(top, below, lowest) => {
+            match (member(top), member(below), member(lowest)) {
+                (Some(top), Some(below), Some(lowest)) => {
+                    makes_simpler(alloc, memo, rule, [top, below, lowest].as_slice())
+                }
+                _ => Ok(false),
+            }
+        }
+    }
+}
+
+/// Applies the rule to the lines, if it makes them simpler.
+fn simplify_by(
+    alloc: Global,
+    memo: &mut Memo<'_>,
+    rule: RuleName,
+    lines: BoundLines,
+) -> Result<(), AllocError> {
+    if makes_simpler_at(alloc, memo, rule, lines)? {
+        let _ = memo.apply(alloc, unpicked(rule, lines))?;
+    }
+    Ok(())
+}
+
+/// The lines of the class that a line takes there.
+fn lines_below(
+    alloc: Global,
+    memo: &Memo<'_>,
+    line: LineId,
+    input: Input,
+) -> Result<Vec<LineId>, AllocError> {
+    match memo.log().member(line) {
+        Some(member) => match input.of(member.expr) {
+            Some(class) => memo.log().members(alloc, class),
+            None => Ok(Vec::new(alloc)),
+        },
+        None => Ok(Vec::new(alloc)),
     }
 }
 
@@ -74,9 +111,7 @@ fn simplify_alone(
     line: LineId,
 ) -> Result<(), AllocError> {
     for rule in rules {
-        if makes_simpler_at(alloc, memo, *rule, line, None)? {
-            let _ = memo.apply(alloc, unpicked(*rule, BoundLines::One(line)))?;
-        }
+        simplify_by(alloc, memo, *rule, BoundLines::One(line))?;
     }
     Ok(())
 }
@@ -91,9 +126,7 @@ fn simplify_over(
 ) -> Result<(), AllocError> {
     for below in memo.log().members(alloc, class)? {
         for rule in rules {
-            if makes_simpler_at(alloc, memo, *rule, line, Some(below))? {
-                let _ = memo.apply(alloc, unpicked(*rule, BoundLines::Two(line, below)))?;
-            }
+            simplify_by(alloc, memo, *rule, BoundLines::Two(line, below))?;
         }
     }
     Ok(())
@@ -123,11 +156,29 @@ fn rules_over<'t>(
     }
 }
 
-/// The class of which keys are asked: that of which a line has the distinct rows.
-fn keyed(memo: &Memo<'_>, line: LineId) -> Option<ClassId> {
-    match memo.log().member(line)?.expr {
-        Expr::Distinct(x) => Some(*x),
-        _ => None,
+/// Applies a rule of three lines to the line, where it makes that and two lines below simpler.
+fn simplify_over_two(
+    alloc: Global,
+    memo: &mut Memo<'_>,
+    rule: RuleName,
+    line: LineId,
+) -> Result<(), AllocError> {
+    let Pattern::Three(_, below, lowest) = rule.pattern() else {
+        return Ok(());
+    };
+    for second in lines_below(alloc, memo, line, below.input)? {
+        for third in lines_below(alloc, memo, second, lowest.input)? {
+            simplify_by(alloc, memo, rule, BoundLines::Three(line, second, third))?;
+        }
+    }
+    Ok(())
+}
+
+/// The rules of three lines and with a pick that take a line as the first.
+fn rules_first<'t>(memo: &Memo<'_>, takers: &'t Takers, line: LineId) -> &'t [RuleName] {
+    match memo.log().member(line) {
+        Some(top) => takers.first.of(top.expr),
+        None => &[],
     }
 }
 
@@ -137,9 +188,7 @@ fn simplify_line(
     takers: &Takers,
     line: LineId,
 ) -> Result<(), AllocError> {
-    if let Some(class) = keyed(memo, line) {
-        learn_keys(alloc, memo, class)?;
-    }
+    learn_asked(alloc, memo, line)?;
     let rules = rules_alone(memo, takers, line);
     simplify_alone(alloc, memo, rules, line)?;
     for input in [Input::First, Input::Second] {
@@ -147,6 +196,9 @@ fn simplify_line(
         if !rules.is_empty() {
             simplify_over(alloc, memo, rules, line, class)?;
         }
+    }
+    for rule in rules_first(memo, takers, line) {
+        simplify_over_two(alloc, memo, *rule, line)?;
     }
     Ok(())
 }
@@ -161,9 +213,9 @@ fn pass(alloc: Global, memo: &mut Memo<'_>, takers: &Takers) -> Result<(), Alloc
     Ok(())
 }
 
-/// Adds what the rules give that promise to make expressions simpler, after learning keys of the classes whose distinct rows a line has. As the rules
-/// of the book are, selections and projections one over the other become one, a projection to all columns and distinct rows of a class with a key are
-/// that class, and groups without aggregates are distinct rows.
+/// Adds what the rules give that promise to make expressions simpler, after learning the facts that these may ask of a line. As the rules of the book
+/// are, selections and projections one over the other become one, a projection to all columns and distinct rows of a class with a key are that class,
+/// groups without aggregates are distinct rows, selections and conditions go below outer joins, and outer joins become inner ones, antijoins, or go away.
 pub fn simplify(alloc: Global, memo: &mut Memo<'_>) -> Result<(), AllocError> {
     let takers = Takers::of_book(alloc)?;
     for _ in 0..MOST_PASSES {

@@ -40,10 +40,10 @@ pub fn founding_sides(log: &Log<'_>, class: ClassId) -> Option<Sides> {
     }
 }
 
-/// The class of which a line selects, where it founds a class so.
+/// The class of which a line selects, if it does.
 fn selected(log: &Log<'_>, line: LineId) -> Option<ClassId> {
-    match log.lines().get(line as usize) {
-        Some(Line::Founds(Expr::Select(_, class))) => Some(*class),
+    match log.member(line)?.expr {
+        Expr::Select(_, class) => Some(*class),
         _ => None,
     }
 }

@@ -24,7 +24,7 @@ use physical::Plan;
 use query::ids::id_of;
 use query::{BoundQuery, Query};
 use search::{BestPlan, best};
-use seed::seed;
+use seed::{raise_left_joins, seed};
 use statistics::Statistics;
 use std::alloc::{AllocError, Global};
 use trimming::trimmed;
@@ -119,14 +119,17 @@ struct Prepared {
     tree_cost: Option<u64>,
 }
 
-/// Adds what is simpler, and lines by which good join trees are among a log's plans. These put selections over selections, so it is simplified
-/// again.
+/// Adds what is simpler, and lines by which good join trees are among a log's plans, with outer joins above the inner ones. These put selections over others
+/// and over outer joins, so it is simplified again.
 fn prepare(
     alloc: Global,
     planning: Planning<'_>,
     memo: &mut Memo<'_>,
 ) -> Result<Prepared, AllocError> {
     simplify(alloc, memo)?;
+    if raise_left_joins(alloc, memo)? {
+        simplify(alloc, memo)?;
+    }
     let products = if falls_apart(alloc, memo.log())? {
         Products::Made
     } else {

@@ -7,8 +7,10 @@
 mod founding;
 mod nodes;
 mod placing;
+mod raising;
 mod reaching;
 mod seeding;
 mod sinking;
 
+pub use raising::raise_left_joins;
 pub use seeding::seed;

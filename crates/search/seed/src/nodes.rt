@@ -8,7 +8,7 @@ use memo::Memo;
 use std::alloc::{AllocError, Global};
 
 /// Most lines that a log grows to.
-const MOST_LINES: usize = 2_000;
+pub(crate) const MOST_LINES: usize = 2_000;
 
 /// Most nodes that are looked at for a region.
 const MOST_NODES: usize = 20_000;

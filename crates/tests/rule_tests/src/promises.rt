@@ -69,8 +69,6 @@ S2: 7 select 3 l, 3 join 0 1 m => connected
 S3: 7 select 3 l, 4 join 0 1  => connected
 S4: 3 join 0 1 lm => connected
 S5: 7 select 0 l, 0 semi 0 1 m => connected
-O2: 7 select 3 l, 3 left 0 1 m => connected
-O3: 3 left 0 1 rm => connected
 O4: 5 left 3 2 t, 3 join 0 1  => connected
 O5: 5 join 3 2 , 3 left 0 1 m => connected";
     const OTHERS: &str = "S1: 7 select 3 lr, 4 select 3 rm => simpler
@@ -81,6 +79,8 @@ D1: 7 distinct 1 => simpler
 G1: 7 group 3 0 2 => simpler
 O1: 7 select 3 r, 3 left 0 1 m => simpler
 O1: 7 select 3 l, 3 left 0 1 m => simpler
+O2: 7 select 3 l, 3 left 0 1 m => simpler
+O3: 3 left 0 1 rm => simpler
 O6: 7 keep 3 0, 3 left 0 1 m => simpler
 O7: 7 keep 3 0, 4 select 4 z, 3 left 0 1 m => simpler";
     assert_eq!(rt;

@@ -1,0 +1,128 @@
+//! Facts of classes, learned where a rule may ask for them.
+
+use crate::keys::{classes_below, learn_keys};
+use algebra::{ClassId, Columns, Condition, Conjuncts, Expr, LineId, Term};
+use memo::Memo;
+use props::Fact;
+use query::ColumnId;
+use std::alloc::{AllocError, Global};
+
+/// The right sides of the outer joins of a class.
+fn padded_sides(
+    alloc: Global,
+    memo: &Memo<'_>,
+    class: ClassId,
+) -> Result<Vec<ClassId>, AllocError> {
+    let mut sides = Vec::new(alloc);
+    for line in memo.log().members(alloc, class)? {
+        if let Some(member) = memo.log().member(line) {
+            if let Expr::LeftJoin(_, _, right) = member.expr {
+                sides.push(*right)?;
+            }
+        }
+    }
+    Ok(sides)
+}
+
+/// Learns keys of the outer joins' right sides of which none of the columns is kept.
+fn learn_unread(
+    alloc: Global,
+    memo: &mut Memo<'_>,
+    kept: &[ColumnId],
+    class: ClassId,
+) -> Result<(), AllocError> {
+    for side in padded_sides(alloc, memo, class)? {
+        let columns = memo.log().classes().columns;
+        if !kept.iter().any(|column| columns.has(side, *column)) {
+            learn_keys(alloc, memo, side)?;
+        }
+    }
+    Ok(())
+}
+
+/// Learns that a column is nowhere Null in a class, and before that in those on which it stands, where it is so.
+fn learn_filled(
+    alloc: Global,
+    memo: &mut Memo<'_>,
+    class: ClassId,
+    column: ColumnId,
+) -> Result<(), AllocError> {
+    for below in classes_below(alloc, memo, class)? {
+        if memo.log().classes().columns.has(below, column) {
+            let _ = memo.learn(alloc, below, Fact::NotNull(column))?;
+        }
+    }
+    Ok(())
+}
+
+/// The columns that conjuncts ask to be Null.
+fn null_columns(alloc: Global, conjuncts: &Conjuncts) -> Result<Vec<ColumnId>, AllocError> {
+    let mut columns = Vec::new(alloc);
+    for conjunct in conjuncts.as_slice() {
+        if let Condition::IsNull(Term::Column(column)) = conjunct {
+            columns.push(*column)?;
+        }
+    }
+    Ok(columns)
+}
+
+/// Learns which of the columns that are asked to be Null aren't in the rows of the outer joins' right sides.
+fn learn_unpadded(
+    alloc: Global,
+    memo: &mut Memo<'_>,
+    asked: &[ColumnId],
+    class: ClassId,
+) -> Result<(), AllocError> {
+    if asked.is_empty() {
+        return Ok(());
+    }
+    for side in padded_sides(alloc, memo, class)? {
+        for column in asked {
+            learn_filled(alloc, memo, side, *column)?;
+        }
+    }
+    Ok(())
+}
+
+/// What is asked of a class that a line takes.
+#[derive(Drop)]
+enum Asked {
+    /// Whether it has keys.
+    Keys(ClassId),
+    /// Whether the outer joins' right sides have, where none of these columns is theirs.
+    KeysOfUnread(Vec<ColumnId>, ClassId),
+    /// Whether these columns of the outer joins' right sides are Null in some row.
+    Filled(Vec<ColumnId>, ClassId),
+    Nothing,
+}
+
+fn copied(alloc: Global, columns: &Columns) -> Result<Vec<ColumnId>, AllocError> {
+    Vec::from_slice(alloc, columns.as_slice())
+}
+
+fn asked_of(alloc: Global, memo: &Memo<'_>, line: LineId) -> Result<Asked, AllocError> {
+    let Some(member) = memo.log().member(line) else {
+        return Ok(Asked::Nothing);
+    };
+    Ok(match member.expr {
+        Expr::Distinct(x) => Asked::Keys(*x),
+        Expr::Keep(kept, x) => Asked::KeysOfUnread(copied(alloc, kept)?, *x),
+        Expr::Select(conjuncts, x) => Asked::Filled(null_columns(alloc, conjuncts)?, *x),
+        _ => Asked::Nothing,
+    })
+}
+
+/// Learns what rules may ask of a line: keys of what it has the distinct rows of, and of outer joins below a projection that doesn't read their right
+/// sides; and that columns aren't Null which a selection asks to be so.
+pub(crate) fn learn_asked(
+    alloc: Global,
+    memo: &mut Memo<'_>,
+    line: LineId,
+) -> Result<(), AllocError> {
+    match asked_of(alloc, memo, line)? {
+        Asked::Keys(class) => learn_keys(alloc, memo, class),
+        Asked::KeysOfUnread(kept, class) => learn_unread(alloc, memo, kept.as_slice(), class),
+        Asked::Filled(asked, class) => learn_unpadded(alloc, memo, asked.as_slice(), class),
+        Asked::Nothing => Ok(()),
+    }
+}
