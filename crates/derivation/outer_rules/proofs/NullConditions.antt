@@ -72,9 +72,9 @@ asked-hold p (c ∷ N) all rows r null = let both = and_parts (spec.asks_null p 
 pub asked-null : (p : ColumnSet) (N : List Condition) → list_any (spec.asks_null p) N ≡ true → (k : ℕ) × (p k ≡ true) × ((rows : ℕ → Bag) (r : Env) → is_null (r k) ≡ false → holds rows N r ≡ false)
 asked-null p [] some = cc
 asked-null p (c ∷ N) some = elim (or_cases (spec.asks_null p c) (list_any (spec.asks_null p) N) some) [
-    | inl here ↦ by (spec.null_column c) refl here
-    | inr later ↦ let found = asked-null p N later in (found.0, found.1.0, λ rows r filled. rw (found.1.1 rows r filled) (none (is_true (truth c rows r))))
-  ]
+  | inl here ↦ by (spec.null_column c) refl here
+  | inr later ↦ let found = asked-null p N later in (found.0, found.1, λ rows r filled. rw (found.2 rows r filled) (none (is_true (truth c rows r))))
+]
   where
     none : (b : Bool) → (b && false) ≡ false
     none true = refl

@@ -1,5 +1,5 @@
 -- The padded rows of an outer join: the laws by which they are an antijoin.
-use Rattle.std.proofs.Common.{◌≡◌, refl, ap, sym, ◌∙◌, subst, inl, inr, ℕ, Bool, true, false, ◌&&◌, ◌||◌, ◌==◌, if◌then◌else◌, List, [], ◌∷◌, ◌++◌}
+use Rattle.std.proofs.Common.{◌≡◌, refl, ap, sym, ◌∙◌, subst, inl, inr, ℕ, Bool, true, false, ◌&&◌, ◌||◌, ◌==◌, if◌then◌else◌, List, [], ◌∷◌, ◌++◌, Result, Ok}
 use Rattle.std.specs.List.{list_all, list_any}
 use Rattle.std.proofs.lemmas.Bool.{and_parts, or_cases, eqb-true}
 use Rattle.std.proofs.lemmas.List.{append-nil}
@@ -31,6 +31,7 @@ use Rattle.rules.specs.declared.pattern.Operator.TheVariants as operator
 use Rattle.rules.specs.declared.pattern.Operators.TheVariants.{Only}
 use Rattle.rules.specs.declared.shape.Shape.{Shape}
 use Rattle.rules.specs.declared.shape.Shape.TheVariants as shape
+use Rattle.rules.specs.declared.unfit.Unfit.{Unfit}
 use Rattle.rules.specs.declared.unfit.Unfit.TheVariants.{Condition as FailedCondition}
 use Rattle.rules.specs.Conjuncts.{is_apart_from}
 use Rattle.rules.specs.Shapes.{meant, selected}
@@ -58,13 +59,18 @@ module _ (K : Knowledge) (rows : ℕ → Bag) (true_ : IsTrueOf K rows) (N D : L
   B = has (K.columns b)
 
   counted-none : (x y : Bool) → (y ≡ true → x ≡ false) → ◌≡◌ {A = ℕ} (if x && y then 1 else 0) 0
-  counted-none true true no = cc (no refl)
-  counted-none true false no = refl
-  counted-none false y no = refl
+  counted-none true true h = cc (h refl)
+  counted-none true false h = refl
+  counted-none false y h = refl
+
+  unpaired : (x y : Bool) → y ≡ false → ◌≡◌ {A = ℕ} (if x && y then 1 else 0) 0
+  unpaired true true h = cc
+  unpaired true false h = refl
+  unpaired false y h = refl
 
   null-or : (x y : Bool) → (x ≡ false → y ≡ false) → y ≡ true → x ≡ true
-  null-or true y no is = refl
-  null-or false y no is = cc (no refl)
+  null-or true y h is = refl
+  null-or false y h is = cc (h refl, is)
 
   null-value : (v : Value) → is_null v ≡ true → v ≡ value.Null
   null-value value.Null is = refl
@@ -73,13 +79,14 @@ module _ (K : Knowledge) (rows : ℕ → Bag) (true_ : IsTrueOf K rows) (N D : L
 
   -- the conditions don't all hold with a row that is found
   pub none-found : spec.ask_for_pads K N D b ≡ true → (e r : Env) → count (λ s. holds rows D (lay B s r) && holds rows N (lay B s r)) (rows b e) ≡ 0
-  none-found ask e r = elim (or_cases (has (K.facts b).not_null k) (never_true D (λ j. k == j)) found.1.0) [
-      | inl filled ↦
-          let fact = true_.facts b (NotNull k) filled in
-          let own : B k ≡ true = (and_parts (B k) true fact.0).0 in
-          total_none (λ s. is_null (s k)) _ (λ s is. counted-none _ _ (λ asked. cc (found.1.1 rows (lay B s r) (rw own is), asked))) (rows b e) (fact.1 e)
-      | inr never ↦ total-zero _ (λ s. counted-none _ _ (λ asked. never_true_is_sound D (λ j. k == j) rows (lay B s r) (nulled s asked) never)) (rows b e)
-    ]
+  none-found ask e r = elim (or_cases (has (K.facts b).not_null k) (never_true D (λ j. k == j)) found.1) [
+    | inl filled ↦
+        let fact = true_.facts b (NotNull k) filled in
+        let own : B k ≡ true = (and_parts (B k) true fact.0).0 in
+        let unasked : (s : Env) → is_null (s k) ≡ false → holds rows N (lay B s r) ≡ false = λ s is. found.2 rows (lay B s r) (rw own is) in
+        total_none (λ s. is_null (s k)) _ (λ s is. unpaired (holds rows D (lay B s r)) (holds rows N (lay B s r)) (unasked s is)) (rows b e) (fact.1 e)
+    | inr never ↦ total-zero _ (λ s. counted-none _ _ (λ asked. never_true_is_sound D (λ j. k == j) rows (lay B s r) (nulled s asked) never)) (rows b e)
+  ]
     where
       parts : (list_all (spec.asks_null B) N ≡ true) × (list_any (spec.asks_null (spec.is_filled K D b)) N ≡ true)
       parts = and_parts (list_all (spec.asks_null B) N) (list_any (spec.asks_null (spec.is_filled K D b)) N) ask
@@ -93,7 +100,7 @@ module _ (K : Knowledge) (rows : ℕ → Bag) (true_ : IsTrueOf K rows) (N D : L
       nulled : (s : Env) → holds rows N (lay B s r) ≡ true → IsNullIn (λ j. k == j) (lay B s r)
       nulled s asked j is =
           ap (lay B s r) (sym (eqb-true k j is))
-          ∙ null-value (lay B s r k) (null-or (is_null (lay B s r k)) (holds rows N (lay B s r)) (found.1.1 rows (lay B s r)) asked)
+          ∙ null-value (lay B s r k) (null-or (is_null (lay B s r k)) (holds rows N (lay B s r)) (found.2 rows (lay B s r)) asked)
 
 -- ---- it gives the same rows
 
@@ -158,7 +165,7 @@ unfound-formed S (Keep L x) (Select C y) (LeftJoin D a b) s stands below lower i
     i : Joined S D a b
     i = joined S D a b lower.stands.known lower.stands.formed
 
-    fit : (spec.are_unfound S.classes L C D b ≡ true) × _
+    fit : (spec.are_unfound S.classes L C D b ≡ true) × (◌≡◌ {A = Result Shape Unfit} (Ok (shape.Keep L (selected P (shape.Anti D [] (shape.Class a) (shape.Class b))))) (Ok s))
     fit = if-given (spec.are_unfound S.classes L C D b) _ s is
 
     there : (k : ℕ) → has L k ≡ true → (has (H a) k || has (H b) k) ≡ true

@@ -2,6 +2,7 @@
 -- Null rejection: Galindo-Legaria and Rosenthal, Outerjoin simplification and reordering for query optimization, ACM TODS 22(1), 1997.
 use Rattle.std.proofs.Common.{◌≡◌, refl, ap, sym, ◌∙◌, ℕ, ◌+◌, ◌≤◌, ◌==◌, Bool, true, false, not, ◌&&◌, ◌||◌, if◌then◌else◌, List, [], ◌∷◌, arith}
 use Rattle.std.specs.List.{list_any}
+use Rattle.std.proofs.lemmas.Bool.{ne_eqb}
 use Rattle.values.specs.declared.value.Value.{Value}
 use Rattle.values.specs.declared.value.Value.TheVariants as value
 use Rattle.query.specs.Meaning.{or_else_row}
@@ -145,9 +146,9 @@ left_joins_go_below_joins c d B C a b z apart ignores_b ignores_c e f =
     laid r s u = pointwise (λ k. at (B k) (C k) (s k) (u k) (r k) (apart k))
       where
         at : (x y : Bool) (v w t : Value) → (x ≡ true → y ≡ false) → (if y then w else if x then v else t) ≡ (if x then v else if y then w else t)
-        at true true v w t no = cc (no refl)
-        at true false v w t no = refl
-        at false y v w t no = refl
+        at true true v w t h = cc (h refl)
+        at true false v w t h = refl
+        at false y v w t h = refl
 
     c-is : (r s u : Env) → c (lay B s r) ≡ c (lay B s (lay C u r))
     c-is r s u = sym (ignores_c (lay B s r) u) ∙ ap c (laid r s u)
@@ -197,9 +198,12 @@ none-passes : (p : Test) (rows : List Env) → (count p rows == 0) ≡ not (list
 none-passes p [] = refl
 none-passes p (r ∷ rows) = by (p r) (none-passes p rows)
   where
+    more : {m : ℕ} (n : ℕ) → m ≡ 0 + n → (m == 0) ≡ (n == 0)
+    more n is = ap (λ k. k == 0) (omega (arith, is))
+
     by : (b : Bool) → (count p rows == 0) ≡ not (list_any p rows) → ((if b then 1 else 0) + count p rows == 0) ≡ not (b || list_any p rows)
-    by true later = refl
-    by false later = later
+    by true later = ne_eqb _ _ (λ h. omega (arith, h))
+    by false later = more (count p rows) refl ∙ later
 
 -- a part of the conditions passes padded rows, and no row with one that it found
 pub outer_joins_are_anti : (S B : ColumnSet) (c d p n : Test) (a b : Bag) → AreApart S B → IsBoth c p n → Ignores B p → ((r : Env) → n (lay B nulls r) ≡ true)
@@ -234,4 +238,4 @@ outer_joins_are_anti S B c d p n a b apart both ignores padded none e f =
 
     row : (r : Env) → total (λ s. if_passes d (if_passes c g) (lay B s r)) (b e) + (if count (λ s. d (lay B s r)) (b e) == 0 then if_passes c g (lay B nulls r) else 0)
         ≡ (if not (has_match d B (b e) r) then if_passes p g r else 0)
-    row r = rw (found r, none-passes (λ s. d (lay B s r)) (b e), left r) refl
+    row r = rw (found r, none-passes (λ s. d (lay B s r)) (b e), left r) (omega arith)

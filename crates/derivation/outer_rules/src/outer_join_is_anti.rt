@@ -57,8 +57,7 @@ fn is_filled(
 ) -> bool
     ensures { result ≡ spec.is_filled (known classes.entry) condition.now class column }
 {
-    classes.is_not_null(class, column)
-        || never_true(condition.as_slice(), NullColumns::One(column))
+    classes.is_not_null(class, column) || never_true(condition.as_slice(), NullColumns::One(column))
 }
 
 /// Whether a condition asks such a column to be Null.
@@ -76,8 +75,28 @@ fn asks_null_of_filled(
     }
 }
 
-/// Whether padded rows alone pass: each of the conditions asks a column of the class to be Null, and one asks it of a column that isn't Null
-/// in any row that is found.
+/// Whether each of the conditions asks a column of the class to be Null.
+fn all_ask_null(asked: &[Condition], classes: ClassColumns<'_>, class: ClassId) -> bool
+    ensures { result ≡ list_all (spec.asks_null (has (given_columns classes.entry class))) asked.now }
+{
+    asked.iter().all(|one| asks_null_in(one, classes, class))
+}
+
+/// Whether one of them asks it of a column that isn't Null in any row that is found.
+fn one_asks_null(
+    asked: &[Condition],
+    classes: KnownClasses<'_>,
+    condition: &Conjuncts,
+    class: ClassId,
+) -> bool
+    ensures { result ≡ list_any (spec.asks_null (spec.is_filled (known classes.entry) condition.now class)) asked.now }
+{
+    asked
+        .iter()
+        .any(|one| asks_null_of_filled(one, classes, condition, class))
+}
+
+/// Whether padded rows alone pass.
 fn ask_for_pads(
     asked: &[Condition],
     classes: KnownClasses<'_>,
@@ -86,8 +105,7 @@ fn ask_for_pads(
 ) -> bool
     ensures { result ≡ spec.ask_for_pads (known classes.entry) asked.now condition.now class }
 {
-    asked.iter().all(|one| asks_null_in(one, classes.columns, class))
-        && asked.iter().any(|one| asks_null_of_filled(one, classes, condition, class))
+    all_ask_null(asked, classes.columns, class) && one_asks_null(asked, classes, condition, class)
 }
 
 /// The projection of the left rows that find none, where no other rows are asked for.
@@ -95,13 +113,13 @@ fn unfound(
     alloc: Global,
     at: Match<'_>,
     columns: &Columns,
-    lists: (&Conjuncts, &Conjuncts),
+    conjuncts: &Conjuncts,
+    condition: &Conjuncts,
     left: ClassId,
     right: ClassId,
 ) -> Result<Shape, RuleFault>
-    ensures { Gives (λ s. s) result (spec.unfound (known at.entry.classes) columns.now lists.entry.0.now lists.entry.1.now left right) }
+    ensures { Gives (λ s. s) result (spec.unfound (known at.entry.classes) columns.now conjuncts.now condition.now left right) }
 {
-    let (conjuncts, condition) = lists;
     let (of_left, asked) = conjuncts.split_without(alloc, at.classes.columns, right)?;
     if are_elsewhere(columns.as_slice(), at.classes.columns, right)
         && ask_for_pads(asked.as_slice(), at.classes, condition, right)
@@ -112,6 +130,24 @@ fn unfound(
         return Ok(keep(alloc, columns.copy(alloc)?, unfound)?);
     }
     Err(Fault::Refused(Unfit::Condition))
+}
+
+/// What the rule gives of three expressions.
+fn unfound_of(
+    alloc: Global,
+    at: Match<'_>,
+    top: &Expr,
+    below: &Expr,
+    lowest: &Expr,
+) -> Result<Shape, RuleFault>
+    ensures { Gives (λ s. s) result (spec.unfound_of (known at.entry.classes) top.now below.now lowest.now) }
+{
+    match (top, below, lowest) {
+        (Expr::Keep(k, _), Expr::Select(c, _), Expr::LeftJoin(d, a, b)) => {
+            unfound(alloc, at, k, c, d, *a, *b)
+        }
+        _ => Err(Fault::Refused(Unfit::Pattern)),
+    }
 }
 
 /// A projection, without the right side's columns, of an outer join's padded rows takes the left rows that find none.
@@ -135,12 +171,8 @@ impl Rule for OuterJoinIsAnti {
     }
 
     fn apply(alloc: Global, at: Match<'_>) -> Result<Shape, RuleFault> {
-        match at.three_lines_over(Input::First, Input::First)? {
-            (Expr::Keep(k, _), Expr::Select(c, _), Expr::LeftJoin(d, a, b)) => {
-                unfound(alloc, at, k, (c, d), *a, *b)
-            }
-            _ => Err(Fault::Refused(Unfit::Pattern)),
-        }
+        let (top, below, lowest) = at.three_lines_over(Input::First, Input::First)?;
+        unfound_of(alloc, at, top, below, lowest)
     }
 
     fn promise(_alloc: Global, _at: Match<'_>) -> Result<Promise, AllocError> {

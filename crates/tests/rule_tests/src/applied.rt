@@ -131,7 +131,8 @@ O3: 3 left 0 1 lm => another form
 O3: 3 join 0 1 rm => another form
 O3: 3 left 0 1 rm, 0 get 0 => another form
 O3 pick 1: 3 left 0 1 rm => another form";
-    const CHANGED_PLACES: &str = "O4: 5 left 3 2 t, 3 join 0 1 m => join [=(c0,c2)] (left [=(c0,c4)] (0) (2)) (1)
+    const CHANGED_PLACES: &str =
+        "O4: 5 left 3 2 t, 3 join 0 1 m => join [=(c0,c2)] (left [=(c0,c4)] (0) (2)) (1)
 O4: 5 left 3 2 l, 3 join 0 1 r => join [=(c2,i7)] (left [=(c0,i7)] (0) (2)) (1)
 O4: 5 left 3 2 , 3 join 0 1  => join [] (left [] (0) (2)) (1)
 O4: 5 left 3 2 u, 3 join 0 1 m => the condition fails
@@ -174,7 +175,19 @@ O7: 7 keep 3 0, 3 left 0 1 m => another form
 O7: 7 distinct 3, 4 select 4 z, 3 left 0 1 m => another form
 O7 pick 1: 7 keep 3 0, 4 select 4 z, 3 left 0 1 m => another form";
     assert_eq!(rt;
-        differences(rt.alloc(), &[JOINS, SELECTS, KEEPS, OUTER_JOINS, CHANGED_PLACES, ELIMINATED], &Applied).as_deref(),
+        differences(
+            rt.alloc(),
+            &[
+                JOINS,
+                SELECTS,
+                KEEPS,
+                OUTER_JOINS,
+                CHANGED_PLACES,
+                ELIMINATED
+            ],
+            &Applied
+        )
+        .as_deref(),
         Ok("")
     );
 }
