@@ -124,3 +124,7 @@ each_rule P all GroupIsDistinct = all.1.1.1.1.1.1.1.1.1.1.1.0
 each_rule P all OuterJoinIsInner = all.1.1.1.1.1.1.1.1.1.1.1.1.0
 each_rule P all SelectBelowLeftJoin = all.1.1.1.1.1.1.1.1.1.1.1.1.1.0
 each_rule P all ConditionBelowLeftJoin = all.1.1.1.1.1.1.1.1.1.1.1.1.1.1.0
+each_rule P all LeftJoinBelowJoin = all.1.1.1.1.1.1.1.1.1.1.1.1.1.1.1.0
+each_rule P all LeftJoinAboveJoin = all.1.1.1.1.1.1.1.1.1.1.1.1.1.1.1.1.0
+each_rule P all KeepOfLeftSide = all.1.1.1.1.1.1.1.1.1.1.1.1.1.1.1.1.1.0
+each_rule P all OuterJoinIsAnti = all.1.1.1.1.1.1.1.1.1.1.1.1.1.1.1.1.1.1.0

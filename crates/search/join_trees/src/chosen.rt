@@ -302,10 +302,10 @@ impl Sides<'_> {
         best.keep(found);
     }
 
-    /// The second tree of a side, if it is looked at. A leaf without its conditions gives no fewer rows where these are known.
-    fn narrow(&self, side: Kept) -> Option<Joined> {
+    /// The second tree of a side, if it is looked at: it has fewer rows, or is a leaf without its conditions, which costs less.
+    fn narrow(side: Kept) -> Option<Joined> {
         let narrow = side.narrow;
-        if narrow.rows < side.cheap.rows || (narrow.is_bare && self.rows.is_none()) {
+        if narrow.rows < side.cheap.rows || narrow.is_bare {
             Some(narrow)
         } else {
             None
@@ -317,11 +317,11 @@ impl Sides<'_> {
         let left = self.left.cheap;
         let right = self.right.cheap;
         self.look(left, right, best);
-        let narrow_right = self.narrow(self.right);
+        let narrow_right = Sides::narrow(self.right);
         if let Some(right) = narrow_right {
             self.look(left, right, best);
         }
-        if let Some(left) = self.narrow(self.left) {
+        if let Some(left) = Sides::narrow(self.left) {
             self.look(left, right, best);
             if let Some(right) = narrow_right {
                 self.look(left, right, best);

@@ -367,7 +367,28 @@ SELECT d.id, e.id FROM dept d LEFT JOIN emp e ON e.dept = d.id WHERE e.pay > 0 =
 SELECT d.id, e.id FROM dept d LEFT JOIN emp e ON e.dept = d.id WHERE e.pay > 0 => F get 0; F get 1; F left [=(c4,c0)] 0 1; F select [>(c5,i0)] 2; F keep 0,3 3; F join [=(c4,c0)] 0 1; A 3 O1 0 3,5 5 select [>(c5,i0)] 5 / scan 0 0 | scan 1 1 | hash 5 | filter 6 | cut 4: 0 3 => K02 line 6
 SELECT d.id, e.id FROM dept d LEFT JOIN emp e ON e.dept = d.id WHERE e.pay IS NULL => F get 0; F get 1; F left [=(c4,c0)] 0 1; F select [null(c5)] 2; F keep 0,3 3; F join [=(c4,c0)] 0 1; A 3 O1 0 3,2 5 select [null(c5)] 5 / scan 0 0 | scan 1 1 | hash 5 | filter 6 | cut 4: 0 3 => K05 O1 line 6
 SELECT d.id, e.id FROM dept d LEFT JOIN emp e ON e.dept = d.id WHERE e.pay IS NULL => F get 0; F get 1; F left [=(c4,c0)] 0 1; F select [null(c5)] 2; F keep 0,3 3 / scan 0 0 | scan 1 1 | hash 2 | filter 3 | cut 4: 0 3 => accepted ;1,11,;2,-,
-SELECT d.id, e.id FROM dept d LEFT JOIN emp e ON e.dept = d.id WHERE d.boss = 10 => F get 0; F get 1; F left [=(c4,c0)] 0 1; F select [=(c2,i10)] 2; F keep 0,3 3; F join [=(c4,c0)] 0 1; A 3 O1 0 3,2 5 select [=(c2,i10)] 5 / scan 0 0 | scan 1 1 | hash 5 | filter 6 | cut 4: 0 3 => K05 O1 line 6";
+SELECT d.id, e.id FROM dept d LEFT JOIN emp e ON e.dept = d.id WHERE d.boss = 10 => F get 0; F get 1; F left [=(c4,c0)] 0 1; F select [=(c2,i10)] 2; F keep 0,3 3; F join [=(c4,c0)] 0 1; A 3 O1 0 3,2 5 select [=(c2,i10)] 5 / scan 0 0 | scan 1 1 | hash 5 | filter 6 | cut 4: 0 3 => K05 O1 line 6
+SELECT d.id, e.id FROM dept d LEFT JOIN emp e ON e.dept = d.id WHERE d.boss = 10 => F get 0; F get 1; F left [=(c4,c0)] 0 1; F select [=(c2,i10)] 2; F keep 0,3 3; F select [=(c2,i10)] 0; A 3 O2 0 3,2 5 left [=(c4,c0)] 5 1 / scan 0 0 | filter 5 | scan 1 1 | hash 6 | cut 4: 0 3 => accepted ;1,10,;1,11,
+SELECT d.id, e.id FROM dept d LEFT JOIN emp e ON e.dept = d.id WHERE e.pay > 0 => F get 0; F get 1; F left [=(c4,c0)] 0 1; F select [>(c5,i0)] 2; F keep 0,3 3; F select [>(c5,i0)] 0; A 3 O2 0 3,2 5 left [=(c4,c0)] 5 1 / scan 0 0 | filter 5 | scan 1 1 | hash 6 | cut 4: 0 3 => K02 line 6
+SELECT d.id, e.id FROM dept d LEFT JOIN emp e ON e.dept = d.id AND e.pay > 0 => F get 0; F get 1; F left [=(c4,c0);>(c5,i0)] 0 1; F keep 0,3 2; F select [>(c5,i0)] 1; A 2 O3 0 2 4 left [=(c4,c0)] 0 4 / scan 0 0 | scan 1 1 | filter 4 | hash 5 | cut 3: 0 3 => accepted ;1,10,;2,-,;3,12,
+SELECT d.id, e.id FROM dept d LEFT JOIN emp e ON e.dept = d.id AND d.boss = 10 => F get 0; F get 1; F left [=(c2,i10);=(c4,c0)] 0 1; F keep 0,3 2; F select [=(c2,i10)] 0; A 2 O3 0 2 4 left [=(c4,c0)] 4 1 / scan 0 0 | filter 4 | scan 1 1 | hash 5 | cut 3: 0 3 => K02 line 5";
+
+/// Three tables. An outer join changes places with an inner one where neither condition reads the right side of the other.
+const CHANGED_PLACES: &str =
+    "SELECT e.id, d.id, x.id FROM emp e JOIN dept d ON d.id = e.dept LEFT JOIN dept x ON x.boss = e.id => F get 0; F get 1; F join [=(c5,c1)] 0 1; F get 2; F left [=(c10,c0)] 2 3; F keep 0,5,8 4; F left [=(c10,c0)] 0 3; A 4 O4 0 4,2 6 join [=(c5,c1)] 6 1 / scan 0 0 | scan 3 2 | hash 6 | scan 1 1 | hash 7 | cut 5: 0 5 8 => ?
+SELECT e.id, d.id, x.id FROM emp e JOIN dept d ON d.id = e.dept LEFT JOIN dept x ON x.boss = d.boss => F get 0; F get 1; F join [=(c5,c1)] 0 1; F get 2; F left [=(c10,c7)] 2 3; F keep 0,5,8 4; F left [=(c10,c7)] 0 3; A 4 O4 0 4,2 6 join [=(c5,c1)] 6 1 / scan 0 0 | scan 3 2 | hash 6 | scan 1 1 | hash 7 | cut 5: 0 5 8 => ?
+SELECT e.id, d.id, x.id FROM emp e LEFT JOIN dept x ON x.boss = e.id JOIN dept d ON d.id = e.dept => F get 0; F get 1; F left [=(c6,c0)] 0 1; F get 2; F join [=(c8,c1)] 2 3; F keep 0,5,8 4; F join [=(c8,c1)] 0 3; A 4 O5 0 4,2 6 left [=(c6,c0)] 6 1 / scan 0 0 | scan 3 2 | hash 6 | scan 1 1 | hash 7 | cut 5: 0 5 8 => ?
+SELECT e.id, d.id, x.id FROM emp e LEFT JOIN dept x ON x.boss = e.id JOIN dept d ON d.id = x.id => F get 0; F get 1; F left [=(c6,c0)] 0 1; F get 2; F join [=(c8,c5)] 2 3; F keep 0,5,8 4; F join [=(c8,c5)] 0 3; A 4 O5 0 4,2 6 left [=(c6,c0)] 6 1 / scan 0 0 | scan 3 2 | hash 6 | scan 1 1 | hash 7 | cut 5: 0 5 8 => ?";
+
+/// Outer joins that go away: a right side that isn't read and has a key, and one that is asked to be padded.
+const ELIMINATED: &str =
+    "SELECT e.id FROM emp e LEFT JOIN dept d ON d.id = e.dept => F get 0; F get 1; F left [=(c5,c1)] 0 1; F keep 0 2; L 1 1 weak 5; A 3 O6 0 3,2 - keep 0 0 / scan 0 0 | cut 5: 0 => ?
+SELECT e.id FROM emp e LEFT JOIN dept d ON d.id = e.dept => F get 0; F get 1; F left [=(c5,c1)] 0 1; F keep 0 2; A 3 O6 0 3,2 - keep 0 0 / scan 0 0 | cut 4: 0 => ?
+SELECT e.id, d.boss FROM emp e LEFT JOIN dept d ON d.id = e.dept => F get 0; F get 1; F left [=(c5,c1)] 0 1; F keep 0,7 2; L 1 1 weak 5; A 3 O6 0 3,2 - keep 0 0 / scan 0 0 | cut 5: 0 => ?
+SELECT d.id FROM dept d LEFT JOIN emp e ON e.dept = d.id WHERE e.id IS NULL => F get 0; F get 1; F left [=(c4,c0)] 0 1; F select [null(c3)] 2; F keep 0 3; L 1 1 notnull 3; F anti [=(c4,c0)] [] 0 1; A 4 O7 0 4,3,2 6 keep 0 6 / scan 0 0 | scan 1 1 | hash 6 | cut 7: 0 => accepted ;2,
+SELECT d.id FROM dept d LEFT JOIN emp e ON e.dept = d.id WHERE e.pay IS NULL => F get 0; F get 1; F left [=(c4,c0)] 0 1; F select [null(c5)] 2; F keep 0 3; F anti [=(c4,c0)] [] 0 1; A 4 O7 0 4,3,2 5 keep 0 5 / scan 0 0 | scan 1 1 | hash 5 | cut 6: 0 => K05 O7 line 6
+SELECT d.id FROM dept d LEFT JOIN emp e ON e.dept = d.id WHERE e.dept IS NULL => F get 0; F get 1; F left [=(c4,c0)] 0 1; F select [null(c4)] 2; F keep 0 3; F anti [=(c4,c0)] [] 0 1; A 4 O7 0 4,3,2 5 keep 0 5 / scan 0 0 | scan 1 1 | hash 5 | cut 6: 0 => accepted ;2,";
+
 
 #[test]
 fn derivations_are_judged(rt: HostRuntime) {
@@ -380,7 +401,7 @@ fn derivations_are_judged(rt: HostRuntime) {
         query_differences(
             rt.alloc(),
             company,
-            &[FACTS, MEMBERS, OUTER_JOINS],
+            &[FACTS, MEMBERS, OUTER_JOINS, CHANGED_PLACES, ELIMINATED],
             &Derivations
         )
         .as_deref(),

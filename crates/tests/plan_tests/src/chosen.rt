@@ -46,8 +46,9 @@ impl Reporting for Planned {
 }
 
 /// A hash join of two small tables costs less than nested loops, one pass of a table less than one for each row of the other. A sort of few rows
-/// stands where they are fewest. Each rule has been applied at each binding, or none where the plan costs too little for that: most certificates are the same. A left join whose
-/// padded rows are rejected is an inner one in both. Faults come in the order text, scope, statistics.
+/// stands where they are fewest. Each rule has been applied at each binding, or none where the plan costs too little for that: the certificates are the same. A left join whose
+/// padded rows are rejected is an inner one, an antijoin if it is asked for these, and none if it gives each left row once and its right side isn't read. Faults come in the
+/// order text, scope, statistics.
 #[test]
 fn plans_are_the_cheapest(rt: HostRuntime) {
     const CASES: &str =
@@ -58,23 +59,22 @@ SELECT nothing FROM emp => [] => refused B02 at 7
 SELECT id FROM emp => [ => refused N01
 SELECT id FROM emp => [] => refused N02
 SELECT id FROM emp => {"tables":{"dept":{"rows":3,"pages":1,"indexes":[]}}} => refused N02"#;
-    const TO_LIMIT: &str =
-        r#"SELECT d.id, e.id FROM dept d LEFT JOIN emp e ON e.dept = d.id WHERE e.pay > 0 => SQLPLAN 1/lines 9/F get 0/F get 1/F left [=(c4,c0)] 0 1/F select [>(c5,i0)] 2/F keep 0,3 3/F join [=(c4,c0)] 0 1/A 3 O1 0 3,2 5 select [>(c5,i0)] 5/A 5 J1 0 5 - join [=(c4,c0)] 1 0/A 3 S3 0 6,7 - join [=(c4,c0);>(c5,i0)] 1 0/plan 4/cut 4 0,3/hash 8 inner [=(c4,c0);>(c5,i0)]/scan 1 1/scan 0 0/end/"#;
-    const SOONER: &str =
-        r#"SELECT d.id, e.id FROM dept d LEFT JOIN emp e ON e.dept = d.id WHERE e.pay > 0 => SQLPLAN 1/lines 8/F get 0/F get 1/F left [=(c4,c0)] 0 1/F select [>(c5,i0)] 2/F keep 0,3 3/F join [=(c4,c0)] 0 1/A 3 O1 0 3,2 5 select [>(c5,i0)] 5/A 5 J1 0 5 - join [=(c4,c0)] 1 0/plan 5/cut 4 0,3/filter 6 [>(c5,i0)]/hash 7 inner [=(c4,c0)]/scan 1 1/scan 0 0/end/"#;
-    for (exploration, outer) in [
-        (Exploration::ToLimit, TO_LIMIT),
-        (Exploration::WhileWorthwhile, SOONER),
-    ] {
+    const OUTER: &str =
+        r#"SELECT d.id, e.id FROM dept d LEFT JOIN emp e ON e.dept = d.id WHERE e.pay > 0 => SQLPLAN 1/lines 9/F get 0/F get 1/F left [=(c4,c0)] 0 1/F select [>(c5,i0)] 2/F keep 0,3 3/F join [=(c4,c0)] 0 1/A 3 O1 0 3,2 5 select [>(c5,i0)] 5/A 5 J1 0 5 - join [=(c4,c0)] 1 0/A 3 S3 0 6,7 - join [=(c4,c0);>(c5,i0)] 1 0/plan 4/cut 4 0,3/hash 8 inner [=(c4,c0);>(c5,i0)]/scan 1 1/scan 0 0/end/
+SELECT d.id FROM dept d LEFT JOIN emp e ON e.dept = d.id WHERE e.id IS NULL => ?
+SELECT d.id FROM dept d LEFT JOIN emp e ON e.dept = d.id WHERE e.dept IS NULL => ?
+SELECT e.id FROM emp e LEFT JOIN dept d ON d.id = e.dept => ?"#;
+    for exploration in [Exploration::ToLimit, Exploration::WhileWorthwhile] {
         assert_eq!(rt;
-            differences(rt.alloc(), &[CASES, outer], &Planned(exploration)).as_deref(),
+            differences(rt.alloc(), &[CASES, OUTER], &Planned(exploration)).as_deref(),
             Ok("")
         );
     }
 }
 
 /// Reports the plan of a query as text, or as a graph where `dot ` stands before the query, with `/` for a line's end.
-struct Explained;
+#[derive(Drop)]
+struct Explained(Exploration);
 
 impl Reporting for Explained {
     fn report(&self, alloc: Global, text: &str, reported: &mut String) -> Result<(), AllocError> {
@@ -89,7 +89,7 @@ impl Reporting for Explained {
             query.as_bytes(),
             STATISTICS.as_bytes(),
             LIMIT,
-            Exploration::ToLimit,
+            self.0,
         );
         match shown {
             Ok(plan) => push_lines(
@@ -102,22 +102,31 @@ impl Reporting for Explained {
     }
 }
 
-/// The plan is shown that is chosen: joins in another order than the text's, an inner join for a left one whose padded rows
-/// are rejected, and distinct rows of a key not looked for.
+/// The plan is shown that is chosen: joins in another order than the text's, an inner join for a left one whose padded rows are rejected, an antijoin for one
+/// that is asked for these, none for one that isn't read, left joins above inner ones that leave few rows, filters below them, and distinct rows of a key not
+/// looked for.
 #[test]
 fn plans_are_explained(rt: HostRuntime) {
     const CASES: &str =
         r#"SELECT d.id, e.id FROM dept d LEFT JOIN emp e ON e.dept = d.id WHERE e.pay > 0 => cut d.id,e.id rows=2 cost=281/  hash inner e.dept = d.id AND e.pay > 0 rows=2 cost=280/    scan emp e rows=4 cost=140/    scan dept d rows=3 cost=130/
+SELECT d.id, e.id FROM dept d LEFT JOIN emp e ON e.dept = d.id WHERE d.boss = 10 => ?
+SELECT d.id FROM dept d LEFT JOIN emp e ON e.dept = d.id WHERE e.id IS NULL => ?
+SELECT e.id FROM emp e LEFT JOIN dept d ON d.id = e.dept => ?
+SELECT e.id, d.id, x.id FROM emp e LEFT JOIN dept d ON d.id = e.dept JOIN dept x ON x.id = e.badge WHERE x.boss = 10 => ?
+SELECT e.id, d.id, x.id FROM dept x, emp e LEFT JOIN dept d ON d.id = e.dept WHERE x.id = e.badge AND x.boss = 10 => ?
+SELECT d.id, e.id FROM dept d LEFT JOIN emp e ON e.dept = d.id AND e.pay > 0 AND d.boss = 10 => ?
 SELECT d.id, e.id FROM dept d LEFT JOIN emp e ON e.dept = d.id WHERE e.pay IS NULL => cut d.id,e.id rows=1 cost=285/  filter e.pay IS NULL rows=1 cost=284/    hash left e.dept = d.id rows=3 cost=281/      scan dept d rows=3 cost=130/      scan emp e rows=4 cost=140/
 SELECT DISTINCT d.id FROM dept d => cut d.id rows=3 cost=131/  scan dept d rows=3 cost=130/
 SELECT * FROM dept => scan dept dept rows=3 cost=130/
 SELECT name FROM dept GROUP BY name => hgroup dept.name - rows=1 cost=136/  scan dept dept rows=3 cost=130/
 dot SELECT * FROM dept => digraph plan {/  n0 [label="scan dept dept rows=3 cost=130"];/}/
 SELECT nothing FROM emp => refused B02 at 7"#;
-    assert_eq!(rt;
-        differences(rt.alloc(), &[CASES], &Explained).as_deref(),
-        Ok("")
-    );
+    for exploration in [Exploration::ToLimit, Exploration::WhileWorthwhile] {
+        assert_eq!(rt;
+            differences(rt.alloc(), &[CASES], &Explained(exploration)).as_deref(),
+            Ok("")
+        );
+    }
 }
 
 /// Adds a query for which the canonical plan is taken, whose certificate the check refuses, or whose lines are few and not closed.
