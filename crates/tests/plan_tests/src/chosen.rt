@@ -61,9 +61,9 @@ SELECT id FROM emp => [] => refused N02
 SELECT id FROM emp => {"tables":{"dept":{"rows":3,"pages":1,"indexes":[]}}} => refused N02"#;
     const OUTER: &str =
         r#"SELECT d.id, e.id FROM dept d LEFT JOIN emp e ON e.dept = d.id WHERE e.pay > 0 => SQLPLAN 1/lines 9/F get 0/F get 1/F left [=(c4,c0)] 0 1/F select [>(c5,i0)] 2/F keep 0,3 3/F join [=(c4,c0)] 0 1/A 3 O1 0 3,2 5 select [>(c5,i0)] 5/A 5 J1 0 5 - join [=(c4,c0)] 1 0/A 3 S3 0 6,7 - join [=(c4,c0);>(c5,i0)] 1 0/plan 4/cut 4 0,3/hash 8 inner [=(c4,c0);>(c5,i0)]/scan 1 1/scan 0 0/end/
-SELECT d.id FROM dept d LEFT JOIN emp e ON e.dept = d.id WHERE e.id IS NULL => ?
-SELECT d.id FROM dept d LEFT JOIN emp e ON e.dept = d.id WHERE e.dept IS NULL => ?
-SELECT e.id FROM emp e LEFT JOIN dept d ON d.id = e.dept => ?"#;
+SELECT d.id FROM dept d LEFT JOIN emp e ON e.dept = d.id WHERE e.id IS NULL => SQLPLAN 1/lines 8/F get 0/F get 1/F left [=(c4,c0)] 0 1/F select [null(c3)] 2/F keep 0 3/L 1 1 notnull 3/F anti [=(c4,c0)] [] 0 1/A 4 O7 0 4,3,2 6 keep 0 6/plan 4/cut 7 0/hash 6 anti [=(c4,c0)] []/scan 0 0/scan 1 1/end/
+SELECT d.id FROM dept d LEFT JOIN emp e ON e.dept = d.id WHERE e.dept IS NULL => SQLPLAN 1/lines 7/F get 0/F get 1/F left [=(c4,c0)] 0 1/F select [null(c4)] 2/F keep 0 3/F anti [=(c4,c0)] [] 0 1/A 4 O7 0 4,3,2 5 keep 0 5/plan 4/cut 6 0/hash 5 anti [=(c4,c0)] []/scan 0 0/scan 1 1/end/
+SELECT e.id FROM emp e LEFT JOIN dept d ON d.id = e.dept => SQLPLAN 1/lines 6/F get 0/F get 1/F left [=(c4,c1)] 0 1/F keep 0 2/L 1 1 weak 4/A 3 O6 0 3,2 - keep 0 0/plan 2/cut 5 0/scan 0 0/end/"#;
     for exploration in [Exploration::ToLimit, Exploration::WhileWorthwhile] {
         assert_eq!(rt;
             differences(rt.alloc(), &[CASES, OUTER], &Planned(exploration)).as_deref(),
@@ -73,7 +73,7 @@ SELECT e.id FROM emp e LEFT JOIN dept d ON d.id = e.dept => ?"#;
 }
 
 /// Reports the plan of a query as text, or as a graph where `dot ` stands before the query, with `/` for a line's end.
-#[derive(Drop)]
+#[derive(Clone, Copy)]
 struct Explained(Exploration);
 
 impl Reporting for Explained {
@@ -109,12 +109,12 @@ impl Reporting for Explained {
 fn plans_are_explained(rt: HostRuntime) {
     const CASES: &str =
         r#"SELECT d.id, e.id FROM dept d LEFT JOIN emp e ON e.dept = d.id WHERE e.pay > 0 => cut d.id,e.id rows=2 cost=281/  hash inner e.dept = d.id AND e.pay > 0 rows=2 cost=280/    scan emp e rows=4 cost=140/    scan dept d rows=3 cost=130/
-SELECT d.id, e.id FROM dept d LEFT JOIN emp e ON e.dept = d.id WHERE d.boss = 10 => ?
-SELECT d.id FROM dept d LEFT JOIN emp e ON e.dept = d.id WHERE e.id IS NULL => ?
-SELECT e.id FROM emp e LEFT JOIN dept d ON d.id = e.dept => ?
-SELECT e.id, d.id, x.id FROM emp e LEFT JOIN dept d ON d.id = e.dept JOIN dept x ON x.id = e.badge WHERE x.boss = 10 => ?
-SELECT e.id, d.id, x.id FROM dept x, emp e LEFT JOIN dept d ON d.id = e.dept WHERE x.id = e.badge AND x.boss = 10 => ?
-SELECT d.id, e.id FROM dept d LEFT JOIN emp e ON e.dept = d.id AND e.pay > 0 AND d.boss = 10 => ?
+SELECT d.id, e.id FROM dept d LEFT JOIN emp e ON e.dept = d.id WHERE d.boss = 10 => cut d.id,e.id rows=1 cost=274/  loop left e.dept = d.id rows=1 cost=273/    filter d.boss = 10 rows=1 cost=133/      scan dept d rows=3 cost=130/    scan emp e rows=4 cost=140/
+SELECT d.id FROM dept d LEFT JOIN emp e ON e.dept = d.id WHERE e.id IS NULL => cut d.id rows=1 cost=282/  hash anti sure e.dept = d.id maybe true rows=2 cost=281/    scan dept d rows=3 cost=130/    scan emp e rows=4 cost=140/
+SELECT e.id FROM emp e LEFT JOIN dept d ON d.id = e.dept => cut e.id rows=4 cost=141/  scan emp e rows=4 cost=140/
+SELECT e.id, d.id, x.id FROM emp e LEFT JOIN dept d ON d.id = e.dept JOIN dept x ON x.id = e.badge WHERE x.boss = 10 => cut e.id,d.id,x.id rows=1 cost=404/  loop left d.id = e.dept rows=1 cost=403/    loop inner x.id = e.badge rows=1 cost=273/      filter x.boss = 10 rows=1 cost=133/        scan dept x rows=3 cost=130/      scan emp e rows=4 cost=140/    scan dept d rows=3 cost=130/
+SELECT e.id, d.id, x.id FROM dept x, emp e LEFT JOIN dept d ON d.id = e.dept WHERE x.id = e.badge AND x.boss = 10 => cut x.id,e.id,d.id rows=1 cost=404/  loop left d.id = e.dept rows=1 cost=403/    loop inner x.id = e.badge rows=1 cost=273/      filter x.boss = 10 rows=1 cost=133/        scan dept x rows=3 cost=130/      scan emp e rows=4 cost=140/    scan dept d rows=3 cost=130/
+SELECT d.id, e.id FROM dept d LEFT JOIN emp e ON e.dept = d.id AND e.pay > 0 AND d.boss = 10 => cut d.id,e.id rows=3 cost=282/  hash left d.boss = 10 AND e.dept = d.id AND e.pay > 0 rows=3 cost=281/    scan dept d rows=3 cost=130/    scan emp e rows=4 cost=140/
 SELECT d.id, e.id FROM dept d LEFT JOIN emp e ON e.dept = d.id WHERE e.pay IS NULL => cut d.id,e.id rows=1 cost=285/  filter e.pay IS NULL rows=1 cost=284/    hash left e.dept = d.id rows=3 cost=281/      scan dept d rows=3 cost=130/      scan emp e rows=4 cost=140/
 SELECT DISTINCT d.id FROM dept d => cut d.id rows=3 cost=131/  scan dept d rows=3 cost=130/
 SELECT * FROM dept => scan dept dept rows=3 cost=130/
