@@ -13,10 +13,10 @@ use Rattle.algebra.proofs.ConditionNames.{columns-Compare, columns-IsNull, class
 use Rattle.outer_rules.proofs.NullConditions.{null_column-IsNull}
 use Rattle.props.proofs.OutcomeForms.{outcomes-Compare, outcomes-IsNull}
 use Rattle.props.proofs.SingleMatches.{pins-Compare}
-use Rattle.rules.specs.declared.shape.Shape.TheVariants.{Class, Join, Keep}
+use Rattle.rules.specs.declared.shape.Shape.TheVariants.{Class, Join, Anti, Keep}
 use Rattle.book.specs.declared.names.RuleName.TheVariants as rule
 use Rattle.derivation.specs.declared.line.Line.TheVariants.{Founds}
-use Rattle.derivation.specs.Examples.{WorkedLines, WorkedRules, WorkedConditions, WorkedForms, WorkedRefusals, WorkedLogs, emps, joined, twice_joined, by_rule, equal_ids, falling_ids, without_dept, both}
+use Rattle.derivation.specs.Examples.{WorkedLines, WorkedRules, WorkedConditions, WorkedForms, WorkedRefusals, WorkedLogs, emps, joined, left_joined, twice_joined, by_rule, equal_ids, falling_ids, without_dept, without_right_id, both}
 use Rattle.derivation.proofs.WorkedEquations.{parts-Compare, parts-IsNull, text-Compare, text-IsNull, by-texts, union-of-two, adds-stands, spelling-Class, spelling-Select, spelling-Join, spelling-LeftJoin, spelling-Semi, spelling-Anti, spelling-Keep, spelling-Distinct}
 
 lines : WorkedLines
@@ -76,7 +76,12 @@ rules = record {
   left_join_below_join = simp (columns-Compare, classes-Compare, same_columns-refl, mentions-Compare, spelling-Join, spelling-LeftJoin, spelling-Class, same-expr) refl;
   left_join_above_join = simp (columns-Compare, classes-Compare, same_columns-refl, mentions-Compare, spelling-LeftJoin, spelling-Join, spelling-Class, same-expr) refl;
   keep_of_left_side = simp (same_columns-refl, pins-Compare, spelling-Keep, spelling-Class, same-expr) refl;
-  outer_join_is_anti = simp (same_columns-refl, mentions-IsNull, null_column-IsNull, outcomes-Compare, spelling-Keep, spelling-Anti, spelling-Class, same-expr) refl;
+  outer_join_is_anti = adds-stands emps [] (reverse (left_joined ++ Founds (expr.Select without_right_id 2) ∷ Founds (expr.Keep (0 ∷ []) 3) ∷ Founds (expr.Anti equal_ids [] 0 1) ∷ [])) 4 (by_rule rule.OuterJoinIsAnti (4 ∷ 3 ∷ 2 ∷ []) (5 ∷ []))
+      (expr.Keep (0 ∷ []) 5) (Keep (0 ∷ []) (Anti equal_ids [] (Class 0) (Class 1)))
+      refl
+      (simp same_columns-refl refl)
+      (simp (mentions-IsNull, null_column-IsNull, outcomes-Compare) refl)
+      (simp (spelling-Keep, spelling-Anti, spelling-Class, same-expr) refl);
 }
 
 conditions : WorkedConditions

@@ -185,9 +185,9 @@ pub record WorkedConditions : Type 0 where
       (Adds 3 (by_rule rule.OuterJoinIsInner (3 ∷ 2 ∷ []) (4 ∷ [])) (Select without_dept 4)) (reason.FailedCondition rule.OuterJoinIsInner)
   -- which rows of e2 a row finds depends on e1
   pub left_join_below_join : IsRefused (joined_of_three ++ Founds (LeftJoin falling_ids 3 2) ∷ [])
-      (Adds 4 (by_rule rule.LeftJoinBelowJoin (4 ∷ 3 ∷ []) []) (Join equal_ids 0 1)) (reason.FailedCondition rule.LeftJoinBelowJoin)
+      (Adds 4 (by_rule rule.LeftJoinBelowJoin (4 ∷ 3 ∷ []) []) (LeftJoin falling_ids 3 2)) (reason.FailedCondition rule.LeftJoinBelowJoin)
   pub left_join_above_join : IsRefused (left_joined_of_three ++ Founds (Join falling_ids 3 2) ∷ [])
-      (Adds 4 (by_rule rule.LeftJoinAboveJoin (4 ∷ 3 ∷ []) []) (LeftJoin equal_ids 0 1)) (reason.FailedCondition rule.LeftJoinAboveJoin)
+      (Adds 4 (by_rule rule.LeftJoinAboveJoin (4 ∷ 3 ∷ []) []) (Join falling_ids 3 2)) (reason.FailedCondition rule.LeftJoinAboveJoin)
   -- no key of e1 is known
   pub keep_of_left_side : IsRefused (left_joined ++ Founds (Keep (0 ∷ []) 2) ∷ [])
       (Adds 3 (by_rule rule.KeepOfLeftSide (3 ∷ 2 ∷ []) []) (Keep (0 ∷ []) 0)) (reason.FailedCondition rule.KeepOfLeftSide)
