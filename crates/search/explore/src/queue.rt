@@ -1,25 +1,64 @@
-//! Bindings that are still to be tried.
+//! Bindings that are still to be tried, and those that were.
 
-use bindings::Binding;
+use algebra::LineId;
+use bindings::{Binding, BoundLines};
 use std::alloc::{AllocError, Global};
 use std::cmp::Reverse;
 use std::collections::BinaryHeap;
+
+/// A binding, and whether it is known to give nothing new.
+#[derive(Clone, Copy)]
+struct Offered {
+    binding: Binding,
+    has_given: bool,
+}
+
+/// A binding that was taken out, and its place among the bindings.
+#[derive(Clone, Copy)]
+pub(crate) struct Next {
+    pub binding: Binding,
+    place: usize,
+}
 
 /// Bindings that are still to be tried: those of a lower rank first, of one rank those over fewer columns, and of these the earlier ones. So none
 /// waits for ever.
 #[derive(Drop)]
 pub(crate) struct Queue {
-    bindings: Vec<Binding>,
+    bindings: Vec<Offered>,
+    /// For each line where the bindings begin of which it is the latest.
+    starts: Vec<usize>,
     /// For each binding that wasn't taken, its rank, how many columns it is about, and its place among the bindings.
     waiting: BinaryHeap<Reverse<(u8, usize, usize)>>,
+}
+
+fn are_same_lines(first: BoundLines, second: BoundLines) -> bool {
+    match (first, second) {
+        (BoundLines::One(a), BoundLines::One(b)) => a == b,
+        (BoundLines::Two(a, b), BoundLines::Two(c, d)) => a == c && b == d,
+        (BoundLines::Three(a, b, c), BoundLines::Three(d, e, f)) => a == d && b == e && c == f,
+        _ => false,
+    }
+}
+
+fn are_same(first: Binding, second: Binding) -> bool {
+    first.rule == second.rule
+        && first.pick == second.pick
+        && are_same_lines(first.lines, second.lines)
 }
 
 impl Queue {
     pub(crate) fn new(alloc: Global) -> Queue {
         Queue {
             bindings: Vec::new(alloc),
+            starts: Vec::new(alloc),
             waiting: BinaryHeap::new(alloc),
         }
+    }
+
+    /// Begins with the bindings of which the next line is the latest.
+    pub(crate) fn begin_line(&mut self) -> Result<(), AllocError> {
+        self.starts.push(self.bindings.len())?;
+        Ok(())
     }
 
     pub(crate) fn add(
@@ -29,14 +68,59 @@ impl Queue {
         width: usize,
     ) -> Result<(), AllocError> {
         let place = self.bindings.len();
-        self.bindings.push(binding)?;
+        self.bindings.push(Offered {
+            binding,
+            has_given: false,
+        })?;
         self.waiting.push(Reverse((rank, width, place)))?;
         Ok(())
     }
 
+    /// Adds a binding that needn't be tried, since what it gives is there.
+    pub(crate) fn add_given(&mut self, binding: Binding) -> Result<(), AllocError> {
+        self.bindings.push(Offered {
+            binding,
+            has_given: true,
+        })?;
+        Ok(())
+    }
+
     /// The next binding, which is taken out.
-    pub(crate) fn next(&mut self) -> Option<Binding> {
+    pub(crate) fn next(&mut self) -> Option<Next> {
         let Reverse((_, _, place)) = self.waiting.pop()?;
-        self.bindings.get(place).copied()
+        let offered = self.bindings.get(place)?;
+        Some(Next {
+            binding: offered.binding,
+            place,
+        })
+    }
+
+    /// Notes that what a binding gives is there.
+    pub(crate) fn note_given(&mut self, next: Next) {
+        if let Some(offered) = self.bindings.get_mut(next.place) {
+            offered.has_given = true;
+        }
+    }
+
+    /// The bindings of which a line is the latest.
+    fn of_line(&self, latest: LineId) -> &[Offered] {
+        let Some(start) = self.starts.get(latest as usize) else {
+            return &[];
+        };
+        let behind = (latest as usize).saturating_add(1);
+        let end = match self.starts.get(behind) {
+            Some(end) => *end,
+            None => self.bindings.len(),
+        };
+        match self.bindings.as_slice().get(*start..end) {
+            Some(offered) => offered,
+            None => &[],
+        }
+    }
+
+    /// Whether what a binding gives is there, of which this line is the latest.
+    pub(crate) fn has_given(&self, latest: LineId, binding: Binding) -> bool {
+        self.of_line(latest).iter().any(|offered| offered.has_given
+            && are_same(offered.binding, binding))
     }
 }
