@@ -132,7 +132,7 @@ impl<'m, 'q> Entry<'m, 'q> {
         let promise = binding.rule.promise(alloc, at)?;
         if self.wishes.products.allow(promise) {
             let width = classes.columns.columns_of(top.class).len();
-            queue.add(binding, rank_of(promise), width)?;
+            queue.add(alloc, binding, rank_of(promise), width)?;
         }
         Ok(())
     }

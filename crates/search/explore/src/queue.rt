@@ -3,8 +3,6 @@
 use algebra::LineId;
 use bindings::{Binding, BoundLines};
 use std::alloc::{AllocError, Global};
-use std::cmp::Reverse;
-use std::collections::BinaryHeap;
 
 /// A binding, and whether it is known to give nothing new.
 #[derive(Clone, Copy)]
@@ -20,6 +18,23 @@ pub(crate) struct Next {
     place: usize,
 }
 
+/// Bindings of one rank over so many columns, by their places in the order in which they came.
+#[derive(Drop)]
+struct Waiting {
+    places: Vec<usize>,
+    /// So many of them were taken out.
+    taken: usize,
+}
+
+/// Bindings of one rank.
+#[derive(Drop)]
+struct Rank {
+    /// By how many columns they are about.
+    by_width: Vec<Waiting>,
+    /// None waits that is about fewer columns.
+    lowest: usize,
+}
+
 /// Bindings that are still to be tried: those of a lower rank first, of one rank those over fewer columns, and of these the earlier ones. So none
 /// waits for ever.
 #[derive(Drop)]
@@ -27,8 +42,52 @@ pub(crate) struct Queue {
     bindings: Vec<Offered>,
     /// For each line where the bindings begin of which it is the latest.
     starts: Vec<usize>,
-    /// For each binding that wasn't taken, its rank, how many columns it is about, and its place among the bindings.
-    waiting: BinaryHeap<Reverse<(u8, usize, usize)>>,
+    /// Those that weren't taken out, by their ranks.
+    waiting: Vec<Rank>,
+}
+
+impl Waiting {
+    fn take(&mut self) -> Option<usize> {
+        let place = self.places.get(self.taken).copied()?;
+        self.taken = self.taken.saturating_add(1);
+        Some(place)
+    }
+}
+
+impl Rank {
+    fn none(alloc: Global) -> Rank {
+        Rank {
+            by_width: Vec::new(alloc),
+            lowest: 0,
+        }
+    }
+
+    fn add(&mut self, alloc: Global, width: usize, place: usize) -> Result<(), AllocError> {
+        for _ in self.by_width.len()..width.saturating_add(1) {
+            self.by_width.push(Waiting {
+                places: Vec::new(alloc),
+                taken: 0,
+            })?;
+        }
+        if let Some(waiting) = self.by_width.get_mut(width) {
+            waiting.places.push(place)?;
+        }
+        self.lowest = self.lowest.min(width);
+        Ok(())
+    }
+
+    fn take(&mut self) -> Option<usize> {
+        for width in self.lowest..self.by_width.len() {
+            self.lowest = width;
+            if let Some(waiting) = self.by_width.get_mut(width) {
+                let place = waiting.take();
+                if place.is_some() {
+                    return place;
+                }
+            }
+        }
+        None
+    }
 }
 
 fn are_same_lines(first: BoundLines, second: BoundLines) -> bool {
@@ -51,7 +110,7 @@ impl Queue {
         Queue {
             bindings: Vec::new(alloc),
             starts: Vec::new(alloc),
-            waiting: BinaryHeap::new(alloc),
+            waiting: Vec::new(alloc),
         }
     }
 
@@ -63,8 +122,9 @@ impl Queue {
 
     pub(crate) fn add(
         &mut self,
+        alloc: Global,
         binding: Binding,
-        rank: u8,
+        rank: usize,
         width: usize,
     ) -> Result<(), AllocError> {
         let place = self.bindings.len();
@@ -72,8 +132,13 @@ impl Queue {
             binding,
             has_given: false,
         })?;
-        self.waiting.push(Reverse((rank, width, place)))?;
-        Ok(())
+        for _ in self.waiting.len()..rank.saturating_add(1) {
+            self.waiting.push(Rank::none(alloc))?;
+        }
+        match self.waiting.get_mut(rank) {
+            Some(waiting) => waiting.add(alloc, width, place),
+            None => Ok(()),
+        }
     }
 
     /// Adds a binding that needn't be tried, since what it gives is there.
@@ -85,9 +150,20 @@ impl Queue {
         Ok(())
     }
 
+    /// The place of the next binding, which is taken out.
+    fn next_place(&mut self) -> Option<usize> {
+        for waiting in self.waiting.iter_mut() {
+            let place = waiting.take();
+            if place.is_some() {
+                return place;
+            }
+        }
+        None
+    }
+
     /// The next binding, which is taken out.
     pub(crate) fn next(&mut self) -> Option<Next> {
-        let Reverse((_, _, place)) = self.waiting.pop()?;
+        let place = self.next_place()?;
         let offered = self.bindings.get(place)?;
         Some(Next {
             binding: offered.binding,

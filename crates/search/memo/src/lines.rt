@@ -377,8 +377,9 @@ impl<'q> Memo<'q> {
         ensures log { self.new.log ≡ self.old.log }
         ensures limit { self.new.limit ≡ self.old.limit }
     {
-        let key = self.conditions.alike_key(alloc, operation, &self.groups)?;
-        Ok(self.member(self.alike.get(&key).copied()))
+        let key = self.conditions.asked(alloc, operation, &self.groups)?;
+        let line = self.alike.get(key).copied();
+        Ok(self.member(line))
     }
 
     /// The first line with an expression, its classes being named as here: a new one where there is none.
