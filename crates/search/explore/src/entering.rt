@@ -9,7 +9,7 @@ use bindings::{Binding, BoundLines};
 use book::RuleName;
 use memo::Memo;
 use query::ids::id_of;
-use rules::{Input, Match, MatchedLine, Pattern, picked_subquery};
+use rules::{Below, Input, Match, MatchedLine, Pattern, picked_subquery};
 use std::alloc::{AllocError, Global};
 
 /// A line with its number.
@@ -280,10 +280,13 @@ impl<'m, 'q> Entry<'m, 'q> {
         rule: RuleName,
         top: Numbered<'_>,
         below: Numbered<'_>,
-        input: Input,
+        lower: Below,
     ) -> Result<(), AllocError> {
-        for number in self.lines_of(alloc, input.of(below.line.expr))? {
-            if let Some(lowest) = self.numbered(number) {
+        for number in self.lines_of(alloc, lower.input.of(below.line.expr))? {
+            let found = self
+                .numbered(number)
+                .filter(|found| lower.operators.include(found.line.expr));
+            if let Some(lowest) = found {
                 let lines = BoundLines::Three(top.number, below.number, number);
                 let binding = Binding {
                     rule,
@@ -325,8 +328,11 @@ impl<'m, 'q> Entry<'m, 'q> {
         match rule.pattern() {
             Pattern::Three(_, below, lowest) => {
                 for number in self.lines_of(alloc, below.input.of(expr))? {
-                    if let Some(second) = self.numbered(number) {
-                        self.offer_triples(alloc, queue, rule, self.new, second, lowest.input)?;
+                    let found = self
+                        .numbered(number)
+                        .filter(|found| below.operators.include(found.line.expr));
+                    if let Some(second) = found {
+                        self.offer_triples(alloc, queue, rule, self.new, second, lowest)?;
                     }
                 }
             }
@@ -379,8 +385,11 @@ impl<'m, 'q> Entry<'m, 'q> {
         top: Numbered<'_>,
     ) -> Result<(), AllocError> {
         match rule.pattern() {
-            Pattern::Three(_, _, lowest) => {
-                self.offer_triples(alloc, queue, rule, top, self.new, lowest.input)
+            Pattern::Three(first, _, lowest) => {
+                if first.include(top.line.expr) {
+                    self.offer_triples(alloc, queue, rule, top, self.new, lowest)?;
+                }
+                Ok(())
             }
             Pattern::SubqueryLine(_) => {
                 for pick in 0..conjunct_count(top.line.expr)? {
