@@ -1,11 +1,11 @@
 //! Facts that lines give of their classes, and that aren't known of these.
 
-ghost use Rattle.std.specs.Prelude.{◌≡◌, ◌++◌, ◌||◌, map, slice_get, IfOk, Some};
+ghost use Rattle.std.specs.Prelude.{◌≡◌, ◌++◌, ◌||◌, ◌&&◌, map, slice_get, IfOk, Some};
 ghost use Rattle.std.specs.List.{AllByRecursion};
 ghost use Rattle.algebra.specs.Columns.{is_same_set, is_subset};
 ghost use Rattle.props.specs.declared.fact.Fact.TheVariants as fact_;
 ghost use Rattle.props.specs.Facts.{fact_columns};
-ghost use Rattle.props.specs.Given.{at_places, by_table};
+ghost use Rattle.props.specs.Given.{at_places, by_table, gives as gives_};
 ghost use Rattle.rules.specs.Matches.{line_in};
 ghost use Rattle.algebra.specs.GivenColumns.{given_columns};
 ghost use Rattle.props.specs.Knowledge.{known};
@@ -30,6 +30,19 @@ fn speaks_of(columns: ClassColumns<'_>, class: ClassId, fact: &Fact) -> bool
         Fact::NotNull(column) => columns.has(class, *column),
         Fact::WeakKey(key) | Fact::StrongKey(key) => columns.has_all(class, key.as_slice()),
     }
+}
+
+/// Whether a line gives a fact, which speaks of columns of its class alone.
+fn gives_fact(
+    instances: &[TableInstance],
+    classes: KnownClasses<'_>,
+    line: MatchedLine<'_>,
+    fact: &Fact,
+) -> bool
+    ensures { result ≡ (is_subset (fact_columns fact.now) (given_columns classes.entry.columns line.entry.class) && gives_ instances.now (known classes.entry) line.entry.class line.entry.expr.now fact.now) }
+{
+    speaks_of(classes.columns, line.class, fact)
+        && gives(instances, classes, line.class, line.expr, fact)
 }
 
 /// Whether a line gives a fact of its class that isn't known of it. Mostly it is known, which is seen at once.
@@ -63,7 +76,7 @@ fn lacking_weak(
         return Ok(None);
     }
     let fact = Fact::WeakKey(key.copy(alloc)?);
-    if lacks(instances, classes, line, &fact) {
+    if gives_fact(instances, classes, line, &fact) {
         Ok(Some(fact))
     } else {
         Ok(None)
@@ -85,7 +98,7 @@ fn lacking_strong(
         return Ok(None);
     }
     let fact = Fact::StrongKey(key.copy(alloc)?);
-    if lacks(instances, classes, line, &fact) {
+    if gives_fact(instances, classes, line, &fact) {
         Ok(Some(fact))
     } else {
         Ok(None)

@@ -9,7 +9,7 @@ use bindings::{Binding, BoundLines};
 use book::RuleName;
 use memo::Memo;
 use query::ids::id_of;
-use rules::{Input, Match, MatchedLine, Pattern, picked_subquery};
+use rules::{Below, Input, Match, MatchedLine, Pattern, picked_subquery};
 use std::alloc::{AllocError, Global};
 
 /// A line with its number.
@@ -20,12 +20,14 @@ struct Numbered<'m> {
 }
 
 /// Which bindings an earlier pass has tried: those of the lines that there were, where nothing has become known of their classes since.
-#[derive(Clone, Copy)]
+#[derive(Drop)]
 pub(crate) struct Tried {
     /// So many lines there were.
     lines: usize,
     /// What was known when the log had so many lines was known when the pass began.
     since: usize,
+    /// The bindings of the last pass. What one gave stays there, whatever becomes known.
+    queue: Queue,
 }
 
 /// What is entered.
@@ -33,7 +35,7 @@ pub(crate) struct Tried {
 pub(crate) struct Wishes<'t> {
     pub takers: &'t Takers,
     pub products: Products,
-    pub tried: Tried,
+    pub tried: &'t Tried,
 }
 
 /// A line that comes into the queue.
@@ -45,11 +47,23 @@ struct Entry<'m, 'q> {
 }
 
 impl Tried {
-    pub(crate) const NOTHING: Tried = Tried { lines: 0, since: 0 };
+    pub(crate) fn nothing(alloc: Global) -> Tried {
+        Tried {
+            lines: 0,
+            since: 0,
+            queue: Queue::new(alloc),
+        }
+    }
 
-    /// What a pass tries that begins with so many lines and ends with so many.
-    pub(crate) fn between(since: usize, lines: usize) -> Tried {
-        Tried { lines, since }
+    /// Keeps the bindings of a pass that ends.
+    pub(crate) fn keep(&mut self, queue: Queue) {
+        self.queue = queue;
+    }
+
+    /// Notes that a pass began with so many lines and ended with so many.
+    pub(crate) fn note_pass(&mut self, since: usize, lines: usize) {
+        self.since = since;
+        self.lines = lines;
     }
 }
 
@@ -92,7 +106,7 @@ impl<'m, 'q> Entry<'m, 'q> {
         true
     }
 
-    /// Puts a binding into the queue, if its rule may fit these lines, which are its own.
+    /// Puts a binding into the queue, whose rule's pattern fits these lines, which are its own.
     fn offer(
         self,
         alloc: Global,
@@ -100,30 +114,66 @@ impl<'m, 'q> Entry<'m, 'q> {
         binding: Binding,
         lines: &[MatchedLine<'_>],
     ) -> Result<(), AllocError> {
-        let classes = self.memo.log().classes();
-        let at = Match {
-            lines,
-            pick: binding.pick,
-            classes,
-        };
         let Some(top) = lines.first() else {
             return Ok(());
         };
         if self.is_tried(lines) {
             return Ok(());
         }
-        if !binding.rule.pattern().fits(alloc, at)? {
-            return Ok(());
+        if self.wishes.tried.queue.has_given(self.new.number, binding) {
+            return queue.add_given(binding);
         }
+        let classes = self.memo.log().classes();
+        let at = Match {
+            lines,
+            pick: binding.pick,
+            classes,
+        };
         let promise = binding.rule.promise(alloc, at)?;
         if self.wishes.products.allow(promise) {
             let width = classes.columns.columns_of(top.class).len();
-            queue.add(binding, rank_of(promise), width)?;
+            queue.add(alloc, binding, rank_of(promise), width)?;
         }
         Ok(())
     }
 
+    /// The same where the pattern may not fit.
+    fn offer_if_fits(
+        self,
+        alloc: Global,
+        queue: &mut Queue,
+        binding: Binding,
+        lines: &[MatchedLine<'_>],
+    ) -> Result<(), AllocError> {
+        let at = Match {
+            lines,
+            pick: binding.pick,
+            classes: self.memo.log().classes(),
+        };
+        if binding.rule.pattern().fits(alloc, at)? {
+            self.offer(alloc, queue, binding, lines)?;
+        }
+        Ok(())
+    }
+
+    /// A rule of one line, where nothing is picked.
     fn offer_alone(
+        self,
+        alloc: Global,
+        queue: &mut Queue,
+        rule: RuleName,
+    ) -> Result<(), AllocError> {
+        let lines = BoundLines::One(self.new.number);
+        let binding = Binding {
+            rule,
+            pick: 0,
+            lines,
+        };
+        self.offer(alloc, queue, binding, [self.new.line].as_slice())
+    }
+
+    /// A rule with a pick of the line.
+    fn offer_pick(
         self,
         alloc: Global,
         queue: &mut Queue,
@@ -132,9 +182,28 @@ impl<'m, 'q> Entry<'m, 'q> {
     ) -> Result<(), AllocError> {
         let lines = BoundLines::One(self.new.number);
         let binding = Binding { rule, pick, lines };
-        self.offer(alloc, queue, binding, [self.new.line].as_slice())
+        self.offer_if_fits(alloc, queue, binding, [self.new.line].as_slice())
     }
 
+    /// A rule of two lines, of which the second is of the class that the first takes there.
+    fn offer_over(
+        self,
+        alloc: Global,
+        queue: &mut Queue,
+        rule: RuleName,
+        top: Numbered<'_>,
+        below: Numbered<'_>,
+    ) -> Result<(), AllocError> {
+        let lines = BoundLines::Two(top.number, below.number);
+        let binding = Binding {
+            rule,
+            pick: 0,
+            lines,
+        };
+        self.offer(alloc, queue, binding, [top.line, below.line].as_slice())
+    }
+
+    /// A rule of two lines with a pick.
     fn offer_pair(
         self,
         alloc: Global,
@@ -146,22 +215,57 @@ impl<'m, 'q> Entry<'m, 'q> {
     ) -> Result<(), AllocError> {
         let lines = BoundLines::Two(top.number, below.number);
         let binding = Binding { rule, pick, lines };
-        self.offer(alloc, queue, binding, [top.line, below.line].as_slice())
+        self.offer_if_fits(alloc, queue, binding, [top.line, below.line].as_slice())
     }
 
-    /// The line over each of a class.
+    /// The line over each of the class that it takes there.
+    fn offer_input(self, alloc: Global, queue: &mut Queue, input: Input) -> Result<(), AllocError> {
+        let expr = self.new.line.expr;
+        for number in self.lines_of(alloc, input.of(expr))? {
+            if let Some(below) = self.numbered(number) {
+                for pair in self.wishes.takers.pairs.of(expr, below.line.expr) {
+                    if pair.takes(input) {
+                        self.offer_over(alloc, queue, pair.rule, self.new, below)?;
+                    }
+                }
+            }
+        }
+        Ok(())
+    }
+
+    /// The line over each of a class, with a pick.
     fn offer_pairs(
         self,
         alloc: Global,
         queue: &mut Queue,
-        rules: &[RuleName],
+        rule: RuleName,
         pick: u32,
         class: Option<ClassId>,
     ) -> Result<(), AllocError> {
         for number in self.lines_of(alloc, class)? {
             if let Some(below) = self.numbered(number) {
-                for rule in rules {
-                    self.offer_pair(alloc, queue, *rule, pick, self.new, below)?;
+                self.offer_pair(alloc, queue, rule, pick, self.new, below)?;
+            }
+        }
+        Ok(())
+    }
+
+    /// A line over this one, by the rules of two lines that take both.
+    fn offer_under(
+        self,
+        alloc: Global,
+        queue: &mut Queue,
+        top: Numbered<'_>,
+    ) -> Result<(), AllocError> {
+        for pair in self
+            .wishes
+            .takers
+            .pairs
+            .of(top.line.expr, self.new.line.expr)
+        {
+            if let Some(class) = pair.input.of(top.line.expr) {
+                if self.memo.log().are_same(class, self.new.line.class) {
+                    self.offer_over(alloc, queue, pair.rule, top, self.new)?;
                 }
             }
         }
@@ -176,10 +280,13 @@ impl<'m, 'q> Entry<'m, 'q> {
         rule: RuleName,
         top: Numbered<'_>,
         below: Numbered<'_>,
-        input: Input,
+        lower: Below,
     ) -> Result<(), AllocError> {
-        for number in self.lines_of(alloc, input.of(below.line.expr))? {
-            if let Some(lowest) = self.numbered(number) {
+        for number in self.lines_of(alloc, lower.input.of(below.line.expr))? {
+            let found = self
+                .numbered(number)
+                .filter(|found| lower.operators.include(found.line.expr));
+            if let Some(lowest) = found {
                 let lines = BoundLines::Three(top.number, below.number, number);
                 let binding = Binding {
                     rule,
@@ -187,7 +294,7 @@ impl<'m, 'q> Entry<'m, 'q> {
                     lines,
                 };
                 let matched = [top.line, below.line, lowest.line];
-                self.offer(alloc, queue, binding, matched.as_slice())?;
+                self.offer_if_fits(alloc, queue, binding, matched.as_slice())?;
             }
         }
         Ok(())
@@ -197,12 +304,11 @@ impl<'m, 'q> Entry<'m, 'q> {
     fn enter_on_top(self, alloc: Global, queue: &mut Queue) -> Result<(), AllocError> {
         let expr = self.new.line.expr;
         for rule in self.wishes.takers.alone.of(expr) {
-            self.offer_alone(alloc, queue, *rule, 0)?;
+            self.offer_alone(alloc, queue, *rule)?;
         }
         for input in [Input::First, Input::Second] {
-            let rules = self.wishes.takers.over(expr, input);
-            if !rules.is_empty() {
-                self.offer_pairs(alloc, queue, rules, 0, input.of(expr))?;
+            if !self.wishes.takers.over(expr, input).is_empty() {
+                self.offer_input(alloc, queue, input)?;
             }
         }
         for rule in self.wishes.takers.first.of(expr) {
@@ -222,25 +328,28 @@ impl<'m, 'q> Entry<'m, 'q> {
         match rule.pattern() {
             Pattern::Three(_, below, lowest) => {
                 for number in self.lines_of(alloc, below.input.of(expr))? {
-                    if let Some(second) = self.numbered(number) {
-                        self.offer_triples(alloc, queue, rule, self.new, second, lowest.input)?;
+                    let found = self
+                        .numbered(number)
+                        .filter(|found| below.operators.include(found.line.expr));
+                    if let Some(second) = found {
+                        self.offer_triples(alloc, queue, rule, self.new, second, lowest)?;
                     }
                 }
             }
             Pattern::Subquery => {
                 for pick in 0..conjunct_count(expr)? {
-                    self.offer_alone(alloc, queue, rule, pick)?;
+                    self.offer_pick(alloc, queue, rule, pick)?;
                 }
             }
             Pattern::SubqueryLine(_) => {
                 for pick in 0..conjunct_count(expr)? {
                     let class = picked_subquery(expr, pick);
-                    self.offer_pairs(alloc, queue, [rule].as_slice(), pick, class)?;
+                    self.offer_pairs(alloc, queue, rule, pick, class)?;
                 }
             }
             Pattern::ClassLine(_) => {
                 for class in classes_named(alloc, expr)? {
-                    self.offer_pairs(alloc, queue, [rule].as_slice(), class, Some(class))?;
+                    self.offer_pairs(alloc, queue, rule, class, Some(class))?;
                 }
             }
             Pattern::One(_) | Pattern::Two(_, _) => {}
@@ -258,9 +367,7 @@ impl<'m, 'q> Entry<'m, 'q> {
         }
         for number in self.lines_over(self.new.line.class)? {
             if let Some(top) = self.numbered(number) {
-                for rule in pairs {
-                    self.offer_pair(alloc, queue, *rule, 0, top, self.new)?;
-                }
+                self.offer_under(alloc, queue, top)?;
                 for rule in others {
                     self.enter_second(alloc, queue, *rule, top)?;
                 }
@@ -278,8 +385,11 @@ impl<'m, 'q> Entry<'m, 'q> {
         top: Numbered<'_>,
     ) -> Result<(), AllocError> {
         match rule.pattern() {
-            Pattern::Three(_, _, lowest) => {
-                self.offer_triples(alloc, queue, rule, top, self.new, lowest.input)
+            Pattern::Three(first, _, lowest) => {
+                if first.include(top.line.expr) {
+                    self.offer_triples(alloc, queue, rule, top, self.new, lowest)?;
+                }
+                Ok(())
             }
             Pattern::SubqueryLine(_) => {
                 for pick in 0..conjunct_count(top.line.expr)? {
@@ -332,7 +442,7 @@ impl<'m, 'q> Entry<'m, 'q> {
                 pick: 0,
                 lines,
             };
-            self.offer(alloc, queue, binding, matched.as_slice())?;
+            self.offer_if_fits(alloc, queue, binding, matched.as_slice())?;
         }
         Ok(())
     }

@@ -8,9 +8,8 @@ ghost use Rattle.memo.specs.Growth.{Grows, IsWithin, Extends, FoundsDirectly};
 use crate::entering::{Tried, Wishes, enter};
 use crate::learning::{Looks, add_fact, learn_all};
 use crate::promises::Products;
-use crate::queue::Queue;
+use crate::queue::{Next, Queue};
 use crate::takers::Takers;
-use bindings::Binding;
 use closure::{Missing, missing};
 use derivation::Line;
 use memo::Memo;
@@ -33,18 +32,27 @@ fn enter_new(
 ) -> Result<usize, AllocError> {
     let count = memo.log().len();
     for line in entered..count {
+        queue.begin_line()?;
         enter(alloc, memo, wishes, queue, id_of(line)?)?;
     }
     Ok(count)
 }
 
-/// Applies the rule of a binding.
-fn apply(alloc: Global, memo: &mut Memo<'_>, binding: Binding) -> Result<(), AllocError>
+/// Applies the rule of a binding. Once what it gives is there, it stays there.
+fn apply(
+    alloc: Global,
+    memo: &mut Memo<'_>,
+    queue: &mut Queue,
+    next: Next,
+) -> Result<(), AllocError>
     ensures extends { Extends memo.old.limit memo.old.log memo.new.log }
     ensures direct { OnOk result (FoundsDirectly memo.old.limit memo.old.log memo.new.log) }
     ensures limit { memo.new.limit ≡ memo.old.limit }
 {
-    let _ = memo.apply(alloc, binding)?;
+    let found = memo.apply(alloc, next.binding)?;
+    if found.is_some() {
+        queue.note_given(next);
+    }
     Ok(())
 }
 
@@ -53,30 +61,32 @@ fn pass(
     alloc: Global,
     memo: &mut Memo<'_>,
     products: Products,
-    tried: Tried,
+    tried: &mut Tried,
 ) -> Result<(), AllocError>
     ensures extends { Extends memo.old.limit memo.old.log memo.new.log }
     ensures direct { OnOk result (FoundsDirectly memo.old.limit memo.old.log memo.new.log) }
     ensures limit { memo.new.limit ≡ memo.old.limit }
 {
     let takers = Takers::of_book(alloc)?;
-    let wishes = Wishes {
-        takers: &takers,
-        products,
-        tried,
-    };
     let mut queue = Queue::new(alloc);
     let mut entered = 0;
     for _ in 0..MOST_BINDINGS {
-        entered = enter_new(alloc, memo, wishes, &mut queue, entered)?;
+        // Before the lines are entered: of a full log that would be for nothing.
         if memo.is_full() {
             break;
         }
-        let Some(binding) = queue.next() else {
+        let wishes = Wishes {
+            takers: &takers,
+            products,
+            tried: &*tried,
+        };
+        entered = enter_new(alloc, memo, wishes, &mut queue, entered)?;
+        let Some(next) = queue.next() else {
             break;
         };
-        apply(alloc, memo, binding)?;
+        apply(alloc, memo, &mut queue, next)?;
     }
+    tried.keep(queue);
     Ok(())
 }
 
@@ -88,14 +98,14 @@ pub fn apply_all(alloc: Global, memo: &mut Memo<'_>, products: Products) -> Resu
     ensures limit { memo.new.limit ≡ memo.old.limit }
     ensures direct { OnOk result (FoundsDirectly memo.old.limit memo.old.log memo.new.log) }
 {
-    let mut tried = Tried::NOTHING;
+    let mut tried = Tried::nothing(alloc);
     for _ in 0..MOST_PASSES {
         let before = memo.log().len();
-        pass(alloc, memo, products, tried)?;
+        pass(alloc, memo, products, &mut tried)?;
         if memo.log().len() == before {
             break;
         }
-        tried = Tried::between(before, memo.log().len());
+        tried.note_pass(before, memo.log().len());
     }
     Ok(())
 }
@@ -104,7 +114,7 @@ pub fn apply_all(alloc: Global, memo: &mut Memo<'_>, products: Products) -> Resu
 fn pass_and_learn(
     alloc: Global,
     memo: &mut Memo<'_>,
-    tried: Tried,
+    tried: &mut Tried,
     looks: &mut Looks,
 ) -> Result<(), AllocError>
     ensures extends { Extends memo.old.limit memo.old.log memo.new.log }
@@ -124,14 +134,14 @@ pub fn apply_and_learn(alloc: Global, memo: &mut Memo<'_>) -> Result<(), AllocEr
     ensures limit { memo.new.limit ≡ memo.old.limit }
 {
     let mut looks = Looks::none(alloc);
-    let mut tried = Tried::NOTHING;
+    let mut tried = Tried::nothing(alloc);
     for _ in 0..MOST_PASSES {
         let before = memo.log().len();
-        pass_and_learn(alloc, memo, tried, &mut looks)?;
+        pass_and_learn(alloc, memo, &mut tried, &mut looks)?;
         if memo.log().len() == before {
             break;
         }
-        tried = Tried::between(before, memo.log().len());
+        tried.note_pass(before, memo.log().len());
     }
     Ok(())
 }

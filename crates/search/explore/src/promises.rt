@@ -20,7 +20,7 @@ impl Products {
 }
 
 /// Promises as numbers, that of what is tried first least.
-pub(crate) fn rank_of(promise: Promise) -> u8 {
+pub(crate) fn rank_of(promise: Promise) -> usize {
     match promise {
         Promise::Simpler => 0,
         Promise::Connected => 1,

@@ -11,6 +11,20 @@ pub(crate) struct ByOperator {
     rules: Vec<Vec<RuleName>>,
 }
 
+/// A rule of two lines.
+#[derive(Clone, Copy)]
+pub(crate) struct PairRule {
+    pub rule: RuleName,
+    /// Which class of the upper line the lower one is of.
+    pub input: Input,
+}
+
+/// Rules of two lines by the operators of both: at the place of the upper one, behind those before it, that of the lower one.
+#[derive(Drop)]
+pub(crate) struct ByPair {
+    rules: Vec<Vec<PairRule>>,
+}
+
 /// The rules of the book, by the lines that they take.
 #[derive(Drop)]
 pub(crate) struct Takers {
@@ -22,6 +36,8 @@ pub(crate) struct Takers {
     pub over_second: ByOperator,
     /// Those of two, by the lower one.
     pub under: ByOperator,
+    /// Those of two, by both.
+    pub pairs: ByPair,
     /// Those of three lines and with a pick: by the first line, by the second and by the third.
     pub first: ByOperator,
     pub second: ByOperator,
@@ -96,6 +112,70 @@ impl ByOperator {
     }
 }
 
+impl PairRule {
+    /// Whether the lower line is of the class that the upper one takes there.
+    pub(crate) fn takes(self, input: Input) -> bool {
+        match (self.input, input) {
+            (Input::First, Input::First) | (Input::Second, Input::Second) => true,
+            _ => false,
+        }
+    }
+}
+
+/// The place of two operators.
+fn pair_place(top: usize, below: usize) -> usize {
+    top.saturating_mul(OPERATORS).saturating_add(below)
+}
+
+impl ByPair {
+    fn none(alloc: Global) -> Result<ByPair, AllocError> {
+        let count = OPERATORS * OPERATORS;
+        let mut rules = Vec::with_capacity(alloc, count)?;
+        for _ in 0..count {
+            rules.push(Vec::new(alloc))?;
+        }
+        Ok(ByPair { rules })
+    }
+
+    fn add_at(&mut self, top: usize, below: usize, pair: PairRule) -> Result<(), AllocError> {
+        if let Some(rules) = self.rules.get_mut(pair_place(top, below)) {
+            rules.push(pair)?;
+        }
+        Ok(())
+    }
+
+    fn add_over(&mut self, top: usize, below: Operators, pair: PairRule) -> Result<(), AllocError> {
+        match below {
+            Operators::Only(operator) => self.add_at(top, place_of(operator), pair),
+            Operators::Either(one, other) => {
+                self.add_at(top, place_of(one), pair)?;
+                self.add_at(top, place_of(other), pair)
+            }
+        }
+    }
+
+    fn add(&mut self, top: Operators, below: Operators, pair: PairRule) -> Result<(), AllocError> {
+        match top {
+            Operators::Only(operator) => self.add_over(place_of(operator), below, pair),
+            Operators::Either(one, other) => {
+                self.add_over(place_of(one), below, pair)?;
+                self.add_over(place_of(other), below, pair)
+            }
+        }
+    }
+
+    /// The rules that take a line with the one expression over a line with the other, if that is of the right class.
+    pub(crate) fn of(&self, top: &Expr, below: &Expr) -> &[PairRule] {
+        match self
+            .rules
+            .get(pair_place(place_of_expr(top), place_of_expr(below)))
+        {
+            Some(rules) => rules.as_slice(),
+            None => &[],
+        }
+    }
+}
+
 impl Takers {
     /// Those of the book.
     pub(crate) fn of_book(alloc: Global) -> Result<Takers, AllocError> {
@@ -104,6 +184,7 @@ impl Takers {
             over_first: ByOperator::none(alloc)?,
             over_second: ByOperator::none(alloc)?,
             under: ByOperator::none(alloc)?,
+            pairs: ByPair::none(alloc)?,
             first: ByOperator::none(alloc)?,
             second: ByOperator::none(alloc)?,
             third: ByOperator::none(alloc)?,
@@ -122,6 +203,11 @@ impl Takers {
                     Input::First => self.over_first.add(top, rule)?,
                     Input::Second => self.over_second.add(top, rule)?,
                 }
+                let pair = PairRule {
+                    rule,
+                    input: below.input,
+                };
+                self.pairs.add(top, below.operators, pair)?;
                 self.under.add(below.operators, rule)
             }
             Pattern::Three(top, below, lowest) => {

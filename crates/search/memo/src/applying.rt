@@ -216,7 +216,7 @@ impl<'q> Memo<'q> {
     }
 
     /// The line that says what the rule gives, whose inner expressions stand in these lines: one that adds it to the class; where a line of another class has
-    /// it, one that says that the two are the same. None where they are known to be.
+    /// it, one that says that the two are the same. None where they are known to be. No line has an expression that is new.
     fn line_with(
         &self,
         alloc: Global,
@@ -224,10 +224,16 @@ impl<'q> Memo<'q> {
         class: ClassId,
         expr: Expr,
         makes: &[LineId],
+        is_new: bool,
     ) -> Result<Option<ResultLine>, AllocError>
         ensures { IfOk result (λ found. IfSome found (λ said. is_result said.line ≡ true)) }
     {
-        let Some(found) = self.named(alloc, &expr)? else {
+        let found = if is_new {
+            None
+        } else {
+            self.named(alloc, &expr)?
+        };
+        let Some(found) = found else {
             let step = step_of(alloc, binding, makes)?;
             return Ok(Some(ResultLine {
                 line: Line::Adds(class, step, expr),
@@ -254,6 +260,7 @@ impl<'q> Memo<'q> {
         binding: Binding,
         class: ClassId,
         shape: Shape,
+        is_new: bool,
     ) -> Result<Option<ResultLine>, AllocError>
         ensures alone { FoundsAlone self.old.limit self.old.log self.new.log }
         ensures result { IfOk result (λ found. IfSome found (λ said. is_result said.line ≡ true)) }
@@ -262,7 +269,7 @@ impl<'q> Memo<'q> {
         let mut makes = Vec::new(alloc);
         match unless_refused(self.expr_of(alloc, shape, &mut makes))? {
             Some(expr) => {
-                let said = self.line_with(alloc, binding, class, expr, makes.as_slice())?;
+                let said = self.line_with(alloc, binding, class, expr, makes.as_slice(), is_new)?;
                 Ok(said)
             }
             None => Ok(None),
@@ -277,13 +284,14 @@ impl<'q> Memo<'q> {
         binding: Binding,
         class: ClassId,
         shape: Shape,
+        is_new: bool,
     ) -> Result<Option<LineId>, AllocError>
         requires { GivesBinding self.old.log.instances self.old.log.log binding }
         ensures extends { Extends self.old.limit self.old.log self.new.log }
         ensures direct { OnOk result (FoundsDirectly self.old.limit self.old.log self.new.log) }
         ensures limit { self.new.limit ≡ self.old.limit }
     {
-        let Some(said) = self.result_of(alloc, binding, class, shape)? else {
+        let Some(said) = self.result_of(alloc, binding, class, shape, is_new)? else {
             let _lines = self.log.lines();
             self.finish(alloc, binding)?;
             return Ok(None);
@@ -338,11 +346,12 @@ impl<'q> Memo<'q> {
         if let Shape::Class(other) = shape {
             return self.united(alloc, binding, class, other);
         }
-        if let Some(member) = self.line_there(alloc, &shape)? {
+        let there = self.line_there(alloc, &shape)?;
+        if let Some(member) = there {
             if self.log().are_same(member.class, class) {
                 return Ok(Some(member.line));
             }
         }
-        self.with_result(alloc, binding, class, shape)
+        self.with_result(alloc, binding, class, shape, there.is_none())
     }
 }

@@ -35,6 +35,18 @@ impl Drop for Groups {
     }
 }
 
+/// Whether each line is behind the one before it.
+fn is_rising(lines: &[LineId]) -> bool {
+    let mut least = 0;
+    for line in lines {
+        if *line < least {
+            return false;
+        }
+        least = line.saturating_add(1);
+    }
+    true
+}
+
 impl Group {
     fn none(alloc: Global) -> Group {
         Group {
@@ -94,8 +106,11 @@ impl Groups {
         if let Some(group) = self.groups.get(self.of(class) as usize) {
             parents.extend_from_slice(group.parents.as_slice())?;
         }
-        parents.sort_unstable();
-        parents.dedup();
+        // Mostly they are as they came.
+        if !is_rising(parents.as_slice()) {
+            parents.sort_unstable();
+            parents.dedup();
+        }
         Ok(parents)
     }
 

@@ -51,12 +51,17 @@ pub(crate) struct Keys {
 /// The numbers of conditions that name classes, by what they are with the groups of these.
 pub(crate) struct ConditionNumbers {
     conditions: IndexSet<Key>,
+    /// The key that was asked for last: its memory serves the next one.
+    asked: Key,
 }
 
 // By hand, so that where it is dropped is one call.
 impl Drop for ConditionNumbers {
     fn drop(self) {
-        let ConditionNumbers { conditions: _ } = self;
+        let ConditionNumbers {
+            conditions: _,
+            asked: _,
+        } = self;
     }
 }
 
@@ -184,21 +189,24 @@ impl Operation<'_> {
                 .all(|condition| condition.has_no_class())
     }
 
-    /// What its key begins with.
-    fn begun(self, alloc: Global, groups: Option<&Groups>) -> Result<Vec<u32>, AllocError> {
-        let mut numbers = Vec::with_capacity(alloc, 24)?;
+    /// Adds what its key begins with.
+    fn push_begun(self, numbers: &mut Vec<u32>, groups: Option<&Groups>) -> Result<(), AllocError> {
         numbers.push(operator_number(self.operator))?;
-        push_input(&mut numbers, self.left, groups)?;
-        push_input(&mut numbers, self.right, groups)?;
-        Ok(numbers)
+        push_input(numbers, self.left, groups)?;
+        push_input(numbers, self.right, groups)
     }
 
-    /// Its key, with the groups of its inputs where they are given, and its conditions as they stand.
+    /// Adds its key, with the groups of its inputs where they are given, and its conditions as they stand.
+    fn push_key(self, numbers: &mut Vec<u32>, groups: Option<&Groups>) -> Result<(), AllocError> {
+        self.push_begun(numbers, groups)?;
+        push_conditions(numbers, self.conditions)?;
+        push_conditions(numbers, self.null_aware)?;
+        push_own(numbers, self.operator)
+    }
+
     fn key(self, alloc: Global, groups: Option<&Groups>) -> Result<Key, AllocError> {
-        let mut numbers = self.begun(alloc, groups)?;
-        push_conditions(&mut numbers, self.conditions)?;
-        push_conditions(&mut numbers, self.null_aware)?;
-        push_own(&mut numbers, self.operator)?;
+        let mut numbers = Vec::with_capacity(alloc, 24)?;
+        self.push_key(&mut numbers, groups)?;
         Ok(Key { numbers })
     }
 }
@@ -207,6 +215,9 @@ impl ConditionNumbers {
     pub(crate) fn none(alloc: Global) -> ConditionNumbers {
         ConditionNumbers {
             conditions: IndexSet::new(alloc),
+            asked: Key {
+                numbers: Vec::new(alloc),
+            },
         }
     }
 
@@ -239,13 +250,30 @@ impl ConditionNumbers {
         if operation.is_plain() {
             return operation.key(alloc, Some(groups));
         }
-        let mut numbers = operation.begun(alloc, Some(groups))?;
+        let mut numbers = Vec::with_capacity(alloc, 24)?;
+        operation.push_begun(&mut numbers, Some(groups))?;
         let conditions = self.numbers(alloc, operation.conditions, groups)?;
         push_list(&mut numbers, conditions.as_slice())?;
         let null_aware = self.numbers(alloc, operation.null_aware, groups)?;
         push_list(&mut numbers, null_aware.as_slice())?;
         push_own(&mut numbers, operation.operator)?;
         Ok(Key { numbers })
+    }
+
+    /// The same key, which is lent until the next one is asked for.
+    pub(crate) fn asked(
+        &mut self,
+        alloc: Global,
+        operation: Operation<'_>,
+        groups: &Groups,
+    ) -> Result<&Key, AllocError> {
+        if operation.is_plain() {
+            self.asked.numbers.clear();
+            operation.push_key(&mut self.asked.numbers, Some(groups))?;
+        } else {
+            self.asked = self.alike_key(alloc, operation, groups)?;
+        }
+        Ok(&self.asked)
     }
 
     /// Both keys.

@@ -209,18 +209,20 @@ impl<'q> Memo<'q> {
         for class in &member.expr.inputs(alloc)? {
             self.groups.add_parent(*class, line)?;
         }
-        if self.named.get(&named).is_none() {
+        let other = self.alike.get(&alike).copied();
+        // Lines with one name have one key of groups too.
+        if other.is_none() || self.named.get(&named).is_none() {
             self.named.insert(named, line)?;
         }
-        self.enter(alike, line)
+        self.enter(alike, other, line)
     }
 
     /// Enters a line by its key of groups, unless another one has that.
-    fn enter(&mut self, key: Key, line: LineId) -> Result<(), AllocError>
+    fn enter(&mut self, key: Key, other: Option<LineId>, line: LineId) -> Result<(), AllocError>
         ensures log { self.new.log ≡ self.old.log }
         ensures limit { self.new.limit ≡ self.old.limit }
     {
-        match self.alike.get(&key).copied() {
+        match other {
             Some(other) => {
                 self.congruent.push(Congruence {
                     first: other.min(line),
@@ -243,7 +245,8 @@ impl<'q> Memo<'q> {
             if let Some(member) = self.log.member(*line) {
                 let operation = operation_of(member.expr);
                 let key = self.conditions.alike_key(alloc, operation, &self.groups)?;
-                self.enter(key, *line)?;
+                let other = self.alike.get(&key).copied();
+                self.enter(key, other, *line)?;
             }
         }
         Ok(())
@@ -377,8 +380,9 @@ impl<'q> Memo<'q> {
         ensures log { self.new.log ≡ self.old.log }
         ensures limit { self.new.limit ≡ self.old.limit }
     {
-        let key = self.conditions.alike_key(alloc, operation, &self.groups)?;
-        Ok(self.member(self.alike.get(&key).copied()))
+        let key = self.conditions.asked(alloc, operation, &self.groups)?;
+        let line = self.alike.get(key).copied();
+        Ok(self.member(line))
     }
 
     /// The first line with an expression, its classes being named as here: a new one where there is none.

@@ -31,6 +31,18 @@ pub(crate) fn push_class(
     Ok(())
 }
 
+/// Adds a number, its lowest 32 bits first.
+fn push_int(numbers: &mut Vec<u32>, int: i128) -> Result<(), AllocError> {
+    let [a, b, c, d, e, f, g, h, i, j, k, l, m, n, o, p] = int.to_le_bytes();
+    numbers.extend_from_slice(&[
+        u32::from_le_bytes([a, b, c, d]),
+        u32::from_le_bytes([e, f, g, h]),
+        u32::from_le_bytes([i, j, k, l]),
+        u32::from_le_bytes([m, n, o, p]),
+    ])?;
+    Ok(())
+}
+
 fn push_bytes(numbers: &mut Vec<u32>, bytes: &[u8]) -> Result<(), AllocError> {
     for byte in bytes {
         numbers.push(u32::from(*byte))?;
@@ -46,7 +58,7 @@ fn push_value(numbers: &mut Vec<u32>, value: &Value) -> Result<(), AllocError> {
         }
         Value::Int(number) => {
             numbers.push(2)?;
-            push_bytes(numbers, &number.to_le_bytes())
+            push_int(numbers, *number)
         }
         Value::Text(text) => {
             let bytes = text.as_str().as_bytes();
@@ -77,6 +89,11 @@ pub(crate) fn push_condition(
     groups: Option<&Groups>,
 ) -> Result<(), AllocError> {
     match condition {
+        Condition::Compare(by, Term::Column(a), Term::Column(b)) => {
+            // As below, at once.
+            numbers.extend_from_slice(&[comparison_number(*by), 0, *a, 0, *b])?;
+            Ok(())
+        }
         Condition::Compare(by, a, b) => {
             numbers.push(comparison_number(*by))?;
             push_term(numbers, a)?;
