@@ -1,4 +1,5 @@
 use Rattle.std.proofs.Common.{◌≡◌, ap, sym, ◌∙◌, ℕ, filter}
+use Rattle.std.proofs.lemmas.Fn.{filter_same}
 use Rattle.values.specs.Truth.{compare, is_true}
 use Rattle.relations.specs.declared.resolved.Test.{Test}
 use Rattle.relations.specs.Parts.{row_at}
@@ -19,3 +20,9 @@ returns-in-Compare c =
     ∙ ap (λ v. is_true (compare f.comparison (operand_value f.first l (row_at parts n)) v)) (second.ensures n)
     ∙ sym (ap (λ (t : Test). is_true (test_truth t l (row_at parts n))) f.is ∙ ap is_true (test-Compare f.comparison f.first f.second l (row_at parts n))) in
     c.keep_compared.ensures ∙ λ i. filter (λ n. same n i) c.args.rows.now.items
+
+pub returns-in_default : goal.returns-in_default
+returns-in_default c =
+    let l = inner_row c.args.beside.now in
+    let parts = c.args.right.now.rows.parts.items in
+    filter_same _ (λ n. is_true (test_truth c.args.test.now l (row_at parts n))) _ (λ x b f' k. f'.is_true_of_pair.ensures ∙ ap is_true (c.in_ok-test.ensures 0 x)) _ _ c.retain.ensures.filtered
