@@ -13,7 +13,7 @@ ghost use Rattle.relations.specs.Relations.{env_of, numbered_env, rows_of};
 use crate::grouped::Groups;
 use query::Aggregate;
 use query::aggregates::{Running, column_of};
-use relations::{Env, Relation, row_cell};
+use relations::{Env, Relation, row_column};
 use std::alloc::{AllocError, Global};
 use values::Cell;
 
@@ -23,8 +23,9 @@ pub fn aggregate_of_all<'t>(input: &Relation<'t>, env: &Env<'_, 't>, of: Aggrega
     ensures { value_of result ≡ spec.aggregate_of of (length (rows_of input.now (env_of env.now))) (λ k. map (λ r. r k) (rows_of input.now (env_of env.now))) }
 {
     let mut running = Running::new(of);
+    let column = row_column(input, env, column_of(of));
     for number in 0..input.rows.count {
-        running.add(row_cell(input, number, env, column_of(of)));
+        running.add(column.cell(number));
     }
     running.value()
 }
@@ -69,9 +70,9 @@ fn running_groups<'t>(
     ensures { IfOk result (λ running. AreAfter of (λ n. numbered_env groups.now.input.now (env_of env.now) n (spec.column_of of)) (groups_in groups.now) running.items) }
 {
     let mut running = Vec::new(alloc);
+    let column = row_column(groups.input, env, column_of(of));
     for row in 0..groups.input.rows.count {
-        let cell = row_cell(groups.input, row, env, column_of(of));
-        add_to_group(&mut running, groups.numbers[row], of, cell)?;
+        add_to_group(&mut running, groups.numbers[row], of, column.cell(row))?;
     }
     Ok(running)
 }

@@ -2,6 +2,7 @@ pub mod ColumnPlaces
 pub mod Comparisons
 pub mod Narrowed
 pub mod Numbers
+pub mod PairTests
 pub mod PairedRows
 pub mod RelationRows
 pub mod Settled

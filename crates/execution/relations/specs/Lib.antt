@@ -1,4 +1,5 @@
 pub mod Comparisons
+pub mod PairTests
 pub mod Parts
 pub mod Places
 pub mod Relations

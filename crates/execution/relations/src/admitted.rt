@@ -3,13 +3,15 @@
 ghost use Rattle.std.specs.Prelude.{◌≡◌};
 ghost use Rattle.std.specs.declared.cmp.Ordering.TheVariants as by;
 ghost use Rattle.values.specs.Truth as logic;
+ghost use Rattle.values.specs.declared.value.Value.TheVariants as value;
+ghost use Rattle.relations.specs.RowColumns.{int_or_null};
 
 use std::cmp::Ordering;
 use values::Comparison;
 
 /// A comparison, and whether it is true of values in each order: so a loop over numbers needn't ask which comparison it is.
 #[derive(Clone, Copy)]
-pub(crate) struct Admitted {
+pub struct Admitted {
     pub comparison: Comparison,
     less: bool,
     equal: bool,
@@ -40,5 +42,16 @@ impl Admitted {
             Ordering::Equal => self.equal,
             Ordering::Greater => self.greater,
         }
+    }
+}
+
+/// Whether a comparison of a number with another is true; where there is none it isn't.
+#[inline(always)]
+pub(crate) fn admits_number(admitted: Admitted, known: i64, number: Option<i64>) -> bool
+    ensures { result ≡ logic.is_true (logic.compare admitted.comparison (value.Int known) (int_or_null number)) }
+{
+    match number {
+        Some(number) => admitted.admits(known.cmp(&number)),
+        None => false,
     }
 }

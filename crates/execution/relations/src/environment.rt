@@ -1,13 +1,15 @@
 //! The rows that a condition sees.
 
-ghost use Rattle.std.specs.Prelude.{◌≡◌, Some};
+ghost use Rattle.std.specs.Prelude.{◌≡◌, ℕ, Some};
 ghost use Rattle.values.specs.Cells.{value_of};
 ghost use Rattle.relations.specs.Parts.{value_in};
 ghost use Rattle.relations.specs.Relations.{env_of, numbered_env};
 ghost use Rattle.relations.specs.Resolved.{inner_row};
+ghost use Rattle.relations.specs.RowColumns.{column_value};
 
 use crate::headings::Place;
 use crate::relation::Relation;
+use crate::row_columns::RowColumn;
 use query::ColumnId;
 use values::Cell;
 
@@ -53,4 +55,18 @@ pub fn row_cell<'t>(
     ensures { value_of result ≡ numbered_env relation.now (env_of env.now) number column }
 {
     Env::Inner(&*relation, number, &*env).column(column)
+}
+
+/// A column of all rows of a relation, or of the environment around them, looked up once.
+pub fn row_column<'p, 't>(
+    relation: &'p Relation<'t>,
+    env: &Env<'_, 't>,
+    column: ColumnId,
+) -> RowColumn<'p, 't>
+    ensures { (n : ℕ) → column_value result n ≡ numbered_env relation.entry.now (env_of env.now) n column }
+{
+    match relation.heading.place_of(column) {
+        Some(place) => relation.rows.column(place),
+        None => RowColumn::Known(env.column(column)),
+    }
 }

@@ -7,6 +7,7 @@ pub mod environment;
 mod exchanged;
 pub mod headings;
 pub mod number_column;
+pub mod pair_tests;
 pub mod parts;
 pub mod passing;
 pub mod relation;
@@ -16,7 +17,7 @@ pub mod rows;
 mod terms;
 pub mod truth;
 
-pub use environment::{Env, row_cell};
+pub use environment::{Env, row_cell, row_column};
 pub use exchanged::turned;
 pub use headings::{Heading, Place};
 pub use number_column::NumberColumn;

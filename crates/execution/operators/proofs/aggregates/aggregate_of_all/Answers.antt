@@ -29,7 +29,7 @@ loop-number-preserved c =
     let row : ℕ → Env = numbered_env c.args.input.now (env_of c.args.env.now) in
     let n = c.loop-number.number in
     let value : ℕ → Value = λ m. row m (column_of a) in
-    let is : value_of c.row_cell.result ≡ value n = c.row_cell.ensures ∙ ap (row n) c.column_of.ensures in
+    let is : value_of c.cell.result ≡ value n = c.cell.ensures ∙ c.row_column-column.ensures n ∙ ap (row n) c.column_of.ensures in
     subst (λ vs. IsAfter a vs c.add.new.self) (ap (λ v. map value (range_with_len 0 n) ++ v ∷ []) is ∙ sym (map_number value n)) (c.add.ensures a (map value (range_with_len 0 n)) c.loop-number.invariant)
 
 pub add-requires-clause-few : goal.add-requires-clause-few
@@ -41,6 +41,6 @@ pub add-requires-clause-read : goal.add-requires-clause-read
 add-requires-clause-read c =
     let row : ℕ → Env = numbered_env c.args.input.now (env_of c.args.env.now) in
     let n = c.loop-number.number in
-    let is = c.row_cell.ensures ∙ ap (row n) c.column_of.ensures in
-    subst (λ a. MayRead a (λ place. value_of c.row_cell.result)) (sym c.loop-number.invariant.of)
+    let is = c.cell.ensures ∙ c.row_column-column.ensures n ∙ ap (row n) c.column_of.ensures in
+    subst (λ a. MayRead a (λ place. value_of c.cell.result)) (sym c.loop-number.invariant.of)
     (read-column c.args.of (row n) _ (number-reads c.args.of row c.args.input.now.rows.count n (omega arith) c.requires) is)

@@ -26,7 +26,7 @@ loop-row-preserved c =
     let row : ℕ → Env = numbered_env g.input.now (env_of c.args.env.now) in
     let value : ℕ → Value = λ m. row m (column_of c.args.of) in
     let same : ℕ → ℕ → Bool = same_at g.places.items g.input.now.rows in
-    let is : value_of c.row_cell-cell.result ≡ value n = c.row_cell-cell.ensures ∙ ap (row n) c.column_of.ensures in
+    let is : value_of c.cell.result ≡ value n = c.cell.ensures ∙ c.row_column-column.ensures n ∙ ap (row n) c.column_of.ensures in
     subst (λ (gs : List (GroupOf ℕ)). AreAfter c.args.of value gs c.add_to_group.new.running.items)
     (ap (λ k. added_at k n (groups_by same (range_with_len 0 n))) (c.index.ensures ∙ get_or_default g.numbers.items n _ 0 (omega (arith, g.each))) ∙ sym (g.numbered n (omega (arith, g.each))))
     (c.in_ok-add_to_group.ensures value (groups_by same (range_with_len 0 n)) n is c.loop-row.invariant)
@@ -45,4 +45,4 @@ add_to_group-requires-clause-read c =
     let g = c.args.groups.now in
     let n = c.loop-row.row in
     let row : ℕ → Env = numbered_env g.input.now (env_of c.args.env.now) in
-    read-column c.args.of (row n) _ (number-reads c.args.of row g.input.now.rows.count n (omega arith) c.requires) (c.row_cell-cell.ensures ∙ ap (row n) c.column_of.ensures)
+    read-column c.args.of (row n) _ (number-reads c.args.of row g.input.now.rows.count n (omega arith) c.requires) (c.cell.ensures ∙ c.row_column-column.ensures n ∙ ap (row n) c.column_of.ensures)
