@@ -1,9 +1,10 @@
 #!/usr/bin/env python3
 """Compares plans of queries with EXISTS, NOT IN and left joins with the cheapest ones, over random join graphs and statistics.
 
-The queries are those of quality.py with something more: a subquery that is asked of one table or of two, NOT IN, both, or a left join whose left side is a
-table, the whole, or a part of the joins. The second search is this script's own: over all bushy trees, and for each subquery over all sets of tables of
-whose rows it may be asked. It pays for each row what the subquery's own plan costs. The rules that there are keep left joins as they stand, so does it.
+The queries are those of quality.py with something more: a subquery that is asked of one table or of two, NOT IN, both, or a left join, or two, that stand
+in the text behind a table, the whole, or a part of the joins. The second search is this script's own: over all bushy trees, and for each subquery and each left
+join over all sets of tables of whose rows it may be asked: those that have its columns. It pays for each row what the subquery's own plan costs, and for a left
+join what joining the rows of the set costs.
 
 Told are, for each kind, shape and number of tables, the geometric mean and the worst of the planned cost over the least one. The seed is fixed, so
 each run asks the same. Wants the program built.
@@ -20,10 +21,10 @@ import sys
 import tempfile
 
 import quality
-from quality import MILLION, Side, all_of, edge_share, filter_share, index_scan_cost, per_million, probe_cost, scan_cost, share
+from quality import MILLION, Side, all_of, edge_share, index_scan_cost, per_million, probe_cost, scan_cost, share
 
 ROOT = pathlib.Path(__file__).resolve().parent.parent
-KINDS = ("exists", "not_in", "both", "left_table", "left_whole", "left_part")
+KINDS = ("exists", "not_in", "both", "left_table", "left_whole", "left_part", "two_lefts")
 HALF = 500_000
 
 
@@ -45,26 +46,18 @@ def table_leaf(table, probes):
     return Leaf(sides[:1], sides[1] if len(sides) > 1 else None, probes)
 
 
-def filtered_leaf(trees, filters, shares):
-    """What is no table: each tree, filtered above."""
-    if not filters:
-        return Leaf(trees, None, [])
-    part = all_of(shares)
-    return Leaf([Side(per_million(one.rows, part), one.cost + one.rows, 1.0) for one in trees], None, [])
-
-
 # ---- the least cost
 
 
-def with_asked(trees, subqueries, whole):
-    """Of each set of subqueries that are asked in a set of tables, the trees; the others by asking one more."""
-    for asked in sorted(range(1 << len(subqueries)), key=lambda bits: bits.bit_count()):
-        for place, (owners, cost) in enumerate(subqueries):
+def with_asked(trees, extras, whole):
+    """Of each set of subqueries and left joins that are asked in a set of tables, the trees; the others by asking one more."""
+    for asked in sorted(range(1 << len(extras)), key=lambda bits: bits.bit_count()):
+        for place, (owners, ask) in enumerate(extras):
             bit = 1 << place
             if asked & bit and owners & whole == owners:
                 for one in trees.get(asked & ~bit, []):
                     if one.shares == 1.0:
-                        trees.setdefault(asked, []).append(Side(per_million(one.rows, HALF), one.cost + one.rows * (1 + cost), 1.0))
+                        trees.setdefault(asked, []).append(ask(one))
         if asked in trees:
             bare = [one for one in trees[asked] if one.shares != 1.0]
             best = {}
@@ -75,8 +68,9 @@ def with_asked(trees, subqueries, whole):
     return trees
 
 
-def least_trees(leaves, edges, subqueries):
-    """The trees of all leaves with all subqueries asked, of which none has fewer rows at no more cost. An edge is two places and a share."""
+def least_trees(leaves, edges, extras):
+    """The trees of all leaves with all subqueries and left joins asked, of which none has fewer rows at no more cost. An edge is two places and a share; what is
+    asked, the places that it wants, and what it makes of a tree."""
     count = len(leaves)
     near = [0] * count
     for a, b, _ in edges:
@@ -84,7 +78,7 @@ def least_trees(leaves, edges, subqueries):
         near[b] |= 1 << a
     sides, around, inner = [None] * (1 << count), [0] * (1 << count), [1.0] * (1 << count)
     for place, leaf in enumerate(leaves):
-        sides[1 << place] = with_asked({0: leaf.sides()}, subqueries, 1 << place)
+        sides[1 << place] = with_asked({0: leaf.sides()}, extras, 1 << place)
         around[1 << place] = near[place]
     shares = [(1 << a | 1 << b, part) for a, b, part in edges]
     probes = [leaf.probes for leaf in leaves]
@@ -114,8 +108,8 @@ def least_trees(leaves, edges, subqueries):
                             best[rows] = min(best.get(rows, math.inf), cost)
             part = (part - 1) & others
         kept = {asked: quality.undominated(best) for asked, best in trees.items()}
-        sides[whole] = with_asked(kept, subqueries, whole)
-    return sides[-1][(1 << len(subqueries)) - 1]
+        sides[whole] = with_asked(kept, extras, whole)
+    return sides[-1][(1 << len(extras)) - 1]
 
 
 # ---- queries
@@ -185,89 +179,73 @@ def with_conditions(text, conditions):
     return text + (" AND " if " WHERE " in text else " WHERE ") + " AND ".join(conditions)
 
 
+def asking(cost):
+    """What a subquery that costs so much a row makes of a tree."""
+    return lambda one: Side(per_million(one.rows, HALF), one.cost + one.rows * (1 + cost), 1.0)
+
+
 def subquery_draw(rng, kind, drawn):
     count = len(drawn.from_order)
     asked = [exists_of(rng, drawn)] if kind in ("exists", "both") else []
     asked += [not_in_of(rng, drawn)] if kind in ("not_in", "both") else []
     places = list(range(count))
     leaves = [table_leaf(drawn.tables[place], probes) for place, probes in zip(places, probes_of(drawn, places))]
-    trees = least_trees(leaves, edges_between(drawn, places), [(owners, cost) for _, owners, cost in asked])
+    trees = least_trees(leaves, edges_between(drawn, places), [(owners, asking(cost)) for _, owners, cost in asked])
     return Asked(drawn, with_conditions(drawn.text, [text for text, _, _ in asked]), min(one.cost for one in trees) + 1)
 
 
-def left_joined(trees, right, column_share, probe):
-    """Each tree joined to the left with a table."""
-    joined = {}
-    for one in trees:
+def left_joining(right, column_share, probe):
+    """What a left join with a table makes of a tree."""
+
+    def joined(one):
         rows = max(per_million(one.rows * right.rows, column_share), one.rows)
         scan = scan_cost(right)
         cost = min(one.cost + scan + one.rows + 2 * right.rows, one.cost + one.rows * scan)
         if probe is not None:
             cost = min(cost, one.cost + one.rows * probe)
-        joined[rows] = min(joined.get(rows, math.inf), cost)
-    return quality.undominated(joined)
+        return Side(rows, cost, 1.0)
+
+    return joined
 
 
-def text_rows(drawn, places):
-    """The rows of joins by ON as they stand in the text: so many has their class, however it is joined."""
-    tables, seen = drawn.tables, {places[0]}
-    rows = tables[places[0]].rows
-    for place in places[1:]:
-        seen.add(place)
-        parts = [edge_share(tables, edge) for edge in drawn.edges if place in (edge[0], edge[2]) and {edge[0], edge[2]} <= seen]
-        rows = quality.passing(rows * tables[place].rows, parts)
-    return rows
+def left_of(rng, drawn, below):
+    """A left join with a further table, tied to one of these: its text, whose rows it joins, and what it makes of a tree."""
+    tables, number = drawn.tables, len(drawn.tables)
+    right = extra_table(rng, 5)
+    tables.append(right)
+    owner, column = rng.choice(below), rng.choice(["id", "k"])
+    keys = [table.keys[name] for table, name in ((tables[owner], "v"), (right, column)) if name in table.keys]
+    part = share(max(keys)) if keys else 100_000
+    probe = probe_cost(right, column) if column in right.keys else None
+    return f" LEFT JOIN t{number} ON t{number}.{column} = t{owner}.v", 1 << drawn.from_order.index(owner), left_joining(right, part, probe)
 
 
 def left_draw(rng, kind, drawn):
     tables, order = drawn.tables, drawn.from_order
-    count, number = len(order), len(tables)
-    right = extra_table(rng, 5)
-    tables.append(right)
-    split = {"left_table": 1, "left_whole": count, "left_part": rng.randrange(2, count)}[kind]
-    below, above = order[:split], order[split:]
-    owner = rng.choice(below)
-    column = rng.choice(["id", "k"])
-    keys = [table.keys[name] for table, name in ((tables[owner], "v"), (right, column)) if name in table.keys]
-    part = share(max(keys)) if keys else 100_000
-    probe = probe_cost(right, column) if column in right.keys else None
-    # The text: joins by ON to the left join, and behind it.
-    text, seen = f"SELECT t{order[0]}.v, t{order[-1]}.w FROM t{order[0]}", {order[0]}
-    left = f" LEFT JOIN t{number} ON t{number}.{column} = t{owner}.v"
+    count = len(order)
+    splits = {"left_table": lambda: [1], "left_whole": lambda: [count], "left_part": lambda: [rng.randrange(2, count)], "two_lefts": lambda: sorted(rng.choices(range(1, count + 1), k=2))}
+    lefts = [(split, left_of(rng, drawn, order[:split])) for split in splits[kind]()]
+    # The text: joins by ON, and left joins among them.
+    text, seen = f"SELECT t{order[0]}.v, t{order[-1]}.w" + "".join(f", t{count + place}.w" for place in range(len(lefts))) + f" FROM t{order[0]}", {order[0]}
     for step, place in enumerate(order[1:], 1):
-        if step == split:
-            text += left
+        text += "".join(left for split, (left, _, _) in lefts if split == step)
         seen.add(place)
         on = [quality.edge_text(edge) for edge in drawn.edges if place in (edge[0], edge[2]) and {edge[0], edge[2]} <= seen]
         text += f" JOIN t{place} ON " + " AND ".join(on)
-    text += left if split == count else ""
+    text += "".join(left for split, (left, _, _) in lefts if split == count)
     where = [condition for place in order for condition in quality.filter_texts(place, tables[place])]
     text += (" WHERE " + " AND ".join(where)) if where else ""
-    # Conditions of the WHERE stay above the left join.
-    bare = [quality.Table(tables[place].rows, tables[place].columns, tables[place].keys, []) for place in below]
-    lower = [table_leaf(table, probes) for table, probes in zip(bare, probes_of(drawn, below))]
-    least = min(one.cost for one in least_trees(lower, edges_between(drawn, below), []))
-    trees = left_joined([Side(text_rows(drawn, below), least, 1.0)], right, part, probe)
-    shares = [filter_share(tables[place], condition) for place in below for condition in tables[place].filters]
-    leaf = filtered_leaf(trees, shares, shares)
-    probes = probes_of(drawn, order)
-    leaves, edges = [leaf], []
-    for place in above:
-        own = [(1 if bit.bit_length() <= split else 1 << (bit.bit_length() - split), cost) for bit, cost in probes[order.index(place)]]
-        leaves.append(table_leaf(tables[place], own))
-    for a, b, one in edges_between(drawn, order):
-        a, b = (0 if place < split else place - split + 1 for place in (a, b))
-        if a != b:
-            edges.append((a, b, one))
-    return Asked(drawn, text, min(one.cost for one in least_trees(leaves, edges, [])) + 1)
+    leaves = [table_leaf(tables[place], probes) for place, probes in zip(order, probes_of(drawn, order))]
+    trees = least_trees(leaves, edges_between(drawn, order), [(owners, ask) for _, (_, owners, ask) in lefts])
+    return Asked(drawn, text, min(one.cost for one in trees) + 1)
 
 
 def fair(rng, kind, shape, count):
     while True:
-        drawn = quality.draw(rng, shape, "on" if kind.startswith("left") else rng.choice(quality.FORMS), count)
+        drawn = quality.draw(rng, shape, "on" if "left" in kind else rng.choice(quality.FORMS), count)
         if quality.least_cost(drawn)[1] < 1:
             continue
-        asked = left_draw(rng, kind, drawn) if kind.startswith("left") else subquery_draw(rng, kind, drawn)
+        asked = left_draw(rng, kind, drawn) if "left" in kind else subquery_draw(rng, kind, drawn)
         if asked.least < quality.MOST_COST:
             return asked
 

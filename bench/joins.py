@@ -2,7 +2,8 @@
 """Joins emp and dept by the command `query`, and has sqlite3 and PostgreSQL do the same with the same rows in the same run.
 
 emp has a million rows and dept 10,000, both with a unique id. Of emp's rows one in twelve and a half has a department (`few`), or each
-has (`all`). Of sqlplan and sqlite3, into memory, each time is processor time (user and system) of the whole process with loading, the
+has (`all`). Left joins are rewritten where a WHERE rejects their padded rows, asks for these, or reads the left side alone, and where nothing of their right side is
+read. Of sqlplan and sqlite3, into memory, each time is processor time (user and system) of the whole process with loading, the
 least of RUNS. sqlite3's ids are INTEGER PRIMARY KEY, which it finds without an index. PostgreSQL's is the time on the clock of one
 session with COPY into tables that aren't logged, at a server that runs: a cluster of the program's own, made and deleted by it.
 The rows are compared. Wants sqlite3 and GNU time (Debian: sqlite3, time) and the program built; PostgreSQL is left out where it isn't
@@ -25,14 +26,26 @@ import time
 
 ROOT = pathlib.Path(__file__).resolve().parent.parent
 DEPTS = 10_000
-TARGET = 0.25
+TARGET, REWRITTEN = 0.25, 0.15
 SCHEMA = """{"tables":[{"name":"emp","columns":[{"name":"id","kind":"INT","not_null":true},
 {"name":"dept","kind":"INT","not_null":true},{"name":"pay","kind":"INT","not_null":true}],"unique":[["id"]],"indexes":[]},
 {"name":"dept","columns":[{"name":"id","kind":"INT","not_null":true},{"name":"name","kind":"TEXT","not_null":true}],
 "unique":[["id"]],"indexes":[]}]}"""
 INNER = "SELECT e.id, d.name FROM emp e JOIN dept d ON e.dept = d.id"
 LEFT = "SELECT e.id, d.name FROM emp e LEFT JOIN dept d ON e.dept = d.id"
-CASES = [("few", "JOIN", INNER), ("all", "JOIN", INNER), ("few", "LEFT JOIN", LEFT), ("all", "LEFT JOIN", LEFT)]
+UNREAD = "SELECT e.id FROM emp e" + "".join(f" LEFT JOIN dept {name} ON {name}.id = e.dept" for name in "abcde")
+CASES = [
+    ("few", "JOIN", INNER, TARGET),
+    ("all", "JOIN", INNER, TARGET),
+    ("few", "LEFT JOIN", LEFT, TARGET),
+    ("all", "LEFT JOIN", LEFT, TARGET),
+    ("few", "LEFT JOIN, WHERE d.name > 'd5'", LEFT + " WHERE d.name > 'd5'", REWRITTEN),
+    ("all", "LEFT JOIN, WHERE e.pay < 100", LEFT + " WHERE e.pay < 100", REWRITTEN),
+    ("few", "LEFT JOIN, WHERE d.id IS NULL", "SELECT e.id FROM emp e LEFT JOIN dept d ON e.dept = d.id WHERE d.id IS NULL", REWRITTEN),
+    ("few", "the same of dept", "SELECT d.id FROM dept d LEFT JOIN emp e ON e.dept = d.id WHERE e.id IS NULL", REWRITTEN),
+    ("few", "five LEFT JOINs, none read", UNREAD, REWRITTEN),
+    ("few", "no join", "SELECT e.id FROM emp e", REWRITTEN),
+]
 SQLITE = """CREATE TABLE emp(id INTEGER PRIMARY KEY, dept INTEGER NOT NULL, pay INTEGER NOT NULL);
 CREATE TABLE dept(id INTEGER PRIMARY KEY, name TEXT NOT NULL);
 .mode csv
@@ -142,7 +155,7 @@ def main():
         for which in ("few", "all"):
             write_rows(top / which, wanted.rows, which)
         with postgres(top) as asks:
-            for which, join, query in CASES:
+            for which, join, query, target in CASES:
                 folder = top / which
                 (folder / "query.sql").write_text(query)
                 words = [wanted.program, "query", folder / "schema.json", folder / "query.sql", folder]
@@ -154,10 +167,10 @@ def main():
                 if asks:
                     (_, its_clock, _), others = least(wanted.runs, asks, POSTGRES.format(folder=folder, query=query), folder)
                     beside = f"{its_clock:.2f} s, {clock:.2f} s, {same_rows(rows, others.splitlines())}"
-                met = "met" if ours / its <= TARGET else "not met"
+                met = "met" if ours / its <= target else "not met"
                 print(
                     f"| {join}, {which} | {len(rows)} | {ours:.3f} s, {memory / 2**20:.0f} MB | {its:.3f} s, {verdict} "
-                    f"| {ours / its:.2f} | {TARGET}, {met} | {beside} |",
+                    f"| {ours / its:.2f} | {target}, {met} | {beside} |",
                     flush=True,
                 )
 
