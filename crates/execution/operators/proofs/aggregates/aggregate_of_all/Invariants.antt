@@ -6,4 +6,4 @@ use Rattle.relations.specs.Relations.{env_of, numbered_env}
 use Rattle.operators.proofs.aggregates.aggregate_of_all.Given as goal
 
 abbrev pub invariant-loop-number : goal.invariant-loop-number
-invariant-loop-number l = IsAfter l.of (map (λ n. numbered_env l.input (env_of l.env) n (column_of l.of)) (range_with_len 0 l.number)) l.running
+invariant-loop-number l = IsAfter l.fn.of (map (λ n. numbered_env l.input (env_of l.fn.env) n (column_of l.fn.of)) (range_with_len 0 l.number)) l.running
