@@ -26,10 +26,17 @@ const MOST_PASSES: usize = 100;
 fn enter_new(
     alloc: Global,
     memo: &Memo<'_>,
-    wishes: Wishes<'_>,
+    takers: &Takers,
+    products: Products,
+    tried: &Tried,
     queue: &mut Queue,
     entered: usize,
 ) -> Result<usize, AllocError> {
+    let wishes = Wishes {
+        takers,
+        products,
+        tried,
+    };
     let count = memo.log().len();
     for line in entered..count {
         queue.begin_line()?;
@@ -75,12 +82,7 @@ fn pass(
         if memo.is_full() {
             break;
         }
-        let wishes = Wishes {
-            takers: &takers,
-            products,
-            tried: &*tried,
-        };
-        entered = enter_new(alloc, memo, wishes, &mut queue, entered)?;
+        entered = enter_new(alloc, memo, &takers, products, tried, &mut queue, entered)?;
         let Some(next) = queue.next() else {
             break;
         };
