@@ -19,7 +19,7 @@ from rule_book import BOOK, Unfit, has_subquery
 SEED, ROUND, PLANS, FAULTS = 19, 100, 2, 4
 MOST_LINES = 120
 """A query with more lines than these is left out, for the time that it takes to look for matches in them."""
-WEIGHTS = [1, 6, 1, 4, 2, 2, 2, 1, 1, 5, 1, 1, 4, 4, 2, 4, 4, 4, 6]
+WEIGHTS = [1, 6, 1, 4, 2, 2, 2, 1, 1, 5, 1, 1, 4, 4, 2, 4, 4, 6, 8]
 """How often each rule is tried, in the order of the book: more often where fewer lines fit."""
 NEVER = ("null", ("i", 1))
 """A condition that no query has."""
@@ -163,6 +163,19 @@ class Growth:
             lower = self.lines.push(("F", ("semi" if len(first) == 1 else "anti", *first, a, b)))
             self.lines.push(("F", ("select", self.rng.choice(plain), lower)))
 
+    def unread(self):
+        """A projection of a left join's left side, or of rows of it that are asked for a Null of the right side, which no plan names, for O6 and O7."""
+        line = self.one(self.expressions("left"))
+        if line is None:
+            return
+        _, _, a, b = self.lines.expression(line)
+        kept = [column for column in self.lines.columns(a) if self.rng.random() < 0.7]
+        over = self.lines.class_of(line)
+        if self.rng.random() < 0.6:
+            asked = [("null", ("c", self.rng.choice(self.lines.columns(b))))]
+            over = self.lines.push(("F", ("select", asked, over)))
+        self.lines.push(("F", ("keep", kept, over)))
+
     def reading_out(self):
         """A join whose condition reads a column of a third class, below a join with that class, which no plan names: J2's condition fails of it."""
         gets = self.expressions("get")
@@ -203,7 +216,7 @@ class Growth:
 
     def grow(self, steps):
         ways = [self.by_rule] * 10 + [self.learn] * 2 + [self.split_select, self.split_keep, self.keep_all, self.make_distinct, self.make_group]
-        ways += [self.semi, self.reading_out]
+        ways += [self.semi, self.reading_out, self.unread, self.unread]
         for _ in range(steps):
             self.rng.choice(ways)()
 

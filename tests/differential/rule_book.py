@@ -207,7 +207,8 @@ def keep_of_left_side(lines, top, below):
     (_, kept, _), (_, conditions, left, right) = top, below
     own = lines.columns(right)
     is_other = lambda term: term[0] == "i" or term[0] == "c" and term[1] not in own
-    pinned = {one[1] for kind, *terms in conditions if kind == "=" for one, other in (terms, terms[::-1]) if one[0] == "c" and is_other(other)}
+    equal = [condition[2:] for condition in conditions if condition[:2] == ("compare", "=")]
+    pinned = {one[1] for terms in equal for one, other in (terms, terms[::-1]) if one[0] == "c" and is_other(other)}
     holds(is_elsewhere(lines, kept, right) and any(set(key) <= pinned for key in lines.keys(right)))
     return ("keep", kept, left)
 

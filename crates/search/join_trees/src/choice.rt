@@ -3,6 +3,7 @@
 use crate::chosen::JoinTree;
 use crate::graph::{Graph, Guesses};
 use crate::regions::{Parts, Region};
+use crate::sets::LeafSet;
 use crate::subqueries::Subquery;
 use costs::Cardinalities;
 use logs::Log;
@@ -13,8 +14,32 @@ use std::alloc::{AllocError, Global};
 #[derive(Drop)]
 pub struct Choice {
     pub tree: JoinTree,
+    /// The rows of the whole, of which no subquery is asked.
+    rows: u64,
     pub order: Vec<usize>,
     pub subqueries: Vec<Subquery>,
+}
+
+/// The rows of the whole. In the tree they are none, since nothing there stands above them.
+fn whole_rows(graph: &Graph, tree: &JoinTree) -> u64 {
+    let root = tree.root();
+    let left = tree.joined(root.left);
+    let right = tree.joined(root.right);
+    if root.set.count() < 2 {
+        return root.rows;
+    }
+    graph.joined_rows(left.set, right.set, left.rows.saturating_mul(right.rows))
+}
+
+impl Choice {
+    /// The rows of a set of the tree.
+    pub fn rows(&self, set: LeafSet) -> u64 {
+        if set == self.tree.root().set {
+            self.rows
+        } else {
+            self.tree.joined(set).rows
+        }
+    }
 }
 
 /// Chooses the tree of a region, by what is guessed of its leaves and conditions.
@@ -34,9 +59,11 @@ pub fn choose(
     let graph = Graph::of(alloc, guesses, region, parts)?;
     let tree = JoinTree::of(alloc, &graph)?;
     let order = tree.order(alloc, &graph)?;
+    let rows = whole_rows(&graph, &tree);
     let Graph { subqueries, .. } = graph;
     Ok(Choice {
         tree,
+        rows,
         order,
         subqueries,
     })

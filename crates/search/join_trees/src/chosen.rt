@@ -655,6 +655,11 @@ impl JoinTree {
         }
     }
 
+    /// Its sets: each behind its sides.
+    pub fn sets(&self) -> &[Joined] {
+        self.joined.as_slice()
+    }
+
     /// The whole.
     pub fn root(&self) -> Joined {
         self.joined.last().copied().unwrap_or(NOTHING)

@@ -11,6 +11,7 @@ mod connected;
 mod equations;
 mod estimates;
 mod graph;
+mod left_joins;
 mod regions;
 mod sets;
 mod subqueries;
@@ -19,6 +20,7 @@ pub use choice::{Choice, choose};
 pub use chosen::{JoinTree, Joined};
 pub use connected::falls_apart;
 pub use graph::mentioned;
+pub use left_joins::Known;
 pub use regions::{
     Parts, Region, Sides, conditions_of, founding_sides, parts_of, place_of, regions_of,
 };

@@ -5,6 +5,7 @@
 #![tactic(auto)]
 
 mod founding;
+mod lowering;
 mod nodes;
 mod placing;
 mod raising;

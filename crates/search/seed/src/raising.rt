@@ -9,7 +9,7 @@ use query::ids::id_of;
 use std::alloc::{AllocError, Global};
 
 /// The lines of a class that are outer joins.
-fn left_joins_of(
+pub(crate) fn left_joins_of(
     alloc: Global,
     memo: &Memo<'_>,
     class: ClassId,

@@ -1,6 +1,7 @@
 //! The seed of a log.
 
 use crate::founding::found_tree;
+use crate::lowering::{Chosen, place_left_joins};
 use crate::nodes::Nodes;
 use crate::placing::{Asked, place_subqueries};
 use crate::reaching::reach;
@@ -70,6 +71,7 @@ fn built(
 fn seed_tree(
     alloc: Global,
     memo: &mut Memo<'_>,
+    statistics: &Statistics,
     region: Region,
     parts: &Parts,
     choice: &Choice,
@@ -97,7 +99,19 @@ fn seed_tree(
         Some(line) => sunk(alloc, memo, &mut nodes, wishes, line, top)?,
         None => combed(alloc, memo, &mut nodes, wishes.order, top)?,
     };
-    reach(alloc, memo, &mut nodes, wishes, tree, top)
+    reach(alloc, memo, &mut nodes, wishes, tree, top)?;
+    let chosen = Chosen {
+        parts,
+        choice,
+        statistics,
+    };
+    match memo.log().member(region.select.unwrap_or(region.join)) {
+        Some(member) => {
+            let whole = member.class;
+            place_left_joins(alloc, memo, chosen, whole, classes)
+        }
+        None => Ok(()),
+    }
 }
 
 /// Seeds a region. What its tree is guessed to cost, if one is chosen.
@@ -112,7 +126,7 @@ fn seed_region(
         return Ok(None);
     }
     let choice = choose(alloc, memo.log(), statistics, region, &parts)?;
-    seed_tree(alloc, memo, region, &parts, &choice)?;
+    seed_tree(alloc, memo, statistics, region, &parts, &choice)?;
     Ok(Some(choice.tree.root().cost))
 }
 

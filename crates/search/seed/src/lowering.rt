@@ -1,0 +1,214 @@
+//! Outer joins above a region go below its joins, to the rows of which they are asked at least cost.
+
+use crate::founding::{SetClass, class_of};
+use crate::nodes::{join_line, line_over, step};
+use crate::raising::left_joins_of;
+use algebra::{ClassId, Conjuncts, Expr, LineId};
+use bindings::BoundLines;
+use book::RuleName;
+use join_trees::{Choice, JoinTree, Known, LeafSet, MOST_LEAVES, Parts};
+use memo::Memo;
+use statistics::Statistics;
+use std::alloc::{AllocError, Global};
+
+/// So many outer joins over one region are looked at.
+const MOST_LEFT_JOINS: usize = 64;
+
+/// What is chosen for a region.
+#[derive(Clone, Copy)]
+pub(crate) struct Chosen<'a> {
+    pub parts: &'a Parts,
+    pub choice: &'a Choice,
+    pub statistics: &'a Statistics,
+}
+
+/// An outer join, whose left side is the class of a set.
+#[derive(Drop)]
+struct Padded {
+    line: LineId,
+    class: ClassId,
+    condition: Conjuncts,
+    right: ClassId,
+}
+
+/// What a line joins to the left, if it is an outer join of the class.
+fn left_join_at(
+    alloc: Global,
+    memo: &Memo<'_>,
+    line: LineId,
+    left: ClassId,
+) -> Result<Option<Padded>, AllocError> {
+    let Some(member) = memo.log().member(line) else {
+        return Ok(None);
+    };
+    match member.expr {
+        Expr::LeftJoin(condition, own, right) if memo.log().are_same(*own, left) => {
+            Ok(Some(Padded {
+                line,
+                class: member.class,
+                condition: condition.copy(alloc)?,
+                right: *right,
+            }))
+        }
+        _ => Ok(None),
+    }
+}
+
+/// The first outer join whose left side the class is, if there is one.
+fn padded_over(
+    alloc: Global,
+    memo: &Memo<'_>,
+    class: ClassId,
+) -> Result<Option<Padded>, AllocError> {
+    for line in memo.parents(class)? {
+        if let Some(found) = left_join_at(alloc, memo, line, class)? {
+            return Ok(Some(found));
+        }
+    }
+    Ok(None)
+}
+
+/// The class of a set is another one from now on.
+fn put(classes: &mut Vec<SetClass>, set: LeafSet, class: ClassId) -> Result<(), AllocError> {
+    for one in classes.iter_mut() {
+        if one.set == set {
+            one.class = class;
+            return Ok(());
+        }
+    }
+    classes.push(SetClass { set, class })?;
+    Ok(())
+}
+
+/// A line of the class that joins these sides in this order, turned for it where it joins them in the other one.
+fn join_over(
+    alloc: Global,
+    memo: &mut Memo<'_>,
+    class: ClassId,
+    left: ClassId,
+    right: ClassId,
+) -> Result<Option<LineId>, AllocError> {
+    if let Some(line) = line_over(alloc, memo, class, Some(left), right)? {
+        return Ok(Some(line));
+    }
+    match line_over(alloc, memo, class, Some(right), left)? {
+        Some(line) => step(alloc, memo, RuleName::JoinCommutes, BoundLines::One(line)),
+        None => Ok(None),
+    }
+}
+
+/// The side of a set that has all of the leaves, and the other one.
+fn sides_to(tree: &JoinTree, set: LeafSet, home: LeafSet) -> Option<(LeafSet, LeafSet)> {
+    let joined = tree.joined(set);
+    if set.count() < 2 || home.is_empty() {
+        None
+    } else if home.is_within(joined.left) {
+        Some((joined.left, joined.right))
+    } else if home.is_within(joined.right) {
+        Some((joined.right, joined.left))
+    } else {
+        None
+    }
+}
+
+/// The outer join of the side of a set that has the home, where one of the set is brought below its join.
+fn lowered(
+    alloc: Global,
+    memo: &mut Memo<'_>,
+    classes: &[SetClass],
+    line: LineId,
+    set: LeafSet,
+    sides: (LeafSet, LeafSet),
+) -> Result<Option<LineId>, AllocError> {
+    let (Some(whole), Some(below), Some(beside)) = (
+        class_of(classes, set),
+        class_of(classes, sides.0),
+        class_of(classes, sides.1),
+    ) else {
+        return Ok(None);
+    };
+    let Some(join) = join_over(alloc, memo, whole, below, beside)? else {
+        return Ok(None);
+    };
+    let lines = BoundLines::Two(line, join);
+    let Some(made) = step(alloc, memo, RuleName::LeftJoinBelowJoin, lines)? else {
+        return Ok(None);
+    };
+    let Some(made) = join_line(memo, made) else {
+        return Ok(None);
+    };
+    for line in left_joins_of(alloc, memo, made.left)? {
+        if left_join_at(alloc, memo, line, below)?.is_some() {
+            return Ok(Some(line));
+        }
+    }
+    Ok(None)
+}
+
+/// Brings an outer join of the whole to its home. The sets on the way have its class from then on.
+fn lower_to(
+    alloc: Global,
+    memo: &mut Memo<'_>,
+    tree: &JoinTree,
+    classes: &mut Vec<SetClass>,
+    line: LineId,
+    home: LeafSet,
+) -> Result<(), AllocError> {
+    let mut line = line;
+    let mut set = tree.root().set;
+    for _ in 0..MOST_LEAVES {
+        let next = match sides_to(tree, set, home) {
+            Some(sides) if set != home => {
+                lowered(alloc, memo, classes.as_slice(), line, set, sides)?.map(|line| (
+                    line, sides.0,
+                ))
+            }
+            _ => None,
+        };
+        if let Some(member) = memo.log().member(line) {
+            let class = member.class;
+            put(classes, set, class)?;
+        }
+        match next {
+            Some((below, side)) => {
+                line = below;
+                set = side;
+            }
+            None => break,
+        }
+    }
+    Ok(())
+}
+
+/// Adds lines by which the outer joins above a region, whose class this is, are asked where that costs least: of fewer leaves than all, where few rows are joined
+/// with many.
+pub(crate) fn place_left_joins(
+    alloc: Global,
+    memo: &mut Memo<'_>,
+    chosen: Chosen<'_>,
+    whole: ClassId,
+    mut classes: Vec<SetClass>,
+) -> Result<(), AllocError> {
+    let tree = &chosen.choice.tree;
+    let mut top = whole;
+    put(&mut classes, tree.root().set, top)?;
+    for _ in 0..MOST_LEFT_JOINS {
+        let Some(found) = padded_over(alloc, memo, top)? else {
+            break;
+        };
+        let known = Known {
+            log: memo.log(),
+            statistics: chosen.statistics,
+        };
+        let home = known.home_of(
+            alloc,
+            chosen.parts,
+            chosen.choice,
+            &found.condition,
+            found.right,
+        )?;
+        top = found.class;
+        lower_to(alloc, memo, tree, &mut classes, found.line, home)?;
+    }
+    Ok(())
+}
