@@ -2,8 +2,8 @@
 
 use crate::chosen::JoinTree;
 use crate::graph::{Graph, Guesses};
+use crate::left_joins::OuterJoin;
 use crate::regions::{Parts, Region};
-use crate::sets::LeafSet;
 use crate::subqueries::Subquery;
 use costs::Cardinalities;
 use logs::Log;
@@ -14,41 +14,18 @@ use std::alloc::{AllocError, Global};
 #[derive(Drop)]
 pub struct Choice {
     pub tree: JoinTree,
-    /// The rows of the whole, of which no subquery is asked.
-    rows: u64,
     pub order: Vec<usize>,
     pub subqueries: Vec<Subquery>,
 }
 
-/// The rows of the whole. In the tree they are none, since nothing there stands above them.
-fn whole_rows(graph: &Graph, tree: &JoinTree) -> u64 {
-    let root = tree.root();
-    let left = tree.joined(root.left);
-    let right = tree.joined(root.right);
-    if root.set.count() < 2 {
-        return root.rows;
-    }
-    graph.joined_rows(left.set, right.set, left.rows.saturating_mul(right.rows))
-}
-
-impl Choice {
-    /// The rows of a set of the tree.
-    pub fn rows(&self, set: LeafSet) -> u64 {
-        if set == self.tree.root().set {
-            self.rows
-        } else {
-            self.tree.joined(set).rows
-        }
-    }
-}
-
-/// Chooses the tree of a region, by what is guessed of its leaves and conditions.
+/// Chooses the tree of a region, by what is guessed of its leaves and conditions, and of the outer joins above it, the lowest first.
 pub fn choose(
     alloc: Global,
     log: &Log<'_>,
     statistics: &Statistics,
     region: Region,
     parts: &Parts,
+    outer: &[OuterJoin<'_>],
 ) -> Result<Choice, AllocError> {
     let cardinalities = Cardinalities::of(alloc, statistics, log)?;
     let guesses = Guesses {
@@ -56,14 +33,13 @@ pub fn choose(
         statistics,
         cardinalities: &cardinalities,
     };
-    let graph = Graph::of(alloc, guesses, region, parts)?;
+    let mut graph = Graph::of(alloc, guesses, region, parts)?;
+    graph.note_outer(alloc, guesses, &parts.leaves, outer)?;
     let tree = JoinTree::of(alloc, &graph)?;
     let order = tree.order(alloc, &graph)?;
-    let rows = whole_rows(&graph, &tree);
     let Graph { subqueries, .. } = graph;
     Ok(Choice {
         tree,
-        rows,
         order,
         subqueries,
     })

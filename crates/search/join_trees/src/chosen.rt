@@ -1,9 +1,8 @@
 //! The join tree that is chosen for a region.
 
-use crate::estimates::{ALL, Share, per_million};
-use crate::graph::Graph;
+use crate::estimates::{ALL, Share};
+use crate::graph::{Extra, Graph};
 use crate::sets::{LeafSet, MOST_LEAVES};
-use crate::subqueries::Subquery;
 use std::alloc::{AllocError, Global};
 
 /// Up to so many leaves every subset is looked at.
@@ -12,12 +11,12 @@ const MOST_EXHAUSTIVE: usize = 12;
 /// As many subsets as so many leaves have.
 const MOST_SUBSETS: usize = 4096;
 
-/// So many leaves and subqueries are placed together at most, and so many subqueries. For others a place is taken in the tree that is chosen without them.
+/// So many leaves and extras are placed together at most, and so many extras: subqueries and outer joins. For others a place is taken in the tree that is chosen without them.
 const MOST_PLACED: usize = 13;
 
 const MOST_ASKED: usize = 3;
 
-/// As many sets as so many subqueries have.
+/// As many sets as so many extras have.
 const MOST_ASKED_SETS: usize = 8;
 
 /// What a row costs above its set, where its matches are found by an index that isn't unique. By this weight a tree is kept for its few rows.
@@ -77,11 +76,11 @@ impl Joined {
         self.cost.saturating_add(self.rows.saturating_mul(each))
     }
 
-    /// Its rows that make the subquery of this bit true.
-    fn asking(self, subquery: &Subquery, bit: u8) -> Joined {
+    /// Its rows, of which the extra of this bit is asked.
+    fn asking(self, extra: Extra, bit: u8) -> Joined {
         Joined {
-            rows: per_million(self.rows, subquery.share),
-            cost: self.weight(subquery.cost),
+            rows: extra.rows(self.rows),
+            cost: self.cost.saturating_add(extra.cost(self.rows)),
             asked: self.asked | bit,
             last: bit,
             is_narrow: false,
@@ -130,7 +129,7 @@ impl Kept {
     }
 }
 
-/// A join tree: its sets, each with its sides, the whole last; and for each subquery the set whose rows it is asked of.
+/// A join tree: its sets, each with its sides, the whole last; and for each subquery and behind these for each outer join the set whose rows it is asked of.
 #[derive(Drop)]
 pub struct JoinTree {
     joined: Vec<Joined>,
@@ -352,12 +351,12 @@ impl KeptOfSet {
 /// The bits of subqueries in sets of those that are asked, by their places.
 const BITS: [u8; MOST_ASKED] = [1, 2, 4];
 
-/// How many of so many rows make the subqueries true that are asked of them.
+/// How many rows come of so many where these are asked of them.
 fn asked_rows(graph: &Graph, asked: u8, rows: u64) -> u64 {
     let mut left = rows;
-    for (subquery, bit) in graph.subqueries.iter().zip(BITS) {
+    for (extra, bit) in graph.extras.iter().zip(BITS) {
         if asked & bit != 0 {
-            left = per_million(left, subquery.share);
+            left = extra.rows(left);
         }
     }
     left
@@ -402,16 +401,16 @@ fn look_at_sides(
     }
 }
 
-/// Looks at what makes subqueries true that are asked of the rows of a set.
+/// Looks at what comes of the rows of a set of which something is asked.
 fn look_at_asking(graph: &Graph, set: LeafSet, asked_sets: u8, best: &mut KeptOfSet) {
     for asked in 0..asked_sets {
-        for (subquery, bit) in graph.subqueries.iter().zip(BITS) {
-            if asked & bit != 0 && subquery.leaves.is_within(set) {
+        for (extra, bit) in graph.extras.iter().zip(BITS) {
+            if asked & bit != 0 && extra.leaves().is_within(set) {
                 let below = best.at(asked & !bit);
                 if let Some(kept) = best.at_mut(asked) {
                     for tree in [below.cheap, below.narrow] {
                         if !tree.set.is_empty() && !tree.is_bare {
-                            kept.keep(tree.asking(subquery, bit));
+                            kept.keep(tree.asking(*extra, bit));
                         }
                     }
                 }
@@ -444,10 +443,10 @@ fn best_of(graph: &Graph, cells: &Cells, set: LeafSet) -> KeptOfSet {
     best
 }
 
-/// How many subqueries are placed together with the leaves.
+/// How many extras are placed together with the leaves.
 fn count_placed(graph: &Graph) -> usize {
     let most = MOST_PLACED.saturating_sub(graph.leaves.len());
-    most.min(MOST_ASKED).min(graph.subqueries.len())
+    most.min(MOST_ASKED).min(graph.extras.len())
 }
 
 /// What is kept of all subsets of a few leaves.
@@ -467,7 +466,7 @@ fn all_subsets(alloc: Global, graph: &Graph, whole: LeafSet) -> Result<Cells, Al
             sets.saturating_mul(usize::from(asked_sets)),
         )?,
         asked_sets,
-        last: if placed == graph.subqueries.len() {
+        last: if placed == graph.extras.len() {
             whole
         } else {
             LeafSet::EMPTY
@@ -488,7 +487,7 @@ fn least_tree(alloc: Global, graph: &Graph, count: usize) -> Result<JoinTree, Al
     let whole = LeafSet::first(count);
     let cells = all_subsets(alloc, graph, whole)?;
     let mut joined = Vec::new(alloc);
-    let mut homes = Vec::from_elem(alloc, LeafSet::EMPTY, graph.subqueries.len())?;
+    let mut homes = Vec::from_elem(alloc, LeafSet::EMPTY, graph.extras.len())?;
     let mut open = Vec::new(alloc);
     open.push(cells.at(whole, cells.asked_sets.saturating_sub(1)).cheap)?;
     for _ in 0..MOST_SUBSETS {
@@ -590,7 +589,7 @@ fn greedy_tree(alloc: Global, graph: &Graph, count: usize) -> Result<JoinTree, A
             sets.push(join_pair(graph, &mut parts, pair))?;
         }
     }
-    let homes = Vec::from_elem(alloc, LeafSet::EMPTY, graph.subqueries.len())?;
+    let homes = Vec::from_elem(alloc, LeafSet::EMPTY, graph.extras.len())?;
     Ok(JoinTree {
         joined: sets,
         homes,
@@ -606,8 +605,8 @@ impl JoinTree {
         } else {
             greedy_tree(alloc, graph, count)?
         };
-        for (place, subquery) in graph.subqueries.iter().enumerate() {
-            let home = tree.narrowest(subquery.leaves);
+        for (place, extra) in graph.extras.iter().enumerate() {
+            let home = tree.narrowest(extra.leaves());
             if let Some(found) = tree.homes.get_mut(place) {
                 if found.is_empty() {
                     *found = home;
@@ -653,11 +652,6 @@ impl JoinTree {
         } else {
             side
         }
-    }
-
-    /// Its sets: each behind its sides.
-    pub fn sets(&self) -> &[Joined] {
-        self.joined.as_slice()
     }
 
     /// The whole.

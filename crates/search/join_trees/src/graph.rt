@@ -2,6 +2,7 @@
 
 use crate::equations::{Equation, Equations};
 use crate::estimates::{ALL, Share, filter_cost, per_million, probed, scan_cost};
+use crate::left_joins::{OuterJoin, Padding};
 use crate::regions::{Parts, Region, conditions_of};
 use crate::sets::{LeafSet, MOST_LEAVES};
 use crate::subqueries::{Subquery, class_cost, subqueries_of};
@@ -60,6 +61,46 @@ pub struct Graph {
     known: Vec<Known>,
     /// The conditions that name classes, the dearest first.
     pub subqueries: Vec<Subquery>,
+    /// These, and behind them the outer joins above the region.
+    pub extras: Vec<Extra>,
+}
+
+/// What may be asked of the rows of a set, which has other rows then.
+#[derive(Clone, Copy, Drop)]
+pub enum Extra {
+    /// A condition with a subquery, over leaves of which it mentions a column: what it costs to ask it of one row, and which share makes it true.
+    Subquery(LeafSet, u64, u64),
+    LeftJoin(Padding),
+}
+
+impl Extra {
+    fn of(subquery: &Subquery) -> Extra {
+        Extra::Subquery(subquery.leaves, subquery.cost, subquery.share)
+    }
+
+    /// The leaves that it wants.
+    pub fn leaves(self) -> LeafSet {
+        match self {
+            Extra::Subquery(leaves, _, _) => leaves,
+            Extra::LeftJoin(padding) => padding.leaves,
+        }
+    }
+
+    /// What it costs to ask it of so many rows.
+    pub fn cost(self, rows: u64) -> u64 {
+        match self {
+            Extra::Subquery(_, each, _) => rows.saturating_mul(each),
+            Extra::LeftJoin(padding) => padding.cost(rows),
+        }
+    }
+
+    /// The rows that come of so many.
+    pub fn rows(self, rows: u64) -> u64 {
+        match self {
+            Extra::Subquery(_, _, share) => per_million(rows, share),
+            Extra::LeftJoin(padding) => padding.rows(rows),
+        }
+    }
 }
 
 /// What is known of the whole before a region is looked at.
@@ -274,6 +315,7 @@ impl Graph {
             equated,
             known: known_joins(alloc, guesses, parts)?,
             subqueries: Vec::new(alloc),
+            extras: Vec::new(alloc),
         })
     }
 
@@ -309,6 +351,24 @@ impl Graph {
             self.note(alloc, guesses, &parts.leaves, whole, condition)?;
         }
         self.subqueries = subqueries_of(alloc, guesses, &parts.leaves, line)?;
+        for subquery in &self.subqueries {
+            self.extras.push(Extra::of(subquery))?;
+        }
+        Ok(())
+    }
+
+    /// Notes the outer joins above the region.
+    pub fn note_outer(
+        &mut self,
+        alloc: Global,
+        guesses: Guesses<'_, '_>,
+        leaves: &[ClassId],
+        outer: &[OuterJoin<'_>],
+    ) -> Result<(), AllocError> {
+        for one in outer {
+            let padding = Padding::of(alloc, guesses, leaves, *one)?;
+            self.extras.push(Extra::LeftJoin(padding))?;
+        }
         Ok(())
     }
 

@@ -20,7 +20,7 @@ pub use choice::{Choice, choose};
 pub use chosen::{JoinTree, Joined};
 pub use connected::falls_apart;
 pub use graph::mentioned;
-pub use left_joins::Known;
+pub use left_joins::OuterJoin;
 pub use regions::{
     Parts, Region, Sides, conditions_of, founding_sides, parts_of, place_of, regions_of,
 };

@@ -4,7 +4,7 @@
 //! tree are founded before steps come to them by other joins, and have the rows that the tree was chosen by.
 
 use algebra::{ClassId, Condition, Conjuncts, Expr};
-use join_trees::{JoinTree, Joined, LeafSet, Parts, Region, conditions_of, mentioned};
+use join_trees::{Choice, JoinTree, Joined, LeafSet, Parts, Region, conditions_of, mentioned};
 use memo::Memo;
 use std::alloc::{AllocError, Global};
 
@@ -123,8 +123,9 @@ pub(crate) fn found_tree(
     memo: &mut Memo<'_>,
     region: Region,
     parts: &Parts,
-    tree: &JoinTree,
+    choice: &Choice,
 ) -> Result<Vec<SetClass>, AllocError> {
+    let tree = &choice.tree;
     let placed = placed_conditions(alloc, memo, region, parts)?;
     let mut classes = Vec::new(alloc);
     for (place, class) in parts.leaves.iter().enumerate() {
@@ -136,7 +137,7 @@ pub(crate) fn found_tree(
     }
     let joins = tree.joins(alloc)?;
     for joined in joins.iter().rev() {
-        if joined.set != tree.root().set || !tree.homes.is_empty() {
+        if joined.set != tree.root().set || !choice.subqueries.is_empty() {
             let set = joined.set;
             let class = found_join(
                 alloc,

@@ -6,29 +6,20 @@ use crate::raising::left_joins_of;
 use algebra::{ClassId, Conjuncts, Expr, LineId};
 use bindings::BoundLines;
 use book::RuleName;
-use join_trees::{Choice, JoinTree, Known, LeafSet, MOST_LEAVES, Parts};
+use join_trees::{Choice, JoinTree, LeafSet, MOST_LEAVES};
 use memo::Memo;
-use statistics::Statistics;
 use std::alloc::{AllocError, Global};
 
 /// So many outer joins over one region are looked at.
 const MOST_LEFT_JOINS: usize = 64;
 
-/// What is chosen for a region.
-#[derive(Clone, Copy)]
-pub(crate) struct Chosen<'a> {
-    pub parts: &'a Parts,
-    pub choice: &'a Choice,
-    pub statistics: &'a Statistics,
-}
-
 /// An outer join, whose left side is the class of a set.
 #[derive(Drop)]
-struct Padded {
+pub(crate) struct Padded {
     line: LineId,
     class: ClassId,
-    condition: Conjuncts,
-    right: ClassId,
+    pub condition: Conjuncts,
+    pub right: ClassId,
 }
 
 /// What a line joins to the left, if it is an outer join of the class.
@@ -180,35 +171,39 @@ fn lower_to(
     Ok(())
 }
 
-/// Adds lines by which the outer joins above a region, whose class this is, are asked where that costs least: of fewer leaves than all, where few rows are joined
-/// with many.
-pub(crate) fn place_left_joins(
+/// The outer joins above the class of a region: over it the first, and over each the next.
+pub(crate) fn padded_above(
     alloc: Global,
-    memo: &mut Memo<'_>,
-    chosen: Chosen<'_>,
+    memo: &Memo<'_>,
     whole: ClassId,
-    mut classes: Vec<SetClass>,
-) -> Result<(), AllocError> {
-    let tree = &chosen.choice.tree;
+) -> Result<Vec<Padded>, AllocError> {
+    let mut above = Vec::new(alloc);
     let mut top = whole;
-    put(&mut classes, tree.root().set, top)?;
     for _ in 0..MOST_LEFT_JOINS {
         let Some(found) = padded_over(alloc, memo, top)? else {
             break;
         };
-        let known = Known {
-            log: memo.log(),
-            statistics: chosen.statistics,
-        };
-        let home = known.home_of(
-            alloc,
-            chosen.parts,
-            chosen.choice,
-            &found.condition,
-            found.right,
-        )?;
         top = found.class;
-        lower_to(alloc, memo, tree, &mut classes, found.line, home)?;
+        above.push(found)?;
+    }
+    Ok(above)
+}
+
+/// Adds lines by which the outer joins above a region, whose class this is, are asked where the tree has them: of fewer leaves than all, where few rows are
+/// joined with many.
+pub(crate) fn place_left_joins(
+    alloc: Global,
+    memo: &mut Memo<'_>,
+    choice: &Choice,
+    above: &[Padded],
+    whole: ClassId,
+    mut classes: Vec<SetClass>,
+) -> Result<(), AllocError> {
+    let tree = &choice.tree;
+    put(&mut classes, tree.root().set, whole)?;
+    let homes = tree.homes.iter().skip(choice.subqueries.len());
+    for (one, home) in above.iter().zip(homes) {
+        lower_to(alloc, memo, tree, &mut classes, one.line, *home)?;
     }
     Ok(())
 }

@@ -1,15 +1,15 @@
 //! The seed of a log.
 
 use crate::founding::found_tree;
-use crate::lowering::{Chosen, place_left_joins};
+use crate::lowering::{Padded, padded_above, place_left_joins};
 use crate::nodes::Nodes;
 use crate::placing::{Asked, place_subqueries};
 use crate::reaching::reach;
 use crate::sinking::{Wishes, combed, lowered, sunk};
 use algebra::ClassId;
 use join_trees::{
-    Choice, JoinTree, LeafSet, MOST_LEAVES, Parts, Region, choose, founding_sides, parts_of,
-    place_of, regions_of,
+    Choice, JoinTree, LeafSet, MOST_LEAVES, OuterJoin, Parts, Region, choose, founding_sides,
+    parts_of, place_of, regions_of,
 };
 use memo::Memo;
 use statistics::Statistics;
@@ -71,13 +71,13 @@ fn built(
 fn seed_tree(
     alloc: Global,
     memo: &mut Memo<'_>,
-    statistics: &Statistics,
     region: Region,
     parts: &Parts,
     choice: &Choice,
+    above: &[Padded],
 ) -> Result<(), AllocError> {
     let tree = &choice.tree;
-    let classes = found_tree(alloc, memo, region, parts, tree)?;
+    let classes = found_tree(alloc, memo, region, parts, choice)?;
     let asked = Asked {
         tree,
         classes: classes.as_slice(),
@@ -100,17 +100,15 @@ fn seed_tree(
         None => combed(alloc, memo, &mut nodes, wishes.order, top)?,
     };
     reach(alloc, memo, &mut nodes, wishes, tree, top)?;
-    let chosen = Chosen {
-        parts,
-        choice,
-        statistics,
-    };
+    let whole = class_of_region(memo, region);
+    place_left_joins(alloc, memo, choice, above, whole, classes)
+}
+
+/// The class of a region.
+fn class_of_region(memo: &Memo<'_>, region: Region) -> ClassId {
     match memo.log().member(region.select.unwrap_or(region.join)) {
-        Some(member) => {
-            let whole = member.class;
-            place_left_joins(alloc, memo, chosen, whole, classes)
-        }
-        None => Ok(()),
+        Some(member) => member.class,
+        None => region.join,
     }
 }
 
@@ -125,8 +123,23 @@ fn seed_region(
     if parts.leaves.len() > MOST_LEAVES {
         return Ok(None);
     }
-    let choice = choose(alloc, memo.log(), statistics, region, &parts)?;
-    seed_tree(alloc, memo, statistics, region, &parts, &choice)?;
+    let above = padded_above(alloc, memo, class_of_region(memo, region))?;
+    let mut outer = Vec::new(alloc);
+    for one in &above {
+        outer.push(OuterJoin {
+            condition: &one.condition,
+            right: one.right,
+        })?;
+    }
+    let choice = choose(
+        alloc,
+        memo.log(),
+        statistics,
+        region,
+        &parts,
+        outer.as_slice(),
+    )?;
+    seed_tree(alloc, memo, region, &parts, &choice, above.as_slice())?;
     Ok(Some(choice.tree.root().cost))
 }
 
