@@ -13,5 +13,5 @@ loop-preserved c = (grown_along _ _ _ _ _ c.loop.invariant.0 c.loop.invariant.1 
 pub returns-in_err-pass-clause-grows : goal.returns-in_err-pass-clause-grows
 returns-in_err-pass-clause-grows c = (extended_along _ _ _ _ c.loop.invariant.0.extends (subst (λ n. Extends n c.loop.memo.log c.pass.new.memo.log) c.loop.invariant.1 c.pass.ensures.extends)).grows
 
-pub returns-then-len-before-clause-direct : goal.returns-then-len-before-clause-direct
-returns-then-len-before-clause-direct c = (grown_along _ _ _ _ _ c.loop.invariant.0 c.loop.invariant.1 c.pass.ensures.extends c.in_ok-pass.ensures.direct).direct
+pub returns-clause-direct : goal.returns-clause-direct
+returns-clause-direct c = (grown_along _ _ _ _ _ c.loop.invariant.0 c.loop.invariant.1 c.pass.ensures.extends c.in_ok-pass.ensures.direct).direct
