@@ -1,8 +1,10 @@
-use Rattle.std.proofs.Common.{refl, ◌∙◌, subst}
-use Rattle.memo.specs.Growth.{Extends}
+use Rattle.std.proofs.Common.{refl, sym, ◌∙◌, subst}
+use Rattle.memo.specs.declared.lines.Memo.{Memo}
+use Rattle.memo.specs.Growth.{Extends, FoundsDirectly}
 use Rattle.memo.proofs.Growth.{extended_along}
 use Rattle.explore.proofs.Along.{grown_at_first, grown_along}
 use Rattle.explore.proofs.exploring.apply_all.Goals as goal
+use Rattle.explore.proofs.exploring.apply_all.Goals.{else-loop-test, then-loop-test+in_ok-pass+then-len-before}
 
 pub loop-init : goal.loop-init
 loop-init c = (grown_at_first _ _, refl)
@@ -14,4 +16,9 @@ pub returns-in_err-pass-clause-grows : goal.returns-in_err-pass-clause-grows
 returns-in_err-pass-clause-grows c = (extended_along _ _ _ _ c.loop.invariant.0.extends (subst (λ n. Extends n c.loop.memo.log c.pass.new.memo.log) c.loop.invariant.1 c.pass.ensures.extends)).grows
 
 pub returns-clause-direct : goal.returns-clause-direct
-returns-clause-direct c = (grown_along _ _ _ _ _ c.loop.invariant.0 c.loop.invariant.1 c.pass.ensures.extends c.in_ok-pass.ensures.direct).direct
+returns-clause-direct c =
+    let Direct = λ (m : Memo). FoundsDirectly c.args.memo.now.limit c.args.memo.now.log m.log in
+    elim c.loop-test.branch [
+      | else-loop-test w ↦ subst Direct (sym w.memo-is) c.loop.invariant.0.direct
+      | then-loop-test+in_ok-pass+then-len-before w ↦ subst Direct (sym w.memo-is) (grown_along _ _ _ _ _ c.loop.invariant.0 c.loop.invariant.1 w.pass.ensures.extends w.in_ok-pass.ensures.direct).direct
+    ]
