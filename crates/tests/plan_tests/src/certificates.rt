@@ -389,7 +389,6 @@ SELECT d.id FROM dept d LEFT JOIN emp e ON e.dept = d.id WHERE e.id IS NULL => F
 SELECT d.id FROM dept d LEFT JOIN emp e ON e.dept = d.id WHERE e.pay IS NULL => F get 0; F get 1; F left [=(c4,c0)] 0 1; F select [null(c5)] 2; F keep 0 3; F anti [=(c4,c0)] [] 0 1; A 4 O7 0 4,3,2 5 keep 0 5 / scan 0 0 | scan 1 1 | hash 5 | cut 6: 0 => K05 O7 line 6
 SELECT d.id FROM dept d LEFT JOIN emp e ON e.dept = d.id WHERE e.dept IS NULL => F get 0; F get 1; F left [=(c4,c0)] 0 1; F select [null(c4)] 2; F keep 0 3; F anti [=(c4,c0)] [] 0 1; A 4 O7 0 4,3,2 5 keep 0 5 / scan 0 0 | scan 1 1 | hash 5 | cut 6: 0 => accepted ;2,";
 
-
 #[test]
 fn derivations_are_judged(rt: HostRuntime) {
     let company = Tables {
