@@ -1,0 +1,3 @@
+pub mod JoinedSides
+pub mod SemijoinBelowJoin
+pub mod Semijoins

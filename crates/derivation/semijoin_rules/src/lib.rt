@@ -1,0 +1,4 @@
+//! Rules of semijoins and antijoins, each with its laws.
+#![tactic(auto)]
+
+pub mod semijoin_below_join;
