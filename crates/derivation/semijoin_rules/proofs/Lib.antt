@@ -1,3 +1,4 @@
 pub mod JoinedSides
 pub mod SemijoinBelowJoin
+pub mod SemijoinIsJoin
 pub mod Semijoins

@@ -1,14 +1,17 @@
 -- Semijoins and antijoins beside inner joins: the laws of bags.
-use Rattle.std.proofs.Common.{◌≡◌, refl, ap, sym, ◌∙◌, ℕ, Bool, true, false, not, ◌||◌, if◌then◌else◌, List, [], ◌∷◌}
+use Rattle.std.proofs.Common.{◌≡◌, refl, ap, sym, ◌∙◌, ℕ, ◌+◌, ◌≤◌, Bool, true, false, not, ◌||◌, if◌then◌else◌, List, [], ◌∷◌, arith}
 use Rattle.std.specs.List.{list_any}
 use Rattle.values.specs.declared.value.Value.{Value}
 use Rattle.algebra.specs.Columns.{ColumnSet}
-use Rattle.algebra.specs.Bags.{Env, Test, Bag, total, SameBag, lay, has_match, select, join, semi, anti}
-use Rattle.algebra.proofs.BagSums.{if_passes, total-filter, total-same}
+use Rattle.algebra.specs.Bags.{Env, Test, Bag, total, SameBag, lay, has_match, select, join, semi, anti, keep}
+use Rattle.algebra.proofs.BagSums.{if_passes, total-map, total-filter, total-same}
 use Rattle.algebra.proofs.Lists.{two}
+use Rattle.laws.specs.Fitting.{Fits}
+use Rattle.laws.specs.Keys.{count, IsSingle}
 use Rattle.laws.specs.Rewriting.{Ignores, AreApart}
-use Rattle.laws.proofs.JoinSums.{when_swap, total_when, total_join}
-use Rattle.laws.proofs.Overlays.{pointwise}
+use Rattle.laws.proofs.JoinSums.{when_swap, total_when, total_join, total_laid}
+use Rattle.laws.proofs.KeyCounts.{total_none}
+use Rattle.laws.proofs.Overlays.{pointwise, by_columns}
 
 -- a test that each environment has of rows, and that ignores the right side, is asked of the left side first
 tests_go_below_join : (t : Env → Test) (c : Test) (B : ColumnSet) (a b : Bag) → ((e : Env) → Ignores B (t e)) → SameBag (λ e. select (t e) (join c B a b) e) (join c B (λ e. select (t e) a e) b)
@@ -49,3 +52,35 @@ semijoins_go_below_joins c d B C a b z apart ignores = tests_go_below_join (λ e
 pub antijoins_go_below_joins : (c d : Test) (B C : ColumnSet) (a b z : Bag) → AreApart B C → Ignores B d → SameBag (anti d C (join c B a b) z) (join c B (anti d C a z) b)
 antijoins_go_below_joins c d B C a b z apart ignores =
     tests_go_below_join (λ e r. not (has_match d C (z e) r)) c B a b (λ e r s. ap not (matches-ignore d B C apart ignores (z e) r s))
+
+-- ---- a semijoin that is a projection of a join
+
+-- a sum over the one row that passes counts where there is such a row
+once : (p : Test) (n : ℕ) (rows : List Env) → count p rows ≤ 1 → total (λ s. if p s then n else 0) rows ≡ (if list_any p rows then n else 0)
+once p n [] le = refl
+once p n (x ∷ rows) le = by (p x) (once p n rows) le
+  where
+    none : count p rows ≡ 0 → total (λ s. if p s then n else 0) rows ≡ 0
+    none zero = total_none p (λ s. if p s then n else 0) (λ r fails. rw fails refl) rows zero
+
+    by : (b : Bool) → (count p rows ≤ 1 → total (λ s. if p s then n else 0) rows ≡ (if list_any p rows then n else 0)) → (if b then 1 else 0) + count p rows ≤ 1
+        → (if b then n else 0) + total (λ s. if p s then n else 0) rows ≡ (if b || list_any p rows then n else 0)
+    by true later le = omega (arith, none (omega (arith, le)))
+    by false later le = let rest = later (omega (arith, le)) in omega (arith, rest)
+
+-- no left row finds two rows of the right side
+pub semijoins_are_joins : (d : Test) (A B F : ColumnSet) (a b : Bag) → Fits A F a → AreApart A B → IsSingle d B b → SameBag (semi d B a b) (keep A (join d B a b))
+semijoins_are_joins d A B F a b fits apart single e f =
+    total-filter f (has_match d B (b e)) (a e)
+    ∙ total_laid A F a fits e _
+    ∙ total-same _ _ row (a e)
+    ∙ sym (total-map f (λ r. lay A r e) (join d B a b e) ∙ total_join _ d B a b e ∙ total_laid A F a fits e _)
+  where
+    -- a row with its match is the row alone in the left side's columns
+    alone : (r s : Env) → lay A (lay B s (lay A r e)) e ≡ lay A r e
+    alone r s = by_columns A _ _ (λ c is. rw (is, apart c is) refl) (λ c isnt. rw isnt refl)
+
+    row : (r : Env) → (if has_match d B (b e) (lay A r e) then f (lay A r e) else 0) ≡ total (λ s. if d (lay B s (lay A r e)) then f (lay A (lay B s (lay A r e)) e) else 0) (b e)
+    row r =
+        sym (once (λ s. d (lay B s (lay A r e))) (f (lay A r e)) (b e) (single e (lay A r e)))
+        ∙ total-same _ _ (λ s. ap (λ w. if d (lay B s (lay A r e)) then f w else 0) (sym (alone r s))) (b e)

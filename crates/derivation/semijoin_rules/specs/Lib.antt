@@ -1,1 +1,2 @@
 pub mod SemijoinBelowJoin
+pub mod SemijoinIsJoin

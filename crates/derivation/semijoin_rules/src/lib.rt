@@ -2,3 +2,4 @@
 #![tactic(auto)]
 
 pub mod semijoin_below_join;
+pub mod semijoin_is_join;
