@@ -1,3 +1,5 @@
+pub mod AntijoinOfFilled
+pub mod FilledConditions
 pub mod JoinedSides
 pub mod SemijoinBelowJoin
 pub mod SemijoinIsJoin

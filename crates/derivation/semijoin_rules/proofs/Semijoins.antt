@@ -84,3 +84,30 @@ semijoins_are_joins d A B F a b fits apart single e f =
     row r =
         sym (once (λ s. d (lay B s (lay A r e))) (f (lay A r e)) (b e) (single e (lay A r e)))
         ∙ total-same _ _ (λ s. ap (λ w. if d (lay B s (lay A r e)) then f w else 0) (sym (alone r s))) (b e)
+
+-- ---- antijoins that ask the same of all pairs
+
+-- sums and tests that agree but of bad rows, where there are none
+total_but : (bad : Test) (f g : Env → ℕ) → ((r : Env) → bad r ≡ false → f r ≡ g r) → (rows : List Env) → count bad rows ≡ 0 → total f rows ≡ total g rows
+total_but bad f g same [] none = refl
+total_but bad f g same (r ∷ rows) none = by (bad r) refl none (total_but bad f g same rows)
+  where
+    by : (b : Bool) → bad r ≡ b → (if b then 1 else 0) + count bad rows ≡ 0 → (count bad rows ≡ 0 → total f rows ≡ total g rows) → f r + total f rows ≡ g r + total g rows
+    by true is none later = absurd (omega (arith, none))
+    by false is none later = omega (arith, same r is, later (omega (arith, none)))
+
+any_but : (bad p q : Test) → ((r : Env) → bad r ≡ false → p r ≡ q r) → (rows : List Env) → count bad rows ≡ 0 → list_any p rows ≡ list_any q rows
+any_but bad p q same [] none = refl
+any_but bad p q same (r ∷ rows) none = by (bad r) refl none (any_but bad p q same rows)
+  where
+    by : (b : Bool) → bad r ≡ b → (if b then 1 else 0) + count bad rows ≡ 0 → (count bad rows ≡ 0 → list_any p rows ≡ list_any q rows) → (p r || list_any p rows) ≡ (q r || list_any q rows)
+    by true is none later = absurd (omega (arith, none))
+    by false is none later = two (λ x y. x || y) (same r is) (later (omega (arith, none)))
+
+-- the conditions agree of pairs of rows that aren't bad, and no row is
+pub antijoins_agree : (p q v w : Test) (B : ColumnSet) (a b : Bag) → ((e : Env) → count v (a e) ≡ 0) → ((e : Env) → count w (b e) ≡ 0)
+    → ((r s : Env) → v r ≡ false → w s ≡ false → p (lay B s r) ≡ q (lay B s r)) → SameBag (anti p B a b) (anti q B a b)
+antijoins_agree p q v w B a b left right same e f =
+    total-filter f _ (a e)
+    ∙ total_but v _ _ (λ r fine. ap (λ t. if not t then f r else 0) (any_but w (λ s. p (lay B s r)) (λ s. q (lay B s r)) (λ s good. same r s fine good) (b e) (right e))) (a e) (left e)
+    ∙ sym (total-filter f _ (a e))

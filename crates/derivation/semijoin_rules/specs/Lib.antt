@@ -1,2 +1,3 @@
+pub mod AntijoinOfFilled
 pub mod SemijoinBelowJoin
 pub mod SemijoinIsJoin
