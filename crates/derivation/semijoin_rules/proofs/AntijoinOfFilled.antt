@@ -1,14 +1,12 @@
 -- An antijoin whose null-aware conditions are never unknown: its laws.
-use Rattle.std.proofs.Common.{◌≡◌, refl, ap, sym, ◌∙◌, subst, inl, inr, ℕ, Bool, true, false, not, ◌&&◌, ◌||◌, if◌then◌else◌, List, [], ◌++◌, Result, Ok}
-use Rattle.std.specs.List.{list_all}
+use Rattle.std.proofs.Common.{◌≡◌, refl, ap, sym, ◌∙◌, inl, inr, ℕ, Bool, true, false, not, ◌&&◌, ◌||◌, List, [], ◌++◌}
 use Rattle.std.proofs.lemmas.Bool.{and_parts, and_from, or_cases}
 use Rattle.std.proofs.lemmas.List.Folds.{list_all-append}
 use Rattle.std.proofs.Math.Bool.{and_assoc}
-use Rattle.values.specs.Faults.{◌>>=◌}
-use Rattle.values.specs.Truth.{is_null, is_true, negation}
+use Rattle.values.specs.Truth.{is_true, negation}
 use Rattle.algebra.specs.declared.condition.Condition.{Condition}
 use Rattle.algebra.specs.declared.expr.Expr.TheVariants.{Anti}
-use Rattle.algebra.specs.Columns.{ColumnSet, has}
+use Rattle.algebra.specs.Columns.{has}
 use Rattle.algebra.specs.Bags.{Env, Bag, lay}
 use Rattle.algebra.specs.Conditions.{truth, holds, allows, all_classes, all_columns}
 use Rattle.algebra.specs.ConjunctOrder.{conjuncts}
@@ -19,16 +17,11 @@ use Rattle.algebra.proofs.Lists.{two}
 use Rattle.laws.specs.Keys.{count, has_null}
 use Rattle.laws.specs.Rewriting.{AreApart}
 use Rattle.laws.proofs.Ignored.{part-passes}
-use Rattle.laws.proofs.Overlays.{in_subset}
 use Rattle.props.specs.declared.fact.Fact.TheVariants.{NotNull}
 use Rattle.props.specs.declared.fact.FactSets.{FactSets}
 use Rattle.props.specs.Knowledge.{Knowledge, IsTrueOf, with_rows}
-use Rattle.rules.specs.declared.shape.Shape.{Shape}
-use Rattle.rules.specs.declared.shape.Shape.TheVariants as shape
 use Rattle.rules.specs.declared.pattern.Operator.TheVariants as operator
 use Rattle.rules.specs.declared.pattern.Operators.TheVariants.{Only}
-use Rattle.rules.specs.declared.unfit.Unfit.{Unfit}
-use Rattle.rules.specs.Conjuncts.{wanted_some}
 use Rattle.rules.specs.Soundness.{IsSound}
 use Rattle.rules.specs.Formed.{IsFormed}
 use Rattle.rules.specs.Patterns.{KeepsTo}

@@ -1,7 +1,6 @@
 -- Comparisons of what is never Null are true or false.
-use Rattle.std.proofs.Common.{◌≡◌, refl, ap, sym, ◌∙◌, inl, inr, ℕ, ◌+◌, ◌==◌, Bool, true, false, not, ◌&&◌, ◌||◌, if◌then◌else◌, List, [], ◌∷◌, ◌++◌, map, arith}
+use Rattle.std.proofs.Common.{◌≡◌, refl, ap, sym, ◌∙◌, inl, inr, ℕ, ◌+◌, ◌==◌, Bool, true, false, not, ◌&&◌, ◌||◌, if◌then◌else◌, List, [], ◌∷◌, map, arith}
 use Rattle.std.specs.List.{list_all}
-use Rattle.std.specs.declared.cmp.Ordering.{Ordering}
 use Rattle.std.proofs.lemmas.Bool.{and_parts, or_cases, or_left, or_right, eq-eqb, eqb-true, not-true}
 use Rattle.std.proofs.lemmas.List.Folds.{list_all-map}
 use Rattle.values.specs.declared.truth.Comparison.{Comparison}
@@ -14,7 +13,7 @@ use Rattle.algebra.specs.declared.condition.Condition.TheVariants.{Compare, roll
 use Rattle.algebra.specs.declared.condition.Term.{Term}
 use Rattle.algebra.specs.declared.condition.Term.TheVariants as term
 use Rattle.algebra.specs.Columns.{ColumnSet, has}
-use Rattle.algebra.specs.Bags.{Env, Bag, total}
+use Rattle.algebra.specs.Bags.{Env, Bag}
 use Rattle.algebra.specs.Conditions.{truth, holds, allows, term_value}
 use Rattle.algebra.specs.ConjunctOrder.{conjuncts}
 use Rattle.algebra.proofs.BagSums.{total-zero}

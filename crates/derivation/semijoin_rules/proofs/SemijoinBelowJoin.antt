@@ -34,7 +34,7 @@ use Rattle.rules.proofs.Conditions.{apart-ignores, if-given}
 use Rattle.rules.proofs.MatchedLines.{TwoAreSound, given, two-sound}
 use Rattle.rules.proofs.ShapeMeanings.{class-is, join-is, semi-is, anti-is, has-bag}
 use Rattle.rules.proofs.FormedLines.{Site, TwoAreFormed, two-formed, given-is, joined, class-stands, join-stands, semi-stands, anti-stands, Is, Joined}
-use Rattle.rules.proofs.FormedShapes.{AreApart, apart-both, apart-turned, apart-of_first, apart-of_second}
+use Rattle.rules.proofs.FormedShapes.{AreApart, apart-of_first}
 use Rattle.rules.proofs.PatternedLines.{TwoKeepTo, two-keep}
 use Rattle.rules.proofs.StableLines.{TwoAreStable, two-stable, sides, all-same, apart-same}
 use Rattle.semijoin_rules.proofs.Semijoins.{semijoins_go_below_joins, antijoins_go_below_joins}

@@ -1,5 +1,5 @@
 -- A semijoin that is a projection of a join: its laws.
-use Rattle.std.proofs.Common.{◌≡◌, refl, ap, ◌∙◌, ℕ, ◌||◌, List, ◌++◌}
+use Rattle.std.proofs.Common.{refl, ap, ◌∙◌, ℕ, ◌||◌, List, ◌++◌}
 use Rattle.std.specs.List.{list_any}
 use Rattle.values.specs.Faults.{wanted_if}
 use Rattle.algebra.specs.declared.expr.Expr.TheVariants.{Semi}

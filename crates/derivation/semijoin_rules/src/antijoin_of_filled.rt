@@ -109,7 +109,14 @@ fn decided(
     ensures { Gives (λ s. s) result (spec.decided (known at.entry.classes) ordinary.now null_aware.now left right) }
 {
     let (decided, others) = split_decided(alloc, null_aware.as_slice(), at.classes, left, right)?;
-    moved(alloc, ordinary, decided.as_slice(), others.as_slice(), left, right)
+    moved(
+        alloc,
+        ordinary,
+        decided.as_slice(),
+        others.as_slice(),
+        left,
+        right,
+    )
 }
 
 /// A null-aware comparison of terms that are never Null asks of an antijoin's pairs what an ordinary one asks.
