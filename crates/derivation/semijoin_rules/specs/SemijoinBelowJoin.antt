@@ -1,5 +1,5 @@
 -- A semijoin or an antijoin changes places with the inner join below it: which rows of the one side it keeps doesn't depend on the other.
--- Semijoins and antijoins among joins: Moerkotte, Building Query Compilers, 2020, chapter on algebraic equivalences.
+-- Semijoins and antijoins reordered with joins: Moerkotte, Fender and Eich, On the correct and complete enumeration of the core search space, SIGMOD 2013.
 use Rattle.std.specs.Prelude.{ℕ, Bool, ◌&&◌, List, ◌++◌, Result, Err}
 use Rattle.std.specs.List.{list_all}
 use Rattle.values.specs.Faults.{◌>>=◌, wanted, wanted_if}

@@ -1,5 +1,5 @@
 -- A semijoin whose left rows find one row each at most is the join of the two sides, without the right side's columns.
--- Subqueries as joins where a key is equated: Pirahesh, Hellerstein and Hasan, Extensible/rule based query rewrite optimization in Starburst, SIGMOD 1992.
+-- Subqueries that find one row at most as joins: Pirahesh, Hellerstein and Hasan, Extensible/rule based query rewrite optimization in Starburst, SIGMOD 1992.
 use Rattle.std.specs.Prelude.{ℕ, List, Result, Err}
 use Rattle.values.specs.Faults.{◌>>=◌, wanted, wanted_if}
 use Rattle.algebra.specs.declared.condition.Condition.{Condition}
