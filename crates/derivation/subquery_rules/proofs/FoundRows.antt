@@ -8,16 +8,12 @@ use Rattle.laws.specs.Fitting.{Fits, SameIn}
 use Rattle.laws.specs.Rewriting.{AreApart}
 use Rattle.laws.proofs.JoinSums.{when_both, total_laid}
 
--- one of the mapped rows passes
-any-map : (t : Test) (g : Env → Env) (rows : List Env) → list_any t (map g rows) ≡ list_any (λ s. t (g s)) rows
-any-map t g [] = refl
-any-map t g (s ∷ rows) = ap (λ b. t (g s) || b) (any-map t g rows)
+-- one of the mapped rows passes where one does, by a test that agrees
+any-mapped : (t u : Test) (g : Env → Env) → ((s : Env) → t (g s) ≡ u s) → (rows : List Env) → list_any t (map g rows) ≡ list_any u rows
+any-mapped t u g same [] = refl
+any-mapped t u g same (s ∷ rows) = rw (same s, any-mapped t u g same rows) refl
 
-any-alike : (t u : Test) → ((s : Env) → t s ≡ u s) → (rows : List Env) → list_any t rows ≡ list_any u rows
-any-alike t u same [] = refl
-any-alike t u same (s ∷ rows) = rw (same s, any-alike t u same rows) refl
-
--- a row of the subquery at a row, told by both
+-- a test of the subquery's rows at a row
 abbrev pub At : Type 0
 At = Env → Test
 
@@ -25,7 +21,7 @@ module _ (n : At) (m : Test) (X B F G : ColumnSet) (x b : Bag) (fits_x : Fits X 
   -- the subquery reads no column of the input, so its rows at a row are those of the environment, laid over the row
   found_at : (e r : Env) → list_any (n (lay X r e)) (b (lay X r e)) ≡ has_match m B (b e) (lay X r e)
   found_at e r =
-      ap (list_any (n d)) (fits_b e d unread) ∙ any-map (n d) (λ s. lay B s d) (b e) ∙ any-alike (λ s. n d (lay B s d)) (λ s. m (lay B s d)) (alike d) (b e)
+      ap (list_any (n d)) (fits_b e d unread) ∙ any-mapped (n d) (λ s. m (lay B s d)) (λ s. lay B s d) (alike d) (b e)
     where
       d : Env
       d = lay X r e

@@ -3,6 +3,7 @@ use Rattle.std.proofs.Common.{◌≡◌, refl, ap, sym, ◌∙◌, ℕ, Bool, tr
 use Rattle.std.specs.List.{list_all, list_any}
 use Rattle.std.proofs.lemmas.Bool.{and_parts, and_from, not-true}
 use Rattle.std.proofs.lemmas.List.Folds.{list_all-append}
+use Rattle.std.proofs.Math.Bool.{and-true}
 use Rattle.values.specs.declared.truth.Comparison.TheVariants as by_
 use Rattle.values.specs.Faults.{wanted_if}
 use Rattle.values.specs.Truth.{is_true}
@@ -70,10 +71,6 @@ when-given : (v w : Bool) (t s : Shape) → (if v then wanted_if FailedCondition
 when-given true w t s is = let both = if-given w t s is in (refl, both.0, both.1)
 when-given false w t s is = cc
 
-whole : (v : Bool) → (v && true) ≡ v
-whole true = refl
-whole false = refl
-
 -- ---- it gives the same rows
 
 -- the subquery's rows are those of a class that the conditions hold with
@@ -105,7 +102,7 @@ module _ (K : Knowledge) (W : World) (p : SubqueryPick) (b : ℕ) (stands : Stan
 pub exists-sound : UnnestsSound spec.exists_as_semi
 exists-sound K W p P b s stands picked part is =
     let g = when-given (spec.is_exists p.condition) (spec.can_join K p.input P b) _ s is in
-    given K W _ _ s g.2 (semi-rows K W p b stands picked (joins K p.input P b g.1).unread (ask_any W.rows p.class b P part) P (λ r s. whole (holds W.rows P (lay (has (K.columns b)) s r)))
+    given K W _ _ s g.2 (semi-rows K W p b stands picked (joins K p.input P b g.1).unread (ask_any W.rows p.class b P part) P (λ r s. and-true (holds W.rows P (lay (has (K.columns b)) s r)))
     (λ r. ap (λ c. is_true (truth c W.rows r)) (is_of-exists p picked g.0) ∙ exists-true W.rows p.class b P part r))
 
 pub not_exists-sound : UnnestsSound spec.not_exists_as_anti
