@@ -1,0 +1,13 @@
+pub mod ExistsIsSemi
+pub mod ExistsOfSelectIsSemi
+pub mod FoundRows
+pub mod InIsSemi
+pub mod InSelectIsSemi
+pub mod MatchedSubqueries
+pub mod NotExistsIsAnti
+pub mod NotExistsOfSelectIsAnti
+pub mod NotInIsAnti
+pub mod NotInSelectIsAnti
+pub mod PickedConditions
+pub mod SubqueryTruths
+pub mod UnnestedSubqueries

@@ -1,0 +1,9 @@
+pub mod ExistsIsSemi
+pub mod ExistsOfSelectIsSemi
+pub mod InIsSemi
+pub mod InSelectIsSemi
+pub mod NotExistsIsAnti
+pub mod NotExistsOfSelectIsAnti
+pub mod NotInIsAnti
+pub mod NotInSelectIsAnti
+pub mod Unnesting

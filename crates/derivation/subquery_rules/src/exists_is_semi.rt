@@ -1,0 +1,46 @@
+//! EXISTS is a semijoin.
+
+ghost use Rattle.subquery_rules.specs.ExistsIsSemi as spec;
+
+use crate::unnesting::exists_as_semi;
+use algebra::Conjuncts;
+use rules::{Match, Pattern, Promise, Rule, RuleFault, Shape};
+use std::alloc::{AllocError, Global};
+
+/// A selection with EXISTS of a class that doesn't read its rows is a semijoin with that class.
+pub struct ExistsIsSemi;
+
+impl Rule for ExistsIsSemi {
+    const CODE: &'static str = "U1";
+
+    ghost pattern = { spec.pattern };
+
+    ghost gives = { spec.exists_is_semi };
+
+    ghost promise = { spec.promise };
+
+    fn pattern() -> Pattern {
+        Pattern::Subquery
+    }
+
+    fn apply(alloc: Global, at: Match<'_>) -> Result<Shape, RuleFault> {
+        let pick = at.subquery()?;
+        exists_as_semi(alloc, at, pick, &Conjuncts::none(alloc), pick.class)
+    }
+
+    fn promise(_alloc: Global, _at: Match<'_>) -> Result<Promise, AllocError> {
+        Ok(Promise::Simpler)
+    }
+
+    #[tactic(auto, using(crate::proofs::ExistsIsSemi::exists_is_semi_sound))]
+    fn is_sound() {}
+
+    #[tactic(auto, using(crate::proofs::ExistsIsSemi::exists_is_semi_keeps))]
+    fn keeps_to_pattern() {}
+
+    #[tactic(auto, using(crate::proofs::ExistsIsSemi::exists_is_semi_formed))]
+    fn is_formed() {}
+
+    #[tactic(auto, using(crate::proofs::ExistsIsSemi::exists_is_semi_stable))]
+    fn is_stable() {}
+}
