@@ -17,9 +17,10 @@ def number_of(value):
     """A value as a number of 64 bits."""
     if isinstance(value, int):
         return value % BITS
-    number = 14695981039346656037
-    for byte in value.encode():
-        number = (number * 1099511628211 + byte) % BITS
+    number, text = 14695981039346656037, value.encode()
+    whole = len(text) // 4 * 4
+    for part in [int.from_bytes(text[place : place + 4], "little") for place in range(0, whole, 4)] + list(text[whole:]):
+        number = (number * 1099511628211 + part) % BITS
     return number
 
 

@@ -8,5 +8,6 @@ pub mod PairedLists
 pub mod ReadBack
 pub mod Sifts
 pub mod Spelled
+pub mod TextHashes
 pub mod UniqueColumns
 pub mod UniqueRows

@@ -1,8 +1,8 @@
 -- How many different keys a column has, Null left out: exactly where it is unique, else as estimated by linear counting (Whang,
 -- Vander-Zanden and Taylor, A linear-time probabilistic counting algorithm for database applications, ACM TODS 15(2), 1990).
-use Rattle.std.specs.Prelude.{◌≡◌, ◌<◌, ℕ, ◌+◌, ◌-◌, ◌*◌, ◌/◌, ◌%◌, ◌^◌, ◌==◌, ◌&&◌, Bool, false, not, List, [], length, map, filter, min, max, sum, nat_eq, slice_index_or, Option, Some, None, if◌then◌else◌}
-use Rattle.std.specs.Int.{cast_unsigned, w64}
-use Rattle.std.specs.List.{fold, list_any, range_with_len}
+use Rattle.std.specs.Prelude.{◌≡◌, ◌<◌, ℕ, ◌+◌, ◌-◌, ◌*◌, ◌/◌, ◌%◌, ◌^◌, ◌==◌, ◌&&◌, Bool, false, not, List, [], ◌∷◌, length, map, filter, min, max, sum, nat_eq, slice_index_or, Option, Some, None, if◌then◌else◌}
+use Rattle.std.specs.Int.{cast_unsigned, from_le_bytes, w32, w64}
+use Rattle.std.specs.List.{list_any, range_with_len}
 use Rattle.std.specs.Set.{is_member, distinct_count}
 use Rattle.values.specs.Short.{IsShort}
 use Rattle.values.specs.Truth.{is_null}
@@ -31,8 +31,20 @@ upper_half product = product % 2 ^ 64 / 2 ^ 32
 unfoldable pub mix : ℕ → ℕ
 mix x = let half = upper_half (x * 0x9E3779B97F4A7C15) in upper_half (half * half * 0xD6E8FEB86659FD93)
 
+-- a hash behind which a number comes
+abbrev pub hash_behind : ℕ → ℕ → ℕ
+hash_behind h number = (h * 1099511628211 + number) % 2 ^ 64
+
+-- a hash behind which bytes come: four at a time as a number of 32 bits, the first the least, and what is left of them one by one
+abbrev pub bytes_hash : ℕ → List ℕ → ℕ
+bytes_hash h [] = h
+bytes_hash h (a ∷ []) = hash_behind h a
+bytes_hash h (a ∷ b ∷ []) = hash_behind (hash_behind h a) b
+bytes_hash h (a ∷ b ∷ c ∷ []) = hash_behind (hash_behind (hash_behind h a) b) c
+bytes_hash h (a ∷ b ∷ c ∷ d ∷ more) = bytes_hash (hash_behind h (from_le_bytes w32 (a ∷ b ∷ c ∷ d ∷ []))) more
+
 abbrev pub text_number : List ℕ → ℕ
-text_number bytes = fold (λ h byte. (h * 1099511628211 + byte) % 2 ^ 64) 14695981039346656037 bytes
+text_number bytes = bytes_hash 14695981039346656037 bytes
 
 -- a value as a number of 64 bits
 abbrev pub number_of : Value → ℕ

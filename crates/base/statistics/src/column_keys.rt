@@ -6,6 +6,7 @@ ghost use Rattle.values.specs.Cells.{value_of};
 ghost use Rattle.values.specs.Short.{IsShort};
 ghost use Rattle.schema.specs.Databases.{SatisfiesTable, most_rows};
 ghost use Rattle.store.specs.NumberColumns.{AreNumbersOf};
+ghost use Rattle.store.specs.TextColumns.{AreTextsOf};
 ghost use Rattle.statistics.specs.ColumnKeys as spec;
 ghost use Rattle.statistics.specs.ColumnKeys.{AreMarked, AreShort};
 
@@ -14,7 +15,7 @@ use crate::digits::count_marks;
 use crate::unique_columns::{is_unique_column, null_rows};
 use crate::unique_lists::is_not_null;
 use std::alloc::{AllocError, Global};
-use store::{Numbers, RowCells, RowSource, Table};
+use store::{Numbers, RowCells, RowSource, Table, TextColumn};
 use values::{Cell, Items};
 
 const FIRST_FACTOR: u64 = 0x9E37_79B9_7F4A_7C15;
@@ -44,16 +45,29 @@ pub fn slot_of(number: u64, slots: usize) -> usize
     (mix(number) * slots as u64 >> 32) as usize
 }
 
+/// A hash behind which a number comes.
+#[inline(always)]
+fn hash_behind(hash: u64, number: u64) -> u64
+    ensures { result ≡ spec.hash_behind hash number }
+{
+    hash.wrapping_mul(TEXT_FACTOR).wrapping_add(number)
+}
+
+/// Four bytes at a time: most texts are short, and a multiplication for each byte would be most of what a column takes.
 fn text_number(text: &str) -> u64
     ensures { result ≡ spec.text_number text.now }
 {
-    let mut number = TEXT_START;
-    for byte in text.as_bytes() {
-        number = number
-            .wrapping_mul(TEXT_FACTOR)
-            .wrapping_add(u64::from(*byte));
+    let mut hash = TEXT_START;
+    let mut rest = text.as_bytes();
+    while let [a, b, c, d, more @ ..] = rest {
+        let four = u32::from_le_bytes([*a, *b, *c, *d]);
+        hash = hash_behind(hash, u64::from(four));
+        rest = more;
     }
-    number
+    for byte in rest {
+        hash = hash_behind(hash, u64::from(*byte));
+    }
+    hash
 }
 
 fn number_of(cell: Cell<'_>) -> u64
@@ -80,6 +94,25 @@ fn mark_numbers(rows: &Table, place: usize, column: Numbers<'_>, marks: &mut [bo
     for row in 0..rows.len() {
         if column.known[row] {
             marks[slot_of(column.numbers[row].cast_unsigned(), marks.len())] = true;
+            values += 1;
+        }
+    }
+    values
+}
+
+/// The same of a column of texts.
+fn mark_texts(rows: &Table, place: usize, column: TextColumn<'_>, marks: &mut [bool]) -> usize
+    requires texts { AreTextsOf rows.now place column }
+    requires few { length rows.now ≤ most_rows }
+    requires slots { length marks.old ≡ max (length rows.now) 1 }
+    requires none { (s : ℕ) → slice_index_or marks.old s false ≡ false }
+    ensures marks { AreMarked (length marks.old) (spec.values_in place rows.now) marks.new }
+    ensures values { result ≡ length (spec.values_in place rows.now) }
+{
+    let mut values: usize = 0;
+    for row in 0..rows.len() {
+        if column.known[row] {
+            marks[slot_of(text_number(column.texts.text(row)), marks.len())] = true;
             values += 1;
         }
     }
@@ -114,8 +147,11 @@ fn mark_values(rows: &Table, place: usize, marks: &mut [bool]) -> usize
     ensures marks { AreMarked (length marks.old) (spec.values_in place rows.now) marks.new }
     ensures values { result ≡ length (spec.values_in place rows.now) }
 {
-    match rows.numbers(place) {
-        Some(column) => mark_numbers(rows, place, column, marks),
+    if let Some(column) = rows.numbers(place) {
+        return mark_numbers(rows, place, column, marks);
+    }
+    match rows.texts(place) {
+        Some(column) => mark_texts(rows, place, column, marks),
         None => mark_cells(rows, place, marks),
     }
 }

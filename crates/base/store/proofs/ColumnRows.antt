@@ -17,7 +17,9 @@ use Rattle.store.specs.declared.cells.Entries.{Entries}
 use Rattle.store.specs.declared.cells.Entries.TheVariants as entries
 use Rattle.store.specs.declared.cells.ColumnCells.{ColumnCells}
 use Rattle.store.specs.declared.numbers.Numbers.{Numbers}
+use Rattle.store.specs.declared.text_column.TextColumn.{TextColumn}
 use Rattle.store.specs.NumberColumns.{AreNumbersOf}
+use Rattle.store.specs.TextColumns.{AreTextsOf}
 use Rattle.store.specs.StoredColumns.{Kept, Takes, TakeRow, kind_of, size_of, entry_at, HasCells, cell_at, row_at, rows_of, with_entry, with_value, with_row}
 use Rattle.store.proofs.TextPlaces.{range_same}
 
@@ -234,3 +236,23 @@ pub numbers_lent : (cs : List ColumnCells) (n : ℕ) (rows : List Row) (j : ℕ)
     → IfSome o (λ c. c.known.now ≡ d.known) → IfSome o (λ c. d.entries ≡ entries.Numbers c.numbers.now) → IfSome o (AreNumbersOf rows j)
 numbers_lent cs n rows j d None is all within at known numbers = tt
 numbers_lent cs n rows j d (Some c) is all within at known numbers = numbers_there cs n rows j d c is all within at known numbers
+
+-- ... and a column of texts
+texts_there : (cs : List ColumnCells) (n : ℕ) (rows : List Row) (j : ℕ) (d : ColumnCells) (c : TextColumn) → rows_of cs n ≡ rows → AllByRecursion (HasCells n) cs → j < length cs → d ≡ get_or cs j d
+    → c.known.now ≡ d.known → d.entries ≡ entries.Texts c.texts.now → AreTextsOf rows j c
+texts_there cs n rows j d c is all within at known texts =
+    let has = has_there cs n j d all within at in
+    let size : length rows ≡ n = ap length (sym is) ∙ length_rows cs n in
+    record {
+      known = ap length known ∙ has.known ∙ sym size;
+      texts = sym (ap size_of texts) ∙ has.entries ∙ sym size;
+      value = λ i low.
+          let here : cell_at d i ≡ get_or (get_or rows i []) j value.Null = cell_of_rows cs n rows i j d is (rw size at low) within at in
+          sym here ∙ ap (λ (ks : List Bool). cond (get_or ks i false) (entry_at d.entries i) value.Null) (sym known)
+          ∙ ap (λ (e : Entries). cond (get_or c.known.now i false) (entry_at e i) value.Null) texts;
+    }
+
+pub texts_lent : (cs : List ColumnCells) (n : ℕ) (rows : List Row) (j : ℕ) (d : ColumnCells) (o : Option TextColumn) → rows_of cs n ≡ rows → AllByRecursion (HasCells n) cs → j < length cs → d ≡ get_or cs j d
+    → IfSome o (λ c. c.known.now ≡ d.known) → IfSome o (λ c. d.entries ≡ entries.Texts c.texts.now) → IfSome o (AreTextsOf rows j)
+texts_lent cs n rows j d None is all within at known texts = tt
+texts_lent cs n rows j d (Some c) is all within at known texts = texts_there cs n rows j d c is all within at known texts

@@ -14,4 +14,5 @@ pub mod Reports
 pub mod RowCells
 pub mod StoredColumns
 pub mod Tables
+pub mod TextColumns
 pub mod Texts

@@ -16,6 +16,7 @@ ghost use Rattle.store.specs.declared.cells.ColumnCells.{ColumnCells};
 use crate::fault::FieldFault;
 use crate::field::{number_of, unescaped};
 use crate::numbers::Numbers;
+use crate::text_column::TextColumn;
 use crate::texts::Texts;
 use schema::{Column, Kind};
 use std::alloc::{AllocError, Global};
@@ -163,6 +164,20 @@ impl ColumnCells {
                 numbers: numbers.as_slice(),
             }),
             Entries::Texts(_) => None,
+        }
+    }
+
+    /// The column's texts; None where it has numbers.
+    pub fn texts(&self) -> Option<TextColumn<'_>>
+        ensures known { IfSome result (λ c. c.known.now ≡ self.now.known) }
+        ensures entries { IfSome result (λ c. self.now.entries ≡ entries.Texts c.texts.now) }
+    {
+        match &self.entries {
+            Entries::Texts(texts) => Some(TextColumn {
+                known: self.known.as_slice(),
+                texts,
+            }),
+            Entries::Numbers(_) => None,
         }
     }
 }

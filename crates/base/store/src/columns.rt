@@ -6,6 +6,7 @@ ghost use Rattle.values.specs.Cells.{value_of};
 ghost use Rattle.values.specs.declared.value.Value.TheVariants as value;
 ghost use Rattle.schema.specs.Databases.{Row, HaveWidth, most_rows};
 ghost use Rattle.store.specs.NumberColumns.{AreNumbersOf};
+ghost use Rattle.store.specs.TextColumns.{AreTextsOf};
 ghost use Rattle.store.specs.Tables.{StandFor};
 ghost use Rattle.store.specs.Parsing.{RowFails, fault_at};
 ghost use Rattle.store.specs.Reports.{Reports};
@@ -15,6 +16,7 @@ ghost use Rattle.store.specs.declared.cells.ColumnCells.{ColumnCells};
 use crate::cells::ColumnCells;
 use crate::fault::{FieldFault, TableCause};
 use crate::numbers::Numbers;
+use crate::text_column::TextColumn;
 use csv::ByteRecord;
 use schema::Column;
 use std::alloc::{AllocError, Global};
@@ -139,6 +141,16 @@ impl ColumnStore {
     {
         match self.columns.as_slice().get(column) {
             Some(cells) => cells.numbers(),
+            None => None,
+        }
+    }
+
+    /// The texts of a column; None where it has numbers, or there is none.
+    pub fn texts(&self, column: usize) -> Option<TextColumn<'_>>
+        ensures { IfSome result (AreTextsOf self.now.rows column) }
+    {
+        match self.columns.as_slice().get(column) {
+            Some(cells) => cells.texts(),
             None => None,
         }
     }

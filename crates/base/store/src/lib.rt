@@ -16,7 +16,8 @@ mod records;
 pub mod row;
 pub mod source;
 pub mod table;
-mod texts;
+mod text_column;
+pub mod texts;
 mod unique;
 
 pub use database::Database;
@@ -28,3 +29,4 @@ pub use numbers::Numbers;
 pub use row::RowCells;
 pub use source::RowSource;
 pub use table::Table;
+pub use text_column::TextColumn;

@@ -2,10 +2,12 @@
 
 ghost use Rattle.std.specs.Prelude.{◌≡◌, IfSome};
 ghost use Rattle.store.specs.NumberColumns.{AreNumbersOf};
+ghost use Rattle.store.specs.TextColumns.{AreTextsOf};
 
 use crate::columns::ColumnStore;
 use crate::numbers::Numbers;
 use crate::source::RowSource;
+use crate::text_column::TextColumn;
 use std::marker::Model;
 use values::Cell;
 
@@ -36,6 +38,13 @@ impl Table {
         ensures { IfSome result (AreNumbersOf self.now column) }
     {
         self.columns.numbers(column)
+    }
+
+    /// The texts of a column, as they are kept; None where it has numbers, or there is none.
+    pub fn texts(&self, column: usize) -> Option<TextColumn<'_>>
+        ensures { IfSome result (AreTextsOf self.now column) }
+    {
+        self.columns.texts(column)
     }
 }
 

@@ -382,7 +382,7 @@ a,b,k,u~5,x,1,\N~5,x,2,\N~ => loaded 2 1 c0 1 c1 1 c2 2 c3 0
 a,b,k,u~\N,x,1,7~5,\N,2,\N~5,y,3,\N~ => loaded 3 1 c0 1 c1 2 c2 3 c3 1
 a,b,k,u~-9223372036854775808,ab,1,1~9223372036854775807,ba,2,2~-1,ü,3,3~0,"",4,4~-1,ü,5,5~ => loaded 5 1 c0 4 c1 4 c2 5 c3 5
 a,b,k,u~|200*#,x,#,\N~| => loaded 200 4 c0 187 c1 1 c2 200 c3 0
-a,b,k,u~|1000*7,k#,#,#~| => loaded 1000 20 c0 1 c1 961 c2 1000 c3 1000"#;
+a,b,k,u~|1000*7,x_#,#,#~| => loaded 1000 20 c0 1 c1 985 c2 1000 c3 1000"#;
     const COLUMNS: &[TableColumn] = &[
         TableColumn { table: 0, place: 1 },
         TableColumn { table: 0, place: 0 },
