@@ -5,7 +5,7 @@ pub mod FilteredJoins
 pub mod FoundRows
 pub mod JoinRows
 pub mod KeyColumns
-pub mod LeftKeys
+pub mod KeyMarks
 pub mod Merges
 pub mod Outputs
 pub mod SharedKeys

@@ -11,8 +11,10 @@ use Rattle.joins.proofs.side_parts.restricted_left.Goals as goal
 
 pub returns : goal.returns
 returns c =
-    let R = c.args.right.now.heading.columns in
+    let right = c.args.right.now in
     let C = c.args.conditions.now in
     let e = env_of c.args.env.now in
-    let part = subst (λ (P : List Condition). IsPart (has R) (holds no_classes C) (holds no_classes P)) (sym c.as_slice.ensures) c.in_ok-parts.ensures in
-    both-ok c.chosen.result _ _ _ (λ r. restricted-left C c.as_slice.result.now R c.args.left r e c.as_slice-2.result.now part (c.as_slice-2.ensures.value ∙ c.in_ok-kept.ensures)) c.chosen.ensures.columns (c.chosen.ensures.rows e)
+    let part = subst (λ (P : List Condition). IsPart (has right.heading.columns) (holds no_classes C) (holds no_classes P)) (sym c.as_slice.ensures) c.in_ok-parts.ensures in
+    both-ok c.chosen.result _ _ _
+    (λ l. restricted-left C c.as_slice.result.now c.args.left right l e c.as_slice-2.result.now part (c.as_slice-2.ensures.value ∙ c.in_ok-kept.ensures))
+    c.chosen.ensures.columns (c.chosen.ensures.rows e)

@@ -6,18 +6,15 @@ use Rattle.physical.specs.Outputs.{no_classes}
 use Rattle.relations.specs.Relations.{env_of}
 use Rattle.joins.specs.SideParts.{IsPart}
 use Rattle.joins.proofs.Outputs.{both-ok}
-use Rattle.joins.proofs.SideParts.{restricted-rows, restricted-twice}
+use Rattle.joins.proofs.SideParts.{restricted-rows}
 use Rattle.joins.proofs.side_parts.restricted_right.Goals as goal
 
 pub returns : goal.returns
 returns c =
     let left = c.args.left.now in
     let C = c.args.conditions.now in
-    let right = c.in_ok-right.right in
     let e = env_of c.args.env.now in
     let part = subst (λ (P : List Condition). IsPart (has left.heading.columns) (holds no_classes C) (holds no_classes P)) (sym c.as_slice.ensures) c.in_ok-parts.ensures in
     both-ok c.chosen.result _ _ _
-    (λ r columns rows.
-    restricted-twice C left c.args.right right r e c.in_ok-right.ensures
-    (restricted-rows C c.as_slice.result.now left right r e c.as_slice-2.result.now part (c.as_slice-2.ensures.value ∙ c.in_ok-kept.ensures) columns rows))
+    (λ r. restricted-rows C c.as_slice.result.now left c.args.right r e c.as_slice-2.result.now part (c.as_slice-2.ensures.value ∙ c.in_ok-kept.ensures))
     c.chosen.ensures.columns (c.chosen.ensures.rows e)
