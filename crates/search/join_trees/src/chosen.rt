@@ -22,6 +22,20 @@ const MOST_ASKED_SETS: usize = 8;
 /// What a row costs above its set, where its matches are found by an index that isn't unique. By this weight a tree is kept for its few rows.
 const NARROW: u64 = 3_000;
 
+/// Over so many leaves at most a tree of each set is kept for its few rows alone.
+const MOST_COUNTED: usize = 9;
+
+/// For what a tree of a set is kept.
+#[derive(Clone, Copy, PartialEq, Eq, Drop)]
+enum KeptFor {
+    /// The least sum of cost and rows.
+    Cost,
+    /// A small sum of cost and many times its rows.
+    NarrowCost,
+    /// The fewest rows.
+    Rows,
+}
+
 /// What is guessed of a set of leaves joined.
 #[derive(Clone, Copy, Drop)]
 pub struct Joined {
@@ -38,12 +52,12 @@ pub struct Joined {
     /// Whether it is a leaf without the conditions on it alone, which are those of the join above it; and which share of its rows makes them true.
     pub is_bare: bool,
     share: u64,
-    /// Whether it is the second tree that is kept of its set, and whether those of its sides are.
-    is_narrow: bool,
-    is_left_narrow: bool,
-    is_right_narrow: bool,
+    /// For what it is kept, and its sides are.
+    kept: KeptFor,
+    left_kept: KeptFor,
+    right_kept: KeptFor,
     /// The subqueries that are asked in it and in its sides, as bits, and the bit of the one that is asked of all its rows last, if one is. That is asked of
-    /// a tree of the same set, the second one where the left side is said to be that.
+    /// a tree of the same set, which is kept for what the left side is said to be.
     asked: u8,
     left_asked: u8,
     right_asked: u8,
@@ -61,9 +75,9 @@ const NOTHING: Joined = Joined {
     is_probed: false,
     is_bare: false,
     share: ALL,
-    is_narrow: false,
-    is_left_narrow: false,
-    is_right_narrow: false,
+    kept: KeptFor::Cost,
+    left_kept: KeptFor::Cost,
+    right_kept: KeptFor::Cost,
     asked: 0,
     left_asked: 0,
     right_asked: 0,
@@ -83,46 +97,68 @@ impl Joined {
             cost: self.cost.saturating_add(extra.cost(self.rows)),
             asked: self.asked | bit,
             last: bit,
-            is_narrow: false,
-            is_left_narrow: self.is_narrow,
+            kept: KeptFor::Cost,
+            left_kept: self.kept,
             ..self
         }
     }
 }
 
 /// The trees that are kept of a set. How many rows it has depends on how it is joined, since those of each join are rounded up. So beside the
-/// least sum of cost and rows one is kept with few rows: above it they may cost more than they save below. The second one of a leaf is the leaf
-/// without its conditions: joined with those in the join, it may have fewer rows than by rounding twice.
+/// least sum of cost and rows one is kept with few rows: above it they may cost more than they save below; and, of few leaves, one with the fewest. The second
+/// one of a leaf is the leaf without its conditions: joined with those in the join, it may have fewer rows than by rounding twice.
 #[derive(Clone, Copy, Drop)]
 struct Kept {
     cheap: Joined,
     narrow: Joined,
+    fewest: Joined,
 }
 
 /// Of a set that is not looked at.
 const NONE_KEPT: Kept = Kept {
     cheap: NOTHING,
     narrow: NOTHING,
+    fewest: NOTHING,
 };
 
 impl Kept {
-    fn tree(self, is_narrow: bool) -> Joined {
-        if is_narrow { self.narrow } else { self.cheap }
+    fn tree(self, kept: KeptFor) -> Joined {
+        match kept {
+            KeptFor::Cost => self.cheap,
+            KeptFor::NarrowCost => self.narrow,
+            KeptFor::Rows => self.fewest,
+        }
     }
 
-    /// Whether a tree of this cost may be better than one that is kept. The first has no greater weight than the second.
+    /// Whether a tree of this cost may be better than one that is kept for its cost. The first has no greater weight than the second.
     fn is_beaten_by(self, cost: u64) -> bool {
         self.narrow.set.is_empty() || cost < self.narrow.weight(NARROW)
+    }
+
+    /// Whether a tree has fewer rows than each that is kept, or as many at less cost.
+    fn is_wider_than(self, found: Joined) -> bool {
+        found.rows < self.fewest.rows
+            || (found.rows == self.fewest.rows && found.cost < self.fewest.cost)
+            || self.fewest.set.is_empty()
     }
 
     /// Keeps the tree where it is better than one that is kept.
     fn keep(&mut self, found: Joined) {
         if found.weight(1) < self.cheap.weight(1) || self.cheap.set.is_empty() {
-            self.cheap = found;
+            self.cheap = Joined {
+                kept: KeptFor::Cost,
+                ..found
+            };
         }
         if found.weight(NARROW) < self.narrow.weight(NARROW) || self.narrow.set.is_empty() {
             self.narrow = Joined {
-                is_narrow: true,
+                kept: KeptFor::NarrowCost,
+                ..found
+            };
+        }
+        if self.is_wider_than(found) {
+            self.fewest = Joined {
+                kept: KeptFor::Rows,
                 ..found
             };
         }
@@ -134,6 +170,8 @@ impl Kept {
 pub struct JoinTree {
     joined: Vec<Joined>,
     pub homes: Vec<LeafSet>,
+    /// The numbers of those that were placed together with the leaves: what is asked of the rows that others leave before these.
+    pub asked: Vec<usize>,
 }
 
 fn leaf_joined(graph: &Graph, place: usize) -> Joined {
@@ -158,12 +196,16 @@ fn kept_leaf(graph: &Graph, place: usize) -> Kept {
             cost: leaf.bare_cost,
             is_bare: true,
             share,
-            is_narrow: true,
+            kept: KeptFor::NarrowCost,
             ..cheap
         },
         None => cheap,
     };
-    Kept { cheap, narrow }
+    Kept {
+        cheap,
+        narrow,
+        fewest: cheap,
+    }
 }
 
 /// The cost of a hash join or a nested loop, whichever is less.
@@ -210,9 +252,9 @@ fn join_of(graph: &Graph, left: Joined, right: Joined, rows: u64) -> Joined {
         is_probed,
         is_bare: false,
         share: ALL,
-        is_narrow: false,
-        is_left_narrow: left.is_narrow,
-        is_right_narrow: right.is_narrow,
+        kept: KeptFor::Cost,
+        left_kept: left.kept,
+        right_kept: right.kept,
         asked: left.asked | right.asked,
         left_asked: left.asked,
         right_asked: right.asked,
@@ -249,6 +291,11 @@ impl Cells {
             .get(self.place(set, asked))
             .copied()
             .unwrap_or(NONE_KEPT)
+    }
+
+    /// Whether all is asked of the whole, whose rows cost nothing above it.
+    fn is_last(&self, set: LeafSet, asked: u8) -> bool {
+        set == self.last && asked.saturating_add(1) == self.asked_sets
     }
 
     fn put(&mut self, set: LeafSet, asked: u8, kept: Kept) {
@@ -288,7 +335,8 @@ impl Sides<'_> {
     /// Looks at the join of these trees of the sides.
     fn look(&mut self, left: Joined, right: Joined, best: &mut Kept) {
         let mut found = cheaper_join(self.graph, left, right, 0);
-        if !best.is_beaten_by(found.cost) {
+        let is_counted = self.rows.is_none() && self.graph.leaves.len() <= MOST_COUNTED;
+        if !is_counted && !best.is_beaten_by(found.cost) {
             return;
         }
         found.rows = match self.rows {
@@ -301,29 +349,35 @@ impl Sides<'_> {
         best.keep(found);
     }
 
-    /// The second tree of a side, if it is looked at: it has fewer rows, or is a leaf without its conditions, which costs less.
-    fn narrow(side: Kept) -> Option<Joined> {
+    /// The trees of a side that are looked at beside the first one: they have fewer rows than those before, or are a leaf without its conditions, which costs less.
+    fn others(side: Kept) -> [Option<Joined>; 2] {
         let narrow = side.narrow;
-        if narrow.rows < side.cheap.rows || narrow.is_bare {
-            Some(narrow)
-        } else {
-            None
+        let fewest = side.fewest;
+        let is_narrow = narrow.rows < side.cheap.rows || narrow.is_bare;
+        let is_least = fewest.rows < side.cheap.rows && fewest.rows < narrow.rows;
+        [
+            if is_narrow { Some(narrow) } else { None },
+            if is_least { Some(fewest) } else { None },
+        ]
+    }
+
+    /// Looks at the joins of a left tree with all of the right ones.
+    fn look_at_right(&mut self, left: Joined, others: [Option<Joined>; 2], best: &mut Kept) {
+        self.look(left, self.right.cheap, best);
+        for right in others {
+            if let Some(right) = right {
+                self.look(left, right, best);
+            }
         }
     }
 
     /// Looks at the joins of all trees of the sides.
     fn look_at_all(&mut self, best: &mut Kept) {
-        let left = self.left.cheap;
-        let right = self.right.cheap;
-        self.look(left, right, best);
-        let narrow_right = Sides::narrow(self.right);
-        if let Some(right) = narrow_right {
-            self.look(left, right, best);
-        }
-        if let Some(left) = Sides::narrow(self.left) {
-            self.look(left, right, best);
-            if let Some(right) = narrow_right {
-                self.look(left, right, best);
+        let others = Sides::others(self.right);
+        self.look_at_right(self.left.cheap, others, best);
+        for left in Sides::others(self.left) {
+            if let Some(left) = left {
+                self.look_at_right(left, others, best);
             }
         }
     }
@@ -380,7 +434,7 @@ fn look_at_sides(
             let is_apart = left_asked & right_asked == 0;
             if is_apart && !first.cheap.set.is_empty() && !second.cheap.set.is_empty() {
                 let asked = left_asked | right_asked;
-                let rows = if set == cells.last && asked.saturating_add(1) == cells.asked_sets {
+                let rows = if cells.is_last(set, asked) {
                     Some(0)
                 } else {
                     known.map(|rows| asked_rows(graph, asked, rows))
@@ -402,15 +456,19 @@ fn look_at_sides(
 }
 
 /// Looks at what comes of the rows of a set of which something is asked.
-fn look_at_asking(graph: &Graph, set: LeafSet, asked_sets: u8, best: &mut KeptOfSet) {
-    for asked in 0..asked_sets {
+fn look_at_asking(graph: &Graph, cells: &Cells, set: LeafSet, best: &mut KeptOfSet) {
+    for asked in 0..cells.asked_sets {
         for (extra, bit) in graph.extras.iter().zip(BITS) {
             if asked & bit != 0 && extra.leaves().is_within(set) {
                 let below = best.at(asked & !bit);
                 if let Some(kept) = best.at_mut(asked) {
-                    for tree in [below.cheap, below.narrow] {
+                    for tree in [below.cheap, below.narrow, below.fewest] {
                         if !tree.set.is_empty() && !tree.is_bare {
-                            kept.keep(tree.asking(*extra, bit));
+                            let mut found = tree.asking(*extra, bit);
+                            if cells.is_last(set, asked) {
+                                found.rows = 0;
+                            }
+                            kept.keep(found);
                         }
                     }
                 }
@@ -439,7 +497,7 @@ fn best_of(graph: &Graph, cells: &Cells, set: LeafSet) -> KeptOfSet {
         look_at_sides(graph, cells, set.minus(part), part, known, &mut best);
         part = part.before(others);
     }
-    look_at_asking(graph, set, cells.asked_sets, &mut best);
+    look_at_asking(graph, cells, set, &mut best);
     best
 }
 
@@ -488,6 +546,7 @@ fn least_tree(alloc: Global, graph: &Graph, count: usize) -> Result<JoinTree, Al
     let cells = all_subsets(alloc, graph, whole)?;
     let mut joined = Vec::new(alloc);
     let mut homes = Vec::from_elem(alloc, LeafSet::EMPTY, graph.extras.len())?;
+    let mut asked = Vec::new(alloc);
     let mut open = Vec::new(alloc);
     open.push(cells.at(whole, cells.asked_sets.saturating_sub(1)).cheap)?;
     for _ in 0..MOST_SUBSETS {
@@ -496,25 +555,32 @@ fn least_tree(alloc: Global, graph: &Graph, count: usize) -> Result<JoinTree, Al
         };
         let set = tree.set;
         if tree.last != 0 {
-            for (home, bit) in homes.iter_mut().zip(BITS) {
-                if tree.last == bit {
-                    *home = set;
+            for (number, bit) in BITS.iter().enumerate() {
+                if tree.last == *bit {
+                    asked.push(number)?;
+                    if let Some(home) = homes.get_mut(number) {
+                        *home = set;
+                    }
                 }
             }
             let below = cells.at(set, tree.asked & !tree.last);
-            open.push(below.tree(tree.is_left_narrow))?;
+            open.push(below.tree(tree.left_kept))?;
         } else {
             joined.push(tree)?;
             if set.count() > 1 {
                 let left = cells.at(tree.left, tree.left_asked);
-                open.push(left.tree(tree.is_left_narrow))?;
+                open.push(left.tree(tree.left_kept))?;
                 let right = cells.at(tree.right, tree.right_asked);
-                open.push(right.tree(tree.is_right_narrow))?;
+                open.push(right.tree(tree.right_kept))?;
             }
         }
     }
     joined.reverse();
-    Ok(JoinTree { joined, homes })
+    Ok(JoinTree {
+        joined,
+        homes,
+        asked,
+    })
 }
 
 /// Two of the parts, by their places.
@@ -593,6 +659,7 @@ fn greedy_tree(alloc: Global, graph: &Graph, count: usize) -> Result<JoinTree, A
     Ok(JoinTree {
         joined: sets,
         homes,
+        asked: Vec::new(alloc),
     })
 }
 
