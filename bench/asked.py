@@ -4,12 +4,13 @@
 The queries are those of quality.py with something more: a subquery that is asked of one table or of two, NOT IN, both, or a left join, or two, that stand
 in the text behind a table, the whole, or a part of the joins. The second search is this script's own: over all bushy trees, and for each subquery and each left
 join over all sets of tables of whose rows it may be asked: those that have its columns. It pays for each row what the subquery's own plan costs, and for a left
-join what joining the rows of the set costs.
+join what joining the rows of the set costs. Two left joins of one table stay in the order of the text: by O4 and O5 left joins pass inner ones, and so each other
+where their tables are joined, but no rule lets two of one table change places. With `--any-order` the second search lets them.
 
 Told are, for each kind, shape and number of tables, the geometric mean and the worst of the planned cost over the least one. The seed is fixed, so
 each run asks the same. Wants the program built.
 
-usage: asked.py [--program PATH] [--limit LINES] [--worst] [--kinds KIND,..] [DRAWS [FEWEST MOST [SEED]]]
+usage: asked.py [--program PATH] [--limit LINES] [--worst] [--any-order] [--kinds KIND,..] [DRAWS [FEWEST MOST [SEED]]]
 """
 import json
 import math
@@ -26,6 +27,7 @@ from quality import MILLION, Side, all_of, edge_share, index_scan_cost, per_mill
 ROOT = pathlib.Path(__file__).resolve().parent.parent
 KINDS = ("exists", "not_in", "both", "left_table", "left_whole", "left_part", "two_lefts")
 HALF = 500_000
+ANY_ORDER = "--any-order" in sys.argv
 
 
 # ---- what is joined
@@ -52,9 +54,9 @@ def table_leaf(table, probes):
 def with_asked(trees, extras, whole):
     """Of each set of subqueries and left joins that are asked in a set of tables, the trees; the others by asking one more."""
     for asked in sorted(range(1 << len(extras)), key=lambda bits: bits.bit_count()):
-        for place, (owners, ask) in enumerate(extras):
+        for place, (owners, ask, later) in enumerate(extras):
             bit = 1 << place
-            if asked & bit and owners & whole == owners:
+            if asked & bit and not asked & later and owners & whole == owners:
                 for one in trees.get(asked & ~bit, []):
                     if one.shares == 1.0:
                         trees.setdefault(asked, []).append(ask(one))
@@ -70,7 +72,7 @@ def with_asked(trees, extras, whole):
 
 def least_trees(leaves, edges, extras):
     """The trees of all leaves with all subqueries and left joins asked, of which none has fewer rows at no more cost. An edge is two places and a share; what is
-    asked, the places that it wants, and what it makes of a tree."""
+    asked, the places that it wants, what it makes of a tree, and the bits of what is never asked before it."""
     count = len(leaves)
     near = [0] * count
     for a, b, _ in edges:
@@ -190,7 +192,7 @@ def subquery_draw(rng, kind, drawn):
     asked += [not_in_of(rng, drawn)] if kind in ("not_in", "both") else []
     places = list(range(count))
     leaves = [table_leaf(drawn.tables[place], probes) for place, probes in zip(places, probes_of(drawn, places))]
-    trees = least_trees(leaves, edges_between(drawn, places), [(owners, asking(cost)) for _, owners, cost in asked])
+    trees = least_trees(leaves, edges_between(drawn, places), [(owners, asking(cost), 0) for _, owners, cost in asked])
     return Asked(drawn, with_conditions(drawn.text, [text for text, _, _ in asked]), min(one.cost for one in trees) + 1)
 
 
@@ -220,6 +222,14 @@ def left_of(rng, drawn, below):
     return f" LEFT JOIN t{number} ON t{number}.{column} = t{owner}.v", 1 << drawn.from_order.index(owner), left_joining(right, part, probe)
 
 
+def left_extras(lefts):
+    """Of each left join, the lowest first, which of those above it are of its table."""
+    if ANY_ORDER:
+        return [(owners, ask, 0) for owners, ask in lefts]
+    above = lambda place, owners: sum(1 << other for other in range(place + 1, len(lefts)) if lefts[other][0] & owners)
+    return [(owners, ask, above(place, owners)) for place, (owners, ask) in enumerate(lefts)]
+
+
 def left_draw(rng, kind, drawn):
     tables, order = drawn.tables, drawn.from_order
     count = len(order)
@@ -236,7 +246,7 @@ def left_draw(rng, kind, drawn):
     where = [condition for place in order for condition in quality.filter_texts(place, tables[place])]
     text += (" WHERE " + " AND ".join(where)) if where else ""
     leaves = [table_leaf(tables[place], probes) for place, probes in zip(order, probes_of(drawn, order))]
-    trees = least_trees(leaves, edges_between(drawn, order), [(owners, ask) for _, (_, owners, ask) in lefts])
+    trees = least_trees(leaves, edges_between(drawn, order), left_extras([(owners, ask) for _, (_, owners, ask) in lefts]))
     return Asked(drawn, text, min(one.cost for one in trees) + 1)
 
 

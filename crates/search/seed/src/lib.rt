@@ -5,6 +5,7 @@
 #![tactic(auto)]
 
 mod founding;
+mod lifting;
 mod lowering;
 mod nodes;
 mod placing;

@@ -1,6 +1,7 @@
 //! Outer joins above a region go below its joins, to the rows of which they are asked at least cost.
 
 use crate::founding::{SetClass, class_of};
+use crate::lifting::{change_places, lower_and_lift, placed_joins};
 use crate::nodes::{join_line, line_over, step};
 use crate::raising::left_joins_of;
 use algebra::{ClassId, Conjuncts, Expr, LineId};
@@ -16,7 +17,7 @@ const MOST_LEFT_JOINS: usize = 64;
 /// An outer join, whose left side is the class of a set.
 #[derive(Drop)]
 pub(crate) struct Padded {
-    line: LineId,
+    pub line: LineId,
     class: ClassId,
     pub condition: Conjuncts,
     pub right: ClassId,
@@ -60,7 +61,7 @@ fn padded_over(
 }
 
 /// The class of a set is another one from now on.
-fn put(classes: &mut Vec<SetClass>, set: LeafSet, class: ClassId) -> Result<(), AllocError> {
+pub(crate) fn put(classes: &mut Vec<SetClass>, set: LeafSet, class: ClassId) -> Result<(), AllocError> {
     for one in classes.iter_mut() {
         if one.set == set {
             one.class = class;
@@ -72,7 +73,7 @@ fn put(classes: &mut Vec<SetClass>, set: LeafSet, class: ClassId) -> Result<(), 
 }
 
 /// A line of the class that joins these sides in this order, turned for it where it joins them in the other one.
-fn join_over(
+pub(crate) fn join_over(
     alloc: Global,
     memo: &mut Memo<'_>,
     class: ClassId,
@@ -88,8 +89,27 @@ fn join_over(
     }
 }
 
+/// The lines of a class that join the left side with something else than the right one: with a leaf whose matches an index finds, which stands without the
+/// conditions on it alone.
+pub(crate) fn joins_beside(
+    alloc: Global,
+    memo: &Memo<'_>,
+    class: ClassId,
+    left: ClassId,
+    right: ClassId,
+) -> Result<Vec<LineId>, AllocError> {
+    let mut lines = memo.log().members(alloc, class)?;
+    lines.retain(|line| match join_line(memo, *line) {
+        Some(join) => {
+            memo.log().are_same(join.left, left) && !memo.log().are_same(join.right, right)
+        }
+        None => false,
+    });
+    Ok(lines)
+}
+
 /// The side of a set that has all of the leaves, and the other one.
-fn sides_to(tree: &JoinTree, set: LeafSet, home: LeafSet) -> Option<(LeafSet, LeafSet)> {
+pub(crate) fn sides_to(tree: &JoinTree, set: LeafSet, home: LeafSet) -> Option<(LeafSet, LeafSet)> {
     let joined = tree.joined(set);
     if set.count() < 2 || home.is_empty() {
         None
@@ -128,6 +148,10 @@ fn lowered(
     let Some(made) = join_line(memo, made) else {
         return Ok(None);
     };
+    for join in joins_beside(alloc, memo, whole, below, beside)? {
+        let lines = BoundLines::Two(line, join);
+        let _ = step(alloc, memo, RuleName::LeftJoinBelowJoin, lines)?;
+    }
     for line in left_joins_of(alloc, memo, made.left)? {
         if left_join_at(alloc, memo, line, below)?.is_some() {
             return Ok(Some(line));
@@ -137,7 +161,7 @@ fn lowered(
 }
 
 /// Brings an outer join of the whole to its home. The sets on the way have its class from then on.
-fn lower_to(
+pub(crate) fn lower_to(
     alloc: Global,
     memo: &mut Memo<'_>,
     tree: &JoinTree,
@@ -194,6 +218,7 @@ pub(crate) fn padded_above(
 pub(crate) fn place_left_joins(
     alloc: Global,
     memo: &mut Memo<'_>,
+    leaves: &[ClassId],
     choice: &Choice,
     above: &[Padded],
     whole: ClassId,
@@ -201,9 +226,12 @@ pub(crate) fn place_left_joins(
 ) -> Result<(), AllocError> {
     let tree = &choice.tree;
     put(&mut classes, tree.root().set, whole)?;
-    let homes = tree.homes.iter().skip(choice.subqueries.len());
-    for (one, home) in above.iter().zip(homes) {
-        lower_to(alloc, memo, tree, &mut classes, one.line, *home)?;
+    let placed = placed_joins(alloc, memo, leaves, choice, above)?;
+    if change_places(&placed) {
+        return lower_and_lift(alloc, memo, tree, above, &placed, classes);
+    }
+    for (one, placed) in above.iter().zip(placed.iter()) {
+        lower_to(alloc, memo, tree, &mut classes, one.line, placed.home)?;
     }
     Ok(())
 }
