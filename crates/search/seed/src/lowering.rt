@@ -61,7 +61,11 @@ fn padded_over(
 }
 
 /// The class of a set is another one from now on.
-pub(crate) fn put(classes: &mut Vec<SetClass>, set: LeafSet, class: ClassId) -> Result<(), AllocError> {
+pub(crate) fn put(
+    classes: &mut Vec<SetClass>,
+    set: LeafSet,
+    class: ClassId,
+) -> Result<(), AllocError> {
     for one in classes.iter_mut() {
         if one.set == set {
             one.class = class;

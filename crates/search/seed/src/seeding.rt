@@ -101,15 +101,7 @@ fn seed_tree(
     };
     reach(alloc, memo, &mut nodes, wishes, tree, top)?;
     let whole = class_of_region(memo, region);
-    place_left_joins(
-        alloc,
-        memo,
-        &parts.leaves,
-        choice,
-        above,
-        whole,
-        classes,
-    )
+    place_left_joins(alloc, memo, &parts.leaves, choice, above, whole, classes)
 }
 
 /// The class of a region.
