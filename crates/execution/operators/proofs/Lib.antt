@@ -1,15 +1,16 @@
 pub mod FilteredJoins
 pub mod FirstSeen
 pub mod GroupEnvs
+pub mod MovedRows
 pub mod NumberedGroups
 pub mod PlainParts
 pub mod PlanOutputs
 pub mod Readable
 pub mod RightSides
+pub mod RowTruths
 pub mod RunnablePlans
 pub mod RunningGroups
 pub mod RunPlaces
-pub mod SettledRows
 pub mod ShownRows
 pub mod SortedInputs
 pub mod TableScans

@@ -2,8 +2,8 @@ pub mod FilteredJoins
 pub mod Grouped
 pub mod Groups
 pub mod RightSides
+pub mod RowReadings
 pub mod Runnable
-pub mod Settled
 pub mod Shown
 pub mod Sorting
 pub mod Sources

@@ -1,6 +1,7 @@
 //! Stable sorts by columns.
 
-ghost use Rattle.std.specs.Prelude.{◌≡◌, ◌∷◌, map, IfOk};
+ghost use Rattle.std.specs.Prelude.{◌≡◌, ◌∷◌, map, IfOk, IsPermutation};
+ghost use Rattle.std.specs.List.{range_with_len};
 ghost use Rattle.values.specs.Cells.{value_of};
 ghost use Rattle.physical.specs.Sorts as spec;
 ghost use Rattle.relations.specs.Relations.{IsOutput, env_of, numbered_env, numbers_of, rows_of};
@@ -90,7 +91,8 @@ fn sorted_numbers<'e, 't>(
     input: &'e Relation<'t>,
     env: &'e Env<'e, 't>,
 ) -> Result<Vec<usize>, AllocError>
-    ensures { IfOk result (λ numbers. map (numbered_env input.now (env_of env.now)) numbers.items ≡ spec.sorted (spec.keys_order (first.now ∷ later.now)) (rows_of input.now (env_of env.now))) }
+    ensures each { IfOk result (λ numbers. IsPermutation (numbers_of input.now) numbers.items) }
+    ensures rows { IfOk result (λ numbers. map (numbered_env input.now (env_of env.now)) numbers.items ≡ spec.sorted (spec.keys_order (first.now ∷ later.now)) (rows_of input.now (env_of env.now))) }
 {
     let mut keyed = keyed_rows(alloc, first.column, input, env)?;
     let rows = Around { input, env };
@@ -98,6 +100,32 @@ fn sorted_numbers<'e, 't>(
     let mut numbers = Vec::with_capacity(alloc, keyed.len())?;
     for row in keyed.as_slice() {
         numbers.push(row.number)?;
+    }
+    Ok(numbers)
+}
+
+/// The numbers of all rows, by the keys.
+pub(crate) fn numbers_in_order<'t>(
+    alloc: Global,
+    keys: &[OrderKey],
+    input: &Relation<'t>,
+    env: &Env<'_, 't>,
+) -> Result<Vec<usize>, AllocError>
+    ensures { IfOk result (λ numbers. IsPermutation (numbers_of input.now) numbers.items) }
+{
+    match keys.split_first() {
+        Some((first, later)) => sorted_numbers(alloc, first, later, &*input, &*env),
+        None => all_numbers(alloc, input.rows.count),
+    }
+}
+
+/// So many numbers, in their order.
+fn all_numbers(alloc: Global, count: usize) -> Result<Vec<usize>, AllocError>
+    ensures { IfOk result (λ numbers. numbers.items ≡ range_with_len 0 count) }
+{
+    let mut numbers = Vec::with_capacity(alloc, count)?;
+    for number in 0..count {
+        numbers.push(number)?;
     }
     Ok(numbers)
 }

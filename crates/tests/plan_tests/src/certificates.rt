@@ -233,7 +233,8 @@ SELECT DISTINCT b FROM t => scan 0 0 | sort: 1 | cut 1: 1 | sdistinct 2 => accep
 SELECT DISTINCT b FROM t => scan 0 0 | cut 1: 1 | sdistinct 2 => K07 line 3";
 
 /// Joins keep the order of the loops, groups and distinct rows come as first seen, and sorts are stable. Among a Null alone
-/// nothing is found: that is unknown. Without keys there is one group, over no rows too.
+/// nothing is found: that is unknown. Without keys there is one group, over no rows too. A filter by a subquery that reads a column with
+/// the same values in several rows keeps the rows' order.
 const ROWS: &str =
     "SELECT a, b FROM t => scan 0 0 | cut 1: 0 1 => accepted ;1,20,;2,-,;3,10,;4,-,;5,20,
 SELECT b FROM t => scan 0 0 | cut 1: 1 => accepted ;20,;-,;10,;-,;20,
@@ -241,6 +242,8 @@ SELECT a FROM t WHERE a = 7 => scan 0 0 | filter 1 | cut 2: 0 => accepted
 SELECT a, c, d FROM t JOIN u ON a = c => scan 0 0 | scan 1 1 | loop 2 | cut 3: 0 2 3 => accepted ;1,1,-,;3,3,x,;3,3,y,
 SELECT a, c, d FROM t LEFT JOIN u ON a = c => scan 0 0 | scan 1 1 | left 2 | cut 3: 0 2 3 => accepted ;1,1,-,;2,-,-,;3,3,x,;3,3,y,;4,-,-,;5,-,-,
 SELECT a FROM t WHERE EXISTS (SELECT * FROM u WHERE c = a) => scan 0 0 | scan 1 1 | filter 2 | cut 3: 2 3 | subqueries 4 1 | cut 5: 0 => accepted ;1,;3,
+SELECT x.a FROM t x WHERE x.a = 2 OR EXISTS (SELECT * FROM t y WHERE y.b = x.b AND y.a > 3) => scan 0 0 | scan 1 1 | filter 2 | cut 3: 2 3 | subqueries 4 1 | cut 5: 0 => accepted ;1,;2,;5,
+SELECT x.a FROM t x WHERE x.a NOT IN (SELECT y.a FROM t y WHERE y.b = x.b AND y.a < 5) => scan 0 0 | scan 1 1 | filter 2 | cut 3: 2 | subqueries 4 1 | cut 5: 0 => accepted ;2,;4,;5,
 SELECT a FROM t WHERE 'y' IN (SELECT d FROM u WHERE c = a) => scan 0 0 | scan 1 1 | filter 2 | cut 3: 3 | subqueries 4 1 | cut 5: 0 => accepted ;3,
 SELECT b, COUNT(*), COUNT(b), SUM(a), MIN(a), MAX(b) FROM t GROUP BY b => scan 0 0 | group 1 | cut 2: 1 2 3 4 5 6 => accepted ;20,2,2,6,1,20,;-,2,0,6,2,-,;10,1,1,3,3,10,
 SELECT COUNT(*), COUNT(b), SUM(a), MIN(a), MAX(b) FROM t WHERE a = 7 => scan 0 0 | filter 1 | group 2 | cut 3: 2 3 4 5 6 => accepted ;0,0,-,-,-,

@@ -25,4 +25,4 @@ pub returns-in_ok-numbers-in-Some : goal.returns-in_ok-numbers-in-Some
 returns-in_ok-numbers-in-Some c =
     let e = env_of c.args.env.now in
     reported c.chosen.result _ _ _ e c.chosen.ensures.columns (c.chosen.ensures.rows e)
-    (ap (λ (ns : List ℕ). map (numbered_env c.args.input e) ns) c.as_slice.ensures.value ∙ c.in_ok-numbers-in-Some.ensures ∙ ap (λ (ks : List OrderKey). sorted (keys_order ks) (rows_of c.args.input e)) (sym c.in-Some.ensures.cases.0))
+    (ap (λ (ns : List ℕ). map (numbered_env c.args.input e) ns) c.as_slice.ensures.value ∙ c.in_ok-numbers-in-Some.ensures.rows ∙ ap (λ (ks : List OrderKey). sorted (keys_order ks) (rows_of c.args.input e)) (sym c.in-Some.ensures.cases.0))
