@@ -1,6 +1,6 @@
 -- Conditions keep their truth at a row where a class has other rows there, among which the same is found in the columns that they ask for.
 use Rattle.std.proofs.Common.{◌≡◌, refl, ap, sym, ◌∙◌, subst, ℕ, Bool, true, false, not, ◌&&◌, ◌||◌, ◌==◌, List, [], ◌∷◌, map}
-use Rattle.std.specs.List.{list_any}
+use Rattle.std.specs.List.{list_all, list_any}
 use Rattle.std.proofs.lemmas.Bool.{and_parts, eqb-true}
 use Rattle.values.specs.declared.truth.Comparison.TheVariants as by_
 use Rattle.values.specs.declared.truth.Truth.{Truth}
@@ -8,18 +8,14 @@ use Rattle.values.specs.declared.truth.Truth.TheVariants as be
 use Rattle.values.specs.declared.value.Value.{Value}
 use Rattle.values.specs.Truth.{is_true, negation, disjunction, truth_of, compare}
 use Rattle.query.specs.Meaning.{all_of, any_of}
-use Rattle.algebra.specs.declared.condition.Condition.{Condition, roll-Condition, ind-Condition, map-Condition}
+use Rattle.algebra.specs.declared.condition.Condition.{Condition, roll-Condition, fold-roll-Condition, ind-Condition, map-Condition}
 use Rattle.algebra.specs.declared.condition.Condition.TheOpen.{Condition-F}
-use Rattle.algebra.specs.declared.condition.Condition.TheVariants.{rolls-Compare, rolls-IsNull, rolls-Not, rolls-And, rolls-Or, rolls-Exists, rolls-In}
-use Rattle.algebra.specs.declared.condition.Term.{Term}
 use Rattle.algebra.specs.Bags.{Env, Test, Bag}
 use Rattle.algebra.specs.Columns.{ColumnSet}
-use Rattle.algebra.specs.Conditions.{truth, holds, is_empty, term_value}
+use Rattle.algebra.specs.Conditions.{Meaning, Passes, truth_layer, truth, holds, is_empty, term_value}
 use Rattle.algebra.proofs.Lists.{two}
-use Rattle.algebra.proofs.Truths.{truth-Compare, truth-IsNull, truth-Not, truth-And, truth-Or, truth-Exists, truth-In}
 use Rattle.laws.specs.Rewriting.{ReadsOnly}
-use Rattle.subquery_rules.specs.Replacing.{asks, all_ask}
-use Rattle.subquery_rules.proofs.Equations.{asks_Not, asks_And, asks_Or, asks_In, asks_Compare, asks_IsNull, asks_Exists}
+use Rattle.subquery_rules.specs.Replacing.{asks_layer, asks, all_ask}
 use Rattle.subquery_rules.proofs.FoundAlike.{FoundAlike}
 use Rattle.subquery_rules.proofs.SubqueryTruths.{isnt_false, any_of-passes, true-either, isnt_false-either, has-row}
 
@@ -66,35 +62,32 @@ module _ (class : ℕ) (M : ColumnSet) (V W : ℕ → Bag) (r : Env) (others : (
   abbrev Part : Type 0
   Part = (c : Condition) × P c
 
-  abbrev wholes : List Part → List Condition
-  wholes ps = map (λ q. q.0) ps
+  abbrev whole : Condition-F Part → Condition-F Condition
+  whole y = map-Condition Part Condition (λ q. q.0) y
 
-  parts : (ps : List Part) → all_ask class (wholes ps) M ≡ true → map (λ c. truth c V r) (wholes ps) ≡ map (λ c. truth c W r) (wholes ps)
+  parts : (ps : List Part) → list_all (λ c. c M) (map (asks class) (map (λ q. q.0) ps)) ≡ true → map (λ m. m V r) (map truth (map (λ q. q.0) ps)) ≡ map (λ m. m W r) (map truth (map (λ q. q.0) ps))
   parts [] ask = refl
   parts (q ∷ ps) ask = let both = and_parts _ _ ask in two (λ t ts. t ∷ ts) (q.1 both.0) (parts ps both.1)
 
-  -- of the class the column is one of these
-  column-in : (g k : ℕ) → (not (g == class) || M k) ≡ true → (g == class) ≡ true → M k ≡ true
-  column-in g k ask is = ap (λ b. not b || M k) (sym is) ∙ ask
+  layer : (y : Condition-F Part) → asks_layer class (map-Condition Condition Passes (asks class) (whole y)) M ≡ true
+      → truth_layer (map-Condition Condition Meaning truth (whole y)) V r ≡ truth_layer (map-Condition Condition Meaning truth (whole y)) W r
+  layer (Condition-F.Compare op a b) ask = refl
+  layer (Condition-F.IsNull a) ask = refl
+  layer (Condition-F.Not q) ask = ap negation (q.1 ask)
+  layer (Condition-F.And q p ps) ask = ap all_of (parts (q ∷ p ∷ ps) ask)
+  layer (Condition-F.Or q p ps) ask = ap any_of (parts (q ∷ p ∷ ps) ask)
+  layer (Condition-F.Exists g) ask = ap truth_of (some-row g)
+  layer (Condition-F.In a g k) ask = any-value g k (λ is. ap (λ b. not b || M k) (sym is) ∙ ask) (compare by_.Equal (term_value a r))
 
-  layer : (y : Condition-F Part) → P (roll-Condition (map-Condition Part Condition (λ q. q.0) y))
-  layer (Condition-F.Compare op a b) = subst P (sym (rolls-Compare op a b)) (λ ask. truth-Compare op a b V r ∙ sym (truth-Compare op a b W r))
-  layer (Condition-F.IsNull a) = subst P (sym (rolls-IsNull a)) (λ ask. truth-IsNull a V r ∙ sym (truth-IsNull a W r))
-  layer (Condition-F.Not q) =
-      subst P (sym (rolls-Not q.0)) (λ ask. truth-Not q.0 V r ∙ ap negation (q.1 (sym (asks_Not class M q.0) ∙ ask)) ∙ sym (truth-Not q.0 W r))
-  layer (Condition-F.And q p ps) =
-      subst P (sym (rolls-And q.0 p.0 (wholes ps))) (λ ask. truth-And q.0 p.0 (wholes ps) V r
-      ∙ ap all_of (parts (q ∷ p ∷ ps) (sym (asks_And class M q.0 p.0 (wholes ps)) ∙ ask)) ∙ sym (truth-And q.0 p.0 (wholes ps) W r))
-  layer (Condition-F.Or q p ps) =
-      subst P (sym (rolls-Or q.0 p.0 (wholes ps))) (λ ask. truth-Or q.0 p.0 (wholes ps) V r
-      ∙ ap any_of (parts (q ∷ p ∷ ps) (sym (asks_Or class M q.0 p.0 (wholes ps)) ∙ ask)) ∙ sym (truth-Or q.0 p.0 (wholes ps) W r))
-  layer (Condition-F.Exists g) = subst P (sym (rolls-Exists g)) (λ ask. truth-Exists g V r ∙ ap truth_of (some-row g) ∙ sym (truth-Exists g W r))
-  layer (Condition-F.In a g k) =
-      subst P (sym (rolls-In a g k)) (λ ask. truth-In a g k V r
-      ∙ any-value g k (column-in g k (sym (asks_In class M a g k) ∙ ask)) (compare by_.Equal (term_value a r)) ∙ sym (truth-In a g k W r))
+  step : (y : Condition-F Part) → P (roll-Condition (whole y))
+  unfolding truth asks
+  step y ask =
+      ap (λ m. m V r) (fold-roll-Condition Meaning truth_layer (whole y))
+      ∙ layer y (subst (λ (f : Passes). f M ≡ true) (fold-roll-Condition Passes (asks_layer class) (whole y)) ask)
+      ∙ sym (ap (λ m. m W r) (fold-roll-Condition Meaning truth_layer (whole y)))
 
-  pub truth-asked : (c : Condition) → P c
-  truth-asked = ind-Condition P (λ x y is. subst (λ z. P (roll-Condition z)) is (layer y))
+  truth-asked : (c : Condition) → P c
+  truth-asked = ind-Condition P (λ x y is. subst (λ z. P (roll-Condition z)) is (step y))
 
   pub holds-asked : (C : List Condition) → all_ask class C M ≡ true → holds V C r ≡ holds W C r
   holds-asked [] ask = refl
@@ -109,25 +102,29 @@ module _ (class : ℕ) where
   abbrev SomePart : Type 0
   SomePart = (c : Condition) × AsksSome c
 
-  some-parts : (ps : List SomePart) → all_ask class (map (λ q. q.0) ps) (λ k. true) ≡ true
+  some-parts : (ps : List SomePart) → list_all (λ c. c (λ k. true)) (map (asks class) (map (λ q. q.0) ps)) ≡ true
   some-parts [] = refl
   some-parts (q ∷ ps) = rw (q.1, some-parts ps) refl
 
-  some-layer : (y : Condition-F SomePart) → AsksSome (roll-Condition (map-Condition SomePart Condition (λ q. q.0) y))
-  some-layer (Condition-F.Compare op a b) = subst AsksSome (sym (rolls-Compare op a b)) (asks_Compare class _ op a b)
-  some-layer (Condition-F.IsNull a) = subst AsksSome (sym (rolls-IsNull a)) (asks_IsNull class _ a)
-  some-layer (Condition-F.Not q) = subst AsksSome (sym (rolls-Not q.0)) (asks_Not class _ q.0 ∙ q.1)
-  some-layer (Condition-F.And q p ps) = subst AsksSome (sym (rolls-And q.0 p.0 (map (λ q. q.0) ps))) (asks_And class _ q.0 p.0 (map (λ q. q.0) ps) ∙ some-parts (q ∷ p ∷ ps))
-  some-layer (Condition-F.Or q p ps) = subst AsksSome (sym (rolls-Or q.0 p.0 (map (λ q. q.0) ps))) (asks_Or class _ q.0 p.0 (map (λ q. q.0) ps) ∙ some-parts (q ∷ p ∷ ps))
-  some-layer (Condition-F.Exists g) = subst AsksSome (sym (rolls-Exists g)) (asks_Exists class _ g)
-  some-layer (Condition-F.In a g k) = subst AsksSome (sym (rolls-In a g k)) (asks_In class _ a g k ∙ by (g == class))
+  some-layer : (y : Condition-F SomePart) → asks_layer class (map-Condition Condition Passes (asks class) (map-Condition SomePart Condition (λ q. q.0) y)) (λ k. true) ≡ true
+  some-layer (Condition-F.Compare op a b) = refl
+  some-layer (Condition-F.IsNull a) = refl
+  some-layer (Condition-F.Not q) = q.1
+  some-layer (Condition-F.And q p ps) = some-parts (q ∷ p ∷ ps)
+  some-layer (Condition-F.Or q p ps) = some-parts (q ∷ p ∷ ps)
+  some-layer (Condition-F.Exists g) = refl
+  some-layer (Condition-F.In a g k) = by (not (g == class))
     where
-      by : (b : Bool) → (not b || true) ≡ true
+      by : (b : Bool) → (b || true) ≡ true
       by true = refl
       by false = refl
 
+  some-step : (y : Condition-F SomePart) → AsksSome (roll-Condition (map-Condition SomePart Condition (λ q. q.0) y))
+  unfolding asks
+  some-step y = ap (λ (f : Passes). f (λ k. true)) (fold-roll-Condition Passes (asks_layer class) (map-Condition SomePart Condition (λ q. q.0) y)) ∙ some-layer y
+
   asks-some : (c : Condition) → AsksSome c
-  asks-some = ind-Condition AsksSome (λ x y is. subst (λ z. AsksSome (roll-Condition z)) is (some-layer y))
+  asks-some = ind-Condition AsksSome (λ x y is. subst (λ z. AsksSome (roll-Condition z)) is (some-step y))
 
   pub all_ask-some : (C : List Condition) → all_ask class C (λ k. true) ≡ true
   all_ask-some [] = refl

@@ -1,5 +1,5 @@
 -- What tests find among the rows of a projection, and among distinct rows, they find among those of the input.
-use Rattle.std.proofs.Common.{◌≡◌, refl, ap, sym, ◌∙◌, Bool, true, false, not, ◌&&◌, ◌||◌, if◌then◌else◌, ℕ, List, [], ◌∷◌}
+use Rattle.std.proofs.Common.{◌≡◌, refl, ap, sym, ◌∙◌, Bool, true, false, not, ◌&&◌, ◌||◌, ℕ, List, [], ◌∷◌}
 use Rattle.std.specs.List.{list_any}
 use Rattle.algebra.specs.Bags.{Env, Test, Bag, lay, same_on, keep, distinct_on, distinct}
 use Rattle.algebra.specs.Columns.{ColumnSet, has}

@@ -3,23 +3,21 @@ use Rattle.std.proofs.Common.{◌≡◌, refl, ap, sym, ◌∙◌, subst, ℕ, B
 use Rattle.std.specs.List.{list_all}
 use Rattle.std.proofs.lemmas.Bool.{eq-eqb}
 use Rattle.std.proofs.lemmas.List.Sums.{AllPass-from_list_all, list_all-from_AllPass}
-use Rattle.algebra.specs.declared.condition.Condition.{Condition, roll-Condition, ind-Condition, map-Condition}
+use Rattle.algebra.specs.declared.condition.Condition.{Condition, roll-Condition, fold-roll-Condition, ind-Condition, map-Condition}
 use Rattle.algebra.specs.declared.condition.Condition.TheOpen.{Condition-F}
-use Rattle.algebra.specs.declared.condition.Condition.TheVariants.{rolls-Compare, rolls-IsNull, rolls-Not, rolls-And, rolls-Or, rolls-Exists, rolls-In}
-use Rattle.algebra.specs.Alike.{rooted_condition, rooted_conjuncts}
+use Rattle.algebra.specs.Alike.{rooted_layer, rooted_condition, rooted_conjuncts}
 use Rattle.algebra.specs.Bags.{Env, Bag}
 use Rattle.algebra.specs.Columns.{ColumnSet}
-use Rattle.algebra.specs.Conditions.{holds, all_columns, all_classes, named_classes}
+use Rattle.algebra.specs.Conditions.{holds, Passes, columns_layer, all_columns, classes_layer, all_classes, named_classes}
 use Rattle.algebra.specs.Expressions.{subqueries_pass}
 use Rattle.algebra.proofs.Alike.{holds-rooted}
 use Rattle.algebra.proofs.ConditionNames.{columns-Compare, columns-IsNull, columns-Not, columns-Exists, columns-In, classes-Compare, classes-IsNull, classes-Not, classes-Exists, classes-In}
 use Rattle.algebra.proofs.ConjunctLists.{conjuncts-all}
 use Rattle.algebra.proofs.Equations.{all_columns_and, all_columns_or, all_classes_and, all_classes_or}
-use Rattle.algebra.proofs.Lists.{two, all-map-same}
+use Rattle.algebra.proofs.Lists.{all-map-same}
 use Rattle.algebra.proofs.NamedClasses.{all-named}
 use Rattle.subquery_rules.specs.Replacing.{in_place, replaced, all_ask}
 use Rattle.subquery_rules.proofs.AskedConditions.{holds-asked}
-use Rattle.subquery_rules.proofs.Equations.{rooted_Compare, rooted_IsNull, rooted_Not, rooted_And, rooted_Or, rooted_Exists, rooted_In}
 use Rattle.subquery_rules.proofs.FoundAlike.{FoundAlike}
 
 -- ---- truth
@@ -50,49 +48,49 @@ module _ (root : ℕ → ℕ) (p : ℕ → Bool) where
   abbrev Part : Type 0
   Part = (c : Condition) × Names c
 
-  abbrev wholes : List Part → List Condition
-  wholes ps = map (λ q. q.0) ps
+  abbrev whole : Condition-F Part → Condition-F Condition
+  whole y = map-Condition Part Condition (λ q. q.0) y
 
-  columns-parts : (ps : List Part) → list_all (λ c. all_columns c p) (map (rooted_condition root) (wholes ps)) ≡ list_all (λ c. all_columns c p) (wholes ps)
+  abbrev new : Condition-F Part → Condition
+  new y = rooted_layer root (map-Condition Condition Condition (rooted_condition root) (whole y))
+
+  columns-parts : (ps : List Part) → list_all (λ c. all_columns c p) (map (rooted_condition root) (map (λ q. q.0) ps)) ≡ list_all (λ c. c p) (map all_columns (map (λ q. q.0) ps))
   columns-parts [] = refl
   columns-parts (q ∷ ps) = rw (q.1.columns, columns-parts ps) refl
 
-  classes-parts : (ps : List Part) → list_all (λ c. all_classes c p) (map (rooted_condition root) (wholes ps)) ≡ list_all (λ c. all_classes c of_root) (wholes ps)
+  classes-parts : (ps : List Part) → list_all (λ c. all_classes c p) (map (rooted_condition root) (map (λ q. q.0) ps)) ≡ list_all (λ c. c of_root) (map all_classes (map (λ q. q.0) ps))
   classes-parts [] = refl
   classes-parts (q ∷ ps) = rw (q.1.classes, classes-parts ps) refl
 
-  layer : (y : Condition-F Part) → Names (roll-Condition (map-Condition Part Condition (λ q. q.0) y))
-  layer (Condition-F.Compare op a b) = subst Names (sym (rolls-Compare op a b)) (record {
-    columns = ap (λ c. all_columns c p) (rooted_Compare root op a b);
-    classes = ap (λ c. all_classes c p) (rooted_Compare root op a b) ∙ classes-Compare op a b p ∙ sym (classes-Compare op a b of_root);
-  })
-  layer (Condition-F.IsNull a) = subst Names (sym (rolls-IsNull a)) (record {
-    columns = ap (λ c. all_columns c p) (rooted_IsNull root a);
-    classes = ap (λ c. all_classes c p) (rooted_IsNull root a) ∙ classes-IsNull a p ∙ sym (classes-IsNull a of_root);
-  })
-  layer (Condition-F.Not q) = subst Names (sym (rolls-Not q.0)) (record {
-    columns = ap (λ c. all_columns c p) (rooted_Not root q.0) ∙ columns-Not _ p ∙ q.1.columns ∙ sym (columns-Not q.0 p);
-    classes = ap (λ c. all_classes c p) (rooted_Not root q.0) ∙ classes-Not _ p ∙ q.1.classes ∙ sym (classes-Not q.0 of_root);
-  })
-  layer (Condition-F.And q s ps) = subst Names (sym (rolls-And q.0 s.0 (wholes ps))) (record {
-    columns = ap (λ c. all_columns c p) (rooted_And root q.0 s.0 (wholes ps)) ∙ all_columns_and _ _ _ p ∙ columns-parts (q ∷ s ∷ ps) ∙ sym (all_columns_and q.0 s.0 (wholes ps) p);
-    classes = ap (λ c. all_classes c p) (rooted_And root q.0 s.0 (wholes ps)) ∙ all_classes_and _ _ _ p ∙ classes-parts (q ∷ s ∷ ps) ∙ sym (all_classes_and q.0 s.0 (wholes ps) of_root);
-  })
-  layer (Condition-F.Or q s ps) = subst Names (sym (rolls-Or q.0 s.0 (wholes ps))) (record {
-    columns = ap (λ c. all_columns c p) (rooted_Or root q.0 s.0 (wholes ps)) ∙ all_columns_or _ _ _ p ∙ columns-parts (q ∷ s ∷ ps) ∙ sym (all_columns_or q.0 s.0 (wholes ps) p);
-    classes = ap (λ c. all_classes c p) (rooted_Or root q.0 s.0 (wholes ps)) ∙ all_classes_or _ _ _ p ∙ classes-parts (q ∷ s ∷ ps) ∙ sym (all_classes_or q.0 s.0 (wholes ps) of_root);
-  })
-  layer (Condition-F.Exists g) = subst Names (sym (rolls-Exists g)) (record {
-    columns = ap (λ c. all_columns c p) (rooted_Exists root g) ∙ columns-Exists (root g) p ∙ sym (columns-Exists g p);
-    classes = ap (λ c. all_classes c p) (rooted_Exists root g) ∙ classes-Exists (root g) p ∙ sym (classes-Exists g of_root);
-  })
-  layer (Condition-F.In a g k) = subst Names (sym (rolls-In a g k)) (record {
-    columns = ap (λ c. all_columns c p) (rooted_In root a g k) ∙ columns-In a (root g) k p ∙ sym (columns-In a g k p);
-    classes = ap (λ c. all_classes c p) (rooted_In root a g k) ∙ classes-In a (root g) k p ∙ sym (classes-In a g k of_root);
-  })
+  columns-new : (y : Condition-F Part) → all_columns (new y) p ≡ columns_layer (map-Condition Condition Passes all_columns (whole y)) p
+  columns-new (Condition-F.Compare op a b) = columns-Compare op a b p
+  columns-new (Condition-F.IsNull a) = columns-IsNull a p
+  columns-new (Condition-F.Not q) = columns-Not _ p ∙ q.1.columns
+  columns-new (Condition-F.And q s ps) = all_columns_and _ _ _ p ∙ columns-parts (q ∷ s ∷ ps)
+  columns-new (Condition-F.Or q s ps) = all_columns_or _ _ _ p ∙ columns-parts (q ∷ s ∷ ps)
+  columns-new (Condition-F.Exists g) = columns-Exists (root g) p
+  columns-new (Condition-F.In a g k) = columns-In a (root g) k p
+
+  classes-new : (y : Condition-F Part) → all_classes (new y) p ≡ classes_layer (map-Condition Condition Passes all_classes (whole y)) of_root
+  classes-new (Condition-F.Compare op a b) = classes-Compare op a b p
+  classes-new (Condition-F.IsNull a) = classes-IsNull a p
+  classes-new (Condition-F.Not q) = classes-Not _ p ∙ q.1.classes
+  classes-new (Condition-F.And q s ps) = all_classes_and _ _ _ p ∙ classes-parts (q ∷ s ∷ ps)
+  classes-new (Condition-F.Or q s ps) = all_classes_or _ _ _ p ∙ classes-parts (q ∷ s ∷ ps)
+  classes-new (Condition-F.Exists g) = classes-Exists (root g) p
+  classes-new (Condition-F.In a g k) = classes-In a (root g) k p
+
+  step : (y : Condition-F Part) → Names (roll-Condition (whole y))
+  unfolding rooted_condition all_columns all_classes
+  step y =
+      let rolled = fold-roll-Condition Condition (rooted_layer root) (whole y) in
+      record {
+        columns = ap (λ c. all_columns c p) rolled ∙ columns-new y ∙ sym (ap (λ f. f p) (fold-roll-Condition Passes columns_layer (whole y)));
+        classes = ap (λ c. all_classes c p) rolled ∙ classes-new y ∙ sym (ap (λ f. f of_root) (fold-roll-Condition Passes classes_layer (whole y)));
+      }
 
   names : (c : Condition) → Names c
-  names = ind-Condition Names (λ x y is. subst (λ z. Names (roll-Condition z)) is (layer y))
+  names = ind-Condition Names (λ x y is. subst (λ z. Names (roll-Condition z)) is (step y))
 
   pub rooted-columns : (C : List Condition) → list_all (λ c. all_columns c p) (rooted_conjuncts root C) ≡ list_all (λ c. all_columns c p) C
   rooted-columns C =

@@ -1,17 +1,13 @@
 -- EXISTS and IN of a projection, or of distinct rows, are of their input: the laws.
-use Rattle.std.proofs.Common.{◌≡◌, refl, ap, sym, ◌∙◌, ℕ, true, List, Ok}
-use Rattle.std.specs.List.{list_any}
-use Rattle.algebra.specs.declared.expr.Expr.{Expr}
+use Rattle.std.proofs.Common.{◌≡◌, refl, ap, sym, ◌∙◌, ℕ, true}
 use Rattle.algebra.specs.declared.expr.Expr.TheVariants as expr
 use Rattle.algebra.specs.Bags.{Env, SameBag}
 use Rattle.algebra.specs.Columns.{ColumnSet, has}
-use Rattle.algebra.specs.Conditions.{all_columns}
 use Rattle.algebra.specs.Expressions.{is_query_column}
 use Rattle.algebra.proofs.SameBags.{any-same, same_bag-trans, same_bag-equal, select-same}
 use Rattle.props.specs.Knowledge.{Knowledge, with_rows}
 use Rattle.rules.specs.declared.pattern.Operator.TheVariants as operator
 use Rattle.rules.specs.declared.pattern.Operators.TheVariants.{Either}
-use Rattle.rules.specs.declared.shape.Shape.{Shape}
 use Rattle.rules.specs.declared.shape.Shape.TheVariants.{Class}
 use Rattle.rules.specs.Bindings.{ClassPick}
 use Rattle.rules.specs.Formed.{IsFormed}
@@ -21,8 +17,8 @@ use Rattle.rules.specs.Stability.{IsStable}
 use Rattle.rules.proofs.BoundForms.{class_selection}
 use Rattle.rules.proofs.Conditions.{if-given}
 use Rattle.rules.proofs.FormedBindings.{ClassLineIsFormed, class_line-formed}
-use Rattle.rules.proofs.FormedLines.{Site, MayStand, Is, Are, given-is, first-founded, select-are, class-stands, select-stands}
-use Rattle.rules.proofs.MatchedLines.{Stands, given, rows_of, shape_rows}
+use Rattle.rules.proofs.FormedLines.{Site, MayStand, Is, given-is, first-founded, select-are, class-stands, select-stands}
+use Rattle.rules.proofs.MatchedLines.{given, rows_of, shape_rows}
 use Rattle.rules.proofs.PatternedBindings.{LineKeepsTo, class_line-keeps}
 use Rattle.rules.proofs.ShapeMeanings.{class-is, select-is}
 use Rattle.rules.proofs.SoundBindings.{ClassLineIsSound, class_line-sound}

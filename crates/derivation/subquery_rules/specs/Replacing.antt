@@ -1,5 +1,5 @@
 -- A class in place of another one in conditions, and which columns of that one they ask for.
-use Rattle.std.specs.Prelude.{ℕ, Bool, true, not, ◌&&◌, ◌||◌, ◌==◌, if◌then◌else◌, List, ◌∷◌}
+use Rattle.std.specs.Prelude.{ℕ, true, not, ◌||◌, ◌==◌, if◌then◌else◌, List, ◌∷◌}
 use Rattle.std.specs.List.{list_all}
 use Rattle.algebra.specs.declared.condition.Condition.{Condition, fold-Condition}
 use Rattle.algebra.specs.declared.condition.Condition.TheOpen.{Condition-F}

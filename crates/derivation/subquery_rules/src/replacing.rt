@@ -30,7 +30,7 @@ impl Replacement {
 
 /// The condition with the replacement in each subquery.
 #[cycle(replaced)]
-#[tactic(auto, using(crate::proofs::Equations::rooted_Compare, crate::proofs::Equations::rooted_IsNull, crate::proofs::Equations::rooted_Not, crate::proofs::Equations::rooted_And, crate::proofs::Equations::rooted_Or, crate::proofs::Equations::rooted_Exists, crate::proofs::Equations::rooted_In))]
+#[tactic(auto, unfolding(algebra::specs::Alike::rooted_condition))]
 fn replaced_condition(
     alloc: Global,
     condition: &Condition,
@@ -73,7 +73,6 @@ fn replaced_part(
 }
 
 #[cycle(replaced)]
-#[tactic(auto, using(crate::proofs::Equations::rooted_Compare, crate::proofs::Equations::rooted_IsNull, crate::proofs::Equations::rooted_Not, crate::proofs::Equations::rooted_And, crate::proofs::Equations::rooted_Or, crate::proofs::Equations::rooted_Exists, crate::proofs::Equations::rooted_In))]
 fn replaced_conditions(
     alloc: Global,
     conditions: &[Condition],
@@ -102,7 +101,7 @@ pub(crate) fn replaced(
 
 /// Whether each column of the class that a condition asks for is among these.
 #[cycle(asks)]
-#[tactic(auto, using(crate::proofs::Equations::asks_Compare, crate::proofs::Equations::asks_IsNull, crate::proofs::Equations::asks_Not, crate::proofs::Equations::asks_And, crate::proofs::Equations::asks_Or, crate::proofs::Equations::asks_Exists, crate::proofs::Equations::asks_In))]
+#[tactic(auto, using(crate::proofs::Equations::asks_and, crate::proofs::Equations::asks_or), unfolding(crate::specs::Replacing::asks))]
 fn asks_for(condition: &Condition, class: ClassId, columns: &Columns) -> bool
     ensures { result ≡ spec.asks class condition.now (has columns.now) }
 {
