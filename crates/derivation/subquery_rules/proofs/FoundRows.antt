@@ -9,7 +9,7 @@ use Rattle.laws.specs.Rewriting.{AreApart}
 use Rattle.laws.proofs.JoinSums.{when_both, total_laid}
 
 -- one of the mapped rows passes where one does, by a test that agrees
-any-mapped : (t u : Test) (g : Env → Env) → ((s : Env) → t (g s) ≡ u s) → (rows : List Env) → list_any t (map g rows) ≡ list_any u rows
+pub any-mapped : (t u : Test) (g : Env → Env) → ((s : Env) → t (g s) ≡ u s) → (rows : List Env) → list_any t (map g rows) ≡ list_any u rows
 any-mapped t u g same [] = refl
 any-mapped t u g same (s ∷ rows) = rw (same s, any-mapped t u g same rows) refl
 

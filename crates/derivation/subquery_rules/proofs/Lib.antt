@@ -1,5 +1,8 @@
+pub mod AskedConditions
+pub mod Equations
 pub mod ExistsIsSemi
 pub mod ExistsOfSelectIsSemi
+pub mod FoundAlike
 pub mod FoundRows
 pub mod InIsSemi
 pub mod InSelectIsSemi
@@ -9,5 +12,7 @@ pub mod NotExistsOfSelectIsAnti
 pub mod NotInIsAnti
 pub mod NotInSelectIsAnti
 pub mod PickedConditions
+pub mod ReplacedConditions
+pub mod SubqueryOfInput
 pub mod SubqueryTruths
 pub mod UnnestedSubqueries

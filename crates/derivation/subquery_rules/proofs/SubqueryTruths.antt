@@ -27,7 +27,7 @@ use Rattle.subquery_rules.proofs.FoundRows.{At, some-filtered}
 
 -- ---- OR of a list
 
-abbrev isnt_false : Truth → Bool
+abbrev pub isnt_false : Truth → Bool
 isnt_false t = not (is_true (negation t))
 
 -- a test that OR passes where a side does
@@ -45,21 +45,21 @@ module _ (u : Truth → Bool) (none : u be.False ≡ false) (either : (a b : Tru
       by false = refl
 
   -- so it passes an OR over rows where it passes one
-  any_of-passes : (h : Env → Truth) (rows : List Env) → u (any_of (map h rows)) ≡ list_any (λ s. u (h s)) rows
+  pub any_of-passes : (h : Env → Truth) (rows : List Env) → u (any_of (map h rows)) ≡ list_any (λ s. u (h s)) rows
   any_of-passes h rows = passes-from be.False (map h rows) ∙ ap (λ b. b || list_any u (map h rows)) none ∙ mapped rows
     where
       mapped : (rows : List Env) → list_any u (map h rows) ≡ list_any (λ s. u (h s)) rows
       mapped [] = refl
       mapped (s ∷ rows) = ap (λ b. u (h s) || b) (mapped rows)
 
-true-either : (a b : Truth) → is_true (disjunction a b) ≡ (is_true a || is_true b)
+pub true-either : (a b : Truth) → is_true (disjunction a b) ≡ (is_true a || is_true b)
 true-either be.True b = refl
 true-either be.Unknown be.True = refl
 true-either be.Unknown be.Unknown = refl
 true-either be.Unknown be.False = refl
 true-either be.False b = refl
 
-isnt_false-either : (a b : Truth) → isnt_false (disjunction a b) ≡ (isnt_false a || isnt_false b)
+pub isnt_false-either : (a b : Truth) → isnt_false (disjunction a b) ≡ (isnt_false a || isnt_false b)
 isnt_false-either be.True b = refl
 isnt_false-either be.Unknown be.True = refl
 isnt_false-either be.Unknown be.Unknown = refl
@@ -68,14 +68,15 @@ isnt_false-either be.False b = refl
 
 -- ---- the four subqueries
 
+-- there is a row where a test that none fails finds one
+pub has-row : (rows : List Env) → not (is_empty rows) ≡ list_any (λ s. true) rows
+has-row [] = refl
+has-row (s ∷ rows) = refl
+
 module _ (W : ℕ → Bag) (g b : ℕ) (P : List Condition) (part : SameBag (W g) (select (holds W P) (W b))) where
   -- the rows of the class that the conditions hold with
   abbrev those : Env → List Env
   those r = select (holds W P) (W b) r
-
-  has-row : (rows : List Env) → not (is_empty rows) ≡ list_any (λ s. true) rows
-  has-row [] = refl
-  has-row (s ∷ rows) = refl
 
   found : (r : Env) → not (is_empty (W g r)) ≡ list_any (λ s. holds W P s && true) (W b r)
   found r = ap not (is_empty-same _ _ (part r)) ∙ has-row (those r) ∙ some-filtered (holds W P) (λ s. true) (W b r)

@@ -6,4 +6,6 @@ pub mod NotExistsIsAnti
 pub mod NotExistsOfSelectIsAnti
 pub mod NotInIsAnti
 pub mod NotInSelectIsAnti
+pub mod Replacing
+pub mod SubqueryOfInput
 pub mod Unnesting

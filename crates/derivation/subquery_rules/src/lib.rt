@@ -1,4 +1,4 @@
-//! Rules that turn subqueries of conditions into semijoins and antijoins, each with its laws.
+//! Rules of subqueries: that they are semijoins and antijoins, and what they don't see, each with its laws.
 #![tactic(auto)]
 
 pub mod exists_is_semi;
@@ -9,4 +9,6 @@ pub mod not_exists_is_anti;
 pub mod not_exists_of_select_is_anti;
 pub mod not_in_is_anti;
 pub mod not_in_select_is_anti;
+mod replacing;
+pub mod subquery_of_input;
 mod unnesting;
