@@ -5,3 +5,4 @@ pub mod Places
 pub mod Relations
 pub mod Resolved
 pub mod RowColumns
+pub mod ValueLists

@@ -16,6 +16,7 @@ pub mod row_columns;
 pub mod rows;
 mod terms;
 pub mod truth;
+pub mod value_lists;
 
 pub use environment::{Env, row_cell, row_column};
 pub use exchanged::turned;
@@ -25,3 +26,4 @@ pub use parts::Part;
 pub use relation::Relation;
 pub use row_columns::RowColumn;
 pub use rows::Rows;
+pub use value_lists::ValueList;
