@@ -1,5 +1,6 @@
 pub mod ColumnPlaces
 pub mod Comparisons
+pub mod ListedClasses
 pub mod ListedValues
 pub mod Narrowed
 pub mod Numbers

@@ -5,4 +5,5 @@ pub mod Places
 pub mod Relations
 pub mod Resolved
 pub mod RowColumns
+pub mod Subqueries
 pub mod ValueLists

@@ -11,7 +11,6 @@ use Rattle.relations.specs.Places.{place_in, place_list}
 use Rattle.relations.specs.declared.headings.Heading.{Heading}
 use Rattle.relations.specs.declared.headings.Place.{Place}
 use Rattle.relations.specs.declared.relation.Relation.{Relation}
-use Rattle.relations.specs.declared.truth.Subqueries.{Subqueries}
 use Rattle.relations.specs.declared.environment.Env as lent
 use Rattle.relations.specs.declared.environment.Env.{Empty, Inner'}
 
@@ -61,9 +60,6 @@ abbrev pub given : List ℕ → List Relation → ℕ → Bag
 given [] relations = no_classes
 given (g ∷ classes) [] = no_classes
 given (g ∷ classes) (r ∷ relations) = λ h. if g == h then rows_of r else given classes relations h
-
-abbrev pub subqueries_given : Subqueries → ℕ → Bag
-subqueries_given s = given s.classes.now s.relations.now
 
 -- the rows of a relation that is lent, if there is one
 abbrev pub rows_given : Option (Bor Relation) → Bag

@@ -1,28 +1,26 @@
 //! The truth of conditions.
 
-ghost use Rattle.std.specs.Prelude.{◌≡◌, fold, map, not};
+ghost use Rattle.std.specs.Prelude.{◌≡◌, fold, map, not, IfSome};
 ghost use Rattle.values.specs.Cells.{value_of};
 ghost use Rattle.values.specs.declared.truth.Comparison.TheVariants as by;
+ghost use Rattle.values.specs.declared.value.Value.{Value};
 ghost use Rattle.values.specs.Truth as logic;
 ghost use Rattle.query.specs.Meaning.{any_of};
 ghost use Rattle.algebra.specs.Bags as bags;
 ghost use Rattle.algebra.specs.Conditions as spec;
 ghost use Rattle.physical.specs.Outputs.{no_classes};
-ghost use Rattle.relations.specs.Relations.{env_of, given, numbered_env, rows_given, rows_of, subqueries_given};
+ghost use Rattle.relations.specs.Relations.{env_of, given, numbered_env, rows_given, rows_of};
+ghost use Rattle.relations.specs.Subqueries.{subqueries_given};
+ghost use Rattle.relations.specs.ValueLists.{AreListed, among, values_in};
 
 use crate::environment::Env;
 use crate::relation::Relation;
+use crate::subqueries::Subqueries;
 use crate::terms::{compare_terms, is_null};
+use crate::value_lists::ValueList;
 use algebra::{ClassId, Condition, Term};
 use query::ColumnId;
 use values::{Cell, Comparison, Truth, compare};
-
-/// The classes that conditions name, and their rows where the conditions stand.
-#[derive(Clone, Copy)]
-pub struct Subqueries<'a, 't> {
-    pub classes: &'a [ClassId],
-    pub relations: &'a [Relation<'t>],
-}
 
 /// The rows of a class; none where it is not among the classes.
 fn relation_of<'a, 't>(
@@ -45,6 +43,35 @@ fn relation_of<'a, 't>(
     }
 }
 
+/// The list of the values that the rows of a class have in a column; nothing where there is none.
+fn list_of<'a, 't>(
+    classes: &[ClassId],
+    relations: &[Relation<'t>],
+    lists: &'a [Option<ValueList<'t>>],
+    class: ClassId,
+    column: ColumnId,
+) -> Option<&'a ValueList<'t>>
+    requires { AreListed relations.now lists.now }
+    ensures { (e : bags.Env) (v : Value) → IfSome result (λ list. any_of (map (λ s. logic.compare by.Equal v (s column)) (given classes.now relations.now class e)) ≡ among v (values_in list.now)) }
+{
+    let [first, classes @ ..] = classes else {
+        return None;
+    };
+    let [_, relations @ ..] = relations else {
+        return None;
+    };
+    let [list, lists @ ..] = lists else {
+        return None;
+    };
+    if *first != class {
+        return list_of(classes, relations, lists, class, column);
+    }
+    match list {
+        Some(list) if list.column == column => Some(list),
+        _ => None,
+    }
+}
+
 impl<'a, 't> Subqueries<'a, 't> {
     /// No class has a row.
     pub fn none() -> Subqueries<'a, 't>
@@ -53,6 +80,7 @@ impl<'a, 't> Subqueries<'a, 't> {
         Subqueries {
             classes: &[],
             relations: &[],
+            lists: &[],
         }
     }
 
@@ -80,6 +108,9 @@ impl<'a, 't> Subqueries<'a, 't> {
     fn is_among(self, cell: Cell<'_>, class: ClassId, column: ColumnId, env: &Env<'_, '_>) -> Truth
         ensures { result ≡ any_of (map (λ s. logic.compare by.Equal (value_of cell.entry) (s column)) (subqueries_given self.entry class (env_of env.now))) }
     {
+        if let Some(list) = list_of(self.classes, self.relations, self.lists, class, column) {
+            return list.has(cell);
+        }
         match relation_of(self.classes, self.relations, class) {
             Some(relation) => equals_some(cell, relation, column, env),
             None => Truth::False,

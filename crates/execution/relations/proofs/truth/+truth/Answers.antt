@@ -5,7 +5,8 @@ use Rattle.algebra.specs.declared.condition.Condition.{Condition}
 use Rattle.algebra.specs.Conditions.{truth}
 use Rattle.algebra.proofs.Truths.{truth-Compare, truth-IsNull, truth-Not, truth-And, truth-Or, truth-Exists, truth-In}
 use Rattle.algebra.proofs.Lists.{fold-next}
-use Rattle.relations.specs.Relations.{env_of, subqueries_given}
+use Rattle.relations.specs.Relations.{env_of}
+use Rattle.relations.specs.Subqueries.{subqueries_given}
 use Rattle.relations.proofs.truth.+truth.Goals as goal
 
 pub truth-returns-in-IsNull : goal.truth-returns-in-IsNull

@@ -1,7 +1,8 @@
 use Rattle.std.proofs.Common.{◌≡◌, fold, map, take}
 use Rattle.values.specs.Truth.{conjunction, disjunction}
 use Rattle.algebra.specs.Conditions.{truth}
-use Rattle.relations.specs.Relations.{env_of, subqueries_given}
+use Rattle.relations.specs.Relations.{env_of}
+use Rattle.relations.specs.Subqueries.{subqueries_given}
 use Rattle.relations.proofs.truth.+truth.Given as goal
 
 abbrev pub invariant-all-loop-condition : goal.invariant-all-loop-condition

@@ -1,6 +1,7 @@
 use Rattle.std.proofs.Common.{◌≡◌, true, take}
 use Rattle.algebra.specs.Conditions.{holds}
-use Rattle.relations.specs.Relations.{env_of, subqueries_given}
+use Rattle.relations.specs.Relations.{env_of}
+use Rattle.relations.specs.Subqueries.{subqueries_given}
 use Rattle.relations.proofs.truth.holds.Given as goal
 
 abbrev pub invariant-loop-condition : goal.invariant-loop-condition

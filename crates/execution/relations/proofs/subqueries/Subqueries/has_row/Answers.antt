@@ -4,7 +4,7 @@ use Rattle.std.specs.List.{range_with_len}
 use Rattle.algebra.specs.Bags.{Env}
 use Rattle.algebra.specs.Conditions.{is_empty}
 use Rattle.relations.specs.Relations.{numbered_env}
-use Rattle.relations.proofs.truth.Subqueries.has_row.Goals as goal
+use Rattle.relations.proofs.subqueries.Subqueries.has_row.Goals as goal
 
 some-row : (row : ℕ → Env) (n : ℕ) → nat_lt 0 n ≡ not (is_empty (map row (range_with_len 0 n)))
 some-row row zero = refl
