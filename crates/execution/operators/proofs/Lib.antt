@@ -1,6 +1,7 @@
 pub mod FilteredJoins
 pub mod FirstSeen
 pub mod GroupEnvs
+pub mod ListedRelations
 pub mod MovedRows
 pub mod NumberedGroups
 pub mod PlainParts

@@ -6,6 +6,7 @@ mod grouped;
 mod groups;
 mod index_scans;
 mod keys;
+mod listed;
 mod right_sides;
 mod running;
 mod runs;
