@@ -1,7 +1,7 @@
 -- The rules by their names in certificates, the lines that each takes, and what it gives.
 use Rattle.std.specs.Prelude.{ℕ, List, [], ◌∷◌, Result, codes}
 use Rattle.book.specs.declared.names.RuleName.{RuleName}
-use Rattle.book.specs.declared.names.RuleName.TheVariants.{JoinCommutes, JoinAssociates, SelectsMerge, SelectBelowJoin, SelectIntoJoin, ConditionBelowJoin, SelectBelowSemi, KeepsMerge, KeepOfAll, KeepBelowJoin, DistinctOfKeyed, GroupIsDistinct, OuterJoinIsInner, SelectBelowLeftJoin, ConditionBelowLeftJoin, LeftJoinBelowJoin, LeftJoinAboveJoin, KeepOfLeftSide, OuterJoinIsAnti}
+use Rattle.book.specs.declared.names.RuleName.TheVariants.{JoinCommutes, JoinAssociates, SelectsMerge, SelectBelowJoin, SelectIntoJoin, ConditionBelowJoin, SelectBelowSemi, KeepsMerge, KeepOfAll, KeepBelowJoin, DistinctOfKeyed, GroupIsDistinct, OuterJoinIsInner, SelectBelowLeftJoin, ConditionBelowLeftJoin, LeftJoinBelowJoin, LeftJoinAboveJoin, KeepOfLeftSide, OuterJoinIsAnti, ExistsIsSemi, NotExistsIsAnti, InIsSemi, NotInIsAnti, AntijoinOfFilled, SubqueryOfInput, ExistsOfSelectIsSemi, NotExistsOfSelectIsAnti, InSelectIsSemi, NotInSelectIsAnti, SemijoinBelowJoin, SemijoinIsJoin}
 use Rattle.rules.specs.declared.shape.Shape.{Shape}
 use Rattle.rules.specs.declared.unfit.Unfit.{Unfit}
 use Rattle.rules.specs.declared.pattern.Pattern.{Pattern}
@@ -30,9 +30,21 @@ use Rattle.plain_rules.specs.SelectBelowJoin as select_below_join
 use Rattle.plain_rules.specs.SelectBelowSemi as select_below_semi
 use Rattle.plain_rules.specs.SelectIntoJoin as select_into_join
 use Rattle.plain_rules.specs.SelectsMerge as selects_merge
+use Rattle.semijoin_rules.specs.AntijoinOfFilled as antijoin_of_filled
+use Rattle.semijoin_rules.specs.SemijoinBelowJoin as semijoin_below_join
+use Rattle.semijoin_rules.specs.SemijoinIsJoin as semijoin_is_join
+use Rattle.subquery_rules.specs.ExistsIsSemi as exists_is_semi
+use Rattle.subquery_rules.specs.ExistsOfSelectIsSemi as exists_of_select_is_semi
+use Rattle.subquery_rules.specs.InIsSemi as in_is_semi
+use Rattle.subquery_rules.specs.InSelectIsSemi as in_select_is_semi
+use Rattle.subquery_rules.specs.NotExistsIsAnti as not_exists_is_anti
+use Rattle.subquery_rules.specs.NotExistsOfSelectIsAnti as not_exists_of_select_is_anti
+use Rattle.subquery_rules.specs.NotInIsAnti as not_in_is_anti
+use Rattle.subquery_rules.specs.NotInSelectIsAnti as not_in_select_is_anti
+use Rattle.subquery_rules.specs.SubqueryOfInput as subquery_of_input
 
 abbrev pub rules : List RuleName
-rules = JoinCommutes ∷ JoinAssociates ∷ SelectsMerge ∷ SelectBelowJoin ∷ SelectIntoJoin ∷ ConditionBelowJoin ∷ SelectBelowSemi ∷ KeepsMerge ∷ KeepOfAll ∷ KeepBelowJoin ∷ DistinctOfKeyed ∷ GroupIsDistinct ∷ OuterJoinIsInner ∷ SelectBelowLeftJoin ∷ ConditionBelowLeftJoin ∷ LeftJoinBelowJoin ∷ LeftJoinAboveJoin ∷ KeepOfLeftSide ∷ OuterJoinIsAnti ∷ []
+rules = JoinCommutes ∷ JoinAssociates ∷ SelectsMerge ∷ SelectBelowJoin ∷ SelectIntoJoin ∷ ConditionBelowJoin ∷ SelectBelowSemi ∷ KeepsMerge ∷ KeepOfAll ∷ KeepBelowJoin ∷ DistinctOfKeyed ∷ GroupIsDistinct ∷ OuterJoinIsInner ∷ SelectBelowLeftJoin ∷ ConditionBelowLeftJoin ∷ LeftJoinBelowJoin ∷ LeftJoinAboveJoin ∷ KeepOfLeftSide ∷ OuterJoinIsAnti ∷ ExistsIsSemi ∷ NotExistsIsAnti ∷ InIsSemi ∷ NotInIsAnti ∷ AntijoinOfFilled ∷ SubqueryOfInput ∷ ExistsOfSelectIsSemi ∷ NotExistsOfSelectIsAnti ∷ InSelectIsSemi ∷ NotInSelectIsAnti ∷ SemijoinBelowJoin ∷ SemijoinIsJoin ∷ []
 
 abbrev pub code_of : RuleName → List ℕ
 code_of JoinCommutes = codes "J1"
@@ -54,6 +66,18 @@ code_of LeftJoinBelowJoin = codes "O4"
 code_of LeftJoinAboveJoin = codes "O5"
 code_of KeepOfLeftSide = codes "O6"
 code_of OuterJoinIsAnti = codes "O7"
+code_of ExistsIsSemi = codes "U1"
+code_of NotExistsIsAnti = codes "U2"
+code_of InIsSemi = codes "U3"
+code_of NotInIsAnti = codes "U4"
+code_of AntijoinOfFilled = codes "U5"
+code_of SubqueryOfInput = codes "U6"
+code_of ExistsOfSelectIsSemi = codes "U7"
+code_of NotExistsOfSelectIsAnti = codes "U8"
+code_of InSelectIsSemi = codes "U9"
+code_of NotInSelectIsAnti = codes "U10"
+code_of SemijoinBelowJoin = codes "U11"
+code_of SemijoinIsJoin = codes "U12"
 
 abbrev pub given_by : RuleName → Matched → Result Shape Unfit
 given_by JoinCommutes = join_commutes.join_commutes
@@ -75,6 +99,18 @@ given_by LeftJoinBelowJoin = left_join_below_join.left_join_below_join
 given_by LeftJoinAboveJoin = left_join_above_join.left_join_above_join
 given_by KeepOfLeftSide = keep_of_left_side.keep_of_left_side
 given_by OuterJoinIsAnti = outer_join_is_anti.outer_join_is_anti
+given_by ExistsIsSemi = exists_is_semi.exists_is_semi
+given_by NotExistsIsAnti = not_exists_is_anti.not_exists_is_anti
+given_by InIsSemi = in_is_semi.in_is_semi
+given_by NotInIsAnti = not_in_is_anti.not_in_is_anti
+given_by AntijoinOfFilled = antijoin_of_filled.antijoin_of_filled
+given_by SubqueryOfInput = subquery_of_input.subquery_of_input
+given_by ExistsOfSelectIsSemi = exists_of_select_is_semi.exists_of_select_is_semi
+given_by NotExistsOfSelectIsAnti = not_exists_of_select_is_anti.not_exists_of_select_is_anti
+given_by InSelectIsSemi = in_select_is_semi.in_select_is_semi
+given_by NotInSelectIsAnti = not_in_select_is_anti.not_in_select_is_anti
+given_by SemijoinBelowJoin = semijoin_below_join.semijoin_below_join
+given_by SemijoinIsJoin = semijoin_is_join.semijoin_is_join
 
 abbrev pub pattern_of : RuleName → Pattern
 pattern_of JoinCommutes = join_commutes.pattern
@@ -96,6 +132,18 @@ pattern_of LeftJoinBelowJoin = left_join_below_join.pattern
 pattern_of LeftJoinAboveJoin = left_join_above_join.pattern
 pattern_of KeepOfLeftSide = keep_of_left_side.pattern
 pattern_of OuterJoinIsAnti = outer_join_is_anti.pattern
+pattern_of ExistsIsSemi = exists_is_semi.pattern
+pattern_of NotExistsIsAnti = not_exists_is_anti.pattern
+pattern_of InIsSemi = in_is_semi.pattern
+pattern_of NotInIsAnti = not_in_is_anti.pattern
+pattern_of AntijoinOfFilled = antijoin_of_filled.pattern
+pattern_of SubqueryOfInput = subquery_of_input.pattern
+pattern_of ExistsOfSelectIsSemi = exists_of_select_is_semi.pattern
+pattern_of NotExistsOfSelectIsAnti = not_exists_of_select_is_anti.pattern
+pattern_of InSelectIsSemi = in_select_is_semi.pattern
+pattern_of NotInSelectIsAnti = not_in_select_is_anti.pattern
+pattern_of SemijoinBelowJoin = semijoin_below_join.pattern
+pattern_of SemijoinIsJoin = semijoin_is_join.pattern
 
 abbrev pub promise_of : RuleName → Matched → Promise
 promise_of JoinCommutes = join_commutes.promise
@@ -117,6 +165,18 @@ promise_of LeftJoinBelowJoin = left_join_below_join.promise
 promise_of LeftJoinAboveJoin = left_join_above_join.promise
 promise_of KeepOfLeftSide = keep_of_left_side.promise
 promise_of OuterJoinIsAnti = outer_join_is_anti.promise
+promise_of ExistsIsSemi = exists_is_semi.promise
+promise_of NotExistsIsAnti = not_exists_is_anti.promise
+promise_of InIsSemi = in_is_semi.promise
+promise_of NotInIsAnti = not_in_is_anti.promise
+promise_of AntijoinOfFilled = antijoin_of_filled.promise
+promise_of SubqueryOfInput = subquery_of_input.promise
+promise_of ExistsOfSelectIsSemi = exists_of_select_is_semi.promise
+promise_of NotExistsOfSelectIsAnti = not_exists_of_select_is_anti.promise
+promise_of InSelectIsSemi = in_select_is_semi.promise
+promise_of NotInSelectIsAnti = not_in_select_is_anti.promise
+promise_of SemijoinBelowJoin = semijoin_below_join.promise
+promise_of SemijoinIsJoin = semijoin_is_join.promise
 
 -- ---- laws of each rule of the book
 

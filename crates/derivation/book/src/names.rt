@@ -27,7 +27,19 @@ use plain_rules::select_below_semi::SelectBelowSemi;
 use plain_rules::select_into_join::SelectIntoJoin;
 use plain_rules::selects_merge::SelectsMerge;
 use rules::{Match, Pattern, Promise, Rule, RuleFault, Shape};
+use semijoin_rules::antijoin_of_filled::AntijoinOfFilled;
+use semijoin_rules::semijoin_below_join::SemijoinBelowJoin;
+use semijoin_rules::semijoin_is_join::SemijoinIsJoin;
 use std::alloc::{AllocError, Global};
+use subquery_rules::exists_is_semi::ExistsIsSemi;
+use subquery_rules::exists_of_select_is_semi::ExistsOfSelectIsSemi;
+use subquery_rules::in_is_semi::InIsSemi;
+use subquery_rules::in_select_is_semi::InSelectIsSemi;
+use subquery_rules::not_exists_is_anti::NotExistsIsAnti;
+use subquery_rules::not_exists_of_select_is_anti::NotExistsOfSelectIsAnti;
+use subquery_rules::not_in_is_anti::NotInIsAnti;
+use subquery_rules::not_in_select_is_anti::NotInSelectIsAnti;
+use subquery_rules::subquery_of_input::SubqueryOfInput;
 
 /// A rule of the book.
 #[derive(Clone, Copy, Debug, PartialEq, Eq)]
@@ -51,9 +63,21 @@ pub enum RuleName {
     LeftJoinAboveJoin,
     KeepOfLeftSide,
     OuterJoinIsAnti,
+    ExistsIsSemi,
+    NotExistsIsAnti,
+    InIsSemi,
+    NotInIsAnti,
+    AntijoinOfFilled,
+    SubqueryOfInput,
+    ExistsOfSelectIsSemi,
+    NotExistsOfSelectIsAnti,
+    InSelectIsSemi,
+    NotInSelectIsAnti,
+    SemijoinBelowJoin,
+    SemijoinIsJoin,
 }
 
-const RULES: [RuleName; 19] = [
+const RULES: [RuleName; 31] = [
     RuleName::JoinCommutes,
     RuleName::JoinAssociates,
     RuleName::SelectsMerge,
@@ -73,6 +97,18 @@ const RULES: [RuleName; 19] = [
     RuleName::LeftJoinAboveJoin,
     RuleName::KeepOfLeftSide,
     RuleName::OuterJoinIsAnti,
+    RuleName::ExistsIsSemi,
+    RuleName::NotExistsIsAnti,
+    RuleName::InIsSemi,
+    RuleName::NotInIsAnti,
+    RuleName::AntijoinOfFilled,
+    RuleName::SubqueryOfInput,
+    RuleName::ExistsOfSelectIsSemi,
+    RuleName::NotExistsOfSelectIsAnti,
+    RuleName::InSelectIsSemi,
+    RuleName::NotInSelectIsAnti,
+    RuleName::SemijoinBelowJoin,
+    RuleName::SemijoinIsJoin,
 ];
 
 /// The first of the rules that has the code.
@@ -120,6 +156,18 @@ impl RuleName {
             RuleName::LeftJoinAboveJoin => LeftJoinAboveJoin::CODE,
             RuleName::KeepOfLeftSide => KeepOfLeftSide::CODE,
             RuleName::OuterJoinIsAnti => OuterJoinIsAnti::CODE,
+            RuleName::ExistsIsSemi => ExistsIsSemi::CODE,
+            RuleName::NotExistsIsAnti => NotExistsIsAnti::CODE,
+            RuleName::InIsSemi => InIsSemi::CODE,
+            RuleName::NotInIsAnti => NotInIsAnti::CODE,
+            RuleName::AntijoinOfFilled => AntijoinOfFilled::CODE,
+            RuleName::SubqueryOfInput => SubqueryOfInput::CODE,
+            RuleName::ExistsOfSelectIsSemi => ExistsOfSelectIsSemi::CODE,
+            RuleName::NotExistsOfSelectIsAnti => NotExistsOfSelectIsAnti::CODE,
+            RuleName::InSelectIsSemi => InSelectIsSemi::CODE,
+            RuleName::NotInSelectIsAnti => NotInSelectIsAnti::CODE,
+            RuleName::SemijoinBelowJoin => SemijoinBelowJoin::CODE,
+            RuleName::SemijoinIsJoin => SemijoinIsJoin::CODE,
         }
     }
 
@@ -154,6 +202,18 @@ impl RuleName {
             RuleName::LeftJoinAboveJoin => LeftJoinAboveJoin::pattern(),
             RuleName::KeepOfLeftSide => KeepOfLeftSide::pattern(),
             RuleName::OuterJoinIsAnti => OuterJoinIsAnti::pattern(),
+            RuleName::ExistsIsSemi => ExistsIsSemi::pattern(),
+            RuleName::NotExistsIsAnti => NotExistsIsAnti::pattern(),
+            RuleName::InIsSemi => InIsSemi::pattern(),
+            RuleName::NotInIsAnti => NotInIsAnti::pattern(),
+            RuleName::AntijoinOfFilled => AntijoinOfFilled::pattern(),
+            RuleName::SubqueryOfInput => SubqueryOfInput::pattern(),
+            RuleName::ExistsOfSelectIsSemi => ExistsOfSelectIsSemi::pattern(),
+            RuleName::NotExistsOfSelectIsAnti => NotExistsOfSelectIsAnti::pattern(),
+            RuleName::InSelectIsSemi => InSelectIsSemi::pattern(),
+            RuleName::NotInSelectIsAnti => NotInSelectIsAnti::pattern(),
+            RuleName::SemijoinBelowJoin => SemijoinBelowJoin::pattern(),
+            RuleName::SemijoinIsJoin => SemijoinIsJoin::pattern(),
         }
     }
 
@@ -181,6 +241,18 @@ impl RuleName {
             RuleName::LeftJoinAboveJoin => LeftJoinAboveJoin::promise(alloc, at),
             RuleName::KeepOfLeftSide => KeepOfLeftSide::promise(alloc, at),
             RuleName::OuterJoinIsAnti => OuterJoinIsAnti::promise(alloc, at),
+            RuleName::ExistsIsSemi => ExistsIsSemi::promise(alloc, at),
+            RuleName::NotExistsIsAnti => NotExistsIsAnti::promise(alloc, at),
+            RuleName::InIsSemi => InIsSemi::promise(alloc, at),
+            RuleName::NotInIsAnti => NotInIsAnti::promise(alloc, at),
+            RuleName::AntijoinOfFilled => AntijoinOfFilled::promise(alloc, at),
+            RuleName::SubqueryOfInput => SubqueryOfInput::promise(alloc, at),
+            RuleName::ExistsOfSelectIsSemi => ExistsOfSelectIsSemi::promise(alloc, at),
+            RuleName::NotExistsOfSelectIsAnti => NotExistsOfSelectIsAnti::promise(alloc, at),
+            RuleName::InSelectIsSemi => InSelectIsSemi::promise(alloc, at),
+            RuleName::NotInSelectIsAnti => NotInSelectIsAnti::promise(alloc, at),
+            RuleName::SemijoinBelowJoin => SemijoinBelowJoin::promise(alloc, at),
+            RuleName::SemijoinIsJoin => SemijoinIsJoin::promise(alloc, at),
         }
     }
 
@@ -208,6 +280,18 @@ impl RuleName {
             RuleName::LeftJoinAboveJoin => LeftJoinAboveJoin::apply(alloc, at),
             RuleName::KeepOfLeftSide => KeepOfLeftSide::apply(alloc, at),
             RuleName::OuterJoinIsAnti => OuterJoinIsAnti::apply(alloc, at),
+            RuleName::ExistsIsSemi => ExistsIsSemi::apply(alloc, at),
+            RuleName::NotExistsIsAnti => NotExistsIsAnti::apply(alloc, at),
+            RuleName::InIsSemi => InIsSemi::apply(alloc, at),
+            RuleName::NotInIsAnti => NotInIsAnti::apply(alloc, at),
+            RuleName::AntijoinOfFilled => AntijoinOfFilled::apply(alloc, at),
+            RuleName::SubqueryOfInput => SubqueryOfInput::apply(alloc, at),
+            RuleName::ExistsOfSelectIsSemi => ExistsOfSelectIsSemi::apply(alloc, at),
+            RuleName::NotExistsOfSelectIsAnti => NotExistsOfSelectIsAnti::apply(alloc, at),
+            RuleName::InSelectIsSemi => InSelectIsSemi::apply(alloc, at),
+            RuleName::NotInSelectIsAnti => NotInSelectIsAnti::apply(alloc, at),
+            RuleName::SemijoinBelowJoin => SemijoinBelowJoin::apply(alloc, at),
+            RuleName::SemijoinIsJoin => SemijoinIsJoin::apply(alloc, at),
         }
     }
 }

@@ -1,4 +1,4 @@
-use Rattle.std.proofs.Common.{◌≡◌, sym, ◌∙◌, subst, ℕ, ◌<◌, List, [], ◌∷◌, true, Some}
+use Rattle.std.proofs.Common.{◌≡◌, sym, ◌∙◌, subst, ℕ, ◌<◌, List, [], ◌∷◌, true, false, Some}
 use Rattle.std.specs.List.{AllByRecursion}
 use Rattle.rules.specs.Matches.{line_in}
 use Rattle.rules.specs.Patterns.{picked_subquery}
@@ -64,3 +64,23 @@ returns-in_ok-found-in-ClassLine c =
     (class_line_all instances E c.args.rule c.args.line (line_in c.args.top) c.requires.there c.in-ClassLine.field-0
     (subst (AllByRecursion (λ g. HasPairs instances E c.args.rule g c.args.line (Some g))) (c.as_slice.ensures.value ∙ c.in_ok-classes-in-ClassLine.ensures) each)))
     c.in_ok-found-in-ClassLine.ensures
+
+-- ---- a line with another operator
+
+pub returns-then-not-include : goal.returns-then-not-include
+returns-then-not-include c =
+    subst (HasResultsBy c.args.log.now.instances c.args.log.now.log c.args.rule c.args.line) (sym c.in-One.is ∙ c.pattern.ensures)
+    (one_all c.args.log.now.instances c.args.log.now.log c.args.rule c.args.line (line_in c.args.top) c.requires.there c.in-One.operators
+    (λ has. let never : true ≡ false = sym has ∙ (sym c.include.ensures ∙ c.if-not-include.true) in cc))
+
+pub returns-then-not-include-2 : goal.returns-then-not-include-2
+returns-then-not-include-2 c =
+    subst (HasResultsBy c.args.log.now.instances c.args.log.now.log c.args.rule c.args.line) (sym c.in-Two.is ∙ c.pattern.ensures)
+    (two_all c.args.log.now.instances c.args.log.now.log c.args.rule c.args.line (line_in c.args.top) c.requires.there c.in-Two.operators c.in-Two.below
+    (λ has. let never : true ≡ false = sym has ∙ (sym c.include-in-Two.ensures ∙ c.if-not-include-2.true) in cc))
+
+pub returns-then-not-include-3 : goal.returns-then-not-include-3
+returns-then-not-include-3 c =
+    subst (HasResultsBy c.args.log.now.instances c.args.log.now.log c.args.rule c.args.line) (sym c.in-Three.is ∙ c.pattern.ensures)
+    (three_all c.args.log.now.instances c.args.log.now.log c.args.rule c.args.line (line_in c.args.top) c.requires.there c.in-Three.operators c.in-Three.below c.in-Three.lowest
+    (λ has. let never : true ≡ false = sym has ∙ (sym c.include-in-Three.ensures ∙ c.if-not-include-3.true) in cc))
