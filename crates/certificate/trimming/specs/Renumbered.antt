@@ -1,10 +1,20 @@
 -- Lines and plans with other numbers of lines. What a condition or an expression names is a class, whose number is that of a line; with other
 -- numbers conjuncts stand in the order of their new texts (`rooted` of `algebra`).
-use Rattle.std.specs.Prelude.{ℕ, List, map, slice_get, option_map, option_to_list}
-use Rattle.algebra.specs.Alike.{rooted, rooted_conjuncts}
+use Rattle.std.specs.Prelude.{ℕ, List, [], ◌∷◌, map, reverse, slice_get, Option, Some, None, option_map, option_to_list}
+use Rattle.std.specs.List.{position_or_len}
+use Rattle.algebra.specs.declared.condition.Condition.{Condition}
+use Rattle.algebra.specs.declared.expr.Expr.{Expr}
+use Rattle.algebra.specs.declared.expr.Expr.TheVariants.{Select}
+use Rattle.algebra.specs.Alike.{rooted, rooted_condition, rooted_conjuncts}
+use Rattle.algebra.specs.ConditionEquality.{same_condition}
+use Rattle.rules.specs.declared.pattern.Pattern.{Pattern}
+use Rattle.rules.specs.declared.pattern.Pattern.TheVariants.{One, Two, Three, Subquery, SubqueryLine, ClassLine}
+use Rattle.rules.specs.Matches as matches
+use Rattle.book.specs.Book.{pattern_of}
 use Rattle.derivation.specs.declared.line.Line.{Line}
 use Rattle.derivation.specs.declared.line.Line.TheVariants.{Founds, Adds, Unites, Alike, Gives}
 use Rattle.derivation.specs.declared.line.Step.{Step}
+use Rattle.derivation.specs.Logs.{Log, member}
 use Rattle.physical.specs.declared.plan.IndexAccess.{IndexAccess}
 use Rattle.physical.specs.declared.plan.Matching.{Matching}
 use Rattle.physical.specs.declared.plan.Matching.TheVariants.{Inner, Left, Semi, Anti}
@@ -15,21 +25,57 @@ use Rattle.physical.specs.declared.plan.Node.TheVariants.{Implements, Sort}
 use Rattle.physical.specs.declared.plan.Plan.{Plan, fold-Plan, roll-Plan}
 use Rattle.physical.specs.declared.plan.Plan.TheOpen.{Plan-F}
 
--- ---- lines
+-- ---- what a step picks of its first line
 
-abbrev pub renumbered_step : (ℕ → ℕ) → Step → Step
-renumbered_step number s = record { rule = s.rule; pick = s.pick; uses = map number s.uses; makes = map number s.makes }
+abbrev pub first_member : Log → List ℕ → Option matches.Line
+first_member E [] = None
+first_member E (i ∷ is) = member E i
 
-abbrev pub renumbered_line : (ℕ → ℕ) → Line → Line
-renumbered_line number (Founds x) = Founds (rooted number x)
-renumbered_line number (Adds g s x) = Adds (number g) (renumbered_step number s) (rooted number x)
-renumbered_line number (Unites g h s) = Unites (number g) (number h) (renumbered_step number s)
-renumbered_line number (Alike i j) = Alike (number i) (number j)
-renumbered_line number (Gives g m f) = Gives (number g) (number m) f
+-- the place that a conjunct has among the others once all have the new numbers
+abbrev pub renumbered_place : (ℕ → ℕ) → List Condition → Condition → ℕ
+renumbered_place number C c = position_or_len (λ d. same_condition d (rooted_condition number c)) (rooted_conjuncts number C)
+
+abbrev pub place_of : (ℕ → ℕ) → List Condition → ℕ → Option Condition → ℕ
+place_of number C place None = place
+place_of number C place (Some c) = renumbered_place number C c
+
+abbrev pub place_in : (ℕ → ℕ) → Expr → ℕ → ℕ
+place_in number (Select C x) place = place_of number C place (slice_get C place)
+place_in number x place = place
+
+abbrev pub place_at : (ℕ → ℕ) → Option matches.Line → ℕ → ℕ
+place_at number None place = place
+place_at number (Some l) place = place_in number l.expr place
+
+-- a conjunct is named by its place, a class by its number
+abbrev pub renumbered_pick : (ℕ → ℕ) → Pattern → Option matches.Line → ℕ → ℕ
+renumbered_pick number (One O) top pick = pick
+renumbered_pick number (Two O b) top pick = pick
+renumbered_pick number (Three O b c) top pick = pick
+renumbered_pick number Subquery top pick = place_at number top pick
+renumbered_pick number (SubqueryLine O) top pick = place_at number top pick
+renumbered_pick number (ClassLine O) top pick = number pick
+
+-- ---- lines of a log
+
+abbrev pub renumbered_step : (ℕ → ℕ) → Log → Step → Step
+renumbered_step number E s = record {
+  rule = s.rule;
+  pick = renumbered_pick number (pattern_of s.rule) (first_member E s.uses) s.pick;
+  uses = map number s.uses;
+  makes = map number s.makes;
+}
+
+abbrev pub renumbered_line : (ℕ → ℕ) → Log → Line → Line
+renumbered_line number E (Founds x) = Founds (rooted number x)
+renumbered_line number E (Adds g s x) = Adds (number g) (renumbered_step number E s) (rooted number x)
+renumbered_line number E (Unites g h s) = Unites (number g) (number h) (renumbered_step number E s)
+renumbered_line number E (Alike i j) = Alike (number i) (number j)
+renumbered_line number E (Gives g m f) = Gives (number g) (number m) f
 
 -- the line of a number, with other numbers, if there is one
-abbrev pub renumbered_at : (ℕ → ℕ) → List Line → ℕ → List Line
-renumbered_at number lines k = option_to_list (option_map (renumbered_line number) (slice_get lines k))
+abbrev pub renumbered_at : (ℕ → ℕ) → Log → ℕ → List Line
+renumbered_at number E k = option_to_list (option_map (renumbered_line number E) (slice_get (reverse E) k))
 
 -- ---- plans
 

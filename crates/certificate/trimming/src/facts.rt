@@ -1,5 +1,6 @@
 //! The lines by whose facts a line gives its own, or a rule what it gives.
 
+use crate::picks::class_below;
 use crate::sameness::Sameness;
 use algebra::{ClassId, Expr, LineId};
 use derivation::{Line, Step};
@@ -72,7 +73,7 @@ fn add_inputs(expr: &Expr, classes: &mut Vec<ClassId>) -> Result<(), AllocError>
     Ok(())
 }
 
-/// The lines to which a rule is applied, each below the first of the class that the one above it takes first.
+/// The lines to which a rule is applied, each below the first of the class that the rule takes there.
 fn matched_lines<'a>(
     alloc: Global,
     log: &'a Log<'_>,
@@ -80,14 +81,13 @@ fn matched_lines<'a>(
 ) -> Result<Vec<MatchedLine<'a>>, AllocError> {
     let mut lines: Vec<MatchedLine<'a>> = Vec::new(alloc);
     let mut taken = None;
-    for line in step.uses.as_slice() {
+    for (place, line) in step.uses.as_slice().iter().enumerate() {
         if let Some(member) = log.member(*line) {
-            let (first, _) = member.expr.children();
             lines.push(MatchedLine {
                 class: taken.unwrap_or(member.class),
                 expr: member.expr,
             })?;
-            taken = first;
+            taken = class_below(step, place, member.expr);
         }
     }
     Ok(lines)

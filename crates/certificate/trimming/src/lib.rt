@@ -5,6 +5,7 @@ mod facts;
 mod kept;
 mod needed;
 mod part;
+mod picks;
 mod plan_lines;
 mod renumbered;
 mod renumbered_plans;

@@ -1,6 +1,7 @@
 //! The lines of a log that others need.
 
 use crate::facts::{Claim, GivenFacts, Ground};
+use crate::picks::class_below;
 use crate::sameness::{Sameness, class_at};
 use algebra::{ClassId, Expr, LineId};
 use derivation::{Line, Step};
@@ -137,11 +138,12 @@ impl<'a, 'q> Needed<'a, 'q> {
         self.lines(classes.as_slice())
     }
 
-    /// Each line but the first is of the class that the one above it takes first.
-    fn each_below(&mut self, uses: &[LineId]) -> Result<(), AllocError> {
-        for (top, below) in uses.iter().zip(uses.iter().skip(1)) {
+    /// Each of a step's lines but the first is of the class that the rule takes there.
+    fn each_below(&mut self, step: &Step) -> Result<(), AllocError> {
+        let uses = step.uses.as_slice();
+        for (place, (top, below)) in uses.iter().zip(uses.iter().skip(1)).enumerate() {
             if let Some(member) = self.log.member(*top) {
-                if let Some(input) = first_input(member.expr) {
+                if let Some(input) = class_below(step, place, member.expr) {
                     self.same(input, class_at(self.log, *below))?;
                 }
             }
@@ -182,7 +184,7 @@ impl<'a, 'q> Needed<'a, 'q> {
         if let Some(first) = uses.first() {
             self.same(class_at(self.log, *first), class)?;
         }
-        self.each_below(uses)?;
+        self.each_below(step)?;
         self.claim(Claim::Step(step), line)
     }
 

@@ -1,6 +1,6 @@
 //! A log without what a plan doesn't need.
 
-ghost use Rattle.std.specs.Prelude.{◌≡◌, ◌++◌, flat_map, reverse, IfOk, OnOk};
+ghost use Rattle.std.specs.Prelude.{◌≡◌, ◌++◌, flat_map, IfOk, OnOk};
 ghost use Rattle.trimming.specs.Kept.{number_in};
 ghost use Rattle.trimming.specs.Part.{IsPart};
 ghost use Rattle.trimming.specs.Renumbered.{renumbered_at};
@@ -39,25 +39,25 @@ fn needed_lines(
 fn push_line(
     alloc: Global,
     kept: &Kept,
-    lines: &[Line],
+    log: &Log<'_>,
     number: LineId,
     renumbered: &mut Items<Line>,
 ) -> Result<(), AllocError>
-    ensures { OnOk result (renumbered.new ≡ renumbered.old ++ renumbered_at (number_in kept.now.numbers.items) lines.now number) }
+    ensures { OnOk result (renumbered.new ≡ renumbered.old ++ renumbered_at (number_in kept.now.numbers.items) log.now.log number) }
 {
-    if let Some(line) = lines.get(number as usize) {
-        renumbered.push(renumbered_line(alloc, kept, line)?)?;
+    if let Some(line) = log.lines().get(number as usize) {
+        renumbered.push(renumbered_line(alloc, kept, log, line)?)?;
     }
     Ok(())
 }
 
 /// The lines that are kept, with new numbers.
-fn kept_lines(alloc: Global, kept: &Kept, lines: &[Line]) -> Result<Items<Line>, AllocError>
-    ensures { IfOk result (λ ls. ls ≡ flat_map (renumbered_at (number_in kept.now.numbers.items) lines.now) kept.now.lines.items) }
+fn kept_lines(alloc: Global, kept: &Kept, log: &Log<'_>) -> Result<Items<Line>, AllocError>
+    ensures { IfOk result (λ ls. ls ≡ flat_map (renumbered_at (number_in kept.now.numbers.items) log.now.log) kept.now.lines.items) }
 {
     let mut renumbered = Items::new(alloc);
     for number in kept.lines.as_slice() {
-        push_line(alloc, kept, lines, *number, &mut renumbered)?;
+        push_line(alloc, kept, log, *number, &mut renumbered)?;
     }
     Ok(renumbered)
 }
@@ -72,11 +72,11 @@ pub fn trimmed(
     frame_lines: usize,
     plan: &Plan,
 ) -> Result<Certificate, AllocError>
-    ensures { IfOk result (IsPart (reverse log.now.log) plan.now) }
+    ensures { IfOk result (IsPart log.now.log plan.now) }
 {
     let marks = needed_lines(alloc, log, frame_lines, plan)?;
     let kept = Kept::of(alloc, log.len(), marks.as_slice())?;
-    let lines = kept_lines(alloc, &kept, log.lines())?;
+    let lines = kept_lines(alloc, &kept, log)?;
     let plan = renumbered_plan(alloc, &kept, plan)?;
     Ok(Certificate { lines, plan })
 }

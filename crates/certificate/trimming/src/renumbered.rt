@@ -6,15 +6,17 @@ ghost use Rattle.trimming.specs.Kept.{number_in};
 ghost use Rattle.trimming.specs.Renumbered as spec;
 
 use crate::kept::Kept;
+use crate::picks::renumbered_pick;
 use algebra::{Condition, Conjuncts, Expr};
 use derivation::{Line, Numbers, Step, copy_fact};
+use logs::Log;
 use std::alloc::{AllocError, Global};
 use values::{Boxed, Items};
 
 /// The condition with the new number of each class that it names.
 #[cycle(renumbered)]
 #[tactic(auto, using(crate::proofs::Equations::rooted_Compare, crate::proofs::Equations::rooted_IsNull, crate::proofs::Equations::rooted_Not, crate::proofs::Equations::rooted_And, crate::proofs::Equations::rooted_Or, crate::proofs::Equations::rooted_Exists, crate::proofs::Equations::rooted_In))]
-fn renumbered_condition(
+pub(crate) fn renumbered_condition(
     alloc: Global,
     kept: &Kept,
     condition: &Condition,
@@ -137,36 +139,47 @@ fn renumbered_numbers(alloc: Global, kept: &Kept, lines: &Numbers) -> Result<Num
     Numbers::from_slice(alloc, numbers.as_slice())
 }
 
-/// The step with new numbers. No rule has a choice yet, so what is picked is 0 and stays.
-fn renumbered_step(alloc: Global, kept: &Kept, step: &Step) -> Result<Boxed<Step>, AllocError>
-    ensures { IfOk result (λ s. s ≡ spec.renumbered_step (number_in kept.now.numbers.items) step.now) }
+/// The step with new numbers.
+fn renumbered_step(
+    alloc: Global,
+    kept: &Kept,
+    log: &Log<'_>,
+    step: &Step,
+) -> Result<Boxed<Step>, AllocError>
+    ensures { IfOk result (λ s. s ≡ spec.renumbered_step (number_in kept.now.numbers.items) log.now.log step.now) }
 {
+    let pick = renumbered_pick(alloc, kept, log, step)?;
     let uses = renumbered_numbers(alloc, kept, &step.uses)?;
     let makes = renumbered_numbers(alloc, kept, &step.makes)?;
     Boxed::new(
         alloc,
         Step {
             rule: step.rule,
-            pick: step.pick,
+            pick,
             uses,
             makes,
         },
     )
 }
 
-/// The line with new numbers.
-pub(crate) fn renumbered_line(alloc: Global, kept: &Kept, line: &Line) -> Result<Line, AllocError>
-    ensures { IfOk result (λ l. l ≡ spec.renumbered_line (number_in kept.now.numbers.items) line.now) }
+/// The line of a log with new numbers.
+pub(crate) fn renumbered_line(
+    alloc: Global,
+    kept: &Kept,
+    log: &Log<'_>,
+    line: &Line,
+) -> Result<Line, AllocError>
+    ensures { IfOk result (λ l. l ≡ spec.renumbered_line (number_in kept.now.numbers.items) log.now.log line.now) }
 {
     match line {
         Line::Founds(expr) => Ok(Line::Founds(renumbered_expr(alloc, kept, expr)?)),
         Line::Adds(class, step, expr) => {
-            let step = renumbered_step(alloc, kept, step.get())?;
+            let step = renumbered_step(alloc, kept, log, step.get())?;
             let expr = renumbered_expr(alloc, kept, expr)?;
             Ok(Line::Adds(kept.number(*class), step, expr))
         }
         Line::Unites(first, second, step) => {
-            let step = renumbered_step(alloc, kept, step.get())?;
+            let step = renumbered_step(alloc, kept, log, step.get())?;
             Ok(Line::Unites(kept.number(*first), kept.number(*second), step))
         }
         Line::Alike(first, second) => Ok(Line::Alike(kept.number(*first), kept.number(*second))),
