@@ -84,6 +84,36 @@ fn learn_unpadded(
     Ok(())
 }
 
+/// The columns that conjuncts compare.
+fn compared_columns(alloc: Global, conjuncts: &Conjuncts) -> Result<Vec<ColumnId>, AllocError> {
+    let mut columns = Vec::new(alloc);
+    for conjunct in conjuncts.as_slice() {
+        if let Condition::Compare(_, left, right) = conjunct {
+            for term in [left, right] {
+                if let Term::Column(column) = term {
+                    columns.push(*column)?;
+                }
+            }
+        }
+    }
+    Ok(columns)
+}
+
+/// Learns which of the columns aren't Null in the classes.
+fn learn_all_filled(
+    alloc: Global,
+    memo: &mut Memo<'_>,
+    columns: &[ColumnId],
+    classes: [ClassId; 2],
+) -> Result<(), AllocError> {
+    for class in classes {
+        for column in columns {
+            learn_filled(alloc, memo, class, *column)?;
+        }
+    }
+    Ok(())
+}
+
 /// What is asked of a class that a line takes.
 #[derive(Drop)]
 enum Asked {
@@ -92,7 +122,9 @@ enum Asked {
     /// Whether the outer joins' right sides have, where none of these columns is theirs.
     KeysOfUnread(Vec<ColumnId>, ClassId),
     /// Whether these columns of the outer joins' right sides are Null in some row.
-    Filled(Vec<ColumnId>, ClassId),
+    Unpadded(Vec<ColumnId>, ClassId),
+    /// Whether these columns are in some row of one of the two classes.
+    Filled(Vec<ColumnId>, [ClassId; 2]),
     Nothing,
 }
 
@@ -107,13 +139,16 @@ fn asked_of(alloc: Global, memo: &Memo<'_>, line: LineId) -> Result<Asked, Alloc
     Ok(match member.expr {
         Expr::Distinct(x) => Asked::Keys(*x),
         Expr::Keep(kept, x) => Asked::KeysOfUnread(copied(alloc, kept)?, *x),
-        Expr::Select(conjuncts, x) => Asked::Filled(null_columns(alloc, conjuncts)?, *x),
+        Expr::Select(conjuncts, x) => Asked::Unpadded(null_columns(alloc, conjuncts)?, *x),
+        Expr::Anti(_, null_aware, a, b) => {
+            Asked::Filled(compared_columns(alloc, null_aware)?, [*a, *b])
+        }
         _ => Asked::Nothing,
     })
 }
 
 /// Learns what rules may ask of a line: keys of what it has the distinct rows of, and of outer joins below a projection that doesn't read their right
-/// sides; and that columns aren't Null which a selection asks to be so.
+/// sides; and that columns aren't Null which a selection asks to be so, or a null-aware condition of an antijoin compares.
 pub(crate) fn learn_asked(
     alloc: Global,
     memo: &mut Memo<'_>,
@@ -122,7 +157,10 @@ pub(crate) fn learn_asked(
     match asked_of(alloc, memo, line)? {
         Asked::Keys(class) => learn_keys(alloc, memo, class),
         Asked::KeysOfUnread(kept, class) => learn_unread(alloc, memo, kept.as_slice(), class),
-        Asked::Filled(asked, class) => learn_unpadded(alloc, memo, asked.as_slice(), class),
+        Asked::Unpadded(asked, class) => learn_unpadded(alloc, memo, asked.as_slice(), class),
+        Asked::Filled(columns, classes) => {
+            learn_all_filled(alloc, memo, columns.as_slice(), classes)
+        }
         Asked::Nothing => Ok(()),
     }
 }

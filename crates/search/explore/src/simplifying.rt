@@ -2,12 +2,12 @@
 
 use crate::asked_facts::learn_asked;
 use crate::takers::Takers;
-use algebra::{ClassId, LineId};
+use algebra::{ClassId, Expr, LineId};
 use bindings::{Binding, BoundLines};
 use book::RuleName;
 use memo::Memo;
 use query::ids::id_of;
-use rules::{Input, Match, MatchedLine, Pattern, Promise};
+use rules::{Below, Input, Match, MatchedLine, Pattern, Promise, picked_subquery};
 use std::alloc::{AllocError, Global};
 
 /// Of a longer log the first lines alone are looked at, which bounds the time that is spent.
@@ -25,48 +25,45 @@ fn unpicked(rule: RuleName, lines: BoundLines) -> Binding {
     }
 }
 
-/// Whether a rule fits at lines, and promises that they are simpler then.
+/// Whether a binding's rule fits at lines, which are its own, and promises that they are simpler then.
 fn makes_simpler(
     alloc: Global,
     memo: &Memo<'_>,
-    rule: RuleName,
+    binding: Binding,
     lines: &[MatchedLine<'_>],
 ) -> Result<bool, AllocError> {
     let at = Match {
         lines,
-        pick: 0,
+        pick: binding.pick,
         classes: memo.log().classes(),
     };
-    if !rule.pattern().fits(alloc, at)? {
+    if !binding.rule.pattern().fits(alloc, at)? {
         return Ok(false);
     }
-    Ok(match rule.promise(alloc, at)? {
+    Ok(match binding.rule.promise(alloc, at)? {
         Promise::Simpler => true,
         Promise::Connected | Promise::Products | Promise::Projections => false,
     })
 }
 
-/// The same of the lines of these numbers.
-fn makes_simpler_at(
-    alloc: Global,
-    memo: &Memo<'_>,
-    rule: RuleName,
-    numbers: BoundLines,
-) -> Result<bool, AllocError> {
+/// The same at the lines of its numbers.
+fn makes_simpler_at(alloc: Global, memo: &Memo<'_>, binding: Binding) -> Result<bool, AllocError> {
     let member = |number: LineId| memo.log().member(number);
-    match numbers {
+    match binding.lines {
         BoundLines::One(top) => match member(top) {
-            Some(top) => makes_simpler(alloc, memo, rule, [top].as_slice()),
+            Some(top) => makes_simpler(alloc, memo, binding, [top].as_slice()),
             None => Ok(false),
         },
         BoundLines::Two(top, below) => match (member(top), member(below)) {
-            (Some(top), Some(below)) => makes_simpler(alloc, memo, rule, [top, below].as_slice()),
+            (Some(top), Some(below)) => {
+                makes_simpler(alloc, memo, binding, [top, below].as_slice())
+            }
             _ => Ok(false),
         },
         BoundLines::Three(top, below, lowest) => {
             match (member(top), member(below), member(lowest)) {
                 (Some(top), Some(below), Some(lowest)) => {
-                    makes_simpler(alloc, memo, rule, [top, below, lowest].as_slice())
+                    makes_simpler(alloc, memo, binding, [top, below, lowest].as_slice())
                 }
                 _ => Ok(false),
             }
@@ -74,15 +71,10 @@ fn makes_simpler_at(
     }
 }
 
-/// Applies the rule to the lines, if it makes them simpler.
-fn simplify_by(
-    alloc: Global,
-    memo: &mut Memo<'_>,
-    rule: RuleName,
-    lines: BoundLines,
-) -> Result<(), AllocError> {
-    if makes_simpler_at(alloc, memo, rule, lines)? {
-        let _ = memo.apply(alloc, unpicked(rule, lines))?;
+/// Applies a binding's rule, if it makes the lines simpler.
+fn simplify_by(alloc: Global, memo: &mut Memo<'_>, binding: Binding) -> Result<(), AllocError> {
+    if makes_simpler_at(alloc, memo, binding)? {
+        let _ = memo.apply(alloc, binding)?;
     }
     Ok(())
 }
@@ -111,7 +103,7 @@ fn simplify_alone(
     line: LineId,
 ) -> Result<(), AllocError> {
     for rule in rules {
-        simplify_by(alloc, memo, *rule, BoundLines::One(line))?;
+        simplify_by(alloc, memo, unpicked(*rule, BoundLines::One(line)))?;
     }
     Ok(())
 }
@@ -126,7 +118,7 @@ fn simplify_over(
 ) -> Result<(), AllocError> {
     for below in memo.log().members(alloc, class)? {
         for rule in rules {
-            simplify_by(alloc, memo, *rule, BoundLines::Two(line, below))?;
+            simplify_by(alloc, memo, unpicked(*rule, BoundLines::Two(line, below)))?;
         }
     }
     Ok(())
@@ -162,16 +154,68 @@ fn simplify_over_two(
     memo: &mut Memo<'_>,
     rule: RuleName,
     line: LineId,
+    below: Below,
+    lowest: Below,
 ) -> Result<(), AllocError> {
-    let Pattern::Three(_, below, lowest) = rule.pattern() else {
-        return Ok(());
-    };
     for second in lines_below(alloc, memo, line, below.input)? {
         for third in lines_below(alloc, memo, second, lowest.input)? {
-            simplify_by(alloc, memo, rule, BoundLines::Three(line, second, third))?;
+            let lines = BoundLines::Three(line, second, third);
+            simplify_by(alloc, memo, unpicked(rule, lines))?;
         }
     }
     Ok(())
+}
+
+/// Applies a rule with a pick to the line and each line of a class.
+fn simplify_picked(
+    alloc: Global,
+    memo: &mut Memo<'_>,
+    rule: RuleName,
+    pick: u32,
+    line: LineId,
+    class: ClassId,
+) -> Result<(), AllocError> {
+    for below in memo.log().members(alloc, class)? {
+        let lines = BoundLines::Two(line, below);
+        simplify_by(alloc, memo, Binding { rule, pick, lines })?;
+    }
+    Ok(())
+}
+
+/// The class of the subquery that a line selects by, if it selects by nothing else.
+fn lone_subquery(memo: &Memo<'_>, line: LineId) -> Option<ClassId> {
+    let member = memo.log().member(line)?;
+    match member.expr {
+        Expr::Select(conjuncts, _) if conjuncts.as_slice().len() == 1 => {
+            picked_subquery(member.expr, 0)
+        }
+        _ => None,
+    }
+}
+
+/// Applies a rule of three lines or with a pick to the line, where it makes that simpler. Of selections those by one subquery alone are looked at: from
+/// one by several conditions `seed` makes selections one over the other.
+fn simplify_first(
+    alloc: Global,
+    memo: &mut Memo<'_>,
+    rule: RuleName,
+    line: LineId,
+) -> Result<(), AllocError> {
+    match (rule.pattern(), lone_subquery(memo, line)) {
+        (Pattern::Three(_, below, lowest), _) => {
+            simplify_over_two(alloc, memo, rule, line, below, lowest)
+        }
+        (Pattern::Subquery, Some(_)) => {
+            simplify_by(alloc, memo, unpicked(rule, BoundLines::One(line)))
+        }
+        (Pattern::SubqueryLine(_), Some(class)) => {
+            simplify_picked(alloc, memo, rule, 0, line, class)
+        }
+        (Pattern::ClassLine(_), Some(class)) => {
+            simplify_picked(alloc, memo, rule, class, line, class)
+        }
+        _ => Ok(()),
+    }
 }
 
 /// The rules of three lines and with a pick that take a line as the first.
@@ -198,7 +242,7 @@ fn simplify_line(
         }
     }
     for rule in rules_first(memo, takers, line) {
-        simplify_over_two(alloc, memo, *rule, line)?;
+        simplify_first(alloc, memo, *rule, line)?;
     }
     Ok(())
 }
@@ -215,7 +259,8 @@ fn pass(alloc: Global, memo: &mut Memo<'_>, takers: &Takers) -> Result<(), Alloc
 
 /// Adds what the rules give that promise to make expressions simpler, after learning the facts that these may ask of a line. As the rules of the book
 /// are, selections and projections one over the other become one, a projection to all columns and distinct rows of a class with a key are that class,
-/// groups without aggregates are distinct rows, selections and conditions go below outer joins, and outer joins become inner ones, antijoins, or go away.
+/// groups without aggregates are distinct rows, selections and conditions go below outer joins, outer joins become inner ones, antijoins, or go away, and a selection by
+/// one subquery becomes a semijoin or an antijoin.
 pub fn simplify(alloc: Global, memo: &mut Memo<'_>) -> Result<(), AllocError> {
     let takers = Takers::of_book(alloc)?;
     for _ in 0..MOST_PASSES {

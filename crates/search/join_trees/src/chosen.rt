@@ -2,6 +2,7 @@
 
 use crate::estimates::{ALL, Share};
 use crate::graph::{Extra, Graph};
+use crate::greedy::greedy_tree;
 use crate::sets::{LeafSet, MOST_LEAVES};
 use std::alloc::{AllocError, Global};
 
@@ -43,7 +44,7 @@ pub struct Joined {
     pub rows: u64,
     pub cost: u64,
     /// The leaves that are equated with some of the set.
-    around: LeafSet,
+    pub(crate) around: LeafSet,
     /// The sides of its last join; none of a leaf.
     pub left: LeafSet,
     pub right: LeafSet,
@@ -65,7 +66,7 @@ pub struct Joined {
 }
 
 /// A set that is not looked at.
-const NOTHING: Joined = Joined {
+pub(crate) const NOTHING: Joined = Joined {
     set: LeafSet::EMPTY,
     rows: 0,
     cost: u64::MAX,
@@ -168,13 +169,13 @@ impl Kept {
 /// A join tree: its sets, each with its sides, the whole last; and for each subquery and behind these for each outer join the set whose rows it is asked of.
 #[derive(Drop)]
 pub struct JoinTree {
-    joined: Vec<Joined>,
+    pub(crate) joined: Vec<Joined>,
     pub homes: Vec<LeafSet>,
     /// The numbers of those that were placed together with the leaves: what is asked of the rows that others leave before these.
     pub asked: Vec<usize>,
 }
 
-fn leaf_joined(graph: &Graph, place: usize) -> Joined {
+pub(crate) fn leaf_joined(graph: &Graph, place: usize) -> Joined {
     let leaf = graph.leaf(place);
     let set = LeafSet::single(place);
     Joined {
@@ -263,7 +264,7 @@ fn join_of(graph: &Graph, left: Joined, right: Joined, rows: u64) -> Joined {
 }
 
 /// The join of two sides either way round.
-fn cheaper_join(graph: &Graph, first: Joined, second: Joined, rows: u64) -> Joined {
+pub(crate) fn cheaper_join(graph: &Graph, first: Joined, second: Joined, rows: u64) -> Joined {
     let one = join_of(graph, first, second, rows);
     let other = join_of(graph, second, first, rows);
     if other.cost < one.cost { other } else { one }
@@ -580,86 +581,6 @@ fn least_tree(alloc: Global, graph: &Graph, count: usize) -> Result<JoinTree, Al
         joined,
         homes,
         asked,
-    })
-}
-
-/// Two of the parts, by their places.
-#[derive(Clone, Copy, Drop)]
-struct Pair {
-    low: usize,
-    high: usize,
-    is_product: bool,
-    rows: u64,
-}
-
-fn is_before(pair: Pair, other: Option<Pair>) -> bool {
-    match other {
-        Some(other) => {
-            if pair.is_product != other.is_product {
-                other.is_product
-            } else {
-                pair.rows < other.rows
-            }
-        }
-        None => true,
-    }
-}
-
-/// The pair whose join has the fewest rows, products last.
-fn least_pair(graph: &Graph, parts: &[Joined]) -> Option<Pair> {
-    let mut least: Option<Pair> = None;
-    for (high, second) in parts.iter().enumerate() {
-        for (low, first) in parts.iter().enumerate().take(high) {
-            let pairs = first.rows.saturating_mul(second.rows);
-            let rows = graph.joined_rows(first.set, second.set, pairs);
-            let is_product = !first.around.meets(second.set);
-            let pair = Pair {
-                low,
-                high,
-                is_product,
-                rows,
-            };
-            if is_before(pair, least) {
-                least = Some(pair);
-            }
-        }
-    }
-    least
-}
-
-/// Joins a pair, which takes the place of the lower part.
-fn join_pair(graph: &Graph, parts: &mut Vec<Joined>, pair: Pair) -> Joined {
-    let first = parts.get(pair.low).copied().unwrap_or(NOTHING);
-    let second = parts.get(pair.high).copied().unwrap_or(NOTHING);
-    let joined = cheaper_join(graph, first, second, pair.rows);
-    if pair.high < parts.len() {
-        parts.swap_remove(pair.high);
-    }
-    if let Some(part) = parts.get_mut(pair.low) {
-        *part = joined;
-    }
-    joined
-}
-
-/// The tree in which the pair with the fewest rows is joined, again and again.
-fn greedy_tree(alloc: Global, graph: &Graph, count: usize) -> Result<JoinTree, AllocError> {
-    let mut sets = Vec::new(alloc);
-    let mut parts = Vec::new(alloc);
-    for place in 0..count {
-        let leaf = leaf_joined(graph, place);
-        sets.push(leaf)?;
-        parts.push(leaf)?;
-    }
-    for _ in 1..count {
-        if let Some(pair) = least_pair(graph, &parts) {
-            sets.push(join_pair(graph, &mut parts, pair))?;
-        }
-    }
-    let homes = Vec::from_elem(alloc, LeafSet::EMPTY, graph.extras.len())?;
-    Ok(JoinTree {
-        joined: sets,
-        homes,
-        asked: Vec::new(alloc),
     })
 }
 

@@ -6,6 +6,7 @@ use crate::left_joins::{OuterJoin, Padding};
 use crate::regions::{Parts, Region, conditions_of};
 use crate::sets::{LeafSet, MOST_LEAVES};
 use crate::subqueries::{Subquery, class_cost, subqueries_of};
+use crate::unnested::Asking;
 use algebra::{ClassId, Condition, Expr, LineId};
 use costs::{Cardinalities, selectivity};
 use logs::Log;
@@ -68,14 +69,14 @@ pub struct Graph {
 /// What may be asked of the rows of a set, which has other rows then.
 #[derive(Clone, Copy, Drop)]
 pub enum Extra {
-    /// A condition with a subquery, over leaves of which it mentions a column: what it costs to ask it of one row, and which share makes it true.
-    Subquery(LeafSet, u64, u64),
+    /// A condition with a subquery, over leaves of which it mentions a column: what it costs to ask it of rows, and which share makes it true.
+    Subquery(LeafSet, Asking, u64),
     LeftJoin(Padding),
 }
 
 impl Extra {
     fn of(subquery: &Subquery) -> Extra {
-        Extra::Subquery(subquery.leaves, subquery.cost, subquery.share)
+        Extra::Subquery(subquery.leaves, subquery.asking, subquery.share)
     }
 
     /// The leaves that it wants.
@@ -89,7 +90,7 @@ impl Extra {
     /// What it costs to ask it of so many rows.
     pub fn cost(self, rows: u64) -> u64 {
         match self {
-            Extra::Subquery(_, each, _) => rows.saturating_mul(each),
+            Extra::Subquery(_, asking, _) => asking.cost(rows),
             Extra::LeftJoin(padding) => padding.cost(rows),
         }
     }

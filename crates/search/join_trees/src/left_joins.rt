@@ -3,7 +3,7 @@
 use crate::estimates::{per_million, probed, scan_cost};
 use crate::graph::{Guesses, mentioned};
 use crate::sets::LeafSet;
-use algebra::{ClassId, Conjuncts, Expr};
+use algebra::{ClassId, Condition, Conjuncts, Expr};
 use costs::selectivity;
 use std::alloc::{AllocError, Global};
 
@@ -43,17 +43,17 @@ fn reading_cost(guesses: Guesses<'_, '_>, class: ClassId, rows: u64) -> u64 {
     }
 }
 
-/// What finding the matches of one row in a table costs, where an index does by one of the conditions.
-fn probe_of(guesses: Guesses<'_, '_>, outer: OuterJoin<'_>) -> Option<u64> {
-    let member = guesses.log.member(outer.right)?;
+/// What finding the matches of one row in a right side that is a table costs, where an index does by one of the conditions.
+pub fn probe_of(guesses: Guesses<'_, '_>, conditions: &[Condition], right: ClassId) -> Option<u64> {
+    let member = guesses.log.member(right)?;
     let Expr::Get(_) = member.expr else {
         return None;
     };
     let columns = guesses.log.classes().columns;
     let mut least: Option<u64> = None;
-    for conjunct in outer.condition.as_slice() {
+    for conjunct in conditions {
         if let Some((a, b)) = conjunct.equated() {
-            let own = if columns.has(outer.right, a) { a } else { b };
+            let own = if columns.has(right, a) { a } else { b };
             if let Some(cost) = probed(guesses.statistics, guesses.log.instances(), own) {
                 least = Some(least.unwrap_or(u64::MAX).min(cost));
             }
@@ -82,7 +82,7 @@ impl Padding {
             leaves: mentioning,
             right_rows,
             right_cost: reading_cost(guesses, outer.right, right_rows),
-            probe: probe_of(guesses, outer),
+            probe: probe_of(guesses, outer.condition.as_slice(), outer.right),
             matches: matches.max(1),
         })
     }

@@ -11,10 +11,12 @@ mod connected;
 mod equations;
 mod estimates;
 mod graph;
+mod greedy;
 mod left_joins;
 mod regions;
 mod sets;
 mod subqueries;
+mod unnested;
 
 pub use choice::{Choice, choose};
 pub use chosen::{JoinTree, Joined};

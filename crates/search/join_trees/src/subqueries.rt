@@ -1,21 +1,26 @@
-//! Conditions with subqueries: what one of them costs each row, and of which leaves it mentions columns.
+//! Conditions with subqueries: what one of them costs, and of which leaves it mentions columns.
 
 use crate::graph::{Guesses, mentioned};
 use crate::regions::conditions_of;
 use crate::sets::LeafSet;
+use crate::unnested::{Asking, asking_of};
 use algebra::{ClassId, Condition, Conjuncts, LineId};
 use costs::selectivity;
 use search::best;
 use std::alloc::{AllocError, Global};
 
-/// A condition of a selection that names classes. It is asked of whole rows by themselves, and runs their plans for each of them.
+/// Of so many rows conditions are compared by their costs.
+const MANY_ROWS: u64 = 1_000;
+
+/// A condition of a selection that names classes. It is asked of whole rows by themselves, and runs their plans for each of them, or is a semijoin or an
+/// antijoin with theirs.
 #[derive(Drop)]
 pub struct Subquery {
     pub condition: Condition,
     /// The leaves of which it mentions a column.
     pub leaves: LeafSet,
-    /// What it costs to ask it of one row.
-    pub cost: u64,
+    /// What it costs to ask it of rows.
+    pub asking: Asking,
     /// Which share of rows makes it true.
     pub share: u64,
 }
@@ -37,8 +42,8 @@ pub fn class_cost(
     Ok(found.map(|plan| plan.cost))
 }
 
-/// What it costs to ask the condition of one row.
-fn asking_cost(
+/// What it costs to ask the condition of one row, by the plans of its classes.
+fn filter_cost(
     alloc: Global,
     guesses: Guesses<'_, '_>,
     condition: &Condition,
@@ -53,19 +58,18 @@ fn asking_cost(
     Ok(cost)
 }
 
-/// What is guessed of a condition that costs so much to ask of one row.
+/// What is guessed of a condition.
 fn subquery_of(
     alloc: Global,
     guesses: Guesses<'_, '_>,
     leaves: &[ClassId],
     condition: &Condition,
-    cost: u64,
 ) -> Result<Subquery, AllocError> {
-    let leaves = mentioned(alloc, guesses.log, leaves, condition)?;
+    let each = filter_cost(alloc, guesses, condition)?;
     Ok(Subquery {
         condition: condition.copy(alloc)?,
-        leaves,
-        cost,
+        leaves: mentioned(alloc, guesses.log, leaves, condition)?,
+        asking: asking_of(alloc, guesses, leaves, condition, each)?,
         share: selectivity(guesses.statistics, guesses.log.instances(), condition),
     })
 }
@@ -80,9 +84,11 @@ pub fn subqueries_of(
     let mut found: Vec<Subquery> = Vec::new(alloc);
     for condition in conditions_of(guesses.log, select) {
         if !condition.has_no_class() {
-            let cost = asking_cost(alloc, guesses, condition)?;
-            let place = found.iter().position(|other| other.cost < cost);
-            let one = subquery_of(alloc, guesses, leaves, condition, cost)?;
+            let one = subquery_of(alloc, guesses, leaves, condition)?;
+            let cost = one.asking.cost(MANY_ROWS);
+            let place = found
+                .iter()
+                .position(|other| other.asking.cost(MANY_ROWS) < cost);
             match place {
                 Some(place) => found.insert(place, one)?,
                 None => found.push(one)?,

@@ -4,6 +4,7 @@
 //! endless loops alone. The trees are those of `join_trees`.
 #![tactic(auto)]
 
+mod correlated;
 mod founding;
 mod lifting;
 mod lowering;

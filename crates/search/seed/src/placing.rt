@@ -64,7 +64,7 @@ impl Asked<'_> {
 }
 
 /// A line of the selection from the class, which is founded where none has it.
-fn selection(
+pub(crate) fn selection(
     alloc: Global,
     memo: &mut Memo<'_>,
     conditions: Conjuncts,

@@ -1,12 +1,13 @@
 //! The seed of a log.
 
+use crate::correlated::part_correlated;
 use crate::founding::found_tree;
 use crate::lowering::{Padded, padded_above, place_left_joins};
 use crate::nodes::Nodes;
 use crate::placing::{Asked, place_subqueries};
 use crate::reaching::reach;
 use crate::sinking::{Wishes, combed, lowered, sunk};
-use algebra::ClassId;
+use algebra::{ClassId, LineId};
 use join_trees::{
     Choice, JoinTree, LeafSet, MOST_LEAVES, OuterJoin, Parts, Region, choose, founding_sides,
     parts_of, place_of, regions_of,
@@ -143,15 +144,39 @@ fn seed_region(
     Ok(Some(choice.tree.root().cost))
 }
 
+/// The regions of a log, those whose selections are among these lines first.
+fn regions_from(
+    alloc: Global,
+    memo: &Memo<'_>,
+    first: &[LineId],
+) -> Result<Vec<Region>, AllocError> {
+    let mut regions = Vec::new(alloc);
+    let mut others = Vec::new(alloc);
+    for region in regions_of(alloc, memo.log())? {
+        let is_first = region.select.is_some_and(|line| first.contains(&line));
+        if is_first {
+            regions.push(region)?;
+        } else {
+            others.push(region)?;
+        }
+    }
+    for region in others {
+        regions.push(region)?;
+    }
+    Ok(regions)
+}
+
 /// Adds lines to a log so that for each group of inner joins that hang together a tree that seems good is among its plans. What these trees are guessed to
-/// cost together, without what stands above them, if any is chosen.
+/// cost together, without what stands above them, if any is chosen. What a subquery selects by its own rows alone comes first, since what it costs to ask the
+/// subquery of other rows depends on that.
 pub fn seed(
     alloc: Global,
     memo: &mut Memo<'_>,
     statistics: &Statistics,
 ) -> Result<Option<u64>, AllocError> {
+    let own = part_correlated(alloc, memo)?;
     let mut all: Option<u64> = None;
-    for region in regions_of(alloc, memo.log())? {
+    for region in regions_from(alloc, memo, own.as_slice())? {
         if let Some(cost) = seed_region(alloc, memo, statistics, region)? {
             all = Some(all.unwrap_or(0).saturating_add(cost));
         }
