@@ -1,3 +1,7 @@
+pub mod AskedExistence
+pub mod AskedOutputs
+pub mod AskedPlans
+pub mod DecidedRows
 pub mod FilteredJoins
 pub mod FirstSeen
 pub mod GroupEnvs
@@ -13,6 +17,7 @@ pub mod RunnablePlans
 pub mod RunningGroups
 pub mod RunPlaces
 pub mod ShownRows
+pub mod SomeRows
 pub mod SortedInputs
 pub mod TableScans
 pub mod Together

@@ -13,7 +13,6 @@ use Rattle.relations.specs.declared.relation.Relation.{Relation}
 use Rattle.relations.specs.Parts.{row_at}
 use Rattle.relations.specs.Relations.{AreOutputs, IsOutput, numbered_env, numbers_of, rows_of}
 use Rattle.joins.proofs.JoinRows.{pair-laid}
-use Rattle.operators.proofs.PlanOutputs.{outputs-more}
 use Rattle.operators.specs.RowReadings.{AreReadings, IsReading}
 
 -- a relation's rows in another environment
@@ -65,7 +64,7 @@ moved-length (suc i) [] e d (r ∷ relations) all = absurd all
 moved-length (suc i) (x ∷ inputs) e d [] all = absurd all
 moved-length (suc i) (x ∷ inputs) e d (r ∷ relations) all = let rest = moved-length i inputs e d relations all.1 in omega (arith, rest)
 
-moved-stay : (i : ℕ) (inputs : List Output) (reads : List (List ℕ)) (L : List ℕ) (e d : Env) (relations : List Relation) → i < length inputs → AreReadings inputs reads → L ≡ get_or reads i L → same_on L e d ≡ true
+pub moved-stay : (i : ℕ) (inputs : List Output) (reads : List (List ℕ)) (L : List ℕ) (e d : Env) (relations : List Relation) → i < length inputs → AreReadings inputs reads → L ≡ get_or reads i L → same_on L e d ≡ true
     → AreMoved i inputs e d relations → AreMoved (suc i) inputs e d relations
 moved-stay i [] reads L e d relations lt readings at same all = absurd (omega (arith, lt))
 moved-stay i (x ∷ inputs) [] L e d relations lt readings at same all = absurd readings
@@ -74,7 +73,7 @@ moved-stay (suc i) (x ∷ inputs) (K ∷ reads) L e d [] lt readings at same all
 moved-stay zero (x ∷ inputs) (K ∷ reads) L e d (r ∷ relations) lt readings at same all = (output-serves x K e d r readings.0 (subst (λ M. same_on M e d ≡ true) at same) all.0, all.1)
 moved-stay (suc i) (x ∷ inputs) (K ∷ reads) L e d (r ∷ relations) lt readings at same all = (all.0, moved-stay i inputs reads L e d relations (omega (arith, lt)) readings.1 at same all.1)
 
-moved-again : (i : ℕ) (inputs : List Output) (x : Output) (e d : Env) (relations : List Relation) (r : Relation) → slice_get inputs i ≡ Some x → IsOutput x.columns (x.rows d) d r
+pub moved-again : (i : ℕ) (inputs : List Output) (x : Output) (e d : Env) (relations : List Relation) (r : Relation) → slice_get inputs i ≡ Some x → IsOutput x.columns (x.rows d) d r
     → AreMoved i inputs e d relations → AreMoved (suc i) inputs e d (set relations i r)
 moved-again i [] x e d relations r at is all = cc at
 moved-again zero (y ∷ inputs) x e d [] r at is all = absurd all
@@ -82,7 +81,7 @@ moved-again (suc i) (y ∷ inputs) x e d [] r at is all = absurd all
 moved-again zero (y ∷ inputs) x e d (s ∷ relations) r at is all = let same : y ≡ x = cc at in (rw (same) is, all.1)
 moved-again (suc i) (y ∷ inputs) x e d (s ∷ relations) r at is all = (all.0, moved-again i inputs x e d relations r at is all.1)
 
-moved-all : (i : ℕ) (inputs : List Output) (e d : Env) (relations : List Relation) → length inputs ≤ i → AreMoved i inputs e d relations → AreOutputs inputs d relations
+pub moved-all : (i : ℕ) (inputs : List Output) (e d : Env) (relations : List Relation) → length inputs ≤ i → AreMoved i inputs e d relations → AreOutputs inputs d relations
 moved-all zero [] e d [] le all = tt
 moved-all zero [] e d (r ∷ relations) le all = absurd all
 moved-all zero (x ∷ inputs) e d relations le all = absurd (omega (arith, le))
@@ -93,7 +92,7 @@ moved-all (suc i) (x ∷ inputs) e d (r ∷ relations) le all = (all.0, moved-al
 
 -- ---- plans, whose outputs the inputs are
 
-plan-at : (f : Plan → Output) (plans : List Plan) (i : ℕ) (plan : Plan) → i < length plans → plan ≡ get_or plans i plan → slice_get (map f plans) i ≡ Some (f plan)
+pub plan-at : (f : Plan → Output) (plans : List Plan) (i : ℕ) (plan : Plan) → i < length plans → plan ≡ get_or plans i plan → slice_get (map f plans) i ≡ Some (f plan)
 plan-at f plans i plan lt is =
     let size = length-map plans f in
     slice_get-get_or (map f plans) i (f plan) (omega (arith, size, lt)) ∙ ap Some (get_or-map f plans i plan (f plan) lt ∙ ap f (sym is))
@@ -102,26 +101,3 @@ pub readings-next : (f : Plan → Output) (plans : List Plan) (reads more : List
     → more ≡ reads ++ K ∷ [] → AreReadings (map f (take (i + 1) plans)) more
 readings-next f plans reads more i plan K lt at all is same =
     rw (map_next f plans i plan lt at, same) (readings-more (map f (take i plans)) reads (f plan) K all is)
-
-pub outputs-next : (f : Plan → Output) (plans : List Plan) (relations more : List Relation) (i : ℕ) (plan : Plan) (r : Relation) (e : Env) → i < length plans → plan ≡ get_or plans i plan → AreOutputs (map f (take i plans)) e relations
-    → IsOutput (f plan).columns ((f plan).rows e) e r → more ≡ relations ++ r ∷ [] → AreOutputs (map f (take (i + 1) plans)) e more
-outputs-next f plans relations more i plan r e lt at all is same =
-    rw (map_next f plans i plan lt at, same) (outputs-more (map f (take i plans)) (f plan) e relations r all is)
-
-pub plans-stay : (f : Plan → Output) (plans : List Plan) (reads : List (List ℕ)) (L : List ℕ) (relations : List Relation) (i : ℕ) (e d : Env) → i < length plans → AreReadings (map f plans) reads → L ≡ get_or reads i L → same_on L e d ≡ true
-    → AreMoved i (map f plans) e d relations → AreMoved (i + 1) (map f plans) e d relations
-plans-stay f plans reads L relations i e d lt readings at same all =
-    let size = length-map plans f in
-    let next : i + 1 ≡ suc i = omega arith in
-    rw (next) (moved-stay i (map f plans) reads L e d relations (omega (arith, size, lt)) readings at same all)
-
-pub plans-again : (f : Plan → Output) (plans : List Plan) (relations : List Relation) (i : ℕ) (plan : Plan) (r : Relation) (e d : Env) → i < length plans → plan ≡ get_or plans i plan → IsOutput (f plan).columns ((f plan).rows d) d r
-    → AreMoved i (map f plans) e d relations → AreMoved (i + 1) (map f plans) e d (set relations i r)
-plans-again f plans relations i plan r e d lt at is all =
-    let next : i + 1 ≡ suc i = omega arith in
-    rw (next) (moved-again i (map f plans) (f plan) e d relations r (plan-at f plans i plan lt at) is all)
-
-pub plans-all : (f : Plan → Output) (plans : List Plan) (relations : List Relation) (i : ℕ) (e d : Env) → length plans ≤ i → AreMoved i (map f plans) e d relations → AreOutputs (map f plans) d relations
-plans-all f plans relations i e d le all =
-    let size = length-map plans f in
-    moved-all i (map f plans) e d relations (omega (arith, size, le)) all

@@ -1,3 +1,4 @@
+pub mod Existence
 pub mod FilteredJoins
 pub mod Grouped
 pub mod Groups

@@ -2,6 +2,7 @@
 #![tactic(auto)]
 
 mod aggregates;
+mod existence;
 mod grouped;
 mod groups;
 mod index_scans;

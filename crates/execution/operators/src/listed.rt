@@ -1,6 +1,7 @@
 //! The values of subqueries, listed where many rows ask for them.
 
-ghost use Rattle.std.specs.Prelude.{◌≡◌, ◌<◌, length, slice_set, IfOk, IfSome};
+ghost use Rattle.std.specs.Prelude.{◌≡◌, ◌<◌, ◌&&◌, is_none, not, length, map, slice_set, IfOk, IfSome};
+ghost use Rattle.operators.specs.Existence.{ask_existence, asks_existence};
 ghost use Rattle.relations.specs.Relations.{rows_of};
 ghost use Rattle.relations.specs.ValueLists.{AreListed, IsListed};
 
@@ -14,32 +15,71 @@ const FEW_ROWS: usize = 8;
 
 /// The column of a class in which a condition looks a value up by IN.
 #[cycle(asked)]
-fn asked_column(condition: &Condition, class: ClassId) -> Option<ColumnId> {
+fn asked_column(condition: &Condition, class: ClassId) -> Option<ColumnId>
+    ensures { is_none result ≡ asks_existence class condition.now }
+{
     match condition {
-        Condition::In(_, of, column) if *of == class => Some(*column),
+        Condition::Compare(_, _, _) => None,
+        Condition::IsNull(_) => None,
         Condition::Not(part) => asked_column(part.get(), class),
-        Condition::And(a, b, more) | Condition::Or(a, b, more) => {
-            if let Some(column) = asked_column(a.get(), class) {
-                return Some(column);
-            }
-            if let Some(column) = asked_column(b.get(), class) {
-                return Some(column);
-            }
-            column_asked_by_some(more.as_slice(), class)
-        }
-        _ => None,
+        Condition::And(a, b, more) => first_of(
+            asked_column(a.get(), class),
+            asked_column(b.get(), class),
+            column_asked_by_some(more.as_slice(), class),
+        ),
+        Condition::Or(a, b, more) => first_of(
+            asked_column(a.get(), class),
+            asked_column(b.get(), class),
+            column_asked_by_some(more.as_slice(), class),
+        ),
+        Condition::Exists(_) => None,
+        Condition::In(_, of, column) => column_if(*of == class, *column),
+    }
+}
+
+fn column_if(is_asked: bool, column: ColumnId) -> Option<ColumnId>
+    ensures { is_none result ≡ not is_asked }
+{
+    if is_asked { Some(column) } else { None }
+}
+
+/// The first column that is there.
+fn first_of(a: Option<ColumnId>, b: Option<ColumnId>, more: Option<ColumnId>) -> Option<ColumnId>
+    ensures { is_none result ≡ (is_none a && (is_none b && is_none more)) }
+{
+    match (a, b) {
+        (Some(column), _) => Some(column),
+        (None, Some(column)) => Some(column),
+        (None, None) => more,
     }
 }
 
 /// The first such column of some conditions.
 #[cycle(asked)]
-fn column_asked_by_some(conditions: &[Condition], class: ClassId) -> Option<ColumnId> {
+fn column_asked_by_some(conditions: &[Condition], class: ClassId) -> Option<ColumnId>
+    ensures { is_none result ≡ ask_existence conditions.now class }
+{
     for condition in conditions {
         if let Some(column) = asked_column(condition, class) {
             return Some(column);
         }
     }
     None
+}
+
+/// Of each class whether conditions ask no more of it than whether it has a row.
+pub(crate) fn only_existence(
+    alloc: Global,
+    conditions: &[Condition],
+    classes: &[ClassId],
+) -> Result<Vec<bool>, AllocError>
+    ensures { IfOk result (λ only. only.items ≡ map (ask_existence conditions.now) classes.now) }
+{
+    let mut only = Vec::with_capacity(alloc, classes.len())?;
+    for class in classes {
+        only.push(column_asked_by_some(conditions, *class).is_none())?;
+    }
+    Ok(only)
 }
 
 /// Whether the rows have one of some columns.
