@@ -245,6 +245,12 @@ SELECT a FROM t WHERE EXISTS (SELECT * FROM u WHERE c = a) => scan 0 0 | scan 1 
 SELECT x.a FROM t x WHERE x.a = 2 OR EXISTS (SELECT * FROM t y WHERE y.b = x.b AND y.a > 3) => scan 0 0 | scan 1 1 | filter 2 | cut 3: 2 3 | subqueries 4 1 | cut 5: 0 => accepted ;1,;2,;5,
 SELECT x.a FROM t x WHERE x.a NOT IN (SELECT y.a FROM t y WHERE y.b = x.b AND y.a < 5) => scan 0 0 | scan 1 1 | filter 2 | cut 3: 2 | subqueries 4 1 | cut 5: 0 => accepted ;2,;4,;5,
 SELECT a FROM t WHERE 'y' IN (SELECT d FROM u WHERE c = a) => scan 0 0 | scan 1 1 | filter 2 | cut 3: 3 | subqueries 4 1 | cut 5: 0 => accepted ;3,
+SELECT x.a FROM t x WHERE EXISTS (SELECT DISTINCT y.b FROM t y WHERE y.a > x.a) => scan 0 0 | scan 1 1 | filter 2 | cut 3: 3 | sort: 3 | sdistinct 4 | subqueries 5 1 | cut 6: 0 => accepted ;1,;2,;3,;4,
+SELECT x.a FROM t x WHERE NOT EXISTS (SELECT y.b, COUNT(*) FROM t y WHERE y.a > x.a GROUP BY y.b) => scan 0 0 | scan 1 1 | filter 2 | group 3 | cut 4: 3 4 | subqueries 5 1 | cut 6: 0 => accepted ;5,
+SELECT x.a FROM t x WHERE EXISTS (SELECT COUNT(*) FROM t y WHERE y.a > x.a) => scan 0 0 | scan 1 1 | filter 2 | group 3 | cut 4: 4 | subqueries 5 1 | cut 6: 0 => accepted ;1,;2,;3,;4,;5,
+SELECT x.a FROM t x WHERE EXISTS (SELECT * FROM u LEFT JOIN t y ON y.a = x.a AND y.b > 10) => scan 0 0 | scan 1 1 | scan 2 2 | left 3 | cut 4: 2 3 4 5 | subqueries 5 1 | cut 6: 0 => accepted ;1,;2,;3,;4,;5,
+SELECT x.a FROM t x WHERE NOT EXISTS (SELECT * FROM u JOIN t y ON y.a = c WHERE y.b = x.b) => scan 0 0 | scan 1 1 | scan 2 2 | hash 3 | filter 4 | cut 5: 2 3 4 5 | subqueries 6 1 | cut 7: 0 => accepted ;2,;4,
+SELECT x.a FROM t x WHERE x.a = 4 OR EXISTS (SELECT * FROM t y WHERE y.b = x.b AND y.a > x.a) AND x.a IN (SELECT c FROM u WHERE c < 3) => scan 0 0 | scan 1 1 | filter 2 | cut 3: 2 3 | scan 4 2 | filter 5 | cut 6: 4 | subqueries 7 2 | cut 8: 0 => accepted ;1,;4,
 SELECT b, COUNT(*), COUNT(b), SUM(a), MIN(a), MAX(b) FROM t GROUP BY b => scan 0 0 | group 1 | cut 2: 1 2 3 4 5 6 => accepted ;20,2,2,6,1,20,;-,2,0,6,2,-,;10,1,1,3,3,10,
 SELECT COUNT(*), COUNT(b), SUM(a), MIN(a), MAX(b) FROM t WHERE a = 7 => scan 0 0 | filter 1 | group 2 | cut 3: 2 3 4 5 6 => accepted ;0,0,-,-,-,
 SELECT COUNT(*) FROM t WHERE a = 7 GROUP BY b => scan 0 0 | filter 1 | group 2 | cut 3: 2 => accepted
@@ -297,6 +303,8 @@ SELECT id FROM emp => iscan 0: 0 0 0 | cut 1: 0 => accepted
 SELECT c, d FROM u WHERE EXISTS (SELECT * FROM t WHERE b = 10 AND a = c) => scan 0 0 | iscan 2: 1 1 1 | cut 3: 2 3 | subqueries 4 1 | cut 5: 0 1 => accepted ;3,x,;3,y,
 SELECT c, d FROM u WHERE EXISTS (SELECT * FROM t WHERE b = 20 AND a < c) => scan 0 0 | iscan 2: 1 1 1 | cut 3: 2 3 | subqueries 4 1 | cut 5: 0 1 => accepted ;3,x,;3,y,
 SELECT x.a FROM t x WHERE EXISTS (SELECT * FROM t y WHERE y.b = x.b AND y.a <> x.a) => scan 0 0 | iscan 2: 1 1 0 | cut 3: 2 3 | subqueries 4 1 | cut 5: 0 => accepted ;1,;5,
+SELECT x.a FROM t x WHERE NOT EXISTS (SELECT * FROM t y WHERE y.b = x.b AND y.a > x.a) => scan 0 0 | iscan 2: 1 1 0 | cut 3: 2 3 | subqueries 4 1 | cut 5: 0 => accepted ;2,;3,;4,;5,
+SELECT x.a FROM t x WHERE NOT EXISTS (SELECT * FROM t y WHERE y.b = x.b AND y.a > x.a) => scan 0 0 | iscan 2: 1 1 1 | cut 3: 2 3 | subqueries 4 1 | cut 5: 0 => accepted ;2,;3,;4,;5,
 SELECT x.a FROM t x WHERE x.b > 10 AND EXISTS (SELECT * FROM t y WHERE y.b < x.b) => iscan 0: 0 0 0 | iscan 2: 1 1 0 | cut 3: 2 3 | subqueries 4 1 | cut 5: 0 => accepted ;1,;5,";
 
 /// Certificates with lines or conjuncts of other texts. The lines of the third but the group are those of the query, but for
@@ -392,6 +400,77 @@ SELECT d.id FROM dept d LEFT JOIN emp e ON e.dept = d.id WHERE e.id IS NULL => F
 SELECT d.id FROM dept d LEFT JOIN emp e ON e.dept = d.id WHERE e.pay IS NULL => F get 0; F get 1; F left [=(c4,c0)] 0 1; F select [null(c5)] 2; F keep 0 3; F anti [=(c4,c0)] [] 0 1; A 4 O7 0 4,3,2 5 keep 0 5 / scan 0 0 | scan 1 1 | hash 5 | cut 6: 0 => K05 O7 line 6
 SELECT d.id FROM dept d LEFT JOIN emp e ON e.dept = d.id WHERE e.dept IS NULL => F get 0; F get 1; F left [=(c4,c0)] 0 1; F select [null(c4)] 2; F keep 0 3; F anti [=(c4,c0)] [] 0 1; A 4 O7 0 4,3,2 5 keep 0 5 / scan 0 0 | scan 1 1 | hash 5 | cut 6: 0 => accepted ;2,";
 
+/// Who has no employees: the projection goes, and then the selection is an antijoin. As it stands the subquery reads the department, so it is none to be
+/// asked once; and an antijoin has no conditions with a subquery.
+const NOT_EXISTS: &str =
+    "SELECT d.id FROM dept d WHERE NOT EXISTS (SELECT * FROM emp e WHERE e.dept = d.id) => F get 0; F get 1; F select [=(c4,c0)] 1; F keep 3,4,5,6 2; F select [not(exists(3))] 0; F keep 0 4; A 4 U6 3 4,3 - select [not(exists(2))] 0; A 4 U8 0 6,2 - anti [=(c4,c0)] [] 0 1 / scan 0 0 | scan 1 1 | hash 7 | cut 5: 0 => accepted ;2,
+SELECT d.id FROM dept d WHERE NOT EXISTS (SELECT * FROM emp e WHERE e.dept = d.id) => F get 0; F get 1; F select [=(c4,c0)] 1; F keep 3,4,5,6 2; F select [not(exists(3))] 0; F keep 0 4; A 4 U6 3 4,3 - select [not(exists(2))] 0; A 4 U8 0 6,2 - semi [=(c4,c0)] 0 1 / scan 0 0 | scan 1 1 | hash 7 | cut 5: 0 => K03 line 7
+SELECT d.id FROM dept d WHERE NOT EXISTS (SELECT * FROM emp e WHERE e.dept = d.id) => F get 0; F get 1; F select [=(c4,c0)] 1; F keep 3,4,5,6 2; F select [not(exists(3))] 0; F keep 0 4; A 4 U6 3 4,3 - select [not(exists(2))] 0; A 4 U8 0 6,2 - anti [] [=(c4,c0)] 0 1 / scan 0 0 | scan 1 1 | hash 7 | cut 5: 0 => K03 line 7
+SELECT d.id FROM dept d WHERE NOT EXISTS (SELECT * FROM emp e WHERE e.dept = d.id) => F get 0; F get 1; F select [=(c4,c0)] 1; F keep 3,4,5,6 2; F select [not(exists(3))] 0; F keep 0 4; A 4 U6 3 4,3 - select [not(exists(2))] 0; A 4 U8 1 6,2 - anti [=(c4,c0)] [] 0 1 / scan 0 0 | scan 1 1 | hash 7 | cut 5: 0 => K02 line 7
+SELECT d.id FROM dept d WHERE NOT EXISTS (SELECT * FROM emp e WHERE e.dept = d.id) => F get 0; F get 1; F select [=(c4,c0)] 1; F keep 3,4,5,6 2; F select [not(exists(3))] 0; F keep 0 4; A 4 U6 3 4,3 - select [not(exists(2))] 0; A 4 U8 0 6,3 - anti [=(c4,c0)] [] 0 1 / scan 0 0 | scan 1 1 | hash 7 | cut 5: 0 => K02 line 7
+SELECT d.id FROM dept d WHERE NOT EXISTS (SELECT * FROM emp e WHERE e.dept = d.id) => F get 0; F get 1; F select [=(c4,c0)] 1; F keep 3,4,5,6 2; F select [not(exists(3))] 0; F keep 0 4; A 4 U6 3 4,3 - select [not(exists(2))] 0; A 4 U7 0 6,2 - semi [=(c4,c0)] 0 1 / scan 0 0 | scan 1 1 | hash 7 | cut 5: 0 => K02 line 7
+SELECT d.id FROM dept d WHERE NOT EXISTS (SELECT * FROM emp e WHERE e.dept = d.id) => F get 0; F get 1; F select [=(c4,c0)] 1; F keep 3,4,5,6 2; F select [not(exists(3))] 0; F keep 0 4; A 4 U6 3 4,3 - select [not(exists(2))] 0; A 4 U8 0 7,2 - anti [=(c4,c0)] [] 0 1 / scan 0 0 | scan 1 1 | hash 7 | cut 5: 0 => K01 line 7
+SELECT d.id FROM dept d WHERE NOT EXISTS (SELECT * FROM emp e WHERE e.dept = d.id) => F get 0; F get 1; F select [=(c4,c0)] 1; F keep 3,4,5,6 2; F select [not(exists(3))] 0; F keep 0 4; A 4 U6 3 4,3 - select [not(exists(2))] 0; A 5 U8 0 6,2 - anti [=(c4,c0)] [] 0 1 / scan 0 0 | scan 1 1 | hash 7 | cut 5: 0 => K04 line 7
+SELECT d.id FROM dept d WHERE NOT EXISTS (SELECT * FROM emp e WHERE e.dept = d.id) => F get 0; F get 1; F select [=(c4,c0)] 1; F keep 3,4,5,6 2; F select [not(exists(3))] 0; F keep 0 4; A 4 U6 2 4,3 - select [not(exists(2))] 0 / scan 0 0 | scan 1 1 | filter 2 | subqueries 6 1 | cut 5: 0 => K02 line 6
+SELECT d.id FROM dept d WHERE NOT EXISTS (SELECT * FROM emp e WHERE e.dept = d.id) => F get 0; F get 1; F select [=(c4,c0)] 1; F keep 3,4,5,6 2; F select [not(exists(3))] 0; F keep 0 4; A 4 U6 3 4,3 - select [not(exists(2))] 0 / scan 0 0 | scan 1 1 | filter 2 | subqueries 6 1 | cut 5: 0 => accepted ;2,
+SELECT d.id FROM dept d WHERE NOT EXISTS (SELECT * FROM emp e WHERE e.dept = d.id) => F get 0; F get 1; F select [=(c4,c0)] 1; F keep 3,4,5,6 2; F select [not(exists(3))] 0; F keep 0 4; A 4 U8 0 4,2 - anti [=(c4,c0)] [] 0 1 / scan 0 0 | scan 1 1 | hash 6 | cut 5: 0 => K02 line 6
+SELECT d.id FROM dept d WHERE NOT EXISTS (SELECT * FROM emp e WHERE e.dept = d.id) => F get 0; F get 1; F select [=(c4,c0)] 1; F keep 3,4,5,6 2; F select [not(exists(3))] 0; F keep 0 4; A 4 U2 0 4 - anti [] [] 0 3 / scan 0 0 | scan 1 1 | filter 2 | cut 3: 3 4 5 6 | anti 6 | cut 5: 0 => K05 U2 line 6
+SELECT d.id FROM dept d WHERE NOT EXISTS (SELECT * FROM emp e WHERE e.dept = 2) => F get 0; F get 1; F select [=(c4,i2)] 1; F keep 3,4,5,6 2; F select [not(exists(3))] 0; F keep 0 4; A 4 U2 0 4 - anti [] [] 0 3 / scan 0 0 | scan 1 1 | filter 2 | cut 3: 3 4 5 6 | anti 6 | cut 5: 0 => accepted ;1,;2,;3,
+SELECT d.id FROM dept d WHERE NOT EXISTS (SELECT * FROM emp e WHERE EXISTS (SELECT * FROM dept x)) => F get 0; F get 1; F get 2; F keep 7,8,9 2; F select [exists(3)] 1; F keep 3,4,5,6 4; F select [not(exists(5))] 0; F keep 0 6; A 6 U6 5 6,5 - select [not(exists(4))] 0; A 6 U8 0 8,4 - anti [] [] 0 1 / scan 0 0 | scan 1 1 | hash 9 | cut 7: 0 => K05 U8 line 9";
+
+/// The same with EXISTS, and of a subquery that reads nothing.
+const EXISTS: &str =
+    "SELECT d.id FROM dept d WHERE EXISTS (SELECT * FROM emp e WHERE e.dept = d.id) => F get 0; F get 1; F select [=(c4,c0)] 1; F keep 3,4,5,6 2; F select [exists(3)] 0; F keep 0 4; A 4 U6 3 4,3 - select [exists(2)] 0; A 4 U7 0 6,2 - semi [=(c4,c0)] 0 1 / scan 0 0 | scan 1 1 | hash 7 | cut 5: 0 => accepted ;1,;3,
+SELECT d.id FROM dept d WHERE EXISTS (SELECT * FROM emp e WHERE e.dept = d.id) => F get 0; F get 1; F select [=(c4,c0)] 1; F keep 3,4,5,6 2; F select [exists(3)] 0; F keep 0 4; A 4 U6 3 4,3 - select [exists(2)] 0; A 4 U7 0 6,2 - semi [] 0 1 / scan 0 0 | scan 1 1 | hash 7 | cut 5: 0 => K03 line 7
+SELECT d.id FROM dept d WHERE EXISTS (SELECT * FROM emp e WHERE e.dept = d.id) => F get 0; F get 1; F select [=(c4,c0)] 1; F keep 3,4,5,6 2; F select [exists(3)] 0; F keep 0 4; A 4 U6 3 4,3 - select [exists(2)] 0; A 4 U7 0 6 - semi [=(c4,c0)] 0 1 / scan 0 0 | scan 1 1 | hash 7 | cut 5: 0 => K02 line 7
+SELECT d.id FROM dept d WHERE EXISTS (SELECT * FROM emp e WHERE EXISTS (SELECT * FROM dept x)) => F get 0; F get 1; F get 2; F keep 7,8,9 2; F select [exists(3)] 1; F keep 3,4,5,6 4; F select [exists(5)] 0; F keep 0 6; A 6 U6 5 6,5 - select [exists(4)] 0; A 6 U7 0 8,4 - semi [] 0 1 / scan 0 0 | scan 1 1 | hash 9 | cut 7: 0 => K05 U7 line 9
+SELECT d.id FROM dept d WHERE EXISTS (SELECT * FROM emp e WHERE e.dept = d.id) => F get 0; F get 1; F select [=(c4,c0)] 1; F keep 3,4,5,6 2; F select [exists(3)] 0; F keep 0 4; A 4 U1 0 4 - semi [] 0 3 / scan 0 0 | scan 1 1 | filter 2 | cut 3: 3 4 5 6 | semi 6 | cut 5: 0 => K05 U1 line 6
+SELECT d.id FROM dept d WHERE EXISTS (SELECT e.id FROM emp e) => F get 0; F get 1; F keep 3 1; F select [exists(2)] 0; F keep 0 3; A 3 U1 0 3 - semi [] 0 2 / scan 0 0 | scan 1 1 | cut 2: 3 | semi 5 | cut 4: 0 => accepted ;1,;2,;3,
+SELECT d.id FROM dept d WHERE EXISTS (SELECT e.id FROM emp e) => F get 0; F get 1; F keep 3 1; F select [exists(2)] 0; F keep 0 3; A 3 U2 0 3 - semi [] 0 2 / scan 0 0 | scan 1 1 | cut 2: 3 | semi 5 | cut 4: 0 => K02 line 5
+SELECT d.id FROM dept d WHERE EXISTS (SELECT e.id FROM emp e) => F get 0; F get 1; F keep 3 1; F select [exists(2)] 0; F keep 0 3; A 3 U1 0 3 - semi [] 0 1 / scan 0 0 | scan 1 1 | cut 2: 3 | semi 5 | cut 4: 0 => K03 line 5";
+
+/// IN, which asks for an equality besides. A projection goes that keeps the column of the IN; a column of outside is none of it.
+const MEMBERS_OF: &str =
+    "SELECT d.id FROM dept d WHERE d.boss IN (SELECT e.id FROM emp e) => F get 0; F get 1; F keep 3 1; F select [in(c2,2,c3)] 0; F keep 0 3; A 3 U3 0 3 - semi [=(c2,c3)] 0 2 / scan 0 0 | scan 1 1 | cut 2: 3 | hash 5 | cut 4: 0 => accepted ;1,;3,
+SELECT d.id FROM dept d WHERE d.boss IN (SELECT e.id FROM emp e) => F get 0; F get 1; F keep 3 1; F select [in(c2,2,c3)] 0; F keep 0 3; A 3 U3 0 3 - semi [] 0 2 / scan 0 0 | scan 1 1 | cut 2: 3 | hash 5 | cut 4: 0 => K03 line 5
+SELECT d.id FROM dept d WHERE d.boss IN (SELECT e.id FROM emp e) => F get 0; F get 1; F keep 3 1; F select [in(c2,2,c3)] 0; F keep 0 3; A 3 U1 0 3 - semi [=(c2,c3)] 0 2 / scan 0 0 | scan 1 1 | cut 2: 3 | hash 5 | cut 4: 0 => K02 line 5
+SELECT d.id FROM dept d WHERE d.boss IN (SELECT e.id FROM emp e WHERE e.dept = d.id) => F get 0; F get 1; F select [=(c4,c0)] 1; F keep 3 2; F select [in(c2,3,c3)] 0; F keep 0 4; A 4 U3 0 4 - semi [=(c2,c3)] 0 3 / scan 0 0 | scan 1 1 | filter 2 | cut 3: 3 | hash 6 | cut 5: 0 => K05 U3 line 6
+SELECT d.id FROM dept d WHERE d.boss IN (SELECT e.id FROM emp e WHERE e.dept = d.id) => F get 0; F get 1; F select [=(c4,c0)] 1; F keep 3 2; F select [in(c2,3,c3)] 0; F keep 0 4; A 4 U6 3 4,3 - select [in(c2,2,c3)] 0; A 4 U9 0 6,2 - semi [=(c2,c3);=(c4,c0)] 0 1 / scan 0 0 | scan 1 1 | hash 7 | cut 5: 0 => accepted ;1,;3,
+SELECT d.id FROM dept d WHERE d.boss IN (SELECT e.id FROM emp e WHERE e.dept = d.id) => F get 0; F get 1; F select [=(c4,c0)] 1; F keep 3 2; F select [in(c2,3,c3)] 0; F keep 0 4; A 4 U6 3 4,3 - select [in(c2,2,c3)] 0; A 4 U9 0 6,2 - semi [=(c4,c0)] 0 1 / scan 0 0 | scan 1 1 | hash 7 | cut 5: 0 => K03 line 7
+SELECT d.id FROM dept d WHERE d.boss IN (SELECT e.id FROM emp e WHERE e.dept = d.id) => F get 0; F get 1; F select [=(c4,c0)] 1; F keep 3 2; F select [in(c2,3,c3)] 0; F keep 0 4; A 4 U6 3 4,3 - select [in(c2,2,c3)] 0; A 4 U9 0 6,3 - semi [=(c2,c3);=(c4,c0)] 0 1 / scan 0 0 | scan 1 1 | hash 7 | cut 5: 0 => K02 line 7
+SELECT d.id FROM dept d WHERE 10 IN (SELECT d.boss FROM emp e) => F get 0; F get 1; F keep - 1; F select [in(i10,2,c2)] 0; F keep 0 3 / scan 0 0 | scan 1 1 | cut 2: | subqueries 3 1 | cut 4: 0 => accepted ;1,
+SELECT d.id FROM dept d WHERE 10 IN (SELECT d.boss FROM emp e) => F get 0; F get 1; F keep - 1; F select [in(i10,2,c2)] 0; F keep 0 3; A 3 U6 2 3,2 - select [in(i10,1,c2)] 0 / scan 0 0 | scan 1 1 | subqueries 5 1 | cut 4: 0 => K05 U6 line 5
+SELECT d.id FROM dept d WHERE 10 IN (SELECT d.boss FROM emp e) => F get 0; F get 1; F keep - 1; F select [in(i10,2,c2)] 0; F keep 0 3; A 3 U3 0 3 - semi [=(i10,c2)] 0 2 / scan 0 0 | scan 1 1 | cut 2: | hash 5 | cut 4: 0 => K05 U3 line 5
+SELECT d.id FROM dept d, emp e => F get 0; F get 1; F join [] 0 1; F keep 0 2; F keep 3 1; F select [in(c2,4,c4)] 0; A 5 U6 4 5,4 - select [in(c2,1,c4)] 0 / scan 0 0 | scan 1 1 | loop 2 | cut 3: 0 => K05 U6 line 6
+SELECT d.id FROM dept d, emp e => F get 0; F get 1; F join [] 0 1; F keep 0 2; F keep 3 1; F select [exists(4)] 0; A 5 U6 4 5,4 - select [exists(1)] 0 / scan 0 0 | scan 1 1 | loop 2 | cut 3: 0 => accepted ;1,;1,;1,;1,;2,;2,;2,;2,;3,;3,;3,;3,";
+
+/// NOT IN, whose equality is null-aware: among an employee's departments is a Null, so no department is surely none of them. It is an ordinary one where both
+/// columns are known to have no Null.
+const NO_MEMBERS_OF: &str =
+    "SELECT d.id FROM dept d WHERE d.id NOT IN (SELECT e.dept FROM emp e) => F get 0; F get 1; F keep 4 1; F select [not(in(c0,2,c4))] 0; F keep 0 3; A 3 U4 0 3 - anti [] [=(c0,c4)] 0 2 / scan 0 0 | scan 1 1 | cut 2: 4 | anti 5 | cut 4: 0 => accepted
+SELECT d.id FROM dept d WHERE d.id NOT IN (SELECT e.dept FROM emp e) => F get 0; F get 1; F keep 4 1; F select [not(in(c0,2,c4))] 0; F keep 0 3; A 3 U4 0 3 - anti [=(c0,c4)] [] 0 2 / scan 0 0 | scan 1 1 | cut 2: 4 | anti 5 | cut 4: 0 => K03 line 5
+SELECT d.id FROM dept d WHERE d.id NOT IN (SELECT e.dept FROM emp e) => F get 0; F get 1; F keep 4 1; F select [not(in(c0,2,c4))] 0; F keep 0 3; A 3 U2 0 3 - anti [] [=(c0,c4)] 0 2 / scan 0 0 | scan 1 1 | cut 2: 4 | anti 5 | cut 4: 0 => K02 line 5
+SELECT d.id FROM dept d WHERE d.boss NOT IN (SELECT e.id FROM emp e WHERE e.dept = d.id) => F get 0; F get 1; F select [=(c4,c0)] 1; F keep 3 2; F select [not(in(c2,3,c3))] 0; F keep 0 4; A 4 U4 0 4 - anti [] [=(c2,c3)] 0 3 / scan 0 0 | scan 1 1 | filter 2 | cut 3: 3 | anti 6 | cut 5: 0 => K05 U4 line 6
+SELECT d.id FROM dept d WHERE d.boss NOT IN (SELECT e.id FROM emp e WHERE e.dept = d.id) => F get 0; F get 1; F select [=(c4,c0)] 1; F keep 3 2; F select [not(in(c2,3,c3))] 0; F keep 0 4; A 4 U6 3 4,3 - select [not(in(c2,2,c3))] 0; A 4 U10 0 6,2 - anti [=(c4,c0)] [=(c2,c3)] 0 1 / scan 0 0 | scan 1 1 | hash 7 | cut 5: 0 => accepted ;2,
+SELECT d.id FROM dept d WHERE d.boss NOT IN (SELECT e.id FROM emp e WHERE e.dept = d.id) => F get 0; F get 1; F select [=(c4,c0)] 1; F keep 3 2; F select [not(in(c2,3,c3))] 0; F keep 0 4; A 4 U6 3 4,3 - select [not(in(c2,2,c3))] 0; A 4 U10 0 6,2 - anti [=(c2,c3);=(c4,c0)] [] 0 1 / scan 0 0 | scan 1 1 | hash 7 | cut 5: 0 => K03 line 7
+SELECT d.id FROM dept d WHERE d.boss NOT IN (SELECT e.id FROM emp e WHERE e.dept = d.id) => F get 0; F get 1; F select [=(c4,c0)] 1; F keep 3 2; F select [not(in(c2,3,c3))] 0; F keep 0 4; A 4 U6 3 4,3 - select [not(in(c2,2,c3))] 0; A 4 U9 0 6,2 - anti [=(c4,c0)] [=(c2,c3)] 0 1 / scan 0 0 | scan 1 1 | hash 7 | cut 5: 0 => K02 line 7
+SELECT d.id FROM dept d WHERE d.id NOT IN (SELECT e.id FROM emp e) => F get 0; F get 1; F keep 3 1; F select [not(in(c0,2,c3))] 0; F keep 0 3; A 3 U4 0 3 - anti [] [=(c0,c3)] 0 2; L 0 0 notnull 0; L 1 1 notnull 3; L 2 2 notnull 3; A 3 U5 0 5 - anti [=(c0,c3)] [] 0 2 / scan 0 0 | scan 1 1 | cut 2: 3 | hash 9 | cut 4: 0 => accepted ;1,;2,;3,
+SELECT d.id FROM dept d WHERE d.id NOT IN (SELECT e.id FROM emp e) => F get 0; F get 1; F keep 3 1; F select [not(in(c0,2,c3))] 0; F keep 0 3; A 3 U4 0 3 - anti [] [=(c0,c3)] 0 2; L 0 0 notnull 0; L 1 1 notnull 3; L 2 2 notnull 3; A 3 U5 0 5 - anti [] [] 0 2 / scan 0 0 | scan 1 1 | cut 2: 3 | anti 9 | cut 4: 0 => K03 line 9
+SELECT d.id FROM dept d WHERE d.id NOT IN (SELECT e.id FROM emp e) => F get 0; F get 1; F keep 3 1; F select [not(in(c0,2,c3))] 0; F keep 0 3; A 3 U4 0 3 - anti [] [=(c0,c3)] 0 2; L 1 1 notnull 3; L 2 2 notnull 3; A 3 U5 0 5 - anti [=(c0,c3)] [] 0 2 / scan 0 0 | scan 1 1 | cut 2: 3 | hash 8 | cut 4: 0 => K02 line 8
+SELECT d.id FROM dept d WHERE d.id NOT IN (SELECT e.dept FROM emp e) => F get 0; F get 1; F keep 4 1; F select [not(in(c0,2,c4))] 0; F keep 0 3; A 3 U4 0 3 - anti [] [=(c0,c4)] 0 2; L 0 0 notnull 0; A 3 U5 0 5 - anti [=(c0,c4)] [] 0 2 / scan 0 0 | scan 1 1 | cut 2: 4 | hash 7 | cut 4: 0 => K02 line 7";
+
+/// A semijoin is made before a join whose right side it doesn't read; by a key of its right side it is a join.
+const SEMIJOINS: &str =
+    "SELECT d.id, e.id FROM dept d JOIN emp e ON e.dept = d.id WHERE EXISTS (SELECT * FROM emp x WHERE x.id = d.boss) => F get 0; F get 1; F join [=(c4,c0)] 0 1; F get 2; F select [=(c7,c2)] 3; F keep 7,8,9,10 4; F select [exists(5)] 2; F keep 0,3 6; A 6 U6 5 6,5 - select [exists(4)] 2; A 6 U7 0 8,4 - semi [=(c7,c2)] 2 3; F semi [=(c7,c2)] 0 3; A 6 U11 0 9,2 10 join [=(c4,c0)] 10 1 / scan 0 0 | scan 3 2 | hash 10 | scan 1 1 | hash 11 | cut 7: 0 3 => accepted ;1,10,;1,11,;3,12,
+SELECT d.id, e.id FROM dept d JOIN emp e ON e.dept = d.id WHERE EXISTS (SELECT * FROM emp x WHERE x.id = d.boss) => F get 0; F get 1; F join [=(c4,c0)] 0 1; F get 2; F select [=(c7,c2)] 3; F keep 7,8,9,10 4; F select [exists(5)] 2; F keep 0,3 6; A 6 U6 5 6,5 - select [exists(4)] 2; A 6 U7 0 8,4 - semi [=(c7,c2)] 2 3; F semi [=(c7,c2)] 0 3; A 6 U11 0 9,2 10 join [] 10 1 / scan 0 0 | scan 3 2 | hash 10 | scan 1 1 | hash 11 | cut 7: 0 3 => K03 line 11
+SELECT d.id, e.id FROM dept d JOIN emp e ON e.dept = d.id WHERE EXISTS (SELECT * FROM emp x WHERE x.id = d.boss) => F get 0; F get 1; F join [=(c4,c0)] 0 1; F get 2; F select [=(c7,c2)] 3; F keep 7,8,9,10 4; F select [exists(5)] 2; F keep 0,3 6; A 6 U6 5 6,5 - select [exists(4)] 2; A 6 U7 0 8,4 - semi [=(c7,c2)] 2 3; F semi [=(c7,c2)] 0 3; A 6 U11 0 8,2 10 join [=(c4,c0)] 10 1 / scan 0 0 | scan 3 2 | hash 10 | scan 1 1 | hash 11 | cut 7: 0 3 => K02 line 11
+SELECT d.id, e.id FROM dept d JOIN emp e ON e.dept = d.id WHERE EXISTS (SELECT * FROM emp x WHERE x.id = e.badge) => F get 0; F get 1; F join [=(c4,c0)] 0 1; F get 2; F select [=(c7,c6)] 3; F keep 7,8,9,10 4; F select [exists(5)] 2; F keep 0,3 6; A 6 U6 5 6,5 - select [exists(4)] 2; A 6 U7 0 8,4 - semi [=(c7,c6)] 2 3; F semi [=(c7,c6)] 0 3; A 6 U11 0 9,2 10 join [=(c4,c0)] 10 1 / scan 0 0 | scan 3 2 | hash 10 | scan 1 1 | hash 11 | cut 7: 0 3 => K05 U11 line 11
+SELECT d.id FROM dept d WHERE EXISTS (SELECT * FROM emp x WHERE x.id = d.boss) => F get 0; F get 1; F select [=(c3,c2)] 1; F keep 3,4,5,6 2; F select [exists(3)] 0; F keep 0 4; A 4 U6 3 4,3 - select [exists(2)] 0; A 4 U7 0 6,2 - semi [=(c3,c2)] 0 1; L 1 1 weak 3; F join [=(c3,c2)] 0 1; A 4 U12 0 7 9 keep 0,1,2 9 / scan 0 0 | scan 1 1 | hash 9 | cut 10: 0 1 2 | cut 5: 0 => accepted ;1,;3,
+SELECT d.id FROM dept d WHERE EXISTS (SELECT * FROM emp x WHERE x.id = d.boss) => F get 0; F get 1; F select [=(c3,c2)] 1; F keep 3,4,5,6 2; F select [exists(3)] 0; F keep 0 4; A 4 U6 3 4,3 - select [exists(2)] 0; A 4 U7 0 6,2 - semi [=(c3,c2)] 0 1; L 1 1 weak 3; F join [=(c3,c2)] 0 1; A 4 U12 0 7 9 keep 0,1,2 0 / scan 0 0 | scan 1 1 | hash 9 | cut 10: 0 1 2 | cut 5: 0 => K03 line 10
+SELECT d.id FROM dept d WHERE EXISTS (SELECT * FROM emp x WHERE x.id = d.boss) => F get 0; F get 1; F select [=(c3,c2)] 1; F keep 3,4,5,6 2; F select [exists(3)] 0; F keep 0 4; A 4 U6 3 4,3 - select [exists(2)] 0; A 4 U7 0 6,2 - semi [=(c3,c2)] 0 1; L 1 1 weak 3; F join [=(c3,c2)] 0 1; A 4 U12 0 6 9 keep 0,1,2 9 / scan 0 0 | scan 1 1 | hash 9 | cut 10: 0 1 2 | cut 5: 0 => K02 line 10
+SELECT d.id FROM dept d WHERE EXISTS (SELECT * FROM emp x WHERE x.id = d.boss) => F get 0; F get 1; F select [=(c3,c2)] 1; F keep 3,4,5,6 2; F select [exists(3)] 0; F keep 0 4; A 4 U6 3 4,3 - select [exists(2)] 0; A 4 U7 0 6,2 - semi [=(c3,c2)] 0 1; F join [=(c3,c2)] 0 1; A 4 U12 0 7 8 keep 0,1,2 8 / scan 0 0 | scan 1 1 | hash 8 | cut 9: 0 1 2 | cut 5: 0 => K05 U12 line 9
+SELECT d.id FROM dept d WHERE EXISTS (SELECT * FROM emp e WHERE e.dept = d.id) => F get 0; F get 1; F select [=(c4,c0)] 1; F keep 3,4,5,6 2; F select [exists(3)] 0; F keep 0 4; A 4 U6 3 4,3 - select [exists(2)] 0; A 4 U7 0 6,2 - semi [=(c4,c0)] 0 1; L 1 1 weak 3; F join [=(c4,c0)] 0 1; A 4 U12 0 7 9 keep 0,1,2 9 / scan 0 0 | scan 1 1 | hash 9 | cut 10: 0 1 2 | cut 5: 0 => K05 U12 line 10";
+
 #[test]
 fn derivations_are_judged(rt: HostRuntime) {
     let company = Tables {
@@ -404,6 +483,25 @@ fn derivations_are_judged(rt: HostRuntime) {
             rt.alloc(),
             company,
             &[FACTS, MEMBERS, OUTER_JOINS, CHANGED_PLACES, ELIMINATED],
+            &Derivations
+        )
+        .as_deref(),
+        Ok("")
+    );
+}
+
+#[test]
+fn derivations_of_subqueries_are_judged(rt: HostRuntime) {
+    let company = Tables {
+        schema: COMPANY,
+        first: DEPT,
+        second: EMP,
+    };
+    assert_eq!(rt;
+        query_differences(
+            rt.alloc(),
+            company,
+            &[NOT_EXISTS, EXISTS, MEMBERS_OF, NO_MEMBERS_OF, SEMIJOINS],
             &Derivations
         )
         .as_deref(),

@@ -103,8 +103,8 @@ impl Reporting for Explained {
 }
 
 /// The plan is shown that is chosen: joins in another order than the text's, an inner join for a left one whose padded rows are rejected, an antijoin for one
-/// that is asked for these, none for one that isn't read, left joins above inner ones that leave few rows, filters below them, and distinct rows of a key not
-/// looked for.
+/// that is asked for these, none for one that isn't read, left joins above inner ones that leave few rows, filters below them, distinct rows of a key not
+/// looked for, and semijoins and antijoins for subqueries, null-aware ones for NOT IN.
 #[test]
 fn plans_are_explained(rt: HostRuntime) {
     const CASES: &str =
@@ -121,9 +121,16 @@ SELECT * FROM dept => scan dept dept rows=3 cost=130/
 SELECT name FROM dept GROUP BY name => hgroup dept.name - rows=1 cost=136/  scan dept dept rows=3 cost=130/
 dot SELECT * FROM dept => digraph plan {/  n0 [label="scan dept dept rows=3 cost=130"];/}/
 SELECT nothing FROM emp => refused B02 at 7"#;
+    const SUBQUERIES: &str =
+        r#"SELECT d.id FROM dept d WHERE d.id NOT IN (SELECT e.dept FROM emp e) => cut d.id rows=2 cost=282/  hash anti sure true maybe d.id = e.dept rows=2 cost=281/    scan dept d rows=3 cost=130/    scan emp e rows=4 cost=140/
+SELECT d.id FROM dept d WHERE d.id NOT IN (SELECT e.dept FROM emp e WHERE e.dept IS NOT NULL) => cut d.id rows=2 cost=286/  hash anti sure true maybe d.id = e.dept rows=2 cost=285/    scan dept d rows=3 cost=130/    filter NOT (e.dept IS NULL) rows=4 cost=144/      scan emp e rows=4 cost=140/
+SELECT d.id FROM dept d WHERE NOT EXISTS (SELECT * FROM emp e WHERE e.dept = d.id) => cut d.id rows=2 cost=282/  hash anti sure e.dept = d.id maybe true rows=2 cost=281/    scan dept d rows=3 cost=130/    scan emp e rows=4 cost=140/
+SELECT d.boss FROM dept d WHERE d.boss NOT IN (SELECT e.id FROM emp e WHERE e.pay > 1000) => cut d.boss rows=2 cost=282/  hash anti sure true maybe d.boss = e.id rows=2 cost=281/    scan dept d rows=3 cost=130/    filter e.pay > 1000 rows=2 cost=144/      scan emp e rows=4 cost=140/
+SELECT d.id FROM dept d WHERE EXISTS (SELECT e.id FROM emp e WHERE e.dept = d.id AND e.badge NOT IN (SELECT x.badge FROM emp x WHERE x.pay = 400)) => cut d.id rows=2 cost=428/  hash semi e.dept = d.id rows=2 cost=427/    scan dept d rows=3 cost=130/    hash anti sure true maybe e.badge = x.badge rows=2 cost=290/      scan emp e rows=4 cost=140/      filter x.pay = 400 rows=1 cost=144/        scan emp x rows=4 cost=140/
+SELECT d.id FROM dept d WHERE EXISTS (SELECT e.id FROM emp e WHERE e.dept = d.id AND e.badge NOT IN (SELECT x.badge FROM emp x WHERE x.pay > 500)) => cut d.id rows=2 cost=430/  hash semi e.dept = d.id rows=2 cost=429/    scan dept d rows=3 cost=130/    hash anti sure true maybe e.badge = x.badge rows=2 cost=292/      scan emp e rows=4 cost=140/      filter x.pay > 500 rows=2 cost=144/        scan emp x rows=4 cost=140/"#;
     for exploration in [Exploration::ToLimit, Exploration::WhileWorthwhile] {
         assert_eq!(rt;
-            differences(rt.alloc(), &[CASES], &Explained(exploration)).as_deref(),
+            differences(rt.alloc(), &[CASES, SUBQUERIES], &Explained(exploration)).as_deref(),
             Ok("")
         );
     }

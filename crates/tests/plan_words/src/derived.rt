@@ -1,7 +1,8 @@
 //! Lines of derivations, read from words with `; ` between them: `F EXPR`, `A CLASS RULE PICK USES MAKES EXPR`,
 //! `S CLASS CLASS RULE PICK USES MAKES`, `G LINE LINE`, `L CLASS LINE FACT`. Numbers are joined by `,`, none are `-`. An expression is
 //! `get INSTANCE`, `select [..] CLASS`, `join [..] CLASS CLASS`, `semi` and `anti [..] [..]` so, `keep COLUMNS CLASS`, `distinct CLASS`,
-//! `group KEYS CLASS`, with comparisons of columns, numbers and NULL, `null(c2)` and `exists(CLASS)` as conditions: `[=(c4,c0);<>(c2,i500)]`.
+//! `group KEYS CLASS`, with comparisons of columns, numbers and NULL, `null(c2)`, `exists(CLASS)`, `in(c0,CLASS,c3)` and `not(..)` of these as conditions:
+//! `[=(c4,c0);<>(c2,i500)]`.
 
 use crate::plans::{cut, id};
 use algebra::{Aggregations, Columns, Condition, Conjuncts, Expr, Term};
@@ -53,17 +54,29 @@ fn comparison_of(sign: &str) -> Comparison {
     }
 }
 
-fn condition_of(text: &str) -> Condition {
+/// An IN: what stands behind its term are the class and the column.
+fn member_of(term: &str, words: &str) -> Condition {
+    let (class, column) = cut(words, ",c");
+    Condition::In(term_of(term), id(class), id(column))
+}
+
+fn plain_condition(text: &str) -> Condition {
     let (sign, terms) = cut(text, "(");
     let (terms, _) = cut(terms, ")");
     let (first, second) = cut(terms, ",");
-    if sign == "exists" {
-        return Condition::Exists(id(first));
+    match sign {
+        "exists" => Condition::Exists(id(first)),
+        "in" => member_of(first, second),
+        "null" => Condition::IsNull(term_of(first)),
+        _ => Condition::Compare(comparison_of(sign), term_of(first), term_of(second)),
     }
-    if sign == "null" {
-        return Condition::IsNull(term_of(first));
+}
+
+fn condition_of(alloc: Global, text: &str) -> Result<Condition, AllocError> {
+    match cut(text, "(") {
+        ("not", part) => Ok(Condition::Not(Boxed::new(alloc, plain_condition(part))?)),
+        _ => Ok(plain_condition(text)),
     }
-    Condition::Compare(comparison_of(sign), term_of(first), term_of(second))
 }
 
 /// The conjuncts of the first list, and what stands behind it.
@@ -73,7 +86,7 @@ fn conjuncts_of<'a>(alloc: Global, text: &'a str) -> Result<(Conjuncts, &'a str)
     let mut conditions = Vec::new(alloc);
     for condition in list.split(";") {
         if !condition.is_empty() {
-            conditions.push(condition_of(condition))?;
+            conditions.push(condition_of(alloc, condition)?)?;
         }
     }
     Ok((Conjuncts::of(alloc, conditions.as_slice())?, rest))

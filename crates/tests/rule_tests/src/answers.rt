@@ -51,8 +51,31 @@ SELECT DISTINCT id FROM emp WHERE id = 0 =>";
     const PUSHDOWN: &str =
         "SELECT e.id, d.id FROM emp e, dept d WHERE d.boss = 10 ORDER BY e.id => ;10,1,;11,1,;12,1,
 SELECT e.id, d.id FROM emp e, dept d WHERE e.badge = 10 ORDER BY e.id =>";
+    const ASKED_ONCE: &str =
+        "SELECT d.id FROM dept d WHERE EXISTS (SELECT * FROM emp e WHERE e.dept = d.id) => ;1,;2,
+SELECT d.id FROM dept d WHERE EXISTS (SELECT * FROM emp e WHERE e.dept = NULL) =>
+SELECT d.id FROM dept d WHERE NOT EXISTS (SELECT * FROM emp e WHERE e.dept = d.id) => ;3,
+SELECT d.id FROM dept d WHERE NOT EXISTS (SELECT * FROM emp e WHERE e.dept = NULL) => ;1,;2,;3,
+SELECT d.id FROM dept d WHERE d.boss IN (SELECT e.id FROM emp e WHERE e.dept = d.id) => ;1,;2,
+SELECT d.id FROM dept d WHERE d.boss IN (SELECT e.id FROM emp e WHERE e.dept = NULL) =>";
+    const NULL_AWARE: &str =
+        "SELECT d.id FROM dept d WHERE d.id NOT IN (SELECT e.badge FROM emp e) =>
+SELECT d.id FROM dept d WHERE NOT EXISTS (SELECT * FROM emp e WHERE d.id = e.badge) => ;1,;2,;3,
+SELECT d.id FROM dept d WHERE d.id NOT IN (SELECT e.badge FROM emp e WHERE e.dept = d.id) => ;3,
+SELECT d.id FROM dept d WHERE NOT EXISTS (SELECT * FROM emp e WHERE e.dept = d.id AND d.id = e.badge) => ;1,;2,;3,
+SELECT e.id FROM emp e WHERE e.id NOT IN (SELECT d.boss FROM dept d) =>
+SELECT e.id FROM emp e WHERE NOT EXISTS (SELECT * FROM dept d WHERE e.id = d.boss) => ;11,";
+    const LOWERED: &str =
+        "SELECT e.id FROM emp e JOIN dept d ON d.id = e.dept WHERE EXISTS (SELECT * FROM emp x WHERE x.id = d.boss) => ;10,;11,;12,
+SELECT e.id FROM emp e JOIN dept d ON d.id = e.dept WHERE EXISTS (SELECT * FROM emp x WHERE x.id = NULL) =>";
+    const JOINED: &str =
+        "SELECT d.id FROM dept d WHERE EXISTS (SELECT * FROM emp e WHERE e.dept = d.id) => ;1,;2,
+SELECT d.id FROM dept d JOIN emp e ON e.dept = d.id => ;1,;1,;2,";
+    const ALL: [&str; 7] = [
+        DISTINCT, GROUP, PUSHDOWN, ASKED_ONCE, NULL_AWARE, LOWERED, JOINED,
+    ];
     assert_eq!(rt;
-        query_differences(rt.alloc(), TABLES, &[DISTINCT, GROUP, PUSHDOWN], &Rows).as_deref(),
+        query_differences(rt.alloc(), TABLES, &ALL, &Rows).as_deref(),
         Ok("")
     );
 }

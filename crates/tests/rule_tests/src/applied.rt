@@ -192,19 +192,175 @@ O7 pick 1: 7 keep 3 0, 4 select 4 z, 3 left 0 1 m => another form";
     );
 }
 
+/// A conjunct is picked by its place, a class by its number: 0 is no class of a subquery.
+#[test]
+fn rules_of_subqueries_apply(rt: HostRuntime) {
+    const UNNESTED: &str = "U1: 7 select 3 y => semi [] (3) (2)
+U1 pick 1: 7 select 3 ly => select [=(c0,i7)] (semi [] (3) (2))
+U1: 7 select 3 yi => select [in(c0,2,c4)] (semi [] (3) (2))
+U1: 7 select 0 x => semi [] (0) (6)
+U1 pick 1: 7 select 3 lx => the condition fails
+U1: 7 select 5 y => the condition fails
+U1: 7 select 3 Y => another form
+U1: 7 select 3 i => another form
+U1 pick 1: 7 select 3 yi => another form
+U1: 7 select 3 l => another form
+U1 pick 1: 7 select 3 y => another form
+U1: 7 distinct 3 => another form
+U1: 7 select 3 y, 2 select 2 l => another form
+U2: 7 select 3 Y => anti [] [] (3) (2)
+U2 pick 1: 7 select 3 lY => select [=(c0,i7)] (anti [] [] (3) (2))
+U2: 7 select 0 X => anti [] [] (0) (6)
+U2: 7 select 3 X => the condition fails
+U2: 7 select 5 Y => the condition fails
+U2: 7 select 3 y => another form
+U2: 7 select 3 I => another form
+U2: 7 select 3 L => another form
+U2: 7 select 3 Y, 2 select 2 l => another form
+U3: 7 select 3 i => semi [=(c0,c4)] (3) (2)
+U3 pick 1: 7 select 3 li => select [=(c0,i7)] (semi [=(c0,c4)] (3) (2))
+U3 pick 1: 7 select 3 yi => select [exists(2)] (semi [=(c0,c4)] (3) (2))
+U3: 7 select 0 e => semi [=(c0,c4)] (0) (6)
+U3: 7 select 3 e => the condition fails
+U3: 7 select 5 i => the condition fails
+U3: 7 select 3 f => the condition fails
+U3: 7 select 3 g => the condition fails
+U3: 7 select 3 I => another form
+U3: 7 select 3 y => another form
+U3: 7 select 3 i, 2 select 2 l => another form
+U4: 7 select 3 I => anti [] [=(c0,c4)] (3) (2)
+U4 pick 1: 7 select 3 lI => select [=(c0,i7)] (anti [] [=(c0,c4)] (3) (2))
+U4: 7 select 0 E => anti [] [=(c0,c4)] (0) (6)
+U4: 7 select 3 E => the condition fails
+U4: 7 select 5 I => the condition fails
+U4: 7 select 3 F => the condition fails
+U4: 7 select 3 G => the condition fails
+U4: 7 select 3 i => another form
+U4: 7 select 3 Y => another form
+U4: 7 select 3 L => another form
+U4: 7 select 3 I, 2 select 2 l => another form";
+    const UNNESTED_SELECTS: &str =
+        "U7 pick 1: 7 select 3 lx, 6 select 2 u => select [=(c0,i7)] (semi [=(c2,c4)] (3) (2))
+U7: 7 select 3 x, 6 select 2 tu => semi [=(c0,c4);=(c2,c4)] (3) (2)
+U7: 7 select 3 x, 6 select 2  => semi [] (3) (2)
+U7: 7 select 3 x, 6 select 2 y => the condition fails
+U7: 7 select 3 x, 6 select 6 u => the condition fails
+U7: 7 select 3 x, 6 select 5 u => the condition fails
+U7: 7 select 3 x, 6 keep 2 4 => another form
+U7: 7 select 3 X, 6 select 2 u => another form
+U7: 7 select 3 e, 6 select 2 u => another form
+U7: 7 select 3 x, 2 select 2 u => another form
+U7 pick 1: 7 select 3 x, 6 select 2 u => another form
+U7: 7 select 3 x => another form
+U8: 7 select 3 X, 6 select 2 u => anti [=(c2,c4)] [] (3) (2)
+U8 pick 1: 7 select 3 lX, 6 select 2 u => select [=(c0,i7)] (anti [=(c2,c4)] [] (3) (2))
+U8: 7 select 3 X, 6 select 2 uy => the condition fails
+U8: 7 select 3 X, 6 select 6 u => the condition fails
+U8: 7 select 3 X, 6 select 5 u => the condition fails
+U8: 7 select 3 X, 6 distinct 2 => another form
+U8: 7 select 3 x, 6 select 2 u => another form
+U8: 7 select 3 E, 6 select 2 u => another form
+U9: 7 select 3 e, 6 select 2 u => semi [=(c0,c4);=(c2,c4)] (3) (2)
+U9 pick 1: 7 select 3 le, 6 select 2 u => select [=(c0,i7)] (semi [=(c0,c4);=(c2,c4)] (3) (2))
+U9: 7 select 3 e, 6 select 2 t => semi [=(c0,c4)] (3) (2)
+U9: 7 select 3 e, 6 select 2 y => the condition fails
+U9: 7 select 3 e, 6 select 6 u => the condition fails
+U9: 7 select 3 e, 6 select 5 u => the condition fails
+U9: 7 select 3 f, 2 select 2 u => the condition fails
+U9: 7 select 3 g, 2 select 2 u => the condition fails
+U9: 7 select 3 e, 6 keep 2 4 => another form
+U9: 7 select 3 x, 6 select 2 u => another form
+U9: 7 select 3 E, 6 select 2 u => another form
+U10: 7 select 3 E, 6 select 2 u => anti [=(c2,c4)] [=(c0,c4)] (3) (2)
+U10 pick 1: 7 select 3 lE, 6 select 2 u => select [=(c0,i7)] (anti [=(c2,c4)] [=(c0,c4)] (3) (2))
+U10: 7 select 3 E, 6 select 2 t => anti [=(c0,c4)] [=(c0,c4)] (3) (2)
+U10: 7 select 3 E, 6 select 2 y => the condition fails
+U10: 7 select 3 E, 6 select 6 u => the condition fails
+U10: 7 select 3 E, 6 select 5 u => the condition fails
+U10: 7 select 3 F, 2 select 2 u => the condition fails
+U10: 7 select 3 G, 2 select 2 u => the condition fails
+U10: 7 select 3 E, 6 keep 2 4 => another form
+U10: 7 select 3 X, 6 select 2 u => another form
+U10: 7 select 3 e, 6 select 2 u => another form";
+    const REPLACED: &str = "U6 pick 6: 7 select 3 lx, 6 keep 2 4 => select [=(c0,i7);exists(2)] (3)
+U6 pick 6: 7 select 3 xe, 6 keep 2 4 => select [exists(2);in(c0,2,c4)] (3)
+U6 pick 6: 7 select 3 XE, 6 distinct 2 => select [not(exists(2));not(in(c0,2,c4))] (3)
+U6 pick 6: 7 select 3 xy, 6 keep 2 4 => select [exists(2)] (3)
+U6 pick 6: 7 select 3 x, 6 keep 2 5 => select [exists(2)] (3)
+U6 pick 6: 7 select 3 xf, 6 keep 2 4 => select [exists(2);in(c0,2,c3)] (3)
+U6 pick 6: 7 select 3 e, 6 keep 2 5 => the condition fails
+U6 pick 6: 7 select 3 xE, 6 keep 2 5 => the condition fails
+U6 pick 6: 7 select 3 e, 6 distinct 2 => select [in(c0,2,c4)] (3)
+U6 pick 6: 7 select 3 e, 6 select 2 u => another form
+U6 pick 2: 7 select 3 e, 6 keep 2 4 => another form
+U6 pick 2: 7 select 3 e, 2 keep 1 2 => another form
+U6: 7 select 3 e, 6 keep 2 4 => another form
+U6 pick 6: 7 distinct 3, 6 keep 2 4 => another form
+U6 pick 6: 7 select 3 e => another form";
+    const SEMIJOINS: &str = "U5: 7 anti 0 2 /l => anti [=(c0,i7)] [] (0) (2)
+U5: 7 anti 0 1 r/lmo => anti [=(c0,c0);=(c0,i7);=(c2,i7)] [=(c0,c2)] (0) (1)
+U5: 7 anti 1 0 /l => anti [=(c0,i7)] [] (1) (0)
+U5: 7 anti 0 2 /t => another form
+U5: 7 anti 0 2 l/t => another form
+U5: 7 anti 0 1 /r => another form
+U5: 7 anti 1 2 /l => another form
+U5: 7 anti 0 2 /dLn => another form
+U5: 7 anti 0 2 l => another form
+U5: 7 semi 0 2 l => another form
+U5 pick 1: 7 anti 0 2 /l => another form
+U5: 7 anti 0 2 /l, 0 get 0 => another form
+U11: 7 semi 3 2 t, 3 join 0 1 m => join [=(c0,c2)] (semi [=(c0,c4)] (0) (2)) (1)
+U11: 7 semi 3 2 , 3 join 0 1  => join [] (semi [] (0) (2)) (1)
+U11: 7 semi 3 2 u, 4 join 1 0 m => join [=(c0,c2)] (semi [=(c2,c4)] (1) (2)) (0)
+U11: 7 anti 3 2 t/l, 3 join 0 1 m => join [=(c0,c2)] (anti [=(c0,c4)] [=(c0,i7)] (0) (2)) (1)
+U11: 7 semi 3 2 u, 3 join 0 1 m => the condition fails
+U11: 7 semi 3 2 tr, 3 join 0 1 m => the condition fails
+U11: 7 semi 3 2 t, 3 join 0 1 mu => the condition fails
+U11: 7 anti 3 2 u/t, 3 join 0 1 m => the condition fails
+U11: 7 anti 3 2 t/u, 3 join 0 1 m => the condition fails
+U11: 7 anti 3 2 t/l, 3 join 0 1 u => the condition fails
+U11: 7 join 3 2 t, 3 join 0 1 m => another form
+U11: 7 semi 3 2 t, 3 left 0 1 m => another form
+U11: 7 semi 0 2 t, 3 join 0 1 m => another form
+U11: 7 semi 3 2 t => another form
+U11 pick 1: 7 semi 3 2 t, 3 join 0 1 m => another form
+U12: 7 semi 1 0 m => keep 2 3 (join [=(c0,c2)] (1) (0))
+U12: 7 semi 0 1 m => keep 0 1 (join [=(c0,c2)] (0) (1))
+U12: 7 semi 0 1 lr => keep 0 1 (join [=(c0,i7);=(c2,i7)] (0) (1))
+U12: 7 semi 0 2 t => the condition fails
+U12: 7 semi 0 1 l => the condition fails
+U12: 7 semi 0 1  => the condition fails
+U12: 7 anti 1 0 m => another form
+U12: 7 join 1 0 m => another form
+U12: 7 semi 1 0 m, 1 get 1 => another form
+U12 pick 1: 7 semi 1 0 m => another form";
+    assert_eq!(rt;
+        differences(
+            rt.alloc(),
+            &[UNNESTED, UNNESTED_SELECTS, REPLACED, SEMIJOINS],
+            &Applied
+        )
+        .as_deref(),
+        Ok("")
+    );
+}
+
 /// Each code is that of the rule that is found by it, and a text that is none finds no rule.
 #[test]
 fn rules_are_found(rt: HostRuntime) {
     for code in [
         "J1", "J2", "S1", "S2", "S3", "S4", "S5", "K1", "K2", "K3", "D1", "G1", "O1", "O2", "O3",
-        "O4", "O5", "O6", "O7",
+        "O4", "O5", "O6", "O7", "U1", "U2", "U3", "U4", "U5", "U6", "U7", "U8", "U9", "U10", "U11",
+        "U12",
     ] {
         assert_eq!(rt; RuleName::of_code(code).map(|rule| rule.code()), Some(code));
     }
     for rule in RuleName::all() {
         assert_eq!(rt; RuleName::of_code(rule.code()), Some(*rule));
     }
-    for text in ["", "J", "J3", "j1", "J1 ", "JJ1", "O8"] {
+    for text in [
+        "", "J", "J3", "j1", "J1 ", "JJ1", "O8", "U", "U0", "U13", "U01",
+    ] {
         assert_eq!(rt; RuleName::of_code(text), None);
     }
 }

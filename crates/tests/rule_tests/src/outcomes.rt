@@ -14,11 +14,11 @@ fn parts_of(
     letters: &str,
 ) -> Result<(Boxed<Condition>, Boxed<Condition>, Items<Condition>), AllocError> {
     let mut letters = letters.chars();
-    let first = Boxed::new(alloc, condition_of(letters.next().unwrap_or('x')))?;
-    let second = Boxed::new(alloc, condition_of(letters.next().unwrap_or('x')))?;
+    let first = Boxed::new(alloc, condition_of(alloc, letters.next().unwrap_or('x'))?)?;
+    let second = Boxed::new(alloc, condition_of(alloc, letters.next().unwrap_or('x'))?)?;
     let mut more = Items::new(alloc);
     for letter in letters {
-        more.push(condition_of(letter))?;
+        more.push(condition_of(alloc, letter)?)?;
     }
     Ok((first, second, more))
 }
@@ -31,7 +31,7 @@ fn condition_in(alloc: Global, words: &str) -> Result<Condition, AllocError> {
         "not" => Condition::Not(first),
         "and" => Condition::And(first, second, more),
         "or" => Condition::Or(first, second, more),
-        _ => condition_of(form.chars().next().unwrap_or('x')),
+        _ => condition_of(alloc, form.chars().next().unwrap_or('x'))?,
     })
 }
 

@@ -8,8 +8,8 @@ use fixtures::{Reporting, differences};
 use rules::{Below, Input, Match, Operator, Operators, Pattern};
 use std::alloc::{AllocError, Global};
 
-/// The pattern of the rule of a code, or one by its name: a pattern of each form that no rule has, among them one whose second line is of the right
-/// side of a join.
+/// The pattern of the rule of a code, or one by its name: one of each form, among them one whose second line is of the right side of a join, which no
+/// rule has.
 fn pattern_of(name: &str) -> Pattern {
     if let Some(rule) = RuleName::of_code(name) {
         return rule.pattern();
@@ -141,6 +141,37 @@ O6: 7 keep 3 0, 3 join 0 1 m => another form
 O7: 7 keep 3 0 2, 4 select 4 l, 3 left 0 1 m => fits
 O7: 7 keep 3 0, 4 select 4 z, 3 anti 0 1 m => another form
 O7: 7 keep 3 0, 4 select 4 z => another form";
+    const SUBQUERIES: &str = "U1 pick 1: 7 select 3 lx => fits
+U1: 7 select 3 lx => another form
+U1: 7 select 3 y, 2 select 2 l => another form
+U2: 7 select 3 y => fits
+U2: 7 select 3 Y => fits
+U2: 7 select 3 L => another form
+U3: 7 select 3 e => fits
+U3: 7 distinct 3 => another form
+U4: 7 select 3 I => fits
+U4 pick 2: 7 select 3 lI => another form
+U5: 7 anti 0 2 t => fits
+U5: 7 semi 0 2 t => another form
+U6 pick 6: 7 select 3 e, 6 keep 2 5 => fits
+U6 pick 6: 7 select 3 E, 6 distinct 2 => fits
+U6 pick 6: 7 select 3 e, 6 select 2 u => another form
+U6 pick 2: 7 select 3 e, 2 keep 1 2 => another form
+U7: 7 select 3 x, 6 select 2 u => fits
+U7: 7 select 3 x, 6 keep 2 4 => another form
+U8: 7 select 3 X, 6 select 2 u => fits
+U8: 7 select 3 X => another form
+U9: 7 select 3 e, 6 select 2 y => fits
+U9: 7 select 3 e, 2 select 2 u => another form
+U10 pick 1: 7 select 3 lE, 6 select 2 u => fits
+U10: 7 select 3 lE, 6 select 2 u => another form
+U11: 7 semi 3 2 u, 3 join 0 1 m => fits
+U11: 7 anti 3 2 u/l, 4 join 0 1 m => fits
+U11: 7 semi 3 2 u, 3 left 0 1 m => another form
+U11: 7 left 3 2 u, 3 join 0 1 m => another form
+U12: 7 semi 0 2 t => fits
+U12: 7 anti 0 2 t => another form
+U12 pick 1: 7 semi 0 2 t => another form";
     const PICKS: &str = "subquery pick 1: 7 select 3 lx => fits
 subquery pick 0: 7 select 3 lx => another form
 subquery pick 2: 7 select 3 lx => another form
@@ -157,7 +188,7 @@ class line pick 6: 7 select 3 lx, 6 select 2 l => another form
 class line pick 3: 7 select 3 lx, 3 distinct 2 => another form
 class line pick 6: 7 select 3 l, 6 distinct 2 => another form";
     assert_eq!(rt;
-        differences(rt.alloc(), &[LINES, PICKS, RULES], &Fitting).as_deref(),
+        differences(rt.alloc(), &[LINES, PICKS, RULES, SUBQUERIES], &Fitting).as_deref(),
         Ok("")
     );
 }

@@ -83,8 +83,21 @@ O2: 7 select 3 l, 3 left 0 1 m => simpler
 O3: 3 left 0 1 rm => simpler
 O6: 7 keep 3 0, 3 left 0 1 m => simpler
 O7: 7 keep 3 0, 4 select 4 z, 3 left 0 1 m => simpler";
+    const SUBQUERIES: &str = "U1: 7 select 3 y => simpler
+U2: 7 select 3 Y => simpler
+U3: 7 select 3 i => simpler
+U4: 7 select 3 I => simpler
+U5: 7 anti 0 2 /l => simpler
+U6: 7 select 3 x, 6 keep 2 4 => simpler
+U7: 7 select 3 x, 6 select 2 u => simpler
+U8: 7 select 3 X, 6 select 2 u => simpler
+U9: 7 select 3 e, 6 select 2 u => simpler
+U10: 7 select 3 E, 6 select 2 u => simpler
+U11: 7 semi 3 2 t, 3 join 0 1 m => connected
+U11: 7 semi 3 2 , 3 join 0 1  => connected
+U12: 7 semi 1 0 m => connected";
     assert_eq!(rt;
-        differences(rt.alloc(), &[JOINS, OTHERS], &Promising).as_deref(),
+        differences(rt.alloc(), &[JOINS, OTHERS, SUBQUERIES], &Promising).as_deref(),
         Ok("")
     );
 }

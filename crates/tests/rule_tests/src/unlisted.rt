@@ -1,4 +1,4 @@
-//! Rules that no book lists, of patterns that none of its rules has: applied, and refused.
+//! Rules that no book lists, some of patterns that none of its rules has: applied, and refused.
 
 use crate::applied::push_applied;
 use crate::classes::{Known, known_classes};

@@ -1,12 +1,13 @@
-//! Lines read from words: `CLASS get INSTANCE`, `CLASS select INPUT CONDITIONS`, `join`, `semi` and `anti` of two inputs, `keep INPUT COLUMNS`,
-//! `distinct INPUT`, `group INPUT COLUMNS`, and `count INPUT COLUMNS` with a count of the rows. Conditions are named by letters.
+//! Lines read from words: `CLASS get INSTANCE`, `CLASS select INPUT CONDITIONS`, `join`, `left`, `semi` and `anti` of two inputs, `keep INPUT COLUMNS`,
+//! `distinct INPUT`, `group INPUT COLUMNS`, and `count INPUT COLUMNS` with a count of the rows. Conditions are named by letters; behind `/` stand the
+//! null-aware ones of an antijoin.
 
 use algebra::{Aggregation, Aggregations, ClassId, Columns, Condition, Conjuncts, Expr, Term};
 use derivation::Numbers;
 use query::{Aggregate, ColumnId};
 use rules::MatchedLine;
 use std::alloc::{AllocError, Global};
-use values::{Comparison, Literal};
+use values::{Boxed, Comparison, Literal};
 
 /// The number of a word; the greatest if it is none.
 pub fn number(word: &str) -> u32 {
@@ -57,28 +58,55 @@ fn is_seven(column: ColumnId) -> Condition {
     )
 }
 
-/// The condition of a letter: `l` and `r` read a column of the class 0 and of the class 1, `m` one of each, `t` and `u` one of the
+/// The condition of a small letter: `l` and `r` read a column of the class 0 and of the class 1, `m` one of each, `t` and `u` one of the
 /// class 0 and of the class 1 and one of the class 2; `n` is IS NULL of a column of the class 0, `e` its IN among the class 6; `z` and `w`
-/// are IS NULL of the columns of the class 1; `x` is EXISTS of the class 6, which has the free column 2.
-pub fn condition_of(letter: char) -> Condition {
+/// are IS NULL of the columns of the class 1; `x` is EXISTS of the class 6, which has the free column 2. `y` and `i` are EXISTS and IN of the class 2,
+/// which has none; `f` asks it for a column that is another class's, `g` for one of its own for the other. `o` compares a column of the class 0 with
+/// itself, `d` with NULL.
+fn plain_condition(letter: char) -> Condition {
     match letter {
         'l' => is_seven(0),
         'r' => is_seven(2),
         'm' => equal(0, 2),
         't' => equal(0, 4),
         'u' => equal(2, 4),
+        'o' => equal(0, 0),
+        'd' => Condition::Compare(
+            Comparison::Equal,
+            Term::Column(0),
+            Term::Literal(Literal::null()),
+        ),
         'n' => Condition::IsNull(Term::Column(0)),
         'z' => Condition::IsNull(Term::Column(2)),
         'w' => Condition::IsNull(Term::Column(3)),
         'e' => Condition::In(Term::Column(0), 6, 4),
+        'i' => Condition::In(Term::Column(0), 2, 4),
+        'f' => Condition::In(Term::Column(0), 2, 3),
+        'g' => Condition::In(Term::Column(4), 2, 5),
+        'y' => Condition::Exists(2),
         _ => Condition::Exists(6),
     }
+}
+
+/// The condition of a letter: of some capital ones NOT over that of the small one.
+pub fn condition_of(alloc: Global, letter: char) -> Result<Condition, AllocError> {
+    let denied = match letter {
+        'E' => 'e',
+        'F' => 'f',
+        'G' => 'g',
+        'I' => 'i',
+        'L' => 'l',
+        'X' => 'x',
+        'Y' => 'y',
+        _ => return Ok(plain_condition(letter)),
+    };
+    Ok(Condition::Not(Boxed::new(alloc, plain_condition(denied))?))
 }
 
 fn conjuncts_of(alloc: Global, letters: &str) -> Result<Conjuncts, AllocError> {
     let mut conditions = Vec::new(alloc);
     for letter in letters.chars() {
-        conditions.push(condition_of(letter))?;
+        conditions.push(condition_of(alloc, letter)?)?;
     }
     Conjuncts::of(alloc, conditions.as_slice())
 }
@@ -98,13 +126,14 @@ fn count(alloc: Global) -> Result<Aggregations, AllocError> {
 fn joined(alloc: Global, name: &str, words: &str) -> Result<Expr, AllocError> {
     let (left, words) = cut(words);
     let (right, letters) = cut(words);
+    let (letters, null_aware) = letters.split_once("/").unwrap_or((letters, ""));
     let conjuncts = conjuncts_of(alloc, letters)?;
     let (left, right) = (number(left), number(right));
     Ok(match name {
         "join" => Expr::Join(conjuncts, left, right),
         "left" => Expr::LeftJoin(conjuncts, left, right),
         "semi" => Expr::Semi(conjuncts, left, right),
-        _ => Expr::Anti(conjuncts, Conjuncts::none(alloc), left, right),
+        _ => Expr::Anti(conjuncts, conjuncts_of(alloc, null_aware)?, left, right),
     })
 }
 
