@@ -100,6 +100,8 @@ class Drawing:
             return self.selection(node, *parts, depth)
         if kind in ("join", "left"):
             return self.join(dict(node, kind="inner" if kind == "join" else kind, sure=parts[0], maybe=None), *parts[1:], depth)
+        if kind in ("semi", "anti"):
+            return self.join(dict(node, kind=kind, sure=parts[0], maybe=parts[1] if kind == "anti" else None), *parts[-2:], depth)
         below = self.plan(parts[-1], depth)
         if kind == "keep":
             return dict(node, name="cut", columns=parts[0], inputs=[below])
@@ -153,7 +155,8 @@ class Drawing:
 
     def ways(self, node, a, b):
         """How a join may be run: its name, with the columns of a merge or the get and the index of a join by an index."""
-        equal = list(self.equalities(node["sure"], a, b))
+        sure, maybe = node["sure"], node["maybe"] or []
+        equal = list(self.equalities(maybe if not sure and len(maybe) == 1 else sure, a, b))
         yield "loop", None
         if equal:
             yield "hash", None

@@ -4,8 +4,8 @@ have to give the rows of definitions of these tests (evaluation.py), cell by cel
 The certificates are written here, lines and plan, and asked of no planner. Conditions are equalities of columns of both sides, of a side and a
 literal, `<`, `<>`, IS NULL, OR and NOT, over numbers and texts.
 
-Semijoins, antijoins and joins within a subquery, which read the outer row, are not reached, as no query's lines have them yet:
-by_driver/random_joins.py runs them, with the toolchain.
+Semijoins, antijoins and joins within a subquery, which read the outer row, are not reached: random_rules.py has those that rules make of queries'
+subqueries, and by_driver/random_joins.py runs any, with the toolchain.
 """
 
 import itertools

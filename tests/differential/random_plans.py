@@ -5,8 +5,8 @@ The lines are those of the certificate that `plan` writes for a random query by 
 member, each join by nested loops, by hash, by merging or by an index, each table by an index or without, groups and distinct rows by hash and sorted,
 selections of tables by an index, and sorts where an operator needs one and at times where none does.
 
-No query's lines have semijoins or antijoins yet, so these are not reached: by_driver/random_plans.py runs them, with the toolchain. Nor are plans that
-stand for no query, as groups of groups, and numbers at the ends of 64 bits, of which sqlite3 gives no sums.
+Semijoins and antijoins are those that the planner makes of subqueries; random_rules.py makes more of them. Not reached are plans that stand for no query,
+as groups of groups, and numbers at the ends of 64 bits, of which sqlite3 gives no sums: by_driver/random_plans.py runs these, with the toolchain.
 """
 
 from certificates import certificate_text, nodes_of, read_certificate

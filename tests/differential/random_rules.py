@@ -6,20 +6,21 @@ To the lines of a query are added lines by rules that fit somewhere; selections,
 facts that follow from NOT NULL and UNIQUE. Plans are drawn of all of these (plan_drawing.py). Behind them, one at a time, stand a line by a rule that
 doesn't fit, and a line whose result was changed.
 
-S5 is applied to semijoins and antijoins that no plan names, since no query's lines have them yet: its rows are not reached. Nor are classes that read
-the outer row in other ways than a query's subqueries do. by_driver/random_rules.py has both, with the toolchain.
+Semijoins and antijoins are those that the rules make of the queries' subqueries, and others that no plan names, so that more of their rules' conditions
+are met. Classes that read the outer row in other ways than a query's subqueries do are not reached: by_driver/random_rules.py has them, with the toolchain.
 """
 
 from certificates import certificate_text, conjuncts
+from evaluation import named_classes
 from layout import inputs_of
 from plan_drawing import Drawing
 from random_plans import drawn_query, plan_fault
-from rule_book import BOOK, Unfit, has_subquery
+from rule_book import BOOK, Unfit, given, has_subquery
 
 SEED, ROUND, PLANS, FAULTS = 19, 100, 2, 4
 MOST_LINES = 120
 """A query with more lines than these is left out, for the time that it takes to look for matches in them."""
-WEIGHTS = [1, 6, 1, 4, 2, 2, 2, 1, 1, 5, 1, 1, 4, 4, 2, 4, 4, 6, 8]
+WEIGHTS = [1, 6, 1, 4, 2, 2, 2, 1, 1, 5, 1, 1, 4, 4, 2, 4, 4, 6, 8, 4, 4, 4, 4, 20, 6, 6, 6, 6, 6, 6, 16]
 """How often each rule is tried, in the order of the book: more often where fewer lines fit."""
 NEVER = ("null", ("i", 1))
 """A condition that no query has."""
@@ -59,50 +60,73 @@ class Growth:
             parts.append(part)
         return (shape[0], *parts), makes
 
-    def apply(self, code, uses, shape):
+    def apply(self, code, pick, uses, shape):
         """Adds the line that says what a rule gives, as one more member of the class or as a class that is the same."""
         own = self.lines.class_of(uses[0])
         if isinstance(shape, int):
-            return self.lines.push(("S", own, shape, (code, 0, uses, [])))
+            return self.lines.push(("S", own, shape, (code, pick, uses, [])))
         expression, makes = self.spelt(shape)
         if self.rng.random() < 0.7:
-            return self.lines.push(("A", own, (code, 0, uses, makes), expression))
+            return self.lines.push(("A", own, (code, pick, uses, makes), expression))
         other, line = self.found(expression)
-        return self.lines.push(("S", own, other, (code, 0, uses, [line, *makes])))
+        return self.lines.push(("S", own, other, (code, pick, uses, [line, *makes])))
 
     # ---- matches
 
-    def match(self, code, *kinds):
-        """Lines that a rule may be applied to, the first of these kinds: each other one is of the class that the one above it stands on."""
-        top = self.one(self.expressions(*kinds))
+    def picked(self, code, expression):
+        """A pick that a rule may have at an expression, and the class below which its second line is: of a conjunct with a subquery, or a class that is
+        named; 0 and the first input where nothing is picked."""
+        below = inputs_of(expression)
+        if BOOK[code].pick is None or expression[0] != "select":
+            return 0, below[0] if below else None
+        named = [(place, g) for place, condition in enumerate(expression[1]) for g in named_classes([condition])]
+        place, g = self.rng.choice(named) if named else (0, None)
+        return g if BOOK[code].pick == "class" and named else place, g
+
+    def match(self, code, tops):
+        """A pick, and lines that a rule may be applied to, the first one of these: each other one is of the class that the one above it stands on, or of
+        that of the picked subquery."""
+        top = self.one(tops)
         if top is None:
             return None
+        pick, below = self.picked(code, self.lines.expression(top))
         uses = [top]
         while len(uses) < BOOK[code].count:
-            below = inputs_of(self.lines.expression(uses[-1]))
-            if not below:
+            if below is None:
                 return None
-            uses.append(self.one(self.lines.members(below[0])))
-        return uses
+            uses.append(self.one(self.lines.members(below)))
+            below = next(iter(inputs_of(self.lines.expression(uses[-1]))), None)
+        return pick, uses
 
-    def given(self, code, uses):
+    def given(self, code, pick, uses):
         """What the rule book gives."""
-        return BOOK[code].gives(self.lines, *map(self.lines.expression, uses))
+        return given(code, self.lines, pick, map(self.lines.expression, uses))
 
-    def by_rule(self):
-        """A line by a rule that fits, where one is found soon."""
-        code = self.rng.choices(list(BOOK), WEIGHTS)[0]
+    def is_applied(self, code, tops):
+        """Adds a line by a rule that fits at one of the lines, where that is found soon."""
         for _ in range(20):
-            uses = self.match(code, BOOK[code].kind)
-            if uses is None:
-                return
+            found = self.match(code, tops)
             try:
-                shape = self.given(code, uses)
+                shape = self.given(code, *found) if found else None
             except Unfit:
                 continue
-            self.apply(code, uses, shape)
-            self.counts[code] += 1
-            return
+            if found:
+                self.apply(code, *found, shape)
+                self.counts[code] += 1
+                return True
+        return False
+
+    def by_rule(self):
+        code = self.rng.choices(list(BOOK), WEIGHTS)[0]
+        self.is_applied(code, self.expressions(*BOOK[code].kinds))
+
+    def unnest(self):
+        """Takes a projection off a subquery of a selection, and makes a join of a subquery."""
+        line = self.one([at for at in self.expressions("select") if any(map(has_subquery, self.lines.expression(at)[1]))])
+        if line is not None:
+            for codes in (["U6"], ["U7", "U8", "U9", "U10", "U1", "U2", "U3", "U4"]):
+                tops = [at for at in self.lines.members(self.lines.class_of(line)) if self.lines.expression(at)[0] == "select"]
+                any(self.is_applied(code, tops) for code in self.rng.sample(codes, len(codes)))
 
     # ---- what a rule takes back to what is there
 
@@ -152,16 +176,38 @@ class Growth:
             _, kept, g = self.lines.expression(inner)
             self.takes_back("G1", [self.lines.push(("F", ("group", kept, [], g)))], line, [inner])
 
+    def told_columns(self, g):
+        """The columns of a class that are known to have no Null, or to be a key; all where there are none."""
+        facts = self.lines.facts_of(g)
+        return [fact if name == "notnull" else fact[0] for name, fact in facts if name == "notnull" or len(fact) == 1] or self.lines.columns(g)
+
     def semi(self):
-        """A selection over a semijoin or an antijoin, which no plan names, for S5."""
-        pairs = [(a, b) for a in self.expressions("get") for b in self.expressions("get") if self.lines.expression(a) != self.lines.expression(b)]
+        """A semijoin or an antijoin that no plan names, of a table or a join, for U5, U11 and U12; at times a selection over it, for S5."""
+        sides = [(a, b) for a in self.expressions("get", "join") for b in self.expressions("get")]
+        pairs = [(a, b) for a, b in ((self.lines.class_of(a), b) for a, b in sides) if not set(self.lines.columns(a)) & set(self.lines.columns(b))]
         lists = [self.lines.expression(at)[1] for at in self.expressions("select", "join", "left")]
         plain = [[condition for condition in conditions if not has_subquery(condition)] for conditions in lists]
         if pairs and plain:
             a, b = self.rng.choice(pairs)
+            terms = [("c", self.rng.choice(self.told_columns(g))) for g in (a, b)]
+            plain += [[("compare", "=", *terms)]] * 2 * len(plain)
             first = [self.rng.choice(plain)] + ([self.rng.choice(plain)] if self.rng.random() < 0.5 else [])
             lower = self.lines.push(("F", ("semi" if len(first) == 1 else "anti", *first, a, b)))
-            self.lines.push(("F", ("select", self.rng.choice(plain), lower)))
+            if self.rng.random() < 0.5:
+                self.lines.push(("F", ("select", self.rng.choice(plain), lower)))
+
+    def asking(self):
+        """A selection by an IN or EXISTS of a projection, which no plan names: at times of a column that it lacks, where U6's condition fails."""
+        pairs = [(a, at) for a in self.expressions("get") for at in self.expressions("keep", "distinct", "select")]
+        if pairs:
+            a, at = self.rng.choice(pairs)
+            g = self.lines.class_of(at)
+            below = inputs_of(self.lines.expression(at))[0]
+            columns = self.lines.columns(self.rng.choice([g, below])) or [0]
+            term = ("c", self.rng.choice(self.lines.columns(a)))
+            condition = ("in", term, g, self.rng.choice(columns)) if self.rng.random() < 0.7 else ("exists", g)
+            asked = [("not", condition) if self.rng.random() < 0.5 else condition]
+            self.lines.push(("F", ("select", conjuncts(asked), a)))
 
     def unread(self):
         """A projection of a left join's left side, or of rows of it that are asked for a Null of the right side, which no plan names, for O6 and O7."""
@@ -216,7 +262,7 @@ class Growth:
 
     def grow(self, steps):
         ways = [self.by_rule] * 10 + [self.learn] * 2 + [self.split_select, self.split_keep, self.keep_all, self.make_distinct, self.make_group]
-        ways += [self.semi, self.reading_out, self.unread, self.unread]
+        ways += [self.semi, self.semi, self.asking, *[self.unnest] * 5, self.reading_out, self.unread, self.unread]
         for _ in range(steps):
             self.rng.choice(ways)()
 
@@ -250,20 +296,21 @@ def refused(growth):
     rng, lines = growth.rng, growth.lines
     for _ in range(200):
         code = rng.choice(list(BOOK))
-        uses = growth.match(code)
-        if not uses:
+        found = growth.match(code, growth.expressions())
+        if not found:
             continue
-        step, top = (code, 0, uses, []), lines.expression(uses[0])
+        pick, uses = found
+        step, top = (code, pick, uses, []), lines.expression(uses[0])
         try:
-            shape = growth.given(code, uses)
+            shape = growth.given(code, pick, uses)
         except Unfit as unfit:
-            if str(unfit) == "K05" or rng.random() < 0.05:
+            if str(unfit) == "K05" or rng.random() < 0.02:
                 return ("A", lines.class_of(uses[0]), step, top), [str(unfit)], code
             continue
         other = None if isinstance(shape, int) else changed(rng, shape)
         if other:
             expression, makes = growth.spelt(other)
-            return ("A", lines.class_of(uses[0]), (code, 0, uses, makes), expression), ["K03", "K04"], code
+            return ("A", lines.class_of(uses[0]), (code, pick, uses, makes), expression), ["K03", "K04"], code
     return None
 
 

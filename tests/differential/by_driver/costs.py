@@ -23,7 +23,7 @@ from layout import Layout, Lines
 from random_sql import random_statistics, statistics_text
 
 LIBRARIES = (
-    "values schema store statistics sql_parse query binder algebra laws props rules plain_rules outer_rules book derivation logs frame physical certificate"
+    "values schema store statistics sql_parse query binder algebra laws props rules plain_rules outer_rules semijoin_rules subquery_rules book derivation logs frame physical certificate"
     " certificate_text certificate_read costs explain anyhow"
 )
 BATCH = 1000
