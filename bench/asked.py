@@ -1,10 +1,10 @@
 #!/usr/bin/env python3
 """Compares plans of queries with EXISTS, NOT IN and left joins with the cheapest ones, over random join graphs and statistics.
 
-The queries are those of quality.py with something more: a subquery that is asked of one table or of two, NOT IN, both, or a left join, or two, that stand
+The queries are those of quality.py with something more: a subquery that is asked of one table or of two, NOT IN, both, these and one more, or a left join, or two, that stand
 in the text behind a table, the whole, or a part of the joins. The second search is this script's own: over all bushy trees, and for each subquery and each left
-join over all sets of tables of whose rows it may be asked: those that have its columns. It pays for each row what the subquery's own plan costs, and for a left
-join what joining the rows of the set costs. Two left joins of one table stay in the order of the text: by O4 and O5 left joins pass inner ones, and so each other
+join over all sets of tables of whose rows it may be asked: those that have its columns. A subquery is a filter there, which pays for each row what the subquery's own
+plan costs, or a semijoin or an antijoin, by hash, by an index or by nested loops, whichever is least; a left join costs what joining the rows of the set does. Two left joins of one table stay in the order of the text: by O4 and O5 left joins pass inner ones, and so each other
 where their tables are joined, but no rule lets two of one table change places. With `--any-order` the second search lets them.
 
 Told are, for each kind, shape and number of tables, the geometric mean and the worst of the planned cost over the least one. The seed is fixed, so
@@ -25,7 +25,7 @@ import quality
 from quality import MILLION, Side, all_of, edge_share, index_scan_cost, per_million, probe_cost, scan_cost, share
 
 ROOT = pathlib.Path(__file__).resolve().parent.parent
-KINDS = ("exists", "not_in", "both", "left_table", "left_whole", "left_part", "two_lefts")
+KINDS = ("exists", "not_in", "both", "three", "left_table", "left_whole", "left_part", "two_lefts")
 HALF = 500_000
 ANY_ORDER = "--any-order" in sys.argv
 
@@ -148,7 +148,7 @@ def extra_table(rng, most):
 
 
 def exists_of(rng, drawn):
-    """EXISTS over a further table that is tied to one table, or to two: its text, whose rows it is asked of, and what it costs a row."""
+    """EXISTS over a further table that is tied to one table, or to two: its text, whose rows it is asked of, and what it makes of a tree."""
     tables = drawn.tables
     inner, number = extra_table(rng, 4), len(tables)
     tables.append(inner)
@@ -161,7 +161,8 @@ def exists_of(rng, drawn):
         if column in inner.keys:
             plans.append(100 * per_million(inner.index_pages + inner.rows, parts[place]) + 10 * per_million(inner.rows, all_of(parts)))
     text = f"EXISTS (SELECT s{number}.id FROM t{number} s{number} WHERE " + " AND ".join(f"s{number}.{column} = {outer}" for column, outer in tied) + ")"
-    return text, sum(1 << owner for owner in owners), min(plans) + 1
+    each = [min(plans) + 1, scan_cost(inner)] + [probe_cost(inner, column) for column, _ in tied if column in inner.keys]
+    return text, sum(1 << owner for owner in owners), asking(min(each), scan_cost(inner) + 2 * inner.rows)
 
 
 def not_in_of(rng, drawn):
@@ -174,25 +175,27 @@ def not_in_of(rng, drawn):
     if filters and "v" in inner.keys:
         plans.append(index_scan_cost(inner, "v", filters))
     where = f" WHERE s{number}.v = 5" if filters else ""
-    return f"t{owner}.w NOT IN (SELECT s{number}.k FROM t{number} s{number}{where})", 1 << owner, min(plans) + 1
+    rows = per_million(inner.rows, share(inner.keys["v"]) if "v" in inner.keys else 100_000) if filters else inner.rows
+    return f"t{owner}.w NOT IN (SELECT s{number}.k FROM t{number} s{number}{where})", 1 << owner, asking(min(plans), min(plans) + 2 * rows)
 
 
 def with_conditions(text, conditions):
     return text + (" AND " if " WHERE " in text else " WHERE ") + " AND ".join(conditions)
 
 
-def asking(cost):
-    """What a subquery that costs so much a row makes of a tree."""
-    return lambda one: Side(per_million(one.rows, HALF), one.cost + one.rows * (1 + cost), 1.0)
+def asking(each, built):
+    """What a subquery makes of a tree: each row costs so much, or 1 where a hash table was built, which costs so much."""
+    return lambda one: Side(per_million(one.rows, HALF), one.cost + min(one.rows * each, built + one.rows), 1.0)
 
 
 def subquery_draw(rng, kind, drawn):
     count = len(drawn.from_order)
-    asked = [exists_of(rng, drawn)] if kind in ("exists", "both") else []
-    asked += [not_in_of(rng, drawn)] if kind in ("not_in", "both") else []
+    asked = [exists_of(rng, drawn)] if kind in ("exists", "both", "three") else []
+    asked += [not_in_of(rng, drawn)] if kind in ("not_in", "both", "three") else []
+    asked += [exists_of(rng, drawn)] if kind == "three" else []
     places = list(range(count))
     leaves = [table_leaf(drawn.tables[place], probes) for place, probes in zip(places, probes_of(drawn, places))]
-    trees = least_trees(leaves, edges_between(drawn, places), [(owners, asking(cost), 0) for _, owners, cost in asked])
+    trees = least_trees(leaves, edges_between(drawn, places), [(owners, ask, 0) for _, owners, ask in asked])
     return Asked(drawn, with_conditions(drawn.text, [text for text, _, _ in asked]), min(one.cost for one in trees) + 1)
 
 

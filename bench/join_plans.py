@@ -26,7 +26,7 @@ import joins
 ROOT = joins.ROOT
 NAME = "join_plans_bench"
 LIBRARIES = (
-    "values schema store sql_parse query binder algebra laws props rules plain_rules outer_rules book derivation logs frame physical certificate relations joins checker answer_text pipeline anyhow"
+    "values schema store sql_parse query binder algebra laws props rules plain_rules outer_rules semijoin_rules subquery_rules book derivation logs frame physical certificate relations joins checker answer_text pipeline anyhow"
 )
 DEPTS = 10_000
 COLUMNS = {

@@ -26,7 +26,7 @@ def built(tree):
     crate = tree / "crates" / NAME
     (crate / "src").mkdir(parents=True)
     shutil.copy(ROOT / "bench/logs/main.rt.txt", crate / "src/main.rt")
-    crates.list_crate(tree, NAME, "values schema query algebra laws props rules plain_rules outer_rules book derivation logs anyhow")
+    crates.list_crate(tree, NAME, "values schema query algebra laws props rules plain_rules outer_rules semijoin_rules subquery_rules book derivation logs anyhow")
     crates.run(tree, crate)
     return crate / "out" / NAME
 
