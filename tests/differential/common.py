@@ -21,10 +21,10 @@ class Program:
     def __init__(self, path, folder):
         self.path, self.folder = str(path), pathlib.Path(folder)
 
-    def say(self, command, *words):
+    def say(self, command, *words, seconds=SECONDS):
         """What the program says to a command, run in the folder."""
         ended = subprocess.run(
-            [self.path, command, *map(str, words)], cwd=self.folder, stdin=subprocess.DEVNULL, capture_output=True, timeout=SECONDS, check=False
+            [self.path, command, *map(str, words)], cwd=self.folder, stdin=subprocess.DEVNULL, capture_output=True, timeout=seconds, check=False
         )
         return Said(ended.returncode, ended.stdout.decode("utf-8", "backslashreplace"), ended.stderr.decode("utf-8", "backslashreplace").strip())
 
@@ -38,10 +38,10 @@ class Program:
             lines = [[column.name for column in table.columns], *(map(field_of, row) for row in contents[table.name])]
             self.write(f"{table.name}.csv", "".join(",".join(line) + "\n" for line in lines))
 
-    def answer(self, command, query):
+    def answer(self, command, query, seconds=SECONDS):
         """What `query` or `meaning` says to a query over the files of the folder."""
         self.write("query.sql", query)
-        return self.say(command, "schema.json", "query.sql", ".")
+        return self.say(command, "schema.json", "query.sql", ".", seconds=seconds)
 
     def planned(self, command, query, statistics, limit):
         """What `plan` or `explain` says to a query by statistics, within a limit of lines."""

@@ -5,11 +5,15 @@ Each block but the innermost asks EXISTS, NOT EXISTS, IN or NOT IN of a further 
 semijoins and antijoins of all kinds come up, null-aware ones among them, and subqueries that stay filters.
 """
 
+import subprocess
+
 from common import ACCEPTED, TOO_LARGE, agree, rows_in, sqlite_database, sqlite_rows, unlike
 from random_sql import TABLES, Maker, random_contents, random_statistics, statistics_text
 
 SEED, ROUND = 62, 150
 JOINED = ("semi", "anti")
+LONGEST = 5
+"""Seconds that `meaning` may take."""
 
 
 class Nesting(Maker):
@@ -30,9 +34,9 @@ class Nesting(Maker):
         parts = [self.equality(own, outer)] if outer and self.rng.random() < 0.6 else []
         if len(chains) > 1 and self.rng.random() < 0.7:
             parts.append(self.equality(chains[0][1], chains[1][1]))
-        if self.rng.random() < 0.3:
+        if self.rng.random() < 0.15:
             parts.append(self.condition(own + outer, 0))
-        for _ in range(self.rng.choice([1, 1, 2]) if depth else 0):
+        for _ in range(self.rng.choice([1, 1, 1, 2]) if depth else 0):
             asked = self.asked(own + outer, depth if len(parts) < 3 else 1)
             form = self.rng.random()
             parts.append(f"({asked} OR {self.test(own, 0)})" if form < 0.12 else f"NOT ({asked})" if form < 0.2 else asked)
@@ -40,9 +44,19 @@ class Nesting(Maker):
         return " WHERE " + " AND ".join(parts) if parts else ""
 
 
+def answers_of(program, query, counts):
+    """What `query` says, and `meaning`, unless that takes too long: it goes through all rows of each block for each row around it."""
+    answers = {"query": program.answer("query", query)}
+    try:
+        answers["meaning"] = program.answer("meaning", query, LONGEST)
+    except subprocess.TimeoutExpired:
+        counts["too slow"] += 1
+    return answers
+
+
 def fault(program, query, contents, wanted, statistics, counts):
     """Where a command says something else than sqlite3's rows, or a certificate isn't accepted."""
-    answers = {command: program.answer(command, query) for command in ("query", "meaning")}
+    answers = answers_of(program, query, counts)
     planned = program.planned("plan", query, statistics, 2_000)
     if any(said.error == TOO_LARGE for said in [*answers.values(), planned]):
         counts["too large"] += 1
@@ -66,7 +80,7 @@ def fault(program, query, contents, wanted, statistics, counts):
 def cases(program, rng, counts):
     """What is wrong of each case of a round, or nothing."""
     for _ in range(ROUND):
-        contents = random_contents(rng, TABLES)
+        contents = random_contents(rng, TABLES, most=8, nulls=0.3)
         query = Nesting(rng).select(outermost=True, depth=rng.choice([2, 2, 3, 4]))
         program.write_tables(TABLES, contents)
         statistics = statistics_text(random_statistics(rng, TABLES))
@@ -76,4 +90,4 @@ def cases(program, rng, counts):
 
 def told(counts):
     plans = f"{counts['joined']:,} planned with semijoins or antijoins, {counts['filters']:,} with filters by subqueries"
-    return f"{counts['queries']:,} queries with {counts['rows']:,} rows by query, meaning and run, {plans}, beside sqlite3; {counts['too large']} too large"
+    return f"{counts['queries']:,} queries with {counts['rows']:,} rows by query, meaning and run, {plans}, beside sqlite3; {counts['too large']} too large, {counts['too slow']} without meaning's answer"

@@ -27,7 +27,8 @@ fn certificates_are_read(rt: HostRuntime) {
     const CASES: &str =
         "SQLPLAN 1/lines 3/F get 0/F keep 3 0/F distinct 1/plan 3/hdistinct 2/cut 1 3/scan 0 0/end/ => read
 SQLPLAN 1/lines 4/F get 0/F keep 3 0/F distinct 1/S 2 1 D1 0 2 -/plan 2/cut 1 3/scan 0 0/end/ => read
-SQLPLAN 1/lines 1/A 4 U6 3 4,3 - select [not(exists(2))] 0/plan 1/scan 0 0/end/ => C02 3
+SQLPLAN 1/lines 1/A 4 U6 3 4,3 - select [not(exists(2))] 0/plan 1/scan 0 0/end/ => read
+SQLPLAN 1/lines 1/A 4 U13 3 4,3 - select [not(exists(2))] 0/plan 1/scan 0 0/end/ => C02 3
 SQLPLAN 1/lines 1/A 4 S5 3 4,3 - select [not(exists(2))] 0/plan 1/scan 0 0/end/ => read
 SQLPLAN 1/lines 0/plan 1/scan 0 0/end/ => read
 SQLPLAN 1/lines 5/F select [<>(c1,t6f7073);=(c4,c0)] 1/F join [] 0 1/F left [=(c4,c0)] 0 1/F semi [=(c4,c0)] 0 1/F anti [=(c4,c0)] [] 0 1/plan 1/scan 0 0/end/ => read
