@@ -9,3 +9,4 @@ pub mod Standing
 pub mod Truth
 pub mod Worked
 pub mod WorkedEquations
+pub mod WorkedUnnesting

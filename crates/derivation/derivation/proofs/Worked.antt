@@ -16,8 +16,10 @@ use Rattle.props.proofs.SingleMatches.{pins-Compare}
 use Rattle.rules.specs.declared.shape.Shape.TheVariants.{Class, Join, Anti, Keep}
 use Rattle.book.specs.declared.names.RuleName.TheVariants as rule
 use Rattle.derivation.specs.declared.line.Line.TheVariants.{Founds}
-use Rattle.derivation.specs.Examples.{WorkedLines, WorkedRules, WorkedConditions, WorkedForms, WorkedRefusals, WorkedLogs, emps, joined, left_joined, twice_joined, by_rule, equal_ids, falling_ids, without_dept, without_right_id, both}
+use Rattle.derivation.specs.Examples.{WorkedLines, WorkedRules, WorkedConditions, WorkedForms, WorkedRefusals, WorkedLogs}
+use Rattle.derivation.specs.SmallLogs.{emps, joined, left_joined, twice_joined, by_rule, equal_ids, falling_ids, without_dept, without_right_id, both}
 use Rattle.derivation.proofs.WorkedEquations.{parts-Compare, parts-IsNull, text-Compare, text-IsNull, by-texts, union-of-two, adds-stands, spelling-Class, spelling-Select, spelling-Join, spelling-LeftJoin, spelling-Semi, spelling-Anti, spelling-Keep, spelling-Distinct}
+use Rattle.derivation.proofs.WorkedUnnesting.{unnested_rules, unnested_conditions, unnested_forms}
 
 lines : WorkedLines
 lines = record {
@@ -88,10 +90,10 @@ conditions : WorkedConditions
 conditions = record {
   join_associates = simp (columns-Compare, classes-Compare, same_columns-refl, mentions-Compare) refl;
   keep_of_all = simp same_columns-refl refl;
-  keep_below_join = simp (same_columns-refl, mentions-Compare) refl;
+  keep_below_join = simp same_columns-refl refl;
   distinct_of_keyed = simp same_columns-refl refl;
   group_is_distinct = simp same_columns-refl refl;
-  outer_join_is_inner = simp (columns-Compare, columns-IsNull, classes-Compare, classes-IsNull, same_columns-refl, outcomes-IsNull) refl;
+  outer_join_is_inner = simp (columns-IsNull, classes-IsNull, same_columns-refl, outcomes-IsNull) refl;
   left_join_below_join = simp (columns-Compare, classes-Compare, same_columns-refl, mentions-Compare) refl;
   left_join_above_join = simp (columns-Compare, classes-Compare, same_columns-refl, mentions-Compare) refl;
   keep_of_left_side = simp same_columns-refl refl;
@@ -101,7 +103,7 @@ conditions = record {
 forms : WorkedForms
 forms = record {
   select_below_left_join = simp (columns-Compare, classes-Compare, same_columns-refl, mentions-IsNull) refl;
-  condition_below_left_join = simp (columns-Compare, columns-IsNull, classes-Compare, classes-IsNull, same_columns-refl, mentions-Compare, mentions-IsNull) refl;
+  condition_below_left_join = simp (columns-Compare, classes-Compare, same_columns-refl, mentions-Compare, mentions-IsNull) refl;
 }
 
 -- ---- expressions that differ
@@ -128,4 +130,4 @@ refusals = record {
 }
 
 pub worked : WorkedLogs
-worked = record { lines = lines; rules = rules; conditions = conditions; forms = forms; refusals = refusals }
+worked = record { lines = lines; rules = rules; conditions = conditions; forms = forms; unnested_rules = unnested_rules; unnested_conditions = unnested_conditions; unnested_forms = unnested_forms; refusals = refusals }

@@ -1,28 +1,31 @@
 -- What the definitions behind `stands` give at the expressions of the worked logs: one equation for each form.
-use Rattle.std.proofs.Common.{◌≡◌, refl, ap, sym, ◌∙◌, ℕ, Bool, true, false, ◌&&◌, List, [], ◌∷◌, ◌++◌, Option, Ok}
+use Rattle.std.proofs.Common.{◌≡◌, refl, ap, sym, ◌∙◌, ℕ, Bool, true, false, not, ◌&&◌, ◌||◌, ◌==◌, List, [], ◌∷◌, ◌++◌, Option, Ok}
 use Rattle.std.specs.Cmp.Lexicographic.{slice_cmp}
 use Rattle.std.specs.Ordering.{nat_cmp, is_lt}
 use Rattle.values.specs.declared.truth.Comparison.{Comparison}
 use Rattle.query.specs.declared.query.TableInstance.{TableInstance}
-use Rattle.algebra.specs.declared.condition.Condition.{Condition, fold-roll-Condition}
-use Rattle.algebra.specs.declared.condition.Condition.TheVariants.{Compare, IsNull, rolls-Compare, rolls-IsNull}
+use Rattle.algebra.specs.declared.condition.Condition.{Condition, out-Condition, out-roll-Condition, fold-roll-Condition}
+use Rattle.algebra.specs.declared.condition.Condition.TheVariants.{Compare, IsNull, Not, Exists, In, rolls-Compare, rolls-IsNull, rolls-Not, rolls-Exists, rolls-In}
 use Rattle.algebra.specs.declared.condition.Condition.TheOpen.{Condition-F}
 use Rattle.algebra.specs.declared.condition.Term.{Term}
 use Rattle.algebra.specs.declared.expr.Aggregation.{Aggregation}
 use Rattle.algebra.specs.declared.expr.Expr.{Expr}
 use Rattle.algebra.specs.declared.expr.Expr.TheVariants as expr
+use Rattle.algebra.specs.Alike.{rooted_layer, rooted_condition}
 use Rattle.algebra.specs.Conditions.{Passes, columns_layer, all_columns, term_passes, classes_layer, all_classes}
 use Rattle.algebra.specs.ConditionEquality.{same_condition}
-use Rattle.algebra.specs.ConjunctOrder.{condition_text, text_layer, goes_before, in_order, Flat, flat, flat_layer, parts_of}
+use Rattle.algebra.specs.ConjunctOrder.{condition_text, text_layer, goes_before, in_order, conjuncts, Flat, flat, flat_layer, parts_of}
 use Rattle.algebra.specs.ConjunctParts.{union}
 use Rattle.algebra.specs.Equality.{same_columns, same_expr}
 use Rattle.algebra.specs.Expressions.{columns_of, is_formed}
+use Rattle.algebra.proofs.ConjunctLists.{before-not-behind, same-turned}
 use Rattle.algebra.proofs.Lists.{two}
-use Rattle.algebra.proofs.Same.{tested_expr, same-expr}
+use Rattle.algebra.proofs.Same.{tested_condition}
 use Rattle.rules.specs.declared.shape.Shape.{Shape, fold-roll-Shape}
 use Rattle.rules.specs.declared.shape.Shape.TheOpen.{Shape-F}
 use Rattle.rules.specs.declared.shape.Shape.TheVariants.{Class, Select, Join, LeftJoin, Semi, Anti, Keep, Distinct, rolls-Class, rolls-Select, rolls-Join, rolls-LeftJoin, rolls-Semi, rolls-Anti, rolls-Keep, rolls-Distinct}
 use Rattle.rules.specs.Matches.{Line}
+use Rattle.subquery_rules.specs.Replacing.{asks_layer, asks}
 use Rattle.derivation.specs.declared.line.Line.TheVariants.{Adds}
 use Rattle.derivation.specs.declared.line.Step.{Step}
 use Rattle.derivation.specs.Logs.{Log, founds, member, knowledge}
@@ -31,7 +34,19 @@ use Rattle.derivation.specs.Spelling.{Spelling, over_one, over_two, spelling_lay
 
 -- ---- tests of equality
 
+pub same-condition : (c : Condition) → same_condition c c ≡ true
+same-condition c = sym (tested_condition true c c (λ e. refl, λ e. refl))
+
 -- ---- conditions
+
+pub out-Not : (c : Condition) → out-Condition (Not c) ≡ Condition-F.Not c
+out-Not c = ap out-Condition (sym (rolls-Not c)) ∙ out-roll-Condition (Condition-F.Not c)
+
+pub out-Exists : (g : ℕ) → out-Condition (Exists g) ≡ Condition-F.Exists g
+out-Exists g = ap out-Condition (sym (rolls-Exists g)) ∙ out-roll-Condition (Condition-F.Exists g)
+
+pub out-In : (a : Term) (g k : ℕ) → out-Condition (In a g k) ≡ Condition-F.In a g k
+out-In a g k = ap out-Condition (sym (rolls-In a g k)) ∙ out-roll-Condition (Condition-F.In a g k)
 
 pub parts-Compare : (op : Comparison) (a b : Term) → parts_of (Compare op a b) ≡ Compare op a b ∷ []
 unfolding flat
@@ -40,6 +55,30 @@ parts-Compare op a b = ap parts_of (sym (rolls-Compare op a b)) ∙ ap (λ f. f.
 pub parts-IsNull : (a : Term) → parts_of (IsNull a) ≡ IsNull a ∷ []
 unfolding flat
 parts-IsNull a = ap parts_of (sym (rolls-IsNull a)) ∙ ap (λ f. f.parts) (fold-roll-Condition Flat flat_layer (Condition-F.IsNull a))
+
+pub parts-Exists : (g : ℕ) → parts_of (Exists g) ≡ Exists g ∷ []
+unfolding flat
+parts-Exists g = ap parts_of (sym (rolls-Exists g)) ∙ ap (λ f. f.parts) (fold-roll-Condition Flat flat_layer (Condition-F.Exists g))
+
+pub parts-In : (a : Term) (g k : ℕ) → parts_of (In a g k) ≡ In a g k ∷ []
+unfolding flat
+parts-In a g k = ap parts_of (sym (rolls-In a g k)) ∙ ap (λ f. f.parts) (fold-roll-Condition Flat flat_layer (Condition-F.In a g k))
+
+pub asks-Exists : (class g : ℕ) (p : ℕ → Bool) → asks class (Exists g) p ≡ true
+unfolding asks
+asks-Exists class g p = ap (λ c. asks class c p) (sym (rolls-Exists g)) ∙ ap (λ f. f p) (fold-roll-Condition Passes (asks_layer class) (Condition-F.Exists g))
+
+pub asks-In : (class : ℕ) (a : Term) (g k : ℕ) (p : ℕ → Bool) → asks class (In a g k) p ≡ (not (g == class) || p k)
+unfolding asks
+asks-In class a g k p = ap (λ c. asks class c p) (sym (rolls-In a g k)) ∙ ap (λ f. f p) (fold-roll-Condition Passes (asks_layer class) (Condition-F.In a g k))
+
+pub rooted-Exists : (root : ℕ → ℕ) (g : ℕ) → rooted_condition root (Exists g) ≡ Exists (root g)
+unfolding rooted_condition
+rooted-Exists root g = ap (rooted_condition root) (sym (rolls-Exists g)) ∙ fold-roll-Condition Condition (rooted_layer root) (Condition-F.Exists g)
+
+pub rooted-In : (root : ℕ → ℕ) (a : Term) (g k : ℕ) → rooted_condition root (In a g k) ≡ In a (root g) k
+unfolding rooted_condition
+rooted-In root a g k = ap (rooted_condition root) (sym (rolls-In a g k)) ∙ fold-roll-Condition Condition (rooted_layer root) (Condition-F.In a g k)
 
 pub text-Compare : (op : Comparison) (a b : Term) → condition_text (Compare op a b) ≡ text_layer (Condition-F.Compare op a b)
 unfolding condition_text
@@ -56,6 +95,13 @@ by-texts c d s t is other before = two (λ s t. is_lt (slice_cmp nat_cmp s t)) i
 -- of two conjuncts in order the list of both is
 pub union-of-two : (c d : Condition) → parts_of c ≡ c ∷ [] → parts_of d ≡ d ∷ [] → same_condition c d ≡ false → goes_before c d ≡ true → union (c ∷ []) (d ∷ []) ≡ c ∷ d ∷ []
 union-of-two c d whole other differ before = two (λ C D. in_order (C ++ (D ++ []))) whole other ∙ rw (differ, before) refl
+
+-- the same of two that come in the other order
+pub union-of-turned : (c d : Condition) → parts_of c ≡ c ∷ [] → parts_of d ≡ d ∷ [] → same_condition c d ≡ false → goes_before c d ≡ true → union (d ∷ []) (c ∷ []) ≡ c ∷ d ∷ []
+union-of-turned c d whole other differ before = two (λ C D. in_order (D ++ (C ++ []))) whole other ∙ rw (same-turned c d differ, before-not-behind c d before) refl
+
+pub conjuncts-of-one : (c : Condition) → parts_of c ≡ c ∷ [] → conjuncts (c ∷ []) ≡ c ∷ []
+conjuncts-of-one c whole = ap (λ C. in_order (C ++ [])) whole
 
 -- ---- shapes
 

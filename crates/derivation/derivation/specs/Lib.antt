@@ -3,4 +3,6 @@ pub mod Laws
 pub mod Logs
 pub mod Numbers
 pub mod Replay
+pub mod SmallLogs
 pub mod Spelling
+pub mod UnnestedExamples
