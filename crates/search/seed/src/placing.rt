@@ -5,11 +5,12 @@
 //! classes are the same.
 
 use crate::founding::{SetClass, class_of};
+use crate::lowering::joins_beside;
 use crate::nodes::{join_line, line_over, step};
 use algebra::{ClassId, Condition, Conjuncts, Expr, LineId};
 use bindings::BoundLines;
 use book::RuleName;
-use join_trees::{JoinTree, LeafSet, Subquery, conditions_of};
+use join_trees::{JoinTree, Joined, LeafSet, Subquery, conditions_of};
 use memo::Memo;
 use std::alloc::{AllocError, Global};
 
@@ -41,6 +42,18 @@ impl Asked<'_> {
             }
         }
         home
+    }
+
+    /// The conditions that are asked of one of the sides of a set.
+    fn below(self, alloc: Global, joined: Joined) -> Result<Conjuncts, AllocError> {
+        let mut below = Vec::new(alloc);
+        for (subquery, home) in self.subqueries.iter().zip(self.tree.homes.as_slice()) {
+            let is_below = home.is_within(joined.left) || home.is_within(joined.right);
+            if !home.is_empty() && is_below {
+                below.push(subquery.condition.copy(alloc)?)?;
+            }
+        }
+        Conjuncts::of(alloc, below.as_slice())
     }
 
     /// The conditions of a selection from the set that are asked of one of its sides.
@@ -211,6 +224,52 @@ fn lower_both(
         if let Some(turned) = turned(alloc, memo, rest.join)? {
             rest.join = turned;
         }
+    }
+    Ok(())
+}
+
+/// Brings subqueries that are asked of the one side of a set below those of its joins, too, whose other side is a leaf that an index probes, which stands without
+/// the conditions on it alone.
+fn lower_beside(
+    alloc: Global,
+    memo: &mut Memo<'_>,
+    asked: Asked<'_>,
+    joined: Joined,
+) -> Result<(), AllocError> {
+    let (Some(whole), Some(left), Some(right)) = (
+        class_of(asked.classes, joined.set),
+        class_of(asked.classes, joined.left),
+        class_of(asked.classes, joined.right),
+    ) else {
+        return Ok(());
+    };
+    let down = asked.below(alloc, joined)?;
+    if down.as_slice().is_empty() {
+        return Ok(());
+    }
+    let Some(select) = selection(alloc, memo, down, whole)? else {
+        return Ok(());
+    };
+    for (side, other) in [(left, right), (right, left)] {
+        for join in joins_beside(alloc, memo, whole, side, other)? {
+            let lines = BoundLines::Two(select, join);
+            let _ = step(alloc, memo, RuleName::SelectBelowJoin, lines)?;
+        }
+    }
+    Ok(())
+}
+
+/// The same of all sets of the tree, once their joins are there.
+pub(crate) fn place_beside(
+    alloc: Global,
+    memo: &mut Memo<'_>,
+    asked: Asked<'_>,
+) -> Result<(), AllocError> {
+    if asked.subqueries.is_empty() {
+        return Ok(());
+    }
+    for joined in asked.tree.joins(alloc)? {
+        lower_beside(alloc, memo, asked, joined)?;
     }
     Ok(())
 }

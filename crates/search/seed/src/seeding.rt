@@ -4,7 +4,7 @@ use crate::correlated::part_correlated;
 use crate::founding::found_tree;
 use crate::lowering::{Padded, padded_above, place_left_joins};
 use crate::nodes::Nodes;
-use crate::placing::{Asked, place_subqueries};
+use crate::placing::{Asked, place_beside, place_subqueries};
 use crate::reaching::reach;
 use crate::sinking::{Wishes, combed, lowered, sunk};
 use algebra::{ClassId, LineId};
@@ -101,6 +101,7 @@ fn seed_tree(
         None => combed(alloc, memo, &mut nodes, wishes.order, top)?,
     };
     reach(alloc, memo, &mut nodes, wishes, tree, top)?;
+    place_beside(alloc, memo, asked)?;
     let whole = class_of_region(memo, region);
     place_left_joins(alloc, memo, &parts.leaves, choice, above, whole, classes)
 }
