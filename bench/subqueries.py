@@ -12,6 +12,7 @@ usage: subqueries.py [--rows N] [--runs N] [--program PATH]
 """
 
 import argparse
+import json
 import pathlib
 import random
 import subprocess
@@ -75,7 +76,6 @@ SET statement_timeout = '{limit}s';
 
 def write_rows(folder, rows):
     draw = random.Random(1)
-    (folder / "schema.json").write_text(SCHEMA)
     tables = {
         "emp": ("id,dept,pay", (f"{number},{draw.randrange(DEPTS * 11 // 10)},{draw.randrange(10_000)}" for number in range(rows))),
         "dept": ("id,boss", (f"{number},{draw.randrange(rows) if draw.random() < 0.9 else chr(92) + 'N'}" for number in range(DEPTS))),
@@ -93,6 +93,9 @@ def used(query):
 
 
 def ours(program, folder, query, runs):
+    """What the program takes, by a schema of the tables that the query names: others would be read too."""
+    tables = [table for table in json.loads(SCHEMA)["tables"] if table["name"] in used(query)]
+    (folder / "schema.json").write_text(json.dumps({"tables": tables}))
     (folder / "query.sql").write_text(query)
     (took, clock, _), written = least(runs, [program, "query", folder / "schema.json", folder / "query.sql", folder], "", folder)
     return took, clock, written.splitlines()[1:]
