@@ -25,7 +25,7 @@ fn is_get_of(expr: &Expr, instance: InstanceId) -> bool
 }
 
 /// Whether an access is of the class.
-fn accesses(log: &Log<'_>, access: IndexAccess, class: ClassId) -> bool
+pub fn accesses(log: &Log<'_>, access: IndexAccess, class: ClassId) -> bool
     ensures { result ≡ spec.accesses log.now.log access class }
 {
     match log.member(access.line) {

@@ -3,12 +3,12 @@
 #![tactic(auto)]
 
 pub mod certificate;
-mod index_fit;
-mod join_fit;
+pub mod index_fit;
+pub mod join_fit;
 pub mod judging;
-mod needed;
+pub mod needed;
 pub mod order_by;
-mod order_fit;
+pub mod order_fit;
 pub mod plan_fit;
 pub mod soundness;
 

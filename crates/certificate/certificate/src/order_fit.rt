@@ -24,7 +24,8 @@ pub fn is_delivered(alloc: Global, query: &Query, order: &[OrderKey]) -> Result<
     Ok(begins_with(order, wanted.as_slice()))
 }
 
-fn begins_with(order: &[OrderKey], wanted: &[OrderKey]) -> bool
+/// Whether an order begins with another.
+pub fn begins_with(order: &[OrderKey], wanted: &[OrderKey]) -> bool
     ensures { result ≡ required.same_order (take (length wanted.now) order.now) wanted.now }
 {
     match order.get(..wanted.len()) {
@@ -48,7 +49,7 @@ fn are_same(keys: &[OrderKey], others: &[OrderKey]) -> bool
 }
 
 /// Whether an order begins with the column, rising.
-fn rises_by(order: &[OrderKey], column: ColumnId) -> bool
+pub fn rises_by(order: &[OrderKey], column: ColumnId) -> bool
     ensures { result ≡ required.rises_by column order.now }
 {
     begins_with(

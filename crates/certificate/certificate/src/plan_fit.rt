@@ -38,7 +38,7 @@ pub fn refused(line: usize, reason: CheckReason) -> CheckFault
 }
 
 /// Whether an operator computes an expression over classes with these columns from what its inputs produce.
-fn implements(
+pub fn implements(
     alloc: Global,
     columns: &[Columns],
     operator: &Operator,
@@ -84,7 +84,7 @@ fn is_column(columns: &[Columns], class: ClassId, column: ColumnId) -> bool
 }
 
 /// Whether the class has the columns of the keys.
-fn are_columns(columns: &[Columns], class: ClassId, keys: &[OrderKey]) -> bool
+pub fn are_columns(columns: &[Columns], class: ClassId, keys: &[OrderKey]) -> bool
     ensures { result ≡ are_columns (columns_at columns.now class) keys.now }
 {
     keys.iter().all(|key| is_column(columns, class, key.column))

@@ -1,0 +1,3 @@
+pub mod Complete
+pub mod Least
+pub mod Offering

@@ -1,0 +1,4 @@
+pub mod Candidates
+pub mod Labels
+pub mod Offers
+pub mod Plans
