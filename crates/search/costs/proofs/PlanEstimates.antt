@@ -49,7 +49,7 @@ module _ (S : Statistics) (instances : List TableInstance) where
   operator-cut (GroupRows method K G) rows x = ap cut (group-cut method x)
   operator-cut (DistinctRows method) rows x = ap cut (group-cut method x)
 
-  node-cut : (node : Node) (rows : ℕ) (x : Inputs) → node_cost S instances node rows (with_cut_costs x) ≡ node_cost S instances node rows x
+  pub node-cut : (node : Node) (rows : ℕ) (x : Inputs) → node_cost S instances node rows (with_cut_costs x) ≡ node_cost S instances node rows x
   node-cut (Implements line o) rows x = operator-cut o rows x
   node-cut (Sort keys) rows x = refl
 

@@ -17,14 +17,14 @@ use std::alloc::{AllocError, Global};
 
 /// So many rows, and the share of them that makes the conditions true that were asked of them.
 #[derive(Clone, Copy)]
-struct Asked {
-    rows: u64,
-    share: u64,
+pub struct Asked {
+    pub rows: u64,
+    pub share: u64,
 }
 
 impl Asked {
     /// The rows of the share, a millionth at least.
-    fn kept(self) -> u64
+    pub fn kept(self) -> u64
         requires { self.share ≤ 1000000 }
         ensures kept { result ≡ spec.kept self }
         ensures most { result ≤ self.rows }
@@ -34,7 +34,7 @@ impl Asked {
 
     /// Asked a condition more, which so large a share makes true.
     #[tactic(auto, unfolding(crate::specs::Cardinalities::also_asked))]
-    fn also(self, share: u64) -> Asked
+    pub fn also(self, share: u64) -> Asked
         requires own { self.share ≤ 1000000 }
         requires share { share ≤ 1000000 }
         ensures asked { result ≡ spec.also_asked self share }

@@ -13,6 +13,11 @@ pub mod plans;
 mod tables;
 
 pub use cardinalities::Cardinalities;
-pub use condition_shares::{selectivity, share_of_key};
-pub use nodes::{Estimate, Inputs, node_cost};
+pub use condition_lists::Asked;
+pub use condition_shares::selectivity;
+pub use nodes::{
+    Estimate, Inputs, instance_probe_cost, instance_scan_cost, join_cost, node_cost, scan_cost,
+};
+pub use numbers::{ALL, per_million, product, sum, with_each};
 pub use plans::{cost, estimates};
+pub use tables::{index_over, owner, rows_of};

@@ -34,8 +34,9 @@ pub struct Inputs {
     pub later: u64,
 }
 
+/// The cost of all rows of a table instance.
 #[tactic(auto, unfolding(crate::specs::Numbers::cut))]
-fn scan_cost(statistics: &Statistics, instances: &[TableInstance], instance: u32) -> u64
+pub fn scan_cost(statistics: &Statistics, instances: &[TableInstance], instance: u32) -> u64
     ensures { result ≡ cut (spec.of_instance (spec.scan_cost statistics.now) (slice_get instances.now instance)) }
 {
     match instances.get(instance as usize) {
@@ -50,7 +51,7 @@ fn scan_cost(statistics: &Statistics, instances: &[TableInstance], instance: u32
 
 /// The cost of an index scan of a table instance, which gives so many rows.
 #[tactic(auto, using(crate::proofs::Cuts::cut_one_row))]
-fn instance_scan_cost(
+pub fn instance_scan_cost(
     statistics: &Statistics,
     instances: &[TableInstance],
     instance: &TableInstance,
@@ -97,7 +98,7 @@ fn index_scan_cost(
 
 /// The cost of finding the matches of one row by an index of a table instance.
 #[tactic(auto, using(crate::proofs::Cuts::cut_one_row))]
-fn instance_probe_cost(statistics: &Statistics, instance: &TableInstance, index: u32) -> u64
+pub fn instance_probe_cost(statistics: &Statistics, instance: &TableInstance, index: u32) -> u64
     ensures { result ≡ cut (spec.probe_cost statistics.now index instance.now) }
 {
     if is_unique(instance, index_places(instance, index)) {
@@ -122,7 +123,8 @@ fn probe_cost(statistics: &Statistics, instances: &[TableInstance], access: Inde
     }
 }
 
-fn join_cost(method: JoinMethod, inputs: Inputs) -> u64
+/// The cost of a join over its inputs.
+pub fn join_cost(method: JoinMethod, inputs: Inputs) -> u64
     ensures { result ≡ cut (spec.join_cost method inputs) }
 {
     let Inputs { first, second, .. } = inputs;

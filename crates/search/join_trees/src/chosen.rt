@@ -1,9 +1,11 @@
 //! The join tree that is chosen for a region.
 
-use crate::estimates::{ALL, Share};
+use crate::estimates::{Share, both_sides};
 use crate::graph::{Extra, Graph};
 use crate::greedy::greedy_tree;
 use crate::sets::{LeafSet, MOST_LEAVES};
+use costs::{ALL, Estimate, join_cost, product, sum, with_each};
+use physical::JoinMethod;
 use std::alloc::{AllocError, Global};
 
 /// Up to so many leaves every subset is looked at.
@@ -86,16 +88,23 @@ pub(crate) const NOTHING: Joined = Joined {
 };
 
 impl Joined {
+    fn estimate(self) -> Estimate {
+        Estimate {
+            rows: self.rows,
+            cost: self.cost,
+        }
+    }
+
     /// What it costs and what is still to be done with its rows, if each costs so much.
     fn weight(self, each: u64) -> u64 {
-        self.cost.saturating_add(self.rows.saturating_mul(each))
+        with_each(self.cost, self.rows, each)
     }
 
     /// Its rows, of which the extra of this bit is asked.
     fn asking(self, extra: Extra, bit: u8) -> Joined {
         Joined {
             rows: extra.rows(self.rows),
-            cost: self.cost.saturating_add(extra.cost(self.rows)),
+            cost: sum(self.cost, extra.cost(self.rows)),
             asked: self.asked | bit,
             last: bit,
             kept: KeptFor::Cost,
@@ -211,17 +220,12 @@ fn kept_leaf(graph: &Graph, place: usize) -> Kept {
 
 /// The cost of a hash join or a nested loop, whichever is less.
 fn paired_cost(left: Joined, right: Joined) -> u64 {
-    let loops = left
-        .cost
-        .saturating_add(left.rows.saturating_mul(right.cost));
+    let inputs = both_sides(left.estimate(), right.estimate());
+    let loops = join_cost(JoinMethod::NestedLoop, inputs);
     if !left.around.meets(right.set) {
         return loops;
     }
-    let both = left.cost.saturating_add(right.cost);
-    let hashed = both
-        .saturating_add(left.rows)
-        .saturating_add(right.rows.saturating_mul(2));
-    hashed.min(loops)
+    join_cost(JoinMethod::Hash, inputs).min(loops)
 }
 
 /// The cost of finding the matches of the left rows in a leaf by an index, if there is one.
@@ -230,7 +234,7 @@ fn probing_cost(graph: &Graph, left: Joined, right: Joined) -> Option<u64> {
         return None;
     }
     let each = graph.probe(left.set, right.set)?;
-    Some(left.cost.saturating_add(left.rows.saturating_mul(each)))
+    Some(with_each(left.cost, left.rows, each))
 }
 
 /// The join of two sides, which has so many rows.
@@ -344,7 +348,7 @@ impl Sides<'_> {
             Some(rows) => rows,
             None => {
                 let share = self.joined_share().also(left.share).also(right.share);
-                share.of(left.rows.saturating_mul(right.rows))
+                share.of(product(left.rows, right.rows))
             }
         };
         best.keep(found);

@@ -1,15 +1,16 @@
 //! What is to be joined: leaves, and the conditions over them.
 
 use crate::equations::{Equation, Equations};
-use crate::estimates::{ALL, Share, filter_cost, per_million, probed, scan_cost};
+use crate::estimates::{Share, filter_cost, kept, part_of, probed};
 use crate::left_joins::{OuterJoin, Padding};
 use crate::regions::{Parts, Region, conditions_of};
 use crate::sets::{LeafSet, MOST_LEAVES};
 use crate::subqueries::{Subquery, class_cost, subqueries_of};
 use crate::unnested::Asking;
 use algebra::{ClassId, Condition, Expr, LineId};
-use costs::{Cardinalities, selectivity};
+use costs::{ALL, Cardinalities, scan_cost, selectivity, sum};
 use logs::Log;
+use query::InstanceId;
 use statistics::Statistics;
 use std::alloc::{AllocError, Global};
 
@@ -98,7 +99,7 @@ impl Extra {
     /// The rows that come of so many.
     pub fn rows(self, rows: u64) -> u64 {
         match self {
-            Extra::Subquery(_, _, share) => per_million(rows, share),
+            Extra::Subquery(_, _, share) => part_of(rows, share),
             Extra::LeftJoin(padding) => padding.rows(rows),
         }
     }
@@ -110,6 +111,16 @@ pub struct Guesses<'a, 'q> {
     pub log: &'a Log<'q>,
     pub statistics: &'a Statistics,
     pub cardinalities: &'a Cardinalities,
+}
+
+impl Guesses<'_, '_> {
+    /// The table instance that a class has the rows of, if it is one's.
+    pub fn instance_of(self, class: ClassId) -> Option<InstanceId> {
+        match self.log.member(class)?.expr {
+            Expr::Get(instance) => Some(*instance),
+            _ => None,
+        }
+    }
 }
 
 /// The leaves of which the condition mentions a column.
@@ -141,7 +152,7 @@ impl Leaf {
     /// Its rows that make the conditions on it alone true.
     pub fn rows(self) -> u64 {
         match self.share {
-            Some(share) => per_million(self.bare_rows, share.max(1)),
+            Some(share) => kept(self.bare_rows, share),
             None => self.bare_rows,
         }
     }
@@ -150,7 +161,7 @@ impl Leaf {
     pub fn cost(self) -> u64 {
         match self.share {
             Some(_) => {
-                let filtered = self.bare_cost.saturating_add(self.bare_rows);
+                let filtered = sum(self.bare_cost, self.bare_rows);
                 filtered.min(self.index_cost)
             }
             None => self.bare_cost,
@@ -161,15 +172,8 @@ impl Leaf {
 /// A leaf with no condition on it.
 fn bare_leaf(alloc: Global, guesses: Guesses<'_, '_>, class: ClassId) -> Result<Leaf, AllocError> {
     let rows = guesses.cardinalities.rows(class);
-    let instance = match guesses.log.member(class) {
-        Some(member) => match member.expr {
-            Expr::Get(instance) => guesses.log.instances().get(*instance as usize),
-            _ => None,
-        },
-        None => None,
-    };
-    let cost = match instance {
-        Some(instance) => scan_cost(guesses.statistics, instance),
+    let cost = match guesses.instance_of(class) {
+        Some(instance) => scan_cost(guesses.statistics, guesses.log.instances(), instance),
         None => class_cost(alloc, guesses, class)?.unwrap_or(rows),
     };
     Ok(Leaf {
@@ -186,12 +190,9 @@ fn cost_by_index(
     condition: &Condition,
     share: u64,
 ) -> Option<u64> {
-    let member = guesses.log.member(class)?;
-    let Expr::Get(instance) = member.expr else {
-        return None;
-    };
-    let instance = guesses.log.instances().get(*instance as usize)?;
-    filter_cost(guesses.statistics, instance, condition, share)
+    let instances = guesses.log.instances();
+    let instance = instances.get(guesses.instance_of(class)? as usize)?;
+    filter_cost(guesses.statistics, instances, instance, condition, share)
 }
 
 impl Graph {
@@ -209,7 +210,7 @@ impl Graph {
         };
         let by_index = cost_by_index(guesses, class, condition, share);
         if let Some(leaf) = self.leaves.get_mut(place) {
-            leaf.share = Some(per_million(leaf.share.unwrap_or(ALL), share));
+            leaf.share = Some(part_of(leaf.share.unwrap_or(ALL), share));
             if let Some(cost) = by_index {
                 leaf.index_cost = leaf.index_cost.min(cost);
             }

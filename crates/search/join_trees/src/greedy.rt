@@ -3,6 +3,7 @@
 use crate::chosen::{JoinTree, Joined, NOTHING, cheaper_join, leaf_joined};
 use crate::graph::Graph;
 use crate::sets::LeafSet;
+use costs::product;
 use std::alloc::{AllocError, Global};
 
 /// Two of the parts, by their places.
@@ -32,7 +33,7 @@ fn least_pair(graph: &Graph, parts: &[Joined]) -> Option<Pair> {
     let mut least: Option<Pair> = None;
     for (high, second) in parts.iter().enumerate() {
         for (low, first) in parts.iter().enumerate().take(high) {
-            let pairs = first.rows.saturating_mul(second.rows);
+            let pairs = product(first.rows, second.rows);
             let rows = graph.joined_rows(first.set, second.set, pairs);
             let is_product = !first.around.meets(second.set);
             let pair = Pair {

@@ -1,10 +1,11 @@
 //! Outer joins above a region: what one of them costs, and how many rows it makes. It may be asked of the rows of each set that has the columns of its condition.
 
-use crate::estimates::{per_million, probed, scan_cost};
+use crate::estimates::{both_sides, part_of, probed};
 use crate::graph::{Guesses, mentioned};
 use crate::sets::LeafSet;
-use algebra::{ClassId, Condition, Conjuncts, Expr};
-use costs::selectivity;
+use algebra::{ClassId, Condition, Conjuncts};
+use costs::{Estimate, join_cost, scan_cost, selectivity, with_each};
+use physical::JoinMethod;
 use std::alloc::{AllocError, Global};
 
 /// An outer join whose left side is a region, or another outer join above it.
@@ -20,35 +21,27 @@ pub struct OuterJoin<'a> {
 pub struct Padding {
     /// The leaves of which its condition mentions a column.
     pub leaves: LeafSet,
-    /// The rows of its right side, and what they cost.
-    right_rows: u64,
-    right_cost: u64,
+    /// Its right side.
+    right: Estimate,
     /// What finding the matches of one row costs, where an index does.
     probe: Option<u64>,
-    /// How many rows come of one.
+    /// How many rows come of one: a guess, as all share one number and it is rounded up.
     matches: u64,
 }
 
-/// What a table costs to read; of what is no table, its rows.
+/// What a table costs to read; of what is no table, its rows: a guess.
 fn reading_cost(guesses: Guesses<'_, '_>, class: ClassId, rows: u64) -> u64 {
-    match guesses.log.member(class) {
-        Some(member) => match member.expr {
-            Expr::Get(instance) => match guesses.log.instances().get(*instance as usize) {
-                Some(instance) => scan_cost(guesses.statistics, instance),
-                None => rows,
-            },
-            _ => rows,
-        },
+    match guesses.instance_of(class) {
+        Some(instance) => scan_cost(guesses.statistics, guesses.log.instances(), instance),
         None => rows,
     }
 }
 
 /// What finding the matches of one row in a right side that is a table costs, where an index does by one of the conditions.
 pub fn probe_of(guesses: Guesses<'_, '_>, conditions: &[Condition], right: ClassId) -> Option<u64> {
-    let member = guesses.log.member(right)?;
-    let Expr::Get(_) = member.expr else {
+    if guesses.instance_of(right).is_none() {
         return None;
-    };
+    }
     let columns = guesses.log.classes().columns;
     let mut least: Option<u64> = None;
     for conjunct in conditions {
@@ -70,18 +63,18 @@ impl Padding {
         leaves: &[ClassId],
         outer: OuterJoin<'_>,
     ) -> Result<Padding, AllocError> {
-        let right_rows = guesses.cardinalities.rows(outer.right);
-        let mut matches = right_rows;
+        let rows = guesses.cardinalities.rows(outer.right);
+        let cost = reading_cost(guesses, outer.right, rows);
+        let mut matches = rows;
         let mut mentioning = LeafSet::EMPTY;
         for conjunct in outer.condition.as_slice() {
             let share = selectivity(guesses.statistics, guesses.log.instances(), conjunct);
-            matches = per_million(matches, share);
+            matches = part_of(matches, share);
             mentioning = mentioning.union(mentioned(alloc, guesses.log, leaves, conjunct)?);
         }
         Ok(Padding {
             leaves: mentioning,
-            right_rows,
-            right_cost: reading_cost(guesses, outer.right, right_rows),
+            right: Estimate { rows, cost },
             probe: probe_of(guesses, outer.condition.as_slice(), outer.right),
             matches: matches.max(1),
         })
@@ -92,14 +85,13 @@ impl Padding {
         rows.saturating_mul(self.matches)
     }
 
-    /// What it costs to join so many rows.
+    /// What it costs to join so many rows, beside what these cost. That a hash join serves is a guess.
     pub fn cost(self, rows: u64) -> u64 {
-        let loops = rows.saturating_mul(self.right_cost);
-        let hashed = self.right_cost.saturating_add(rows);
-        let hashed = hashed.saturating_add(self.right_rows.saturating_mul(2));
-        let paired = loops.min(hashed);
+        let inputs = both_sides(Estimate { rows, cost: 0 }, self.right);
+        let hashed = join_cost(JoinMethod::Hash, inputs);
+        let paired = hashed.min(join_cost(JoinMethod::NestedLoop, inputs));
         match self.probe {
-            Some(each) => paired.min(rows.saturating_mul(each)),
+            Some(each) => paired.min(with_each(0, rows, each)),
             None => paired,
         }
     }

@@ -5,7 +5,7 @@ use crate::regions::conditions_of;
 use crate::sets::LeafSet;
 use crate::unnested::{Asking, asking_of};
 use algebra::{ClassId, Condition, Conjuncts, LineId};
-use costs::selectivity;
+use costs::{selectivity, sum};
 use search::best;
 use std::alloc::{AllocError, Global};
 
@@ -50,12 +50,12 @@ fn filter_cost(
 ) -> Result<u64, AllocError> {
     let mut own = Vec::new(alloc);
     own.push(condition.copy(alloc)?)?;
-    let mut cost = 1u64;
+    let mut later = 0u64;
     for class in &Conjuncts::of(alloc, own.as_slice())?.classes(alloc)? {
         let plan = class_cost(alloc, guesses, *class)?;
-        cost = cost.saturating_add(plan.unwrap_or(0));
+        later = sum(later, plan.unwrap_or(0));
     }
-    Ok(cost)
+    Ok(sum(1, later))
 }
 
 /// What is guessed of a condition.

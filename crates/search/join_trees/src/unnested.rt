@@ -1,9 +1,12 @@
 //! Subqueries as semijoins and antijoins: what the cheapest of these costs beside a filter that runs the subquery for each row.
 
+use crate::estimates::both_sides;
 use crate::graph::{Guesses, mentioned};
 use crate::left_joins::probe_of;
 use crate::subqueries::class_cost;
 use algebra::{ClassColumns, ClassId, Condition, Conjuncts, Expr, Term};
+use costs::{Estimate, join_cost, with_each};
+use physical::JoinMethod;
 use query::ColumnId;
 use std::alloc::{AllocError, Global};
 use values::Comparison;
@@ -16,16 +19,24 @@ const MOST_CLASSES: usize = 8;
 pub struct Asking {
     /// One by one, of each.
     each: u64,
-    /// By a hash table that is built once, where one serves: what that costs. Each row costs 1 more.
-    hashed: Option<u64>,
+    /// By a hash join, where one serves, with this right side.
+    hashed: Option<Estimate>,
+}
+
+/// What it costs to join so many rows with the right side by hash, beside what they cost themselves.
+fn hashing_cost(rows: u64, right: Estimate) -> u64 {
+    join_cost(
+        JoinMethod::Hash,
+        both_sides(Estimate { rows, cost: 0 }, right),
+    )
 }
 
 impl Asking {
     /// What it costs to ask it of so many rows.
     pub fn cost(self, rows: u64) -> u64 {
-        let one_by_one = rows.saturating_mul(self.each);
+        let one_by_one = with_each(0, rows, self.each);
         match self.hashed {
-            Some(built) => one_by_one.min(built.saturating_add(rows)),
+            Some(right) => one_by_one.min(hashing_cost(rows, right)),
             None => one_by_one,
         }
     }
@@ -37,9 +48,13 @@ impl Asking {
         }
     }
 
-    fn or_hashed(self, built: u64) -> Asking {
+    fn or_hashed(self, right: Estimate) -> Asking {
+        let hashed = match self.hashed {
+            Some(other) if hashing_cost(0, other) < hashing_cost(0, right) => other,
+            Some(_) | None => right,
+        };
         Asking {
-            hashed: Some(self.hashed.map_or(built, |other| other.min(built))),
+            hashed: Some(hashed),
             ..self
         }
     }
@@ -168,7 +183,7 @@ fn or_joined(
     let columns = guesses.log.classes().columns;
     if conditions.iter().any(|condition| equates_across(columns, right.class, condition)) {
         let rows = guesses.cardinalities.rows(right.class);
-        asking = asking.or_hashed(cost.saturating_add(rows.saturating_mul(2)));
+        asking = asking.or_hashed(Estimate { rows, cost });
     }
     let is_null_aware = question.is_denied && question.member.is_some();
     if !is_null_aware {
