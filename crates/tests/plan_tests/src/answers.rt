@@ -31,6 +31,11 @@ SELECT id, nam FROM dept => refused B02 at 11
 SELECT nam FROM dept WHERE bos = 1 => refused B02 at 27
 SELECT id FROM dept WHERE name <> 1 => refused B05 at 31";
 
+/// Subqueries two deep: where the inner one has a Null, and where it has none.
+const NESTED: &str =
+    r"SELECT d.id FROM dept d WHERE EXISTS (SELECT e.id FROM emp e WHERE e.dept = d.id AND e.badge NOT IN (SELECT x.badge FROM emp x WHERE x.pay = 400)) => id
+SELECT d.id FROM dept d WHERE EXISTS (SELECT e.id FROM emp e WHERE e.dept = d.id AND e.badge NOT IN (SELECT x.badge FROM emp x WHERE x.pay > 500)) => id;1;3";
+
 /// Reports what a command answers over the files of `examples/hr`. The text is spelt.
 #[derive(Drop)]
 struct Answers<'a> {
@@ -54,7 +59,7 @@ impl Reporting for Answers<'_> {
 fn answer_differences(alloc: Global, way: Way<'_>) -> Result<String, AllocError> {
     let answers = Answers { way };
     let mut all = differences(alloc, &QUERIES, &answers)?;
-    all.push_str(differences(alloc, &[SPELT, REFUSED], &answers)?.as_str())?;
+    all.push_str(differences(alloc, &[SPELT, REFUSED, NESTED], &answers)?.as_str())?;
     Ok(all)
 }
 
