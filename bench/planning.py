@@ -2,7 +2,7 @@
 """Times planning: one table, and chains, stars and cliques of many, beside PostgreSQL in the same run.
 
 Of sqlplan the time on the clock of the whole process `sqlplan plan`, which reads the schema, the text and the statistics and writes the
-certificate, explored to 20,000 lines, less that of a process that says its usage alone; and of `sqlplan check` of that certificate, in the same way. Of PostgreSQL what EXPLAIN
+certificate, explored to 20,000 lines, or with --default as far as `query` does, less that of a process that says its usage alone; and of `sqlplan check` of that certificate, in the same way. Of PostgreSQL what EXPLAIN
 tells of its planning, over empty tables whose statistics are set to the same numbers of rows, with join_collapse_limit over the number of
 tables and without its genetic search. Of each the least of RUNS, at the first draw of quality.py for that shape, form and size. Where PostgreSQL takes longer than
 LIMIT, it is left out. Wants the program built; PostgreSQL is left out where it isn't there.
@@ -10,7 +10,7 @@ LIMIT, it is left out. Wants the program built; PostgreSQL is left out where it 
 With --instructions, instead: how many instructions the planner's `plan` and the checker's `check` execute, as callgrind counts them, and the reader of
 the certificate's text; and how many these are of those of `plan`. No other work on the machine changes these.
 
-usage: planning.py [--program PATH] [--runs N | --instructions]
+usage: planning.py [--program PATH] [--default] [--runs N | --instructions]
 """
 import argparse
 import contextlib
@@ -26,7 +26,7 @@ from quality import draw, schema_of, statistics_of
 ROOT = pathlib.Path(__file__).resolve().parent.parent
 LIMIT = 60
 LINES = ["--limit", "20000"]  # without, exploring ends where it pays no more
-CASES = [("chain", "comma", 1, 1), ("chain", "comma", 8, 5), ("star", "comma", 8, 5), ("clique", "comma", 8, 25), ("chain", "on", 8, 5), ("star", "on", 8, 5)]
+CASES = [("chain", "comma", 1, 1), ("chain", "comma", 3, 2), ("chain", "comma", 6, 10), ("chain", "comma", 8, 5), ("star", "comma", 8, 5), ("clique", "comma", 8, 25), ("chain", "on", 8, 5), ("star", "on", 8, 5)]
 CASES += [("clique", "on", 8, 25), ("clique", "comma", 11, 200), ("clique", "comma", 16, 200), ("chain", "comma", 24, 200), ("star", "comma", 24, 200)]
 
 
@@ -61,15 +61,15 @@ def written(folder, drawn):
     return files
 
 
-def tell_instructions(program):
+def tell_instructions(program, limit):
     print("| Query | lines | plan | check | reading | check of plan | with reading |\n|---|---|---|---|---|---|---|")
     with tempfile.TemporaryDirectory() as name:
         folder = pathlib.Path(name)
         for shape, form, size, _ in CASES:
             files = written(folder, draw(random.Random(40), shape, form, size))
-            text = subprocess.run([program, "plan", *files, *LINES], capture_output=True, text=True, check=True).stdout
+            text = subprocess.run([program, "plan", *files, *limit], capture_output=True, text=True, check=True).stdout
             (folder / "plan.cert").write_text(text)
-            (plan,) = instructions(folder, [program, "plan", *files, *LINES], ["planner::planned::plan"])
+            (plan,) = instructions(folder, [program, "plan", *files, *limit], ["planner::planned::plan"])
             check, read = instructions(folder, [program, "check", *files[:2], folder / "plan.cert"], ["checker::checked::check", "certificate_read::reading::read"])
             lines = text.split("\n")[1].split()[1]
             shares = f"{check / plan:.2f} | {(check + read) / plan:.2f}"
@@ -104,9 +104,11 @@ def main():
     parser.add_argument("--runs", type=int, default=9)
     parser.add_argument("--program", default=ROOT / "crates/program/sqlplan/out/sqlplan")
     parser.add_argument("--instructions", action="store_true")
+    parser.add_argument("--default", action="store_true")
     wanted = parser.parse_args()
+    limit = [] if wanted.default else LINES
     if wanted.instructions:
-        tell_instructions(wanted.program)
+        tell_instructions(wanted.program, limit)
         return
     print("| Query | plan | lines | target | check | PostgreSQL |\n|---|---|---|---|---|---|")
     with contextlib.ExitStack() as held:
@@ -117,7 +119,7 @@ def main():
         for shape, form, size, target in CASES:
             drawn = draw(random.Random(40), shape, form, size)
             files = written(folder, drawn)
-            took, certificate = least_clock(wanted.runs, [wanted.program, "plan", *files, *LINES])
+            took, certificate = least_clock(wanted.runs, [wanted.program, "plan", *files, *limit])
             (folder / "plan.cert").write_bytes(certificate)
             checked, _ = least_clock(wanted.runs, [wanted.program, "check", *files[:2], folder / "plan.cert"])
             its = postgres_planning(asks, drawn, 3)
