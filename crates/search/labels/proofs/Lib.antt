@@ -1,3 +1,4 @@
 pub mod Complete
 pub mod Least
 pub mod Offering
+pub mod Shaped
