@@ -32,7 +32,7 @@ use Rattle.labels.specs.Labels.{IsBound, Labels, LabelsShowLeast, cost_of, estim
 
 -- ---- goals
 
-same_order-equal : (a b : List OrderKey) → same_order a b ≡ true → a ≡ b
+pub same_order-equal : (a b : List OrderKey) → same_order a b ≡ true → a ≡ b
 unfolding same_order
 same_order-equal = same_by-equal (coded_list order_key.the_row.coded)
 

@@ -1,4 +1,11 @@
+pub mod Bounding
+pub mod Bucketed
+pub mod Checked
 pub mod Complete
+pub mod Indexed
+pub mod Keeping
 pub mod Least
+pub mod NodeLists
 pub mod Offering
+pub mod PlanOffers
 pub mod Shaped

@@ -33,6 +33,10 @@ is_access instances E a = gets_instance (member E a.line) a.instance && numbers_
 abbrev pub AreAccesses : List TableInstance → Log → List IndexAccess → Type 0
 AreAccesses instances E list = (p : IndexAccess → Bool) → list_all p list ≡ true → (a : IndexAccess) → is_access instances E a ≡ true → p a ≡ true
 
+-- so it is with the accesses of the lines below a number
+abbrev pub HasAccessesBelow : List TableInstance → Log → ℕ → List IndexAccess → Type 0
+HasAccessesBelow instances E count list = (p : IndexAccess → Bool) → list_all p list ≡ true → (a : IndexAccess) → a.line < count → is_access instances E a ≡ true → p a ≡ true
+
 -- what holds of all of these accesses holds of those that were known before, and of so many indexes of the instance that a line gets
 pub record HasAccesses (line instance count : ℕ) (old new : List IndexAccess) : Type 0 where
   pub before : (p : IndexAccess → Bool) → list_all p new ≡ true → list_all p old ≡ true

@@ -1,6 +1,6 @@
-//! Where a node is offered, and the goals of its inputs.
+//! Goals, and the orders that an operator's inputs have at one.
 
-ghost use Rattle.std.specs.Prelude.{◌≡◌, ◌∷◌, ◌==◌, ◌&&◌, [], map, not, false, slice_index_or, IfOk, Some};
+ghost use Rattle.std.specs.Prelude.{◌≡◌, ◌∷◌, ◌==◌, [], map, false, IfOk, Some};
 ghost use Rattle.std.specs.List.{list_any};
 ghost use Rattle.algebra.specs.Columns.{columns_at};
 ghost use Rattle.algebra.specs.Expressions.{children};
@@ -8,19 +8,17 @@ ghost use Rattle.derivation.specs.Logs.{least};
 ghost use Rattle.physical.specs.Orders as orders;
 ghost use Rattle.physical.specs.Outputs.{first_columns};
 ghost use Rattle.physical.specs.RequiredOrders as required;
-ghost use Rattle.certificate.specs.Replay as replay;
 ghost use Rattle.labels.specs.Offers as spec;
+ghost use Rattle.labels.specs.Plans.{columns_in};
 
 use crate::goal::Goal;
-use algebra::{ClassId, Columns, Expr, LineId};
-use certificate::index_fit::index_fits;
+use algebra::{ClassId, Columns, Expr};
 use certificate::join_fit::class_columns;
-use certificate::needed::needed_classes;
 use certificate::order_fit::{begins_with, rises_by};
-use certificate::plan_fit::{are_columns, implements};
+use certificate::plan_fit::are_columns;
 use logs::Log;
 use physical::indexes::index_order;
-use physical::{GroupMethod, JoinMethod, Node, Operator, OrderKey};
+use physical::{GroupMethod, JoinMethod, Operator, OrderKey};
 use query::{ColumnId, TableInstance};
 use std::alloc::{AllocError, Global};
 use values::Items;
@@ -30,9 +28,22 @@ pub(crate) type InputOrders = Items<Items<OrderKey>>;
 
 /// The lines that nodes implement, with the columns of their classes.
 #[derive(Clone, Copy)]
-pub(crate) struct Derived<'a, 'q> {
+pub struct Derived<'a, 'q> {
     pub log: &'a Log<'q>,
     pub columns: &'a [Columns],
+}
+
+impl<'a, 'q> Derived<'a, 'q> {
+    /// All lines of a log.
+    pub fn of(log: &'a Log<'q>) -> Derived<'a, 'q>
+        ensures log { result.log.now ≡ log.now }
+        ensures columns { columns_at result.columns.now ≡ columns_in log.now.instances log.now.log }
+    {
+        Derived {
+            log,
+            columns: log.classes().columns.columns,
+        }
+    }
 }
 
 // ---- goals
@@ -45,7 +56,7 @@ fn root(log: &Log<'_>, class: ClassId) -> ClassId
 }
 
 /// The goal of a class's rows in an order.
-pub(crate) fn goal_of(
+pub fn goal_of(
     alloc: Global,
     log: &Log<'_>,
     class: ClassId,
@@ -59,13 +70,14 @@ pub(crate) fn goal_of(
 }
 
 #[tactic(auto, using(crate::proofs::Offering::other_length))]
-fn same_order(keys: &[OrderKey], others: &[OrderKey]) -> bool
+pub(crate) fn same_order(keys: &[OrderKey], others: &[OrderKey]) -> bool
     ensures { result ≡ required.same_order keys.now others.now }
 {
     keys.len() == others.len() && begins_with(keys, others)
 }
 
-pub(crate) fn same_goal(goal: &Goal, other: &Goal) -> bool
+/// Whether two goals are one: of one class, in one order.
+pub fn same_goal(goal: &Goal, other: &Goal) -> bool
     ensures { result ≡ spec.same_goal goal.now other.now }
 {
     goal.class == other.class && same_order(goal.order.as_slice(), other.order.as_slice())
@@ -92,7 +104,7 @@ fn are_different(order: &[OrderKey]) -> bool
 }
 
 /// Whether a goal is of a class that stands for its sames, in an order by different columns of it.
-pub(crate) fn is_goal(derived: Derived<'_, '_>, goal: &Goal) -> bool
+pub fn is_goal(derived: Derived<'_, '_>, goal: &Goal) -> bool
     ensures { result ≡ spec.is_goal derived.entry.log.now.log (columns_at derived.entry.columns.now) goal.now }
 {
     let Goal { class, order } = goal;
@@ -213,7 +225,11 @@ fn are_among(columns: &Columns, keys: &[OrderKey]) -> bool
 }
 
 /// The columns of the first class that an expression takes rows of; none where it takes none.
-fn first_columns<'c>(derived: Derived<'c, '_>, expr: &Expr, none: &'c Columns) -> &'c Columns
+pub(crate) fn first_columns<'c>(
+    derived: Derived<'c, '_>,
+    expr: &Expr,
+    none: &'c Columns,
+) -> &'c Columns
     requires { none.now ≡ [] }
     ensures { result.now ≡ first_columns (map (columns_at derived.entry.columns.now) (children expr.now)) }
 {
@@ -263,7 +279,7 @@ fn distinct_orders(
 }
 
 /// The orders of an operator's inputs, the first of which have these columns.
-fn input_orders(
+pub(crate) fn input_orders(
     alloc: Global,
     instances: &[TableInstance],
     operator: &Operator,
@@ -284,116 +300,5 @@ fn input_orders(
         Operator::IndexJoin { .. } => { join_orders(alloc, JoinMethod::NestedLoop, columns, order) }
         Operator::GroupRows { method, keys, .. } => group_orders(alloc, *method, keys, order),
         Operator::DistinctRows { method } => distinct_orders(alloc, *method, columns, order),
-    }
-}
-
-// ---- nodes
-
-/// The order at a place; none behind the last.
-fn order_at(orders: &[Items<OrderKey>], place: usize) -> &[OrderKey]
-    ensures { result.now ≡ slice_index_or orders.now place [] }
-{
-    match orders.get(place) {
-        Some(order) => order.as_slice(),
-        None => &[],
-    }
-}
-
-/// Goals of the classes in these orders, and of those behind them in any.
-fn goals_of(
-    alloc: Global,
-    log: &Log<'_>,
-    classes: &[ClassId],
-    orders: &[Items<OrderKey>],
-) -> Result<Items<Goal>, AllocError>
-    ensures { IfOk result (λ goals. goals ≡ spec.goals_of log.now.log classes.now orders.now) }
-{
-    let mut goals = Items::new(alloc);
-    for (place, class) in classes.iter().enumerate() {
-        goals.push(goal_of(alloc, log, *class, order_at(orders, place))?)?;
-    }
-    Ok(goals)
-}
-
-/// Whether an operator of a line with the expression computes it.
-fn fits(
-    alloc: Global,
-    derived: Derived<'_, '_>,
-    line: LineId,
-    operator: &Operator,
-    expr: &Expr,
-) -> Result<bool, AllocError>
-    ensures { IfOk result (λ r. r ≡ (replay.implements (columns_at derived.entry.columns.now) operator.now expr.now && replay.index_fits derived.entry.log.now.instances derived.entry.log.now.log line operator.now expr.now)) }
-{
-    if !implements(alloc, derived.columns, operator, expr)? {
-        return Ok(false);
-    }
-    index_fits(alloc, derived.log, line, operator, expr)
-}
-
-/// The goals of the inputs of an operator of a line with the expression, where it is offered in the order.
-fn operator_goals(
-    alloc: Global,
-    derived: Derived<'_, '_>,
-    order: &[OrderKey],
-    line: LineId,
-    operator: &Operator,
-    expr: &Expr,
-) -> Result<Option<Items<Goal>>, AllocError>
-    ensures { IfOk result (λ goals. goals ≡ spec.operator_goals derived.entry.log.now.instances derived.entry.log.now.log (columns_at derived.entry.columns.now) order.now line operator.now expr.now) }
-{
-    if !fits(alloc, derived, line, operator, expr)? {
-        return Ok(None);
-    }
-    let none = Columns::from_vec(Vec::new(alloc));
-    let columns = first_columns(derived, expr, &none);
-    let instances = derived.log.instances();
-    let Some(orders) = input_orders(alloc, instances, operator, columns, order)? else {
-        return Ok(None);
-    };
-    let classes = needed_classes(alloc, operator, expr)?;
-    let goals = goals_of(alloc, derived.log, classes.as_slice(), orders.as_slice())?;
-    Ok(Some(goals))
-}
-
-/// The goals of a sort's only input, where it is offered at the goal.
-fn sort_goals(
-    alloc: Global,
-    log: &Log<'_>,
-    goal: &Goal,
-    keys: &[OrderKey],
-) -> Result<Option<Items<Goal>>, AllocError>
-    ensures { IfOk result (λ goals. goals ≡ spec.where_so (not (spec.is_any goal.now.order) && required.same_order keys.now goal.now.order) (spec.goal_of log.now.log goal.now.class [] ∷ [])) }
-{
-    let order = goal.order.as_slice();
-    if order.is_empty() || !same_order(keys, order) {
-        return Ok(None);
-    }
-    let mut goals = Items::new(alloc);
-    goals.push(goal_of(alloc, log, goal.class, &[])?)?;
-    Ok(Some(goals))
-}
-
-/// The goals of a node's inputs, where it is offered at the goal.
-pub(crate) fn input_goals(
-    alloc: Global,
-    derived: Derived<'_, '_>,
-    goal: &Goal,
-    node: &Node,
-) -> Result<Option<Items<Goal>>, AllocError>
-    ensures { IfOk result (λ goals. goals ≡ spec.input_goals derived.entry.log.now.instances derived.entry.log.now.log (columns_at derived.entry.columns.now) goal.now node.now) }
-{
-    match node {
-        Node::Implements { line, operator } => {
-            let Some(member) = derived.log.member(*line) else {
-                return Ok(None);
-            };
-            if !derived.log.are_same(member.class, goal.class) {
-                return Ok(None);
-            }
-            let order = goal.order.as_slice();
-            operator_goals(alloc, derived, order, *line, operator, member.expr)
-        }
-        Node::Sort { keys } => sort_goals(alloc, derived.log, goal, keys.as_slice()),
     }
 }

@@ -1,0 +1,9 @@
+use Rattle.std.proofs.Common.{◌||◌, not, take}
+use Rattle.std.specs.List.{list_all}
+use Rattle.physical.specs.declared.plan.Operator.TheVariants.{IndexScan}
+use Rattle.certificate.specs.Replay.{accesses}
+use Rattle.labels.specs.Nodes.{Adds, holds_if_fit}
+use Rattle.labels.proofs.nodes.push_index_scans.Given as goal
+
+abbrev pub invariant-loop-access : goal.invariant-loop-access
+invariant-loop-access l = Adds l.fn.nodes.items l.nodes.items (λ p. list_all (λ a. not (accesses l.of.derived.log.now.log a l.class) || holds_if_fit l.of p (IndexScan a l.own)) (take l.access-index l.of.accesses.now))
