@@ -1,5 +1,6 @@
 pub mod Answers
 pub mod ClassOutputs
+pub mod FirstKeys
 pub mod Fits
 pub mod FittedPlans
 pub mod Founded

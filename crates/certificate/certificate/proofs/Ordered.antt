@@ -23,8 +23,9 @@ use Rattle.physical.specs.Sorts.{key_order, keys_order}
 use Rattle.physical.specs.Orders.{IsOrdered, plan_order}
 use Rattle.physical.specs.RequiredOrders.{same_order}
 use Rattle.physical.proofs.RequiredOrders.{front-not_gt}
-use Rattle.certificate.specs.QueryOrders.{ordered_column, ordered_columns, query_order}
+use Rattle.certificate.specs.QueryOrders.{first_keys, ordered_column, ordered_columns, query_order}
 use Rattle.certificate.specs.Replay.{is_delivered}
+use Rattle.certificate.proofs.FirstKeys.{first-keys-order}
 
 -- ---- an order's beginning
 
@@ -32,6 +33,12 @@ front-ordered : (n : ℕ) (keys : List OrderKey) (rows : List Env) → IsOrdered
 front-ordered n keys [] h = tt
 front-ordered n keys (a ∷ []) h = tt
 front-ordered n keys (a ∷ b ∷ rows) h = (front-not_gt n keys a b h.0, front-ordered n keys (b ∷ rows) h.1)
+
+-- rows in the order by the first keys of the columns are in that by all
+as-all : (keys : List OrderKey) (rows : List Env) → IsOrdered (first_keys keys) rows → IsOrdered keys rows
+as-all keys [] h = tt
+as-all keys (a ∷ []) h = tt
+as-all keys (a ∷ b ∷ rows) h = (ap is_gt (sym (first-keys-order keys a b)) ∙ h.0, as-all keys (b ∷ rows) h.1)
 
 -- ---- ORDER BY by column numbers
 
@@ -82,4 +89,5 @@ pub delivered-allowed : (q : Query) (p : Plan) (rows : List Env) → is_delivere
 unfolding same_order
 delivered-allowed q p rows is h =
     let front : take (length (query_order q)) (plan_order q.tables p) ≡ query_order q = same_by-equal (coded_list order_key.the_row.coded) (take (length (query_order q)) (plan_order q.tables p)) (query_order q) is in
-    allowed (query_numbers q) q.order rows (subst (λ keys. IsOrdered keys rows) front (front-ordered (length (query_order q)) (plan_order q.tables p) rows h))
+    let first : IsOrdered (query_order q) rows = subst (λ keys. IsOrdered keys rows) front (front-ordered (length (query_order q)) (plan_order q.tables p) rows h) in
+    allowed (query_numbers q) q.order rows (as-all (ordered_columns (query_numbers q) q.order) rows first)

@@ -1,8 +1,8 @@
 -- The plan with the sort on top is of the same class, and delivers the ORDER BY.
-use Rattle.std.proofs.Common.{◌≡◌, refl, sym, ◌∙◌, ℕ, ◌+◌, true, List, [], ◌∷◌, length, take, Option, Some, None, Ok}
+use Rattle.std.proofs.Common.{◌≡◌, refl, sym, ◌∙◌, ℕ, ◌+◌, Bool, true, false, not, ◌==◌, if◌then◌else◌, List, [], ◌∷◌, filter, length, take, Option, Some, None, Ok}
 use Rattle.std.specs.List.{slice_get, list_all}
 use Rattle.std.specs.Coded.{coded_list}
-use Rattle.std.proofs.lemmas.Bool.{and_from}
+use Rattle.std.proofs.lemmas.Bool.{and_from, and_parts}
 use Rattle.std.proofs.Math.Seq.{take-length}
 use Rattle.values.proofs.Lists.{passes_at}
 use Rattle.query.specs.declared.query.SortKey as order_by
@@ -17,7 +17,7 @@ use Rattle.physical.specs.contracts.plan.OrderKey as order_key
 use Rattle.physical.specs.declared.plan.Node.TheVariants.{Sort}
 use Rattle.physical.specs.declared.plan.Plan.{Plan, out-roll-Plan, fold-roll-Plan}
 use Rattle.physical.specs.Orders.{order_layer, plan_order}
-use Rattle.certificate.specs.QueryOrders.{ordered_column, ordered_columns, query_order}
+use Rattle.certificate.specs.QueryOrders.{first_keys, ordered_column, ordered_columns, query_order}
 use Rattle.certificate.specs.Replay.{plan_fits, is_delivered}
 use Rattle.physical.specs.RequiredOrders.{same_order}
 use Rattle.certificate.proofs.Fits.{plan_fits_out}
@@ -65,6 +65,22 @@ top_fits instances lines cols (k ∷ keys) plan g n is columns =
     let input = is.fits instances cols (n + 1) in
     (input.0, plan_fits_out instances (log_of lines) cols (top (k ∷ keys) plan) true g n ∙ rw (out-roll-Plan (record { node = Sort (k ∷ keys); inputs = plan ∷ [] }), columns, input.1) refl)
 
+others-subset : (columns : List ℕ) (p : OrderKey → Bool) (keys : List OrderKey) → AreColumns columns keys → AreColumns columns (filter p keys)
+others-subset columns p [] are = refl
+others-subset columns p (k ∷ keys) are =
+    let parts = and_parts (has columns k.column) (list_all (λ k. has columns k.column) keys) are in
+    by parts.0 (others-subset columns p keys parts.1) (p k)
+  where
+    by : has columns k.column ≡ true → AreColumns columns (filter p keys) → (t : Bool) → AreColumns columns (if t then k ∷ filter p keys else filter p keys)
+    by own rest true = and_from _ _ own rest
+    by own rest false = rest
+
+first-subset : (columns : List ℕ) (keys : List OrderKey) → AreColumns columns keys → AreColumns columns (first_keys keys)
+first-subset columns [] are = refl
+first-subset columns (k ∷ keys) are =
+    let parts = and_parts (has columns k.column) (list_all (λ k. has columns k.column) keys) are in
+    and_from _ _ parts.0 (others-subset columns (λ j. not (k.column == j.column)) (first_keys keys) (first-subset columns keys parts.1))
+
 -- the ORDER BY is by columns of the class that shows the items
 pub order_subset : (q : Query) (columns : List ℕ) → is_subset (query_numbers q) columns ≡ true → AreColumns columns (query_order q)
-order_subset q columns shown = keys-subset (query_numbers q) columns q.order shown
+order_subset q columns shown = first-subset columns (ordered_columns (query_numbers q) q.order) (keys-subset (query_numbers q) columns q.order shown)
