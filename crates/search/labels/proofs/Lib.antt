@@ -1,7 +1,10 @@
 pub mod Bounding
 pub mod Bucketed
 pub mod Checked
+pub mod ClosedGoals
 pub mod Complete
+pub mod FittingPlans
+pub mod GoalsBelow
 pub mod Indexed
 pub mod Keeping
 pub mod Least

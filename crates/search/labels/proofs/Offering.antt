@@ -1,15 +1,20 @@
 -- Goals of inputs, one by one, and orders that are the same.
-use Rattle.std.proofs.Common.{◌≡◌, refl, ap, sym, ◌∙◌, subst, ℕ, zero, suc, ◌+◌, ◌<◌, true, false, ◌==◌, List, [], ◌∷◌, ◌++◌, length, drop, get_or, slice_index_or, arith}
+use Rattle.std.proofs.Common.{◌≡◌, refl, ap, sym, ◌∙◌, subst, ℕ, zero, suc, ◌+◌, ◌<◌, true, false, not, ◌==◌, List, [], ◌∷◌, ◌++◌, filter, length, drop, get_or, slice_index_or, arith}
 use Rattle.std.specs.Coded.{coded_list}
+use Rattle.std.specs.List.{list_any}
+use Rattle.std.specs.List.Sorted.{IsStrictlyIncreasing}
 use Rattle.std.proofs.lemmas.Bool.{eq-eqb}
 use Rattle.std.proofs.lemmas.List.{append_assoc}
+use Rattle.algebra.specs.Columns.{rising}
 use Rattle.algebra.proofs.Same.{tested}
+use Rattle.algebra.proofs.Sets.{rising-again}
 use Rattle.derivation.specs.Logs.{Log}
 use Rattle.physical.specs.declared.plan.OrderKey.{OrderKey}
 use Rattle.physical.specs.contracts.plan.OrderKey as order_key
+use Rattle.physical.specs.Indexes.{rising_keys}
 use Rattle.physical.specs.RequiredOrders.{same_order}
 use Rattle.labels.specs.declared.goal.Goal.{Goal}
-use Rattle.labels.specs.Offers.{goal_of, goals_of}
+use Rattle.labels.specs.Offers.{and_others, goal_of, goals_of}
 
 none-left : (i : ℕ) → drop {A = List OrderKey} i [] ≡ []
 none-left zero = refl
@@ -40,3 +45,9 @@ other_length a b m n is are other = tested (coded_list order_key.the_row.coded) 
   where
     different : m ≡ n → ⊥
     different e = let same : (m == n) ≡ true = eq-eqb m n e in cc
+
+-- a set of columns rises already
+pub others_of_set : (order : List OrderKey) (slice columns : List ℕ) (keys : List OrderKey) → slice ≡ columns → IsStrictlyIncreasing slice
+    → keys ≡ order ++ rising_keys (filter (λ c. not (list_any (λ k. k.column == c) order)) slice) → keys ≡ and_others order columns
+others_of_set order slice columns keys same rises is =
+    is ∙ ap (λ cs. order ++ rising_keys (filter (λ c. not (list_any (λ k. k.column == c) order)) cs)) (sym (rising-again slice rises) ∙ ap rising same)

@@ -1,7 +1,7 @@
 -- What is so of each line of a log that replays, whatever the tables hold: its class is founded, it names founded classes, is well formed and has the
 -- columns of its class; and classes that are the same have the same columns.
-use Rattle.std.proofs.Common.{◌≡◌, refl, ap, sym, ◌∙◌, subst, inl, inr, ◌⊎◌, ℕ, ◌<◌, Bool, true, false, ◌==◌, ◌&&◌, ◌||◌, nat_lt, if◌then◌else◌, List, [], ◌∷◌, length, Option, Some, None, arith}
-use Rattle.std.proofs.lemmas.Bool.{and_parts, eq-eqb, eqb-true}
+use Rattle.std.proofs.Common.{◌≡◌, refl, ap, sym, ◌∙◌, subst, inl, inr, ◌⊎◌, ℕ, Bool, true, false, ◌==◌, ◌||◌, nat_lt, if◌then◌else◌, List, [], ◌∷◌, length, Some, None, arith}
+use Rattle.std.proofs.lemmas.Bool.{eq-eqb, eqb-true}
 use Rattle.std.proofs.lemmas.List.{length-map}
 use Rattle.query.specs.declared.query.TableInstance.{TableInstance}
 use Rattle.query.specs.Rows.{Tables}
@@ -17,9 +17,9 @@ use Rattle.derivation.specs.declared.line.Step.{Step}
 use Rattle.derivation.specs.Logs.{Log, as_member, class_at, entries, entry, founds, is_founding, least, lesser, line_at, member, or_class, united}
 use Rattle.derivation.specs.Replay.{Replays}
 use Rattle.derivation.proofs.Agreement.{columns-agree, formed-agree}
-use Rattle.derivation.proofs.Lookups.{below, classes-wider, columns-stay, earlier, founded, here, this-or, within}
-use Rattle.derivation.proofs.Sameness.{AreBelow, least-high, least-low, same-below, united-relate}
-use Rattle.derivation.proofs.Standing.{StandsAdds, StandsAlike, StandsFounds, StandsGives, StandsUnites, adds-stands, alike-stands, founds-stands, gives-stands, unites-stands}
+use Rattle.derivation.proofs.Lookups.{below, classes-wider, columns-stay, earlier, founded, here, this-or}
+use Rattle.derivation.proofs.Sameness.{AreBelow, least-high, same-below, united-relate}
+use Rattle.derivation.proofs.Standing.{StandsAdds, StandsAlike, StandsFounds, adds-stands, alike-stands, founds-stands, unites-stands}
 use Rattle.labels.specs.Plans.{columns_in}
 
 -- ---- the least of some classes that are united

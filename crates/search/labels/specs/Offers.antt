@@ -5,6 +5,7 @@ use Rattle.std.specs.Prelude.{ℕ, Bool, true, false, not, ◌&&◌, ◌==◌, i
 use Rattle.std.specs.List.{list_any}
 use Rattle.query.specs.declared.query.TableInstance.{TableInstance}
 use Rattle.algebra.specs.declared.expr.Expr.{Expr}
+use Rattle.algebra.specs.Columns.{rising}
 use Rattle.algebra.specs.Expressions.{children}
 use Rattle.rules.specs.Matches as matches
 use Rattle.derivation.specs.Logs.{Log, founds, least, member}
@@ -20,7 +21,7 @@ use Rattle.physical.specs.declared.plan.Node.TheVariants.{Implements, Sort}
 use Rattle.physical.specs.Indexes.{index_order, rising_keys}
 use Rattle.physical.specs.Orders.{are_columns}
 use Rattle.physical.specs.Outputs.{first_columns}
-use Rattle.physical.specs.RequiredOrders.{begins_with, rises_by, same_order}
+use Rattle.physical.specs.RequiredOrders.{begins_with, begins_with_all, rises_by, same_order}
 use Rattle.certificate.specs.Replay.{implements, index_fits, is_member, needed_classes}
 use Rattle.labels.specs.declared.goal.Goal.{Goal}
 
@@ -50,7 +51,7 @@ is_any (k ∷ order) = false
 
 -- the order, and behind it, rising, those of the columns by which it has no key
 abbrev pub and_others : List OrderKey → List ℕ → List OrderKey
-and_others order columns = order ++ rising_keys (filter (λ c. not (list_any (λ k. k.column == c) order)) columns)
+and_others order columns = order ++ rising_keys (filter (λ c. not (list_any (λ k. k.column == c) order)) (rising columns))
 
 abbrev pub where_so : {X : Type 0} → Bool → X → Option X
 where_so b x = if b then Some x else None
@@ -69,14 +70,18 @@ side_orders (join.Merge a b) order = merge_orders a b order
 abbrev pub join_orders : JoinMethod → List ℕ → List OrderKey → Option (List (List OrderKey))
 join_orders method left order = if are_columns left order then side_orders method order else None
 
--- the orders of a group's input, and of a distinct's of rows with these columns
+-- the orders of a group's input, and of a distinct's of rows with these columns; where they are sorted, it begins with all of these, as they require
 abbrev pub group_orders : GroupMethod → List ℕ → List OrderKey → Option (List (List OrderKey))
 group_orders group.Hash keys order = where_so (is_any order) []
-group_orders group.Sorted keys order = where_so (are_columns keys order) (and_others order keys ∷ [])
+group_orders group.Sorted keys order =
+    let sorted = and_others order keys in
+    where_so (are_columns keys order && begins_with_all keys sorted) (sorted ∷ [])
 
 abbrev pub distinct_orders : GroupMethod → List ℕ → List OrderKey → Option (List (List OrderKey))
 distinct_orders group.Hash columns order = Some (order ∷ [])
-distinct_orders group.Sorted columns order = Some (and_others order columns ∷ [])
+distinct_orders group.Sorted columns order =
+    let sorted = and_others order columns in
+    where_so (begins_with_all columns sorted) (sorted ∷ [])
 
 -- the orders that are wanted of the inputs, so that an operator's rows are in the order, the first of the classes that it computes an expression over having
 -- these columns; behind the last of the orders none is wanted. None where the operator isn't offered in the order

@@ -1,10 +1,11 @@
 //! Goals, and the orders that an operator's inputs have at one.
 
-ghost use Rattle.std.specs.Prelude.{◌≡◌, ◌∷◌, ◌==◌, [], map, false, IfOk, Some};
+ghost use Rattle.std.specs.Prelude.{◌≡◌, ◌∷◌, ◌++◌, ◌==◌, ◌&&◌, [], filter, map, not, false, IfOk, Some};
 ghost use Rattle.std.specs.List.{list_any};
-ghost use Rattle.algebra.specs.Columns.{columns_at};
+ghost use Rattle.algebra.specs.Columns.{columns_at, rising};
 ghost use Rattle.algebra.specs.Expressions.{children};
 ghost use Rattle.derivation.specs.Logs.{least};
+ghost use Rattle.physical.specs.Indexes.{rising_keys};
 ghost use Rattle.physical.specs.Orders as orders;
 ghost use Rattle.physical.specs.Outputs.{first_columns};
 ghost use Rattle.physical.specs.RequiredOrders as required;
@@ -118,12 +119,12 @@ pub fn is_goal(derived: Derived<'_, '_>, goal: &Goal) -> bool
 // ---- orders
 
 /// The order, and behind it those of the columns by which it has no key.
-fn and_others(
+fn and_more(
     alloc: Global,
     order: &[OrderKey],
     columns: &[ColumnId],
 ) -> Result<Items<OrderKey>, AllocError>
-    ensures { IfOk result (λ keys. keys ≡ spec.and_others order.now columns.now) }
+    ensures { IfOk result (λ keys. keys ≡ order.now ++ rising_keys (filter (λ c. not (list_any (λ k. k.column == c) order.now)) columns.now)) }
 {
     let mut keys = Items::from_slice(alloc, order)?;
     for column in columns {
@@ -132,6 +133,63 @@ fn and_others(
         }
     }
     Ok(keys)
+}
+
+#[tactic(auto, using(crate::proofs::Offering::others_of_set))]
+fn and_others(
+    alloc: Global,
+    order: &[OrderKey],
+    columns: &Columns,
+) -> Result<Items<OrderKey>, AllocError>
+    ensures { IfOk result (λ keys. keys ≡ spec.and_others order.now columns.now) }
+{
+    let keys = and_more(alloc, order, columns.as_slice())?;
+    Ok(keys)
+}
+
+/// The set of the columns of keys.
+fn key_columns(alloc: Global, keys: &[OrderKey]) -> Result<Columns, AllocError>
+    ensures { IfOk result (λ columns. columns ≡ rising (map (λ k. k.column) keys.now)) }
+{
+    let mut columns = Vec::new(alloc);
+    for key in keys {
+        columns.push(key.column)?;
+    }
+    Ok(Columns::from_vec(columns))
+}
+
+/// Whether an order begins with the columns, in whatever order of their own.
+fn begins_with_all(alloc: Global, order: &[OrderKey], columns: &Columns) -> Result<bool, AllocError>
+    ensures { IfOk result (λ begins. begins ≡ required.begins_with_all columns.now order.now) }
+{
+    let count = columns.as_slice().len();
+    let front = if count < order.len() {
+        &order[..count]
+    } else {
+        order
+    };
+    let first = key_columns(alloc, front)?;
+    Ok(first.same(columns))
+}
+
+/// The order, and the others of these columns behind it, of the first input alone, where it is offered and begins with all of them.
+fn sorted_by_all(
+    alloc: Global,
+    is_offered: bool,
+    columns: &Columns,
+    order: &[OrderKey],
+) -> Result<Option<InputOrders>, AllocError>
+    ensures { IfOk result (λ orders. orders ≡ spec.where_so (is_offered && required.begins_with_all columns.now (spec.and_others order.now columns.now)) (spec.and_others order.now columns.now ∷ [])) }
+{
+    if !is_offered {
+        return Ok(None);
+    }
+    let sorted = and_others(alloc, order, columns)?;
+    if begins_with_all(alloc, sorted.as_slice(), columns)? {
+        first(alloc, sorted)
+    } else {
+        Ok(None)
+    }
 }
 
 fn rising(column: ColumnId) -> OrderKey
@@ -256,11 +314,7 @@ fn group_orders(
 {
     match method {
         GroupMethod::Hash => Ok(none_where(alloc, order.is_empty())),
-        GroupMethod::Sorted => if are_among(keys, order) {
-            first(alloc, and_others(alloc, order, keys.as_slice())?)
-        } else {
-            Ok(None)
-        },
+        GroupMethod::Sorted => sorted_by_all(alloc, are_among(keys, order), keys, order),
     }
 }
 
@@ -274,7 +328,7 @@ fn distinct_orders(
 {
     match method {
         GroupMethod::Hash => first(alloc, Items::from_slice(alloc, order)?),
-        GroupMethod::Sorted => first(alloc, and_others(alloc, order, columns.as_slice())?),
+        GroupMethod::Sorted => sorted_by_all(alloc, true, columns, order),
     }
 }
 
