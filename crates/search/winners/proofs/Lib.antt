@@ -1,0 +1,9 @@
+pub mod Building
+pub mod Collecting
+pub mod EachGoal
+pub mod Finding
+pub mod Labelling
+pub mod Lists
+pub mod Meeting
+pub mod Numbering
+pub mod Standing

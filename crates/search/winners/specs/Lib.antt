@@ -1,0 +1,5 @@
+pub mod Found
+pub mod Numbers
+pub mod Offered
+pub mod Spans
+pub mod Collected
