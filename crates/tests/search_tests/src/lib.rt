@@ -4,6 +4,8 @@
 #[cfg(test)]
 mod canonical;
 #[cfg(test)]
+mod label_table;
+#[cfg(test)]
 mod memos;
 #[cfg(test)]
 mod trimmed_logs;
