@@ -1,4 +1,5 @@
 pub mod DerivationLines
+pub mod Fronts
 pub mod KeyTexts
 pub mod LineLaws
 pub mod LineTexts

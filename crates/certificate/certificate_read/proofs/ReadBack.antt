@@ -29,7 +29,7 @@ use Rattle.certificate_read.proofs.LineTexts.{IsPart, IsTaken, aggregations_part
 use Rattle.certificate_read.proofs.NodeTexts.{head_part, kind_part, named_part}
 
 -- a text whose words are those that another is cut into is that text
-text_of : (text t : Text) (ws : List Text) → words_in text ≡ ws → IsPart t ws → text ≡ t
+pub text_of : (text t : Text) (ws : List Text) → words_in text ≡ ws → IsPart t ws → text ≡ t
 text_of text t ws e part = sym (join_with_byte-slice_split 32 text) ∙ ap (join_with_byte 32) (e ∙ sym (part_cut t ws part)) ∙ join_with_byte-slice_split 32 t
 
 -- ---- lines of a derivation

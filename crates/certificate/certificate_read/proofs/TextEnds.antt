@@ -32,6 +32,10 @@ module _ (text now : TextLines) (p : Plan) (passed : PassesLines (plan_lines (no
 
 -- ---- the whole text
 
+pub lines-text : (ls : List Line) → flat_map ended (map line_words ls) ≡ flat_map line_text ls
+lines-text [] = refl
+lines-text (l ∷ ls) = ap (λ t. line_text l ++ t) (lines-text ls)
+
 module _ (bytes : Text) (text : TextLines) (left : text.left.now ≡ bytes) (number : text.number ≡ 0) where
   first_fault : (r : TextRefusal) → IsNextFault (IsNot version OtherVersion) text.left.now text.number r ⊎ Behind (version ∷ []) IsFaultBehindVersion text.left.now text.number r → IsFirstFault bytes r
   first_fault r h = subst (λ t. IsNextFault (IsNot version OtherVersion) t 0 r ⊎ Behind (version ∷ []) IsFaultBehindVersion t 0 r) left (subst (λ n. IsNextFault (IsNot version OtherVersion) text.left.now n r ⊎ Behind (version ∷ []) IsFaultBehindVersion text.left.now n r) number h)
@@ -52,10 +56,6 @@ module _ (bytes : Text) (text : TextLines) (left : text.left.now ≡ bytes) (num
       pub rest_refused : (fault : Fault TextRefusal) → RefusesFrom IsFaultToEnd second fault → RefusesText bytes fault
       rest_refused Memory h = tt
       rest_refused (Refused r) h = behind_version r (inr (ls, lines.1, behind_lines IsFaultToEnd (derivation_lines (length ls) ls) first second r lines.0 h))
-
-      lines-text : (ls : List Line) → flat_map ended (map line_words ls) ≡ flat_map line_text ls
-      lines-text [] = refl
-      lines-text (l ∷ ls) = ap (λ t. line_text l ++ t) (lines-text ls)
 
       pub certificate_read : (p : Plan) → (second.left.now ≡ flat_map ended (plan_lines (node_count p) (nodes_of p)) ++ ended (codes "end")) × ArePlan (node_count p) (nodes_of p) × IsReadablePlan most_deep p → written (record { lines = ls; plan = p }) ≡ Ok bytes
       certificate_read p plan =

@@ -1,3 +1,4 @@
+pub mod Fronts
 pub mod LineReading
 pub mod NodeReading
 pub mod TextCalls

@@ -3,12 +3,14 @@
 
 mod derivation_lines;
 mod forms;
-mod line_fault;
+mod front;
+pub mod line_fault;
 mod node_forms;
 mod nodes;
-mod reading;
-mod sort_keys;
-mod text_lines;
-mod words;
+pub mod reading;
+pub mod sort_keys;
+pub mod text_lines;
+pub mod words;
 
+pub use front::{Front, read_front};
 pub use reading::read;

@@ -14,7 +14,7 @@ use values::Fault;
 
 /// Why a line isn't read.
 #[derive(Clone, Copy, Debug)]
-pub(crate) enum LineFault {
+pub enum LineFault {
     Memory,
     OtherForm,
     OutOfRange,
@@ -23,7 +23,7 @@ pub(crate) enum LineFault {
 
 impl LineFault {
     /// As a fault of the text; nothing where memory ran out.
-    pub(crate) fn reason(self) -> Option<TextReason>
+    pub fn reason(self) -> Option<TextReason>
         ensures { result ≡ reason_of self }
     {
         match self {

@@ -49,7 +49,7 @@ fn count_of(line: &str, word: &str, most: usize) -> Result<usize, LineFault>
 }
 
 /// The count of what follows, on a line of its own.
-fn count(text: &mut TextLines<'_>, word: &str, most: usize) -> Result<usize, TextFault>
+pub fn count(text: &mut TextLines<'_>, word: &str, most: usize) -> Result<usize, TextFault>
     ensures complete { (n : ℕ) (rest : Text) → n ≤ most → IsShort n → spec.IsWord word.now → text.old.left.now ≡ ended (word.now ␣ decimal n) ++ rest → spec.LeavesText (λ count. count) n rest text.new result }
     ensures exact { IsShort most → spec.IsWord word.now → calls.PassesCount word.now most text.old text.new result }
 {
@@ -72,7 +72,7 @@ fn next_line(alloc: Global, text: &mut TextLines<'_>) -> Result<Line, TextFault>
     }
 }
 
-fn derivation(alloc: Global, text: &mut TextLines<'_>) -> Result<Items<Line>, TextFault>
+pub(crate) fn derivation(alloc: Global, text: &mut TextLines<'_>) -> Result<Items<Line>, TextFault>
     ensures complete { (ls : List Line) (rest : Text) → AllByRecursion IsReadableLine ls → length ls ≤ most_lines
         → text.old.left.now ≡ ended (codes "lines" ␣ decimal (length ls)) ++ (flat_map line_text ls ++ rest)
         → spec.LeavesText (λ ls. ls) ls rest text.new result }
@@ -188,7 +188,7 @@ fn plan_within(
     Ok(Plan { node, inputs })
 }
 
-fn plan(alloc: Global, text: &mut TextLines<'_>) -> Result<Plan, TextFault>
+pub(crate) fn plan(alloc: Global, text: &mut TextLines<'_>) -> Result<Plan, TextFault>
     ensures complete { (p : Plan) (rest : Text) → spec.IsReadablePlan most_deep p → node_count p ≤ most_nodes
         → text.old.left.now ≡ ended (codes "plan" ␣ decimal (node_count p)) ++ (plan_text p ++ rest)
         → spec.LeavesText (λ p. p) p rest text.new result }

@@ -62,7 +62,8 @@ fn keys_of(alloc: Global, list: &str) -> Result<Option<Items<OrderKey>>, PartFau
     each_key(alloc, parts.as_slice())
 }
 
-pub(crate) fn keys(alloc: Global, words: &mut Words<'_>) -> Result<Items<OrderKey>, LineFault>
+/// The keys of a list; one whose column is past 32 bits is noted.
+pub fn keys(alloc: Global, words: &mut Words<'_>) -> Result<Items<OrderKey>, LineFault>
     ensures { ReadsWords spec.keys_wording (λ keys. keys) words.old words.new result }
 {
     match keys_of(alloc, words.word()?)? {

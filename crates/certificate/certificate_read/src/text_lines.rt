@@ -22,14 +22,14 @@ fn first_end(text: &[u8]) -> Option<usize>
 
 /// The lines that are still to be read.
 #[derive(Drop)]
-pub(crate) struct TextLines<'a> {
-    left: &'a [u8],
+pub struct TextLines<'a> {
+    pub left: &'a [u8],
     /// The number of the line that was read last, from 1.
-    number: usize,
+    pub number: usize,
 }
 
 impl<'a> TextLines<'a> {
-    pub(crate) fn of(text: &'a [u8]) -> TextLines<'a>
+    pub fn of(text: &'a [u8]) -> TextLines<'a>
         ensures left { result.left.now ≡ text.now }
         ensures number { result.number ≡ 0 }
     {
@@ -40,7 +40,7 @@ impl<'a> TextLines<'a> {
     }
 
     /// The fault of the line that was read last.
-    pub(crate) fn refused(&self, reason: TextReason) -> TextFault
+    pub fn refused(&self, reason: TextReason) -> TextFault
         ensures { result ≡ spec.refused self.now.number reason }
     {
         let line = self.number;
@@ -48,7 +48,7 @@ impl<'a> TextLines<'a> {
     }
 
     /// Why the line that was read last isn't of its form.
-    pub(crate) fn fault(&self, fault: LineFault) -> TextFault
+    pub fn fault(&self, fault: LineFault) -> TextFault
         ensures { result ≡ spec.text_fault_of fault self.now.number }
     {
         match fault.reason() {
@@ -58,7 +58,7 @@ impl<'a> TextLines<'a> {
     }
 
     /// The next line, without its end.
-    pub(crate) fn bytes(&mut self) -> Result<&'a [u8], TextFault>
+    pub fn bytes(&mut self) -> Result<&'a [u8], TextFault>
         ensures complete { (line : Text) (rest : Text) → lacks 10 line ≡ true → self.old.left.now ≡ ended line ++ rest → LeavesText (λ l. l.now) line rest self.new result }
         ensures exact { spec.ReadsBytes (λ l. l.now) self.old self.new result }
     {
@@ -74,7 +74,7 @@ impl<'a> TextLines<'a> {
     }
 
     /// The next line, which is to be text.
-    pub(crate) fn line(&mut self) -> Result<&'a str, TextFault>
+    pub fn line(&mut self) -> Result<&'a str, TextFault>
         ensures complete { (line : Text) (rest : Text) → IsLine line → self.old.left.now ≡ ended line ++ rest → LeavesText (λ l. l.now) line rest self.new result }
         ensures exact { spec.ReadsText (λ l. l.now) self.old self.new result }
     {
@@ -85,7 +85,7 @@ impl<'a> TextLines<'a> {
     }
 
     /// That the next line is this one, for else it is refused so.
-    pub(crate) fn expect(&mut self, line: &[u8], reason: TextReason) -> Result<(), TextFault>
+    pub fn expect(&mut self, line: &[u8], reason: TextReason) -> Result<(), TextFault>
         ensures complete { (rest : Text) → lacks 10 line.now ≡ true → self.old.left.now ≡ ended line.now ++ rest → LeavesText (λ u. u) tt rest self.new result }
         ensures exact { spec.Finds line.now reason self.old self.new result }
     {
@@ -97,7 +97,7 @@ impl<'a> TextLines<'a> {
     }
 
     /// That no byte is left; the line behind the last is refused for it.
-    fn end(&mut self) -> Result<(), TextFault>
+    pub fn end(&mut self) -> Result<(), TextFault>
         ensures complete { self.old.left.now ≡ [] → result ≡ Ok tt }
         ensures exact { MatchResult result (λ u. self.old.left.now ≡ []) (λ fault. (self.old.left.now ≡ [] → ⊥) × (fault ≡ spec.refused (counted_on self.old.number 1) OtherForm)) }
     {
@@ -109,7 +109,7 @@ impl<'a> TextLines<'a> {
     }
 
     /// That the next line is the last, and says that the text ends.
-    pub(crate) fn finish(&mut self) -> Result<(), TextFault>
+    pub fn finish(&mut self) -> Result<(), TextFault>
         ensures complete { self.old.left.now ≡ ended (codes "end") → UnlessMemory (λ u. u ≡ tt) result }
         ensures exact { spec.Ends self.old result }
     {

@@ -15,7 +15,7 @@ use derivation::Numbers;
 use std::alloc::{AllocError, Global};
 
 /// The words of a line, which single spaces stand between.
-pub(crate) fn words_of(alloc: Global, line: &str) -> Result<Vec<&str>, AllocError>
+pub fn words_of(alloc: Global, line: &str) -> Result<Vec<&str>, AllocError>
     ensures { IfOk result (λ words. map (λ word. word.now) words.items ≡ spec.words_in line.now) }
 {
     line.split(' ').collect(alloc)
@@ -24,13 +24,14 @@ pub(crate) fn words_of(alloc: Global, line: &str) -> Result<Vec<&str>, AllocErro
 /// The words of a line that are still to be read. A number past its range is read as any value: the line is refused for it once it has
 /// its form.
 #[derive(Drop)]
-pub(crate) struct Words<'a> {
-    left: &'a [&'a str],
-    in_range: bool,
+pub struct Words<'a> {
+    pub left: &'a [&'a str],
+    /// Whether no number so far was past its range.
+    pub in_range: bool,
 }
 
 impl<'a> Words<'a> {
-    pub(crate) fn of(words: &'a [&'a str]) -> Words<'a>
+    pub fn of(words: &'a [&'a str]) -> Words<'a>
         ensures left { left_words result ≡ map (λ word. word.now) words.now }
         ensures in_range { result.in_range ≡ true }
     {
@@ -40,7 +41,7 @@ impl<'a> Words<'a> {
         }
     }
 
-    pub(crate) fn word(&mut self) -> Result<&'a str, LineFault>
+    pub fn word(&mut self) -> Result<&'a str, LineFault>
         ensures { PassesWord (λ w. w.now) self.old self.new result }
     {
         match self.left {
@@ -53,7 +54,7 @@ impl<'a> Words<'a> {
     }
 
     /// That the line ends here. It is refused for the limit that it isn't within, and else for a number past its range.
-    pub(crate) fn end(self, is_within: bool) -> Result<(), LineFault>
+    pub fn end(self, is_within: bool) -> Result<(), LineFault>
         ensures { EndsLine self.entry is_within result }
     {
         if !self.left.is_empty() {
@@ -70,14 +71,14 @@ impl<'a> Words<'a> {
     }
 
     /// Notes that a number is past its range.
-    pub(crate) fn passes_range(&mut self)
+    pub fn passes_range(&mut self)
         ensures left { left_words self.new ≡ left_words self.old }
         ensures in_range { self.new.in_range ≡ false }
     {
         self.in_range = false;
     }
 
-    pub(crate) fn number(&mut self) -> Result<u32, LineFault>
+    pub fn number(&mut self) -> Result<u32, LineFault>
         ensures { ReadsWords spec.number_wording (λ x. x) self.old self.new result }
     {
         match number(self.word()?)? {
@@ -89,7 +90,7 @@ impl<'a> Words<'a> {
         }
     }
 
-    pub(crate) fn numbers(&mut self, alloc: Global) -> Result<Numbers, LineFault>
+    pub fn numbers(&mut self, alloc: Global) -> Result<Numbers, LineFault>
         ensures { ReadsWords spec.numbers_wording (λ x. x) self.old self.new result }
     {
         match numbers(alloc, self.word()?)? {
@@ -101,7 +102,7 @@ impl<'a> Words<'a> {
         }
     }
 
-    pub(crate) fn columns(&mut self, alloc: Global) -> Result<Columns, LineFault>
+    pub fn columns(&mut self, alloc: Global) -> Result<Columns, LineFault>
         ensures { ReadsWords spec.columns_wording (λ x. x) self.old self.new result }
     {
         match columns(alloc, self.word()?)? {
@@ -113,7 +114,7 @@ impl<'a> Words<'a> {
         }
     }
 
-    pub(crate) fn aggregations(&mut self, alloc: Global) -> Result<Aggregations, LineFault>
+    pub fn aggregations(&mut self, alloc: Global) -> Result<Aggregations, LineFault>
         ensures { ReadsWords spec.aggregations_wording (λ x. x) self.old self.new result }
     {
         match aggregations(alloc, self.word()?)? {
@@ -125,7 +126,7 @@ impl<'a> Words<'a> {
         }
     }
 
-    pub(crate) fn conjuncts(&mut self, alloc: Global) -> Result<Conjuncts, LineFault>
+    pub fn conjuncts(&mut self, alloc: Global) -> Result<Conjuncts, LineFault>
         ensures { ReadsWords spec.conjuncts_wording (λ x. x) self.old self.new result }
     {
         match conjuncts(alloc, self.word()?, MOST_NESTED)? {
@@ -138,7 +139,7 @@ impl<'a> Words<'a> {
     }
 
     /// The conditions and the two classes of a join.
-    pub(crate) fn sides(&mut self, alloc: Global) -> Result<(Conjuncts, u32, u32), LineFault>
+    pub fn sides(&mut self, alloc: Global) -> Result<(Conjuncts, u32, u32), LineFault>
         ensures { ReadsWords spec.sides_wording (λ s. (s.0, s.1.0, s.1.1)) self.old self.new result }
     {
         let conjuncts = self.conjuncts(alloc)?;

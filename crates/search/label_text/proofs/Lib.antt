@@ -1,0 +1,6 @@
+mod CostWords
+mod LabelLines
+mod LabelWords
+mod LeastFaults
+mod LeastTexts
+mod WorkedText

@@ -1,0 +1,3 @@
+pub mod LabelReading
+pub mod LabelText
+pub mod WorkedText
