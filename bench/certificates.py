@@ -20,7 +20,7 @@ import crates
 
 ROOT = pathlib.Path(__file__).resolve().parent.parent
 NAME = "certificates_bench"
-LIBRARIES = "values schema sql_parse query binder algebra laws props rules plain_rules outer_rules semijoin_rules subquery_rules book derivation logs frame physical certificate certificate_text certificate_read checker statistics store costs memo explore seed search planner anyhow"
+LIBRARIES = "values schema sql_parse query binder algebra laws props rules plain_rules outer_rules semijoin_rules subquery_rules book derivation logs frame physical certificate certificate_text certificate_read checker statistics store costs memo explore seed winners planner anyhow"
 
 
 def built(tree):

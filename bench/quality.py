@@ -30,7 +30,7 @@ import crates
 ROOT = pathlib.Path(__file__).resolve().parent.parent
 NAME = "plan_quality"
 LIBRARIES = (
-    "values schema store statistics sql_parse query binder algebra laws props rules plain_rules outer_rules semijoin_rules subquery_rules book derivation logs frame physical costs bindings memo closure explore seed search"
+    "values schema store statistics sql_parse query binder algebra laws props rules plain_rules outer_rules semijoin_rules subquery_rules book derivation logs frame physical costs bindings memo closure explore seed winners"
     " certificate trimming certificate_text planner anyhow"
 )
 BATCH = 60

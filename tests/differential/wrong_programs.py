@@ -13,6 +13,7 @@ WRONG_PROGRAMS = [
     ("drops the last row of an answer", 'case $1 in query|run) "$P" "$@" | sed "2,\\${\\$d}"; exit ${PIPESTATUS[0]};; esac', WITH_ROWS),
     ("swaps the first two rows", 'case $1 in query|run) "$P" "$@" | sed "2{\\$!{h;d}};3G"; exit ${PIPESTATUS[0]};; esac', IN_ORDER),
     ("accepts each certificate", 'if [ "$1" = check ]; then echo accepted; exit 0; fi', ["texts", "rules"]),
+    ("accepts all labels", 'if [ "$1" = check-least ]; then echo accepted; exit 0; fi', ["least"]),
     ("refuses each query as too large", 'case $1 in query|meaning|plan) echo "refused B10 at 0" >&2; exit 2;; esac', OF_QUERIES),
     ("tells other costs", 'if [ "$1" = explain ]; then "$P" "$@" | sed "s/cost=1/cost=2/"; exit 0; fi', ["costs"]),
 ]

@@ -14,7 +14,6 @@ use crate::certificate::{Certificate, CheckFault, CheckReason};
 use crate::plan_fit::{fit, refused};
 use algebra::{Aggregation, Expr};
 use derivation::Line;
-use frame::frame_of;
 use logs::{LineFault, Log};
 use query::Query;
 use query::ids::id_of;
@@ -135,15 +134,4 @@ pub fn judged_log<'q>(
     let root = id_of(last)?;
     fit(alloc, query, root, &log, &certificate.plan)?;
     Ok(log)
-}
-
-/// Whether a certificate replays for a query, and else its first fault. Whoever makes certificates can ask it, and the check does.
-pub fn judge(alloc: Global, query: &Query, certificate: &Certificate) -> Result<(), CheckFault>
-    requires { is_bound query.now ≡ true }
-    ensures { Gives (λ _. certificate.now) result (spec.replayed query.now certificate.now) }
-{
-    let frame = frame_of(alloc, query)?;
-    let own = own_aggregates(alloc, frame.as_slice())?;
-    let _log = judged_log(alloc, query, frame.as_slice(), own.as_slice(), certificate)?;
-    Ok(())
 }

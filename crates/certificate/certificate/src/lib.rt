@@ -13,6 +13,5 @@ pub mod plan_fit;
 pub mod soundness;
 
 pub use certificate::{Certificate, CheckFault, CheckReason, CheckRefusal};
-pub use judging::judge;
 pub use order_by::query_order;
 pub use plan_fit::fit;

@@ -2,33 +2,15 @@
 
 ghost use Rattle.std.specs.Prelude.{◌≡◌, IfOk};
 ghost use Rattle.values.specs.Faults.{Gives};
-ghost use Rattle.query.specs.Bound.{IsBoundOver, TablesAreOver};
+ghost use Rattle.query.specs.Bound.{TablesAreOver};
 ghost use Rattle.certificate.specs.Replay.{replayed, IsChecked};
 
-use certificate::{Certificate, CheckFault, judge};
-use query::{BoundQuery, Query};
+use certificate::{Certificate, CheckFault};
+use prepared_query::PreparedQuery;
+use query::Query;
 use schema::Schema;
 use std::alloc::Global;
 use std::marker::Model;
-
-/// The check of a certificate against its query's tree.
-fn accepted<'a>(
-    alloc: Global,
-    schema: &'a Schema,
-    query: &'a Query,
-    certificate: &'a Certificate,
-) -> Result<Checked<'a>, CheckFault>
-    requires { IsBoundOver schema.now query.now }
-    ensures verdict { Gives (λ c. c.certificate) result (replayed query.now certificate.now) }
-    ensures of { IfOk result (λ c. (c.schema ≡ schema.now) × (c.query ≡ query.now)) }
-{
-    judge(alloc, query, certificate)?;
-    Ok(Checked {
-        schema,
-        query,
-        certificate,
-    })
-}
 
 /// Checks that each line of a certificate may stand where it does, that each node of its plan is of the class that is wanted
 /// of it, and that the plan delivers the ORDER BY. Else the first fault is reported; lines go before nodes. A plan with
@@ -36,14 +18,19 @@ fn accepted<'a>(
 pub fn check<'a>(
     alloc: Global,
     schema: &'a Schema,
-    query: &'a BoundQuery,
+    query: &PreparedQuery<'a>,
     certificate: &'a Certificate,
 ) -> Result<Checked<'a>, CheckFault>
     requires { TablesAreOver schema.now query.now }
     ensures verdict { Gives (λ c. c.certificate) result (replayed query.now certificate.now) }
     ensures of { IfOk result (λ c. (c.schema ≡ schema.now) × (c.query ≡ query.now)) }
 {
-    accepted(alloc, schema, query.query(), certificate)
+    let _log = query.judged(alloc, certificate)?;
+    Ok(Checked {
+        schema,
+        query: query.query(),
+        certificate,
+    })
 }
 
 /// A certificate that was checked against its query: its plan gives answers of the query.

@@ -14,7 +14,7 @@ use values::Fault;
 
 /// A line that gives a fact, with the class that stands for all that are the same as its own.
 #[derive(Clone, Copy, Drop)]
-struct Given {
+struct FactLine {
     root: ClassId,
     line: LineId,
 }
@@ -43,7 +43,7 @@ pub(crate) enum Claim<'a> {
 #[derive(Drop)]
 pub(crate) struct GivenFacts {
     /// By their classes, and of one class in the order of the log.
-    given: Vec<Given>,
+    given: Vec<FactLine>,
     /// For each class the place of what is known of it among facts that are tried; 0, at which nothing is known, but where they are.
     places: Vec<u32>,
 }
@@ -156,7 +156,7 @@ impl GivenFacts {
         let mut given = Vec::new(alloc);
         for (place, line) in log.lines().iter().enumerate() {
             if let Line::Gives(class, _, _) = line {
-                given.push(Given {
+                given.push(FactLine {
                     root: classes.root(*class),
                     line: id_of(place)?,
                 })?;
@@ -168,7 +168,7 @@ impl GivenFacts {
     }
 
     /// The lines that give facts of classes that are the same in the end.
-    fn of_root(&self, root: ClassId) -> &[Given] {
+    fn of_root(&self, root: ClassId) -> &[FactLine] {
         let given = self.given.as_slice();
         let first = given.partition_point(|given| given.root < root);
         let last = given.partition_point(|given| given.root <= root);

@@ -17,7 +17,7 @@ use Rattle.derivation.specs.Logs.{Log, entry, entries, founds, member, knowledge
 use Rattle.derivation.specs.Replay.{Replays, both_lines, members}
 use Rattle.derivation.proofs.Lookups.{columns-stay, founded, member-stays}
 use Rattle.bindings.specs.declared.binding.Binding.{Binding}
-use Rattle.bindings.specs.declared.given.Given.{Given}
+use Rattle.bindings.specs.declared.rule_results.RuleResult.{RuleResult}
 use Rattle.bindings.specs.Bindings.{uses_of, shape_given, given_among, given_over, GivesBinding}
 use Rattle.book.proofs.RuleLaws.{book_stable}
 use Rattle.bindings.proofs.FormedLogs.{kept_by}
@@ -59,7 +59,7 @@ module _ (instances : List TableInstance) (own : List Aggregation) (E : Log) whe
       facts = λ g is. refl;
     }
 
-    given-still : (rule : RuleName) (pick : ℕ) (uses : List ℕ) (g : Given) → given_over instances E rule pick uses ≡ Some g → given_over instances F rule pick uses ≡ Some g
+    given-still : (rule : RuleName) (pick : ℕ) (uses : List ℕ) (g : RuleResult) → given_over instances E rule pick uses ≡ Some g → given_over instances F rule pick uses ≡ Some g
     given-still rule pick uses g is = by (members E uses) refl is
       where
         by : (o : Option (List Line)) → members E uses ≡ o → given_among (knowledge instances E) rule pick o ≡ Some g → given_over instances F rule pick uses ≡ Some g

@@ -35,7 +35,7 @@ use Rattle.derivation.proofs.Lookups.{member-within}
 use Rattle.derivation.proofs.Standing.{StandsFounds, founds-stands}
 use Rattle.logs.proofs.Equations.{class_Class}
 use Rattle.bindings.specs.declared.binding.Binding.{Binding}
-use Rattle.bindings.specs.declared.given.Given.{Given}
+use Rattle.bindings.specs.declared.rule_results.RuleResult.{RuleResult}
 use Rattle.rules.specs.Formed.{formed, IsFormedLine, Rises}
 use Rattle.bindings.specs.Bindings.{uses_of, first_of, step_of, applied, shape_given, given_among, given_over, given_by_binding, GivesBinding}
 use Rattle.bindings.specs.Results.{IsResult}
@@ -148,14 +148,14 @@ module _ (instances : List TableInstance) (own : List Aggregation) (E : Log) whe
         by (Some l) at (Some found) later is = subst (AllByRecursion (IsFormedLine instances own K (founds E))) (let e : (l ∷ found) ≡ lines = cc in e) (is-line i l at, later found refl)
 
   -- the lines that a rule is applied to where it gives something, and its shape
-  record Applied (rule : RuleName) (pick : ℕ) (uses : List ℕ) (g : Given) : Type 0 where
+  record Applied (rule : RuleName) (pick : ℕ) (uses : List ℕ) (g : RuleResult) : Type 0 where
     top : matches.Line
     others : List matches.Line
     there : members E uses ≡ Some (top ∷ others)
     class_is : top.class ≡ g.class
     gives : applied K rule pick (top ∷ others) ≡ Ok g.shape
 
-  applied-to : (rule : RuleName) (pick : ℕ) (uses : List ℕ) (g : Given) → given_over instances E rule pick uses ≡ Some g → Applied rule pick uses g
+  applied-to : (rule : RuleName) (pick : ℕ) (uses : List ℕ) (g : RuleResult) → given_over instances E rule pick uses ≡ Some g → Applied rule pick uses g
   applied-to rule pick uses g is = by (members E uses) refl is
     where
       by : (o : Option (List matches.Line)) → members E uses ≡ o → given_among K rule pick o ≡ Some g → Applied rule pick uses g
@@ -166,7 +166,7 @@ module _ (instances : List TableInstance) (own : List Aggregation) (E : Log) whe
           or : (r : Result Shape Unfit) → applied K rule pick (top ∷ others) ≡ r → shape_given top.class r ≡ Some g → Applied rule pick uses g
           or (Ok s) gives is =
               let same : g ≡ record { class = top.class; shape = s } = cc in
-              record { top = top; others = others; there = at; class_is = ap (λ (g : Given). g.class) (sym same); gives = gives ∙ ap (λ (g : Given). Ok g.shape) (sym same) }
+              record { top = top; others = others; there = at; class_is = ap (λ (g : RuleResult). g.class) (sym same); gives = gives ∙ ap (λ (g : RuleResult). Ok g.shape) (sym same) }
           or (Err u) gives is = cc
 
   -- the first of them
@@ -185,7 +185,7 @@ module _ (instances : List TableInstance) (own : List Aggregation) (E : Log) whe
       let never : None ≡ Some it.top = sym none ∙ first-line (uses_of b) i it.top it.others first it.there in
       cc
 
-  pub result_is : (b : Binding) (i : ℕ) (top : matches.Line) (g : Given) → Replays instances own E → first_of (uses_of b) ≡ Some i → member E i ≡ Some top → Rises instances own K (founds E) top.expr
+  pub result_is : (b : Binding) (i : ℕ) (top : matches.Line) (g : RuleResult) → Replays instances own E → first_of (uses_of b) ≡ Some i → member E i ≡ Some top → Rises instances own K (founds E) top.expr
       → given_by_binding instances E b ≡ Some g → IsResult instances own E b g.class g.shape
   result_is b i top g replays first at rise is = record {
     may = formed_.0;

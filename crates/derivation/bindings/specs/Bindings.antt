@@ -14,7 +14,7 @@ use Rattle.derivation.specs.Replay.{members}
 use Rattle.bindings.specs.declared.binding.Binding.{Binding}
 use Rattle.bindings.specs.declared.binding.BoundLines.{BoundLines}
 use Rattle.bindings.specs.declared.binding.BoundLines.TheVariants.{One, Two, Three}
-use Rattle.bindings.specs.declared.given.Given.{Given}
+use Rattle.bindings.specs.declared.rule_results.RuleResult.{RuleResult}
 
 -- the lines that a binding names
 abbrev pub uses_in : BoundLines → List ℕ
@@ -39,28 +39,28 @@ abbrev pub applied : Knowledge → RuleName → ℕ → List matches.Line → Re
 applied K rule pick lines = given_by rule (record { lines = lines; pick = pick; classes = K })
 
 -- of a class, where it gives a shape
-abbrev pub shape_given : ℕ → Result Shape Unfit → Option Given
+abbrev pub shape_given : ℕ → Result Shape Unfit → Option RuleResult
 shape_given g (Ok s) = Some (record { class = g; shape = s })
 shape_given g (Err u) = None
 
 -- of the class of the first of the lines
-abbrev pub given_at : Knowledge → RuleName → ℕ → List matches.Line → Option Given
+abbrev pub given_at : Knowledge → RuleName → ℕ → List matches.Line → Option RuleResult
 given_at K rule pick [] = None
 given_at K rule pick (top ∷ others) = shape_given top.class (applied K rule pick (top ∷ others))
 
 -- where there are such lines
-abbrev pub given_among : Knowledge → RuleName → ℕ → Option (List matches.Line) → Option Given
+abbrev pub given_among : Knowledge → RuleName → ℕ → Option (List matches.Line) → Option RuleResult
 given_among K rule pick None = None
 given_among K rule pick (Some lines) = given_at K rule pick lines
 
 -- at the lines of these numbers, if each has an expression
-abbrev pub given_over : List TableInstance → Log → RuleName → ℕ → List ℕ → Option Given
+abbrev pub given_over : List TableInstance → Log → RuleName → ℕ → List ℕ → Option RuleResult
 given_over instances E rule pick uses = given_among (knowledge instances E) rule pick (members E uses)
 
-abbrev pub given_by_binding : List TableInstance → Log → Binding → Option Given
+abbrev pub given_by_binding : List TableInstance → Log → Binding → Option RuleResult
 given_by_binding instances E b = given_over instances E b.rule b.pick (uses_of b)
 
 -- the rule of a binding gives something at its lines
 pub record GivesBinding (instances : List TableInstance) (E : Log) (b : Binding) : Type 0 where
-  pub given : Given
+  pub given : RuleResult
   pub is : given_by_binding instances E b ≡ Some given

@@ -2,12 +2,12 @@
 #![tactic(auto)]
 
 mod binding;
-mod given;
 mod operators;
 mod result_lines;
+mod rule_results;
 mod spelt;
 
 pub use binding::{Binding, BoundLines, step_of};
-pub use given::Given;
 pub use operators::{OverOne, OverTwo};
 pub use result_lines::{line_of, results_may_stand};
+pub use rule_results::RuleResult;

@@ -18,7 +18,7 @@ use Rattle.derivation.specs.Logs.{Log, founds, member, least, knowledge}
 use Rattle.derivation.specs.Replay.{Replays, is_earlier, is_of, gives_fact, are_alike, stands}
 use Rattle.derivation.proofs.Lookups.{member-within}
 use Rattle.bindings.specs.declared.binding.Binding.{Binding}
-use Rattle.bindings.specs.declared.given.Given.{Given}
+use Rattle.bindings.specs.declared.rule_results.RuleResult.{RuleResult}
 use Rattle.bindings.specs.Bindings.{given_by_binding, GivesBinding}
 use Rattle.bindings.proofs.FormedLogs.{kept_by}
 use Rattle.closure.specs.Lacking.{LacksAlike, LacksGiven}
@@ -70,6 +70,6 @@ module _ (instances : List TableInstance) (own : List Aggregation) (E : Log) whe
 pub lacking_gives : (instances : List TableInstance) (E : Log) (b : Binding) → has_result_of instances E b ≡ false → GivesBinding instances E b
 lacking_gives instances E b lacks = by (given_by_binding instances E b) refl lacks
   where
-    by : (o : Option Given) → given_by_binding instances E b ≡ o → stands_in_class (knowledge instances E) E o ≡ false → GivesBinding instances E b
+    by : (o : Option RuleResult) → given_by_binding instances E b ≡ o → stands_in_class (knowledge instances E) E o ≡ false → GivesBinding instances E b
     by None at is = cc
     by (Some given) at is = record { given = given; is = at }

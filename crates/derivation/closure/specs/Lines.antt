@@ -15,7 +15,7 @@ use Rattle.derivation.specs.Logs.{Log, knowledge, member}
 use Rattle.derivation.specs.Replay.{members}
 use Rattle.logs.specs.Members.{is_member}
 use Rattle.bindings.specs.declared.binding.Binding.{Binding}
-use Rattle.bindings.specs.declared.given.Given.{Given}
+use Rattle.bindings.specs.declared.rule_results.RuleResult.{RuleResult}
 use Rattle.bindings.specs.Bindings.{given_over, uses_of}
 use Rattle.closure.specs.Closed.{is_there}
 
@@ -29,7 +29,7 @@ named_by (Select C x) = classes_in C
 named_by x = []
 
 -- whether what is given stands in its class; nothing does
-abbrev pub stands_in_class : Knowledge → Log → Option Given → Bool
+abbrev pub stands_in_class : Knowledge → Log → Option RuleResult → Bool
 stands_in_class K E None = true
 stands_in_class K E (Some given) = is_there K E given.shape given.class
 

@@ -30,7 +30,8 @@ fn copy_grouping(
     Ok((keys, added.copy(alloc)?))
 }
 
-fn copy_expr(alloc: Global, expr: &Expr) -> Result<Expr, AllocError>
+/// An expression like this one.
+pub fn copy_expr(alloc: Global, expr: &Expr) -> Result<Expr, AllocError>
     ensures { IfOk result (λ x. x ≡ expr.now) }
 {
     match expr {

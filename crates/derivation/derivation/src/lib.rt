@@ -6,6 +6,6 @@ pub mod line;
 pub mod numbers;
 pub mod soundness;
 
-pub use copies::copy_fact;
+pub use copies::{copy_expr, copy_fact};
 pub use line::{Line, LineReason, Step};
 pub use numbers::Numbers;

@@ -14,7 +14,9 @@ Examples:
   sqlplan meaning schema.json query.sql data
   sqlplan plan schema.json query.sql stats.json > query.cert
   sqlplan explain schema.json query.sql stats.json --format dot
+  sqlplan plan schema.json query.sql stats.json --labels query.least > query.cert
   sqlplan check schema.json query.sql query.cert
+  sqlplan check-least schema.json query.sql stats.json query.least
   sqlplan run schema.json query.sql query.cert data
   sqlplan codes
   sqlplan help query";
@@ -84,6 +86,25 @@ fn format(alloc: Global) -> Arg<'static> {
         .help("text, or dot: a graph for Graphviz")
 }
 
+/// Where a plan goes with the labels that show it to be the cheapest.
+fn labels(alloc: Global) -> Arg<'static> {
+    Arg::new(alloc, "labels")
+        .long("labels")
+        .value_name("FILE")
+        .action(ArgAction::Set)
+        .help(
+            "writes to this file all lines that were searched, and labels by which check-least sees that none of their plans costs less",
+        )
+}
+
+/// Whether it is said over what a plan is the cheapest.
+fn least(alloc: Global) -> Arg<'static> {
+    Arg::new(alloc, "least")
+        .long("least")
+        .action(ArgAction::SetTrue)
+        .help("says behind the plan over how many goals and lines it is the cheapest")
+}
+
 /// The place of a certificate.
 fn certificate(alloc: Global) -> Arg<'static> {
     place(alloc, "CERT", "the certificate of a plan, a file")
@@ -122,7 +143,8 @@ fn plan<'a>(alloc: Global) -> Result<Command<'a>, AllocError> {
         "Plans a query by statistics, and writes the certificate of its plan",
     )?
     .arg(statistics(alloc))?
-    .arg(limit(alloc))
+    .arg(limit(alloc))?
+    .arg(labels(alloc))
 }
 
 fn explain<'a>(alloc: Global) -> Result<Command<'a>, AllocError> {
@@ -133,7 +155,8 @@ fn explain<'a>(alloc: Global) -> Result<Command<'a>, AllocError> {
     )?
     .arg(statistics(alloc))?
     .arg(format(alloc))?
-    .arg(limit(alloc))
+    .arg(limit(alloc))?
+    .arg(least(alloc))
 }
 
 fn check<'a>(alloc: Global) -> Result<Command<'a>, AllocError> {
@@ -143,6 +166,20 @@ fn check<'a>(alloc: Global) -> Result<Command<'a>, AllocError> {
         "Checks that a certificate's plan answers a query, and says accepted where it does",
     )?
     .arg(certificate(alloc))
+}
+
+fn check_least<'a>(alloc: Global) -> Result<Command<'a>, AllocError> {
+    of_query(
+        alloc,
+        "check-least",
+        "Checks that a certificate's plan answers a query, and that no plan of its lines costs less, and says accepted where both are so",
+    )?
+    .arg(statistics(alloc))?
+    .arg(place(
+        alloc,
+        "LABELS",
+        "a certificate with labels, a file that plan --labels wrote",
+    ))
 }
 
 fn run<'a>(alloc: Global) -> Result<Command<'a>, AllocError> {
@@ -173,6 +210,7 @@ pub fn command<'a>(alloc: Global) -> Result<Command<'a>, AllocError> {
         .subcommand(plan(alloc)?)?
         .subcommand(explain(alloc)?)?
         .subcommand(check(alloc)?)?
+        .subcommand(check_least(alloc)?)?
         .subcommand(run(alloc)?)?
         .subcommand(codes(alloc))
 }

@@ -1,7 +1,8 @@
 //! Standard output and standard error.
 
-use crate::limits::{next_byte, size_limit};
+use crate::limits::next_byte;
 use crate::room::{Room, write_within};
+use crate::writing::file_limit;
 use std::io::Write;
 use std::{fs, io};
 
@@ -32,7 +33,7 @@ impl Stream {
 
 /// How many bytes a stream's file may have. Nothing binds what is no regular file.
 fn limit_of(rt: &HostRuntime, stream: Stream) -> Option<u64> {
-    let limit = size_limit(fs::read_to_string(rt, "/proc/self/limits").ok()?.as_str())?;
+    let limit = file_limit(rt)?;
     let is_file = fs::metadata(rt, stream.path()).ok()?.is_file();
     is_file.then_some(limit)
 }

@@ -1,7 +1,10 @@
 //! Each function called with ample memory.
 
 use crate::limits::{next_byte, size_limit};
-use crate::{BoundedReader, Bounds, ReadFailure, Room, StandardStream, read_file, write_within};
+use crate::{
+    BoundedReader, Bounds, ReadFailure, Room, StandardStream, read_file, write_file, write_within,
+};
+use std::fs;
 use std::io::{Cursor, ErrorKind, Read, Seek, SeekFrom, Write};
 use std::test::Fail;
 
@@ -135,4 +138,11 @@ fn files_are_read_whole(rt: HostRuntime) {
         Ok(_) => assert!(rt; false),
         Err(failure) => assert!(rt; !failure.is_memory()),
     }
+}
+
+#[test]
+fn files_are_written_whole(rt: HostRuntime) -> Result<(), Fail> {
+    let mut file = fs::create(&rt, "/dev/null")?;
+    write_file(&rt, &mut file, b"abcd")?;
+    Ok(())
 }

@@ -14,7 +14,7 @@ fn reason(kind: ErrorKind) -> Option<&'static str> {
     match kind {
         ErrorKind::NotFound => Some("there is no such file, or no such folder on the way to it"),
         ErrorKind::PermissionDenied => Some(
-            "it may not be read: its permissions or those of a folder on the way to it forbid it",
+            "it may not be opened: its permissions or those of a folder on the way to it forbid it",
         ),
         ErrorKind::IsADirectory => Some("it is a folder, and a file is wanted"),
         ErrorKind::NotADirectory => Some("what stands before a / of the path is no folder"),

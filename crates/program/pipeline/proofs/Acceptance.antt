@@ -35,11 +35,12 @@ no_query_accepted schema text certificate S (refusal.Schema r) is h = absurd h
 no_query_accepted schema text certificate S (refusal.Statistics r) is h = absurd h
 no_query_accepted schema text certificate S (refusal.Certificate r) is h = absurd h
 no_query_accepted schema text certificate S (refusal.Check r) is h = absurd h
+no_query_accepted schema text certificate S refusal.NotLeast is h = absurd h
 no_query_accepted schema text certificate S (refusal.Table n r) is h = absurd h
 no_query_accepted schema text certificate S (refusal.TableDevice n) is h = absurd h
 no_query_accepted schema text certificate S refusal.Output is h = absurd h
 
-abbrev is_memory : {R : Type 0} → Fault R → Bool
+abbrev pub is_memory : {R : Type 0} → Fault R → Bool
 is_memory fault.Memory = true
 is_memory (fault.Refused r) = false
 
@@ -57,6 +58,7 @@ pub check_not_accepted : (schema text certificate : List ℕ) (S : Schema) (q : 
     → IsNotAccepted schema text certificate r
 check_not_accepted schema text certificate S q c refusal.Memory asks is h = tt
 check_not_accepted schema text certificate S q c (refusal.Check r) asks is h = (S, q, asks, c, is, h)
+check_not_accepted schema text certificate S q c refusal.NotLeast asks is h = absurd h
 check_not_accepted schema text certificate S q c (refusal.Schema r) asks is h = absurd h
 check_not_accepted schema text certificate S q c (refusal.Text r) asks is h = absurd h
 check_not_accepted schema text certificate S q c (refusal.Scope r) asks is h = absurd h
@@ -75,6 +77,7 @@ not_accepted_run schema text certificate inputs (refusal.Scope r) h = h
 not_accepted_run schema text certificate inputs (refusal.Statistics r) h = absurd h
 not_accepted_run schema text certificate inputs (refusal.Certificate r) h = h
 not_accepted_run schema text certificate inputs (refusal.Check r) h = h
+not_accepted_run schema text certificate inputs refusal.NotLeast h = absurd h
 not_accepted_run schema text certificate inputs (refusal.Table n r) h = absurd h
 not_accepted_run schema text certificate inputs (refusal.TableDevice n) h = absurd h
 not_accepted_run schema text certificate inputs refusal.Output h = absurd h
@@ -88,6 +91,7 @@ not_accepted_quiet schema text certificate counts o (refusal.Scope r) h = (λ n.
 not_accepted_quiet schema text certificate counts o (refusal.Statistics r) h = absurd h
 not_accepted_quiet schema text certificate counts o (refusal.Certificate r) h = (λ n. refl, refl)
 not_accepted_quiet schema text certificate counts o (refusal.Check r) h = (λ n. refl, refl)
+not_accepted_quiet schema text certificate counts o refusal.NotLeast h = absurd h
 not_accepted_quiet schema text certificate counts o (refusal.Table n r) h = absurd h
 not_accepted_quiet schema text certificate counts o (refusal.TableDevice n) h = absurd h
 not_accepted_quiet schema text certificate counts o refusal.Output h = absurd h
@@ -128,6 +132,7 @@ load_not_answered S q c inputs (refusal.Scope r) checked h = absurd h
 load_not_answered S q c inputs (refusal.Statistics r) checked h = absurd h
 load_not_answered S q c inputs (refusal.Certificate r) checked h = absurd h
 load_not_answered S q c inputs (refusal.Check r) checked h = absurd h
+load_not_answered S q c inputs refusal.NotLeast checked h = absurd h
 load_not_answered S q c inputs refusal.Output checked h = absurd h
 
 -- what is not loaded says nothing of the output
@@ -141,6 +146,7 @@ load_quiet S inputs old new o (refusal.Scope r) h d = absurd h
 load_quiet S inputs old new o (refusal.Statistics r) h d = absurd h
 load_quiet S inputs old new o (refusal.Certificate r) h d = absurd h
 load_quiet S inputs old new o (refusal.Check r) h d = absurd h
+load_quiet S inputs old new o refusal.NotLeast h d = absurd h
 load_quiet S inputs old new o refusal.Output h d = absurd h
 
 pub answer_not_answered : (S : Schema) (q : Query) (c : Certificate) (inputs : List Input) (d : Stored) (o p : ℕ) (r : Refusal) → IsChecked S q c → IsFromFiles S inputs d → IsAnswerFault o p r
@@ -153,6 +159,7 @@ answer_not_answered S q c inputs d o p (refusal.Scope r) checked files h = absur
 answer_not_answered S q c inputs d o p (refusal.Statistics r) checked files h = absurd h
 answer_not_answered S q c inputs d o p (refusal.Certificate r) checked files h = absurd h
 answer_not_answered S q c inputs d o p (refusal.Check r) checked files h = absurd h
+answer_not_answered S q c inputs d o p refusal.NotLeast checked files h = absurd h
 answer_not_answered S q c inputs d o p (refusal.Table n r) checked files h = absurd h
 answer_not_answered S q c inputs d o p (refusal.TableDevice n) checked files h = absurd h
 
@@ -169,6 +176,7 @@ pub not_answered_run : (schema text certificate : List ℕ) (inputs : List Input
     → IsNotAnswered S q c inputs r → IsNotRun schema text certificate inputs r
 not_answered_run schema text certificate inputs S q c refusal.Memory asks is h = tt
 not_answered_run schema text certificate inputs S q c (refusal.Check r) asks is h = (S, q, asks, c, is, h)
+not_answered_run schema text certificate inputs S q c refusal.NotLeast asks is h = absurd h
 not_answered_run schema text certificate inputs S q c (refusal.Table n r) asks is h = (accepted schema text certificate S q c asks is h.0, h.1)
 not_answered_run schema text certificate inputs S q c (refusal.TableDevice n) asks is h = (accepted schema text certificate S q c asks is h.0, h.1)
 not_answered_run schema text certificate inputs S q c refusal.Output asks is h = (accepted schema text certificate S q c asks is h.0, h.1)

@@ -105,6 +105,7 @@ unprepared_refused schema text S inputs (refusal.Schema r) is h = absurd h
 unprepared_refused schema text S inputs (refusal.Statistics r) is h = absurd h
 unprepared_refused schema text S inputs (refusal.Certificate r) is h = absurd h
 unprepared_refused schema text S inputs (refusal.Check r) is h = absurd h
+unprepared_refused schema text S inputs refusal.NotLeast is h = absurd h
 unprepared_refused schema text S inputs refusal.Output is h = absurd h
 
 -- what is not prepared says nothing of the output
@@ -118,6 +119,7 @@ unprepared_device text S inputs old new o (refusal.Schema r) h d = absurd h
 unprepared_device text S inputs old new o (refusal.Statistics r) h d = absurd h
 unprepared_device text S inputs old new o (refusal.Certificate r) h d = absurd h
 unprepared_device text S inputs old new o (refusal.Check r) h d = absurd h
+unprepared_device text S inputs old new o refusal.NotLeast h d = absurd h
 unprepared_device text S inputs old new o refusal.Output h d = absurd h
 
 pub answer_refused : (schema text : List ℕ) (S : Schema) (q : Query) (d : Stored) (inputs : List Input) (o p : ℕ) (r : Refusal) → schema_of schema ≡ Ok S → IsPrepared S text inputs q d
@@ -132,6 +134,7 @@ answer_refused schema text S q d inputs o p (refusal.Schema r) is ready h = absu
 answer_refused schema text S q d inputs o p (refusal.Statistics r) is ready h = absurd h
 answer_refused schema text S q d inputs o p (refusal.Certificate r) is ready h = absurd h
 answer_refused schema text S q d inputs o p (refusal.Check r) is ready h = absurd h
+answer_refused schema text S q d inputs o p refusal.NotLeast is ready h = absurd h
 
 pub answer_device : (old new : List ℕ) (o p : ℕ) (r : Refusal) → AreQuiet old new → IsAnswerFault o p r → IsDeviceFault old new o p r
 answer_device old new o p refusal.Memory quiet h = (quiet, h)
@@ -144,6 +147,7 @@ answer_device old new o p (refusal.Schema r) quiet h = absurd h
 answer_device old new o p (refusal.Statistics r) quiet h = absurd h
 answer_device old new o p (refusal.Certificate r) quiet h = absurd h
 answer_device old new o p (refusal.Check r) quiet h = absurd h
+answer_device old new o p refusal.NotLeast quiet h = absurd h
 
 -- a fault of the answer comes after its beginning
 pub answer_after : (o p : ℕ) (r : Refusal) → IsAnswerFault o p r → IsBefore r → ⊥
@@ -157,3 +161,4 @@ answer_after o p (refusal.Schema r) h before = h
 answer_after o p (refusal.Statistics r) h before = absurd h
 answer_after o p (refusal.Certificate r) h before = h
 answer_after o p (refusal.Check r) h before = h
+answer_after o p refusal.NotLeast h before = h

@@ -30,6 +30,7 @@ query_read text S q (refusal.Schema r) is fault_is = absurd fault_is
 query_read text S q (refusal.Statistics r) is fault_is = absurd fault_is
 query_read text S q (refusal.Certificate r) is fault_is = absurd fault_is
 query_read text S q (refusal.Check r) is fault_is = absurd fault_is
+query_read text S q refusal.NotLeast is fault_is = absurd fault_is
 query_read text S q (refusal.Table n r) is fault_is = absurd fault_is
 query_read text S q (refusal.TableDevice n) is fault_is = absurd fault_is
 query_read text S q refusal.Output is fault_is = absurd fault_is
@@ -43,6 +44,7 @@ one_query text S q p is are = same_ok (bound_statement S is.0) q p is.2 (ap (bou
 pub check_passes : (q p : Query) (c d : Certificate) (r : Refusal) → q ≡ p → c ≡ d → replayed p d ≡ Ok d → IsCheckFault q c r → r ≡ refusal.Memory
 check_passes q p c d refusal.Memory query is replays h = refl
 check_passes q p c d (refusal.Check r) query is replays h = absurd (not_both (replayed p d) r d ((λ i. replayed (sym query i) (sym is i)) ∙ h) replays)
+check_passes q p c d refusal.NotLeast query is replays h = absurd h
 check_passes q p c d (refusal.Schema r) query is replays h = absurd h
 check_passes q p c d (refusal.Text r) query is replays h = absurd h
 check_passes q p c d (refusal.Scope r) query is replays h = absurd h

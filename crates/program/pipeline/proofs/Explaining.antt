@@ -33,6 +33,7 @@ no_query_explained schema text statistics S (refusal.Schema r) is h = absurd h
 no_query_explained schema text statistics S (refusal.Statistics r) is h = absurd h
 no_query_explained schema text statistics S (refusal.Certificate r) is h = absurd h
 no_query_explained schema text statistics S (refusal.Check r) is h = absurd h
+no_query_explained schema text statistics S refusal.NotLeast is h = absurd h
 no_query_explained schema text statistics S (refusal.Table n r) is h = absurd h
 no_query_explained schema text statistics S (refusal.TableDevice n) is h = absurd h
 no_query_explained schema text statistics S refusal.Output is h = absurd h

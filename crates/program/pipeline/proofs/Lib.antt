@@ -2,7 +2,9 @@ pub mod Acceptance
 pub mod Answered
 pub mod Completeness
 pub mod Explaining
+pub mod LabelledPlans
 pub mod Loaded
 pub mod Planning
 pub mod Plans
 pub mod Prepared
+pub mod ShownLeast

@@ -1,10 +1,11 @@
 -- What is prepared for a query, and why it is not.
-use Rattle.std.proofs.Common.{◌≡◌, refl, ℕ, List, length}
+use Rattle.std.proofs.Common.{◌≡◌, refl, sym, subst, ℕ, List, length, Ok}
 use Rattle.values.specs.declared.fault.Fault.{Fault}
 use Rattle.values.specs.declared.fault.Fault.TheVariants as fault
 use Rattle.values.specs.Faults.{Fails}
 use Rattle.schema.specs.declared.schema.Schema.{Schema}
 use Rattle.schema.specs.Databases.{Database, Satisfies, Stored}
+use Rattle.schema.specs.Reading.{schema_of}
 use Rattle.sql_parse.specs.declared.statement.Statement.{Statement}
 use Rattle.sql_parse.specs.Statements.{ReadsStatement}
 use Rattle.query.specs.declared.query.Query.{Query}
@@ -16,7 +17,7 @@ use Rattle.query.specs.Bound.{IsBoundOver}
 use Rattle.pipeline.specs.declared.refusal.Refusal.{Refusal}
 use Rattle.pipeline.specs.declared.refusal.Refusal.TheVariants as refusal
 use Rattle.pipeline.specs.Refusals.{of_scope}
-use Rattle.pipeline.specs.EndToEnd.{Input, IsQuery, IsNoQuery, TablesReported, IsLoadFault, IsFromFiles, IsUnprepared, IsDeviceFault}
+use Rattle.pipeline.specs.EndToEnd.{Input, Asks, IsQuery, IsNoQuery, TablesReported, IsLoadFault, IsFromFiles, IsUnprepared, IsDeviceFault}
 
 -- ---- the query
 
@@ -28,6 +29,10 @@ scope_refused text S tree (fault.Refused r) reads fails = (tree, reads, fails)
 pub query_bound : (text : List ℕ) (S : Schema) (q : Query) → IsQuery text S q → IsBoundOver S q
 query_bound text S q is = record { bound = statements_bound S is.0 q (statements_plain text is.0 is.1) is.2; over = statements_over S is.0 q is.2 }
 
+-- what is prepared of it is that query
+pub asks_prepared : (schema text : List ℕ) (S : Schema) (asked query : Query) → schema_of schema ≡ Ok S → IsQuery text S asked → query ≡ asked → Asks schema text S query
+asks_prepared schema text S asked query is asks same = record { is_schema = is; is_query = subst (IsQuery text S) (sym same) asks }
+
 pub no_query_unprepared : (text : List ℕ) (S : Schema) (inputs : List Input) (r : Refusal) → IsNoQuery text S r → IsUnprepared S text inputs r
 no_query_unprepared text S inputs refusal.Memory h = tt
 no_query_unprepared text S inputs (refusal.Text r) h = h
@@ -36,6 +41,7 @@ no_query_unprepared text S inputs (refusal.Schema r) h = absurd h
 no_query_unprepared text S inputs (refusal.Statistics r) h = absurd h
 no_query_unprepared text S inputs (refusal.Certificate r) h = absurd h
 no_query_unprepared text S inputs (refusal.Check r) h = absurd h
+no_query_unprepared text S inputs refusal.NotLeast h = absurd h
 no_query_unprepared text S inputs (refusal.Table n r) h = absurd h
 no_query_unprepared text S inputs (refusal.TableDevice n) h = absurd h
 no_query_unprepared text S inputs refusal.Output h = absurd h
@@ -49,6 +55,7 @@ no_query_quiet text S counts (refusal.Schema r) h = absurd h
 no_query_quiet text S counts (refusal.Statistics r) h = absurd h
 no_query_quiet text S counts (refusal.Certificate r) h = absurd h
 no_query_quiet text S counts (refusal.Check r) h = absurd h
+no_query_quiet text S counts refusal.NotLeast h = absurd h
 no_query_quiet text S counts (refusal.Table n r) h = absurd h
 no_query_quiet text S counts (refusal.TableDevice n) h = absurd h
 no_query_quiet text S counts refusal.Output h = absurd h
@@ -66,6 +73,7 @@ load_unprepared text S q inputs (refusal.Scope r) is h = absurd h
 load_unprepared text S q inputs (refusal.Statistics r) is h = absurd h
 load_unprepared text S q inputs (refusal.Certificate r) is h = absurd h
 load_unprepared text S q inputs (refusal.Check r) is h = absurd h
+load_unprepared text S q inputs refusal.NotLeast is h = absurd h
 
 -- a database of the schema, whose tables are all read
 pub from_files : (S : Schema) (inputs : List Input) (n : ℕ) (d : Stored) → d.schema ≡ S → n ≡ length S.tables → TablesReported S inputs n d.tables → Satisfies d.schema d.tables → IsFromFiles S inputs d

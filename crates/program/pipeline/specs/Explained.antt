@@ -45,6 +45,7 @@ IsNotExplained schema text statistics (refusal.Scope r) = IsNotPlanned schema te
 IsNotExplained schema text statistics (refusal.Statistics r) = IsNotPlanned schema text statistics (refusal.Statistics r)
 IsNotExplained schema text statistics (refusal.Certificate r) = ⊥
 IsNotExplained schema text statistics (refusal.Check r) = ⊥
+IsNotExplained schema text statistics refusal.NotLeast = ⊥
 IsNotExplained schema text statistics (refusal.Table n r) = ⊥
 IsNotExplained schema text statistics (refusal.TableDevice n) = ⊥
 IsNotExplained schema text statistics refusal.Output = ⊥

@@ -2,6 +2,8 @@ pub mod Certified
 pub mod EndToEnd
 pub mod Execution
 pub mod Explained
+pub mod ExplainedLeast
+pub mod Least
 pub mod Lines
 pub mod Planned
 pub mod Refusals

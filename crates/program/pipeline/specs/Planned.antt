@@ -40,6 +40,7 @@ IsNotPlanned schema text statistics (refusal.Scope r) = (S : Schema) × (schema_
 IsNotPlanned schema text statistics (refusal.Statistics r) = AreNoStatistics schema text statistics r
 IsNotPlanned schema text statistics (refusal.Certificate r) = IsOverLimit schema text r
 IsNotPlanned schema text statistics (refusal.Check r) = ⊥
+IsNotPlanned schema text statistics refusal.NotLeast = ⊥
 IsNotPlanned schema text statistics (refusal.Table n r) = ⊥
 IsNotPlanned schema text statistics (refusal.TableDevice n) = ⊥
 IsNotPlanned schema text statistics refusal.Output = ⊥

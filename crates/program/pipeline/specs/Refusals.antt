@@ -12,7 +12,7 @@ use Rattle.answer_text.specs.declared.output.OutputFailed.{OutputFailed}
 use Rattle.store.specs.declared.fault.TableFault.{TableFault}
 use Rattle.store.specs.declared.fault.TableFault.TheVariants as table
 use Rattle.pipeline.specs.declared.refusal.Refusal.{Refusal}
-use Rattle.pipeline.specs.declared.refusal.Refusal.TheVariants.{Memory, Schema, Text, Scope, Statistics, Certificate, Check, Table, TableDevice, Output}
+use Rattle.pipeline.specs.declared.refusal.Refusal.TheVariants.{Memory, Schema, Text, Scope, Statistics, Certificate, Check, NotLeast, Table, TableDevice, Output}
 
 abbrev pub of_schema : Fault SchemaRefusal → Refusal
 of_schema fault.Memory = Memory
@@ -56,6 +56,7 @@ status_of (Scope r) = 2
 status_of (Statistics r) = 2
 status_of (Certificate r) = 2
 status_of (Check r) = 2
+status_of NotLeast = 2
 status_of (Table t r) = 2
 status_of (TableDevice t) = 3
 status_of Output = 3

@@ -13,6 +13,7 @@ use answer_text::{AnswerOutput, write_rows};
 use checker::{Checked, check};
 use oracle::meaning;
 use planner::{Exploration, plan};
+use prepared_query::PreparedQuery;
 use query::BoundQuery;
 use schema::Schema;
 use statistics::Statistics;
@@ -41,10 +42,10 @@ pub(crate) fn answer_by<W: AnswerOutput>(
 
 /// Writes what the plan gives that is chosen for the query by the statistics of the database, over a log of at most `limit` lines, explored so
 /// far. The check accepts its certificate.
-pub(crate) fn answer_by_plan<W: AnswerOutput>(
+pub(crate) fn answer_by_plan<'a, W: AnswerOutput>(
     alloc: Global,
-    schema: &Schema,
-    query: &BoundQuery,
+    schema: &'a Schema,
+    query: &'a BoundQuery,
     database: &Database<'_>,
     limit: usize,
     exploration: Exploration,
@@ -58,10 +59,11 @@ pub(crate) fn answer_by_plan<W: AnswerOutput>(
     ensures fails { IfErr result (IsAnswerFault (W.failures out.old) (W.failures out.new)) }
     ensures quiet { OnOk result (W.failures out.new ≡ W.failures out.old) }
 {
-    let counted = counted_columns(alloc, query)?;
+    let prepared = PreparedQuery::of(alloc, query)?;
+    let counted = counted_columns(alloc, &prepared)?;
     let statistics = Statistics::of(alloc, database, counted.as_slice())?;
-    let planned = plan(alloc, query, &statistics, limit, exploration)?;
-    let checked = check(alloc, schema, query, &planned.certificate)?;
+    let planned = plan(alloc, &prepared, &statistics, limit, exploration)?;
+    let checked = check(alloc, schema, &prepared, &planned.certificate)?;
     answer_by(alloc, &checked, database, out)
 }
 

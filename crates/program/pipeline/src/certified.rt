@@ -16,7 +16,7 @@ use answer_text::AnswerOutput;
 use certificate::Certificate;
 use certificate_read::read;
 use checker;
-use query::BoundQuery;
+use prepared_query::PreparedQuery;
 use schema::Schema;
 use std::alloc::Global;
 use store::TableInput;
@@ -25,7 +25,7 @@ use store::TableInput;
 fn accept(
     alloc: Global,
     schema: &Schema,
-    query: &BoundQuery,
+    query: &PreparedQuery<'_>,
     certificate: &Certificate,
 ) -> Result<(), Refusal>
     requires { TablesAreOver schema.now query.now }
@@ -50,14 +50,15 @@ pub fn check(alloc: Global, schema: &[u8], text: &[u8], certificate: &[u8]) -> R
     let schema = Schema::read(alloc, schema)?;
     let asked = bound_query(alloc, &schema, text)?;
     let certificate = read(alloc, certificate)?;
-    accept(alloc, &schema, &asked, &certificate)
+    let query = PreparedQuery::of(alloc, &asked)?;
+    accept(alloc, &schema, &query, &certificate)
 }
 
 /// Checks a certificate, loads the tables, one input each in the order of the schema, and writes what the certificate's plan gives.
 fn answer_by_certificate<R: TableInput, W: AnswerOutput>(
     alloc: Global,
     schema: &Schema,
-    query: &BoundQuery,
+    query: &PreparedQuery<'_>,
     certificate: &Certificate,
     tables: &mut [R],
     out: &mut W,
@@ -105,7 +106,8 @@ pub fn run<R: TableInput, W: AnswerOutput>(
     ensures quiet { OnOk result (IsQuiet (map R.failures tables.old) (map R.failures tables.new) (W.failures out.old) (W.failures out.new)) }
 {
     let schema = Schema::read(alloc, schema)?;
-    let query = bound_query(alloc, &schema, text)?;
+    let asked = bound_query(alloc, &schema, text)?;
     let certificate = read(alloc, certificate)?;
+    let query = PreparedQuery::of(alloc, &asked)?;
     answer_by_certificate(alloc, &schema, &query, &certificate, tables, out)
 }

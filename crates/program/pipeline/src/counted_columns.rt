@@ -1,8 +1,8 @@
 //! Which columns' keys are counted for a query: those that its equalities name.
 
 use algebra::{Condition, Term};
-use frame::frame_of;
-use query::{BoundQuery, ColumnId, TableInstance};
+use prepared_query::PreparedQuery;
+use query::{ColumnId, TableInstance};
 use schema::Table;
 use statistics::TableColumn;
 use std::alloc::{AllocError, Global};
@@ -88,15 +88,14 @@ fn note_all(
 /// The columns that an equality of the query names, but for those with an index of their own.
 pub(crate) fn counted_columns(
     alloc: Global,
-    query: &BoundQuery,
+    query: &PreparedQuery<'_>,
 ) -> Result<Vec<TableColumn>, AllocError> {
-    let query = query.query();
-    let frame = frame_of(alloc, query)?;
+    let tables = query.query().tables.as_slice();
     let mut columns = Vec::new(alloc);
-    for expr in frame.as_slice() {
+    for expr in query.frame() {
         let (first, second) = expr.conditions();
-        note_all(query.tables.as_slice(), first, &mut columns)?;
-        note_all(query.tables.as_slice(), second, &mut columns)?;
+        note_all(tables, first, &mut columns)?;
+        note_all(tables, second, &mut columns)?;
     }
     Ok(columns)
 }

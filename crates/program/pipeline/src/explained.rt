@@ -1,7 +1,7 @@
 //! Plans of queries, explained.
 
-ghost use Rattle.std.specs.Prelude.{◌≡◌, true, Ok, IfOk, IfErr};
-ghost use Rattle.query.specs.Bound.{IsBoundOver, is_bound};
+ghost use Rattle.std.specs.Prelude.{◌≡◌, Ok, IfOk, IfErr};
+ghost use Rattle.query.specs.Bound.{IsBoundOver};
 ghost use Rattle.certificate.specs.Replay.{replayed};
 ghost use Rattle.pipeline.specs.Explained.{IsExplained, IsNotExplained, plan_in, shown};
 ghost use Rattle.pipeline.specs.Planned.{WithChecked};
@@ -11,14 +11,12 @@ use crate::preparation::bound_query;
 use crate::refusal::Refusal;
 use algebra::Aggregation;
 use certificate::Certificate;
-use certificate::judging::{judged_log, own_aggregates};
 use explain::{dot_plan, explain_plan};
-use frame::frame_of;
 use logs::Log;
 use physical::Plan;
 use planner;
 use planner::Exploration;
-use query::{BoundQuery, Query};
+use prepared_query::PreparedQuery;
 use schema::Schema;
 use statistics::Statistics;
 use std::alloc::{AllocError, Global};
@@ -50,27 +48,24 @@ fn shown(
 }
 
 /// The plan of a certificate that replays, with what the statistics say of it.
-fn plan_in(
+pub(crate) fn plan_in(
     alloc: Global,
     form: PlanForm,
-    query: &Query,
+    query: &PreparedQuery<'_>,
     statistics: &Statistics,
     certificate: &Certificate,
 ) -> Result<Vec<u8>, Refusal>
-    requires bound { is_bound query.now ≡ true }
     requires replays { replayed query.now certificate.now ≡ Ok certificate.now }
     ensures text { IfOk result (λ text. text.items ≡ plan_in form statistics.now query.now certificate.now) }
     ensures memory { IfErr result (λ r. r ≡ Memory) }
 {
-    let frame = frame_of(alloc, query)?;
-    let own = own_aggregates(alloc, frame.as_slice())?;
-    let log = judged_log(alloc, query, frame.as_slice(), own.as_slice(), certificate)?;
+    let log = query.judged(alloc, certificate)?;
     let text = shown(
         alloc,
         form,
         statistics,
         &log,
-        own.as_slice(),
+        query.own(),
         &certificate.plan,
     )?;
     Ok(text)
@@ -81,7 +76,7 @@ fn explained_query(
     alloc: Global,
     form: PlanForm,
     schema: &Schema,
-    query: &BoundQuery,
+    query: &PreparedQuery<'_>,
     statistics: &Statistics,
     limit: usize,
     exploration: Exploration,
@@ -91,7 +86,7 @@ fn explained_query(
     ensures memory { IfErr result (λ r. r ≡ Memory) }
 {
     let planned = planner::plan(alloc, query, statistics, limit, exploration)?;
-    plan_in(alloc, form, query.query(), statistics, &planned.certificate)
+    plan_in(alloc, form, query, statistics, &planned.certificate)
 }
 
 /// Plans a query and explains the plan: reads the schema, the text and the statistics, and shows the plan that `plan` finds by these, with the
@@ -111,8 +106,9 @@ pub fn explain(
     ensures refused { IfErr result (IsNotExplained schema.now text.now statistics.now) }
 {
     let schema = Schema::read(alloc, schema)?;
-    let query = bound_query(alloc, &schema, text)?;
+    let asked = bound_query(alloc, &schema, text)?;
     let statistics = Statistics::read(alloc, &schema, statistics)?;
+    let query = PreparedQuery::of(alloc, &asked)?;
     explained_query(
         alloc,
         form,

@@ -12,7 +12,7 @@ use crate::refusal::Refusal;
 use certificate_text::write;
 use planner;
 use planner::Exploration;
-use query::BoundQuery;
+use prepared_query::PreparedQuery;
 use schema::Schema;
 use statistics::Statistics;
 use std::alloc::Global;
@@ -21,7 +21,7 @@ use std::alloc::Global;
 fn planned_text(
     alloc: Global,
     schema: &Schema,
-    query: &BoundQuery,
+    query: &PreparedQuery<'_>,
     statistics: &Statistics,
     limit: usize,
     exploration: Exploration,
@@ -51,7 +51,8 @@ pub fn plan(
     ensures refused { IfErr result (IsNotPlanned schema.now text.now statistics.now) }
 {
     let schema = Schema::read(alloc, schema)?;
-    let query = bound_query(alloc, &schema, text)?;
+    let asked = bound_query(alloc, &schema, text)?;
     let statistics = Statistics::read(alloc, &schema, statistics)?;
+    let query = PreparedQuery::of(alloc, &asked)?;
     planned_text(alloc, &schema, &query, &statistics, limit, exploration)
 }

@@ -37,6 +37,9 @@ pub enum Refusal {
     Certificate(TextRefusal),
     #[error("check: {0}")]
     Check(CheckRefusal),
+    /// Labels don't show that the plan is the cheapest of its certificate's lines.
+    #[error("labels don't show the plan to be the cheapest")]
+    NotLeast,
     /// The table by its place in the schema.
     #[error("table {0}: {1}")]
     Table(usize, TableRefusal),
@@ -254,6 +257,7 @@ pub fn fault_line(
         Refusal::Statistics(refusal) => code_line(alloc, refusal.code()),
         Refusal::Certificate(refusal) => certificate_line(alloc, *refusal),
         Refusal::Check(refusal) => check_line(alloc, *refusal),
+        Refusal::NotLeast => code_line(alloc, "L01"),
         Refusal::Table(table, refusal) => table_line(alloc, name_of(schema, *table), *refusal),
         Refusal::TableDevice(table) => {
             let name = name_of(schema, *table);

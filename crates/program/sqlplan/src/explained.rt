@@ -16,7 +16,7 @@ use schema::{Schema, SchemaRefusal};
 use std::alloc::{AllocError, Global};
 use words::certificates::{of_certificate, of_check};
 use words::meanings::{
-    OUTPUT_FAILED, TABLE_UNREAD, of_schema, of_scope, of_statistics, of_table, of_text,
+    NOT_LEAST, OUTPUT_FAILED, TABLE_UNREAD, of_schema, of_scope, of_statistics, of_table, of_text,
 };
 use words::{Meaning, explanation, explanation_at};
 
@@ -30,6 +30,7 @@ fn meaning(refusal: &Refusal) -> Option<Meaning> {
         Refusal::Statistics(refusal) => Some(of_statistics(*refusal)),
         Refusal::Certificate(refusal) => Some(of_certificate(refusal.reason)),
         Refusal::Check(refusal) => Some(of_check(refusal.reason)),
+        Refusal::NotLeast => Some(NOT_LEAST),
         Refusal::Table(_, refusal) => Some(of_table(refusal.cause)),
         Refusal::TableDevice(_) => Some(TABLE_UNREAD),
         Refusal::Output => Some(OUTPUT_FAILED),

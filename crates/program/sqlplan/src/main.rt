@@ -14,10 +14,13 @@ use arguments::arguments;
 use clap::ArgMatches;
 use clap::error::ErrorKind;
 use console::{Progress, TableFile, TableWatch, WatchedOutput, command};
-use devices::{ReadFailure, StandardStream, read_file};
+use devices::{ReadFailure, StandardStream, read_file, write_file};
 use explained::{Inputs, file_in_words, in_words, schema_in_words};
 use input_hints::{FoundRow, found_row};
-use pipeline::{Exploration, PlanForm, Refusal, check, evaluate, explain, plan, query, run};
+use pipeline::{
+    Exploration, PlanForm, Refusal, check, check_least, evaluate, explain, explain_least, plan,
+    plan_with_labels, query, run,
+};
 use schema::{Schema, SchemaFault};
 use std::alloc::{AllocError, Global};
 use std::fs;
@@ -110,6 +113,13 @@ struct Search {
     exploration: Exploration,
 }
 
+/// How a plan is shown, and whether it is said behind it over what it is the cheapest.
+#[derive(Clone, Copy)]
+struct Showing {
+    form: PlanForm,
+    is_least: bool,
+}
+
 /// What is asked of a query, with the paths of the files besides its schema and its text.
 #[derive(Clone, Copy)]
 enum Asked<'a> {
@@ -119,10 +129,14 @@ enum Asked<'a> {
     Meaning(&'a str),
     /// The certificate of a plan, by statistics.
     Plan(&'a str, Search),
+    /// The same, and in a file of this path a plan with its labels.
+    PlanWithLabels(&'a str, &'a str, Search),
     /// A plan by statistics, shown so.
-    Explain(&'a str, PlanForm, Search),
+    Explain(&'a str, Showing, Search),
     /// Whether a certificate is accepted.
     Check(&'a str),
+    /// Whether one with labels is accepted, by statistics.
+    CheckLeast(&'a str, &'a str),
     /// Its answer by the plan of a certificate, over the tables of a folder.
     Run(&'a str, &'a str),
 }
@@ -134,6 +148,14 @@ fn form(arguments: &ArgMatches<'_>) -> Option<PlanForm> {
         Some("dot") => Some(PlanForm::Graph),
         Some(_) => None,
     }
+}
+
+/// How a plan is shown, where that is known.
+fn how_shown(arguments: &ArgMatches<'_>) -> Option<Showing> {
+    Some(Showing {
+        form: form(arguments)?,
+        is_least: arguments.get_flag("least"),
+    })
 }
 
 /// So many lines a log may have where no limit is given.
@@ -159,12 +181,23 @@ impl<'a> Asked<'a> {
         match command {
             "query" => Some(Asked::Query(arguments.get_str("DIR")?, search_of(arguments))),
             "meaning" => Some(Asked::Meaning(arguments.get_str("DIR")?)),
-            "plan" => Some(Asked::Plan(arguments.get_str("STATS")?, search_of(arguments))),
+            "plan" => {
+                let statistics = arguments.get_str("STATS")?;
+                let search = search_of(arguments);
+                Some(match arguments.get_str("labels") {
+                    Some(labels) => Asked::PlanWithLabels(statistics, labels, search),
+                    None => Asked::Plan(statistics, search),
+                })
+            }
             "explain" => {
                 let statistics = arguments.get_str("STATS")?;
-                Some(Asked::Explain(statistics, form(arguments)?, search_of(arguments)))
+                Some(Asked::Explain(statistics, how_shown(arguments)?, search_of(arguments)))
             }
             "check" => Some(Asked::Check(arguments.get_str("CERT")?)),
+            "check-least" => {
+                let statistics = arguments.get_str("STATS")?;
+                Some(Asked::CheckLeast(statistics, arguments.get_str("LABELS")?))
+            }
             "run" => Some(Asked::Run(arguments.get_str("CERT")?, arguments.get_str("DIR")?)),
             _ => None,
         }
@@ -174,7 +207,11 @@ impl<'a> Asked<'a> {
     fn folder(self) -> &'a str {
         match self {
             Asked::Query(folder, _) | Asked::Meaning(folder) | Asked::Run(_, folder) => folder,
-            Asked::Plan(_, _) | Asked::Explain(_, _, _) | Asked::Check(_) => "",
+            Asked::Plan(_, _)
+            | Asked::PlanWithLabels(_, _, _)
+            | Asked::Explain(_, _, _)
+            | Asked::Check(_)
+            | Asked::CheckLeast(_, _) => "",
         }
     }
 }
@@ -183,7 +220,11 @@ impl<'a> Asked<'a> {
 fn progress_of<'a>(rt: &'a HostRuntime, asked: Asked<'_>, lines: bool) -> Option<Progress<'a>> {
     match asked {
         Asked::Query(_, _) | Asked::Meaning(_) | Asked::Run(_, _) => Progress::new(rt, lines),
-        Asked::Plan(_, _) | Asked::Explain(_, _, _) | Asked::Check(_) => None,
+        Asked::Plan(_, _)
+        | Asked::PlanWithLabels(_, _, _)
+        | Asked::Explain(_, _, _)
+        | Asked::Check(_)
+        | Asked::CheckLeast(_, _) => None,
     }
 }
 
@@ -289,6 +330,20 @@ impl Given<'_> {
         };
         Err(self.refused(rt.alloc(), &refusal, statistics, None, None))
     }
+
+    /// The end of a command that says on standard output that something is accepted.
+    fn accepted(
+        &self,
+        rt: &HostRuntime,
+        outcome: Result<(), Refusal>,
+        statistics: &[u8],
+    ) -> Result<(), Stop> {
+        let said = match outcome {
+            Ok(()) => Ok(Vec::from_slice(rt.alloc(), b"accepted\n")?),
+            Err(refusal) => Err(refusal),
+        };
+        self.ended_by(rt, said, statistics)
+    }
 }
 
 /// Standard output, through a buffer.
@@ -387,25 +442,80 @@ fn plan_by_statistics(
     given.ended_by(rt, outcome, statistics)
 }
 
-/// Writes on standard output a plan, with what the statistics of a file say of it.
-fn explain_by_statistics(
+/// Makes a file of these bytes, in the place of one that is there.
+fn make_file(rt: &HostRuntime, given: Given<'_>, path: &str, bytes: &[u8]) -> Result<(), Stop> {
+    match fs::create(rt, path) {
+        Ok(mut file) => match write_file(rt, &mut file, bytes) {
+            Ok(()) => Ok(()),
+            Err(_) => Err(given.refused(rt.alloc(), &Refusal::Output, &[], None, None)),
+        },
+        Err(error) => {
+            let failure = ReadFailure::from(error);
+            Err(failed_file(rt.alloc(), path, &failure, given.words))
+        }
+    }
+}
+
+/// Writes on standard output the certificate of a plan, by the statistics of a file, and before that a file of a plan with its labels.
+fn plan_with_labels_of(
     rt: &HostRuntime,
     given: Given<'_>,
     statistics: &str,
-    form: PlanForm,
+    labels: &str,
     search: Search,
 ) -> Result<(), Stop> {
     let statistics = bytes_of(rt, statistics, given.words)?;
     let statistics = statistics.as_slice();
-    let outcome = explain(
+    let outcome = plan_with_labels(
         rt.alloc(),
-        form,
         given.bytes,
         given.text,
         statistics,
         search.limit,
         search.exploration,
     );
+    match outcome {
+        Ok(texts) => {
+            make_file(rt, given, labels, texts.labels.as_slice())?;
+            given.ended_by(rt, Ok(texts.certificate), statistics)
+        }
+        Err(refusal) => Err(given.refused(rt.alloc(), &refusal, statistics, None, None)),
+    }
+}
+
+/// Writes on standard output a plan, with what the statistics of a file say of it.
+fn explain_by_statistics(
+    rt: &HostRuntime,
+    given: Given<'_>,
+    statistics: &str,
+    showing: Showing,
+    search: Search,
+) -> Result<(), Stop> {
+    let statistics = bytes_of(rt, statistics, given.words)?;
+    let statistics = statistics.as_slice();
+    let (alloc, form) = (rt.alloc(), showing.form);
+    let Search { limit, exploration } = search;
+    let outcome = if showing.is_least {
+        explain_least(
+            alloc,
+            form,
+            given.bytes,
+            given.text,
+            statistics,
+            limit,
+            exploration,
+        )
+    } else {
+        explain(
+            alloc,
+            form,
+            given.bytes,
+            given.text,
+            statistics,
+            limit,
+            exploration,
+        )
+    };
     given.ended_by(rt, outcome, statistics)
 }
 
@@ -413,11 +523,22 @@ fn explain_by_statistics(
 fn accept(rt: &HostRuntime, given: Given<'_>, certificate: &str) -> Result<(), Stop> {
     let certificate = bytes_of(rt, certificate, given.words)?;
     let outcome = check(rt.alloc(), given.bytes, given.text, certificate.as_slice());
-    let outcome = match outcome {
-        Ok(()) => Ok(Vec::from_slice(rt.alloc(), b"accepted\n")?),
-        Err(refusal) => Err(refusal),
-    };
-    given.ended_by(rt, outcome, &[])
+    given.accepted(rt, outcome, &[])
+}
+
+/// Says on standard output that a certificate is accepted, and shown by its labels to be of the cheapest plan by the statistics of a file, where it is.
+fn accept_least(
+    rt: &HostRuntime,
+    given: Given<'_>,
+    statistics: &str,
+    labels: &str,
+) -> Result<(), Stop> {
+    let statistics = bytes_of(rt, statistics, given.words)?;
+    let statistics = statistics.as_slice();
+    let labels = bytes_of(rt, labels, given.words)?;
+    let labels = labels.as_slice();
+    let outcome = check_least(rt.alloc(), given.bytes, given.text, statistics, labels);
+    given.accepted(rt, outcome, statistics)
 }
 
 /// Lists on standard output the codes of refusals.
@@ -434,10 +555,14 @@ fn serve(rt: &HostRuntime, asked: Asked<'_>, given: Given<'_>) -> Result<(), Sto
         Asked::Query(folder, search) => answer(rt, given, folder, search),
         Asked::Meaning(folder) => answer_by_meaning(rt, given, folder),
         Asked::Plan(statistics, search) => plan_by_statistics(rt, given, statistics, search),
-        Asked::Explain(statistics, form, search) => {
-            explain_by_statistics(rt, given, statistics, form, search)
+        Asked::PlanWithLabels(statistics, labels, search) => {
+            plan_with_labels_of(rt, given, statistics, labels, search)
+        }
+        Asked::Explain(statistics, showing, search) => {
+            explain_by_statistics(rt, given, statistics, showing, search)
         }
         Asked::Check(certificate) => accept(rt, given, certificate),
+        Asked::CheckLeast(statistics, labels) => accept_least(rt, given, statistics, labels),
         Asked::Run(certificate, folder) => answer_by_certificate(rt, given, certificate, folder),
     }
 }

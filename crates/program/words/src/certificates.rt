@@ -20,7 +20,7 @@ pub fn of_certificate(reason: TextReason) -> Meaning {
             "a text whose last line has no line feed",
         ),
         TextReason::OverLimit => Meaning::new(
-            "the certificate is too large: over 200,000 lines or nodes, 256 conditions in one another, or 1,024 nodes from the root down",
+            "the certificate is too large: over 200,000 lines or nodes, 256 conditions in one another, 1,024 nodes from the root down, or 3,200,000 labels",
             "lines 200001",
         ),
     }

@@ -182,6 +182,12 @@ pub const TABLE_UNREAD: Meaning = Meaning {
     example: "a folder in the place of emp.csv: device T08 emp",
 };
 
+/// L01, which no reason stands for.
+pub const NOT_LEAST: Meaning = Meaning {
+    text: "the labels don't show that no plan of the certificate's lines costs less: by the statistics one says more than a plan costs over the others, or another cost than the plan's, or it is missing, stands twice or is of no goal",
+    example: "the label 0 - 141 where a scan of class 0 costs 140",
+};
+
 /// X02, which no reason stands for.
 pub const OUTPUT_FAILED: Meaning = Meaning {
     text: "the answer could not be written to its end",

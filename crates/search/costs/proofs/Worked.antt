@@ -18,7 +18,7 @@ use Rattle.costs.specs.Costs.{comparison_of, comparison_layer, faces, inputs_of,
 use Rattle.algebra.specs.Equated.{equated_layer}
 use Rattle.costs.specs.Equalities.{equation, of_two}
 use Rattle.costs.specs.Equalities as equal
-use Rattle.costs.specs.Cardinalities.{also_asked, class_rows}
+use Rattle.costs.specs.Cardinalities.{filtered_further, class_rows}
 use Rattle.costs.specs.Examples.{node, plain, indexed, counted, lines, of_dept, paid, in_first, is_ten, joined, filtered, projected, selected, scanned, matched, probing, WorkedPlan, WorkedIndexes}
 use Rattle.algebra.proofs.Lists.{two}
 use Rattle.physical.specs.declared.plan.Matching.TheVariants as matching
@@ -40,27 +40,27 @@ estimate-node S instances n E line o inputs = fold-roll-Plan Estimate (estimate_
 -- ---- the plan without indexes
 
 joined-rows : class_rows counted plain lines 2 ≡ 3
-unfolding cut per_million equal.counted equal.leader_by also_asked
+unfolding cut per_million equal.counted equal.leader_by filtered_further
 joined-rows = simp (selectivity-Compare, equation-Compare) refl
 
 filtered-rows : class_rows counted plain lines 3 ≡ 2
-unfolding cut per_million equal.counted equal.leader_by also_asked
+unfolding cut per_million equal.counted equal.leader_by filtered_further
 filtered-rows = simp (selectivity-Compare, equation-Compare) refl
 
 projected-rows : class_rows counted plain lines 4 ≡ 2
-unfolding cut per_million equal.counted equal.leader_by also_asked
+unfolding cut per_million equal.counted equal.leader_by filtered_further
 projected-rows = simp (selectivity-Compare, equation-Compare) refl
 
 first-is : plan_estimate counted plain (class_rows counted plain lines) lines (node 0 (Scan 0) []) ≡ record { rows = 3; cost = 130 }
-unfolding cut per_million equal.counted equal.leader_by also_asked
+unfolding cut per_million equal.counted equal.leader_by filtered_further
 first-is = estimate-node counted plain (class_rows counted plain lines) lines 0 (Scan 0) []
 
 second-is : plan_estimate counted plain (class_rows counted plain lines) lines (node 1 (Scan 1) []) ≡ record { rows = 4; cost = 140 }
-unfolding cut per_million equal.counted equal.leader_by also_asked
+unfolding cut per_million equal.counted equal.leader_by filtered_further
 second-is = estimate-node counted plain (class_rows counted plain lines) lines 1 (Scan 1) []
 
 joined-is : plan_estimate counted plain (class_rows counted plain lines) lines joined ≡ record { rows = 3; cost = 281 }
-unfolding cut per_million equal.counted equal.leader_by also_asked
+unfolding cut per_million equal.counted equal.leader_by filtered_further
 joined-is =
     let o : Operator = JoinRows join.Hash (matching.Left (of_dept ∷ [])) in
     estimate-node counted plain (class_rows counted plain lines) lines 2 o (node 0 (Scan 0) [] ∷ node 1 (Scan 1) [] ∷ [])
@@ -68,14 +68,14 @@ joined-is =
     ∙ ap (λ r. record { rows = r; cost = 281 }) joined-rows
 
 filtered-is : plan_estimate counted plain (class_rows counted plain lines) lines filtered ≡ record { rows = 2; cost = 284 }
-unfolding cut per_million equal.counted equal.leader_by also_asked
+unfolding cut per_million equal.counted equal.leader_by filtered_further
 filtered-is =
     estimate-node counted plain (class_rows counted plain lines) lines 3 (Filter (paid ∷ [])) (joined ∷ [])
     ∙ ap (λ (a : Estimate). node_estimate counted plain (class_rows counted plain lines) lines (Implements 3 (Filter (paid ∷ []))) (inputs_of (a ∷ []))) joined-is
     ∙ ap (λ r. record { rows = r; cost = 284 }) filtered-rows
 
 projected-is : plan_estimate counted plain (class_rows counted plain lines) lines projected ≡ record { rows = 2; cost = 285 }
-unfolding cut per_million equal.counted equal.leader_by also_asked
+unfolding cut per_million equal.counted equal.leader_by filtered_further
 projected-is =
     estimate-node counted plain (class_rows counted plain lines) lines 4 (Projection (0 ∷ 3 ∷ [])) (filtered ∷ [])
     ∙ ap (λ (a : Estimate). node_estimate counted plain (class_rows counted plain lines) lines (Implements 4 (Projection (0 ∷ 3 ∷ []))) (inputs_of (a ∷ []))) filtered-is
@@ -99,17 +99,17 @@ scanned-is : (c : Condition) (index : ℕ) → plan_cost counted indexed (select
 scanned-is c index = ap (λ (e : Estimate). e.cost) (estimate-node counted indexed (class_rows counted indexed (selected c)) (selected c) 2 (IndexScan (record { line = 1; instance = 1; index = index }) (c ∷ [])) [])
 
 outer-is : plan_estimate counted indexed (class_rows counted indexed matched) matched (node 0 (Scan 0) []) ≡ record { rows = 3; cost = 130 }
-unfolding cut per_million equal.counted equal.leader_by also_asked
+unfolding cut per_million equal.counted equal.leader_by filtered_further
 outer-is = estimate-node counted indexed (class_rows counted indexed matched) matched 0 (Scan 0) []
 
 probed-is : plan_cost counted indexed matched (node 2 probing (node 0 (Scan 0) [] ∷ [])) ≡ 1090
-unfolding cut per_million equal.counted equal.leader_by also_asked
+unfolding cut per_million equal.counted equal.leader_by filtered_further
 probed-is =
     ap (λ (e : Estimate). e.cost) (estimate-node counted indexed (class_rows counted indexed matched) matched 2 probing (node 0 (Scan 0) [] ∷ []))
     ∙ ap (λ (a : Estimate). node_cost counted indexed (Implements 2 probing) 0 (inputs_of (a ∷ []))) outer-is
 
 pub worked_indexes : WorkedIndexes
-unfolding cut per_million equal.counted equal.leader_by also_asked
+unfolding cut per_million equal.counted equal.leader_by filtered_further
 worked_indexes = record {
   of_key = simp selectivity-Compare refl;
   of_unique_key = simp selectivity-Compare refl;

@@ -18,7 +18,7 @@ use Rattle.derivation.specs.declared.line.Line.TheVariants.{Founds, Adds, Unites
 use Rattle.derivation.specs.Logs.{Log, knowledge}
 use Rattle.statistics.specs.declared.counts.Statistics.{Statistics}
 use Rattle.costs.specs.declared.cardinalities.Estimator.{Estimator}
-use Rattle.costs.specs.declared.condition_lists.Asked.{Asked}
+use Rattle.costs.specs.declared.condition_lists.Filtered.{Filtered}
 use Rattle.costs.specs.Equalities.{counted, with_equations, within}
 use Rattle.costs.specs.Numbers.{cut, per_million}
 use Rattle.costs.specs.Tables.{rows_of}
@@ -27,19 +27,19 @@ use Rattle.costs.specs.Selectivity.{both, selectivity}
 -- ---- conditions
 
 -- of so many rows those of a share, a millionth at least
-abbrev pub kept : Asked → ℕ
-kept asked = per_million asked.rows (max 1 asked.share)
+abbrev pub kept : Filtered → ℕ
+kept filtered = per_million filtered.rows (max 1 filtered.share)
 
 -- one condition more: where all together would keep less than a millionth, it is asked of the rows that those before it leave
-unfoldable pub also_asked : Asked → ℕ → Asked
-also_asked asked share = if nat_lt (asked.share * share) 1000000 then record { rows = kept asked; share = share } else record { rows = asked.rows; share = both asked.share share }
+unfoldable pub filtered_further : Filtered → ℕ → Filtered
+filtered_further filtered share = if nat_lt (filtered.share * share) 1000000 then record { rows = kept filtered; share = share } else record { rows = filtered.rows; share = both filtered.share share }
 
-abbrev pub all_asked : ℕ → List ℕ → Asked
-all_asked rows shares = fold also_asked (record { rows = rows; share = 1000000 }) shares
+abbrev pub all_filtered : ℕ → List ℕ → Filtered
+all_filtered rows shares = fold filtered_further (record { rows = rows; share = 1000000 }) shares
 
 -- of so many rows, those at which conditions are true
 abbrev pub passing : Statistics → List TableInstance → List Condition → ℕ → ℕ
-passing S instances C rows = kept (all_asked rows (map (selectivity S instances) C))
+passing S instances C rows = kept (all_filtered rows (map (selectivity S instances) C))
 
 -- the pairs of so many rows that make all conjuncts true
 abbrev pub condition_pairs : Statistics → List TableInstance → List Condition → ℕ → ℕ → ℕ

@@ -101,7 +101,7 @@ impl<'a> Estimator<'a> {
     }
 
     /// Of so many rows in which columns are equal, those that make all of the conditions true.
-    fn asked(
+    fn passing_counted(
         self,
         alloc: Global,
         equations: &[Equation],
@@ -221,7 +221,7 @@ fn join_rows<'c>(
     let left = class_rows(alloc, by, left, of_left.as_slice())?;
     let right = class_rows(alloc, by, right, of_right.as_slice())?;
     let on = with_others(alloc, on.as_slice(), of_pairs.as_slice())?;
-    let pairs = by.asked(
+    let pairs = by.passing_counted(
         alloc,
         equations.as_slice(),
         on.as_slice(),
@@ -244,7 +244,7 @@ fn left_join_rows(
     let equations = both(alloc, by.root_equations(left), by.root_equations(right))?;
     let (left, right) = (by.root_rows(left), by.root_rows(right));
     let on = lent(alloc, on.as_slice())?;
-    let pairs = by.asked(
+    let pairs = by.passing_counted(
         alloc,
         equations.as_slice(),
         on.as_slice(),
@@ -274,24 +274,24 @@ fn expr_rows<'c>(
         Expr::Join(on, a, b) => join_rows(alloc, by, on, (*a, *b), conditions),
         Expr::Get(instance) => {
             let rows = instance_rows(by.statistics, by.instances, *instance);
-            by.asked(alloc, equations, conditions, rows)
+            by.passing_counted(alloc, equations, conditions, rows)
         }
         Expr::LeftJoin(on, a, b) => {
             let rows = left_join_rows(alloc, by, on, (*a, *b))?;
-            by.asked(alloc, equations, conditions, rows)
+            by.passing_counted(alloc, equations, conditions, rows)
         }
         Expr::Semi(_, a, _) | Expr::Anti(_, _, a, _) => {
             let rows = by.root_rows(*a).div_ceil(2);
-            by.asked(alloc, equations, conditions, rows)
+            by.passing_counted(alloc, equations, conditions, rows)
         }
-        Expr::Keep(_, x) => by.asked(alloc, equations, conditions, by.root_rows(*x)),
+        Expr::Keep(_, x) => by.passing_counted(alloc, equations, conditions, by.root_rows(*x)),
         Expr::Distinct(x) => {
             let rows = by.root_rows(*x).div_ceil(10);
-            by.asked(alloc, equations, conditions, rows)
+            by.passing_counted(alloc, equations, conditions, rows)
         }
         Expr::Group(keys, _, x) => {
             let rows = groups(keys, by.root_rows(*x));
-            by.asked(alloc, equations, conditions, rows)
+            by.passing_counted(alloc, equations, conditions, rows)
         }
     }
 }

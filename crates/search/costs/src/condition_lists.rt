@@ -15,14 +15,14 @@ use query::TableInstance;
 use statistics::Statistics;
 use std::alloc::{AllocError, Global};
 
-/// So many rows, and the share of them that makes the conditions true that were asked of them.
+/// So many rows, and the share of them that makes the conditions true that filter them.
 #[derive(Clone, Copy)]
-pub struct Asked {
+pub struct Filtered {
     pub rows: u64,
     pub share: u64,
 }
 
-impl Asked {
+impl Filtered {
     /// The rows of the share, a millionth at least.
     pub fn kept(self) -> u64
         requires { self.share ≤ 1000000 }
@@ -32,21 +32,21 @@ impl Asked {
         per_million(self.rows, self.share.max(1))
     }
 
-    /// Asked a condition more, which so large a share makes true.
-    #[tactic(auto, unfolding(crate::specs::Cardinalities::also_asked))]
-    pub fn also(self, share: u64) -> Asked
+    /// Filtered a condition more, which so large a share makes true.
+    #[tactic(auto, unfolding(crate::specs::Cardinalities::filtered_further))]
+    pub fn also(self, share: u64) -> Filtered
         requires own { self.share ≤ 1000000 }
         requires share { share ≤ 1000000 }
-        ensures asked { result ≡ spec.also_asked self share }
+        ensures filtered { result ≡ spec.filtered_further self share }
         ensures most { result.share ≤ 1000000 }
     {
         if self.share * share < ALL {
-            return Asked {
+            return Filtered {
                 rows: self.kept(),
                 share,
             };
         }
-        Asked {
+        Filtered {
             rows: self.rows,
             share: per_million(self.share, share),
         }
@@ -62,11 +62,11 @@ pub fn passing(
 ) -> u64
     ensures { result ≡ spec.passing statistics.now instances.now (map (λ c. c.now) conditions.now) rows }
 {
-    let mut asked = Asked { rows, share: ALL };
+    let mut filtered = Filtered { rows, share: ALL };
     for condition in conditions {
-        asked = asked.also(selectivity(statistics, instances, condition));
+        filtered = filtered.also(selectivity(statistics, instances, condition));
     }
-    asked.kept()
+    filtered.kept()
 }
 
 /// The conditions that name no column of a class, and the others.

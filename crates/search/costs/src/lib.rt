@@ -13,7 +13,7 @@ pub mod plans;
 mod tables;
 
 pub use cardinalities::Cardinalities;
-pub use condition_lists::Asked;
+pub use condition_lists::Filtered;
 pub use condition_shares::selectivity;
 pub use nodes::{
     Estimate, Inputs, instance_probe_cost, instance_scan_cost, join_cost, node_cost, scan_cost,

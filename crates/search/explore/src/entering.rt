@@ -30,9 +30,9 @@ pub(crate) struct Tried {
     queue: Queue,
 }
 
-/// What is entered.
+/// Which bindings a pass enters into its queue.
 #[derive(Clone, Copy)]
-pub(crate) struct Wishes<'t> {
+pub(crate) struct PassFilter<'t> {
     pub takers: &'t Takers,
     pub products: Products,
     pub tried: &'t Tried,
@@ -42,7 +42,7 @@ pub(crate) struct Wishes<'t> {
 #[derive(Clone, Copy)]
 struct Entry<'m, 'q> {
     memo: &'m Memo<'q>,
-    wishes: Wishes<'m>,
+    filter: PassFilter<'m>,
     new: Numbered<'m>,
 }
 
@@ -93,7 +93,7 @@ impl<'m, 'q> Entry<'m, 'q> {
     /// Whether an earlier pass has tried these lines, of which the new one is the latest, and would find nothing else now. What is known of classes that
     /// conditions name isn't asked.
     fn is_tried(self, lines: &[MatchedLine<'_>]) -> bool {
-        let tried = self.wishes.tried;
+        let tried = self.filter.tried;
         let latest = self.new.number as usize;
         if latest >= tried.lines {
             return false;
@@ -120,7 +120,7 @@ impl<'m, 'q> Entry<'m, 'q> {
         if self.is_tried(lines) {
             return Ok(());
         }
-        if self.wishes.tried.queue.has_given(self.new.number, binding) {
+        if self.filter.tried.queue.has_given(self.new.number, binding) {
             return queue.add_given(binding);
         }
         let classes = self.memo.log().classes();
@@ -130,7 +130,7 @@ impl<'m, 'q> Entry<'m, 'q> {
             classes,
         };
         let promise = binding.rule.promise(alloc, at)?;
-        if self.wishes.products.allow(promise) {
+        if self.filter.products.allow(promise) {
             let width = classes.columns.columns_of(top.class).len();
             queue.add(alloc, binding, rank_of(promise), width)?;
         }
@@ -223,7 +223,7 @@ impl<'m, 'q> Entry<'m, 'q> {
         let expr = self.new.line.expr;
         for number in self.lines_of(alloc, input.of(expr))? {
             if let Some(below) = self.numbered(number) {
-                for pair in self.wishes.takers.pairs.of(expr, below.line.expr) {
+                for pair in self.filter.takers.pairs.of(expr, below.line.expr) {
                     if pair.takes(input) {
                         self.offer_over(alloc, queue, pair.rule, self.new, below)?;
                     }
@@ -258,7 +258,7 @@ impl<'m, 'q> Entry<'m, 'q> {
         top: Numbered<'_>,
     ) -> Result<(), AllocError> {
         for pair in self
-            .wishes
+            .filter
             .takers
             .pairs
             .of(top.line.expr, self.new.line.expr)
@@ -303,15 +303,15 @@ impl<'m, 'q> Entry<'m, 'q> {
     /// What fits at the line alone, and over others.
     fn enter_on_top(self, alloc: Global, queue: &mut Queue) -> Result<(), AllocError> {
         let expr = self.new.line.expr;
-        for rule in self.wishes.takers.alone.of(expr) {
+        for rule in self.filter.takers.alone.of(expr) {
             self.offer_alone(alloc, queue, *rule)?;
         }
         for input in [Input::First, Input::Second] {
-            if !self.wishes.takers.over(expr, input).is_empty() {
+            if !self.filter.takers.over(expr, input).is_empty() {
                 self.offer_input(alloc, queue, input)?;
             }
         }
-        for rule in self.wishes.takers.first.of(expr) {
+        for rule in self.filter.takers.first.of(expr) {
             self.enter_first(alloc, queue, *rule)?;
         }
         Ok(())
@@ -360,8 +360,8 @@ impl<'m, 'q> Entry<'m, 'q> {
     /// What fits at earlier lines over this one.
     fn enter_under(self, alloc: Global, queue: &mut Queue) -> Result<(), AllocError> {
         let expr = self.new.line.expr;
-        let pairs = self.wishes.takers.under.of(expr);
-        let others = self.wishes.takers.second.of(expr);
+        let pairs = self.filter.takers.under.of(expr);
+        let others = self.filter.takers.second.of(expr);
         if pairs.is_empty() && others.is_empty() {
             return Ok(());
         }
@@ -409,7 +409,7 @@ impl<'m, 'q> Entry<'m, 'q> {
 
     /// What fits at two earlier lines over this one.
     fn enter_third(self, alloc: Global, queue: &mut Queue) -> Result<(), AllocError> {
-        let rules = self.wishes.takers.third.of(self.new.line.expr);
+        let rules = self.filter.takers.third.of(self.new.line.expr);
         if rules.is_empty() {
             return Ok(());
         }
@@ -469,7 +469,7 @@ fn classes_named(alloc: Global, expr: &Expr) -> Result<Vec<ClassId>, AllocError>
 pub(crate) fn enter(
     alloc: Global,
     memo: &Memo<'_>,
-    wishes: Wishes<'_>,
+    filter: PassFilter<'_>,
     queue: &mut Queue,
     number: LineId,
 ) -> Result<(), AllocError> {
@@ -478,7 +478,7 @@ pub(crate) fn enter(
     };
     let entry = Entry {
         memo,
-        wishes,
+        filter,
         new: Numbered { number, line },
     };
     entry.enter_on_top(alloc, queue)?;

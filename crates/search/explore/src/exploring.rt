@@ -5,7 +5,7 @@ ghost use Rattle.closure.specs.Closed.{IsClosed};
 ghost use Rattle.closure.specs.Lacking.{IsMissing};
 ghost use Rattle.memo.specs.Growth.{Grows, IsWithin, Extends, FoundsDirectly};
 
-use crate::entering::{Tried, Wishes, enter};
+use crate::entering::{PassFilter, Tried, enter};
 use crate::learning::{Looks, add_fact, learn_all};
 use crate::promises::Products;
 use crate::queue::{Next, Queue};
@@ -32,7 +32,7 @@ fn enter_new(
     queue: &mut Queue,
     entered: usize,
 ) -> Result<usize, AllocError> {
-    let wishes = Wishes {
+    let filter = PassFilter {
         takers,
         products,
         tried,
@@ -40,7 +40,7 @@ fn enter_new(
     let count = memo.log().len();
     for line in entered..count {
         queue.begin_line()?;
-        enter(alloc, memo, wishes, queue, id_of(line)?)?;
+        enter(alloc, memo, filter, queue, id_of(line)?)?;
     }
     Ok(count)
 }
@@ -164,9 +164,9 @@ fn add_missing(alloc: Global, memo: &mut Memo<'_>, lacking: Missing) -> Result<(
     }
 }
 
-/// Adds what each rule gives at each binding, until nothing more can be added or the log is full. Whether nothing can be added: false only where the log
-/// is full. What passes left out is added result by result, each time with what follows from it. Facts come when no result is left to add, and with them
-/// what rules give by them.
+/// Adds what each rule gives at each binding, and what facts lines give, until nothing more can be added or the log is full. Whether nothing can be added: false
+/// only where the log is full. It begins with one walk over all bindings, which is all where earlier passes left nothing out (`apply_and_learn`); else a pass
+/// follows each thing that was left out.
 #[tactic(auto, using(crate::proofs::Along::not_closed))]
 pub fn explore(alloc: Global, memo: &mut Memo<'_>) -> Result<bool, AllocError>
     ensures closed { IfOk result (λ closed. IsTrue closed ↔ IsClosed memo.new.log.instances memo.new.log.log) }
@@ -178,7 +178,6 @@ pub fn explore(alloc: Global, memo: &mut Memo<'_>) -> Result<bool, AllocError>
     ensures direct { OnOk result (FoundsDirectly memo.old.limit memo.old.log memo.new.log) }
 {
     'adding: loop {
-        apply_all(alloc, memo, Products::Made)?;
         let Some(lacking) = missing(alloc, memo.log())? else {
             return Ok(true);
         };
@@ -187,5 +186,6 @@ pub fn explore(alloc: Global, memo: &mut Memo<'_>) -> Result<bool, AllocError>
             return Ok(false);
         }
         add_missing(alloc, memo, lacking)?;
+        apply_all(alloc, memo, Products::Made)?;
     }
 }

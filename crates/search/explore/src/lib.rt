@@ -4,11 +4,11 @@
 //! loops alone.
 #![tactic(auto)]
 
-mod asked_facts;
 mod entering;
 mod exploring;
 mod keys;
 mod learning;
+mod needed_facts;
 mod news;
 mod promises;
 mod queue;

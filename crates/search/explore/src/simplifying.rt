@@ -1,6 +1,6 @@
 //! Each line of a log is simplified, those that come of it among them.
 
-use crate::asked_facts::learn_asked;
+use crate::needed_facts::learn_needed;
 use crate::takers::Takers;
 use algebra::{ClassId, Expr, LineId};
 use bindings::{Binding, BoundLines};
@@ -232,7 +232,7 @@ fn simplify_line(
     takers: &Takers,
     line: LineId,
 ) -> Result<(), AllocError> {
-    learn_asked(alloc, memo, line)?;
+    learn_needed(alloc, memo, line)?;
     let rules = rules_alone(memo, takers, line);
     simplify_alone(alloc, memo, rules, line)?;
     for input in [Input::First, Input::Second] {

@@ -1,8 +1,9 @@
 //! What is chosen for a region.
 
-use crate::chosen::JoinTree;
-use crate::graph::{Graph, Guesses};
+use crate::join_graph::JoinGraph;
+use crate::join_tree::JoinTree;
 use crate::left_joins::OuterJoin;
+use crate::log_estimates::LogEstimates;
 use crate::regions::{Parts, Region};
 use crate::subqueries::Subquery;
 use costs::Cardinalities;
@@ -10,7 +11,7 @@ use logs::Log;
 use statistics::Statistics;
 use std::alloc::{AllocError, Global};
 
-/// What is chosen for a region: its tree, the order in which its leaves are joined one by one, and the subqueries that are asked in the tree.
+/// What is chosen for a region: its tree, the order in which its leaves are joined one by one, and the subqueries that are placed in the tree.
 #[derive(Drop)]
 pub struct Choice {
     pub tree: JoinTree,
@@ -18,7 +19,7 @@ pub struct Choice {
     pub subqueries: Vec<Subquery>,
 }
 
-/// Chooses the tree of a region, by what is guessed of its leaves and conditions, and of the outer joins above it, the lowest first.
+/// Chooses the tree of a region, by what is estimated of its leaves and conditions, and of the outer joins above it, the lowest first.
 pub fn choose(
     alloc: Global,
     log: &Log<'_>,
@@ -28,16 +29,16 @@ pub fn choose(
     outer: &[OuterJoin<'_>],
 ) -> Result<Choice, AllocError> {
     let cardinalities = Cardinalities::of(alloc, statistics, log)?;
-    let guesses = Guesses {
+    let estimates = LogEstimates {
         log,
         statistics,
         cardinalities: &cardinalities,
     };
-    let mut graph = Graph::of(alloc, guesses, region, parts)?;
-    graph.note_outer(alloc, guesses, &parts.leaves, outer)?;
+    let mut graph = JoinGraph::of(alloc, estimates, region, parts)?;
+    graph.note_outer(alloc, estimates, &parts.leaves, outer)?;
     let tree = JoinTree::of(alloc, &graph)?;
     let order = tree.order(alloc, &graph)?;
-    let Graph { subqueries, .. } = graph;
+    let JoinGraph { subqueries, .. } = graph;
     Ok(Choice {
         tree,
         order,

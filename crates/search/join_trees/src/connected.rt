@@ -1,28 +1,28 @@
-//! Whether what is joined hangs together by conditions.
+//! Whether join graphs are connected.
 
-use crate::graph::mentioned;
+use crate::log_estimates::mentioned_leaves;
 use crate::regions::{Parts, Region, conditions_of, parts_of, regions_of};
 use crate::sets::{LeafSet, MOST_LEAVES};
 use algebra::LineId;
 use logs::Log;
 use std::alloc::{AllocError, Global};
 
-/// Sets of leaves, of which those that have some of these are put together.
-fn joined(alloc: Global, sets: &[LeafSet], leaves: LeafSet) -> Result<Vec<LeafSet>, AllocError> {
-    let mut joined = Vec::new(alloc);
+/// Connected components of leaves, of which those that have some of these become one.
+fn united(alloc: Global, sets: &[LeafSet], leaves: LeafSet) -> Result<Vec<LeafSet>, AllocError> {
+    let mut components = Vec::new(alloc);
     let mut together = leaves;
     for set in sets {
         if set.meets(leaves) {
             together = together.union(*set);
         } else {
-            joined.push(*set)?;
+            components.push(*set)?;
         }
     }
-    joined.push(together)?;
-    Ok(joined)
+    components.push(together)?;
+    Ok(components)
 }
 
-/// Puts together the leaves that a condition of the line mentions.
+/// Connects the leaves that a condition of the line mentions.
 fn connect(
     alloc: Global,
     log: &Log<'_>,
@@ -32,16 +32,16 @@ fn connect(
 ) -> Result<Vec<LeafSet>, AllocError> {
     let mut sets = sets;
     for condition in conditions_of(log, line) {
-        let leaves = mentioned(alloc, log, &parts.leaves, condition)?;
+        let leaves = mentioned_leaves(alloc, log, &parts.leaves, condition)?;
         if leaves.count() > 1 {
-            sets = joined(alloc, &sets, leaves)?;
+            sets = united(alloc, &sets, leaves)?;
         }
     }
     Ok(sets)
 }
 
-/// Whether the leaves of a region hang together. Of more leaves than a set holds it is said that they do.
-fn hangs_together(alloc: Global, log: &Log<'_>, region: Region) -> Result<bool, AllocError> {
+/// Whether the join graph of a region is connected. Of more leaves than a set holds it is said that it is.
+fn is_connected(alloc: Global, log: &Log<'_>, region: Region) -> Result<bool, AllocError> {
     let parts = parts_of(alloc, log, region.join)?;
     if parts.leaves.len() > MOST_LEAVES {
         return Ok(true);
@@ -59,10 +59,10 @@ fn hangs_together(alloc: Global, log: &Log<'_>, region: Region) -> Result<bool, 
     Ok(sets.len() <= 1)
 }
 
-/// Whether some inner joins of the log join what doesn't hang together by their conditions and those of the selection above them.
+/// Whether the join graph of some region of the log isn't connected: then each of its trees has a Cartesian product.
 pub fn falls_apart(alloc: Global, log: &Log<'_>) -> Result<bool, AllocError> {
     for region in &regions_of(alloc, log)? {
-        if !hangs_together(alloc, log, *region)? {
+        if !is_connected(alloc, log, *region)? {
             return Ok(true);
         }
     }

@@ -28,43 +28,43 @@ pub struct Equations {
     columns: Vec<ColumnId>,
     equalities: Vec<Equality>,
     /// All of them together, so far.
-    leaders: Leaders,
+    equivalences: Equivalences,
     /// Whether some follow from others.
     has_implied: bool,
 }
 
-/// Of each equated column, by its place, the one that leads it: columns that are equal have one leader.
+/// The equivalence classes of equated columns: of each column, by its place, the representative of its class.
 #[derive(Clone, Copy, Drop)]
-pub struct Leaders {
+pub struct Equivalences {
     by_place: [u8; MOST_COLUMNS],
 }
 
-impl Leaders {
-    /// Each column its own leader.
-    fn apart() -> Leaders {
+impl Equivalences {
+    /// Each column in a class of its own.
+    fn none() -> Equivalences {
         let mut by_place = [0; MOST_COLUMNS];
         let mut next: u8 = 0;
-        for leader in &mut by_place {
-            *leader = next;
+        for representative in &mut by_place {
+            *representative = next;
             next = next.saturating_add(1);
         }
-        Leaders { by_place }
+        Equivalences { by_place }
     }
 
-    fn leader(&self, place: usize) -> u8 {
+    fn representative(&self, place: usize) -> u8 {
         self.by_place.get(place).copied().unwrap_or(u8::MAX)
     }
 
     /// Makes two columns equal. Whether they weren't before.
     fn join(&mut self, equation: Equation) -> bool {
-        let leader = self.leader(equation.first);
-        let other = self.leader(equation.second);
-        if leader == other {
+        let first = self.representative(equation.first);
+        let second = self.representative(equation.second);
+        if first == second {
             return false;
         }
         for of_place in &mut self.by_place {
-            if *of_place == other {
-                *of_place = leader;
+            if *of_place == second {
+                *of_place = first;
             }
         }
         true
@@ -84,7 +84,7 @@ impl Equations {
         Equations {
             columns: Vec::new(alloc),
             equalities: Vec::new(alloc),
-            leaders: Leaders::apart(),
+            equivalences: Equivalences::none(),
             has_implied: false,
         }
     }
@@ -120,22 +120,22 @@ impl Equations {
             return Ok(None);
         };
         let equation = Equation { first, second };
-        self.has_implied = !self.leaders.join(equation) || self.has_implied;
+        self.has_implied = !self.equivalences.join(equation) || self.has_implied;
         self.equalities.push(Equality { leaves, equation })?;
         Ok(Some(equation))
     }
 
-    /// The leaders of the columns by the equalities within either of two sets; none where no equality follows from others.
-    pub fn leaders_within(&self, first: LeafSet, second: LeafSet) -> Option<Leaders> {
+    /// The equivalence classes by the equalities within either of two sets; none where no equality follows from others.
+    pub fn equivalences_within(&self, first: LeafSet, second: LeafSet) -> Option<Equivalences> {
         if !self.has_implied {
             return None;
         }
-        let mut leaders = Leaders::apart();
+        let mut equivalences = Equivalences::none();
         for equality in &self.equalities {
             if equality.leaves.is_within(first) || equality.leaves.is_within(second) {
-                leaders.join(equality.equation);
+                equivalences.join(equality.equation);
             }
         }
-        Some(leaders)
+        Some(equivalences)
     }
 }

@@ -1,8 +1,8 @@
 //! The join tree of many leaves, chosen greedily.
 
-use crate::chosen::{JoinTree, Joined, NOTHING, cheaper_join, leaf_joined};
-use crate::graph::Graph;
-use crate::sets::LeafSet;
+use crate::candidates::{Candidate, NO_CANDIDATE, cheaper_join, leaf_candidate};
+use crate::join_graph::JoinGraph;
+use crate::join_tree::JoinTree;
 use costs::product;
 use std::alloc::{AllocError, Global};
 
@@ -29,13 +29,13 @@ fn is_before(pair: Pair, other: Option<Pair>) -> bool {
 }
 
 /// The pair whose join has the fewest rows, products last.
-fn least_pair(graph: &Graph, parts: &[Joined]) -> Option<Pair> {
+fn least_pair(graph: &JoinGraph, parts: &[Candidate]) -> Option<Pair> {
     let mut least: Option<Pair> = None;
     for (high, second) in parts.iter().enumerate() {
         for (low, first) in parts.iter().enumerate().take(high) {
-            let pairs = product(first.rows, second.rows);
-            let rows = graph.joined_rows(first.set, second.set, pairs);
-            let is_product = !first.around.meets(second.set);
+            let pairs = product(first.node.rows, second.node.rows);
+            let rows = graph.join_rows(first.node.set, second.node.set, pairs);
+            let is_product = !first.neighbors.meets(second.node.set);
             let pair = Pair {
                 low,
                 high,
@@ -51,9 +51,9 @@ fn least_pair(graph: &Graph, parts: &[Joined]) -> Option<Pair> {
 }
 
 /// Joins a pair, which takes the place of the lower part.
-fn join_pair(graph: &Graph, parts: &mut Vec<Joined>, pair: Pair) -> Joined {
-    let first = parts.get(pair.low).copied().unwrap_or(NOTHING);
-    let second = parts.get(pair.high).copied().unwrap_or(NOTHING);
+fn join_pair(graph: &JoinGraph, parts: &mut Vec<Candidate>, pair: Pair) -> Candidate {
+    let first = parts.get(pair.low).copied().unwrap_or(NO_CANDIDATE);
+    let second = parts.get(pair.high).copied().unwrap_or(NO_CANDIDATE);
     let joined = cheaper_join(graph, first, second, pair.rows);
     if pair.high < parts.len() {
         parts.swap_remove(pair.high);
@@ -67,25 +67,20 @@ fn join_pair(graph: &Graph, parts: &mut Vec<Joined>, pair: Pair) -> Joined {
 /// The tree in which the pair with the fewest rows is joined, again and again.
 pub(crate) fn greedy_tree(
     alloc: Global,
-    graph: &Graph,
+    graph: &JoinGraph,
     count: usize,
 ) -> Result<JoinTree, AllocError> {
-    let mut sets = Vec::new(alloc);
+    let mut tree = JoinTree::without_nodes(alloc, graph)?;
     let mut parts = Vec::new(alloc);
     for place in 0..count {
-        let leaf = leaf_joined(graph, place);
-        sets.push(leaf)?;
+        let leaf = leaf_candidate(graph, place);
+        tree.nodes.push(leaf.node)?;
         parts.push(leaf)?;
     }
     for _ in 1..count {
         if let Some(pair) = least_pair(graph, &parts) {
-            sets.push(join_pair(graph, &mut parts, pair))?;
+            tree.nodes.push(join_pair(graph, &mut parts, pair).node)?;
         }
     }
-    let homes = Vec::from_elem(alloc, LeafSet::EMPTY, graph.extras.len())?;
-    Ok(JoinTree {
-        joined: sets,
-        homes,
-        asked: Vec::new(alloc),
-    })
+    Ok(tree)
 }

@@ -1,8 +1,9 @@
-//! Outer joins above a region: what one of them costs, and how many rows it makes. It may be asked of the rows of each set that has the columns of its condition.
+//! Outer joins above a region: what one of them costs, and how many rows it makes. It may be placed over each set that has the columns of its condition.
 
-use crate::estimates::{both_sides, part_of, probed};
-use crate::graph::{Guesses, mentioned};
+use crate::log_estimates::{LogEstimates, mentioned_leaves};
+use crate::selectivities::part_of;
 use crate::sets::LeafSet;
+use crate::table_costs::{index_probe_cost, join_inputs};
 use algebra::{ClassId, Condition, Conjuncts};
 use costs::{Estimate, join_cost, scan_cost, selectivity, with_each};
 use physical::JoinMethod;
@@ -16,38 +17,46 @@ pub struct OuterJoin<'a> {
     pub right: ClassId,
 }
 
-/// What is guessed of an outer join.
+/// What is estimated of an outer join.
 #[derive(Clone, Copy, Drop)]
-pub struct Padding {
+pub struct LeftJoinEstimate {
     /// The leaves of which its condition mentions a column.
     pub leaves: LeafSet,
     /// Its right side.
     right: Estimate,
     /// What finding the matches of one row costs, where an index does.
     probe: Option<u64>,
-    /// How many rows come of one: a guess, as all share one number and it is rounded up.
+    /// How many matches a row has, one at least: a mean, rounded up.
     matches: u64,
 }
 
-/// What a table costs to read; of what is no table, its rows: a guess.
-fn reading_cost(guesses: Guesses<'_, '_>, class: ClassId, rows: u64) -> u64 {
-    match guesses.instance_of(class) {
-        Some(instance) => scan_cost(guesses.statistics, guesses.log.instances(), instance),
+/// What a table costs to read; of what is no table, its rows: this crate's own estimate.
+fn reading_cost(estimates: LogEstimates<'_, '_>, class: ClassId, rows: u64) -> u64 {
+    match estimates.instance_of(class) {
+        Some(instance) => scan_cost(estimates.statistics, estimates.log.instances(), instance),
         None => rows,
     }
 }
 
 /// What finding the matches of one row in a right side that is a table costs, where an index does by one of the conditions.
-pub fn probe_of(guesses: Guesses<'_, '_>, conditions: &[Condition], right: ClassId) -> Option<u64> {
-    if guesses.instance_of(right).is_none() {
+pub fn probe_of(
+    estimates: LogEstimates<'_, '_>,
+    conditions: &[Condition],
+    right: ClassId,
+) -> Option<u64> {
+    if estimates.instance_of(right).is_none() {
         return None;
     }
-    let columns = guesses.log.classes().columns;
+    let columns = estimates.log.classes().columns;
     let mut least: Option<u64> = None;
     for conjunct in conditions {
         if let Some((a, b)) = conjunct.equated() {
             let own = if columns.has(right, a) { a } else { b };
-            if let Some(cost) = probed(guesses.statistics, guesses.log.instances(), own) {
+            if let Some(cost) = index_probe_cost(
+                estimates.statistics,
+                estimates.log.instances(),
+                own,
+            ) {
                 least = Some(least.unwrap_or(u64::MAX).min(cost));
             }
         }
@@ -55,27 +64,36 @@ pub fn probe_of(guesses: Guesses<'_, '_>, conditions: &[Condition], right: Class
     least
 }
 
-impl Padding {
-    /// What is guessed of an outer join over a region with these leaves.
+impl LeftJoinEstimate {
+    /// What is estimated of an outer join over a region with these leaves.
     pub fn of(
         alloc: Global,
-        guesses: Guesses<'_, '_>,
+        estimates: LogEstimates<'_, '_>,
         leaves: &[ClassId],
         outer: OuterJoin<'_>,
-    ) -> Result<Padding, AllocError> {
-        let rows = guesses.cardinalities.rows(outer.right);
-        let cost = reading_cost(guesses, outer.right, rows);
+    ) -> Result<LeftJoinEstimate, AllocError> {
+        let rows = estimates.cardinalities.rows(outer.right);
+        let cost = reading_cost(estimates, outer.right, rows);
         let mut matches = rows;
-        let mut mentioning = LeafSet::EMPTY;
+        let mut leaves_of_condition = LeafSet::EMPTY;
         for conjunct in outer.condition.as_slice() {
-            let share = selectivity(guesses.statistics, guesses.log.instances(), conjunct);
-            matches = part_of(matches, share);
-            mentioning = mentioning.union(mentioned(alloc, guesses.log, leaves, conjunct)?);
+            let selectivity = selectivity(
+                estimates.statistics,
+                estimates.log.instances(),
+                conjunct,
+            );
+            matches = part_of(matches, selectivity);
+            leaves_of_condition = leaves_of_condition.union(mentioned_leaves(
+                alloc,
+                estimates.log,
+                leaves,
+                conjunct,
+            )?);
         }
-        Ok(Padding {
-            leaves: mentioning,
+        Ok(LeftJoinEstimate {
+            leaves: leaves_of_condition,
             right: Estimate { rows, cost },
-            probe: probe_of(guesses, outer.condition.as_slice(), outer.right),
+            probe: probe_of(estimates, outer.condition.as_slice(), outer.right),
             matches: matches.max(1),
         })
     }
@@ -85,14 +103,14 @@ impl Padding {
         rows.saturating_mul(self.matches)
     }
 
-    /// What it costs to join so many rows, beside what these cost. That a hash join serves is a guess.
+    /// What it costs to join so many rows, beside what these cost. That a hash join serves is assumed.
     pub fn cost(self, rows: u64) -> u64 {
-        let inputs = both_sides(Estimate { rows, cost: 0 }, self.right);
-        let hashed = join_cost(JoinMethod::Hash, inputs);
-        let paired = hashed.min(join_cost(JoinMethod::NestedLoop, inputs));
+        let inputs = join_inputs(Estimate { rows, cost: 0 }, self.right);
+        let hash_join = join_cost(JoinMethod::Hash, inputs);
+        let least = hash_join.min(join_cost(JoinMethod::NestedLoop, inputs));
         match self.probe {
-            Some(each) => paired.min(with_each(0, rows, each)),
-            None => paired,
+            Some(each) => least.min(with_each(0, rows, each)),
+            None => least,
         }
     }
 }

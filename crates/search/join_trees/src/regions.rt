@@ -73,8 +73,8 @@ fn below_others(alloc: Global, log: &Log<'_>) -> Result<Vec<bool>, AllocError> {
     Ok(below)
 }
 
-/// Whether a line selects by a subquery and by something else.
-fn asks_in_turn(log: &Log<'_>, line: LineId) -> bool {
+/// Whether a line selects by a subquery and by something else: then it matters which is evaluated first.
+fn mixes_subqueries(log: &Log<'_>, line: LineId) -> bool {
     let conditions = conditions_of(log, line);
     conditions.len() > 1 && conditions.iter().any(|one| !one.has_no_class())
 }
@@ -91,7 +91,7 @@ pub fn regions_of(alloc: Global, log: &Log<'_>) -> Result<Vec<Region>, AllocErro
             })?;
         }
         if let Some(class) = selected(log, line) {
-            if founding_sides(log, class).is_some() || asks_in_turn(log, line) {
+            if founding_sides(log, class).is_some() || mixes_subqueries(log, line) {
                 regions.push(Region {
                     select: Some(line),
                     join: class,

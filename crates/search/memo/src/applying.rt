@@ -10,7 +10,7 @@ use crate::keys::{Operation, Operator};
 use crate::lines::{Member, Memo};
 use crate::unadded::{Unadded, unless_refused};
 use algebra::{ClassId, Condition, Expr, LineId};
-use bindings::{Binding, Given, step_of};
+use bindings::{Binding, RuleResult, step_of};
 use derivation::Line;
 use rules::Shape;
 use std::alloc::{AllocError, Global};
@@ -50,7 +50,7 @@ impl<'q> Memo<'q> {
         ensures limit { self.new.limit ≡ self.old.limit }
     {
         match input {
-            Some(_) => self.alike(
+            Some(_) => self.look_up(
                 alloc,
                 Operation {
                     left: input,
@@ -142,7 +142,7 @@ impl<'q> Memo<'q> {
         }
     }
 
-    /// The expression that a shape is over classes. The lines that have its inner expressions are found or founded, and are added to the
+    /// The expression that a shape is over classes. The lines that have its inner expressions are looked up or founded, and are added to the
     /// list, outer before inner, left before right: a step names lines that have just these expressions.
     #[cycle(spelling)]
     fn expr_of(
@@ -208,7 +208,7 @@ impl<'q> Memo<'q> {
         let place = makes.len();
         makes.push(0)?;
         let expr = self.expr_of(alloc, shape, makes)?;
-        let member = self.founded(alloc, expr)?;
+        let member = self.intern_exact(alloc, expr)?;
         if let Some(make) = makes.get_mut(place) {
             *make = member.line;
         }
@@ -231,7 +231,7 @@ impl<'q> Memo<'q> {
         let found = if is_new {
             None
         } else {
-            self.named(alloc, &expr)?
+            self.look_up_exact(alloc, &expr)?
         };
         let Some(found) = found else {
             let step = step_of(alloc, binding, makes)?;
@@ -253,7 +253,7 @@ impl<'q> Memo<'q> {
         }))
     }
 
-    /// The line that says what the rule gives, of which the inner expressions are found or founded.
+    /// The line that says what the rule gives, of which the inner expressions are looked up or founded.
     fn result_of(
         &mut self,
         alloc: Global,
@@ -340,7 +340,7 @@ impl<'q> Memo<'q> {
         ensures limit { self.new.limit ≡ self.old.limit }
         ensures direct { OnOk result (FoundsDirectly self.old.limit self.old.log self.new.log) }
     {
-        let Some(Given { class, shape }) = binding.given(alloc, self.log())? else {
+        let Some(RuleResult { class, shape }) = binding.given(alloc, self.log())? else {
             return Ok(None);
         };
         if let Shape::Class(other) = shape {

@@ -43,16 +43,16 @@ pub(crate) struct Key {
 #[derive(Drop)]
 pub(crate) struct Keys {
     /// With the classes as they are named: equal expressions have equal ones, and only these.
-    pub named: Key,
+    pub exact: Key,
     /// With the groups of the classes: expressions that are equal up to which classes are the same have equal ones, and only these.
-    pub alike: Key,
+    pub congruent: Key,
 }
 
 /// The numbers of conditions that name classes, by what they are with the groups of these.
 pub(crate) struct ConditionNumbers {
     conditions: IndexSet<Key>,
     /// The key that was asked for last: its memory serves the next one.
-    asked: Key,
+    lent: Key,
 }
 
 // By hand, so that where it is dropped is one call.
@@ -60,7 +60,7 @@ impl Drop for ConditionNumbers {
     fn drop(self) {
         let ConditionNumbers {
             conditions: _,
-            asked: _,
+            lent: _,
         } = self;
     }
 }
@@ -215,7 +215,7 @@ impl ConditionNumbers {
     pub(crate) fn none(alloc: Global) -> ConditionNumbers {
         ConditionNumbers {
             conditions: IndexSet::new(alloc),
-            asked: Key {
+            lent: Key {
                 numbers: Vec::new(alloc),
             },
         }
@@ -241,7 +241,7 @@ impl ConditionNumbers {
     }
 
     /// The key by groups. Most conditions name no class, and then nothing in them is to be renamed.
-    pub(crate) fn alike_key(
+    pub(crate) fn congruent_key(
         &mut self,
         alloc: Global,
         operation: Operation<'_>,
@@ -261,19 +261,19 @@ impl ConditionNumbers {
     }
 
     /// The same key, which is lent until the next one is asked for.
-    pub(crate) fn asked(
+    pub(crate) fn lent_key(
         &mut self,
         alloc: Global,
         operation: Operation<'_>,
         groups: &Groups,
     ) -> Result<&Key, AllocError> {
         if operation.is_plain() {
-            self.asked.numbers.clear();
-            operation.push_key(&mut self.asked.numbers, Some(groups))?;
+            self.lent.numbers.clear();
+            operation.push_key(&mut self.lent.numbers, Some(groups))?;
         } else {
-            self.asked = self.alike_key(alloc, operation, groups)?;
+            self.lent = self.congruent_key(alloc, operation, groups)?;
         }
-        Ok(&self.asked)
+        Ok(&self.lent)
     }
 
     /// Both keys.
@@ -283,13 +283,13 @@ impl ConditionNumbers {
         operation: Operation<'_>,
         groups: &Groups,
     ) -> Result<Keys, AllocError> {
-        let named = named_key(alloc, operation)?;
-        let alike = self.alike_key(alloc, operation, groups)?;
-        Ok(Keys { named, alike })
+        let exact = exact_key(alloc, operation)?;
+        let congruent = self.congruent_key(alloc, operation, groups)?;
+        Ok(Keys { exact, congruent })
     }
 }
 
 /// The key with classes as they are named.
-pub(crate) fn named_key(alloc: Global, operation: Operation<'_>) -> Result<Key, AllocError> {
+pub(crate) fn exact_key(alloc: Global, operation: Operation<'_>) -> Result<Key, AllocError> {
     operation.key(alloc, None)
 }

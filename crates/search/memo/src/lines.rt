@@ -12,7 +12,7 @@ ghost use Rattle.memo.specs.Founding.{FoundsAlone, FoundsNothing, Finishes, foun
 ghost use Rattle.memo.specs.Growth.{Extends, FoundsDirectly, Grows, IsWithin};
 
 use crate::groups::Groups;
-use crate::keys::{ConditionNumbers, Key, Keys, Operation, named_key, operation_of};
+use crate::keys::{ConditionNumbers, Key, Keys, Operation, exact_key, operation_of};
 use crate::unadded::{Unadded, unless_refused};
 use algebra::{ClassId, Expr, LineId};
 use bindings::{Binding, line_of};
@@ -36,10 +36,10 @@ pub struct Memo<'q> {
     groups: Groups,
     conditions: ConditionNumbers,
     /// For each expression, with its classes as they are named, the first line that has it.
-    named: IndexMap<Key, LineId>,
+    exact_lines: IndexMap<Key, LineId>,
     /// For each expression, with the groups of its classes, a line that has it. Keys with a group that went over to another are never asked
     /// for again.
-    alike: IndexMap<Key, LineId>,
+    congruent_lines: IndexMap<Key, LineId>,
     /// Lines that have one expression so, and are perhaps not of one class yet.
     congruent: Vec<Congruence>,
 }
@@ -52,8 +52,8 @@ impl Drop for Memo<'_> {
             limit: _,
             groups: _,
             conditions: _,
-            named: _,
-            alike: _,
+            exact_lines: _,
+            congruent_lines: _,
             congruent: _,
         } = self;
     }
@@ -111,8 +111,8 @@ impl<'q> Memo<'q> {
             limit,
             groups: Groups::none(alloc),
             conditions: ConditionNumbers::none(alloc),
-            named: IndexMap::new(alloc),
-            alike: IndexMap::new(alloc),
+            exact_lines: IndexMap::new(alloc),
+            congruent_lines: IndexMap::new(alloc),
             congruent: Vec::new(alloc),
         };
         for line in 0..count {
@@ -144,8 +144,8 @@ impl<'q> Memo<'q> {
             limit: _,
             groups: _,
             conditions: _,
-            named: _,
-            alike: _,
+            exact_lines: _,
+            congruent_lines: _,
             congruent: _,
         } = self;
         log
@@ -205,16 +205,16 @@ impl<'q> Memo<'q> {
             return Ok(());
         };
         let operation = operation_of(member.expr);
-        let Keys { named, alike } = self.conditions.keys(alloc, operation, &self.groups)?;
+        let Keys { exact, congruent } = self.conditions.keys(alloc, operation, &self.groups)?;
         for class in &member.expr.inputs(alloc)? {
             self.groups.add_parent(*class, line)?;
         }
-        let other = self.alike.get(&alike).copied();
+        let other = self.congruent_lines.get(&congruent).copied();
         // Lines with one name have one key of groups too.
-        if other.is_none() || self.named.get(&named).is_none() {
-            self.named.insert(named, line)?;
+        if other.is_none() || self.exact_lines.get(&exact).is_none() {
+            self.exact_lines.insert(exact, line)?;
         }
-        self.enter(alike, other, line)
+        self.enter(congruent, other, line)
     }
 
     /// Enters a line by its key of groups, unless another one has that.
@@ -230,7 +230,7 @@ impl<'q> Memo<'q> {
                 })?;
             }
             None => {
-                self.alike.insert(key, line)?;
+                self.congruent_lines.insert(key, line)?;
             }
         }
         Ok(())
@@ -244,8 +244,10 @@ impl<'q> Memo<'q> {
         for line in &self.groups.unite(first, second)? {
             if let Some(member) = self.log.member(*line) {
                 let operation = operation_of(member.expr);
-                let key = self.conditions.alike_key(alloc, operation, &self.groups)?;
-                let other = self.alike.get(&key).copied();
+                let key = self
+                    .conditions
+                    .congruent_key(alloc, operation, &self.groups)?;
+                let other = self.congruent_lines.get(&key).copied();
                 self.enter(key, other, *line)?;
             }
         }
@@ -278,7 +280,12 @@ impl<'q> Memo<'q> {
     }
 
     /// Adds a line that says that two lines are alike, unless they are of one class.
-    fn say_alike(&mut self, alloc: Global, first: LineId, second: LineId) -> Result<(), AllocError>
+    fn add_congruence(
+        &mut self,
+        alloc: Global,
+        first: LineId,
+        second: LineId,
+    ) -> Result<(), AllocError>
         ensures nothing { FoundsNothing self.old.limit self.old.log self.new.log }
         ensures limit { self.new.limit ≡ self.old.limit }
     {
@@ -301,7 +308,7 @@ impl<'q> Memo<'q> {
             let Some(Congruence { first, second }) = self.congruent.pop() else {
                 break;
             };
-            self.say_alike(alloc, first, second)?;
+            self.add_congruence(alloc, first, second)?;
         }
         Ok(())
     }
@@ -366,13 +373,17 @@ impl<'q> Memo<'q> {
     }
 
     /// The first line with an expression, its classes being named as here.
-    pub(crate) fn named(&self, alloc: Global, expr: &Expr) -> Result<Option<Member>, AllocError> {
-        let key = named_key(alloc, operation_of(expr))?;
-        Ok(self.member(self.named.get(&key).copied()))
+    pub(crate) fn look_up_exact(
+        &self,
+        alloc: Global,
+        expr: &Expr,
+    ) -> Result<Option<Member>, AllocError> {
+        let key = exact_key(alloc, operation_of(expr))?;
+        Ok(self.member(self.exact_lines.get(&key).copied()))
     }
 
     /// A line with the expression that does this, up to which classes are the same.
-    pub(crate) fn alike(
+    pub(crate) fn look_up(
         &mut self,
         alloc: Global,
         operation: Operation<'_>,
@@ -380,17 +391,17 @@ impl<'q> Memo<'q> {
         ensures log { self.new.log ≡ self.old.log }
         ensures limit { self.new.limit ≡ self.old.limit }
     {
-        let key = self.conditions.asked(alloc, operation, &self.groups)?;
-        let line = self.alike.get(key).copied();
+        let key = self.conditions.lent_key(alloc, operation, &self.groups)?;
+        let line = self.congruent_lines.get(key).copied();
         Ok(self.member(line))
     }
 
     /// The first line with an expression, its classes being named as here: a new one where there is none.
-    pub(crate) fn founded(&mut self, alloc: Global, expr: Expr) -> Result<Member, Unadded>
+    pub(crate) fn intern_exact(&mut self, alloc: Global, expr: Expr) -> Result<Member, Unadded>
         ensures alone { FoundsAlone self.old.limit self.old.log self.new.log }
         ensures limit { self.new.limit ≡ self.old.limit }
     {
-        if let Some(found) = self.named(alloc, &expr)? {
+        if let Some(found) = self.look_up_exact(alloc, &expr)? {
             return Ok(found);
         }
         match self.append(alloc, Line::Founds(expr))? {
@@ -401,15 +412,15 @@ impl<'q> Memo<'q> {
 
     /// The class of an expression, up to which classes are the same; a new one where no line has it, none where the log refuses it.
     #[tactic(auto, using(crate::proofs::Growth::extended_along, crate::proofs::Founding::alone_extends, crate::proofs::Founding::nothing_extends))]
-    pub fn found(&mut self, alloc: Global, expr: Expr) -> Result<Option<ClassId>, AllocError>
+    pub fn intern(&mut self, alloc: Global, expr: Expr) -> Result<Option<ClassId>, AllocError>
         ensures grows { Grows self.old.log self.new.log }
         ensures within { IsWithin self.old.limit self.old.log self.new.log }
         ensures limit { self.new.limit ≡ self.old.limit }
     {
-        if let Some(member) = self.alike(alloc, operation_of(&expr))? {
+        if let Some(member) = self.look_up(alloc, operation_of(&expr))? {
             return Ok(Some(member.class));
         }
-        match unless_refused(self.founded(alloc, expr))? {
+        match unless_refused(self.intern_exact(alloc, expr))? {
             Some(member) => {
                 self.close(alloc)?;
                 Ok(Some(member.class))
@@ -428,7 +439,7 @@ impl<'q> Memo<'q> {
         ensures log { self.new.log ≡ self.old.log }
         ensures limit { self.new.limit ≡ self.old.limit }
     {
-        match self.alike(alloc, operation_of(expr))? {
+        match self.look_up(alloc, operation_of(expr))? {
             Some(member) if self.log.are_same(member.class, class) => Ok(Some(member.line)),
             _ => Ok(None),
         }

@@ -16,7 +16,7 @@ pub length-log : (lines : List Expr) → length (log_of lines) ≡ length lines
 length-log lines = length-map (reverse lines) Founds ∙ length-reverse lines
 
 -- no line unites two classes
-least-founded : (E : List Expr) (k : ℕ) → least (map Founds E) k ≡ k
+pub least-founded : (E : List Expr) (k : ℕ) → least (map Founds E) k ≡ k
 least-founded [] k = refl
 least-founded (x ∷ E) k = least-founded E k
 

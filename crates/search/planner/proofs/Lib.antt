@@ -1,7 +1,13 @@
 pub mod Accepted
+pub mod BegunLogs
+pub mod ChosenPlans
 pub mod ClassPlans
 pub mod FrameLines
 pub mod FrameLogs
+pub mod OfferedPlans
 pub mod OneCertificate
 pub mod Operators
 pub mod OrderedPlans
+pub mod QueryLogs
+pub mod RootGoals
+pub mod WholeCertificates

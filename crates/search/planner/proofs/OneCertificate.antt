@@ -95,12 +95,12 @@ operator-there (Sort keys) basic = cc
 
 module _ (instances : List TableInstance) (lines : List Expr) where
   -- the plan is of the class, in whatever columns, order and numbers
-  record Fits (g : ℕ) (p : Plan) : Type 0 where
-    cols : ℕ → List ℕ
-    ordered : Bool
-    number : ℕ
-    after : ℕ
-    fits : plan_fits instances (log_of lines) cols p ordered g number ≡ Ok after
+  pub record Fits (g : ℕ) (p : Plan) : Type 0 where
+    pub cols : ℕ → List ℕ
+    pub ordered : Bool
+    pub number : ℕ
+    pub after : ℕ
+    pub fits : plan_fits instances (log_of lines) cols p ordered g number ≡ Ok after
 
   abbrev AllFit : List ℕ → List Plan → Type 0
   AllFit [] [] = Unit {0}
@@ -220,7 +220,7 @@ module _ (instances : List TableInstance) (lines : List Expr) where
 -- ---- one certificate
 
 module _ (q : Query) where
-  fits-of : (V : Certificate) (is : IsCanonical q V) → replayed q V ≡ Ok V → Fits q.tables (query_frame q) (root q) is.below
+  pub fits-of : (V : Certificate) (is : IsCanonical q V) → replayed q V ≡ Ok V → Fits q.tables (query_frame q) (root q) is.below
   unfolding replayed
   fits-of V is replays =
       let frame : List Expr = query_frame q in

@@ -40,7 +40,7 @@ keys-subset : (numbers columns : List ℕ) (keys : List order_by.SortKey) → is
 keys-subset numbers columns [] shown = refl
 keys-subset numbers columns (k ∷ keys) shown = key-subset numbers columns k (ordered_columns numbers keys) shown (keys-subset numbers columns keys shown)
 
-same-order : (keys : List OrderKey) → same_order keys keys ≡ true
+pub same-order : (keys : List OrderKey) → same_order keys keys ≡ true
 unfolding same_order
 same-order keys = sym (tested (coded_list order_key.the_row.coded) true keys keys (λ _. refl, λ _. refl))
 

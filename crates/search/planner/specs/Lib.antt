@@ -1,4 +1,3 @@
 pub mod Canonical
-pub mod Complete
-pub mod Framed
 pub mod NotDearer
+pub mod Searched

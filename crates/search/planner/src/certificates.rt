@@ -1,19 +1,17 @@
 //! The certificate that follows a query's frame, operator by operator.
 
-ghost use Rattle.std.specs.Prelude.{◌≡◌, ◌<◌, IfOk, Ok, true, length, map, reverse};
-ghost use Rattle.query.specs.Bound.{is_bound};
+ghost use Rattle.std.specs.Prelude.{◌≡◌, ◌<◌, IfOk, Ok, true, length, map};
 ghost use Rattle.frame.specs.Frames.{is_framed};
 ghost use Rattle.derivation.specs.declared.line.Line.TheVariants.{Founds};
 ghost use Rattle.certificate.specs.Replay.{replayed};
 ghost use Rattle.planner.specs.Canonical as spec;
 
 use algebra::{ClassId, Expr};
-use certificate::{Certificate, query_order};
-use derivation::Line;
-use frame::frame_of;
+use certificate::Certificate;
+use derivation::{Line, copy_expr};
 use physical::{GroupMethod, JoinMethod, Matching, Node, Operator, OrderKey, Plan};
+use prepared_query::PreparedQuery;
 use query::ids::id_of;
-use query::{BoundQuery, Query};
 use std::alloc::{AllocError, Global};
 use values::Items;
 
@@ -93,52 +91,30 @@ fn sorted(alloc: Global, keys: Items<OrderKey>, plan: Plan) -> Result<Plan, Allo
     })
 }
 
-/// The expressions of a frame, the last one first.
-fn last_first(alloc: Global, frame: Items<Expr>) -> Result<Items<Expr>, AllocError>
-    ensures { IfOk result (λ turned. turned ≡ reverse frame) }
-{
-    let mut turned = Items::new(alloc);
-    let mut left = frame;
-    while let Some(expr) = left.pop() {
-        turned.push(expr)?;
-    }
-    Ok(turned)
-}
-
 /// The lines that found a query's classes.
-fn lines_of(alloc: Global, frame: Items<Expr>) -> Result<Items<Line>, AllocError>
-    ensures { IfOk result (λ lines. lines ≡ map Founds frame) }
+fn lines_of(alloc: Global, frame: &[Expr]) -> Result<Items<Line>, AllocError>
+    ensures { IfOk result (λ lines. lines ≡ map Founds frame.now) }
 {
     let mut lines = Items::new(alloc);
-    let mut last_first = last_first(alloc, frame)?;
-    while let Some(expr) = last_first.pop() {
-        lines.push(Line::Founds(expr))?;
+    for expr in frame {
+        lines.push(Line::Founds(copy_expr(alloc, expr)?))?;
     }
     Ok(lines)
 }
 
-/// The canonical certificate of a query's tree.
-pub(crate) fn certificate_of(alloc: Global, query: &Query) -> Result<Certificate, AllocError>
-    requires { is_bound query.now ≡ true }
+/// The certificate whose lines are the query's frame and whose plan follows it, with the sort of the ORDER BY on top.
+pub fn canonical(alloc: Global, query: &PreparedQuery<'_>) -> Result<Certificate, AllocError>
     ensures canonical { IfOk result (spec.IsCanonical query.now) }
     ensures replays { IfOk result (λ certificate. replayed query.now certificate ≡ Ok certificate) }
     ensures only { IfOk result (spec.IsOnlyCanonical query.now) }
 {
-    let order = query_order(alloc, query)?;
-    let frame = frame_of(alloc, query)?;
-    let last = frame.len() - 1;
-    let root = id_of(last)?;
-    let below = plan_of(alloc, frame.as_slice(), root)?;
-    let plan = sorted(alloc, Items::from_vec(order), below)?;
+    // its contract says that it is bound
+    let _query = query.query();
+    let order = Items::from_vec(Vec::from_slice(alloc, query.order())?);
+    let frame = query.frame();
+    let root = id_of(frame.len() - 1)?;
+    let below = plan_of(alloc, frame, root)?;
+    let plan = sorted(alloc, order, below)?;
     let lines = lines_of(alloc, frame)?;
     Ok(Certificate { lines, plan })
-}
-
-/// The certificate whose lines are the query's frame and whose plan follows it, with the sort of the ORDER BY on top.
-pub fn canonical(alloc: Global, query: &BoundQuery) -> Result<Certificate, AllocError>
-    ensures canonical { IfOk result (spec.IsCanonical query.now) }
-    ensures replays { IfOk result (λ certificate. replayed query.now certificate ≡ Ok certificate) }
-    ensures only { IfOk result (spec.IsOnlyCanonical query.now) }
-{
-    certificate_of(alloc, query.query())
 }

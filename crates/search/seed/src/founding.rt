@@ -1,16 +1,18 @@
 //! The classes of the chosen tree, founded by its own joins.
 //!
-//! A class has the rows that are guessed of the line that founds it, and of classes that are the same the first line counts. So the classes of the
+//! A class has the rows that are estimated of the line that founds it, and of classes that are the same the first line counts. So the classes of the
 //! tree are founded before steps come to them by other joins, and have the rows that the tree was chosen by.
 
 use algebra::{ClassId, Condition, Conjuncts, Expr};
-use join_trees::{Choice, JoinTree, Joined, LeafSet, Parts, Region, conditions_of, mentioned};
+use join_trees::{
+    Choice, JoinTree, LeafSet, Parts, Region, TreeNode, conditions_of, mentioned_leaves,
+};
 use memo::Memo;
 use std::alloc::{AllocError, Global};
 
-/// A condition, and the leaves of which it mentions a column.
+/// A condition of a region, and the leaves of which it mentions a column.
 #[derive(Drop)]
-struct Placed {
+struct RegionCondition {
     leaves: LeafSet,
     condition: Condition,
 }
@@ -23,58 +25,58 @@ pub(crate) struct SetClass {
 }
 
 /// Adds the conditions of a line that name no class.
-fn place(
+fn add_conditions(
     alloc: Global,
     memo: &Memo<'_>,
     parts: &Parts,
     line: u32,
-    placed: &mut Vec<Placed>,
+    conditions: &mut Vec<RegionCondition>,
 ) -> Result<(), AllocError> {
     for condition in conditions_of(memo.log(), line) {
         if condition.has_no_class() {
-            let leaves = mentioned(alloc, memo.log(), &parts.leaves, condition)?;
+            let leaves = mentioned_leaves(alloc, memo.log(), &parts.leaves, condition)?;
             let condition = condition.copy(alloc)?;
-            placed.push(Placed { leaves, condition })?;
+            conditions.push(RegionCondition { leaves, condition })?;
         }
     }
     Ok(())
 }
 
 /// The conditions of a region.
-fn placed_conditions(
+fn region_conditions(
     alloc: Global,
     memo: &Memo<'_>,
     region: Region,
     parts: &Parts,
-) -> Result<Vec<Placed>, AllocError> {
-    let mut placed = Vec::new(alloc);
+) -> Result<Vec<RegionCondition>, AllocError> {
+    let mut conditions = Vec::new(alloc);
     for line in &parts.joins {
-        place(alloc, memo, parts, *line, &mut placed)?;
+        add_conditions(alloc, memo, parts, *line, &mut conditions)?;
     }
     if let Some(line) = region.select {
-        place(alloc, memo, parts, line, &mut placed)?;
+        add_conditions(alloc, memo, parts, line, &mut conditions)?;
     }
-    Ok(placed)
+    Ok(conditions)
 }
 
-/// The conditions over the set that stand in neither side.
+/// The conditions over the set of a node that stand in neither side.
 fn conditions_over(
     alloc: Global,
-    placed: &[Placed],
+    conditions: &[RegionCondition],
     tree: &JoinTree,
-    joined: Joined,
+    node: TreeNode,
 ) -> Result<Conjuncts, AllocError> {
-    let left = tree.conditioned(joined.left);
-    let right = tree.conditioned(joined.right);
-    let mut conditions = Vec::new(alloc);
-    for one in placed {
+    let left = tree.filtered(node.left);
+    let right = tree.filtered(node.right);
+    let mut over = Vec::new(alloc);
+    for one in conditions {
         let leaves = one.leaves;
-        let is_within = !leaves.is_empty() && leaves.is_within(joined.set);
+        let is_within = !leaves.is_empty() && leaves.is_within(node.set);
         if is_within && !leaves.is_within(left) && !leaves.is_within(right) {
-            conditions.push(one.condition.copy(alloc)?)?;
+            over.push(one.condition.copy(alloc)?)?;
         }
     }
-    Conjuncts::of(alloc, conditions.as_slice())
+    Conjuncts::of(alloc, over.as_slice())
 }
 
 pub(crate) fn class_of(classes: &[SetClass], set: LeafSet) -> Option<ClassId> {
@@ -86,38 +88,38 @@ pub(crate) fn class_of(classes: &[SetClass], set: LeafSet) -> Option<ClassId> {
 fn found_join(
     alloc: Global,
     memo: &mut Memo<'_>,
-    placed: &[Placed],
+    conditions: &[RegionCondition],
     tree: &JoinTree,
     classes: &[SetClass],
-    joined: Joined,
+    node: TreeNode,
 ) -> Result<Option<ClassId>, AllocError> {
-    let Some(left) = class_of(classes, joined.left) else {
+    let Some(left) = class_of(classes, node.left) else {
         return Ok(None);
     };
-    let Some(right) = class_of(classes, joined.right) else {
+    let Some(right) = class_of(classes, node.right) else {
         return Ok(None);
     };
-    let conditions = conditions_over(alloc, placed, tree, joined)?;
-    memo.found(alloc, Expr::Join(conditions, left, right))
+    let conditions = conditions_over(alloc, conditions, tree, node)?;
+    memo.intern(alloc, Expr::Join(conditions, left, right))
 }
 
-/// Founds the class of a leaf with the conditions on it alone, unless it stands without them.
+/// Founds the class of a leaf with the conditions on it alone, unless it is unfiltered.
 fn found_leaf(
     alloc: Global,
     memo: &mut Memo<'_>,
-    placed: &[Placed],
+    conditions: &[RegionCondition],
     tree: &JoinTree,
-    leaf: Joined,
+    leaf: TreeNode,
     class: ClassId,
 ) -> Result<Option<ClassId>, AllocError> {
-    let conditions = conditions_over(alloc, placed, tree, leaf)?;
-    if leaf.is_bare || conditions.as_slice().is_empty() {
+    let conditions = conditions_over(alloc, conditions, tree, leaf)?;
+    if leaf.is_unfiltered || conditions.as_slice().is_empty() {
         return Ok(Some(class));
     }
-    memo.found(alloc, Expr::Select(conditions, class))
+    memo.intern(alloc, Expr::Select(conditions, class))
 }
 
-/// Founds the classes of the tree's sets, each behind those of its sides. That of the whole is the region's own, unless subqueries are asked of its rows.
+/// Founds the classes of the tree's sets, each behind those of its sides. That of the whole is the region's own, unless subqueries are placed over it.
 pub(crate) fn found_tree(
     alloc: Global,
     memo: &mut Memo<'_>,
@@ -126,26 +128,26 @@ pub(crate) fn found_tree(
     choice: &Choice,
 ) -> Result<Vec<SetClass>, AllocError> {
     let tree = &choice.tree;
-    let placed = placed_conditions(alloc, memo, region, parts)?;
+    let conditions = region_conditions(alloc, memo, region, parts)?;
     let mut classes = Vec::new(alloc);
     for (place, class) in parts.leaves.iter().enumerate() {
         let set = LeafSet::single(place);
-        let leaf = tree.joined(set);
-        if let Some(class) = found_leaf(alloc, memo, placed.as_slice(), tree, leaf, *class)? {
+        let leaf = tree.node(set);
+        if let Some(class) = found_leaf(alloc, memo, conditions.as_slice(), tree, leaf, *class)? {
             classes.push(SetClass { set, class })?;
         }
     }
     let joins = tree.joins(alloc)?;
-    for joined in joins.iter().rev() {
-        if joined.set != tree.root().set || !choice.subqueries.is_empty() {
-            let set = joined.set;
+    for node in joins.iter().rev() {
+        if node.set != tree.root().set || !choice.subqueries.is_empty() {
+            let set = node.set;
             let class = found_join(
                 alloc,
                 memo,
-                placed.as_slice(),
+                conditions.as_slice(),
                 tree,
                 classes.as_slice(),
-                *joined,
+                *node,
             )?;
             if let Some(class) = class {
                 classes.push(SetClass { set, class })?;

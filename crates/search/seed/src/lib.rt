@@ -5,15 +5,15 @@
 #![tactic(auto)]
 
 mod correlated;
+mod filter_pushdown;
 mod founding;
-mod lifting;
-mod lowering;
+mod left_join_pullup;
+mod left_join_pushdown;
 mod nodes;
-mod placing;
 mod raising;
 mod reaching;
 mod seeding;
-mod sinking;
+mod subquery_placement;
 
 pub use raising::raise_left_joins;
 pub use seeding::seed;

@@ -172,7 +172,7 @@ impl Nodes {
     }
 
     /// The join with its sides the other way round.
-    pub(crate) fn turned(
+    pub(crate) fn commuted(
         &mut self,
         alloc: Global,
         memo: &mut Memo<'_>,
@@ -238,25 +238,17 @@ impl Nodes {
             return Ok(Some(number));
         }
         if second == wanted {
-            return self.turned(alloc, memo, number);
+            return self.commuted(alloc, memo, number);
         }
         if second.is_within(wanted) || !second.meets(wanted) {
             let is_inside = second.is_within(wanted);
-            let part = if is_inside {
-                first.minus(wanted)
-            } else {
-                first.intersection(wanted)
-            };
+            let part = leaves_apart(first, wanted, is_inside);
             let inner = self.split(alloc, memo, left, part, below)?;
             let joined = self.associated_to(alloc, memo, number, inner)?;
-            return if is_inside {
-                self.turned_again(alloc, memo, joined)
-            } else {
-                Ok(joined)
-            };
+            return self.commuted_if(alloc, memo, joined, is_inside);
         }
         let next = if first.is_within(wanted) || !first.meets(wanted) {
-            self.turned(alloc, memo, number)?
+            self.commuted(alloc, memo, number)?
         } else {
             let inner = self.split(alloc, memo, left, first.intersection(wanted), below)?;
             self.associated_to(alloc, memo, number, inner)?
@@ -280,15 +272,25 @@ impl Nodes {
         }
     }
 
-    pub(crate) fn turned_again(
+    fn commuted_if(
         &mut self,
         alloc: Global,
         memo: &mut Memo<'_>,
         number: Option<usize>,
+        is_wanted: bool,
     ) -> Result<Option<usize>, AllocError> {
         match number {
-            Some(number) => self.turned(alloc, memo, number),
-            None => Ok(None),
+            Some(number) if is_wanted => self.commuted(alloc, memo, number),
+            _ => Ok(number),
         }
+    }
+}
+
+/// Of the leaves of a side those that stand apart from the other side: where that is wanted, those that aren't, else those that are.
+fn leaves_apart(side: LeafSet, wanted: LeafSet, is_other_wanted: bool) -> LeafSet {
+    if is_other_wanted {
+        side.minus(wanted)
+    } else {
+        side.intersection(wanted)
     }
 }

@@ -22,8 +22,8 @@ pub(crate) fn left_joins_of(
     Ok(lines)
 }
 
-/// Brings a line that is an inner join below the outer joins of its left side. Where its right side is one, the join is turned for that.
-fn lower(alloc: Global, memo: &mut Memo<'_>, line: LineId) -> Result<(), AllocError> {
+/// Puts a line that is an inner join below the outer joins of its left side. Where its right side is one, the join is commuted for that.
+fn put_below(alloc: Global, memo: &mut Memo<'_>, line: LineId) -> Result<(), AllocError> {
     let Some(join) = join_line(memo, line) else {
         return Ok(());
     };
@@ -38,12 +38,12 @@ fn lower(alloc: Global, memo: &mut Memo<'_>, line: LineId) -> Result<(), AllocEr
 }
 
 /// Adds lines to a log by which each inner join is below the outer joins that its condition doesn't read. Whether there were such joins. Those of a region are
-/// chosen by themselves then, and an outer join is asked of few rows where they leave few.
+/// chosen by themselves then, and an outer join is placed over few rows where they leave few.
 pub fn raise_left_joins(alloc: Global, memo: &mut Memo<'_>) -> Result<bool, AllocError> {
     let before = memo.log().len();
     for line in 0..MOST_LINES {
         if line < memo.log().len() {
-            lower(alloc, memo, id_of(line)?)?;
+            put_below(alloc, memo, id_of(line)?)?;
         }
     }
     Ok(memo.log().len() > before)

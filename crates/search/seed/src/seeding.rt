@@ -1,12 +1,12 @@
 //! The seed of a log.
 
-use crate::correlated::part_correlated;
+use crate::correlated::split_correlated;
+use crate::filter_pushdown::{FilterPushdown, push_condition, push_selection, right_deep};
 use crate::founding::found_tree;
-use crate::lowering::{Padded, padded_above, place_left_joins};
+use crate::left_join_pushdown::{LeftJoinLine, left_joins_above, place_left_joins};
 use crate::nodes::Nodes;
-use crate::placing::{Asked, place_beside, place_subqueries};
 use crate::reaching::reach;
-use crate::sinking::{Wishes, combed, lowered, sunk};
+use crate::subquery_placement::{PlacedSubqueries, place_below_probing, place_subqueries};
 use algebra::{ClassId, LineId};
 use join_trees::{
     Choice, JoinTree, LeafSet, MOST_LEAVES, OuterJoin, Parts, Region, choose, founding_sides,
@@ -16,19 +16,18 @@ use memo::Memo;
 use statistics::Statistics;
 use std::alloc::{AllocError, Global};
 
-/// The leaves that are filtered before they are joined: all but those whose matches are found by an index, and those that stand without their
-/// conditions in the tree.
-fn pushed_leaves(alloc: Global, tree: &JoinTree, count: usize) -> Result<LeafSet, AllocError> {
-    let mut pushed = LeafSet::EMPTY;
+/// The leaves that are filtered before they are joined: all but those whose matches are found by an index, and those that are unfiltered in the tree.
+fn filtered_leaves(alloc: Global, tree: &JoinTree, count: usize) -> Result<LeafSet, AllocError> {
+    let mut filtered = LeafSet::EMPTY;
     for place in 0..count {
-        pushed = pushed.union(tree.conditioned(LeafSet::single(place)));
+        filtered = filtered.union(tree.filtered(LeafSet::single(place)));
     }
-    for joined in tree.joins(alloc)? {
-        if joined.is_probed {
-            pushed = pushed.minus(joined.right);
+    for join in tree.joins(alloc)? {
+        if join.is_probed {
+            filtered = filtered.minus(join.right);
         }
     }
-    Ok(pushed)
+    Ok(filtered)
 }
 
 /// The number of the node of a class: leaves have the first numbers, and those of joins are listed.
@@ -42,12 +41,12 @@ fn node_of(parts: &Parts, built: &[usize], class: ClassId) -> usize {
     }
 }
 
-/// The nodes of a region's joins as they stand, with conditions on one side alone brought below. The last one is that of the region.
-fn built(
+/// Adds the nodes of a region's joins as they stand, with conditions on one side alone pushed to that. The last one is that of the region.
+fn add_joins(
     alloc: Global,
     memo: &mut Memo<'_>,
     nodes: &mut Nodes,
-    wishes: Wishes<'_>,
+    pushdown: FilterPushdown<'_>,
     parts: &Parts,
 ) -> Result<Option<usize>, AllocError> {
     let mut built = Vec::new(alloc);
@@ -60,7 +59,7 @@ fn built(
             let left = node_of(parts, &built, sides.left);
             let right = node_of(parts, &built, sides.right);
             if let Some(join) = nodes.add_join(*line, Some(*line), left, right)? {
-                number = lowered(alloc, memo, nodes, wishes, join)?;
+                number = push_condition(alloc, memo, nodes, pushdown, join)?;
             }
         }
         built.push(number)?;
@@ -75,33 +74,33 @@ fn seed_tree(
     region: Region,
     parts: &Parts,
     choice: &Choice,
-    above: &[Padded],
+    above: &[LeftJoinLine],
 ) -> Result<(), AllocError> {
     let tree = &choice.tree;
     let classes = found_tree(alloc, memo, region, parts, choice)?;
-    let asked = Asked {
+    let placed = PlacedSubqueries {
         tree,
         classes: classes.as_slice(),
         subqueries: choice.subqueries.as_slice(),
     };
-    if !asked.subqueries.is_empty() {
-        place_subqueries(alloc, memo, asked)?;
+    if !placed.subqueries.is_empty() {
+        place_subqueries(alloc, memo, placed)?;
     }
-    let wishes = Wishes {
+    let pushdown = FilterPushdown {
         leaves: &parts.leaves,
-        pushed: pushed_leaves(alloc, tree, parts.leaves.len())?,
+        filtered: filtered_leaves(alloc, tree, parts.leaves.len())?,
         order: &choice.order,
     };
     let mut nodes = Nodes::new(alloc);
-    let Some(top) = built(alloc, memo, &mut nodes, wishes, parts)? else {
+    let Some(top) = add_joins(alloc, memo, &mut nodes, pushdown, parts)? else {
         return Ok(());
     };
     let top = match region.select {
-        Some(line) => sunk(alloc, memo, &mut nodes, wishes, line, top)?,
-        None => combed(alloc, memo, &mut nodes, wishes.order, top)?,
+        Some(line) => push_selection(alloc, memo, &mut nodes, pushdown, line, top)?,
+        None => right_deep(alloc, memo, &mut nodes, pushdown.order, top)?,
     };
-    reach(alloc, memo, &mut nodes, wishes, tree, top)?;
-    place_beside(alloc, memo, asked)?;
+    reach(alloc, memo, &mut nodes, pushdown, tree, top)?;
+    place_below_probing(alloc, memo, placed)?;
     let whole = class_of_region(memo, region);
     place_left_joins(alloc, memo, &parts.leaves, choice, above, whole, classes)
 }
@@ -114,7 +113,7 @@ fn class_of_region(memo: &Memo<'_>, region: Region) -> ClassId {
     }
 }
 
-/// Seeds a region. What its tree is guessed to cost, if one is chosen.
+/// Seeds a region. What its tree is estimated to cost, if one is chosen.
 fn seed_region(
     alloc: Global,
     memo: &mut Memo<'_>,
@@ -125,7 +124,7 @@ fn seed_region(
     if parts.leaves.len() > MOST_LEAVES {
         return Ok(None);
     }
-    let above = padded_above(alloc, memo, class_of_region(memo, region))?;
+    let above = left_joins_above(alloc, memo, class_of_region(memo, region))?;
     let mut outer = Vec::new(alloc);
     for one in &above {
         outer.push(OuterJoin {
@@ -167,17 +166,17 @@ fn regions_from(
     Ok(regions)
 }
 
-/// Adds lines to a log so that for each group of inner joins that hang together a tree that seems good is among its plans. What these trees are guessed to
-/// cost together, without what stands above them, if any is chosen. What a subquery selects by its own rows alone comes first, since what it costs to ask the
-/// subquery of other rows depends on that.
+/// Adds lines to a log so that for each region of inner joins a tree that seems good is among its plans. What these trees are estimated to
+/// cost together, without what stands above them, if any is chosen. What a subquery selects by its own rows alone comes first, since what it costs to evaluate the
+/// subquery over other rows depends on that.
 pub fn seed(
     alloc: Global,
     memo: &mut Memo<'_>,
     statistics: &Statistics,
 ) -> Result<Option<u64>, AllocError> {
-    let own = part_correlated(alloc, memo)?;
+    let uncorrelated = split_correlated(alloc, memo)?;
     let mut all: Option<u64> = None;
-    for region in regions_from(alloc, memo, own.as_slice())? {
+    for region in regions_from(alloc, memo, uncorrelated.as_slice())? {
         if let Some(cost) = seed_region(alloc, memo, statistics, region)? {
             all = Some(all.unwrap_or(0).saturating_add(cost));
         }

@@ -16,6 +16,7 @@ use pipeline::execution::run;
 use plan_words::derived::{expressions_of, lines_of};
 use plan_words::plans::{cut, number, plan_of};
 use plan_words::tables::TABLES;
+use prepared_query::PreparedQuery;
 use query::{BoundQuery, Query};
 use schema::Schema;
 use std::alloc::{AllocError, Global};
@@ -137,7 +138,8 @@ fn push_verdict(
 ) -> Result<(), AllocError>
     requires { TablesAreOver database.now.schema query.now }
 {
-    match check(alloc, database.schema(), query, certificate) {
+    let prepared = PreparedQuery::of(alloc, query)?;
+    match check(alloc, database.schema(), &prepared, certificate) {
         Ok(checked) => push_answer(alloc, reported, &checked, database),
         Err(Fault::Refused(refusal)) => push_refusal(reported, refusal),
         Err(Fault::Memory) => Err(AllocError),

@@ -1,12 +1,11 @@
 //! Plans that are chosen by statistics.
 
-ghost use Rattle.query.specs.Bound.{TablesAreOver};
-
-use checker::check;
 use fixtures::{COMPANY, Reporting, differences, push_lines, query_of, schema_of};
-use pipeline::{Exploration, PlanForm, explain, fault_line};
+use pipeline::{
+    Exploration, PlanForm, check, check_least, explain, explain_least, fault_line, plan_with_labels,
+};
 use plan_words::queries::QUERIES;
-use query::BoundQuery;
+use prepared_query::PreparedQuery;
 use schema::Schema;
 use statistics::Statistics;
 use std::alloc::{AllocError, Global};
@@ -72,25 +71,28 @@ SELECT e.id FROM emp e LEFT JOIN dept d ON d.id = e.dept => SQLPLAN 1/lines 6/F 
     }
 }
 
-/// Reports the plan of a query as text, or as a graph where `dot ` stands before the query, with `/` for a line's end.
+/// Reports the plan of a query as text, or as a graph where `dot ` stands before the query, with `/` for a line's end. Where `least ` stands before that,
+/// with over what it is the cheapest.
 #[derive(Clone, Copy)]
 struct Explained(Exploration);
 
 impl Reporting for Explained {
     fn report(&self, alloc: Global, text: &str, reported: &mut String) -> Result<(), AllocError> {
+        let (is_least, text) = match text.strip_prefix("least ") {
+            Some(text) => (true, text),
+            None => (false, text),
+        };
         let (form, query) = match text.strip_prefix("dot ") {
             Some(query) => (PlanForm::Graph, query),
             None => (PlanForm::Text, text),
         };
-        let shown = explain(
-            alloc,
-            form,
-            COMPANY.as_bytes(),
-            query.as_bytes(),
-            STATISTICS.as_bytes(),
-            LIMIT,
-            self.0,
-        );
+        let (schema, query) = (COMPANY.as_bytes(), query.as_bytes());
+        let statistics = STATISTICS.as_bytes();
+        let shown = if is_least {
+            explain_least(alloc, form, schema, query, statistics, LIMIT, self.0)
+        } else {
+            explain(alloc, form, schema, query, statistics, LIMIT, self.0)
+        };
         match shown {
             Ok(plan) => push_lines(
                 reported,
@@ -136,65 +138,119 @@ SELECT d.id FROM dept d WHERE EXISTS (SELECT e.id FROM emp e WHERE e.dept = d.id
     }
 }
 
-/// Adds a query for which the canonical plan is taken, whose certificate the check refuses, or whose lines are few and not closed.
-fn push_unsearched(
+/// What was found out of queries: how many there are, and for how many of them no rule adds anything to the lines of the search; and a line for each of which
+/// something isn't so.
+#[derive(Drop)]
+struct Found {
+    asked: usize,
+    complete: usize,
+    wrong: String,
+}
+
+/// Adds what isn't so of a query: that the check accepts its certificate, and `check_least` its labels.
+fn push_unaccepted(alloc: Global, found: &mut String, text: &str) -> Result<(), AllocError> {
+    let (schema, statistics) = (COMPANY.as_bytes(), STATISTICS.as_bytes());
+    let query = text.as_bytes();
+    let texts = match plan_with_labels(
+        alloc,
+        schema,
+        query,
+        statistics,
+        LIMIT,
+        Exploration::ToLimit,
+    ) {
+        Ok(texts) => texts,
+        Err(refusal) => return writeln!(found, "{text}: {refusal}"),
+    };
+    if let Err(refusal) = check(alloc, schema, query, texts.certificate.as_slice()) {
+        writeln!(found, "{text}: {refusal}")?;
+    }
+    if let Err(refusal) = check_least(alloc, schema, query, statistics, texts.labels.as_slice()) {
+        writeln!(found, "{text}: {refusal}")?;
+    }
+    Ok(())
+}
+
+/// Adds what is found out of a case's text, where that is a query over a schema.
+fn note(
     alloc: Global,
-    found: &mut String,
+    found: &mut Found,
     schema: &Schema,
-    query: &BoundQuery,
     statistics: &Statistics,
     text: &str,
-) -> Result<(), AllocError>
-    requires { TablesAreOver schema.now query.now }
-{
-    let planned = planner::plan(alloc, query, statistics, LIMIT, Exploration::ToLimit)?;
-    if !planned.is_searched {
-        writeln!(found, "{text}: the canonical plan")?;
+) -> Result<(), AllocError> {
+    if let Some(query) = &query_of(alloc, schema, text) {
+        found.asked = found.asked.saturating_add(1);
+        let query = PreparedQuery::of(alloc, query)?;
+        let planned = planner::plan(alloc, &query, statistics, LIMIT, Exploration::ToLimit)?;
+        if planned.is_complete {
+            found.complete = found.complete.saturating_add(1);
+        }
+        push_unaccepted(alloc, &mut found.wrong, text)?;
     }
-    if planned.log.len() <= 1_000 && !planner::is_complete(alloc, query, &planned)? {
-        writeln!(found, "{text}: not complete")?;
-    }
-    match check(alloc, schema, query, &planned.certificate) {
-        Ok(_) => Ok(()),
-        Err(fault) => writeln!(found, "{text}: {fault}"),
-    }
+    Ok(())
 }
 
-/// How many of the texts of cases are queries over a schema; adds those for which no plan of the search's own is taken.
-fn push_unsearched_of(
+/// Adds what is found out of the texts of all cases.
+fn note_all(
     alloc: Global,
-    found: &mut String,
+    found: &mut Found,
     schema: &Schema,
     statistics: &Statistics,
-    cases: &str,
-) -> Result<usize, AllocError> {
-    let mut asked = 0_usize;
-    for case in cases.lines() {
-        let (text, _) = case.split_once(" => ").unwrap_or((case, ""));
-        if let Some(query) = &query_of(alloc, schema, text) {
-            asked = asked.saturating_add(1);
-            push_unsearched(alloc, found, schema, query, statistics, text)?;
+) -> Result<(), AllocError> {
+    for cases in QUERIES {
+        for case in cases.lines() {
+            let (text, _) = case.split_once(" => ").unwrap_or((case, ""));
+            note(alloc, found, schema, statistics, text)?;
         }
     }
-    Ok(asked)
+    Ok(())
 }
 
-/// The search finds a plan of each query that fits it: the canonical one is never taken in its place.
+/// Each query that fits it has a plan whose certificate is accepted, and labels that show it to be the cheapest. No search comes to its limit.
 #[test]
-fn plans_are_searched_for(rt: HostRuntime) {
+fn plans_are_accepted_with_their_labels(rt: HostRuntime) {
     let alloc = rt.alloc();
-    let mut found = String::new(alloc);
-    let mut asked = 0_usize;
+    let mut found = Found {
+        asked: 0,
+        complete: 0,
+        wrong: String::new(alloc),
+    };
+    let mut ended = false;
     if let Ok(schema) = &schema_of(alloc, COMPANY) {
         if let Ok(statistics) = &Statistics::read(alloc, schema, STATISTICS.as_bytes()) {
-            for cases in QUERIES {
-                let more = push_unsearched_of(
-                    alloc, &mut found, schema, statistics, cases,
-                ).unwrap_or(0);
-                asked = asked.saturating_add(more);
-            }
+            ended = note_all(alloc, &mut found, schema, statistics).is_ok();
         }
     }
-    assert_eq!(rt; found.as_str(), "");
-    assert_eq!(rt; asked, 116);
+    assert!(rt; ended);
+    assert_eq!(rt; found.wrong.as_str(), "");
+    assert_eq!(rt; found.asked, 116);
+    assert_eq!(rt; found.complete, 116);
+}
+
+/// Behind the plan stands over how many goals and lines it is the cheapest, and whether no rule adds anything to them, which is only found out by a search to
+/// the limit.
+#[test]
+fn plans_are_told_to_be_the_cheapest(rt: HostRuntime) {
+    const TO_LIMIT: &str =
+        r#"least SELECT * FROM dept => scan dept dept rows=3 cost=130/least of 1 goals over 7 lines, closed/
+least SELECT id FROM emp ORDER BY id => sort emp.id ASC rows=4 cost=153/  cut emp.id rows=4 cost=141/    scan emp emp rows=4 cost=140/least of 4 goals over 9 lines, closed/
+least dot SELECT * FROM dept => digraph plan {/  n0 [label="scan dept dept rows=3 cost=130"];/}/// least of 1 goals over 7 lines, closed/
+least SELECT nothing FROM emp => refused B02 at 7"#;
+    const WHILE_WORTHWHILE: &str =
+        r#"least SELECT * FROM dept => scan dept dept rows=3 cost=130/least of 1 goals, not closed at 3 lines/
+least dot SELECT * FROM dept => digraph plan {/  n0 [label="scan dept dept rows=3 cost=130"];/}/// least of 1 goals, not closed at 3 lines/"#;
+    assert_eq!(rt;
+        differences(rt.alloc(), &[TO_LIMIT], &Explained(Exploration::ToLimit)).as_deref(),
+        Ok("")
+    );
+    assert_eq!(rt;
+        differences(
+            rt.alloc(),
+            &[WHILE_WORTHWHILE],
+            &Explained(Exploration::WhileWorthwhile)
+        )
+        .as_deref(),
+        Ok("")
+    );
 }

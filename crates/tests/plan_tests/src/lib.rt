@@ -13,3 +13,5 @@ mod commands;
 mod files;
 #[cfg(test)]
 mod handed_certificates;
+#[cfg(test)]
+mod labelled;

@@ -7,6 +7,7 @@ use fixtures::{COMPANY, DEPT, EMP, QueryReporting, Tables, push_number, query_di
 use physical::{GroupMethod, IndexAccess, JoinMethod, Matching, Node, Operator, Plan};
 use plan_words::texts::{push_aggregates, push_columns, push_keys, push_line};
 use planner::canonical;
+use prepared_query::PreparedQuery;
 use query::BoundQuery;
 use std::alloc::{AllocError, Global};
 use store::Database;
@@ -197,7 +198,8 @@ impl QueryReporting for Canonical {
         _more: &str,
         reported: &mut String,
     ) -> Result<(), AllocError> {
-        push_certificate(alloc, reported, &canonical(alloc, query)?)
+        let prepared = PreparedQuery::of(alloc, query)?;
+        push_certificate(alloc, reported, &canonical(alloc, &prepared)?)
     }
 }
 

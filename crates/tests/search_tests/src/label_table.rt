@@ -6,6 +6,7 @@ use labels::{Goal, Label, check_least};
 use logs::Log;
 use physical::OrderKey;
 use planner::canonical;
+use prepared_query::PreparedQuery;
 use query::BoundQuery;
 use statistics::Statistics;
 use std::alloc::{AllocError, Global};
@@ -61,7 +62,7 @@ fn shows_least(
     statistics: &Statistics,
     labels: &[Label],
 ) -> Result<bool, AllocError> {
-    let certificate = canonical(alloc, query)?;
+    let certificate = canonical(alloc, &PreparedQuery::of(alloc, query)?)?;
     let mut log = Log::new(alloc, query.query().tables.as_slice(), &[]);
     for line in certificate.lines.as_slice() {
         let _ = log.push(alloc, line.copy(alloc)?);

@@ -3,7 +3,7 @@
 use bindings::{Binding, BoundLines};
 use closure::{is_closed, missing, next_line};
 use derivation::{Line, Step};
-use explore::explore;
+use explore::{Products, apply_all, explore};
 use fixtures::{
     COMPANY, DEPT, EMP, QueryReporting, Tables, push_number, push_numbers, query_differences,
 };
@@ -102,7 +102,7 @@ fn push_done(
     let (verb, more) = cut(words, " ");
     let (first, rest) = cut(more, " ");
     match verb {
-        "found" => push_found(reported, memo.found(alloc, expr_of(alloc, more)?)?),
+        "found" => push_found(reported, memo.intern(alloc, expr_of(alloc, more)?)?),
         "line" => push_found(
             reported,
             memo.line_of(alloc, id(first), &expr_of(alloc, rest)?)?,
@@ -130,6 +130,7 @@ fn push_done(
             reported.push_str(if is_known { "known" } else { "not known" })
         }
         "explore" => {
+            apply_all(alloc, memo, Products::Made)?;
             let is_whole = explore(alloc, memo)?;
             reported.push_str(if is_whole { "whole" } else { "not whole" })
         }

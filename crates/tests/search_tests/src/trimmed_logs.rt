@@ -1,9 +1,6 @@
 //! Certificates with those lines of a log that a plan needs.
 
 use crate::canonical::push_plan;
-use algebra::Aggregation;
-use certificate::judging::{judged_log, own_aggregates};
-use certificate::query_order;
 use costs::{Cardinalities, cost};
 use derivation::{Line, Step};
 use explore::{Products, apply_all, simplify};
@@ -11,7 +8,7 @@ use fixtures::{
     COMPANY, DEPT, EMP, QueryReporting, Tables, push_number, push_numbers, query_differences,
     query_of, schema_of,
 };
-use frame::frame_of;
+use labels::Goal;
 use logs::Log;
 use memo::Memo;
 use physical::Plan;
@@ -20,17 +17,19 @@ use plan_words::plans::{cut, number, plan_of};
 use plan_words::queries::QUERIES;
 use plan_words::texts::push_line;
 use planner::canonical;
+use prepared_query::PreparedQuery;
 use props::Fact;
 use query::BoundQuery;
 use query::ids::id_of;
 use schema::Schema;
-use search::best;
 use seed::seed;
 use statistics::Statistics;
 use std::alloc::{AllocError, Global};
 use std::fmt::Write;
 use store::Database;
 use trimming::trimmed;
+use values::Items;
+use winners::best;
 
 /// Lines of a log, at most.
 const LIMIT: usize = 2_000;
@@ -57,16 +56,14 @@ SELECT a.id FROM dept a JOIN emp b ON b.dept = a.id WHERE EXISTS (SELECT DISTINC
 /// What a query is planned by.
 #[derive(Clone, Copy)]
 struct Planning<'q> {
-    query: &'q BoundQuery,
-    own: &'q [Aggregation],
-    frame_lines: usize,
+    query: &'q PreparedQuery<'q>,
     statistics: &'q Statistics,
 }
 
 /// A log of the lines of a query's frame, and of others behind them.
 fn explored<'q>(alloc: Global, planning: Planning<'q>) -> Result<Log<'q>, AllocError> {
     let tables = planning.query.query().tables.as_slice();
-    let mut log = Log::new(alloc, tables, planning.own);
+    let mut log = Log::new(alloc, tables, planning.query.own());
     for line in canonical(alloc, planning.query)?.lines.as_slice() {
         let _ = log.push(alloc, line.copy(alloc)?);
     }
@@ -94,17 +91,11 @@ fn cheapest(
     planning: Planning<'_>,
     log: &Log<'_>,
 ) -> Result<Option<Plan>, AllocError> {
-    let root = id_of(planning.frame_lines.saturating_sub(1))?;
-    let order = query_order(alloc, planning.query.query())?;
+    let class = id_of(planning.query.frame().len().saturating_sub(1))?;
+    let order = Items::from_vec(Vec::from_slice(alloc, planning.query.order())?);
     let cardinalities = Cardinalities::of(alloc, planning.statistics, log)?;
-    let found = best(
-        alloc,
-        log,
-        planning.statistics,
-        &cardinalities,
-        root,
-        order.as_slice(),
-    )?;
+    let root = Goal { class, order };
+    let found = best(alloc, log, planning.statistics, &cardinalities, &root)?;
     Ok(found.map(|best| best.plan))
 }
 
@@ -117,7 +108,9 @@ fn is_least(
     part: &Log<'_>,
     own: &Plan,
 ) -> Result<bool, AllocError> {
-    let again = trimmed(alloc, part, planning.frame_lines, own)?.lines.len();
+    let again = trimmed(alloc, part, planning.query.frame().len(), own)?
+        .lines
+        .len();
     let cost = cost_over(alloc, planning.statistics, part, own)?;
     let known = cost_over(alloc, planning.statistics, log, plan)?;
     Ok(part.len() <= MOST && again == part.len() && cost == known)
@@ -131,11 +124,8 @@ fn push_faults(
     log: &Log<'_>,
     plan: &Plan,
 ) -> Result<bool, AllocError> {
-    let query = planning.query.query();
-    let certificate = trimmed(alloc, log, planning.frame_lines, plan)?;
-    let frame = frame_of(alloc, query)?;
-    let own = own_aggregates(alloc, frame.as_slice())?;
-    match &judged_log(alloc, query, frame.as_slice(), own.as_slice(), &certificate) {
+    let certificate = trimmed(alloc, log, planning.query.frame().len(), plan)?;
+    match &planning.query.judged(alloc, &certificate) {
         Ok(part) => is_least(alloc, planning, log, plan, part, &certificate.plan),
         Err(fault) => {
             writeln!(found, "{fault}")?;
@@ -151,12 +141,8 @@ fn push_trimmed(
     query: &BoundQuery,
     statistics: &Statistics,
 ) -> Result<bool, AllocError> {
-    let frame = frame_of(alloc, query.query())?;
-    let own = own_aggregates(alloc, frame.as_slice())?;
     let planning = Planning {
-        query,
-        own: own.as_slice(),
-        frame_lines: frame.len(),
+        query: &PreparedQuery::of(alloc, query)?,
         statistics,
     };
     let log = explored(alloc, planning)?;

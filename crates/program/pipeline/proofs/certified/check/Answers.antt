@@ -1,7 +1,7 @@
 use Rattle.std.proofs.Common.{◌∙◌, ap, subst, Err}
 use Rattle.std.proofs.lemmas.Result.{err_from_is_err_and, on_ok_weaker, IfErr-weaker}
 use Rattle.pipeline.proofs.Answered.{of_fault}
-use Rattle.pipeline.proofs.Prepared.{query_bound}
+use Rattle.pipeline.proofs.Prepared.{asks_prepared, query_bound}
 use Rattle.pipeline.proofs.Acceptance.{no_query_accepted, text_not_accepted, check_not_accepted, accepted}
 use Rattle.pipeline.specs.Refusals.{of_certificate, of_schema}
 use Rattle.pipeline.specs.EndToEnd.{IsQuery}
@@ -16,18 +16,18 @@ returns-in_err-certificate-clause-refused c =
     (record { is_schema = c.in_ok-schema.ensures.exact; is_query = c.in_ok-asked.ensures.ok }) c.in_err-certificate.ensures.complete c.in_err-certificate.ensures.refused)
 
 pub accept-requires : goal.accept-requires
-accept-requires c = (query_bound c.args.text.now c.in_ok-schema.schema c.in_ok-asked.asked c.in_ok-asked.ensures.ok).over
+accept-requires c = (query_bound c.args.text.now c.in_ok-schema.schema c.in_ok-query.query (asks_prepared c.args.schema.now c.args.text.now c.in_ok-schema.schema c.in_ok-asked.asked c.in_ok-query.query c.in_ok-schema.ensures.exact c.in_ok-asked.ensures.ok c.in_ok-query.ensures).is_query).over
 
 pub returns-clause-accepted : goal.returns-clause-accepted
 returns-clause-accepted c = on_ok_weaker c.accept.result
-    (accepted c.args.schema.now c.args.text.now c.args.certificate.now c.in_ok-schema.schema c.in_ok-asked.asked c.in_ok-certificate.certificate
-    (record { is_schema = c.in_ok-schema.ensures.exact; is_query = c.in_ok-asked.ensures.ok }) c.in_ok-certificate.ensures.sound)
+    (accepted c.args.schema.now c.args.text.now c.args.certificate.now c.in_ok-schema.schema c.in_ok-query.query c.in_ok-certificate.certificate
+    (asks_prepared c.args.schema.now c.args.text.now c.in_ok-schema.schema c.in_ok-asked.asked c.in_ok-query.query c.in_ok-schema.ensures.exact c.in_ok-asked.ensures.ok c.in_ok-query.ensures) c.in_ok-certificate.ensures.sound)
     c.accept.ensures.accepted
 
 pub returns-clause-refused : goal.returns-clause-refused
 returns-clause-refused c = IfErr-weaker c.accept.result _ _
-    (λ r. check_not_accepted c.args.schema.now c.args.text.now c.args.certificate.now c.in_ok-schema.schema c.in_ok-asked.asked c.in_ok-certificate.certificate r
-    (record { is_schema = c.in_ok-schema.ensures.exact; is_query = c.in_ok-asked.ensures.ok }) c.in_ok-certificate.ensures.sound)
+    (λ r. check_not_accepted c.args.schema.now c.args.text.now c.args.certificate.now c.in_ok-schema.schema c.in_ok-query.query c.in_ok-certificate.certificate r
+    (asks_prepared c.args.schema.now c.args.text.now c.in_ok-schema.schema c.in_ok-asked.asked c.in_ok-query.query c.in_ok-schema.ensures.exact c.in_ok-asked.ensures.ok c.in_ok-query.ensures) c.in_ok-certificate.ensures.sound)
     c.accept.ensures.refused
 
 pub returns-in_err-schema-clause-complete : goal.returns-in_err-schema-clause-complete
@@ -51,6 +51,6 @@ pub returns-clause-complete : goal.returns-clause-complete
 returns-clause-complete c = λ a.
     let S = c.in_ok-schema.schema in
     let schema = one_schema c.args.schema.now a.0.S S a.0.asks.is_schema c.in_ok-schema.ensures.exact in
-    let query = one_query c.args.text.now S c.in_ok-asked.asked a.0.query c.in_ok-asked.ensures.ok (subst (λ T. IsQuery c.args.text.now T a.0.query) schema a.0.asks.is_query) in
+    let query = one_query c.args.text.now S c.in_ok-query.query a.0.query (asks_prepared c.args.schema.now c.args.text.now c.in_ok-schema.schema c.in_ok-asked.asked c.in_ok-query.query c.in_ok-schema.ensures.exact c.in_ok-asked.ensures.ok c.in_ok-query.ensures).is_query (subst (λ T. IsQuery c.args.text.now T a.0.query) schema a.0.asks.is_query) in
     let read = c.in_ok-certificate.ensures.complete a.0.checked_is a.1 a.0.is_certificate in
-    IfErr-weaker c.accept.result _ _ (λ r. check_passes c.in_ok-asked.asked a.0.query c.in_ok-certificate.certificate a.0.checked_is r query read a.0.checked.replays) c.accept.ensures.refused
+    IfErr-weaker c.accept.result _ _ (λ r. check_passes c.in_ok-query.query a.0.query c.in_ok-certificate.certificate a.0.checked_is r query read a.0.checked.replays) c.accept.ensures.refused

@@ -2,7 +2,7 @@ use Rattle.std.proofs.Common.{◌∙◌, ap, Err}
 use Rattle.std.proofs.lemmas.Result.{err_from_is_err_and, IfErr-weaker, IfOk-weaker}
 use Rattle.pipeline.specs.Refusals.{of_statistics}
 use Rattle.pipeline.proofs.Answered.{of_fault}
-use Rattle.pipeline.proofs.Prepared.{query_bound}
+use Rattle.pipeline.proofs.Prepared.{asks_prepared, query_bound}
 use Rattle.pipeline.proofs.Planning.{no_query_planned, no_statistics, unwritten_planned, planned_accepts}
 use Rattle.pipeline.proofs.planned.plan.Goals as goal
 
@@ -10,20 +10,20 @@ pub returns-in_err-statistics-clause-refused : goal.returns-in_err-statistics-cl
 returns-in_err-statistics-clause-refused c =
     let p = err_from_is_err_and c.from_residual-in_err-statistics.result c.from_residual-in_err-statistics.ensures.1 in
     of_fault c.from_residual-in_err-statistics.result (of_statistics c.in_err-statistics.field-0.0) _ (p.1 ∙ ap Err p.2)
-    (no_statistics c.args.schema.now c.args.text.now c.args.statistics.now c.in_ok-schema.schema c.in_ok-query.query c.in_err-statistics.field-0.0
-    (record { is_schema = c.in_ok-schema.ensures.exact; is_query = c.in_ok-query.ensures.ok }) c.in_err-statistics.ensures.exact)
+    (no_statistics c.args.schema.now c.args.text.now c.args.statistics.now c.in_ok-schema.schema c.in_ok-asked.asked c.in_err-statistics.field-0.0
+    (record { is_schema = c.in_ok-schema.ensures.exact; is_query = c.in_ok-asked.ensures.ok }) c.in_err-statistics.ensures.exact)
 
 pub planned_text-requires : goal.planned_text-requires
-planned_text-requires c = query_bound c.args.text.now c.in_ok-schema.schema c.in_ok-query.query c.in_ok-query.ensures.ok
+planned_text-requires c = query_bound c.args.text.now c.in_ok-schema.schema c.in_ok-query.query (asks_prepared c.args.schema.now c.args.text.now c.in_ok-schema.schema c.in_ok-asked.asked c.in_ok-query.query c.in_ok-schema.ensures.exact c.in_ok-asked.ensures.ok c.in_ok-query.ensures).is_query
 
 pub returns-clause-planned : goal.returns-clause-planned
 returns-clause-planned c = IfOk-weaker c.planned_text.result _ _
     (λ text. planned_accepts c.args.schema.now c.args.text.now text.items c.in_ok-schema.schema c.in_ok-query.query
-    (record { is_schema = c.in_ok-schema.ensures.exact; is_query = c.in_ok-query.ensures.ok }))
+    (asks_prepared c.args.schema.now c.args.text.now c.in_ok-schema.schema c.in_ok-asked.asked c.in_ok-query.query c.in_ok-schema.ensures.exact c.in_ok-asked.ensures.ok c.in_ok-query.ensures))
     c.planned_text.ensures.planned
 
 pub returns-clause-refused : goal.returns-clause-refused
 returns-clause-refused c = IfErr-weaker c.planned_text.result _ _
     (λ r. unwritten_planned c.args.schema.now c.args.text.now c.args.statistics.now c.in_ok-schema.schema c.in_ok-query.query r
-    (record { is_schema = c.in_ok-schema.ensures.exact; is_query = c.in_ok-query.ensures.ok }))
+    (asks_prepared c.args.schema.now c.args.text.now c.in_ok-schema.schema c.in_ok-asked.asked c.in_ok-query.query c.in_ok-schema.ensures.exact c.in_ok-asked.ensures.ok c.in_ok-query.ensures))
     c.planned_text.ensures.refused

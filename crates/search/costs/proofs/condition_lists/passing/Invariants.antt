@@ -1,7 +1,7 @@
 use Rattle.std.proofs.Common.{◌≡◌, ◌≤◌, map, take}
-use Rattle.costs.specs.Cardinalities.{all_asked}
+use Rattle.costs.specs.Cardinalities.{all_filtered}
 use Rattle.costs.specs.Selectivity.{selectivity}
 use Rattle.costs.proofs.condition_lists.passing.Given as goal
 
 abbrev pub invariant-loop-condition : goal.invariant-loop-condition
-invariant-loop-condition l = (l.asked ≡ all_asked l.rows (map (selectivity l.statistics l.instances) (map (λ c. c.now) (take l.condition-index l.conditions)))) × (l.asked.share ≤ 1000000)
+invariant-loop-condition l = (l.filtered ≡ all_filtered l.rows (map (selectivity l.statistics l.instances) (map (λ c. c.now) (take l.condition-index l.conditions)))) × (l.filtered.share ≤ 1000000)

@@ -11,20 +11,20 @@ class_of-returns-in_err-push n c = record { alone = alone_at_first _ _; limit = 
 
 pub class_of-returns-in_err-member : goal.class_of-returns-in_err-member
 class_of-returns-in_err-member n c = record {
-  alone = alone_along _ _ _ _ c.expr_of.ensures.alone (subst (λ n. FoundsAlone n c.expr_of.new.self.log c.founded.new.self.log) c.expr_of.ensures.limit c.founded.ensures.alone);
-  limit = c.founded.ensures.limit ∙ c.expr_of.ensures.limit;
+  alone = alone_along _ _ _ _ c.expr_of.ensures.alone (subst (λ n. FoundsAlone n c.expr_of.new.self.log c.intern_exact.new.self.log) c.expr_of.ensures.limit c.intern_exact.ensures.alone);
+  limit = c.intern_exact.ensures.limit ∙ c.expr_of.ensures.limit;
 }
 
 pub class_of-returns-in-Some : goal.class_of-returns-in-Some
 class_of-returns-in-Some n c = record {
-  alone = alone_along _ _ _ _ c.expr_of.ensures.alone (subst (λ n. FoundsAlone n c.expr_of.new.self.log c.founded.new.self.log) c.expr_of.ensures.limit c.founded.ensures.alone);
-  limit = c.founded.ensures.limit ∙ c.expr_of.ensures.limit;
+  alone = alone_along _ _ _ _ c.expr_of.ensures.alone (subst (λ n. FoundsAlone n c.expr_of.new.self.log c.intern_exact.new.self.log) c.expr_of.ensures.limit c.intern_exact.ensures.alone);
+  limit = c.intern_exact.ensures.limit ∙ c.expr_of.ensures.limit;
 }
 
 pub class_of-returns-in_default-get_mut : goal.class_of-returns-in_default-get_mut
 class_of-returns-in_default-get_mut n c = record {
-  alone = alone_along _ _ _ _ c.expr_of.ensures.alone (subst (λ n. FoundsAlone n c.expr_of.new.self.log c.founded.new.self.log) c.expr_of.ensures.limit c.founded.ensures.alone);
-  limit = c.founded.ensures.limit ∙ c.expr_of.ensures.limit;
+  alone = alone_along _ _ _ _ c.expr_of.ensures.alone (subst (λ n. FoundsAlone n c.expr_of.new.self.log c.intern_exact.new.self.log) c.expr_of.ensures.limit c.intern_exact.ensures.alone);
+  limit = c.intern_exact.ensures.limit ∙ c.expr_of.ensures.limit;
 }
 
 pub expr_of-returns-in-Class-clause-alone : goal.expr_of-returns-in-Class-clause-alone

@@ -1,0 +1,32 @@
+use Rattle.std.proofs.Common.{◌∙◌, ap, Err}
+use Rattle.std.proofs.lemmas.Result.{err_from_is_err_and, IfErr-weaker, IfOk-weaker}
+use Rattle.pipeline.specs.Refusals.{of_statistics}
+use Rattle.pipeline.proofs.Answered.{of_fault}
+use Rattle.pipeline.proofs.LabelledPlans.{labelled_texts, no_query_labelled, not_counted_labelled, unlabelled}
+use Rattle.pipeline.proofs.Prepared.{asks_prepared, query_bound}
+use Rattle.pipeline.proofs.ShownLeast.{counted}
+use Rattle.pipeline.proofs.labelled.plan_with_labels.Goals as goal
+
+pub returns-in_err-statistics-clause-refused : goal.returns-in_err-statistics-clause-refused
+returns-in_err-statistics-clause-refused c =
+    let p = err_from_is_err_and c.from_residual-in_err-statistics.result c.from_residual-in_err-statistics.ensures.1 in
+    of_fault c.from_residual-in_err-statistics.result (of_statistics c.in_err-statistics.field-0.0) _ (p.1 ∙ ap Err p.2)
+    (not_counted_labelled c.args.schema.now c.args.text.now c.args.statistics.now c.in_ok-schema.schema c.in_ok-asked.asked c.in_err-statistics.field-0.0
+    (record { is_schema = c.in_ok-schema.ensures.exact; is_query = c.in_ok-asked.ensures.ok }) c.in_err-statistics.ensures.exact)
+
+pub labelled_texts-requires : goal.labelled_texts-requires
+labelled_texts-requires c = query_bound c.args.text.now c.in_ok-schema.schema c.in_ok-query.query (asks_prepared c.args.schema.now c.args.text.now c.in_ok-schema.schema c.in_ok-asked.asked c.in_ok-query.query c.in_ok-schema.ensures.exact c.in_ok-asked.ensures.ok c.in_ok-query.ensures).is_query
+
+pub returns-clause-planned : goal.returns-clause-planned
+returns-clause-planned c = IfOk-weaker c.labelled_texts.result _ _
+    (λ texts. labelled_texts c.args.schema.now c.args.text.now c.args.statistics.now texts.certificate.items texts.labels.items
+    (counted c.args.schema.now c.args.text.now c.args.statistics.now c.in_ok-schema.schema c.in_ok-query.query c.in_ok-statistics.statistics
+    (asks_prepared c.args.schema.now c.args.text.now c.in_ok-schema.schema c.in_ok-asked.asked c.in_ok-query.query c.in_ok-schema.ensures.exact c.in_ok-asked.ensures.ok c.in_ok-query.ensures) c.in_ok-statistics.ensures.exact))
+    c.labelled_texts.ensures.planned
+
+pub returns-clause-refused : goal.returns-clause-refused
+returns-clause-refused c = IfErr-weaker c.labelled_texts.result _ _
+    (λ r. unlabelled c.args.schema.now c.args.text.now c.args.statistics.now
+    (counted c.args.schema.now c.args.text.now c.args.statistics.now c.in_ok-schema.schema c.in_ok-query.query c.in_ok-statistics.statistics
+    (asks_prepared c.args.schema.now c.args.text.now c.in_ok-schema.schema c.in_ok-asked.asked c.in_ok-query.query c.in_ok-schema.ensures.exact c.in_ok-asked.ensures.ok c.in_ok-query.ensures) c.in_ok-statistics.ensures.exact) r)
+    c.labelled_texts.ensures.refused
