@@ -70,7 +70,7 @@ def tell_instructions(program, limit):
             text = subprocess.run([program, "plan", *files, *limit], capture_output=True, text=True, check=True).stdout
             (folder / "plan.cert").write_text(text)
             (plan,) = instructions(folder, [program, "plan", *files, *limit], ["planner::planned::plan"])
-            check, read = instructions(folder, [program, "check", *files[:2], folder / "plan.cert"], ["checker::checked::check", "certificate_read::reading::read"])
+            check, read = instructions(folder, [program, "check", *files[:2], folder / "plan.cert"], ["prepared_query::prepared::PreparedQuery::judged", "certificate_read::reading::read"])
             lines = text.split("\n")[1].split()[1]
             shares = f"{check / plan:.2f} | {(check + read) / plan:.2f}"
             print(f"| {shape} of {size}, {form} | {lines} | {plan:.2f} | {check:.2f} | {read:.2f} | {shares} |", flush=True)
