@@ -1,4 +1,5 @@
 pub mod FormedLogs
 pub mod Founding
 pub mod Results
+pub mod ShallowResults
 pub mod SpeltShapes

@@ -39,8 +39,9 @@ use Rattle.bindings.specs.declared.rule_results.RuleResult.{RuleResult}
 use Rattle.rules.specs.Formed.{formed, IsFormedLine, Rises}
 use Rattle.bindings.specs.Bindings.{uses_of, first_of, step_of, applied, shape_given, given_among, given_over, given_by_binding, GivesBinding}
 use Rattle.bindings.specs.Results.{IsResult}
-use Rattle.bindings.specs.Spelt.{cols, MayStand, shape_columns, IsSpelt}
+use Rattle.bindings.specs.Spelt.{cols, MayStand, shape_columns, IsPlaced, IsSpelt}
 use Rattle.bindings.proofs.FormedLogs.{AreKept, kept_by}
+use Rattle.bindings.proofs.SpeltShapes.{class_placed}
 use Rattle.book.proofs.RuleLaws.{book_formed}
 use Rattle.rules.proofs.FormedShapes.{formed_class}
 
@@ -88,39 +89,38 @@ module _ (instances : List TableInstance) (own : List Aggregation) (E : Log) whe
       said : is_expr (member E) s makes x ≡ true
       said = ap (is_whole (member E) (λ y. same_expr y x)) (ap (λ ms. (spelling (member E) s).expr ms) (sym (append-nil makes)) ∙ spelt.spelt []) ∙ same-expr x
 
-  pub unites_stand : (b : Binding) (class other : ℕ) (s : Shape) → s ≡ shape.Class other → IsResult instances own E b class s → stands instances own E (Unites class other (step_of b [])) ≡ Ok (Unites class other (step_of b []))
-  unites_stand b class other s same is =
-      ap (λ t. wanted_if UnknownLine t l >>= fitting) named ∙ ap (λ t. wanted_if IllFormed t l >>= rule) fit ∙ ap (λ r. r >>= last) (is.gives []) ∙ ap (λ t. wanted_if OtherLine t l) said
+  pub placed_unites : (b : Binding) (class other : ℕ) (s : Shape) (makes : List ℕ) → IsResult instances own E b class s → IsPlaced instances own E s other makes
+      → stands instances own E (Unites class other (step_of b makes)) ≡ Ok (Unites class other (step_of b makes))
+  placed_unites b class other s makes is placed =
+      ap (λ t. wanted_if UnknownLine t l >>= fitting) named ∙ ap (λ t. wanted_if IllFormed t l >>= rule) fit ∙ ap (λ r. r >>= last) (is.gives makes) ∙ ap (λ t. wanted_if OtherLine t l) said
     where
       l : Line
-      l = Unites class other (step_of b [])
+      l = Unites class other (step_of b makes)
 
       last : Shape → Result Line LineReason
-      last shape = wanted_if OtherLine (is_class (member E) shape [] (knowledge_.are_same K other)) l
+      last shape = wanted_if OtherLine (is_class (member E) shape makes (knowledge_.are_same K other)) l
 
       rule : Line → Result Line LineReason
-      rule l = given K E class (step_of b []) >>= λ shape. wanted_if OtherLine (is_class (member E) shape [] (knowledge_.are_same K other)) l
+      rule l = given K E class (step_of b makes) >>= λ shape. wanted_if OtherLine (is_class (member E) shape makes (knowledge_.are_same K other)) l
 
       fitting : Line → Result Line LineReason
       fitting l = wanted_if IllFormed (same_columns (cols instances E class) (cols instances E other)) l >>= rule
 
-      class-is : formed instances own (cols instances E) (founds E) (shape.Class other) ≡ record { columns = cols instances E other; is_formed = founds E other }
-      class-is = formed_class instances own (cols instances E) (founds E) other
-
-      may : MayStand instances own E (shape.Class other)
-      may = subst (MayStand instances own E) same is.may
-
-      named : (founds E class && founds E other && cites E (step_of b [])) ≡ true
-      named = and_from _ _ (and_from _ _ is.founded (sym (ap (λ f. f.is_formed) class-is) ∙ may)) (and_from _ _ is.uses refl)
+      named : (founds E class && founds E other && cites E (step_of b makes)) ≡ true
+      named = and_from _ _ (and_from _ _ is.founded placed.founded) (and_from _ _ is.uses placed.cited)
 
       columns : cols instances E class ≡ cols instances E other
-      columns = sym is.columns ∙ ap (shape_columns instances own E) same ∙ ap (λ f. f.columns) class-is
+      columns = sym is.columns ∙ sym placed.columns
 
       fit : same_columns (cols instances E class) (cols instances E other) ≡ true
       fit = ap (λ L. same_columns L (cols instances E other)) columns ∙ same_columns-refl (cols instances E other)
 
-      said : is_class (member E) s [] (knowledge_.are_same K other) ≡ true
-      said = ap (is_whole (member E) (knowledge_.are_same K other)) (ap (λ s. (spelling (member E) s).class []) same ∙ class_Class (member E) other []) ∙ itself (least E other)
+      said : is_class (member E) s makes (knowledge_.are_same K other) ≡ true
+      said = ap (is_whole (member E) (knowledge_.are_same K other)) (ap (λ ms. (spelling (member E) s).class ms) (sym (append-nil makes)) ∙ placed.spelt []) ∙ itself (least E other)
+
+  pub unites_stand : (b : Binding) (class other : ℕ) (s : Shape) → s ≡ shape.Class other → IsResult instances own E b class s → stands instances own E (Unites class other (step_of b [])) ≡ Ok (Unites class other (step_of b []))
+  unites_stand b class other s same is =
+      placed_unites b class other s [] is (subst (λ t. IsPlaced instances own E t other []) (sym same) (class_placed instances own E other (subst (MayStand instances own E) same is.may)))
 
   -- ---- what a binding's rule gives
 

@@ -1,5 +1,8 @@
 pub mod Bindings
+pub mod Founding
+pub mod Lean
 pub mod Operators
 pub mod Results
+pub mod Shallow
 pub mod Spelt
 pub mod Steps

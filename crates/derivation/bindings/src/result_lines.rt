@@ -6,6 +6,7 @@ ghost use Rattle.derivation.specs.Replay.{stands};
 ghost use Rattle.book.specs.Book.{BookIsFormed};
 ghost use Rattle.rules.specs.Formed.{Rises};
 ghost use Rattle.bindings.specs.Bindings.{GivesBinding};
+ghost use Rattle.bindings.specs.Founding.{IsResultBehind};
 ghost use Rattle.bindings.specs.Results as spec;
 ghost use Rattle.bindings.specs.Steps.{is_step};
 
@@ -78,6 +79,19 @@ pub fn line_of(alloc: Global, log: &Log<'_>, binding: Binding) -> Result<Line, A
         }
         None => unreachable!(),
     }
+}
+
+/// What the rule of a binding gives may stand, whatever classes are founded first. This does nothing: its contract is the law.
+#[tactic(auto, using(crate::proofs::Results::top_there))]
+pub fn result_may_stand(log: &Log<'_>, binding: Binding)
+    requires { GivesBinding log.now.instances log.now.log binding }
+    ensures { IsResultBehind log.now binding }
+{
+    let _lines = log.lines();
+    let Some(top) = log.member(binding.lines.top()) else {
+        unreachable!()
+    };
+    rises(log, top.expr);
 }
 
 /// Of lines that may stand each rule gives what may stand too, with the columns of the top line's class. This does nothing: its contract is the law.
