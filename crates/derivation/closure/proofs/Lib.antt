@@ -1,8 +1,11 @@
 pub mod Agreeing
 pub mod AnyLine
+pub mod ExpressionNumbers
 pub mod Fits
 pub mod LackedFacts
 pub mod Lacking
 pub mod MissingLines
+pub mod PlacedShapes
+pub mod RootedConjuncts
 pub mod Shapes
 pub mod Unique

@@ -20,18 +20,8 @@ use Rattle.closure.specs.Closed.{over_one_of, over_two_of, is_over_one, is_over_
 use Rattle.closure.specs.Operators.{OneAnswers, TwoAnswers, StandsAs}
 use Rattle.closure.proofs.Agreeing.{alike-are, are-alike}
 use Rattle.closure.proofs.AnyLine.{passing-line, line-passes}
+use Rattle.closure.proofs.ExpressionNumbers.{rooted-children}
 use Rattle.closure.proofs.Shapes.{there_class, there_select, there_join, there_left_join, there_semi, there_anti, there_keep, there_distinct}
-
-rooted-children : (root : ℕ → ℕ) (x : Expr) → children (rooted root x) ≡ map root (children x)
-rooted-children root (Get o) = refl
-rooted-children root (expr.Select C x) = refl
-rooted-children root (expr.Join C a b) = refl
-rooted-children root (expr.LeftJoin C a b) = refl
-rooted-children root (expr.Semi C a b) = refl
-rooted-children root (expr.Anti S M a b) = refl
-rooted-children root (expr.Keep L x) = refl
-rooted-children root (expr.Distinct x) = refl
-rooted-children root (Group L G x) = refl
 
 -- what isn't so
 not-true : (b : Bool) → (b ≡ true → true ≡ false) → b ≡ false

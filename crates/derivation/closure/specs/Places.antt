@@ -1,20 +1,15 @@
--- Lines by the classes that their expressions take first.
-use Rattle.std.specs.Prelude.{◌≡◌, ℕ, ◌+◌, ◌<◌, Bool, true, false, nat_lt, if◌then◌else◌, List, length, slice_get, Option, Some, None}
+-- Lines by the numbers of their expressions.
+use Rattle.std.specs.Prelude.{◌≡◌, ℕ, ◌+◌, ◌%◌, ◌<◌, Bool, true, false, List, length, Option, Some, None}
 use Rattle.algebra.specs.declared.expr.Expr.{Expr}
-use Rattle.algebra.specs.Alike.{AreAlike}
+use Rattle.algebra.specs.Alike.{rooted, AreAlike}
 use Rattle.algebra.specs.Columns.{has, columns_at}
-use Rattle.algebra.specs.Expressions.{children}
 use Rattle.rules.specs.Matches as matches
 use Rattle.derivation.specs.Logs.{Log, member, least, are_same}
+use Rattle.closure.specs.Numbers.{expression_number}
 
--- the least class that is the same, of those whose numbers are below a bound; the bound where there is none
-abbrev pub place_by : Log → Option ℕ → ℕ
-place_by E None = length E
-place_by E (Some g) = if nat_lt (least E g) (length E) then least E g else length E
-
--- where the lines are that take the same class first
+-- where the lines are that are alike: one of as many places as there are lines, and one more, by the number of the expression with roots
 abbrev pub place : Log → Expr → ℕ
-place E x = place_by E (slice_get (children x) 0)
+place E x = expression_number (rooted (least E) x) % (length E + 1)
 
 -- each of the first lines stands in its place
 pub record AreEntered (E : Log) (n : ℕ) (over : List (List ℕ)) : Type 0 where

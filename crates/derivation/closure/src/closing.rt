@@ -14,7 +14,7 @@ ghost use Rattle.closure.specs.Places.{AreEntered};
 
 use crate::lacks::Missing;
 use crate::learning::lacking_fact;
-use crate::pairs::{disagreeing, lines_over};
+use crate::pairs::{disagreeing, lines_by_place};
 use crate::picks::{classes_named, conjunct_count};
 use crate::standing::is_there;
 use algebra::{ClassId, Expr, LineId};
@@ -431,7 +431,7 @@ pub fn missing(alloc: Global, log: &Log<'_>) -> Result<Option<Missing>, AllocErr
     ensures none { IfOk result (λ found. found ≡ None → spec.IsClosed log.now.instances log.now.log) }
     ensures some { IfOk result (λ found. IfSome found (λ m. lacking_.IsMissing log.now.instances log.now.log m)) }
 {
-    let over = lines_over(alloc, log)?;
+    let over = lines_by_place(alloc, log)?;
     if let Some((first, second)) = disagreeing(alloc, log, over.as_slice())? {
         return Ok(Some(Missing::Alike(first, second)));
     }

@@ -5,6 +5,7 @@ mod closing;
 mod lacks;
 mod learning;
 mod nearer;
+mod numbers;
 mod pairs;
 mod picks;
 mod standing;

@@ -11,6 +11,7 @@ ghost use Rattle.closure.specs.Closed as spec;
 ghost use Rattle.closure.specs.Lacking as lacking_;
 ghost use Rattle.closure.specs.Places as places;
 
+use crate::numbers::expression_number;
 use algebra::{ClassId, Expr, LineId};
 use logs::{Log, are_alike};
 use query::ids::id_of;
@@ -29,20 +30,13 @@ pub(crate) fn alike(
     are_alike(alloc, expr, other, log.classes())
 }
 
-/// Where the lines are that take the same class first.
-#[tactic(auto, using(crate::proofs::Agreeing::place_within, crate::proofs::Agreeing::place_past))]
-pub(crate) fn place_of(log: &Log<'_>, expr: &Expr) -> usize
-    ensures { result ≡ places.place log.now.log expr.now }
+/// Where the lines are that are alike.
+fn place_of(alloc: Global, log: &Log<'_>, expr: &Expr) -> Result<usize, AllocError>
+    ensures { IfOk result (λ place. place ≡ places.place log.now.log expr.now) }
 {
-    let count = log.len();
-    let (first, _) = expr.children();
-    match first {
-        Some(class) => {
-            let root = log.classes().root(class) as usize;
-            if root < count { root } else { count }
-        }
-        None => count,
-    }
+    let count = id_of(log.len())? as usize;
+    let number = expression_number(alloc, log, expr)? as usize;
+    Ok(number % (count + 1))
 }
 
 /// Whether two inputs are of classes that are the same, or neither is there.
@@ -85,22 +79,28 @@ fn disagree(
     Ok(disagree)
 }
 
-/// Adds a line to those that take the same class first.
-fn enter(log: &Log<'_>, over: &mut Vec<Vec<LineId>>, line: LineId) -> Result<(), AllocError>
+/// Adds a line to those of its place.
+fn enter(
+    alloc: Global,
+    log: &Log<'_>,
+    over: &mut Vec<Vec<LineId>>,
+    line: LineId,
+) -> Result<(), AllocError>
     requires { length over.old.items ≡ length log.now.log + 1 }
     ensures count { OnOk result (length over.new.items ≡ length log.now.log + 1) }
     ensures entered { OnOk result ((l : matches.Line) → logs_.member log.now.log line ≡ Some l → has (columns_at (map (λ v. v.items) over.new.items) (places.place log.now.log l.expr)) line ≡ true) }
     ensures stays { OnOk result ((n p : ℕ) → has (columns_at (map (λ v. v.items) over.old.items) p) n ≡ true → has (columns_at (map (λ v. v.items) over.new.items) p) n ≡ true) }
 {
     if let Some(member) = log.member(line) {
-        over[place_of(log, member.expr)].push(line)?;
+        let place = place_of(alloc, log, member.expr)?;
+        over[place].push(line)?;
     }
     Ok(())
 }
 
-/// For each class that stands for those that are the same, the lines whose expressions take one of these first; behind them, those of expressions that
-/// take none.
-pub(crate) fn lines_over(alloc: Global, log: &Log<'_>) -> Result<Vec<Vec<LineId>>, AllocError>
+/// The lines by their places: in each stand those whose expressions' numbers lead there, so few where it isn't that expressions are alike, or differ in what
+/// they say of subqueries alone.
+pub(crate) fn lines_by_place(alloc: Global, log: &Log<'_>) -> Result<Vec<Vec<LineId>>, AllocError>
     ensures { IfOk result (λ over. places.AreEntered log.now.log (length log.now.log) (map (λ v. v.items) over.items)) }
 {
     let count = id_of(log.len())?;
@@ -110,9 +110,23 @@ pub(crate) fn lines_over(alloc: Global, log: &Log<'_>) -> Result<Vec<Vec<LineId>
         over.push(Vec::new(alloc))?;
     }
     for line in 0..count {
-        enter(log, &mut over, line)?;
+        enter(alloc, log, &mut over, line)?;
     }
     Ok(over)
+}
+
+/// The lines in the place of an expression.
+pub(crate) fn lines_at<'a>(
+    alloc: Global,
+    log: &Log<'_>,
+    over: &'a [Vec<LineId>],
+    expr: &Expr,
+) -> Result<&'a [LineId], AllocError>
+    requires { places.AreEntered log.now.log (length log.now.log) (map (λ v. v.items) over.now) }
+    ensures { IfOk result (λ lines. lines.now ≡ columns_at (map (λ v. v.items) over.now) (places.place log.now.log expr.now)) }
+{
+    let place = place_of(alloc, log, expr)?;
+    Ok(over[place].as_slice())
 }
 
 /// The first of the lines that is alike and of another class than the one, if there is one.
@@ -135,7 +149,7 @@ fn disagreeing_among(
     Ok(None)
 }
 
-/// A line that is alike and of another class than this one, if there is one. It takes the same class first.
+/// A line that is alike and of another class than this one, if there is one. It stands in the same place.
 fn disagreeing_with(
     alloc: Global,
     log: &Log<'_>,
@@ -147,7 +161,7 @@ fn disagreeing_with(
 {
     match log.member(line) {
         Some(one) => {
-            let others = over[place_of(log, one.expr)].as_slice();
+            let others = lines_at(alloc, log, over, one.expr)?;
             let found = disagreeing_among(alloc, log, one, others)?;
             Ok(found)
         }

@@ -7,7 +7,7 @@ ghost use Rattle.closure.specs.Closed as spec;
 ghost use Rattle.closure.specs.Operators as operators;
 ghost use Rattle.closure.specs.Places as places;
 
-use crate::pairs::{alike, place_of, take_same};
+use crate::pairs::{alike, lines_at, take_same};
 use algebra::{ClassId, Expr, LineId};
 use bindings::{OverOne, OverTwo};
 use logs::Log;
@@ -64,7 +64,7 @@ fn class_with(
     requires { places.AreEntered log.now.log (length log.now.log) (map (λ v. v.items) over.now) }
     ensures { IfOk result (λ found. operators.Answers log.now.log expr.now found) }
 {
-    let lines = over[place_of(log, expr)].as_slice();
+    let lines = lines_at(alloc, log, over, expr)?;
     let found = class_among(alloc, log, expr, lines)?;
     Ok(found)
 }

@@ -1,6 +1,6 @@
 use Rattle.std.proofs.Common.{◌≡◌, ◌+◌, length, map}
 use Rattle.closure.specs.Places.{AreEntered}
-use Rattle.closure.proofs.pairs.lines_over.Given as goal
+use Rattle.closure.proofs.pairs.lines_by_place.Given as goal
 
 abbrev pub invariant-loop-made : goal.invariant-loop-made
 invariant-loop-made l = length l.over.items ≡ l._made + 1
