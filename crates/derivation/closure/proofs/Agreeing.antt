@@ -1,5 +1,5 @@
 -- Lines that are alike have one number, so they stand in one place.
-use Rattle.std.proofs.Common.{◌≡◌, ◌≢◌, refl, ap, sym, ◌∙◌, subst, ℕ, ◌<◌, ◌≤◌, Bool, true, false, ◌||◌, ◌==◌, nat_lt, if◌then◌else◌, List, [], ◌∷◌, ◌++◌, length, map, set, take, drop, get_or, ◌-◌, slice_get, option_map, Option, Some, None, IsTrue, Vec, Global, arith}
+use Rattle.std.proofs.Common.{◌≡◌, ◌≢◌, refl, ap, sym, ◌∙◌, subst, ℕ, ◌+◌, ◌%◌, ◌<◌, ◌≤◌, Bool, true, false, ◌||◌, ◌==◌, nat_lt, if◌then◌else◌, List, [], ◌∷◌, ◌++◌, length, map, set, take, drop, get_or, ◌-◌, slice_get, option_map, Option, Some, None, IsTrue, Vec, Global, arith}
 use Rattle.std.specs.List.{AllByRecursion}
 use Rattle.std.proofs.lemmas.Bool.{lt-ltb, ltb-true, eq-eqb, eqb-true}
 use Rattle.std.proofs.lemmas.List.{map-set, get_or-set_same, get_or-set_other, length-map, take_all}
@@ -104,6 +104,19 @@ module _ (xs : List (Vec ℕ Global)) (p line : ℕ) (old : List ℕ) (w : Vec �
           ap (λ q. has (columns_at (map (λ v. v.items) (set xs p w)) q) n) here ∙ ap (λ ns. has ns n) (set-there xs p w lt ∙ new)
           ∙ has-more old line n (ap (λ ns. has ns n) (sym was) ∙ sym (ap (λ q. has (columns_at (map (λ v. v.items) xs) q) n) here) ∙ is)
       by false e = ap (λ ns. has ns n) (set-elsewhere xs p q w (λ here. let never : true ≡ false = sym (eq-eqb q p here) ∙ e in cc)) ∙ is
+
+-- one line more stands in its place
+pub entered-more : (E : Log) (n : ℕ) (old new : List (List ℕ)) → length new ≡ length E + 1 → ((l : matches.Line) → member E n ≡ Some l → has (columns_at new (place E l.expr)) n ≡ true)
+    → ((k p : ℕ) → has (columns_at old p) k ≡ true → has (columns_at new p) k ≡ true) → AreEntered E n old → AreEntered E (n + 1) new
+entered-more E n old new count now stays before = record { count = count; entered = λ i l lt at. by i l lt at (i == n) refl }
+  where
+    by : (i : ℕ) (l : matches.Line) → i < n + 1 → member E i ≡ Some l → (b : Bool) → (i == n) ≡ b → has (columns_at new (place E l.expr)) i ≡ true
+    by i l lt at true e =
+        let here : i ≡ n = eqb-true i n e in
+        subst (λ k. has (columns_at new (place E l.expr)) k ≡ true) (sym here) (now l (ap (member E) (sym here) ∙ at))
+    by i l lt at false e =
+        let other : i ≢ n = λ here. let never : true ≡ false = sym (eq-eqb i n here) ∙ e in cc in
+        stays i (place E l.expr) (before.entered i l (omega (arith, lt, other)) at)
 
 -- ---- the class of a line with an expression
 

@@ -40,6 +40,10 @@ module _ (instances : List TableInstance) (E : Log) where
   itself : (g : ℕ) → are_same E g g ≡ true
   itself g = eq-eqb _ _ refl
 
+  -- the class of a line with the expression that is spelt, and the lines behind
+  abbrev line-class : ℕ → Option (Expr × List ℕ) → Option (ℕ × List ℕ)
+  line-class m spelt = option_and_then (λ p. option_and_then (λ g. Some (g, p.1)) (class_with p.0 (member E m))) spelt
+
   -- a line with an expression that passes
   line-there : (p : Expr → Bool) (x : Expr) (m h g : ℕ) → class_with x (member E m) ≡ Some h → are_same E h g ≡ true → p x ≡ true → has_line K E p g ≡ true
   line-there p x m h g found same is = by (member E m) refl found
@@ -68,7 +72,7 @@ module _ (instances : List TableInstance) (E : Log) where
     one-there h (m ∷ makes) rest is g same = by ((spelling (member E) x).class makes) refl is
       where
         by : (o : Option (ℕ × List ℕ)) → (spelling (member E) x).class makes ≡ o
-            → option_and_then (λ p. option_and_then (λ g. Some (g, p.1)) (class_with p.0 (member E m))) (option_and_then (λ p. Some (f p.0, p.1)) o) ≡ Some (h, rest)
+            → line-class m (option_and_then (λ p. Some (f p.0, p.1)) o) ≡ Some (h, rest)
             → has_line K E (is_over_one K f (is_there K E x)) g ≡ true
         by None at none = cc
         by (Some p) at some = at-class (class_with (f p.0) (member E m)) refl some
@@ -96,16 +100,13 @@ module _ (instances : List TableInstance) (E : Log) where
     two-there h [] rest is g same = cc
     two-there h (m ∷ makes) rest is g same = by ((spelling (member E) a).class makes) refl is
       where
-        abbrev then_class : Option (Expr × List ℕ) → Option (ℕ × List ℕ)
-        then_class o = option_and_then (λ p. option_and_then (λ g. Some (g, p.1)) (class_with p.0 (member E m))) o
-
         by : (o : Option (ℕ × List ℕ)) → (spelling (member E) a).class makes ≡ o
-            → then_class (option_and_then (λ p. option_and_then (λ q. Some (f p.0 q.0, q.1)) ((spelling (member E) b).class p.1)) o) ≡ Some (h, rest)
+            → line-class m (option_and_then (λ p. option_and_then (λ q. Some (f p.0 q.0, q.1)) ((spelling (member E) b).class p.1)) o) ≡ Some (h, rest)
             → has_line K E (is_over_two K f (is_there K E a) (is_there K E b)) g ≡ true
         by None at none = cc
         by (Some p) at some = next ((spelling (member E) b).class p.1) refl some
           where
-            next : (o : Option (ℕ × List ℕ)) → (spelling (member E) b).class p.1 ≡ o → then_class (option_and_then (λ q. Some (f p.0 q.0, q.1)) o) ≡ Some (h, rest)
+            next : (o : Option (ℕ × List ℕ)) → (spelling (member E) b).class p.1 ≡ o → line-class m (option_and_then (λ q. Some (f p.0 q.0, q.1)) o) ≡ Some (h, rest)
                 → has_line K E (is_over_two K f (is_there K E a) (is_there K E b)) g ≡ true
             next None behind none = cc
             next (Some q) behind some = at-class (class_with (f p.0 q.0) (member E m)) refl some
