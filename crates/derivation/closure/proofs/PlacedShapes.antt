@@ -29,6 +29,13 @@ use Rattle.closure.proofs.Agreeing.{are-alike}
 use Rattle.closure.proofs.AnyLine.{line-passes}
 use Rattle.closure.proofs.Shapes.{there_class, there_select, there_join, there_left_join, there_semi, there_anti, there_keep, there_distinct}
 
+abbrev class-or : ℕ → Option (ℕ × List ℕ) → ℕ
+class-or h None = h
+class-or h (Some p) = p.0
+
+same-class : (k h : ℕ) (x y : List ℕ) → ◌≡◌ {A = Option (ℕ × List ℕ)} (Some (k, x)) (Some (h, y)) → k ≡ h
+same-class k h x y is = ap (class-or h) is
+
 module _ (instances : List TableInstance) (E : Log) where
   abbrev K : Knowledge
   K = logs.knowledge instances E
@@ -77,10 +84,10 @@ module _ (instances : List TableInstance) (E : Log) where
         by None at none = cc
         by (Some p) at some = at-class (class_with (f p.0) (member E m)) refl some
           where
-            at-class : (o : Option ℕ) → class_with (f p.0) (member E m) ≡ o → option_and_then (λ g. Some (g, p.1)) o ≡ Some (h, rest) → has_line K E (is_over_one K f (is_there K E x)) g ≡ true
+            at-class : (o : Option ℕ) → class_with (f p.0) (member E m) ≡ o → option_and_then {U = ℕ × List ℕ} (λ g. Some (g, p.1)) o ≡ Some (h, rest) → has_line K E (is_over_one K f (is_there K E x)) g ≡ true
             at-class None found none = cc
             at-class (Some k) found is =
-                let class_is : k ≡ h = cc in
+                let class_is : k ≡ h = same-class k h p.1 rest is in
                 line-there _ (f p.0) m h g (found ∙ ap Some class_is) same (over-one p.0 (stands p.0 makes p.1 at p.0 (itself p.0)))
 
   one-stands : (f : ℕ → Expr) (takes : (k : ℕ) → children (f k) ≡ k ∷ []) (x : Shape) → Stands x → (s : Shape) → ((makes : List ℕ) → (spelling (member E) s).class makes ≡ class_by (member E) (λ makes. option_and_then (λ p. Some (f p.0, p.1)) ((spelling (member E) x).class makes)) makes)
@@ -111,11 +118,11 @@ module _ (instances : List TableInstance) (E : Log) where
             next None behind none = cc
             next (Some q) behind some = at-class (class_with (f p.0 q.0) (member E m)) refl some
               where
-                at-class : (o : Option ℕ) → class_with (f p.0 q.0) (member E m) ≡ o → option_and_then (λ g. Some (g, q.1)) o ≡ Some (h, rest)
+                at-class : (o : Option ℕ) → class_with (f p.0 q.0) (member E m) ≡ o → option_and_then {U = ℕ × List ℕ} (λ g. Some (g, q.1)) o ≡ Some (h, rest)
                     → has_line K E (is_over_two K f (is_there K E a) (is_there K E b)) g ≡ true
                 at-class None found none = cc
                 at-class (Some k) found is =
-                    let class_is : k ≡ h = cc in
+                    let class_is : k ≡ h = same-class k h q.1 rest is in
                     line-there _ (f p.0 q.0) m h g (found ∙ ap Some class_is) same
                     (over-two p.0 q.0 (left p.0 makes p.1 at p.0 (itself p.0)) (right q.0 p.1 q.1 behind q.0 (itself q.0)))
 
@@ -133,7 +140,7 @@ module _ (instances : List TableInstance) (E : Log) where
   layer : (y : Shape-F Part) → Stands (roll-Shape (map-Shape Part Shape (λ p. p.0) y))
   layer (Shape-F.Class k) = subst Stands (sym (rolls-Class k)) (λ h makes rest is g same.
       let at : ◌≡◌ {A = Option (ℕ × List ℕ)} (Some (k, makes)) (Some (h, rest)) = sym (ap (λ s. s.class makes) (spelling-at (member E) (Shape-F.Class k) _ (rolls-Class k))) ∙ is in
-      let class_is : k ≡ h = cc in
+      let class_is : k ≡ h = same-class k h makes rest at in
       there_class K E k g ∙ ap (λ j. are_same E j g) class_is ∙ same)
   layer (Shape-F.Select C x) = subst Stands (sym (rolls-Select C x.0)) (one-stands (expr.Select C) (λ k. refl) x.0 x.1 _ (λ makes. ap (λ s. s.class makes) (spelling-at (member E) (Shape-F.Select C x.0) _ (rolls-Select C x.0))) (there_select K E C x.0))
   layer (Shape-F.Join C a b) = subst Stands (sym (rolls-Join C a.0 b.0)) (two-stands (expr.Join C) (λ j k. refl) a.0 b.0 a.1 b.1 _ (λ makes. ap (λ s. s.class makes) (spelling-at (member E) (Shape-F.Join C a.0 b.0) _ (rolls-Join C a.0 b.0))) (there_join K E C a.0 b.0))
