@@ -128,7 +128,7 @@ module _ (instances : List TableInstance) (E : Log) where
 
   two-stands : (f : ℕ → ℕ → Expr) (takes : (j k : ℕ) → children (f j k) ≡ j ∷ k ∷ []) (a b : Shape) → Stands a → Stands b → (s : Shape)
       → ((makes : List ℕ) → (spelling (member E) s).class makes
-        ≡ class_by (member E) (λ makes. option_and_then (λ p. option_and_then (λ q. Some (f p.0 q.0, q.1)) ((spelling (member E) b).class p.1)) ((spelling (member E) a).class makes)) makes)
+      ≡ class_by (member E) (λ makes. option_and_then (λ p. option_and_then (λ q. Some (f p.0 q.0, q.1)) ((spelling (member E) b).class p.1)) ((spelling (member E) a).class makes)) makes)
       → ((g : ℕ) → is_there K E s g ≡ has_line K E (is_over_two K f (is_there K E a) (is_there K E b)) g) → Stands s
   two-stands f takes a b left right s spelt there h makes rest is g same = there g ∙ two-there f takes a b left right h makes rest (sym (spelt makes) ∙ is) g same
 

@@ -102,10 +102,11 @@ fn conditions_number(alloc: Global, expr: &Expr) -> Result<u32, AllocError>
     ensures { IfOk result (λ n. (root : ℕ → ℕ) → n ≡ spec.conditions_number (conditions (rooted root expr.now))) }
 {
     match expr {
-        Expr::Select(c, _) | Expr::Join(c, _, _) | Expr::LeftJoin(c, _, _) | Expr::Semi(c, _, _) => {
-            let number = conjuncts_number(alloc, c)?;
-            Ok(number)
-        }
+        Expr::Select(c, _) | Expr::Join(c, _, _) | Expr::LeftJoin(c, _, _) | Expr::Semi(c, _, _) =>
+            {
+                let number = conjuncts_number(alloc, c)?;
+                Ok(number)
+            }
         Expr::Anti(ordinary, null_aware, _, _) => {
             let first = conjuncts_number(alloc, ordinary)?;
             let second = conjuncts_number(alloc, null_aware)?;
