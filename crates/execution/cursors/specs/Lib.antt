@@ -2,5 +2,4 @@ pub mod Chunks
 pub mod Cursors
 pub mod Progress
 pub mod Selected
-pub mod Selecting
 pub mod Shown

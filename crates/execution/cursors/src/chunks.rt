@@ -5,9 +5,8 @@ ghost use Rattle.relations.specs.declared.environment.Env as lent;
 ghost use Rattle.cursors.specs.Chunks.{IsNextNumber, numbers_to_come, selected_from};
 ghost use Rattle.cursors.specs.Selected.{selected_numbers};
 
-use crate::selected::SelectedRows;
+use crate::selected::{SelectedRows, push_selected};
 use relations::Env;
-use relations::passing::{keep_passing, push_range};
 use std::alloc::{AllocError, Global};
 
 /// How many rows are tested at a time.
@@ -25,10 +24,9 @@ pub struct ChunkedRows<'p, 't> {
     pub handed: usize,
 }
 
-/// Fills a chunk with the numbers of the next rows that pass, from one on. It gives the first row that hasn't been tested then. The
+/// Fills a chunk with the numbers of the next rows that pass, from one row on. It gives the first row that hasn't been tested then. The
 /// chunk is empty only where none passes.
 fn filled<'p, 't: 'p>(
-    alloc: Global,
     chunk: &mut Vec<usize>,
     selected: &SelectedRows<'p, 't>,
     start: usize,
@@ -42,8 +40,7 @@ fn filled<'p, 't: 'p>(
     let mut next = start;
     while chunk.is_empty() && next < count {
         let end = next + CHUNK.min(count - next);
-        push_range(chunk, next, end)?;
-        keep_passing(alloc, chunk, selected.tests.as_slice(), &selected.relation, &*env)?;
+        push_selected(chunk, selected, next, end, env)?;
         next = end;
     }
     Ok(next)
@@ -69,11 +66,7 @@ impl<'p, 't: 'p> ChunkedRows<'p, 't> {
 }
 
 /// Looks up the next chunk where the last one has been handed over.
-fn look_up<'p, 't: 'p>(
-    alloc: Global,
-    rows: &mut ChunkedRows<'p, 't>,
-    env: &Env<'_, 't>,
-) -> Result<(), AllocError>
+fn look_up<'p, 't: 'p>(rows: &mut ChunkedRows<'p, 't>, env: &Env<'_, 't>) -> Result<(), AllocError>
     ensures selected { rows.new.selected ≡ rows.old.selected }
     ensures numbers { OnOk result (numbers_to_come env.now rows.new ≡ numbers_to_come env.now rows.old) }
     ensures last { OnOk result (length rows.new.chunk.items ≤ rows.new.handed → numbers_to_come env.now rows.new ≡ []) }
@@ -81,21 +74,20 @@ fn look_up<'p, 't: 'p>(
     if rows.handed < rows.chunk.len() {
         return Ok(());
     }
-    rows.next = filled(alloc, &mut rows.chunk, &rows.selected, rows.next, env)?;
+    rows.next = filled(&mut rows.chunk, &rows.selected, rows.next, env)?;
     rows.handed = 0;
     Ok(())
 }
 
 /// The number of the next row, if one is to come.
 pub fn next_number<'p, 't: 'p>(
-    alloc: Global,
     rows: &mut ChunkedRows<'p, 't>,
     env: &Env<'_, 't>,
 ) -> Result<Option<usize>, AllocError>
     ensures selected { rows.new.selected ≡ rows.old.selected }
     ensures number { IfOk result (IsNextNumber env.now rows.old rows.new) }
 {
-    look_up(alloc, rows, env)?;
+    look_up(rows, env)?;
     if rows.handed < rows.chunk.len() {
         let number = rows.chunk[rows.handed];
         rows.handed += 1;

@@ -6,7 +6,6 @@ mod chunks;
 mod cursor;
 mod fault;
 mod lent_row;
-mod opening;
 mod selected;
 
 pub use cursor::Cursor;

@@ -1,20 +1,18 @@
 //! Rows that are selected from those of a relation. A filter adds tests to them and a projection gives them another heading, so that neither
 //! makes rows.
 
-ghost use Rattle.std.specs.Prelude.{◌≡◌, filter, map, IfOk};
-ghost use Rattle.algebra.specs.Bags.{lay};
-ghost use Rattle.algebra.specs.Columns.{has};
+ghost use Rattle.std.specs.Prelude.{◌≡◌, ◌++◌, ◌-◌, ◌≤◌, filter, IfOk, OnOk};
+ghost use Rattle.std.specs.List.{range_with_len};
 ghost use Rattle.algebra.specs.Conditions as spec;
 ghost use Rattle.physical.specs.Outputs.{no_classes};
 ghost use Rattle.relations.specs.declared.environment.Env as lent;
-ghost use Rattle.relations.specs.Relations.{IsOutput, env_of, rows_of};
+ghost use Rattle.relations.specs.Relations.{env_of, rows_of};
+ghost use Rattle.relations.specs.Resolved.{all_pass, inner_row};
 ghost use Rattle.cursors.specs.Selected.{IsSelection, selected_envs};
 
-use algebra::{Columns, Condition};
-use operators::projected as projected_relation;
-use relations::passing::passing;
-use relations::resolved::{Test, resolve};
-use relations::{Env, Heading, Relation};
+use algebra::Condition;
+use relations::resolved::{Test, passes_all, resolve};
+use relations::{Env, Relation};
 use std::alloc::{AllocError, Global};
 
 /// The rows of a relation that pass tests.
@@ -52,41 +50,22 @@ pub fn filtered<'p, 't: 'p>(
     Ok(SelectedRows { relation, tests })
 }
 
-/// The relation of the selected rows alone.
-fn drained<'p, 't: 'p>(
-    alloc: Global,
-    selected: SelectedRows<'p, 't>,
+/// Adds the numbers of those from one row of the relation on, below an end.
+pub fn push_selected<'p, 't: 'p>(
+    numbers: &mut Vec<usize>,
+    selected: &SelectedRows<'p, 't>,
+    start: usize,
+    end: usize,
     env: &Env<'_, 't>,
-) -> Result<Relation<'t>, AllocError>
-    ensures { IfOk result (IsOutput selected.entry.relation.heading.columns (selected_envs env.now selected.entry) (env_of env.now)) }
+) -> Result<(), AllocError>
+    requires { start ≤ end }
+    ensures { OnOk result (numbers.new.items ≡ numbers.old.items ++ filter (all_pass selected.now.relation (inner_row env.now) selected.now.tests.items) (range_with_len start (end - start))) }
 {
-    let SelectedRows { relation, tests } = selected;
-    let numbers = passing(alloc, tests.as_slice(), &relation, env)?;
-    relation.chosen(alloc, numbers.as_slice())
-}
-
-/// The same rows with these columns alone. Where they lack one of these, which is then that of the environment, rows are made.
-pub fn projected<'p, 't: 'p>(
-    alloc: Global,
-    columns: &Columns,
-    selected: SelectedRows<'p, 't>,
-    env: &Env<'_, 't>,
-) -> Result<SelectedRows<'p, 't>, AllocError>
-    ensures { IfOk result (IsSelection columns.now (map (λ r. lay (has columns.now) r (env_of env.now)) (selected_envs env.now selected.entry)) env.now) }
-{
-    let wanted = columns.as_slice();
-    let places = selected.relation.heading.places_of(alloc, wanted)?;
-    if places.as_slice().len() != wanted.len() {
-        let relation = drained(alloc, selected, env)?;
-        let relation = projected_relation(alloc, columns, relation, env)?;
-        return Ok(all_rows(alloc, relation));
+    let tests = selected.tests.as_slice();
+    for row in start..end {
+        if passes_all(tests, &selected.relation, row, env) {
+            numbers.push(row)?;
+        }
     }
-    let columns = columns.copy(alloc)?;
-    let SelectedRows { relation, tests } = selected;
-    let Relation { heading: _, rows } = relation;
-    let heading = Heading { columns, places };
-    Ok(SelectedRows {
-        relation: Relation { heading, rows },
-        tests,
-    })
+    Ok(())
 }

@@ -1,0 +1,3 @@
+pub mod RowNumbers
+pub mod Selections
+pub mod ShownNumbers
