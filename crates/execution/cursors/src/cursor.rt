@@ -1,13 +1,22 @@
 //! Cursors over plans.
 
 ghost use Rattle.std.specs.Prelude.{◌≡◌, ◌⊎◌, map, IfOk, IfSome, IsErrAnd, Err, Some};
+ghost use Rattle.schema.specs.declared.schema.Schema.{Schema};
+ghost use Rattle.query.specs.Aggregates.{AreShortTables};
+ghost use Rattle.query.specs.Rows.{tables_of};
+ghost use Rattle.algebra.specs.Bags as bags;
+ghost use Rattle.physical.specs.Outputs as outputs;
+ghost use Rattle.operators.specs.Runnable.{IsRunnable};
 ghost use Rattle.relations.specs.Relations.{column_place};
-ghost use Rattle.cursors.specs.Cursors.{IsLong, IsStep};
+ghost use Rattle.cursors.specs.Cursors.{IsLong, IsStep, opened};
 ghost use Rattle.cursors.specs.declared.fault.RunFault.TheVariants as fault;
 
 use crate::chunks::{ChunkedRows, next_number};
 use crate::fault::RunFault;
 use crate::lent_row::LentRow;
+use crate::opening::selected_rows;
+use operators::Sources;
+use physical::Plan;
 use query::ColumnId;
 use relations::{Env, Heading, Place};
 use std::alloc::{AllocError, Global};
@@ -55,6 +64,30 @@ fn places_under(
 }
 
 impl<'p, 't: 'p> Cursor<'p, 't> {
+    /// A cursor before the first of the rows that a plan produces where no column has a value, whatever else the schema of its tables
+    /// says. Its groups aggregate stored values alone, whose numbers have 64 bits, so that no SUM passes 128.
+    pub fn open(
+        alloc: Global,
+        plan: &'p Plan,
+        sources: Sources<'_, 't>,
+        columns: &[ColumnId],
+    ) -> Result<Cursor<'p, 't>, AllocError>
+        requires runnable { IsRunnable sources.instances.now plan.now }
+        requires short { (S : Schema) → AreShortTables (tables_of S sources.tables.now) }
+        ensures { (S : Schema) → IfOk result (λ cursor. cursor ≡ opened (map (λ r. map r columns.now) (outputs.output_rows sources.entry.instances.now (tables_of S sources.entry.tables.now) plan.now bags.nulls))) }
+    {
+        let selected = selected_rows(alloc, plan, sources, &Env::Empty)?;
+        let places = places_under(alloc, &selected.relation.heading, columns)?;
+        let rows = ChunkedRows::new(alloc, selected)?;
+        Ok(Cursor {
+            rows,
+            places,
+            current: None,
+            handed: 0,
+            fault: None,
+        })
+    }
+
     /// Goes to the next row, if one is to come. After a fault it gives that fault from then on.
     pub fn advance(&mut self) -> Result<bool, RunFault>
         ensures step { IsStep self.old self.new result }

@@ -6,6 +6,8 @@ mod chunks;
 mod cursor;
 mod fault;
 mod lent_row;
+mod opening;
+mod projected;
 mod selected;
 
 pub use cursor::Cursor;
