@@ -17,6 +17,7 @@ mod sorting;
 mod sources;
 mod subqueries;
 
-pub use running::{plan_found, plan_rows};
+pub use running::{plan_found, plan_rows, run_plan};
+pub use scans::projected;
 pub use shown::{FoundRows, Row, owned_rows};
 pub use sources::{IndexedTables, Sources};

@@ -1,0 +1,4 @@
+pub mod PlansAbove
+pub mod RowNumbers
+pub mod Selections
+pub mod ShownNumbers
