@@ -13,6 +13,12 @@ pub invariant_of-heading : goal.invariant_of-heading
 invariant_of-heading c =
     record { whole = omega (arith, c.if-as_slice-wanted.false, ap length c.as_slice.ensures.value, ap length c.as_slice-wanted.ensures.columns, ap length c.in_ok-columns.ensures) }
 
+pub invariant_of-result : goal.invariant_of-result
+invariant_of-result c =
+    let r = c.args.selected.relation in
+    let Within = AllByRecursion (λ (p : Place). p.part < length r.rows.parts.items) in
+    record { placed = subst Within (sym c.in_ok-places.ensures) (places-within _ r.heading.columns r.heading.places.items c.as_slice-wanted.result.now r.placed) }
+
 pub returns : goal.returns
 returns c =
     let h = c.args.selected.relation.heading in
