@@ -1,6 +1,5 @@
 -- Rows that are selected, and further ones.
 use Rattle.std.proofs.Common.{◌≡◌, ap, sym, ◌∙◌, subst, ℕ, Bool, ◌&&◌, List, ◌++◌, map, filter, Result, IfOk, Ok, Err}
-use Rattle.std.specs.List.{list_all}
 use Rattle.std.proofs.lemmas.List.Folds.{list_all-append}
 use Rattle.values.specs.Truth.{is_true}
 use Rattle.values.proofs.Lists.{filter-map}

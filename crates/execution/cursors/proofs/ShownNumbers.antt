@@ -1,5 +1,5 @@
 -- Rows by their numbers, as they are shown.
-use Rattle.std.proofs.Common.{◌≡◌, refl, ap, sym, ◌∙◌, ℕ, List, map, Option, Some, None}
+use Rattle.std.proofs.Common.{◌≡◌, refl, sym, ◌∙◌, ℕ, List, map, Option, Some, None}
 use mathlib.Core.List.{map-map}
 use Rattle.schema.specs.Databases.{Row}
 use Rattle.algebra.specs.Bags.{nulls}

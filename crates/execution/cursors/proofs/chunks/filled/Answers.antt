@@ -1,4 +1,4 @@
-use Rattle.std.proofs.Common.{◌≡◌, ap, sym, ◌∙◌, ℕ, ◌+◌, ◌-◌, ◌≤◌, Bool, List, [], ◌++◌, arith}
+use Rattle.std.proofs.Common.{ℕ, ◌+◌, Bool, arith}
 use Rattle.std.proofs.lemmas.List.{nil_from_length}
 use Rattle.relations.specs.Resolved.{all_pass, inner_row}
 use Rattle.cursors.proofs.RowNumbers.{next-part, none-left}

@@ -1,7 +1,5 @@
-use Rattle.std.proofs.Common.{◌≡◌, ap, sym, subst, ◌∙◌, ◌<◌, length, map, arith}
+use Rattle.std.proofs.Common.{◌≡◌, ap, sym, subst, ◌∙◌, ◌<◌, length, arith}
 use Rattle.std.specs.List.{AllByRecursion}
-use Rattle.algebra.specs.Bags.{Env, lay}
-use Rattle.algebra.specs.Columns.{has}
 use Rattle.relations.specs.declared.headings.Heading.{Heading}
 use Rattle.relations.specs.declared.headings.Place.{Place}
 use Rattle.relations.specs.Relations.{env_of, column_places}

@@ -1,5 +1,4 @@
-use Rattle.std.proofs.Common.{◌≡◌, ap, ◌∙◌, List, Option, map}
-use Rattle.schema.specs.Databases.{Row}
+use Rattle.std.proofs.Common.{ap, ◌∙◌, List, Option, map}
 use Rattle.relations.specs.declared.environment.Env.{Empty}
 use Rattle.relations.specs.declared.headings.Place.{Place}
 use Rattle.cursors.specs.Chunks.{numbers_to_come}
@@ -17,9 +16,9 @@ returns c = λ S.
     let rows = c.in_ok-rows.rows in
     let places = c.in_ok-places.places in
     ap opened (
-      ap (λ (t : SelectedRows). map (shown_row t.relation.rows places) (numbers_to_come Empty rows)) c.in_ok-rows.ensures.selected
-      ∙ ap (map (shown_row s.relation.rows places)) (c.in_ok-rows.ensures.numbers Empty)
-      ∙ ap (λ (ps : List (Option Place)). map (shown_row s.relation.rows ps) (selected_numbers Empty s)) c.in_ok-places.ensures
-      ∙ shown-numbers s.relation columns (selected_numbers Empty s)
-      ∙ ap (map (λ e. map e columns)) (c.in_ok-selected.ensures S).rows_are
+    ap (λ (t : SelectedRows). map (shown_row t.relation.rows places) (numbers_to_come Empty rows)) c.in_ok-rows.ensures.selected
+    ∙ ap (map (shown_row s.relation.rows places)) (c.in_ok-rows.ensures.numbers Empty)
+    ∙ ap (λ (ps : List (Option Place)). map (shown_row s.relation.rows ps) (selected_numbers Empty s)) c.in_ok-places.ensures
+    ∙ shown-numbers s.relation columns (selected_numbers Empty s)
+    ∙ ap (map (λ e. map e columns)) (c.in_ok-selected.ensures S).rows_are
     )
