@@ -154,11 +154,7 @@ impl<'a, 'q> Serving<'a, 'q> {
 /// out that founds what no later line cites that stays by a rule, among those to which the rule is applied or those with the inner expressions of
 /// what it gives; and so is each that names a line or a class that is left out. Where none is, they are the log's lines. It goes through the log
 /// twice a round, and each round but the last leaves a line out by which the one before cited what is idle now.
-pub fn serving_lines(
-    alloc: Global,
-    log: &Log<'_>,
-    first: usize,
-) -> Result<Items<Line>, AllocError>
+pub fn serving_lines(alloc: Global, log: &Log<'_>, first: usize) -> Result<Items<Line>, AllocError>
     ensures { IfOk result (ArePart log.now.log) }
 {
     let mut serving = Serving::all(alloc, log, first)?;

@@ -1,4 +1,4 @@
-use Rattle.std.proofs.Common.{◌≡◌, length, subst}
+use Rattle.std.proofs.Common.{subst}
 use Rattle.trimming.specs.Kept.{IsKept, number_in}
 use Rattle.trimming.proofs.part.trimmed.Goals as goal
 
