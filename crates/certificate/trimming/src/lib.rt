@@ -10,5 +10,7 @@ mod plan_lines;
 mod renumbered;
 mod renumbered_plans;
 mod sameness;
+mod serving;
 
 pub use part::trimmed;
+pub use serving::serving_lines;

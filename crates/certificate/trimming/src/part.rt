@@ -52,7 +52,11 @@ fn push_line(
 }
 
 /// The lines that are kept, with new numbers.
-fn kept_lines(alloc: Global, kept: &Kept, log: &Log<'_>) -> Result<Items<Line>, AllocError>
+pub(crate) fn kept_lines(
+    alloc: Global,
+    kept: &Kept,
+    log: &Log<'_>,
+) -> Result<Items<Line>, AllocError>
     ensures { IfOk result (λ ls. ls ≡ flat_map (renumbered_at (number_in kept.now.numbers.items) log.now.log) kept.now.lines.items) }
 {
     let mut renumbered = Items::new(alloc);
