@@ -120,17 +120,17 @@ given-behind instances own (derivation.Gives h m f ∷ more) E all replays b g i
 
 pub result_behind : (old : Logged) (b : Binding) (i : ℕ) (top : Line) → Replays old.instances old.own old.log → first_of (uses_of b) ≡ Some i → member old.log i ≡ Some top
     → Rises old.instances old.own (knowledge old.instances old.log) (founds old.log) top.expr → IsResultBehind old b
-result_behind old b i top replays first at rises g is new later = 
+result_behind old b i top replays first at rises g is new later =
     result_is new.instances new.own new.log b i top g later.replays first
     (ap (λ E. member E i) later.log ∙ member_behind later.more old.log i top at)
     (subst (λ I. Rises I new.own (knowledge I new.log) (founds new.log) top.expr) (sym later.instances)
-      (subst (λ O. Rises old.instances O (knowledge old.instances new.log) (founds new.log) top.expr) (sym later.own)
-        (subst (λ E. Rises old.instances old.own (knowledge old.instances E) (founds E) top.expr) (sym later.log)
-          (rises-behind old.instances old.own later.more old.log top.expr ((kept_by old.instances old.own old.log replays).lines i top at).known rises))))
+    (subst (λ O. Rises old.instances O (knowledge old.instances new.log) (founds new.log) top.expr) (sym later.own)
+    (subst (λ E. Rises old.instances old.own (knowledge old.instances E) (founds E) top.expr) (sym later.log)
+    (rises-behind old.instances old.own later.more old.log top.expr ((kept_by old.instances old.own old.log replays).lines i top at).known rises))))
     (subst (λ I. given_by_binding I new.log b ≡ Some g) (sym later.instances)
-      (subst (λ E. given_by_binding old.instances E b ≡ Some g) (sym later.log)
-        (given-behind old.instances old.own later.more old.log later.founding
-          (subst (λ I. Replays I old.own (later.more ++ old.log)) later.instances
-            (subst (λ O. Replays new.instances O (later.more ++ old.log)) later.own
-              (subst (Replays new.instances new.own) later.log later.replays)))
-          b g is)))
+    (subst (λ E. given_by_binding old.instances E b ≡ Some g) (sym later.log)
+    (given-behind old.instances old.own later.more old.log later.founding
+    (subst (λ I. Replays I old.own (later.more ++ old.log)) later.instances
+    (subst (λ O. Replays new.instances O (later.more ++ old.log)) later.own
+    (subst (Replays new.instances new.own) later.log later.replays)))
+    b g is)))

@@ -1,0 +1,3 @@
+pub mod Founding
+pub mod Growth
+pub mod Texts
