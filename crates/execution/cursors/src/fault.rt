@@ -5,7 +5,7 @@ use thiserror::Error;
 /// Why a cursor has no next row, though one may be to come.
 #[derive(Clone, Copy, Debug, Drop, PartialEq, Eq, Error)]
 pub enum RunFault {
-    /// An operator has handed over as many rows as may be.
+    /// It has handed over as many rows as may be.
     #[error("too many rows")]
     TooManyRows,
     #[error("out of memory")]
