@@ -69,8 +69,7 @@ impl QueryReporting for Played {
     }
 }
 
-const ROWS: &str =
-    "SELECT a, b FROM t => scan 0 0 | cut 1: 0 1 => ;1,20,;2,-,;3,10,;4,-,;5,20,
+const ROWS: &str = "SELECT a, b FROM t => scan 0 0 | cut 1: 0 1 => ;1,20,;2,-,;3,10,;4,-,;5,20,
 SELECT b FROM t => scan 0 0 | cut 1: 1 => ;20,;-,;10,;-,;20,
 SELECT a FROM t WHERE a = 7 => scan 0 0 | filter 1 | cut 2: 0 => 
 SELECT a, c, d FROM t JOIN u ON a = c => scan 0 0 | scan 1 1 | loop 2 | cut 3: 0 2 3 => ;1,1,-,;3,3,x,;3,3,y,
