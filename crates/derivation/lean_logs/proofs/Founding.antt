@@ -9,9 +9,7 @@ use Rattle.algebra.specs.declared.expr.Aggregation.{Aggregation}
 use Rattle.algebra.specs.declared.expr.Expr.{Expr}
 use Rattle.algebra.specs.Columns.{has}
 use Rattle.algebra.specs.Expressions.{children}
-use Rattle.rules.specs.declared.shape.Shape.{Shape, roll-Shape, fold-roll-Shape, map-Shape}
-use Rattle.rules.specs.declared.shape.Shape.TheOpen.{Shape-F}
-use Rattle.rules.specs.declared.shape.Shape.TheVariants.{rolls-Class, rolls-Select, rolls-Join, rolls-LeftJoin, rolls-Semi, rolls-Anti, rolls-Keep, rolls-Distinct}
+use Rattle.rules.specs.declared.shape.Shape.{Shape}
 use Rattle.rules.specs.declared.shape.Shape.TheVariants as shape
 use Rattle.rules.specs.Matches as matches
 use Rattle.derivation.specs.declared.line.Line.{Line}
@@ -28,7 +26,7 @@ use Rattle.bindings.specs.declared.operators.OverTwo.TheVariants as two_
 use Rattle.bindings.specs.Founding.{founds_something, IsFounded}
 use Rattle.bindings.specs.Lean.{SaysNew, made_of}
 use Rattle.bindings.specs.Operators.{over_one, over_two, one_shape, two_shape}
-use Rattle.bindings.specs.Shallow.{count_layer, operator_count}
+use Rattle.bindings.specs.Shallow.{operator_count}
 use Rattle.bindings.specs.Spelt.{IsPlaced, IsSpelt}
 use Rattle.bindings.proofs.Founding.{member_behind}
 use Rattle.bindings.proofs.SpeltShapes.{class_placed, expr_placed, line_has, one_spelt, two_spelt}
@@ -37,7 +35,8 @@ use Rattle.lean_logs.specs.declared.founded.Spelt.{Spelt}
 use Rattle.lean_logs.specs.declared.lean_log.Member.{Member}
 use Rattle.lean_logs.specs.Founding.{IsAdded, TellsNew, FoundsNew, MayStandBehind, TakesNewest, IsPlacedBehind, IsSpeltBehind, IsFilled, IsInterned}
 use Rattle.lean_logs.specs.Growth.{Extends, AreNew, GrowsLean}
-use Rattle.lean_logs.proofs.Growth.{extended_along, grows-itself, grows-by_one, grows-along, new_along, none_waits, within_along}
+use Rattle.lean_logs.proofs.Counts.{select_counts, keep_counts, distinct_counts, join_counts, left_join_counts, semi_counts, anti_counts}
+use Rattle.lean_logs.proofs.Growth.{extended_along, grows-itself, grows-by_one, grows-along, new_along, none_waits, same_extends, within_along}
 use Rattle.lean_logs.proofs.Numbers.{all_has, has_append, less_or}
 
 -- ---- lines that found nothing
@@ -78,10 +77,15 @@ module _ (limit : ℕ) where
 -- a line that founds nothing is told, or the log stays
 module _ {e : Type 0} (limit : ℕ) (a b : Logged) (line : Line) where
   pub tells_of : (r : Result (Option ℕ) e) → founds_something line ≡ false → IfOk r (λ found. IfSome found (λ number. IsAdded limit a line b × (number ≡ length a.log))) → IfOk r (λ found. found ≡ None → b ≡ a)
-      → OnErr r ((b ≡ a) ⊎ IsAdded limit a line b) → TellsNew limit a b
+      → OnErr r (b ≡ a) → TellsNew limit a b
   tells_of (Ok (Some n)) none some same err = tells_added limit a b line some.0 none
   tells_of (Ok None) none some same err = tells_same limit a b (same refl)
-  tells_of (Err x) none some same err = elim err [ inl stays ↦ tells_same limit a b stays | inr added ↦ tells_added limit a b line added none ]
+  tells_of (Err x) none some same err = tells_same limit a b err
+
+  pub extends_of : (r : Result (Option ℕ) e) → IfOk r (λ found. IfSome found (λ number. IsAdded limit a line b × (number ≡ length a.log))) → IfOk r (λ found. found ≡ None → b ≡ a) → OnErr r (b ≡ a) → Extends limit a b
+  extends_of (Ok (Some n)) some same err = added_extends limit a b line some.0
+  extends_of (Ok None) some same err = same_extends limit a b (same refl)
+  extends_of (Err x) some same err = same_extends limit a b err
 
   pub longer_of : (r : Result (Option ℕ) e) → IfOk r (λ found. IfSome found (λ number. IsAdded limit a line b × (number ≡ length a.log)))
       → IfOk r (λ found. found ≡ None → stands a.instances a.own a.log line ≡ Ok line → SaysNew a.instances a.log line → limit ≤ length a.log)
@@ -148,20 +152,16 @@ may_behind a b s may first c next = may c (founded_along a b c first next)
 
 -- ---- how many operators a shape has
 
-count-at : (x : Shape-F Shape) (s : Shape) → roll-Shape x ≡ s → operator_count s ≡ count_layer (map-Shape Shape ℕ operator_count x)
-unfolding operator_count
-count-at x s is = ap operator_count (sym is) ∙ fold-roll-Shape ℕ count_layer x
-
 one_counts : (op : OverOne) (x : Shape) → operator_count (one_shape op x) ≡ 1 + operator_count x
-one_counts (one_.Select C) x = count-at (Shape-F.Select C.now x) _ (rolls-Select C.now x)
-one_counts (one_.Keep L) x = count-at (Shape-F.Keep L.now x) _ (rolls-Keep L.now x)
-one_counts one_.Distinct x = count-at (Shape-F.Distinct x) _ (rolls-Distinct x)
+one_counts (one_.Select C) x = select_counts C.now x
+one_counts (one_.Keep L) x = keep_counts L.now x
+one_counts one_.Distinct x = distinct_counts x
 
 two_counts : (op : OverTwo) (x y : Shape) → operator_count (two_shape op x y) ≡ 1 + (operator_count x + operator_count y)
-two_counts (two_.Join C) x y = count-at (Shape-F.Join C.now x y) _ (rolls-Join C.now x y)
-two_counts (two_.LeftJoin C) x y = count-at (Shape-F.LeftJoin C.now x y) _ (rolls-LeftJoin C.now x y)
-two_counts (two_.Semi C) x y = count-at (Shape-F.Semi C.now x y) _ (rolls-Semi C.now x y)
-two_counts (two_.Anti S M) x y = count-at (Shape-F.Anti S.now M.now x y) _ (rolls-Anti S.now M.now x y)
+two_counts (two_.Join C) x y = join_counts C.now x y
+two_counts (two_.LeftJoin C) x y = left_join_counts C.now x y
+two_counts (two_.Semi C) x y = semi_counts C.now x y
+two_counts (two_.Anti S M) x y = anti_counts S.now M.now x y
 
 -- ---- shapes
 

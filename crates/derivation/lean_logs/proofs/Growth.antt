@@ -93,21 +93,21 @@ module _ (limit : ℕ) where
   pub fills_extends : (a b : Logged) → FillsLean limit a b → Extends limit a b
   fills_extends a b is = record { grows = is.grows; within = is.within }
 
-  new-next : {a b c : Logged} (first : Grows a b) (next : Grows b c) → AreNew a.instances a.log first.more → AreNew b.instances b.log next.more → AreNew a.instances a.log (next.more ++ first.more)
+  pub new-next : {a b c : Logged} (first : Grows a b) (next : Grows b c) → AreNew a.instances a.log first.more → AreNew b.instances b.log next.more → AreNew a.instances a.log (next.more ++ first.more)
   new-next {a} {b} {c} first next one other = new_along a.instances a.log next.more first.more one
       (subst (λ E. AreNew a.instances E next.more) first.log (subst (λ I. AreNew I b.log next.more) first.instances other))
 
-  served-next : {a b c : Logged} (first : Grows a b) (next : Grows b c) → waiting made_of (length a.log) first.more ≡ [] → waiting made_of (length a.log) (next.more ++ first.more) ≡ waiting made_of (length b.log) next.more
-  served-next {a} {b} {c} first next none =
-      waiting_along made_of (length a.log) next.more first.more none
-      ∙ ap (λ k. waiting made_of k next.more) (sym (ap length first.log ∙ length-append first.more a.log))
+  pub served-next : (names : Line → List ℕ) {a b c : Logged} (first : Grows a b) (next : Grows b c) → waiting names (length a.log) first.more ≡ [] → waiting names (length a.log) (next.more ++ first.more) ≡ waiting names (length b.log) next.more
+  served-next names {a} {b} {c} first next none =
+      waiting_along names (length a.log) next.more first.more none
+      ∙ ap (λ k. waiting names k next.more) (sym (ap length first.log ∙ length-append first.more a.log))
 
   pub lean_along : (a b c : Logged) → GrowsLean limit a b → GrowsLean limit b c → GrowsLean limit a c
   lean_along a b c first next = record {
     grows = grows-along first.grows next.grows;
     within = within_along limit a b c first.within next.within;
     news = new-next first.grows next.grows first.news next.news;
-    served = served-next first.grows next.grows first.served ∙ next.served;
+    served = served-next made_of first.grows next.grows first.served ∙ next.served;
   }
 
   pub lean_fills : (a b : Logged) → GrowsLean limit a b → FillsLean limit a b
@@ -118,7 +118,7 @@ module _ (limit : ℕ) where
     grows = grows-along first.grows next.grows;
     within = within_along limit a b c first.within next.within;
     news = new-next first.grows next.grows first.news next.news;
-    served = λ n waits. next.served n (sym (ap (λ w. has w n) (served-next first.grows next.grows first.served)) ∙ waits);
+    served = λ n waits. next.served n (sym (ap (λ w. has w n) (served-next made_of first.grows next.grows first.served)) ∙ waits);
   }
 
   -- to a full log nothing is added

@@ -13,7 +13,7 @@ use Rattle.logs.specs.Logged.{Logged}
 use Rattle.bindings.specs.Founding.{founds_something}
 use Rattle.bindings.specs.Lean.{SaysNew, made_of, IsLean}
 use Rattle.lean_logs.proofs.Numbers.{stays_in}
-use Rattle.lean_logs.specs.Growth.{AreNew, waiting, FillsLean}
+use Rattle.lean_logs.specs.Growth.{Grows, AreNew, waiting, FillsLean}
 
 -- ---- where a line stands among those that were added
 
@@ -63,19 +63,22 @@ module _ (names : Line → List ℕ) (k : ℕ) where
 
 -- ---- whole logs
 
-pub filled_is_lean : (limit : ℕ) (old new : Logged) → FillsLean limit old new → IsLean old.instances made_of (length old.log) new.log
-filled_is_lean limit old new is = record {
+pub lean_of : (names : Line → List ℕ) (old new : Logged) (grows : Grows old new) → AreNew old.instances old.log grows.more → ((n : ℕ) → has (waiting names (length old.log) grows.more) n ≡ true → length new.log ≤ n + 2) → IsLean old.instances names (length old.log) new.log
+lean_of names old new grows news served = record {
   new = λ later l before whole long.
-      let at = amid old.log is.grows.more later l before (sym is.grows.log ∙ whole) long in
-      subst (λ F. SaysNew old.instances F l) (sym at.behind) (says-new old.instances old.log later l at.lines (subst (AreNew old.instances old.log) at.whole is.news));
+      let at = amid old.log grows.more later l before (sym grows.log ∙ whole) long in
+      subst (λ F. SaysNew old.instances F l) (sym at.behind) (says-new old.instances old.log later l at.lines (subst (AreNew old.instances old.log) at.whole news));
   served = λ later x before whole long two.
-      let at = amid old.log is.grows.more later (Founds x) before (sym is.grows.log ∙ whole) long in
+      let at = amid old.log grows.more later (Founds x) before (sym grows.log ∙ whole) long in
       let count : length before ≡ length at.lines + length old.log = ap length at.behind ∙ length-append at.lines old.log in
-      elim (waits-or made_of (length old.log) later x at.lines) [
-        | inl named ↦ subst (λ n. list_any (λ l. has (made_of l) n) later ≡ true) (sym count) named
+      elim (waits-or names (length old.log) later x at.lines) [
+        | inl named ↦ subst (λ n. list_any (λ l. has (names l) n) later ≡ true) (sym count) named
         | inr waits ↦
-            let last = (is.served (length at.lines + length old.log) (subst (λ m. has (waiting made_of (length old.log) m) (length at.lines + length old.log) ≡ true) (sym at.whole) waits)).1 in
+            let last : length new.log ≤ (length at.lines + length old.log) + 2 = served (length at.lines + length old.log) (subst (λ m. has (waiting names (length old.log) m) (length at.lines + length old.log) ≡ true) (sym at.whole) waits) in
             let long : length new.log ≡ length later + length (Founds x ∷ before) = ap length whole ∙ length-append later (Founds x ∷ before) in
             absurd (omega (arith, last, long, count, two))
       ];
 }
+
+pub filled_is_lean : (limit : ℕ) (old new : Logged) → FillsLean limit old new → IsLean old.instances made_of (length old.log) new.log
+filled_is_lean limit old new is = lean_of made_of old new is.grows is.news (λ n waits. (is.served n waits).1)

@@ -1,7 +1,9 @@
+pub mod Counts
 pub mod Founding
 pub mod Growth
 pub mod Lean
 pub mod Numbers
 pub mod Results
+pub mod Serving
 pub mod Spelling
 pub mod Texts

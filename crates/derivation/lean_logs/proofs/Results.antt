@@ -1,31 +1,62 @@
 -- A rule's result behind what is founded for it: the log grows by it, and stays lean.
-use Rattle.std.proofs.Common.{◌≡◌, refl, ap, sym, ◌∙◌, subst, inl, inr, ◌⊎◌, ℕ, ◌+◌, ◌<◌, ◌≤◌, Bool, true, false, not, List, [], ◌∷◌, filter, length, if◌then◌else◌, Option, Some, Result, Ok, OnOk, arith}
+use Rattle.std.proofs.Common.{◌≡◌, refl, ap, sym, ◌∙◌, subst, inl, inr, ◌⊎◌, ℕ, ◌+◌, ◌<◌, ◌≤◌, Bool, true, false, not, List, [], ◌∷◌, filter, length, if◌then◌else◌, Option, Some, None, Result, Ok, Err, IfOk, IfSome, OnOk, arith}
 use Rattle.std.proofs.lemmas.List.{length-append}
 use Rattle.algebra.proofs.MentionedColumns.{on_ok}
 use Rattle.algebra.specs.Columns.{has}
+use Rattle.props.specs.Knowledge.{Knowledge}
+use Rattle.rules.specs.declared.shape.Shape.{Shape}
 use Rattle.rules.specs.declared.shape.Shape.TheVariants as shape
+use Rattle.rules.specs.declared.unfit.Unfit.{Unfit}
+use Rattle.rules.specs.Matches as matches
+use Rattle.book.specs.declared.names.RuleName.{RuleName}
 use Rattle.derivation.specs.declared.line.Line.{Line}
-use Rattle.derivation.specs.Logs.{are_same, member}
+use Rattle.derivation.specs.Logs.{are_same, knowledge, member}
 use Rattle.derivation.specs.declared.line.Step.{Step}
 use Rattle.derivation.specs.declared.line.Line.TheVariants.{Adds, Unites}
-use Rattle.derivation.specs.Replay.{Replays, stands}
+use Rattle.derivation.specs.Replay.{Replays, members, stands}
 use Rattle.logs.specs.Logged.{Logged, with_line}
 use Rattle.bindings.specs.declared.binding.Binding.{Binding}
 use Rattle.bindings.specs.declared.rule_results.RuleResult.{RuleResult}
-use Rattle.bindings.specs.Bindings.{step_of}
+use Rattle.bindings.specs.Bindings.{applied, given_among, given_by_binding, shape_given, step_of, uses_of}
 use Rattle.bindings.specs.Results.{IsResult}
 use Rattle.bindings.specs.Spelt.{MayStand, IsPlaced, IsSpelt}
 use Rattle.bindings.proofs.Results.{adds_stand, placed_unites, unites_stand}
-use Rattle.bindings.specs.Founding.{founds_something}
+use Rattle.bindings.specs.Founding.{founds_something, IsResultBehind}
 use Rattle.bindings.specs.Lean.{SaysNew, made_of}
-use Rattle.bindings.specs.Shallow.{operator_count}
+use Rattle.bindings.specs.Shallow.{BookIsShallow, operator_count}
 use Rattle.bindings.proofs.SpeltShapes.{class_placed, expr_placed, line_has}
 use Rattle.lean_logs.specs.declared.founded.Spelt.{Spelt}
-use Rattle.lean_logs.specs.Founding.{FoundsNew, AreNamed, IsSpeltBehind, IsFilled, IsToldNew, IsToldBy, ClassTold, ResultTold, Stands}
+use Rattle.lean_logs.specs.Founding.{IsAdded, FoundsNew, AreNamed, MayStandBehind, IsSpeltBehind, IsFilled, IsToldNew, IsToldBy, ClassTold, ResultTold, Stands}
 use Rattle.lean_logs.specs.Growth.{IsWithin, waiting, GrowsLean, FillsLean}
 use Rattle.lean_logs.proofs.Growth.{lean_along, lean_fills, same_lean}
 use Rattle.lean_logs.proofs.Numbers.{has_cons, has_later, left_in, none_left}
-use Rattle.lean_logs.proofs.Founding.{founded_itself, founds_at_first, none_newest, tells_lean}
+use Rattle.lean_logs.proofs.Founding.{founded_itself, founded_of, founds_at_first, none_newest, tells_at_first, tells_lean}
+
+-- ---- what a binding's rule gives
+
+module _ (a : Logged) (b : Binding) (g : RuleResult) (is : given_by_binding a.instances a.log b ≡ Some g) where
+  pub given_result : IsResultBehind a b → Replays a.instances a.own a.log → IsResult a.instances a.own a.log b g.class g.shape
+  given_result behind replays = behind g is a (founded_itself a replays)
+
+  pub given_may : IsResultBehind a b → MayStandBehind a g.shape
+  given_may behind new founded = (behind g is new founded).may
+
+-- behind what was founded for it a result may stand, as it is spelt
+pub given_spelt : (a b : Logged) (bd : Binding) (g : RuleResult) (e : Spelt) → given_by_binding a.instances a.log bd ≡ Some g → IsResultBehind a bd → IsSpeltBehind a g.shape e b → Replays b.instances b.own b.log
+    → IsResult b.instances b.own b.log bd g.class g.shape × IsSpelt b.instances b.own b.log g.shape e.expr e.makes.items
+given_spelt a b bd g e is behind spelt replays = (behind g is b (founded_of a b spelt.founds), spelt.spelt b (founded_itself b replays))
+
+shape-given : (c : ℕ) (r : Result Shape Unfit) (g : RuleResult) → shape_given c r ≡ Some g → r ≡ Ok g.shape
+shape-given c (Ok s) g is = let e : Some (record { class = c; shape = s }) ≡ Some g = is in let same : record { class = c; shape = s } ≡ g = cc in ap (λ (g : RuleResult). Ok g.shape) same
+shape-given c (Err u) g is = cc
+
+among-shallow : BookIsShallow → (K : Knowledge) (rule : RuleName) (pick : ℕ) (o : Option (List matches.Line)) (g : RuleResult) → given_among K rule pick o ≡ Some g → operator_count g.shape ≤ 3
+among-shallow shallow K rule pick None g is = cc
+among-shallow shallow K rule pick (Some []) g is = cc
+among-shallow shallow K rule pick (Some (top ∷ others)) g is = shallow rule (record { lines = top ∷ others; pick = pick; classes = K }) g.shape (shape-given top.class (applied K rule pick (top ∷ others)) g is)
+
+pub given_shallow : BookIsShallow → (a : Logged) (b : Binding) (g : RuleResult) → given_by_binding a.instances a.log b ≡ Some g → operator_count g.shape ≤ 3
+given_shallow shallow a b g is = among-shallow shallow (knowledge a.instances a.log) b.rule b.pick (members a.log (uses_of b)) g is
 
 -- ---- which lines wait
 
@@ -91,6 +122,14 @@ module _ (limit : ℕ) where
       let one : length told.behind.log ≡ length (told.line ∷ a.log) = ap (λ (l : Logged). length l.log) told.added.added in
       let more : length new.log ≡ length told.tells.grows.more + length told.behind.log = ap length told.tells.grows.log ∙ length-append told.tells.grows.more told.behind.log in
       omega (arith, one, more)
+
+  -- a result's line is added, or the log is full
+  pub told_of : {e : Type 0} (a b : Logged) (line : Line) (r : Result (Option ℕ) e) → stands a.instances a.own a.log line ≡ Ok line → SaysNew a.instances a.log line → founds_something line ≡ false
+      → IfOk r (λ found. IfSome found (λ number. IsAdded limit a line b × (number ≡ length a.log))) → IfOk r (λ found. found ≡ None → b ≡ a)
+      → IfOk r (λ found. found ≡ None → stands a.instances a.own a.log line ≡ Ok line → SaysNew a.instances a.log line → limit ≤ length a.log) → OnOk r (IsToldBy limit a (made_of line) b)
+  told_of a b line (Ok (Some n)) may says founds some none refused = inl (record { line = line; behind = b; added = some.0; founds = founds; names = refl; tells = tells_at_first limit b })
+  told_of a b line (Ok None) may says founds some none refused = inr (record { kept = none refl; full = refused refl may says })
+  told_of a b line (Err x) may says founds some none refused = tt
 
   -- ---- what is said of a rule's result
 

@@ -6,7 +6,7 @@ use Rattle.derivation.specs.declared.line.Line.{Line}
 use Rattle.derivation.specs.Logs.{Log}
 use Rattle.logs.specs.Logged.{Logged}
 use Rattle.bindings.specs.Founding.{founds_something}
-use Rattle.bindings.specs.Lean.{SaysNew, made_of}
+use Rattle.bindings.specs.Lean.{SaysNew, made_of, named_by}
 
 -- the lines before stand unchanged, and others only behind them, over the same table instances and aggregates
 pub record Grows (old new : Logged) : Type 0 where
@@ -53,3 +53,17 @@ pub record FillsLean (limit : ℕ) (old new : Logged) : Type 0 where
   pub within : IsWithin limit old new
   pub news : AreNew old.instances old.log grows.more
   pub served : (n : ℕ) → has (waiting made_of (length old.log) grows.more) n ≡ true → (limit ≤ length new.log) × (length new.log ≤ n + 2)
+
+-- ---- logs of which each founded line is named
+
+-- behind a log stand lines that say something new, and each that founds something a later result names, or is made of
+pub record IsServed (old new : Logged) : Type 0 where
+  pub grows : Grows old new
+  pub news : AreNew old.instances old.log grows.more
+  pub served : waiting named_by (length old.log) grows.more ≡ []
+
+-- the same, but that those that still wait are among these
+pub record IsServedBut (ns : List ℕ) (old new : Logged) : Type 0 where
+  pub grows : Grows old new
+  pub news : AreNew old.instances old.log grows.more
+  pub served : (n : ℕ) → has (waiting named_by (length old.log) grows.more) n ≡ true → has ns n ≡ true

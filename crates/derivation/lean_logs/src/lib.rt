@@ -3,7 +3,9 @@
 
 mod expr_text;
 mod founded;
+mod given_results;
 mod lean_log;
+mod served;
 mod unadded;
 
 pub use founded::Spelt;
