@@ -5,4 +5,3 @@ pub mod Operators
 pub mod Results
 pub mod Shallow
 pub mod Spelt
-pub mod Steps

@@ -1,4 +1,4 @@
--- What a shape is by the lines of a log: a class, or an expression whose inner expressions stand in lines, or else one of these that may be founded.
+-- What a shape is by the lines of a log: a class, or an expression, whose inner expressions stand in lines.
 use Rattle.std.specs.Prelude.{◌≡◌, ℕ, true, List, ◌++◌, Some, Ok}
 use Rattle.std.specs.List.{list_all}
 use Rattle.query.specs.declared.query.TableInstance.{TableInstance}
@@ -7,15 +7,10 @@ use Rattle.algebra.specs.declared.expr.Expr.{Expr}
 use Rattle.algebra.specs.Classes.{class_columns}
 use Rattle.algebra.specs.Expressions.{columns_of}
 use Rattle.rules.specs.declared.shape.Shape.{Shape}
-use Rattle.rules.specs.declared.shape.Shape.TheVariants as shape
 use Rattle.derivation.specs.declared.line.Line.TheVariants.{Founds}
 use Rattle.derivation.specs.Logs.{Log, entries, founds, member}
 use Rattle.derivation.specs.Replay.{is_earlier, stands}
 use Rattle.derivation.specs.Spelling.{spelling}
-use Rattle.bindings.specs.declared.spelt.Placed.{Placed}
-use Rattle.bindings.specs.declared.spelt.Placed.TheVariants as placed
-use Rattle.bindings.specs.declared.spelt.Spelt.{Spelt}
-use Rattle.bindings.specs.declared.spelt.Spelt.TheVariants as spelt_
 use Rattle.rules.specs.Formed.{formed}
 
 -- the columns of a log's classes
@@ -45,18 +40,9 @@ module _ (instances : List TableInstance) (own : List Aggregation) (E : Log) whe
     pub columns : columns_of instances (cols instances E) x ≡ shape_columns s
     pub cited : list_all (is_earlier E) makes ≡ true
 
-  abbrev pub SpeltAs : Shape → Spelt → Type 0
-  SpeltAs s (spelt_.Class g) = s ≡ shape.Class g
-  SpeltAs s (spelt_.Expr x makes) = IsSpelt s x makes.items
-  SpeltAs s (spelt_.Lacks x) = MayBeFounded x
-
   -- the shape is this class, which is founded, its expressions being those of the lines
   pub record IsPlaced (s : Shape) (g : ℕ) (makes : List ℕ) : Type 0 where
     pub spelt : (rest : List ℕ) → (spelling (member E) s).class (makes ++ rest) ≡ Some (g, rest)
     pub founded : founds E g ≡ true
     pub columns : cols instances E g ≡ shape_columns s
     pub cited : list_all (is_earlier E) makes ≡ true
-
-  abbrev pub PlacedAs : Shape → Placed → Type 0
-  PlacedAs s (placed.Class g makes) = IsPlaced s g makes.items
-  PlacedAs s (placed.Lacks x) = MayBeFounded x

@@ -4,7 +4,6 @@
 mod closing;
 mod lacks;
 mod learning;
-mod nearer;
 mod numbers;
 mod pairs;
 mod picks;
@@ -13,4 +12,3 @@ mod standing;
 pub use closing::{is_closed, missing};
 pub use lacks::Missing;
 pub use learning::lacking_fact;
-pub use nearer::next_line;

@@ -3,7 +3,8 @@
 ghost use Rattle.std.specs.Prelude.{◌≡◌, ◌<◌, ◌≤◌, ◌↔◌, false, length, IsTrue, IfOk, OnOk};
 ghost use Rattle.closure.specs.Closed.{IsClosed};
 ghost use Rattle.closure.specs.Lacking.{IsMissing};
-ghost use Rattle.memo.specs.Growth.{Grows, IsWithin, Extends, FoundsDirectly};
+ghost use Rattle.bindings.specs.Lean.{IsLean, made_of};
+ghost use Rattle.lean_logs.specs.Growth.{Extends, FillsLean, GrowsLean};
 
 use crate::entering::{PassFilter, Tried, enter};
 use crate::learning::{Looks, add_fact, learn_all};
@@ -53,7 +54,7 @@ fn apply(
     next: Next,
 ) -> Result<(), AllocError>
     ensures extends { Extends memo.old.limit memo.old.log memo.new.log }
-    ensures direct { OnOk result (FoundsDirectly memo.old.limit memo.old.log memo.new.log) }
+    ensures lean { OnOk result (GrowsLean memo.old.limit memo.old.log memo.new.log) }
     ensures limit { memo.new.limit ≡ memo.old.limit }
 {
     let found = memo.apply(alloc, next.binding)?;
@@ -63,7 +64,7 @@ fn apply(
     Ok(())
 }
 
-/// Goes through all bindings, those of lines that are added meanwhile among them, until the log is full; without those that an earlier pass has tried.
+/// Goes through all bindings, those of lines that are added meanwhile among them, while the log has room; without those that an earlier pass has tried.
 fn pass(
     alloc: Global,
     memo: &mut Memo<'_>,
@@ -71,15 +72,15 @@ fn pass(
     tried: &mut Tried,
 ) -> Result<(), AllocError>
     ensures extends { Extends memo.old.limit memo.old.log memo.new.log }
-    ensures direct { OnOk result (FoundsDirectly memo.old.limit memo.old.log memo.new.log) }
+    ensures lean { OnOk result (GrowsLean memo.old.limit memo.old.log memo.new.log) }
     ensures limit { memo.new.limit ≡ memo.old.limit }
 {
     let takers = Takers::of_book(alloc)?;
     let mut queue = Queue::new(alloc);
     let mut entered = 0;
     for _ in 0..MOST_BINDINGS {
-        // Before the lines are entered: of a full log that would be for nothing.
-        if memo.is_full() {
+        // Before the lines are entered: without room that would be for nothing.
+        if memo.is_crowded() {
             break;
         }
         entered = enter_new(alloc, memo, &takers, products, tried, &mut queue, entered)?;
@@ -92,13 +93,12 @@ fn pass(
     Ok(())
 }
 
-/// Adds what each rule gives at each binding, until the log is full or a pass adds nothing; at those that make products only where these are wanted. Nothing
-/// is said of what it leaves out.
+/// Adds what each rule gives at each binding, until the log lacks room for what a rule may give or a pass adds nothing; at those that make products only
+/// where these are wanted. Nothing is said of what it leaves out.
 pub fn apply_all(alloc: Global, memo: &mut Memo<'_>, products: Products) -> Result<(), AllocError>
-    ensures grows { Grows memo.old.log memo.new.log }
-    ensures within { IsWithin memo.old.limit memo.old.log memo.new.log }
+    ensures extends { Extends memo.old.limit memo.old.log memo.new.log }
     ensures limit { memo.new.limit ≡ memo.old.limit }
-    ensures direct { OnOk result (FoundsDirectly memo.old.limit memo.old.log memo.new.log) }
+    ensures lean { OnOk result (GrowsLean memo.old.limit memo.old.log memo.new.log) }
 {
     let mut tried = Tried::nothing(alloc);
     for _ in 0..MOST_PASSES {
@@ -120,7 +120,7 @@ fn pass_and_learn(
     looks: &mut Looks,
 ) -> Result<(), AllocError>
     ensures extends { Extends memo.old.limit memo.old.log memo.new.log }
-    ensures direct { OnOk result (FoundsDirectly memo.old.limit memo.old.log memo.new.log) }
+    ensures lean { OnOk result (GrowsLean memo.old.limit memo.old.log memo.new.log) }
     ensures limit { memo.new.limit ≡ memo.old.limit }
 {
     pass(alloc, memo, Products::Made, tried)?;
@@ -128,11 +128,11 @@ fn pass_and_learn(
     Ok(())
 }
 
-/// Adds what each rule gives at each binding, then what facts lines give, and so on with what rules give by these, until the log is full or nothing is
+/// Adds what each rule gives at each binding, then what facts lines give, and so on with what rules give by these, until the log lacks room or nothing is
 /// added. Nothing is said of what it leaves out.
 pub fn apply_and_learn(alloc: Global, memo: &mut Memo<'_>) -> Result<(), AllocError>
     ensures extends { Extends memo.old.limit memo.old.log memo.new.log }
-    ensures direct { OnOk result (FoundsDirectly memo.old.limit memo.old.log memo.new.log) }
+    ensures lean { OnOk result (GrowsLean memo.old.limit memo.old.log memo.new.log) }
     ensures limit { memo.new.limit ≡ memo.old.limit }
 {
     let mut looks = Looks::none(alloc);
@@ -153,7 +153,7 @@ fn add_missing(alloc: Global, memo: &mut Memo<'_>, lacking: Missing) -> Result<(
     requires lacks { IsMissing memo.old.log.instances memo.old.log.log lacking }
     requires room { length memo.old.log.log < memo.old.limit }
     ensures extends { Extends memo.old.limit memo.old.log memo.new.log }
-    ensures direct { OnOk result (FoundsDirectly memo.old.limit memo.old.log memo.new.log) }
+    ensures fills { OnOk result (FillsLean memo.old.limit memo.old.log memo.new.log) }
     ensures limit { memo.new.limit ≡ memo.old.limit }
     ensures added { OnOk result (length memo.old.log.log < length memo.new.log.log) }
 {
@@ -171,11 +171,11 @@ fn add_missing(alloc: Global, memo: &mut Memo<'_>, lacking: Missing) -> Result<(
 pub fn explore(alloc: Global, memo: &mut Memo<'_>) -> Result<bool, AllocError>
     ensures closed { IfOk result (λ closed. IsTrue closed ↔ IsClosed memo.new.log.instances memo.new.log.log) }
     ensures full { IfOk result (λ closed. closed ≡ false → memo.new.limit ≤ length memo.new.log.log) }
-    ensures grows { Grows memo.old.log memo.new.log }
-    ensures within { IsWithin memo.old.limit memo.old.log memo.new.log }
+    ensures extends { Extends memo.old.limit memo.old.log memo.new.log }
     ensures limit { memo.new.limit ≡ memo.old.limit }
-    // What was founded for a result stands directly before it.
-    ensures direct { OnOk result (FoundsDirectly memo.old.limit memo.old.log memo.new.log) }
+    ensures fills { OnOk result (FillsLean memo.old.limit memo.old.log memo.new.log) }
+    // Each line that is added says something new, and what is founded a later result names: so the log isn't filled with what is of no use.
+    ensures lean { OnOk result (IsLean memo.old.log.instances made_of (length memo.old.log.log) memo.new.log.log) }
 {
     'adding: loop {
         let Some(lacking) = missing(alloc, memo.log())? else {

@@ -3,8 +3,9 @@
 ghost use Rattle.std.specs.Prelude.{◌≡◌, ◌<◌, length, Ok, OnOk};
 ghost use Rattle.derivation.specs.declared.line.Line.TheVariants.{Gives};
 ghost use Rattle.derivation.specs.Replay.{stands};
+ghost use Rattle.bindings.specs.Lean.{SaysNew};
 ghost use Rattle.closure.specs.Lacking.{LacksGiven};
-ghost use Rattle.memo.specs.Growth.{Extends, FoundsDirectly};
+ghost use Rattle.lean_logs.specs.Growth.{Extends, GrowsLean};
 
 use crate::news::has_news;
 use algebra::{ClassId, LineId};
@@ -62,9 +63,9 @@ fn learn(
     fact: Fact,
 ) -> Result<(), AllocError>
     ensures extends { Extends memo.old.limit memo.old.log memo.new.log }
-    ensures direct { OnOk result (FoundsDirectly memo.old.limit memo.old.log memo.new.log) }
+    ensures lean { OnOk result (GrowsLean memo.old.limit memo.old.log memo.new.log) }
     ensures limit { memo.new.limit ≡ memo.old.limit }
-    ensures added { OnOk result (length memo.old.log.log < memo.old.limit → stands memo.old.log.instances memo.old.log.own memo.old.log.log (Gives class line fact) ≡ Ok (Gives class line fact) → length memo.old.log.log < length memo.new.log.log) }
+    ensures added { OnOk result (length memo.old.log.log < memo.old.limit → stands memo.old.log.instances memo.old.log.own memo.old.log.log (Gives class line fact) ≡ Ok (Gives class line fact) → SaysNew memo.old.log.instances memo.old.log.log (Gives class line fact) → length memo.old.log.log < length memo.new.log.log) }
 {
     memo.add(alloc, Line::Gives(class, line, fact))
 }
@@ -72,7 +73,7 @@ fn learn(
 /// Learns what a line gives, until all of that is known or the log is full.
 fn learn_of(alloc: Global, memo: &mut Memo<'_>, line: LineId) -> Result<(), AllocError>
     ensures extends { Extends memo.old.limit memo.old.log memo.new.log }
-    ensures direct { OnOk result (FoundsDirectly memo.old.limit memo.old.log memo.new.log) }
+    ensures lean { OnOk result (GrowsLean memo.old.limit memo.old.log memo.new.log) }
     ensures limit { memo.new.limit ≡ memo.old.limit }
 {
     for _ in 0..MOST_FACTS {
@@ -99,7 +100,7 @@ fn look_at(
     line: LineId,
 ) -> Result<(), AllocError>
     ensures extends { Extends memo.old.limit memo.old.log memo.new.log }
-    ensures direct { OnOk result (FoundsDirectly memo.old.limit memo.old.log memo.new.log) }
+    ensures lean { OnOk result (GrowsLean memo.old.limit memo.old.log memo.new.log) }
     ensures limit { memo.new.limit ≡ memo.old.limit }
 {
     if !looks.is_due(memo, line) {
@@ -113,7 +114,7 @@ fn look_at(
 /// earlier.
 fn pass(alloc: Global, memo: &mut Memo<'_>, looks: &mut Looks) -> Result<(), AllocError>
     ensures extends { Extends memo.old.limit memo.old.log memo.new.log }
-    ensures direct { OnOk result (FoundsDirectly memo.old.limit memo.old.log memo.new.log) }
+    ensures lean { OnOk result (GrowsLean memo.old.limit memo.old.log memo.new.log) }
     ensures limit { memo.new.limit ≡ memo.old.limit }
 {
     for line in 0..memo.log().len() {
@@ -130,7 +131,7 @@ pub(crate) fn learn_all(
     looks: &mut Looks,
 ) -> Result<(), AllocError>
     ensures extends { Extends memo.old.limit memo.old.log memo.new.log }
-    ensures direct { OnOk result (FoundsDirectly memo.old.limit memo.old.log memo.new.log) }
+    ensures lean { OnOk result (GrowsLean memo.old.limit memo.old.log memo.new.log) }
     ensures limit { memo.new.limit ≡ memo.old.limit }
 {
     for _ in 0..MOST_PASSES {
@@ -155,7 +156,7 @@ pub(crate) fn add_fact(
     requires lacks { LacksGiven memo.old.log.instances memo.old.log.log class line fact }
     requires room { length memo.old.log.log < memo.old.limit }
     ensures extends { Extends memo.old.limit memo.old.log memo.new.log }
-    ensures direct { OnOk result (FoundsDirectly memo.old.limit memo.old.log memo.new.log) }
+    ensures lean { OnOk result (GrowsLean memo.old.limit memo.old.log memo.new.log) }
     ensures limit { memo.new.limit ≡ memo.old.limit }
     ensures added { OnOk result (length memo.old.log.log < length memo.new.log.log) }
 {

@@ -71,6 +71,11 @@ impl Groups {
         }
     }
 
+    /// How many classes there are.
+    pub(crate) fn count(&self) -> usize {
+        self.groups.len()
+    }
+
     /// Adds a class of the next number, alone in its group.
     pub(crate) fn add(&mut self) -> Result<(), AllocError> {
         let class = id_of(self.groups.len())?;

@@ -33,19 +33,10 @@ pub(crate) struct Operation<'a> {
     pub null_aware: &'a [Condition],
 }
 
-/// An expression by numbers.
+/// An expression by numbers, with the groups of its classes: expressions that are equal up to which classes are the same have equal ones, and only these.
 #[derive(PartialEq, Eq, Hash, Drop)]
 pub(crate) struct Key {
     numbers: Vec<u32>,
-}
-
-/// The keys of an expression.
-#[derive(Drop)]
-pub(crate) struct Keys {
-    /// With the classes as they are named: equal expressions have equal ones, and only these.
-    pub exact: Key,
-    /// With the groups of the classes: expressions that are equal up to which classes are the same have equal ones, and only these.
-    pub congruent: Key,
 }
 
 /// The numbers of conditions that name classes, by what they are with the groups of these.
@@ -111,7 +102,7 @@ pub(crate) fn operation_of(expr: &Expr) -> Operation<'_> {
 fn push_input(
     numbers: &mut Vec<u32>,
     input: Option<ClassId>,
-    groups: Option<&Groups>,
+    groups: &Groups,
 ) -> Result<(), AllocError> {
     match input {
         Some(class) => push_class(numbers, class, groups),
@@ -120,10 +111,14 @@ fn push_input(
 }
 
 /// Adds conditions behind their count. They stand in the order of their texts, each once, so that equal lists are spelt alike.
-fn push_conditions(numbers: &mut Vec<u32>, conditions: &[Condition]) -> Result<(), AllocError> {
+fn push_conditions(
+    numbers: &mut Vec<u32>,
+    conditions: &[Condition],
+    groups: &Groups,
+) -> Result<(), AllocError> {
     numbers.push(id_of(conditions.len())?)?;
     for condition in conditions {
-        push_condition(numbers, condition, None)?;
+        push_condition(numbers, condition, groups)?;
     }
     Ok(())
 }
@@ -190,21 +185,21 @@ impl Operation<'_> {
     }
 
     /// Adds what its key begins with.
-    fn push_begun(self, numbers: &mut Vec<u32>, groups: Option<&Groups>) -> Result<(), AllocError> {
+    fn push_begun(self, numbers: &mut Vec<u32>, groups: &Groups) -> Result<(), AllocError> {
         numbers.push(operator_number(self.operator))?;
         push_input(numbers, self.left, groups)?;
         push_input(numbers, self.right, groups)
     }
 
-    /// Adds its key, with the groups of its inputs where they are given, and its conditions as they stand.
-    fn push_key(self, numbers: &mut Vec<u32>, groups: Option<&Groups>) -> Result<(), AllocError> {
+    /// Adds its key, where no condition names a class, so that they stand in one order whatever the groups are.
+    fn push_key(self, numbers: &mut Vec<u32>, groups: &Groups) -> Result<(), AllocError> {
         self.push_begun(numbers, groups)?;
-        push_conditions(numbers, self.conditions)?;
-        push_conditions(numbers, self.null_aware)?;
+        push_conditions(numbers, self.conditions, groups)?;
+        push_conditions(numbers, self.null_aware, groups)?;
         push_own(numbers, self.operator)
     }
 
-    fn key(self, alloc: Global, groups: Option<&Groups>) -> Result<Key, AllocError> {
+    fn key(self, alloc: Global, groups: &Groups) -> Result<Key, AllocError> {
         let mut numbers = Vec::with_capacity(alloc, 24)?;
         self.push_key(&mut numbers, groups)?;
         Ok(Key { numbers })
@@ -231,7 +226,7 @@ impl ConditionNumbers {
         let mut numbers = Vec::new(alloc);
         for condition in conditions {
             let mut spelt = Vec::new(alloc);
-            push_condition(&mut spelt, condition, Some(groups))?;
+            push_condition(&mut spelt, condition, groups)?;
             let (number, _) = self.conditions.insert_full(Key { numbers: spelt })?;
             numbers.push(id_of(number)?)?;
         }
@@ -248,10 +243,10 @@ impl ConditionNumbers {
         groups: &Groups,
     ) -> Result<Key, AllocError> {
         if operation.is_plain() {
-            return operation.key(alloc, Some(groups));
+            return operation.key(alloc, groups);
         }
         let mut numbers = Vec::with_capacity(alloc, 24)?;
-        operation.push_begun(&mut numbers, Some(groups))?;
+        operation.push_begun(&mut numbers, groups)?;
         let conditions = self.numbers(alloc, operation.conditions, groups)?;
         push_list(&mut numbers, conditions.as_slice())?;
         let null_aware = self.numbers(alloc, operation.null_aware, groups)?;
@@ -269,27 +264,10 @@ impl ConditionNumbers {
     ) -> Result<&Key, AllocError> {
         if operation.is_plain() {
             self.lent.numbers.clear();
-            operation.push_key(&mut self.lent.numbers, Some(groups))?;
+            operation.push_key(&mut self.lent.numbers, groups)?;
         } else {
             self.lent = self.congruent_key(alloc, operation, groups)?;
         }
         Ok(&self.lent)
     }
-
-    /// Both keys.
-    pub(crate) fn keys(
-        &mut self,
-        alloc: Global,
-        operation: Operation<'_>,
-        groups: &Groups,
-    ) -> Result<Keys, AllocError> {
-        let exact = exact_key(alloc, operation)?;
-        let congruent = self.congruent_key(alloc, operation, groups)?;
-        Ok(Keys { exact, congruent })
-    }
-}
-
-/// The key with classes as they are named.
-pub(crate) fn exact_key(alloc: Global, operation: Operation<'_>) -> Result<Key, AllocError> {
-    operation.key(alloc, None)
 }

@@ -1,13 +1,11 @@
-//! A log whose lines are found by their expressions up to which classes are the same, and grows by rules.
-//!
-//! A log that grows keeps the lines that it has. Of those that are added nothing is promised: the log takes only lines that may stand.
+//! A log that is lean as it grows by rules, and whose lines are found by their expressions up to which classes are the same.
 #![tactic(auto)]
 
-mod applying;
+mod congruent;
 mod groups;
 mod keys;
 mod lines;
+mod looking;
 mod spelt;
-mod unadded;
 
 pub use lines::Memo;

@@ -18,16 +18,13 @@ fn comparison_number(comparison: Comparison) -> u32 {
     }
 }
 
-/// Adds the number of a class, or of its group where groups are given.
+/// Adds the number of a class's group.
 pub(crate) fn push_class(
     numbers: &mut Vec<u32>,
     class: ClassId,
-    groups: Option<&Groups>,
+    groups: &Groups,
 ) -> Result<(), AllocError> {
-    numbers.push(match groups {
-        Some(groups) => groups.of(class),
-        None => class,
-    })?;
+    numbers.push(groups.of(class))?;
     Ok(())
 }
 
@@ -80,13 +77,13 @@ fn push_term(numbers: &mut Vec<u32>, term: &Term) -> Result<(), AllocError> {
     }
 }
 
-/// Adds what a condition is, with the groups of its classes where they are given. No condition begins another one, so that lists of conditions are equal
+/// Adds what a condition is, with the groups of its classes. No condition begins another one, so that lists of conditions are equal
 /// where their numbers are.
 #[cycle(spelling)]
 pub(crate) fn push_condition(
     numbers: &mut Vec<u32>,
     condition: &Condition,
-    groups: Option<&Groups>,
+    groups: &Groups,
 ) -> Result<(), AllocError> {
     match condition {
         Condition::Compare(by, Term::Column(a), Term::Column(b)) => {
@@ -138,7 +135,7 @@ pub(crate) fn push_condition(
 fn push_more(
     numbers: &mut Vec<u32>,
     more: &[Condition],
-    groups: Option<&Groups>,
+    groups: &Groups,
 ) -> Result<(), AllocError> {
     numbers.push(id_of(more.len())?)?;
     for condition in more {

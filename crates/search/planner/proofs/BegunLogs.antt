@@ -63,40 +63,6 @@ module _ (q : Query) where
 
 -- ---- lines one by one
 
--- so many lines found the classes of the first expressions
-abbrev pub BeginsBelow : ℕ → List Expr → List Line → Type 0
-BeginsBelow i frame lines = (n : ℕ) (x : Expr) → n < i → slice_get frame n ≡ Some x → slice_get lines n ≡ Some (Founds x)
-
-pub begins_at_first : (frame : List Expr) (lines : List Line) → BeginsBelow 0 frame lines
-begins_at_first frame lines n x lt at = absurd (omega (arith, lt))
-
-pub begins_more : (frame : List Expr) (lines : List Line) (i : ℕ) (y : Expr) → slice_get frame i ≡ Some y → slice_get lines i ≡ Some (Founds y) → BeginsBelow i frame lines → BeginsBelow (i + 1) frame lines
-begins_more frame lines i y is founds before n x lt at = by (n == i) refl
-  where
-    by : (t : Bool) → (n == i) ≡ t → slice_get lines n ≡ Some (Founds x)
-    by true same =
-        let e : n ≡ i = eqb-true n i same in
-        let one : y ≡ x = let f : Some y ≡ Some x = sym is ∙ ap (slice_get frame) (sym e) ∙ at in cc in
-        ap (slice_get lines) e ∙ founds ∙ ap (λ z. Some (Founds z)) one
-    by false other = before n x (let ne : (n ≡ i → ⊥) = eqb-false n i other in omega (arith, lt, ne)) at
-
-some-below : {X : Type 0} (xs : List X) (n : ℕ) (x : X) → slice_get xs n ≡ Some x → n < length xs
-some-below [] n x at = cc
-some-below (y ∷ xs) zero x at = omega arith
-some-below (y ∷ xs) (suc n) x at = let lt : n < length xs = some-below xs n x at in omega (arith, lt)
-
-pub begins_all : (frame : List Expr) (lines : List Line) (i : ℕ) → length frame ≤ i → BeginsBelow i frame lines → (n : ℕ) (x : Expr) → slice_get frame n ≡ Some x → slice_get lines n ≡ Some (Founds x)
-begins_all frame lines i le before n x at = before n x (let lt : n < length frame = some-below frame n x at in omega (arith, le, lt)) at
-
--- lines that begin with a frame are it, and others behind it
-pub begun_is : (frame : List Expr) (lines : List Line) → ((n : ℕ) (x : Expr) → slice_get frame n ≡ Some x → slice_get lines n ≡ Some (Founds x)) → (rest : List Line) × (lines ≡ map Founds frame ++ rest)
-begun_is [] lines begins = (lines, refl)
-begun_is (x ∷ frame) [] begins = let none : None ≡ Some (Founds x) = begins 0 x refl in cc
-begun_is (x ∷ frame) (l ∷ lines) begins =
-    let first : l ≡ Founds x = let e : Some l ≡ Some (Founds x) = begins 0 x refl in cc in
-    let later = begun_is frame lines (λ n y at. begins (suc n) y at) in
-    (later.0, ap (λ k. k ∷ lines) first ∙ ap (λ ls. Founds x ∷ ls) later.1)
-
 -- a line of lines that replay isn't refused
 suffix-replays : (instances : List TableInstance) (own : List Aggregation) (rest E : Log) → Replays instances own (rest ++ E) → Replays instances own E
 suffix-replays instances own [] E replays = replays

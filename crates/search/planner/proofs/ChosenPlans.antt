@@ -22,18 +22,18 @@ use Rattle.planner.specs.declared.planned.Exploration.{Exploration}
 use Rattle.planner.specs.declared.planned.Exploration.TheVariants.{ToLimit, WhileWorthwhile}
 use Rattle.planner.specs.declared.searching.Searched.{Searched}
 use Rattle.planner.specs.NotDearer.{IsNotDearer, certificate_cost}
-use Rattle.planner.specs.Searched.{IsBest, IsLogOf, IsPlanned, IsSearched, IsToldOf, IsWithinLimit, frame_lines, root_goal}
+use Rattle.planner.specs.Searched.{IsBest, IsLogOf, IsLeanBehind, IsPlanned, IsSearched, IsToldOf, IsWithinLimit, frame_lines, root_goal}
 use Rattle.planner.proofs.WholeCertificates.{lines-replay, whole-not-dearer, whole-replays}
 
 pub when_both : {T R : Type 0} (r : Result T R) (P Q B : T → Type 0) → ((x : T) → P x → Q x → B x) → IfOk r P → IfOk r Q → IfOk r B
 when_both (Ok x) P Q B both p q = both x p q
 when_both (Err e) P Q B both p q = tt
 
-pub searched : (S : Statistics) (q : Query) (limit : ℕ) (l found : Logged) → IsLogOf q l → IsWithinLimit q limit l.log → found ≡ l → (best : BestPlan) → IsBest S q l.log best
+pub searched : (S : Statistics) (q : Query) (limit : ℕ) (l found : Logged) → IsLogOf q l → IsWithinLimit q limit l.log → IsLeanBehind q l.log → found ≡ l → (best : BestPlan) → IsBest S q l.log best
     → (is_complete : Bool) → (is_complete ≡ true → IsClosed l.instances l.log) → IsSearched S q limit (record { log = found; best = best; is_complete = is_complete })
-searched S q limit l found is within same best is_best is_complete closed =
+searched S q limit l found is within lean same best is_best is_complete closed =
     subst (λ f. IsSearched S q limit (record { log = f; best = best; is_complete = is_complete })) (sym same)
-    (record { log = is; within = within; best = is_best; closed = λ so. subst (λ I. IsClosed I l.log) is.instances (closed so) })
+    (record { log = is; within = within; lean = lean; best = is_best; closed = λ so. subst (λ I. IsClosed I l.log) is.instances (closed so) })
 
 module _ (S : Statistics) (q : Query) (bound : is_bound q ≡ true) (limit : ℕ) (found : Searched) (is : IsSearched S q limit found) (replays : Replays found.log.instances found.log.own found.log.log) where
   abbrev E : Log
@@ -81,6 +81,7 @@ module _ (S : Statistics) (q : Query) (bound : is_bound q ≡ true) (limit : ℕ
       record {
         lines = subst (λ L. lines_replay q [] L ≡ Ok (reverse L)) (sym turned) (all-replay ∙ ap (λ L. Ok L) (sym (reverse-reverse E)));
         within = subst (λ n. n ≤ max limit (length (query_frame q))) count is.within;
+        lean = subst (IsLeanBehind q) (sym back) is.lean;
         labelled = subst (λ L. Labelled S q.tables L (root_goal q) found.best.plan found.best.labels) (sym back) is.best.labelled;
         least = subst (λ L. found.best.cost ≡ plan_cost S q.tables L found.best.plan) (sym back) is.best.cost;
         whole = subst (λ L. replayed q (record { lines = L; plan = found.best.plan }) ≡ Ok (record { lines = L; plan = found.best.plan })) (sym turned) whole-serves;

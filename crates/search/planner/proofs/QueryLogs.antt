@@ -1,6 +1,6 @@
--- Logs of a query: of the lines that found its frame, and of lines that begin with these.
-use Rattle.std.proofs.Common.{◌≡◌, refl, ap, sym, ◌∙◌, subst, List, [], ◌++◌, map, reverse, true}
-use Rattle.std.proofs.lemmas.List.{reverse-append}
+-- Logs of a query: of the lines that found its frame, and of those behind which a log is served.
+use Rattle.std.proofs.Common.{◌≡◌, refl, ap, sym, ◌∙◌, subst, ℕ, ◌≤◌, List, [], length, map, max, reverse, true, arith}
+use Rattle.std.proofs.lemmas.List.{length-map, length-reverse}
 use Rattle.query.specs.declared.query.Query.{Query}
 use Rattle.query.specs.declared.query.TableInstance.{TableInstance}
 use Rattle.query.specs.Bound.{is_bound}
@@ -9,12 +9,15 @@ use Rattle.frame.specs.Frames.{query_frame}
 use Rattle.frame.specs.FormedFrames.{own_aggregates}
 use Rattle.derivation.specs.declared.line.Line.{Line}
 use Rattle.derivation.specs.declared.line.Line.TheVariants.{Founds}
+use Rattle.derivation.specs.Logs.{Log}
 use Rattle.derivation.specs.Replay.{Replays}
 use Rattle.logs.specs.Logged.{Logged}
+use Rattle.bindings.specs.Lean.{IsLean, named_by}
+use Rattle.lean_logs.proofs.Serving.{served_at_first, served_ends, served_is_lean}
 use Rattle.certificate.proofs.Founded.{log-replays, map-reverse}
 use Rattle.certificate.proofs.FrameLines.{frame_replays}
-use Rattle.planner.specs.Searched.{BeginsWith, IsLogOf, frame_lines}
-use Rattle.planner.proofs.BegunLogs.{begun_is}
+use Rattle.lean_logs.specs.Growth.{Extends, IsServed}
+use Rattle.planner.specs.Searched.{IsLogOf, IsLeanBehind, frame_lines, framed}
 
 pub same-log : (I J : List TableInstance) (O P : List Aggregation) (L M : List Line) → I ≡ J → O ≡ P → L ≡ M
     → ◌≡◌ {A = Logged} (record { instances = I; own = O; log = reverse L }) (record { instances = J; own = P; log = reverse M })
@@ -27,24 +30,40 @@ module _ (q : Query) where
   founded : (known : List Line) → known ≡ map Founds (query_frame q) → reverse known ≡ frame_lines q
   founded known lines = ap reverse lines ∙ sym (map-reverse Founds (query_frame q))
 
-  pub frame-log : (known : List Line) (log : Logged) → known ≡ map Founds (query_frame q) → log ≡ log_with known → IsLogOf q log
-  frame-log known log lines is = record {
-    instances = ap (λ (g : Logged). g.instances) is;
-    own = ap (λ (g : Logged). g.own) is;
-    rest = [];
-    log_is = ap (λ (g : Logged). g.log) is ∙ founded known lines;
-  }
-
-  pub begun-log : (lines : List Line) (log : Logged) → BeginsWith (query_frame q) lines → log ≡ log_with lines → IsLogOf q log
-  begun-log lines log begins is =
-      let parts = begun_is (query_frame q) lines begins in
-      record {
-        instances = ap (λ (g : Logged). g.instances) is;
-        own = ap (λ (g : Logged). g.own) is;
-        rest = reverse parts.0;
-        log_is = ap (λ (g : Logged). g.log) is ∙ ap reverse parts.1 ∙ reverse-append (map Founds (query_frame q)) parts.0 ∙ ap (λ L. reverse parts.0 ++ L) (sym (map-reverse Founds (query_frame q)));
-      }
+  pub frame-log : (known : List Line) (log : Logged) → known ≡ map Founds (query_frame q) → log ≡ log_with known → log ≡ framed q
+  frame-log known log lines is = is ∙ ap (λ E. record { instances = q.tables; own = own_aggregates q; log = E }) (founded known lines)
 
   pub frame-stands : is_bound q ≡ true → (known : List Line) → known ≡ map Founds (query_frame q) → Replays q.tables (own_aggregates q) (reverse known)
   frame-stands bound known lines =
       subst (Replays q.tables (own_aggregates q)) (sym (founded known lines)) (log-replays q (map Founds (query_frame q)) [] (frame_lines q) tt (frame_replays q bound))
+
+  -- ---- lean logs
+
+  pub served_log : (l : Logged) → IsServed (framed q) l → IsLogOf q l
+  served_log l is = record { instances = is.grows.instances; own = is.grows.own; rest = is.grows.more; log_is = is.grows.log }
+
+  frame-count : length (frame_lines q) ≡ length (query_frame q)
+  frame-count = length-map (reverse (query_frame q)) Founds ∙ length-reverse (query_frame q)
+
+  pub lean_behind : (E : Log) → IsLean q.tables named_by (length (frame_lines q)) E → IsLeanBehind q E
+  lean_behind E is = subst (λ n. IsLean q.tables named_by n E) frame-count is
+
+  pub served_lean : (l : Logged) → IsServed (framed q) l → IsLeanBehind q l.log
+  served_lean l is = lean_behind l.log (served_is_lean (framed q) l is)
+
+  -- ---- logs that are judged
+
+  pub judged_behind : (a l : Logged) → a ≡ framed q → IsServed a l → IsServed (framed q) l
+  judged_behind a l is served = subst (λ b. IsServed b l) is served
+
+  pub judged_within : (limit : ℕ) (a l : Logged) → a ≡ framed q → Extends limit a l → length l.log ≤ max limit (length (query_frame q))
+  judged_within limit a l is extends =
+      let within : length l.log ≤ max limit (length a.log) = extends.within in
+      let count : length a.log ≡ length (query_frame q) = ap (λ (b : Logged). length b.log) is ∙ frame-count in
+      omega (arith, within, count)
+
+  pub judged_frame : (l : Logged) → l ≡ framed q → IsServed (framed q) l
+  judged_frame l is = subst (IsServed (framed q)) (sym is) (served_ends (framed q) (framed q) (served_at_first (framed q)))
+
+  pub frame_within : (limit : ℕ) (l : Logged) → l ≡ framed q → length l.log ≤ max limit (length (query_frame q))
+  frame_within limit l is = let count : length l.log ≡ length (query_frame q) = ap (λ (b : Logged). length b.log) is ∙ frame-count in omega (arith, count)

@@ -22,7 +22,7 @@ use Rattle.derivation.specs.Logs.{Log, entries, founds, is_founding, least, line
 use Rattle.derivation.specs.Replay.{Replays}
 use Rattle.derivation.proofs.Lookups.{columns-stay, earlier, member-stays, within}
 use Rattle.logs.specs.Logged.{Logged}
-use Rattle.memo.specs.Growth.{Grows}
+use Rattle.lean_logs.specs.Growth.{Grows}
 use Rattle.logs.proofs.LogLines.{line-at}
 use Rattle.physical.specs.declared.plan.OrderKey.{OrderKey}
 use Rattle.certificate.specs.QueryOrders.{first_keys, ordered_columns, query_order}

@@ -1,8 +1,7 @@
 -- A search for the plan of a query: lines behind those of its frame, and the cheapest plan that they offer.
-use Rattle.std.specs.Prelude.{◌≡◌, ◌⊎◌, ℕ, ◌≤◌, true, false, List, [], ◌++◌, length, map, max, reverse, slice_get, Some, Ok}
+use Rattle.std.specs.Prelude.{◌≡◌, ◌⊎◌, ℕ, ◌≤◌, true, false, List, [], ◌++◌, length, map, max, reverse, Ok}
 use Rattle.query.specs.declared.query.Query.{Query}
 use Rattle.query.specs.Bound.{is_bound}
-use Rattle.algebra.specs.declared.expr.Expr.{Expr}
 use Rattle.frame.specs.Frames.{query_frame}
 use Rattle.frame.specs.FormedFrames.{own_aggregates}
 use Rattle.derivation.specs.declared.line.Line.{Line}
@@ -11,6 +10,7 @@ use Rattle.derivation.specs.Logs.{Log}
 use Rattle.logs.specs.Logged.{Logged}
 use Rattle.statistics.specs.declared.counts.Statistics.{Statistics}
 use Rattle.costs.specs.Costs.{plan_cost}
+use Rattle.bindings.specs.Lean.{IsLean, named_by}
 use Rattle.closure.specs.Closed.{IsClosed}
 use Rattle.certificate.specs.QueryOrders.{query_order}
 use Rattle.certificate.specs.Replay.{lines_replay, replayed, root}
@@ -41,6 +41,10 @@ pub record IsReady (p : Planning) : Type 0 where
 abbrev pub frame_lines : Query → Log
 frame_lines q = map Founds (reverse (query_frame q))
 
+-- a log of these alone
+abbrev pub framed : Query → Logged
+framed q = record { instances = q.tables; own = own_aggregates q; log = frame_lines q }
+
 -- lines over the query's table instances and aggregates, behind those of its frame
 pub record IsLogOf (q : Query) (l : Logged) : Type 0 where
   pub instances : l.instances ≡ q.tables
@@ -48,9 +52,9 @@ pub record IsLogOf (q : Query) (l : Logged) : Type 0 where
   pub rest : List Line
   pub log_is : l.log ≡ rest ++ frame_lines q
 
--- the first of some lines found the classes of these expressions
-abbrev pub BeginsWith : List Expr → List Line → Type 0
-BeginsWith frame lines = (n : ℕ) (x : Expr) → slice_get frame n ≡ Some x → slice_get lines n ≡ Some (Founds x)
+-- behind those of the frame each line says something new, and what one founds a later result names, or is made of; the last two lines may wait for one
+abbrev pub IsLeanBehind : Query → Log → Type 0
+IsLeanBehind q E = IsLean q.tables named_by (length (query_frame q)) E
 
 -- no line is added past the limit to those of the frame
 abbrev pub IsWithinLimit : Query → ℕ → List Line → Type 0
@@ -65,6 +69,7 @@ pub record IsBest (S : Statistics) (q : Query) (E : Log) (b : BestPlan) : Type 0
 pub record IsSearched (S : Statistics) (q : Query) (limit : ℕ) (found : Searched) : Type 0 where
   pub log : IsLogOf q found.log
   pub within : IsWithinLimit q limit found.log.log
+  pub lean : IsLeanBehind q found.log.log
   pub best : IsBest S q found.log.log found.best
   pub closed : found.is_complete ≡ true → IsClosed q.tables found.log.log
 
@@ -78,6 +83,8 @@ pub record IsPlanned (S : Statistics) (q : Query) (limit : ℕ) (exploration : E
   -- the lines of the search are a derivation of the query, none of them past the limit
   pub lines : lines_replay q [] p.log ≡ Ok (reverse p.log)
   pub within : IsWithinLimit q limit p.log
+  -- and so that nothing is said twice, or founded for nothing
+  pub lean : IsLeanBehind q (reverse p.log)
   -- no plan of the query that they offer costs less than this one, as its labels show
   pub labelled : Labelled S q.tables (reverse p.log) (root_goal q) p.plan p.labels
   pub least : p.cost ≡ plan_cost S q.tables (reverse p.log) p.plan

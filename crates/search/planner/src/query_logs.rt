@@ -1,14 +1,15 @@
 //! Logs of a query: lines that stand, behind those of its frame.
 
-ghost use Rattle.std.specs.Prelude.{◌≡◌, ◌≤◌, None, Some, length, max, option_map, reverse, true, IfOk, IfSome};
-ghost use Rattle.derivation.specs.declared.line.Line.TheVariants.{Founds};
+ghost use Rattle.std.specs.Prelude.{◌≡◌, ◌≤◌, None, length, max, reverse, IfOk, IfSome};
 ghost use Rattle.derivation.specs.Replay.{Replays};
 ghost use Rattle.frame.specs.Frames.{query_frame};
-ghost use Rattle.planner.specs.Searched.{BeginsWith, IsLogOf, IsReady};
+ghost use Rattle.lean_logs.specs.Growth.{IsServed};
+ghost use Rattle.planner.specs.Searched.{IsReady, framed};
 
 use crate::searching::Planning;
-use algebra::{Aggregation, Expr};
+use algebra::Aggregation;
 use derivation::Line;
+use lean_logs::LeanLog;
 use logs::Log;
 use query::TableInstance;
 use std::alloc::{AllocError, Global};
@@ -35,33 +36,10 @@ fn log_of<'q>(
     Ok(Some(log))
 }
 
-fn founds(line: Option<&Line>, expr: &Expr) -> bool
-    ensures { result ≡ true → option_map (λ l. l.now) line.entry ≡ Some (Founds expr.now) }
-{
-    match line {
-        Some(Line::Founds(own)) => own.same(expr),
-        _ => false,
-    }
-}
-
-/// Whether the first lines found the classes of these expressions.
-#[tactic(auto, using(crate::proofs::BegunLogs::begins_more, crate::proofs::BegunLogs::begins_all))]
-fn begins_with(lines: &[Line], frame: &[Expr]) -> bool
-    ensures { result ≡ true → BeginsWith frame.now lines.now }
-{
-    for (place, expr) in frame.iter().enumerate() {
-        if !founds(lines.get(place), expr) {
-            return false;
-        }
-    }
-    true
-}
-
 /// A log of the frame's lines alone.
 pub(crate) fn frame_log<'q>(alloc: Global, planning: Planning<'q>) -> Result<Log<'q>, AllocError>
     requires ready { IsReady planning }
-    ensures log { IfOk result (IsLogOf planning.entry.query.now) }
-    ensures within { IfOk result (λ log. length log.log ≤ length (query_frame planning.entry.query.now)) }
+    ensures { IfOk result (λ log. log ≡ framed planning.entry.query.now) }
 {
     let query = planning.query;
     let tables = query.query().tables.as_slice();
@@ -71,24 +49,24 @@ pub(crate) fn frame_log<'q>(alloc: Global, planning: Planning<'q>) -> Result<Log
     }
 }
 
-/// A log of the lines, each judged anew; of the frame's lines alone where these don't begin with them, are more than the limit, or may not stand.
+/// A log of the frame's lines, and behind them of those of the seeds that come behind, each judged anew. Where these are more than the limit, or one may not
+/// stand, says nothing new, or founds what no later one names, it is that of the frame's lines alone.
 pub(crate) fn judged<'q>(
     alloc: Global,
     planning: Planning<'q>,
-    lines: &[Line],
-) -> Result<Log<'q>, AllocError>
+    seeds: &[Line],
+) -> Result<LeanLog<'q>, AllocError>
     requires ready { IsReady planning }
-    ensures log { IfOk result (IsLogOf planning.entry.query.now) }
+    ensures served { IfOk result (IsServed (framed planning.entry.query.now)) }
     ensures within { IfOk result (λ log. length log.log ≤ max planning.entry.limit (length (query_frame planning.entry.query.now))) }
 {
-    let query = planning.query;
-    let frame = query.frame();
-    let most = planning.limit.max(frame.len());
-    if lines.len() <= most && begins_with(lines, frame) {
-        let tables = query.query().tables.as_slice();
-        if let Some(log) = log_of(alloc, tables, query.own(), lines)? {
-            return Ok(log);
-        }
+    let frame = frame_log(alloc, planning)?;
+    let mut served = LeanLog::behind(alloc, frame)?;
+    let behind = seeds.get(planning.query.frame().len()..).unwrap_or(&[]);
+    if served.append_served(alloc, planning.limit, behind)? {
+        return Ok(served);
     }
-    frame_log(alloc, planning)
+    let frame = frame_log(alloc, planning)?;
+    let log = LeanLog::behind(alloc, frame)?;
+    Ok(log)
 }

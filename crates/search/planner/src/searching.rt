@@ -1,11 +1,11 @@
 //! The search: lines behind those of a query's frame, and the cheapest plan that they offer.
 
-ghost use Rattle.std.specs.Prelude.{◌≡◌, ◌≤◌, true, false, length, max, IfOk};
+ghost use Rattle.std.specs.Prelude.{◌≡◌, ◌≤◌, true, false, length, max, IfOk, OnOk};
 ghost use Rattle.closure.specs.Closed.{IsClosed};
-ghost use Rattle.memo.specs.Growth.{Grows};
+ghost use Rattle.lean_logs.specs.Growth.{FillsLean, IsServed};
 ghost use Rattle.frame.specs.Frames.{query_frame};
 ghost use Rattle.planner.specs.Searched as spec;
-ghost use Rattle.planner.specs.Searched.{IsBest, IsLogOf, IsReady, IsSearched, IsToldOf};
+ghost use Rattle.planner.specs.Searched.{IsBest, IsLogOf, IsReady, IsSearched, IsToldOf, framed};
 
 use crate::planned::Exploration;
 use crate::query_logs::{frame_log, judged};
@@ -15,6 +15,7 @@ use derivation::Line;
 use explore::{Products, apply_all, apply_and_learn, explore, simplify};
 use join_trees::falls_apart;
 use labels::Goal;
+use lean_logs::LeanLog;
 use logs::Log;
 use memo::Memo;
 use prepared_query::PreparedQuery;
@@ -22,6 +23,7 @@ use query::ids::id_of;
 use seed::{raise_left_joins, seed};
 use statistics::Statistics;
 use std::alloc::{AllocError, Global};
+use trimming::serving_lines;
 use values::Items;
 use winners::{BestPlan, best};
 
@@ -48,7 +50,7 @@ pub(crate) struct Searched<'q> {
 /// Lines by which good join trees are among the plans.
 #[derive(Drop)]
 struct Seeds {
-    lines: Vec<Line>,
+    lines: Items<Line>,
     /// Whether products are to be explored: only where what is joined doesn't hang together by conditions.
     products: Products,
     /// What the trees are estimated to cost, if there are any.
@@ -62,9 +64,10 @@ const COST_OF_LINE: u64 = 50_000;
 const MOST_DOUBLINGS: usize = 64;
 
 /// Adds what is simpler to a log, and lines by which good join trees are among its plans, with outer joins above the inner ones. These put selections over
-/// others and over outer joins, so it is simplified again. Nothing is promised of these lines: they are judged anew.
+/// others and over outer joins, so it is simplified again. What was founded and serves nothing is left out. Nothing is promised of these lines: they are
+/// judged anew.
 fn seeds_behind(alloc: Global, planning: Planning<'_>, log: Log<'_>) -> Result<Seeds, AllocError> {
-    let mut memo = Memo::of(alloc, log, planning.limit)?;
+    let mut memo = Memo::of(alloc, LeanLog::behind(alloc, log)?, planning.limit)?;
     simplify(alloc, &mut memo)?;
     if raise_left_joins(alloc, &mut memo)? {
         simplify(alloc, &mut memo)?;
@@ -77,7 +80,7 @@ fn seeds_behind(alloc: Global, planning: Planning<'_>, log: Log<'_>) -> Result<S
     let tree_cost = seed(alloc, &mut memo, planning.statistics)?;
     simplify(alloc, &mut memo)?;
     Ok(Seeds {
-        lines: memo.into_log().into_lines(),
+        lines: serving_lines(alloc, memo.log(), planning.query.frame().len())?,
         products,
         tree_cost,
     })
@@ -141,8 +144,8 @@ fn best_by_doubling(
     known: u64,
 ) -> Result<BestPlan, AllocError>
     requires ready { IsReady planning }
-    requires begun { IsLogOf planning.query.now memo.old.log }
-    ensures log { IfOk result (λ b. IsLogOf planning.entry.query.now memo.new.log) }
+    requires begun { IsServed (framed planning.query.now) memo.old.log }
+    ensures served { IfOk result (λ b. IsServed (framed planning.entry.query.now) memo.new.log) }
     ensures within { IfOk result (λ b. length memo.new.log.log ≤ max most (length memo.old.log.log)) }
     ensures best { IfOk result (IsBest planning.entry.statistics.now planning.entry.query.now memo.new.log.log) }
 {
@@ -165,21 +168,21 @@ fn best_by_doubling(
 fn searched_while_worthwhile<'q>(
     alloc: Global,
     planning: Planning<'q>,
-    log: Log<'q>,
+    log: LeanLog<'q>,
     seeds: &Seeds,
 ) -> Result<Searched<'q>, AllocError>
     requires ready { IsReady planning }
-    requires log { IsLogOf planning.query.now log }
+    requires served { IsServed (framed planning.query.now) log }
     requires within { length log.log ≤ max planning.limit (length (query_frame planning.query.now)) }
     ensures searched { IfOk result (IsSearched planning.entry.statistics.now planning.entry.query.now planning.entry.limit) }
     ensures told { IfOk result (λ found. found.is_complete ≡ false) }
 {
-    let best = cheapest(alloc, planning, &log)?;
+    let best = cheapest(alloc, planning, log.log())?;
     let worth = seeds.tree_cost.unwrap_or(best.cost);
     let most = worthwhile(planning.limit, worth.min(best.cost));
-    if most <= log.len() {
+    if most <= log.log().len() {
         return Ok(Searched {
-            log,
+            log: log.into_log(),
             best,
             is_complete: false,
         });
@@ -198,8 +201,7 @@ fn searched_while_worthwhile<'q>(
 fn explored_to_limit(alloc: Global, memo: &mut Memo<'_>) -> Result<bool, AllocError>
     ensures closed { IfOk result (λ is_complete. is_complete ≡ true → IsClosed memo.new.log.instances memo.new.log.log) }
     ensures full { IfOk result (λ is_complete. is_complete ≡ false → memo.old.limit ≤ length memo.new.log.log) }
-    ensures grows { Grows memo.old.log memo.new.log }
-    ensures within { length memo.new.log.log ≤ max memo.old.limit (length memo.old.log.log) }
+    ensures fills { OnOk result (FillsLean memo.old.limit memo.old.log memo.new.log) }
 {
     if memo.is_full() {
         return Ok(false);
@@ -215,10 +217,10 @@ fn explored_to_limit(alloc: Global, memo: &mut Memo<'_>) -> Result<bool, AllocEr
 fn searched_to_limit<'q>(
     alloc: Global,
     planning: Planning<'q>,
-    log: Log<'q>,
+    log: LeanLog<'q>,
 ) -> Result<Searched<'q>, AllocError>
     requires ready { IsReady planning }
-    requires log { IsLogOf planning.query.now log }
+    requires served { IsServed (framed planning.query.now) log }
     requires within { length log.log ≤ max planning.limit (length (query_frame planning.query.now)) }
     ensures searched { IfOk result (IsSearched planning.entry.statistics.now planning.entry.query.now planning.entry.limit) }
     ensures told { IfOk result (λ found. found.is_complete ≡ false → planning.entry.limit ≤ length found.log.log) }

@@ -1,12 +1,13 @@
 //! Memos: logs whose lines are found by their expressions up to which classes are the same.
 
 use bindings::{Binding, BoundLines};
-use closure::{is_closed, missing, next_line};
+use closure::{Missing, is_closed, missing};
 use derivation::{Line, Step};
 use explore::{Products, apply_all, explore};
 use fixtures::{
     COMPANY, DEPT, EMP, QueryReporting, Tables, push_number, push_numbers, query_differences,
 };
+use lean_logs::LeanLog;
 use logs::Log;
 use memo::Memo;
 use plan_words::derived::{expr_of, fact_of, lines_of, numbers_of, rule_of};
@@ -33,17 +34,20 @@ fn push_found(reported: &mut String, found: Option<u32>) -> Result<(), AllocErro
     }
 }
 
-/// So many lines a log gets at most by what it lacks.
+/// So often a log gets something at most that it lacks.
 const MOST_LACKING: usize = 100;
 
-/// Gives a log line by line what it lacks, and adds how many lines these were.
+/// Gives a log one by one what it lacks, and adds how many times.
 fn push_given(alloc: Global, reported: &mut String, memo: &mut Memo<'_>) -> Result<(), AllocError> {
     for count in 0..MOST_LACKING {
         let Some(lacking) = missing(alloc, memo.log())? else {
             return push_number(reported, "", count);
         };
-        let line = next_line(alloc, memo.log(), lacking)?;
-        memo.add(alloc, line)?;
+        match lacking {
+            Missing::Alike(first, second) => memo.add(alloc, Line::Alike(first, second))?,
+            Missing::Result(binding) => memo.add_result(alloc, binding)?,
+            Missing::Fact(class, line, fact) => memo.add(alloc, Line::Gives(class, line, fact))?,
+        }
     }
     reported.push_str("too many")
 }
@@ -92,7 +96,7 @@ fn lines_bound(uses: &[u32]) -> Option<BoundLines> {
 
 /// Does what the words say, and adds what comes of it: `found EXPR` the class, `line CLASS EXPR` and `apply RULE LINES` the line,
 /// `learn CLASS FACT` whether it is known, `members CLASS` and `parents CLASS` lines, `explore` and `closed` whether nothing more can be added,
-/// `give` how many lines the log lacked, `unnamed` how many lines found something that the next result doesn't name.
+/// `give` how many things the log lacked, `unnamed` how many lines found something that the next result doesn't name.
 fn push_done(
     alloc: Global,
     reported: &mut String,
@@ -195,7 +199,8 @@ impl QueryReporting for Grown {
         reported: &mut String,
     ) -> Result<(), AllocError> {
         let (lines, deeds) = cut(more, " / ");
-        let mut memo = Memo::of(alloc, log_of(alloc, query, lines)?, self.limit)?;
+        let log = LeanLog::behind(alloc, log_of(alloc, query, lines)?)?;
+        let mut memo = Memo::of(alloc, log, self.limit)?;
         for deed in deeds.split("; ") {
             push_done(alloc, reported, &mut memo, deed)?;
             reported.push_str("; ")?;
@@ -304,9 +309,9 @@ fn logs_are_explored(rt: HostRuntime) {
 #[test]
 fn logs_are_given_what_they_lack(rt: HostRuntime) {
     const SELECTED: &str =
-        "SELECT d.id FROM dept d, emp e => F get 0; F get 1; F join [] 0 1; F select [>(c0,i5)] 2 / closed; give; closed; explore; give => open; 30; closed; whole; 0; lines F F F F A2 F A3 A3 A3 A3 L0 L0 L0 L0 L1 L1 L1 L1 L2 L2 L2 L2 L2 L2 L3 L3 L3 L3 L3 L3 L5 L5 L5 L5";
+        "SELECT d.id FROM dept d, emp e => F get 0; F get 1; F join [] 0 1; F select [>(c0,i5)] 2 / closed; give; closed; explore; give => open; 29; closed; whole; 0; lines F F F F A2 F A3 A3 A3 A3 L0 L0 L0 L0 L1 L1 L1 L1 L2 L2 L2 L2 L2 L2 L3 L3 L3 L3 L3 L3 L5 L5 L5 L5";
     const ALIKE: &str =
-        "SELECT d.id FROM dept d, emp e => F get 0; F get 1; F get 0; F join [] 0 1; F join [] 1 0 / give; closed; explore => 15; closed; whole; lines F F F F F G0,2 A3 G4,6 L0 L0 L0 L0 L1 L1 L1 L1 L3 L3 L3 L3 L3 L3";
+        "SELECT d.id FROM dept d, emp e => F get 0; F get 1; F get 0; F join [] 0 1; F join [] 1 0 / give; closed; explore => 15; closed; whole; lines F F F F F G0,2 S3,4 L0 L0 L0 L0 L1 L1 L1 L1 L3 L3 L3 L3 L3 L3";
     assert_eq!(rt;
         query_differences(
             rt.alloc(),

@@ -1,4 +1,4 @@
-//! Certificates with those lines of a log that a plan needs.
+//! Certificates with those lines of a log that a plan needs, and logs without what serves no rule.
 
 use crate::canonical::push_plan;
 use costs::{Cardinalities, cost};
@@ -9,6 +9,7 @@ use fixtures::{
     query_of, schema_of,
 };
 use labels::Goal;
+use lean_logs::LeanLog;
 use logs::Log;
 use memo::Memo;
 use physical::Plan;
@@ -27,7 +28,7 @@ use statistics::Statistics;
 use std::alloc::{AllocError, Global};
 use std::fmt::Write;
 use store::Database;
-use trimming::trimmed;
+use trimming::{serving_lines, trimmed};
 use values::Items;
 use winners::best;
 
@@ -67,7 +68,7 @@ fn explored<'q>(alloc: Global, planning: Planning<'q>) -> Result<Log<'q>, AllocE
     for line in canonical(alloc, planning.query)?.lines.as_slice() {
         let _ = log.push(alloc, line.copy(alloc)?);
     }
-    let mut memo = Memo::of(alloc, log, LIMIT)?;
+    let mut memo = Memo::of(alloc, LeanLog::behind(alloc, log)?, LIMIT)?;
     simplify(alloc, &mut memo)?;
     let _ = seed(alloc, &mut memo, planning.statistics)?;
     simplify(alloc, &mut memo)?;
@@ -317,6 +318,55 @@ SELECT id FROM dept => 2 / F get 0; F keep 0 0; F distinct 1; F distinct 2; L 0 
     };
     assert_eq!(rt;
         query_differences(rt.alloc(), company, &[ORDERED, GIVEN], &Part).as_deref(),
+        Ok("")
+    );
+}
+
+/// Reports the lines of a log without those that serve no rule. Words are how many lines stay whatever they serve, ` / ` the lines. Both logs have to
+/// stand.
+struct Serving;
+
+impl QueryReporting for Serving {
+    fn report(
+        &self,
+        alloc: Global,
+        _database: &Database<'_>,
+        query: &BoundQuery,
+        more: &str,
+        reported: &mut String,
+    ) -> Result<(), AllocError> {
+        let (first, lines) = cut(more, " / ");
+        let lines = lines_of(alloc, lines)?;
+        let log = log_of(alloc, reported, query, lines.as_slice())?;
+        let serving = serving_lines(alloc, &log, number(first))?;
+        let _serving = log_of(alloc, reported, query, serving.as_slice())?;
+        let mut separator = "";
+        for line in serving.as_slice() {
+            reported.push_str(separator)?;
+            push_said(alloc, reported, line)?;
+            separator = "; ";
+        }
+        Ok(())
+    }
+}
+
+/// A class that is only founded goes, with the fact of it; and so do those over it, and then what a rule made for these alone. A line that says of it that it is another is
+/// no use of it. The first lines stay.
+#[test]
+fn idle_lines_are_left_out(rt: HostRuntime) {
+    const IDLE: &str =
+        "SELECT d.id FROM dept d JOIN emp e ON e.dept = d.id WHERE d.boss = 10 => 5 / F get 0; F get 1; F join [=(c4,c0)] 0 1; F select [=(c2,i10)] 2; F keep 0 3; F select [>(c5,i3)] 1; L 5 5 notnull 5; F select [=(c2,i10)] 0; A 3 S2 0 3,2 7 join [=(c4,c0)] 7 1; A 3 J1 0 8 - join [=(c4,c0)] 1 7 => F get 0; F get 1; F join 0 1 [=(c4,c0)]; F select 2 [=(c2,i10)]; F keep 3: 0; F select 0 [=(c2,i10)]; A 3 S2 3,2 / 5 join 5 1 [=(c4,c0)]; A 3 J1 6 join 1 5 [=(c4,c0)]
+SELECT d.id FROM dept d JOIN emp e ON e.dept = d.id WHERE d.boss = 10 => 5 / F get 0; F get 1; F join [=(c4,c0)] 0 1; F select [=(c2,i10)] 2; F keep 0 3; F select [>(c5,i3)] 1; F join [=(c4,c0)] 0 5; F select [=(c2,i10)] 6; F select [=(c2,i10)] 0; A 7 S2 0 7,6 8 join [=(c4,c0)] 8 5; A 2 J1 0 2 - join [=(c4,c0)] 1 0 => F get 0; F get 1; F join 0 1 [=(c4,c0)]; F select 2 [=(c2,i10)]; F keep 3: 0; A 2 J1 2 join 1 0 [=(c4,c0)]";
+    const SAME: &str =
+        "SELECT d.id FROM dept d JOIN emp e ON e.dept = d.id => 4 / F get 0; F get 1; F join [=(c4,c0)] 0 1; F keep 0 2; F get 0; G 0 4; F keep 3,4,5,6 1; S 6 1 K2 0 6 - => F get 0; F get 1; F join 0 1 [=(c4,c0)]; F keep 2: 0; F keep 1: 3 4 5 6; S 4,1 K2 4
+SELECT d.id FROM dept d JOIN emp e ON e.dept = d.id => 5 / F get 0; F get 1; F join [=(c4,c0)] 0 1; F keep 0 2; F get 0; G 0 4; F keep 3,4,5,6 1; S 6 1 K2 0 6 - => F get 0; F get 1; F join 0 1 [=(c4,c0)]; F keep 2: 0; F get 0; G 0,4; F keep 1: 3 4 5 6; S 6,1 K2 6";
+    let company = Tables {
+        schema: COMPANY,
+        first: DEPT,
+        second: EMP,
+    };
+    assert_eq!(rt;
+        query_differences(rt.alloc(), company, &[IDLE, SAME], &Serving).as_deref(),
         Ok("")
     );
 }

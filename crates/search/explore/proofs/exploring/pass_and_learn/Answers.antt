@@ -1,6 +1,6 @@
 use Rattle.std.proofs.Common.{subst}
-use Rattle.memo.specs.Growth.{Extends}
-use Rattle.memo.proofs.Growth.{extended_along}
+use Rattle.lean_logs.specs.Growth.{Extends}
+use Rattle.lean_logs.proofs.Growth.{extended_along}
 use Rattle.explore.proofs.Along.{grown_along}
 use Rattle.explore.proofs.exploring.pass_and_learn.Goals as goal
 
@@ -10,5 +10,5 @@ returns-clause-extends c = extended_along _ _ _ _ c.pass.ensures.extends (subst 
 pub returns-in_err-learn_all-clause-extends : goal.returns-in_err-learn_all-clause-extends
 returns-in_err-learn_all-clause-extends c = extended_along _ _ _ _ c.pass.ensures.extends (subst (λ n. Extends n c.pass.new.memo.log c.learn_all.new.memo.log) c.pass.ensures.limit c.learn_all.ensures.extends)
 
-pub returns-clause-direct : goal.returns-clause-direct
-returns-clause-direct c = (grown_along _ _ _ _ _ (record { extends = c.pass.ensures.extends; direct = c.in_ok-pass.ensures.direct }) c.pass.ensures.limit c.learn_all.ensures.extends c.in_ok-learn_all.ensures.direct).direct
+pub returns-clause-lean : goal.returns-clause-lean
+returns-clause-lean c = (grown_along _ _ _ _ _ (record { extends = c.pass.ensures.extends; lean = c.in_ok-pass.ensures.lean }) c.pass.ensures.limit c.learn_all.ensures.extends c.in_ok-learn_all.ensures.lean).lean

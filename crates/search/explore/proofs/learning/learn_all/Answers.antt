@@ -1,6 +1,6 @@
 use Rattle.std.proofs.Common.{refl, ◌∙◌, subst}
-use Rattle.memo.specs.Growth.{Extends}
-use Rattle.memo.proofs.Growth.{extended_along}
+use Rattle.lean_logs.specs.Growth.{Extends}
+use Rattle.lean_logs.proofs.Growth.{extended_along}
 use Rattle.explore.proofs.Along.{grown_at_first, grown_along}
 use Rattle.explore.proofs.learning.learn_all.Goals as goal
 
@@ -8,10 +8,10 @@ pub loop-init : goal.loop-init
 loop-init c = (grown_at_first _ _, refl)
 
 pub loop-preserved : goal.loop-preserved
-loop-preserved c = (grown_along _ _ _ _ _ c.loop.invariant.0 c.loop.invariant.1 c.pass.ensures.extends c.in_ok-pass.ensures.direct, c.pass.ensures.limit ∙ c.loop.invariant.1)
+loop-preserved c = (grown_along _ _ _ _ _ c.loop.invariant.0 c.loop.invariant.1 c.pass.ensures.extends c.in_ok-pass.ensures.lean, c.pass.ensures.limit ∙ c.loop.invariant.1)
 
 pub returns-in_err-pass-clause-extends : goal.returns-in_err-pass-clause-extends
 returns-in_err-pass-clause-extends c = extended_along _ _ _ _ c.loop.invariant.0.extends (subst (λ n. Extends n c.loop.memo.log c.pass.new.memo.log) c.loop.invariant.1 c.pass.ensures.extends)
 
-pub returns-then-len-before-clause-direct : goal.returns-then-len-before-clause-direct
-returns-then-len-before-clause-direct c = (grown_along _ _ _ _ _ c.loop.invariant.0 c.loop.invariant.1 c.pass.ensures.extends c.in_ok-pass.ensures.direct).direct
+pub returns-then-len-before-clause-lean : goal.returns-then-len-before-clause-lean
+returns-then-len-before-clause-lean c = (grown_along _ _ _ _ _ c.loop.invariant.0 c.loop.invariant.1 c.pass.ensures.extends c.in_ok-pass.ensures.lean).lean

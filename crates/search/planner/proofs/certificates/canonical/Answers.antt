@@ -1,4 +1,4 @@
-use Rattle.std.proofs.Common.{◌≡◌, sym, ◌∙◌, ap, subst, ◌<◌, ◌-◌, map, length, arith}
+use Rattle.std.proofs.Common.{sym, ◌∙◌, ap, subst, ◌<◌, ◌-◌, map, length, arith}
 use Rattle.frame.specs.Frames.{query_frame}
 use Rattle.frame.proofs.FormedQueries.{frames_formed}
 use Rattle.derivation.specs.declared.line.Line.TheVariants.{Founds}

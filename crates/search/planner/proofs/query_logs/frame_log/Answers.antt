@@ -1,7 +1,6 @@
-use Rattle.std.proofs.Common.{◌≡◌, ap, sym, ◌∙◌, subst, List, reverse, Option}
+use Rattle.std.proofs.Common.{◌≡◌, ap, sym, ◌∙◌, subst, reverse, Option}
 use Rattle.std.specs.Option.{IfSome}
 use Rattle.query.specs.declared.query.Query.{Query}
-use Rattle.query.specs.declared.query.TableInstance.{TableInstance}
 use Rattle.frame.specs.FormedFrames.{own_aggregates}
 use Rattle.derivation.specs.Replay.{Replays}
 use Rattle.logs.specs.Logged.{Logged}
@@ -18,8 +17,8 @@ unreachable-requires c =
     (subst (λ O. Replays q.tables O (reverse c.as_slice.result.now)) (sym c.own.ensures)
     (subst (λ L. Replays q.tables (own_aggregates q) (reverse L)) (sym c.as_slice.ensures) stands)))
 
-pub returns-clause-log : goal.returns-clause-log
-returns-clause-log c =
+pub returns : goal.returns
+returns c =
     let q : Query = c.args.planning.query.now in
     let tables : c.as_slice-tables.result.now ≡ q.tables = c.as_slice-tables.ensures ∙ ap (λ (q : Query). q.tables) c.query.ensures.query in
     let given : c.in-Some.log ≡ record { instances = c.as_slice-tables.result.now; own = c.own.result.now; log = reverse c.as_slice.result.now }

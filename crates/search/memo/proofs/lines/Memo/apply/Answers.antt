@@ -1,24 +1,27 @@
-use Rattle.std.proofs.Common.{◌≡◌, sym, ◌∙◌, subst}
-use Rattle.bindings.specs.Bindings.{GivesBinding}
+use Rattle.std.proofs.Common.{ap, sym, ◌∙◌}
 use Rattle.logs.specs.Logged.{Logged}
-use Rattle.memo.proofs.Founding.{nothing_at_first, same_extends, same_nothing, nothing_directly, where_ok}
+use Rattle.bindings.specs.Bindings.{given_by_binding}
+use Rattle.lean_logs.proofs.Founding.{tells_extends, tells_lean}
+use Rattle.lean_logs.proofs.Growth.{extended_along, lean_along, lean_at_first}
 use Rattle.memo.proofs.lines.Memo.apply.Goals as goal
 
-pub returns-in_default-clause-direct : goal.returns-in_default-clause-direct
-returns-in_default-clause-direct c = nothing_directly _ _ _ (nothing_at_first _ _)
+pub returns-in_default-clause-lean : goal.returns-in_default-clause-lean
+returns-in_default-clause-lean c = lean_at_first _ _
 
-pub returns-in-Class-clause-direct : goal.returns-in-Class-clause-direct
-returns-in-Class-clause-direct c = where_ok c.united.result (nothing_directly _ _ _ c.united.ensures.nothing)
+pub returns-then-is_some-clause-lean : goal.returns-then-is_some-clause-lean
+returns-then-is_some-clause-lean c = lean_at_first _ _
 
-pub returns-then-are_same : goal.returns-then-are_same
-returns-then-are_same c = record {
-  grows = (same_extends c.args.self.now.limit _ _ c.line_there.ensures.log).grows;
-  within = (same_extends _ _ _ c.line_there.ensures.log).within;
-  limit = c.line_there.ensures.limit;
-  direct = nothing_directly _ _ _ (same_nothing _ _ _ c.line_there.ensures.log);
-}
+pub returns-then-not-has_room-clause-lean : goal.returns-then-not-has_room-clause-lean
+returns-then-not-has_room-clause-lean c = lean_at_first _ _
 
-pub with_result-requires : goal.with_result-requires
-with_result-requires c =
-    let Gives = λ (l : Logged). GivesBinding l.instances l.log c.args.binding in
-    subst Gives (sym c.line_there.ensures.log) (subst Gives c.log.ensures (record { given = c.in-Some.field-0; is = sym c.in_ok-class.ensures ∙ c.in-Some.is }))
+pub returns-in_err-close-clause-extends : goal.returns-in_err-close-clause-extends
+returns-in_err-close-clause-extends c = extended_along _ _ _ _ c.add_given.ensures.extends (tells_extends _ _ _ c.close.ensures.tells)
+
+pub returns-clause-extends : goal.returns-clause-extends
+returns-clause-extends c = extended_along _ _ _ _ c.add_given.ensures.extends (tells_extends _ _ _ c.close.ensures.tells)
+
+pub returns-clause-lean : goal.returns-clause-lean
+returns-clause-lean c = lean_along _ _ _ _ (c.in_ok-line.ensures.lean (c.has_room.ensures.0 c.if-not-has_room.false)) (tells_lean _ _ _ c.close.ensures.tells)
+
+pub add_given-requires : goal.add_given-requires
+add_given-requires c = sym (c.in_ok-given.ensures ∙ ap (λ (l : Logged). given_by_binding l.instances l.log c.args.binding) c.log.ensures) ∙ c.in-Some.is

@@ -1,13 +1,15 @@
-use Rattle.std.proofs.Common.{refl, ◌∙◌, subst}
-use Rattle.memo.specs.Founding.{FoundsNothing}
-use Rattle.memo.proofs.Founding.{nothing_at_first, nothing_along}
+use Rattle.std.proofs.Common.{refl, ◌∙◌}
+use Rattle.lean_logs.proofs.Founding.{tells_at_first, told_then}
 use Rattle.memo.proofs.lines.Memo.close.Goals as goal
 
+pub returns-in_err-enter_new-clause-tells : goal.returns-in_err-enter_new-clause-tells
+returns-in_err-enter_new-clause-tells c = tells_at_first _ _
+
 pub loop-init : goal.loop-init
-loop-init c = (nothing_at_first _ _, refl)
+loop-init c = (tells_at_first _ _, refl)
 
 pub loop-preserved : goal.loop-preserved
-loop-preserved c = (nothing_along _ _ _ _ c.loop.invariant.0 (subst (λ n. FoundsNothing n c.loop.self.log c.add_congruence.new.self.log) c.loop.invariant.1 c.add_congruence.ensures.nothing), c.add_congruence.ensures.limit ∙ c.loop.invariant.1)
+loop-preserved c = (told_then _ _ _ _ _ c.loop.invariant.0 c.loop.invariant.1 (c.append.ensures.tells refl), c.append.ensures.limit ∙ c.loop.invariant.1)
 
-pub returns-in_err-add_congruence-clause-nothing : goal.returns-in_err-add_congruence-clause-nothing
-returns-in_err-add_congruence-clause-nothing c = nothing_along _ _ _ _ c.loop.invariant.0 (subst (λ n. FoundsNothing n c.loop.self.log c.add_congruence.new.self.log) c.loop.invariant.1 c.add_congruence.ensures.nothing)
+pub returns-in_err-append-clause-tells : goal.returns-in_err-append-clause-tells
+returns-in_err-append-clause-tells c = told_then _ _ _ _ _ c.loop.invariant.0 c.loop.invariant.1 (c.append.ensures.tells refl)
