@@ -45,7 +45,9 @@ fn push_given(alloc: Global, reported: &mut String, memo: &mut Memo<'_>) -> Resu
         };
         match lacking {
             Missing::Alike(first, second) => memo.add(alloc, Line::Alike(first, second))?,
-            Missing::Result(binding) => memo.add_result(alloc, binding)?,
+            Missing::Result(binding) => {
+                let _ = memo.apply(alloc, binding)?;
+            }
             Missing::Fact(class, line, fact) => memo.add(alloc, Line::Gives(class, line, fact))?,
         }
     }
