@@ -9,7 +9,7 @@ from common import ACCEPTED, TOO_LARGE, agree, rows_in, sqlite_database, sqlite_
 from random_sql import TABLES, Maker, random_contents, random_statistics, statistics_text
 
 SEED, ROUND = 40, 200
-LIMITS = [2_000] * 15 + [12_000]
+LIMITS = [2_000] * 15 + [6_000]
 """Of lines of derivation."""
 
 
