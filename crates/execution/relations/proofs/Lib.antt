@@ -1,4 +1,5 @@
 pub mod ColumnPlaces
+pub mod CopiedCells
 pub mod Comparisons
 pub mod ListedClasses
 pub mod ListedValues

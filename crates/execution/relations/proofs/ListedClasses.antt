@@ -1,8 +1,8 @@
 -- Lists of classes, which stand in their order.
-use Rattle.std.proofs.Common.{◌≡◌, refl, ap, sym, subst, ◌∙◌, ℕ, ◌≤◌, ◌-◌, ◌==◌, Bool, true, false, if◌then◌else◌, List, [], ◌∷◌, length, get_or, take, drop, Option, Some, None, IfSome, arith}
+use Rattle.std.proofs.Common.{◌≡◌, refl, ap, sym, subst, ◌∙◌, ℕ, ◌≤◌, ◌-◌, ◌==◌, Bool, true, false, if◌then◌else◌, List, [], ◌∷◌, length, get_or, take, drop, Option, Some, IfSome, arith}
 use Rattle.std.proofs.lemmas.Bool.{eq-eqb, eqb-true}
 use Rattle.std.proofs.lemmas.List.{take_all}
-use Rattle.algebra.specs.Bags.{Bag, Env}
+use Rattle.algebra.specs.Bags.{Env}
 use Rattle.relations.specs.Relations.{given, rows_of}
 use Rattle.relations.specs.ValueLists.{AreListed, IsListed}
 use Rattle.relations.specs.declared.relation.Relation.{Relation}

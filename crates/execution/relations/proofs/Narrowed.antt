@@ -1,5 +1,5 @@
 -- A list that is narrowed test by test.
-use Rattle.std.proofs.Common.{◌≡◌, refl, ap, sym, ◌∙◌, Bool, true, false, ◌&&◌, if◌then◌else◌, List, [], ◌∷◌, filter}
+use Rattle.std.proofs.Common.{◌≡◌, refl, ap, Bool, true, false, ◌&&◌, List, [], ◌∷◌, filter}
 
 pub filter_none : {X : Type 0} (xs : List X) → filter (λ x. true) xs ≡ xs
 filter_none [] = refl

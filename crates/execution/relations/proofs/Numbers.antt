@@ -1,13 +1,12 @@
 -- Rows by their numbers.
-use Rattle.std.proofs.Common.{◌≡◌, refl, ap, sym, ◌∙◌, ℕ, zero, suc, ◌+◌, ◌<◌, ◌≤◌, Bool, true, false, if◌then◌else◌, List, [], ◌∷◌, ◌++◌, length, get_or, map, flat_map, filter, append-nil, append_assoc, arith, add-one, zero-add}
-use Rattle.std.specs.List.{list_any, range_with_len}
-use Rattle.std.proofs.lemmas.List.{get_or-map, map-append}
+use Rattle.std.proofs.Common.{◌≡◌, refl, ap, sym, ◌∙◌, ℕ, zero, suc, ◌+◌, ◌-◌, ◌<◌, ◌≤◌, Bool, true, false, if◌then◌else◌, List, [], ◌∷◌, ◌++◌, length, get_or, map, flat_map, filter, append-nil, append_assoc, arith, add-one, zero-add}
+use Rattle.std.specs.List.{AllByRecursion, list_any, range_with_len}
+use Rattle.std.proofs.lemmas.List.{get_or-map, length-map, map-append}
 use Rattle.std.proofs.lemmas.List.FromFn.{get_or-range_with_len, length-range_with_len}
 use Rattle.std.proofs.lemmas.List.Folds.{list_any-append, list_any_at}
 use Rattle.std.proofs.lemmas.List.Concat.{flat_map-append}
 use Rattle.std.proofs.lemmas.List.Elements.{filter-append}
 use mathlib.Core.List.{map-map}
-use Rattle.algebra.proofs.Sets.{range_more}
 use Rattle.schema.specs.Databases.{Row}
 use Rattle.relations.specs.Parts.{row_at}
 use Rattle.store.proofs.TextPlaces.{range_alike}
@@ -49,10 +48,40 @@ range_split a (suc n) =
     let more : a + suc n ≡ a + 1 + n = omega arith in
     ap (range_with_len 0) more ∙ range_split (a + 1) n ∙ ap (λ l. l ++ range_with_len (a + 1) n) (numbers_more a) ∙ append_assoc (range_with_len 0 a) (a ∷ []) (range_with_len (a + 1) n)
 
+-- so many from one on, and those behind them
+pub range_parts : (a m k : ℕ) → range_with_len a (m + k) ≡ range_with_len a m ++ range_with_len (a + m) k
+range_parts a zero k = ap (range_with_len a) (zero-add k) ∙ ap (λ b. range_with_len b k) (omega arith)
+range_parts a (suc m) k =
+    let more : suc m + k ≡ suc (m + k) = omega arith in
+    let on : a + 1 + m ≡ a + suc m = omega arith in
+    ap (range_with_len a) more ∙ ap (λ l. a ∷ l) (range_parts (a + 1) m k ∙ ap (λ b. range_with_len (a + 1) m ++ range_with_len b k) on)
+
+-- the numbers from one on below an end are those up to another and those from it on
+pub range_between : (start next end : ℕ) → start ≤ next → next ≤ end → range_with_len start (end - start) ≡ range_with_len start (next - start) ++ range_with_len next (end - next)
+range_between start next end low within =
+    let parts : end - start ≡ (next - start) + (end - next) = omega (arith, low, within) in
+    let on : start + (next - start) ≡ next = omega (arith, low) in
+    ap (range_with_len start) parts ∙ range_parts start (next - start) (end - next) ∙ ap (λ b. range_with_len start (next - start) ++ range_with_len b (end - next)) on
+
+-- one number more
+pub range_next : (start next : ℕ) → start ≤ next → range_with_len start (next + 1 - start) ≡ range_with_len start (next - start) ++ next ∷ []
+range_next start next low =
+    let one : next + 1 - next ≡ 1 = omega arith in
+    range_between start next (next + 1) low (omega arith) ∙ ap (λ n. range_with_len start (next - start) ++ range_with_len next n) one
+
+pub flat_map_next_number : {Y : Type 0} (f : ℕ → List Y) (start next : ℕ) → start ≤ next → flat_map f (range_with_len start (next + 1 - start)) ≡ flat_map f (range_with_len start (next - start)) ++ f next
+flat_map_next_number f start next low =
+    ap (flat_map f) (range_next start next low) ∙ flat_map-append f (range_with_len start (next - start)) (next ∷ []) ∙ ap (λ l. flat_map f (range_with_len start (next - start)) ++ l) (append-nil (f next))
+
 pub filter_split : (p : ℕ → Bool) (a n : ℕ) → filter p (range_with_len 0 a) ++ filter p (range_with_len a n) ≡ filter p (range_with_len 0 (a + n))
 filter_split p a n = sym (ap (filter p) (range_split a n) ∙ filter-append p (range_with_len 0 a) (range_with_len a n))
 
 -- ---- rows that are chosen
+
+-- as many rows in each part
+pub even-chosen : (numbers : List ℕ) (parts : List (List Row)) → AllByRecursion (λ part. length part ≡ length numbers) (map (λ part. map (λ n. get_or part n []) numbers) parts)
+even-chosen numbers [] = tt
+even-chosen numbers (part ∷ parts) = (length-map numbers (λ n. get_or part n []), even-chosen numbers parts)
 
 pub chosen-row : (parts : List (List Row)) (numbers : List ℕ) (k : ℕ) → k < length numbers → row_at (map (λ part. map (λ n. get_or part n []) numbers) parts) k ≡ row_at parts (get_or numbers k 0)
 chosen-row [] numbers k below = refl

@@ -6,7 +6,6 @@ use Rattle.values.specs.declared.truth.Truth.{Truth}
 use Rattle.values.specs.declared.truth.Truth.TheVariants.{True, False, Unknown}
 use Rattle.values.specs.Truth.{disjunction, is_true}
 use Rattle.query.specs.Meaning.{any_of}
-use Rattle.query.proofs.Obeys.{is_true-True}
 use Rattle.query.proofs.Truths.{true-or}
 
 stays-true : (ts : List Truth) → fold disjunction True ts ≡ True

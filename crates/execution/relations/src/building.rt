@@ -60,4 +60,13 @@ impl<'t> Relation<'t> {
         let rows = rows.chosen(alloc, numbers)?;
         Ok(Relation { heading, rows })
     }
+    /// The same, and this relation stays.
+    pub fn picked(&self, alloc: Global, numbers: &[usize]) -> Result<Relation<'t>, AllocError>
+        ensures columns { IfOk result (λ r. r.heading.columns ≡ self.now.heading.columns) }
+        ensures rows { (e : Env) → IfOk result (λ r. rows_of r e ≡ map (numbered_env self.now e) numbers.now) }
+    {
+        let heading = self.heading.copy(alloc)?;
+        let rows = self.rows.picked(alloc, numbers)?;
+        Ok(Relation { heading, rows })
+    }
 }

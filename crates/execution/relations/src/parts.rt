@@ -46,11 +46,53 @@ impl<'t> Source<'t> {
     }
 }
 
+impl<'t> Source<'t> {
+    /// The rows with these numbers.
+    fn part_of(&self, alloc: Global, numbers: Items<usize>) -> Result<Part<'t>, AllocError>
+        ensures { IfOk result (λ part. part ≡ map (λ n. slice_index_or (source_rows self.now) n []) numbers) }
+    {
+        match self {
+            Source::Stored(table) => Ok(Part {
+                source: Source::Stored(*table),
+                numbers: Some(numbers),
+            }),
+            Source::Made(cells) => {
+                let (copies, places) = copied(alloc, cells.as_slice(), numbers.as_slice())?;
+                Ok(Part {
+                    source: Source::Made(copies),
+                    numbers: Some(Items::from_vec(places)),
+                })
+            }
+        }
+    }
+}
+
 /// The cell of a row that has it alone.
 fn made_cell<'t>(cell: Cell<'t>, at: usize) -> Cell<'t>
     ensures { value_of result ≡ value_at at (value_of cell.entry ∷ []) }
 {
     if at == 0 { cell } else { Cell::Null }
+}
+
+/// Of some cells those with these numbers, and the place of each among them; past the end there is none.
+fn copied<'t>(
+    alloc: Global,
+    cells: &[Cell<'t>],
+    numbers: &[usize],
+) -> Result<(Vec<Cell<'t>>, Vec<usize>), AllocError>
+    ensures { IfOk result (λ p. map (λ n. slice_index_or (cell_rows p.0.items) n []) p.1.items ≡ map (λ n. slice_index_or (cell_rows cells.now) n []) numbers.now) }
+{
+    let mut copies = Vec::with_capacity(alloc, numbers.len())?;
+    let mut places = Vec::with_capacity(alloc, numbers.len())?;
+    for number in numbers {
+        if *number < cells.len() {
+            places.push(copies.len())?;
+            copies.push(cells[*number])?;
+        } else {
+            places.push(numbers.len())?;
+        }
+    }
+    Ok((copies, places))
 }
 
 /// Rows of one source: all of them in their order, or those with some numbers.
@@ -89,11 +131,11 @@ fn composed(
 /// The numbers in the source of the rows with these numbers in a part; `none` past its end.
 fn renumbered(
     alloc: Global,
-    earlier: Option<Items<usize>>,
+    earlier: &Option<Items<usize>>,
     numbers: &[usize],
     none: usize,
 ) -> Result<Items<usize>, AllocError>
-    ensures { (rows : List Row) → length rows ≡ none → IfOk result (λ all. map (λ n. slice_index_or rows n []) all ≡ map (λ n. slice_index_or (numbered_rows rows earlier) n []) numbers.now) }
+    ensures { (rows : List Row) → length rows ≡ none → IfOk result (λ all. map (λ n. slice_index_or rows n []) all ≡ map (λ n. slice_index_or (numbered_rows rows earlier.now) n []) numbers.now) }
 {
     match earlier {
         None => Items::from_slice(alloc, numbers),
@@ -189,10 +231,18 @@ impl<'t> Part<'t> {
             source,
             numbers: earlier,
         } = self;
-        let numbers = renumbered(alloc, earlier, numbers, source.len())?;
+        let numbers = renumbered(alloc, &earlier, numbers, source.len())?;
         Ok(Part {
             source,
             numbers: Some(numbers),
         })
+    }
+
+    /// The same, and this part stays. Of cells that were made it has copies.
+    pub fn picked(&self, alloc: Global, numbers: &[usize]) -> Result<Part<'t>, AllocError>
+        ensures { IfOk result (λ part. part ≡ map (λ n. slice_index_or self.now n []) numbers.now) }
+    {
+        let numbers = renumbered(alloc, &self.numbers, numbers, self.source.len())?;
+        self.source.part_of(alloc, numbers)
     }
 }

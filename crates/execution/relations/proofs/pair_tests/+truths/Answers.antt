@@ -1,8 +1,7 @@
 use Rattle.std.proofs.Common.{rules, ap, sym, ◌∙◌, FitsSigned, w64}
 use Rattle.std.proofs.lemmas.Int.{to_z-of_z}
 use Rattle.values.specs.declared.value.Value.TheVariants as value
-use Rattle.values.specs.Truth.{compare, negation, truth_of}
-use Rattle.query.specs.Meaning.{all_of, any_of}
+use Rattle.values.specs.Truth.{compare}
 use Rattle.relations.specs.declared.pair_tests.PairTest.{PairTest}
 use Rattle.relations.specs.PairTests.{pair_truth}
 use Rattle.relations.proofs.PairTests.{pair-And, pair-Compare, pair-IsNull, pair-Not, pair-Number, pair-OfNoRows, pair-Or}

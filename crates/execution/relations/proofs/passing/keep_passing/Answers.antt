@@ -1,4 +1,4 @@
-use Rattle.std.proofs.Common.{◌≡◌, ap, sym, ◌∙◌, ℕ, ◌+◌, Bool, ◌&&◌, filter, take, arith}
+use Rattle.std.proofs.Common.{ap, sym, ◌∙◌, ℕ, ◌+◌, Bool, ◌&&◌, filter, take, arith}
 use Rattle.std.specs.List.{list_all}
 use Rattle.std.proofs.lemmas.List.Folds.{list_all_more}
 use Rattle.values.specs.Truth.{is_true}

@@ -1,4 +1,4 @@
-use Rattle.std.proofs.Common.{◌≡◌, ap, ◌∙◌, ℕ, ◌+◌, ◌-◌, Bool, List, [], ◌++◌, filter, arith}
+use Rattle.std.proofs.Common.{◌≡◌, ap, ◌∙◌, ℕ, ◌+◌, ◌-◌, Bool, List, ◌++◌, filter, arith}
 use Rattle.std.specs.List.{range_with_len}
 use Rattle.relations.specs.Resolved.{all_pass, inner_row}
 use Rattle.relations.proofs.Numbers.{filter_split}
@@ -10,14 +10,11 @@ loop-start-preserved c =
     let more = c.min.result in
     let passes : ℕ → Bool = all_pass c.args.right.now (inner_row c.args.beside.now) c.args.tests.now in
     let length : start + more - start ≡ more = omega arith in
-    let chunk : c.push_range.new.rows.items ≡ range_with_len start more =
-    c.in_ok-push_range.ensures ∙ ap (λ (l : List ℕ). l ++ range_with_len start (start + more - start)) c.loop-start.invariant.chunk ∙ ap (range_with_len start) length in
     record {
       within = omega (arith, c.min.ensures);
-      chunk = c.in_ok-append.ensures.other_items;
       kept =
           c.in_ok-append.ensures.items
-          ∙ ap (λ (l : List ℕ). l ++ c.keep_passing.new.rows.items) c.loop-start.invariant.kept
-          ∙ ap (λ (l : List ℕ). filter passes (range_with_len 0 start) ++ l) (c.in_ok-keep_passing.ensures ∙ ap (filter passes) chunk)
+          ∙ ap (λ (l : List ℕ). l ++ c.fill_passing.new.rows.items) c.loop-start.invariant.kept
+          ∙ ap (λ (l : List ℕ). filter passes (range_with_len 0 start) ++ l) (c.in_ok-fill_passing.ensures ∙ ap (λ n. filter passes (range_with_len start n)) length)
           ∙ filter_split passes start more;
     }

@@ -1,4 +1,4 @@
-use Rattle.std.proofs.Common.{◌≡◌, ◌≤◌, ◌-◌, [], filter}
+use Rattle.std.proofs.Common.{◌≡◌, ◌≤◌, ◌-◌, filter}
 use Rattle.std.specs.List.{range_with_len}
 use Rattle.relations.specs.Resolved.{all_pass, inner_row}
 use Rattle.relations.proofs.passing.passing.Given as goal
@@ -9,6 +9,5 @@ decreases-loop-start l = l.count - l.start
 abbrev pub invariant-loop-start : goal.invariant-loop-start
 invariant-loop-start l = record {
   within : l.start ≤ l.count;
-  chunk : l.chunk.items ≡ [];
   kept : l.kept.items ≡ filter (all_pass l.right (inner_row l.beside) l.tests) (range_with_len 0 l.start);
 }

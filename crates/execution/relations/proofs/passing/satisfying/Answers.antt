@@ -1,4 +1,4 @@
-use Rattle.std.proofs.Common.{◌≡◌, ap, ◌∙◌, filter, List}
+use Rattle.std.proofs.Common.{ap, ◌∙◌, filter, List}
 use Rattle.std.proofs.lemmas.Result.{IfOk-weaker}
 use Rattle.relations.specs.Relations.{numbers_of}
 use Rattle.relations.specs.declared.resolved.Test.{Test}
