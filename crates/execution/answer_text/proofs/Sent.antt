@@ -1,12 +1,9 @@
 -- Bytes that a device took, piece after piece.
-use Rattle.std.proofs.Common.{◌≡◌, ℕ, zero, suc, ◌+◌, ◌<◌, ◌≤◌, List, [], ◌∷◌, ◌++◌, length, take, drop, get_or, map, Option, Some, None, Result, Ok, Err, OnOk, OnErr, refl, sym, ap, ◌∙◌, append_assoc, append-nil, arith}
+use Rattle.std.proofs.Common.{◌≡◌, ℕ, zero, suc, ◌≤◌, List, [], ◌∷◌, ◌++◌, length, take, drop, Option, Some, None, Result, Ok, Err, OnOk, OnErr, refl, sym, ap, subst, ◌∙◌, append_assoc, append-nil, arith}
 use Rattle.std.proofs.lemmas.List.{take-append-drop}
 use Rattle.std.specs.Io.KnownBytes.{Appends, Keeps}
-use Rattle.csv.specs.Writing.{default_writer, row_text}
 use Rattle.schema.specs.Databases.{Row}
-use Rattle.answer_text.specs.AnswerText.{rows_text, HasFront}
-use Rattle.values.proofs.Lists.{drop_next}
-use Rattle.store.specs.Fields.{field_of}
+use Rattle.answer_text.specs.AnswerText.{record_text, rows_text, HasFront, IsGathered, IsUnderWay}
 
 pub appends_more : (a b c : Option (List ℕ)) (x y : List ℕ) → Appends a b x → Appends b c y → Appends a c (x ++ y)
 appends_more None b c x y h k = tt
@@ -54,18 +51,42 @@ pub front_more : (a b c : Option (List ℕ)) (done x total : List ℕ) → Appen
 front_more a b c done x total before (front, rest, is, added) e =
     (done ++ front, rest, sym e ∙ ap (λ (t : List ℕ). done ++ t) is ∙ sym (append_assoc done front rest), appends_more a b c done front before added)
 
--- ---- text that is gathered before it is sent
+-- ---- an answer that is under way
 
-pub gathered-more : (done sent left gathered more rest total : List ℕ) → gathered ++ more ≡ sent ++ left → done ++ (gathered ++ (more ++ rest)) ≡ total → (done ++ sent) ++ (left ++ rest) ≡ total
-gathered-more done sent left gathered more rest total is all =
-    append_assoc done sent (left ++ rest) ∙ ap (λ (t : List ℕ). done ++ t) (sym (append_assoc sent left rest) ∙ ap (λ (t : List ℕ). t ++ rest) (sym is) ∙ append_assoc gathered more rest) ∙ all
+pub under_way_begins : (a : Option (List ℕ)) (header gathered : List ℕ) (rows : List Row) → gathered ≡ header → IsUnderWay a a gathered rows (header ++ rows_text rows)
+under_way_begins a header gathered rows is = ([], ap (λ (t : List ℕ). t ++ rows_text rows) (sym is), appends_none a)
 
-drop-past : (n : ℕ) (rows : List Row) → length rows ≤ n → drop n rows ≡ []
-drop-past zero [] past = refl
-drop-past (suc n) [] past = refl
-drop-past zero (r ∷ rows) past = absurd (omega (arith, past))
-drop-past (suc n) (r ∷ rows) past = drop-past n rows (omega (arith, past))
+-- the text to come, with the first row's record beside what is gathered
+record-gathered : (sent gathered : List ℕ) (r : Row) (rows : List Row) (text : List ℕ) → text ≡ sent ++ (gathered ++ rows_text (r ∷ rows)) → sent ++ ((gathered ++ record_text r) ++ rows_text rows) ≡ text
+record-gathered sent gathered r rows text all = ap (λ (t : List ℕ). sent ++ t) (append_assoc gathered (record_text r) (rows_text rows)) ∙ sym all
 
--- behind the last row
-pub nothing-left : (gathered : List ℕ) (n : ℕ) (rows : List Row) → length rows ≤ n → gathered ++ rows_text (drop n rows) ≡ gathered
-nothing-left gathered n rows past = ap (λ (rs : List Row). gathered ++ rows_text rs) (drop-past n rows past) ∙ append-nil gathered
+pub under_way_more : (a b c : Option (List ℕ)) (gathered left : List ℕ) (r : Row) (rows : List Row) (text : List ℕ) → IsUnderWay a b gathered (r ∷ rows) text → IsGathered b c (gathered ++ record_text r) left → IsUnderWay a c left rows text
+under_way_more a b c gathered left r rows text (before, all, taken) (sent, is, added) = (
+  before ++ sent,
+  sym (record-gathered before gathered r rows text all) ∙ ap (λ (t : List ℕ). before ++ (t ++ rows_text rows)) is ∙ ap (λ (t : List ℕ). before ++ t) (append_assoc sent left (rows_text rows)) ∙ sym (append_assoc before sent (left ++ rows_text rows)),
+  appends_more a b c before sent taken added,
+)
+
+-- a beginning of the text was written where a row's record isn't
+pub front_at_row : (a b c : Option (List ℕ)) (gathered : List ℕ) (r : Row) (rows : List Row) (text : List ℕ) → IsUnderWay a b gathered (r ∷ rows) text → HasFront b c (gathered ++ record_text r) → HasFront a c text
+front_at_row a b c gathered r rows text (before, all, taken) front =
+    front_more a b c before ((gathered ++ record_text r) ++ rows_text rows) text taken (front_of_kept b c (gathered ++ record_text r) front (rows_text rows) _ refl) (record-gathered before gathered r rows text all)
+
+pub front_under_way : (a b : Option (List ℕ)) (gathered : List ℕ) (rows : List Row) (text : List ℕ) → IsUnderWay a b gathered rows text → HasFront a b text
+front_under_way a b gathered rows text (before, all, taken) = (before, gathered ++ rows_text rows, all, taken)
+
+-- no row is to come
+nothing-left : (before gathered : List ℕ) (rows : List Row) (text : List ℕ) → rows ≡ [] → text ≡ before ++ (gathered ++ rows_text rows) → before ++ gathered ≡ text
+nothing-left before gathered rows text none all = ap (λ (t : List ℕ). before ++ t) (sym (append-nil gathered)) ∙ ap (λ (rs : List Row). before ++ (gathered ++ rows_text rs)) (sym none) ∙ sym all
+
+pub under_way_ends : (a b c : Option (List ℕ)) (gathered : List ℕ) (rows : List Row) (text : List ℕ) → rows ≡ [] → IsUnderWay a b gathered rows text → Appends b c gathered → Appends a c text
+under_way_ends a b c gathered rows text none (before, all, taken) added = subst (Appends a c) (nothing-left before gathered rows text none all) (appends_more a b c before gathered taken added)
+
+pub front_at_end : (a b c : Option (List ℕ)) (gathered : List ℕ) (rows : List Row) (text : List ℕ) → rows ≡ [] → IsUnderWay a b gathered rows text → HasFront b c gathered → HasFront a c text
+front_at_end a b c gathered rows text none (before, all, taken) front = front_more a b c before gathered text taken front (nothing-left before gathered rows text none all)
+
+pub drop_past : (n : ℕ) (rows : List Row) → length rows ≤ n → drop n rows ≡ []
+drop_past zero [] past = refl
+drop_past (suc n) [] past = refl
+drop_past zero (r ∷ rows) past = absurd (omega (arith, past))
+drop_past (suc n) (r ∷ rows) past = drop_past n rows (omega (arith, past))

@@ -4,6 +4,8 @@
 mod fields;
 pub mod output;
 pub mod text;
+pub mod writer;
 
 pub use output::{AnswerOutput, CountedOutput, OutputFailed};
-pub use text::{AnswerFault, write_found, write_rows};
+pub use text::{write_found, write_rows};
+pub use writer::{AnswerFault, AnswerWriter};
