@@ -1,3 +1,4 @@
 pub mod Inputs
 pub mod Limits
 pub mod Rooms
+pub mod Streams

@@ -1,12 +1,13 @@
 //! Each function called with ample memory.
 
 use crate::limits::{next_byte, size_limit};
+use crate::standard::finds_no_reader;
 use crate::{
     BoundedReader, Bounds, ReadFailure, Room, StandardStream, read_file, write_file, write_within,
 };
-use std::fs;
 use std::io::{Cursor, ErrorKind, Read, Seek, SeekFrom, Write};
 use std::test::Fail;
+use std::{fs, io};
 
 /// The first lines of /proc/self/limits, under `ulimit -f 3`.
 const LIMITS: &str = "\
@@ -76,7 +77,16 @@ fn streams_take_nothing(rt: HostRuntime) -> Result<(), Fail> {
     output.flush()?;
     let mut error = StandardStream::error(&rt);
     assert_eq!(rt; error.write(b"")?, 0);
+    assert!(rt; !output.is_broken_pipe() && !error.is_broken_pipe());
     Ok(())
+}
+
+#[test]
+fn pipes_are_broken_by_their_readers_alone(rt: HostRuntime) {
+    assert!(rt; finds_no_reader(&Err(io::Error::from_raw_os_error(32))));
+    assert!(rt; !finds_no_reader(&Err(io::Error::from_raw_os_error(28))));
+    assert!(rt; !finds_no_reader(&Err(io::Error::from(ErrorKind::FileTooLarge))));
+    assert!(rt; !finds_no_reader(&Ok(0)));
 }
 
 /// How a text ends that is read within small bounds, two bytes at a time.
