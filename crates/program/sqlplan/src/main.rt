@@ -326,7 +326,7 @@ impl Given<'_> {
         statistics: &[u8],
     ) -> Result<(), Stop> {
         let refusal = match outcome {
-            Ok(bytes) => match printed(rt, bytes.as_slice()) {
+            Ok(bytes) => match print_whole(rt, bytes.as_slice()) {
                 Printed::Whole => return Ok(()),
                 Printed::Unread => return Err(Stop::BrokenPipe),
                 Printed::Failed => Refusal::Output,
@@ -361,7 +361,7 @@ enum Printed {
 }
 
 /// Writes on standard output.
-fn printed(rt: &HostRuntime, bytes: &[u8]) -> Printed {
+fn print_whole(rt: &HostRuntime, bytes: &[u8]) -> Printed {
     let mut output = StandardStream::output(rt);
     match output.write_all(bytes) {
         Ok(()) => Printed::Whole,
@@ -449,7 +449,7 @@ fn answer_by_certificate(
 
 /// Writes on standard output.
 fn print_bytes(rt: &HostRuntime, bytes: &[u8]) -> Result<(), Stop> {
-    match printed(rt, bytes) {
+    match print_whole(rt, bytes) {
         Printed::Whole => Ok(()),
         Printed::Unread => Err(Stop::BrokenPipe),
         Printed::Failed => Err(Stop::of_refusal(rt.alloc(), &Refusal::Output, None)),
