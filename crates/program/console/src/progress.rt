@@ -139,6 +139,13 @@ impl<'a, W: AnswerOutput> WatchedOutput<'a, W> {
             progress,
         }
     }
+
+    /// The output that it watches.
+    pub fn into_inner(self) -> W
+        ensures { result ≡ self.entry.output }
+    {
+        self.output
+    }
 }
 
 impl<W: AnswerOutput> AnswerOutput for WatchedOutput<'_, W> {

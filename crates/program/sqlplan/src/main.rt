@@ -292,16 +292,20 @@ impl Given<'_> {
         }
     }
 
-    /// The end of a command over the files of tables.
+    /// The end of a command over the files of tables, whose answer went there.
     fn ended_over(
         &self,
         alloc: Global,
         outcome: Result<(), Refusal>,
+        output: Output<'_>,
         tables: &mut [TableFile<'_, File>],
     ) -> Result<(), Stop> {
         let Err(refusal) = outcome else {
             return Ok(());
         };
+        if is_unread(&refusal, output) {
+            return Err(Stop::BrokenPipe);
+        }
         let row = if self.words {
             found_again(alloc, &refusal, self.schema, tables)
         } else {
@@ -322,9 +326,10 @@ impl Given<'_> {
         statistics: &[u8],
     ) -> Result<(), Stop> {
         let refusal = match outcome {
-            Ok(bytes) => match StandardStream::output(rt).write_all(bytes.as_slice()) {
-                Ok(()) => return Ok(()),
-                Err(_) => Refusal::Output,
+            Ok(bytes) => match print_whole(rt, bytes.as_slice()) {
+                Printed::Whole => return Ok(()),
+                Printed::Unread => return Err(Stop::BrokenPipe),
+                Printed::Failed => Refusal::Output,
             },
             Err(refusal) => refusal,
         };
@@ -346,6 +351,25 @@ impl Given<'_> {
     }
 }
 
+/// How a write of some bytes on standard output ended.
+#[derive(Clone, Copy)]
+enum Printed {
+    Whole,
+    /// Nobody reads it any more.
+    Unread,
+    Failed,
+}
+
+/// Writes on standard output.
+fn print_whole(rt: &HostRuntime, bytes: &[u8]) -> Printed {
+    let mut output = StandardStream::output(rt);
+    match output.write_all(bytes) {
+        Ok(()) => Printed::Whole,
+        Err(_) if output.is_broken_pipe() => Printed::Unread,
+        Err(_) => Printed::Failed,
+    }
+}
+
 /// Standard output, through a buffer.
 type Output<'a> = WatchedOutput<'a, CountedOutput<BufWriter<StandardStream<'a>>>>;
 
@@ -360,11 +384,18 @@ fn output<'a>(rt: &'a HostRuntime, progress: Option<&'a Progress<'a>>) -> Result
     Ok(WatchedOutput::new(CountedOutput::new(buffered), progress))
 }
 
+/// Whether an answer could not be written since nobody reads it any more.
+fn is_unread(refusal: &Refusal, output: Output<'_>) -> bool {
+    let (stream, _) = output.into_inner().into_inner().into_parts();
+    matches!(refusal, Refusal::Output) && stream.is_broken_pipe()
+}
+
 /// Answers a query on standard output by a plan that was checked. The schema is that of the bytes.
 fn answer(rt: &HostRuntime, given: Given<'_>, folder: &str, search: Search) -> Result<(), Stop>
     requires { schema_of given.bytes.now ≡ Ok given.schema.now }
 {
     let mut tables = open_tables(rt, given.schema, folder, given.words, given.progress)?;
+    let mut output = output(rt, given.progress)?;
     let outcome = query(
         rt.alloc(),
         given.bytes,
@@ -372,9 +403,9 @@ fn answer(rt: &HostRuntime, given: Given<'_>, folder: &str, search: Search) -> R
         tables.as_mut_slice(),
         search.limit,
         search.exploration,
-        &mut output(rt, given.progress)?,
+        &mut output,
     );
-    given.ended_over(rt.alloc(), outcome, tables.as_mut_slice())
+    given.ended_over(rt.alloc(), outcome, output, tables.as_mut_slice())
 }
 
 /// The same by the slow evaluator.
@@ -382,14 +413,15 @@ fn answer_by_meaning(rt: &HostRuntime, given: Given<'_>, folder: &str) -> Result
     requires { schema_of given.bytes.now ≡ Ok given.schema.now }
 {
     let mut tables = open_tables(rt, given.schema, folder, given.words, given.progress)?;
+    let mut output = output(rt, given.progress)?;
     let outcome = evaluate(
         rt.alloc(),
         given.bytes,
         given.text,
         tables.as_mut_slice(),
-        &mut output(rt, given.progress)?,
+        &mut output,
     );
-    given.ended_over(rt.alloc(), outcome, tables.as_mut_slice())
+    given.ended_over(rt.alloc(), outcome, output, tables.as_mut_slice())
 }
 
 /// The same by the plan of a certificate.
@@ -403,22 +435,24 @@ fn answer_by_certificate(
 {
     let certificate = bytes_of(rt, certificate, given.words)?;
     let mut tables = open_tables(rt, given.schema, folder, given.words, given.progress)?;
+    let mut output = output(rt, given.progress)?;
     let outcome = run(
         rt.alloc(),
         given.bytes,
         given.text,
         certificate.as_slice(),
         tables.as_mut_slice(),
-        &mut output(rt, given.progress)?,
+        &mut output,
     );
-    given.ended_over(rt.alloc(), outcome, tables.as_mut_slice())
+    given.ended_over(rt.alloc(), outcome, output, tables.as_mut_slice())
 }
 
 /// Writes on standard output.
 fn print_bytes(rt: &HostRuntime, bytes: &[u8]) -> Result<(), Stop> {
-    match StandardStream::output(rt).write_all(bytes) {
-        Ok(()) => Ok(()),
-        Err(_) => Err(Stop::of_refusal(rt.alloc(), &Refusal::Output, None)),
+    match print_whole(rt, bytes) {
+        Printed::Whole => Ok(()),
+        Printed::Unread => Err(Stop::BrokenPipe),
+        Printed::Failed => Err(Stop::of_refusal(rt.alloc(), &Refusal::Output, None)),
     }
 }
 

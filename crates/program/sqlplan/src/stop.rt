@@ -21,6 +21,8 @@ pub enum Stop {
     /// The command line was reported to be wrong, or its help was shown.
     Usage,
     Memory,
+    /// Nobody reads standard output any more. Nothing is said, as of a filter that a signal ends there.
+    BrokenPipe,
     /// A line to say, the exit status, and what is said behind the line for people, if anything.
     Line(String, u8, String),
 }
@@ -60,7 +62,7 @@ impl Stop {
     pub fn report(&self, rt: &HostRuntime) {
         let mut error = StandardStream::error(rt);
         let _ = match self {
-            Stop::Usage => Ok(()),
+            Stop::Usage | Stop::BrokenPipe => Ok(()),
             Stop::Memory => error.write_all(b"memory\n"),
             Stop::Line(line, _, words) => match format!(in rt.alloc(); "{line}\n{words}") {
                 Ok(text) => error.write_all(text.as_bytes()),
@@ -77,6 +79,7 @@ impl Stop {
         match self {
             Stop::Usage => Stop::Usage,
             Stop::Memory => Stop::Memory,
+            Stop::BrokenPipe => Stop::BrokenPipe,
             Stop::Line(line, status, _) => Stop::Line(line, status, words),
         }
     }
@@ -87,6 +90,7 @@ impl Stop {
         match self {
             Stop::Usage => 2,
             Stop::Memory => 3,
+            Stop::BrokenPipe => 141,
             Stop::Line(_, status, _) => *status,
         }
     }

@@ -191,5 +191,5 @@ pub const NOT_LEAST: Meaning = Meaning {
 /// X02, which no reason stands for.
 pub const OUTPUT_FAILED: Meaning = Meaning {
     text: "the answer could not be written to its end",
-    example: "a full disk, or a pipe whose reader has closed it: device X02",
+    example: "a full disk: device X02",
 };
