@@ -1,6 +1,7 @@
 pub mod Branches
 pub mod Candidates
 pub mod Chains
+pub mod ChunkedPairs
 pub mod FilteredJoins
 pub mod FoundRows
 pub mod JoinRows

@@ -1,4 +1,5 @@
 pub mod Chains
+pub mod ChunkedJoins
 pub mod Hashes
 pub mod Joins
 pub mod Keys

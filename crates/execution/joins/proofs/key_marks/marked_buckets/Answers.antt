@@ -1,4 +1,4 @@
-use Rattle.std.proofs.Common.{◌≡◌, ap, sym, ◌∙◌, ℕ, inl, inr, List, length, Option, Some, arith}
+use Rattle.std.proofs.Common.{◌≡◌, ap, sym, ◌∙◌, inl, inr, length, arith}
 use Rattle.std.proofs.lemmas.Bool.{cases_eq}
 use Rattle.joins.specs.Hashes.{bucket_of}
 use Rattle.joins.specs.KeyMarks.{key_at}

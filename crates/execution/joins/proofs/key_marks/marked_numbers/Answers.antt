@@ -1,4 +1,4 @@
-use Rattle.std.proofs.Common.{◌≡◌, ap, sym, ◌∙◌, ℕ, Bool, if◌then◌else◌, List, [], ◌∷◌, ◌++◌, filter}
+use Rattle.std.proofs.Common.{ap, sym, ◌∙◌, ℕ, Bool, if◌then◌else◌, List, [], ◌∷◌, ◌++◌, filter}
 use Rattle.std.specs.List.{range_with_len}
 use Rattle.relations.proofs.Numbers.{filter_number}
 use Rattle.joins.specs.KeyMarks.{has_mark, key_at}

@@ -1,6 +1,6 @@
-use Rattle.std.proofs.Common.{◌≡◌, ap, sym, subst, ◌∙◌, List, ℕ}
+use Rattle.std.proofs.Common.{sym, subst, ◌∙◌, List}
 use Rattle.std.specs.List.{AllByRecursion}
-use Rattle.relations.specs.Relations.{env_of, numbers_of}
+use Rattle.relations.specs.Relations.{env_of}
 use Rattle.joins.specs.declared.keys.Equality.{Equality}
 use Rattle.joins.specs.Keys.{IsEquated}
 use Rattle.joins.specs.KeyMarks.{has_mark, right_key}

@@ -1,0 +1,54 @@
+use Rattle.std.proofs.Common.{◌≡◌, ap, sym, ◌∙◌, ◌-◌, ℕ, List, [], ◌++◌, flat_map, length, map, arith}
+use Rattle.std.specs.List.{range_with_len}
+use Rattle.std.proofs.lemmas.List.{nil_from_length}
+use Rattle.algebra.specs.declared.condition.Condition.{Condition}
+use Rattle.algebra.specs.Bags.{nulls}
+use Rattle.relations.specs.Relations.{numbered_env}
+use Rattle.joins.specs.ChunkedJoins.{pairs_from}
+use Rattle.joins.specs.Joins.{partners_of}
+use Rattle.joins.proofs.ChunkedPairs.{none-left, pairs-between, pairs-ended, pairs-moved, pairs-none, some-left}
+use Rattle.joins.proofs.JoinRows.{loops-length}
+use Rattle.joins.proofs.chunked.ChunkedJoin.next_chunk.Goals as goal
+
+pub returns-then-is_empty-clause-chunk : goal.returns-then-is_empty-clause-chunk
+returns-then-is_empty-clause-chunk c =
+    let j = c.args.self.now in
+    let made = c.in_ok-made.made in
+    let so = c.in_ok-made.ensures in
+    let C = j.conditions.items in
+    let M : List Condition → ℕ → List ℕ = λ D i. partners_of j.unmatched D j.right (numbered_env j.left nulls i) in
+    let come = range_with_len j.next (made.next - j.next) in
+    let lefts = so.left ∙ ap (λ D. flat_map (λ i. map (λ k. i) (M D i)) come) c.as_slice.ensures.value in
+    let rights = so.right ∙ ap (λ D. flat_map (M D) come) c.as_slice.ensures.value in
+    let empty : made.pairs.right.items ≡ [] = nil_from_length made.pairs.right.items (let none = none-left _ _ c.if-is_empty.true c.is_empty.ensures in omega (arith, none, made.pairs.right.ok)) in
+    let last = so.last empty in
+    (pairs-ended j.unmatched C j.left j.right nulls j.next made.next made.pairs.left.items made.pairs.right.items so.bounds.0 last empty lefts rights, pairs-none j.unmatched C j.left j.right nulls made.next last)
+
+pub returns-clause-chunk : goal.returns-clause-chunk
+returns-clause-chunk c =
+    let j = c.args.self.now in
+    let made = c.in_ok-made.made in
+    let so = c.in_ok-made.ensures in
+    let C = j.conditions.items in
+    let M : List Condition → ℕ → List ℕ = λ D i. partners_of j.unmatched D j.right (numbered_env j.left nulls i) in
+    let come = range_with_len j.next (made.next - j.next) in
+    let lefts = so.left ∙ ap (λ D. flat_map (λ i. map (λ k. i) (M D i)) come) c.as_slice.ensures.value in
+    let rights = so.right ∙ ap (λ D. flat_map (M D) come) c.as_slice.ensures.value in
+    let some : made.pairs.right.items ≡ [] → ⊥ = λ none. let more = some-left _ _ c.if-is_empty.false c.is_empty.ensures in absurd (omega (arith, more, made.pairs.right.ok, ap length none)) in
+    let moved = pairs-moved j.unmatched C j.left j.right nulls j.next made.next made.pairs.right.items so.bounds.0 rights some in
+    let output = c.in_ok-chunk.ensures nulls in
+    record {
+      columns_are = output.columns_are;
+      rows_are =
+          pairs-between j.unmatched C j.left j.right nulls j.next made.next made.pairs.left.items made.pairs.right.items so.bounds.0 so.bounds.1 lefts rights
+          ∙ ap (λ l. l ++ pairs_from j.unmatched C j.left j.right nulls made.next) (sym output.rows_are);
+      fewer = omega (arith, moved, so.bounds.1);
+    }
+
+pub paired-requires : goal.paired-requires
+paired-requires c =
+    let j = c.args.self.now in
+    let made = c.in_ok-made.made in
+    let so = c.in_ok-made.ensures in
+    let M : ℕ → List ℕ = λ i. partners_of j.unmatched c.as_slice.result.now j.right (numbered_env j.left nulls i) in
+    ap length so.left ∙ loops-length M (range_with_len j.next (made.next - j.next)) ∙ sym (ap length so.right)
