@@ -6,7 +6,7 @@ use Rattle.values.specs.declared.fault.Fault.TheVariants as fault
 use Rattle.values.specs.Faults.{◌>>=◌, Fails}
 use Rattle.values.proofs.Results.{both_ok}
 use Rattle.schema.specs.declared.schema.Schema.{Schema}
-use Rattle.schema.specs.Databases.{Stored}
+use Rattle.schema.specs.Databases.{Database, Stored}
 use Rattle.schema.specs.Reading.{schema_of}
 use Rattle.query.specs.declared.query.Query.{Query}
 use Rattle.query.specs.Rows.{tables_of}
@@ -22,8 +22,8 @@ use Rattle.checker.specs.Accepted.{Accepted}
 use Rattle.pipeline.specs.declared.refusal.Refusal.{Refusal}
 use Rattle.pipeline.specs.declared.refusal.Refusal.TheVariants as refusal
 use Rattle.pipeline.specs.Refusals.{of_certificate, of_check}
-use Rattle.pipeline.specs.Certified.{IsCertificate, Accepts, ByFiles, WithCertified, IsCheckFault, IsNotAnswered, IsNotAccepted, IsNotRun}
-use Rattle.pipeline.specs.EndToEnd.{Input, Asks, IsQuery, IsNoQuery, IsLoadFault, IsFromFiles, ByCertificate, IsAnswerFault, IsDeviceFault, AreQuiet}
+use Rattle.pipeline.specs.Certified.{IsCertificate, Accepts, ByFiles, IsLongByFiles, WithCertified, HasTooManyRowsBy, IsCheckFault, IsNotAnswered, IsNotAccepted, IsNotRun}
+use Rattle.pipeline.specs.EndToEnd.{Input, Asks, IsQuery, IsNoQuery, IsLoadFault, IsFromFiles, ByCertificate, IsLongAnswer, IsWriteFault, IsDeviceFault, AreQuiet}
 
 -- ---- refusals
 
@@ -39,6 +39,7 @@ no_query_accepted schema text certificate S refusal.NotLeast is h = absurd h
 no_query_accepted schema text certificate S (refusal.Table n r) is h = absurd h
 no_query_accepted schema text certificate S (refusal.TableDevice n) is h = absurd h
 no_query_accepted schema text certificate S refusal.Output is h = absurd h
+no_query_accepted schema text certificate S refusal.TooManyRows is h = absurd h
 
 abbrev pub is_memory : {R : Type 0} → Fault R → Bool
 is_memory fault.Memory = true
@@ -67,6 +68,7 @@ check_not_accepted schema text certificate S q c (refusal.Certificate r) asks is
 check_not_accepted schema text certificate S q c (refusal.Table n r) asks is h = absurd h
 check_not_accepted schema text certificate S q c (refusal.TableDevice n) asks is h = absurd h
 check_not_accepted schema text certificate S q c refusal.Output asks is h = absurd h
+check_not_accepted schema text certificate S q c refusal.TooManyRows asks is h = absurd h
 
 -- what isn't accepted isn't run
 pub not_accepted_run : (schema text certificate : List ℕ) (inputs : List Input) (r : Refusal) → IsNotAccepted schema text certificate r → IsNotRun schema text certificate inputs r
@@ -81,6 +83,7 @@ not_accepted_run schema text certificate inputs refusal.NotLeast h = absurd h
 not_accepted_run schema text certificate inputs (refusal.Table n r) h = absurd h
 not_accepted_run schema text certificate inputs (refusal.TableDevice n) h = absurd h
 not_accepted_run schema text certificate inputs refusal.Output h = absurd h
+not_accepted_run schema text certificate inputs refusal.TooManyRows h = absurd h
 
 -- and no device has failed then
 pub not_accepted_quiet : (schema text certificate : List ℕ) (counts : List ℕ) (o : ℕ) (r : Refusal) → IsNotAccepted schema text certificate r → IsDeviceFault counts counts o o r
@@ -95,6 +98,7 @@ not_accepted_quiet schema text certificate counts o refusal.NotLeast h = absurd 
 not_accepted_quiet schema text certificate counts o (refusal.Table n r) h = absurd h
 not_accepted_quiet schema text certificate counts o (refusal.TableDevice n) h = absurd h
 not_accepted_quiet schema text certificate counts o refusal.Output h = absurd h
+not_accepted_quiet schema text certificate counts o refusal.TooManyRows h = absurd h
 
 -- ---- what is accepted
 
@@ -134,6 +138,7 @@ load_not_answered S q c inputs (refusal.Certificate r) checked h = absurd h
 load_not_answered S q c inputs (refusal.Check r) checked h = absurd h
 load_not_answered S q c inputs refusal.NotLeast checked h = absurd h
 load_not_answered S q c inputs refusal.Output checked h = absurd h
+load_not_answered S q c inputs refusal.TooManyRows checked h = absurd h
 
 -- what is not loaded says nothing of the output
 pub load_quiet : (S : Schema) (inputs : List Input) (old new : List ℕ) (o : ℕ) (r : Refusal) → IsLoadFault S inputs r → IsDeviceFault old new 0 0 r → IsDeviceFault old new o o r
@@ -148,11 +153,13 @@ load_quiet S inputs old new o (refusal.Certificate r) h d = absurd h
 load_quiet S inputs old new o (refusal.Check r) h d = absurd h
 load_quiet S inputs old new o refusal.NotLeast h d = absurd h
 load_quiet S inputs old new o refusal.Output h d = absurd h
+load_quiet S inputs old new o refusal.TooManyRows h d = absurd h
 
-pub answer_not_answered : (S : Schema) (q : Query) (c : Certificate) (inputs : List Input) (d : Stored) (o p : ℕ) (r : Refusal) → IsChecked S q c → IsFromFiles S inputs d → IsAnswerFault o p r
+pub answer_not_answered : (S : Schema) (q : Query) (c : Certificate) (inputs : List Input) (d : Stored) (o p : ℕ) (r : Refusal) → IsChecked S q c → IsFromFiles S inputs d → IsWriteFault (IsLongAnswer c S q d.tables) o p r
     → IsNotAnswered S q c inputs r
 answer_not_answered S q c inputs d o p refusal.Memory checked files h = tt
 answer_not_answered S q c inputs d o p refusal.Output checked files h = (checked, (d.tables, files.reported))
+answer_not_answered S q c inputs d o p refusal.TooManyRows checked files h = (d, files, h.0)
 answer_not_answered S q c inputs d o p (refusal.Schema r) checked files h = absurd h
 answer_not_answered S q c inputs d o p (refusal.Text r) checked files h = absurd h
 answer_not_answered S q c inputs d o p (refusal.Scope r) checked files h = absurd h
@@ -170,7 +177,35 @@ by_files a S q c inputs d P of replays files by =
     let same : a.certificate ≡ c = sym (replays_itself q c a.certificate replays) in
     (d, files, subst (λ c. ByCertificate c S q d.tables P) same (subst (λ q. ByCertificate a.certificate S q d.tables P) of.1 (subst (λ S. ByCertificate a.certificate S a.query d.tables P) of.0 by)))
 
+-- and so of the number of its rows
+pub long_itself : (a : Accepted) (S : Schema) (q : Query) (c : Certificate) (D : Database) → (a.schema ≡ S) × (a.query ≡ q) → replayed q c ≡ Ok a.certificate
+    → IsLongAnswer a.certificate a.schema a.query D → IsLongAnswer c S q D
+long_itself a S q c D of replays long =
+    let same : a.certificate ≡ c = sym (replays_itself q c a.certificate replays) in
+    subst (λ c. IsLongAnswer c S q D) same (subst (λ q. IsLongAnswer a.certificate S q D) of.1 (subst (λ S. IsLongAnswer a.certificate S a.query D) of.0 long))
+
 -- ---- from files
+
+-- the text of an answer that a certificate's plan gives, whose rows are too many
+pub many_certified : (schema text certificate : List ℕ) (inputs : List Input) (S : Schema) (q : Query) (c : Certificate) → Asks schema text S q → IsCertificate certificate c
+    → IsLongByFiles S q c inputs → HasTooManyRowsBy schema text certificate inputs
+many_certified schema text certificate inputs S q c asks is by = (
+  answer_text q.names (answer q (tables_of S by.0.tables) c.plan),
+  record {
+    S = S;
+    query = q;
+    asks = asks;
+    database = by.0.tables;
+    reported = by.1.reported;
+    satisfies = by.1.satisfies;
+    rows = answer q (tables_of S by.0.tables) c.plan;
+    answers = by.2.0.answers by.0.tables by.1.satisfies;
+    written_is = refl;
+  },
+  record { certificate = c; checked = by.2.0; rows_are = refl },
+  is,
+  by.2.1,
+)
 
 pub not_answered_run : (schema text certificate : List ℕ) (inputs : List Input) (S : Schema) (q : Query) (c : Certificate) (r : Refusal) → Asks schema text S q → IsCertificate certificate c
     → IsNotAnswered S q c inputs r → IsNotRun schema text certificate inputs r
@@ -180,6 +215,7 @@ not_answered_run schema text certificate inputs S q c refusal.NotLeast asks is h
 not_answered_run schema text certificate inputs S q c (refusal.Table n r) asks is h = (accepted schema text certificate S q c asks is h.0, h.1)
 not_answered_run schema text certificate inputs S q c (refusal.TableDevice n) asks is h = (accepted schema text certificate S q c asks is h.0, h.1)
 not_answered_run schema text certificate inputs S q c refusal.Output asks is h = (accepted schema text certificate S q c asks is h.0, h.1)
+not_answered_run schema text certificate inputs S q c refusal.TooManyRows asks is h = many_certified schema text certificate inputs S q c asks is h
 not_answered_run schema text certificate inputs S q c (refusal.Schema r) asks is h = absurd h
 not_answered_run schema text certificate inputs S q c (refusal.Text r) asks is h = absurd h
 not_answered_run schema text certificate inputs S q c (refusal.Scope r) asks is h = absurd h

@@ -1,11 +1,11 @@
 -- The answer of a query, and of a text.
-use Rattle.std.proofs.Common.{◌≡◌, ◌≢◌, refl, sym, ◌∙◌, subst, ℕ, List, Result, Ok, Err, IfErr, OnErr}
+use Rattle.std.proofs.Common.{◌≡◌, ◌≢◌, ◌<◌, ◌^◌, refl, ap, sym, ◌∙◌, subst, ℕ, List, length, Result, Ok, Err, IfErr, OnErr}
 use Rattle.values.specs.declared.fault.Fault.{Fault}
 use Rattle.values.specs.declared.fault.Fault.TheVariants as fault
 use Rattle.values.specs.Faults.{Fails}
 use Rattle.schema.specs.declared.schema.Schema.{Schema}
 use Rattle.schema.specs.Reading.{schema_of}
-use Rattle.schema.specs.Databases.{Stored}
+use Rattle.schema.specs.Databases.{Row, Stored}
 use Rattle.store.specs.Devices.{Rose}
 use Rattle.query.specs.declared.query.Query.{Query}
 use Rattle.query.specs.Rows.{tables_of}
@@ -15,12 +15,14 @@ use Rattle.certificate.specs.declared.certificate.CheckRefusal.{CheckRefusal}
 use Rattle.certificate.specs.Replay.{replayed, IsChecked}
 use Rattle.checker.specs.Accepted.{Accepted}
 use Rattle.answer_text.specs.declared.output.OutputFailed.{OutputFailed}
+use Rattle.pipeline.specs.declared.written.WriteFault.{WriteFault}
+use Rattle.pipeline.specs.declared.written.WriteFault.TheVariants as write
 use Rattle.answer_text.specs.AnswerText.{answer_text}
-use Rattle.pipeline.specs.Execution.{accepted_text}
+use Rattle.pipeline.specs.Execution.{accepted_rows, accepted_text}
 use Rattle.pipeline.specs.declared.refusal.Refusal.{Refusal}
 use Rattle.pipeline.specs.declared.refusal.Refusal.TheVariants as refusal
-use Rattle.pipeline.specs.Refusals.{of_check, of_answer}
-use Rattle.pipeline.specs.EndToEnd.{Input, IsPrepared, IsUnprepared, IsFromFiles, Asks, IsQuery, ByCertificate, ByPlan, ByMeaning, IsAnswerFault, WithAnswer, WithPlanned, IsRefusedBy, IsBefore, IsDeviceFault, AreQuiet}
+use Rattle.pipeline.specs.Refusals.{of_check, of_answer, of_write}
+use Rattle.pipeline.specs.EndToEnd.{Input, IsPrepared, IsUnprepared, IsFromFiles, Asks, IsQuery, ByCertificate, ByPlan, ByMeaning, IsLongAnswer, HasLongAnswer, IsAnswerFault, IsWriteFault, WithAnswer, WithPlanned, HasTooManyRows, IsRefusedBy, IsNotQueried, IsBefore, IsDeviceFault, AreQuiet}
 
 -- ---- what holds of the fault that a call ends with
 
@@ -44,6 +46,13 @@ by_certificate d a P over checked p =
     let same : accepted_text a d ≡ answer_text a.query.names (answer a.query (tables_of a.schema d.tables) a.certificate.plan) = rw over refl in
     (checked, rw same at p)
 
+-- and so of the number of its rows
+pub long_answer : (d : Stored) (a : Accepted) → d.schema ≡ a.schema → IsChecked a.schema a.query a.certificate → 2 ^ 62 < length (accepted_rows a d)
+    → IsLongAnswer a.certificate a.schema a.query d.tables
+long_answer d a over checked long =
+    let same : accepted_rows a d ≡ answer a.query (tables_of a.schema d.tables) a.certificate.plan = rw over refl in
+    (checked, subst (λ (rows : List Row). 2 ^ 62 < length rows) same long)
+
 -- what is so of what was checked is so of the schema and the query that it was checked with
 pub of_accepted : (a : Accepted) (S : Schema) (q : Query) (P : Schema → Query → Type 0) → (a.schema ≡ S) × (a.query ≡ q) → P a.schema a.query → P S q
 of_accepted a S q P of h = subst (λ T. P T q) of.0 (subst (P a.schema) of.1 h)
@@ -53,6 +62,26 @@ of_accepted a S q P of h = subst (λ T. P T q) of.0 (subst (P a.schema) of.1 h)
 pub answer_fault : (o p : ℕ) (f : Fault OutputFailed) → (f ≢ fault.Memory → Rose o p) → (f ≡ fault.Memory → p ≡ o) → IsAnswerFault o p (of_answer f)
 answer_fault o p fault.Memory rose same = same refl
 answer_fault o p (fault.Refused r) rose same = rose (λ e. cc e)
+
+-- the same of rows that are written as a plan gives them
+pub write_fault : (many : Type 0) (o p : ℕ) (f : WriteFault) → (f ≡ write.TooManyRows → many) → (f ≡ write.Output → Rose o p) → (f ≢ write.Output → p ≡ o) → IsWriteFault many o p (of_write f)
+write_fault many o p write.Memory long rose same = same (λ e. cc e)
+write_fault many o p write.Output long rose same = rose refl
+write_fault many o p write.TooManyRows long rose same = (long refl, same (λ e. cc e))
+
+pub write_fault_weaker : (many more : Type 0) (o p : ℕ) (r : Refusal) → (many → more) → IsWriteFault many o p r → IsWriteFault more o p r
+write_fault_weaker many more o p refusal.Memory weaker h = h
+write_fault_weaker many more o p refusal.Output weaker h = h
+write_fault_weaker many more o p refusal.TooManyRows weaker h = (weaker h.0, h.1)
+write_fault_weaker many more o p (refusal.Text r) weaker h = absurd h
+write_fault_weaker many more o p (refusal.Scope r) weaker h = absurd h
+write_fault_weaker many more o p (refusal.Table n r) weaker h = absurd h
+write_fault_weaker many more o p (refusal.TableDevice n) weaker h = absurd h
+write_fault_weaker many more o p (refusal.Schema r) weaker h = absurd h
+write_fault_weaker many more o p (refusal.Statistics r) weaker h = absurd h
+write_fault_weaker many more o p (refusal.Certificate r) weaker h = absurd h
+write_fault_weaker many more o p (refusal.Check r) weaker h = absurd h
+write_fault_weaker many more o p refusal.NotLeast weaker h = absurd h
 
 -- ---- texts
 
@@ -93,6 +122,26 @@ meant schema text inputs S q d P is ready by = (
   by.2,
 )
 
+-- the text of an answer that a plan gives, whose rows are too many
+pub many_planned : (schema text : List ℕ) (inputs : List Input) (S : Schema) (q : Query) (d : Stored) → schema_of schema ≡ Ok S → IsPrepared S text inputs q d
+    → HasLongAnswer S q d.tables → HasTooManyRows schema text inputs
+many_planned schema text inputs S q d is ready by = (
+  answer_text q.names (answer q (tables_of S d.tables) by.0.plan),
+  record {
+    S = S;
+    query = q;
+    asks = record { is_schema = is; is_query = ready.is_query };
+    database = d.tables;
+    reported = ready.files.reported;
+    satisfies = ready.files.satisfies;
+    rows = answer q (tables_of S d.tables) by.0.plan;
+    answers = by.1.0.answers d.tables ready.files.satisfies;
+    written_is = refl;
+  },
+  record { certificate = by.0; checked = by.1.0; rows_are = refl },
+  by.1.1,
+)
+
 -- ---- refusals
 
 pub unprepared_refused : (schema text : List ℕ) (S : Schema) (inputs : List Input) (r : Refusal) → schema_of schema ≡ Ok S → IsUnprepared S text inputs r → IsRefusedBy schema text inputs r
@@ -107,6 +156,22 @@ unprepared_refused schema text S inputs (refusal.Certificate r) is h = absurd h
 unprepared_refused schema text S inputs (refusal.Check r) is h = absurd h
 unprepared_refused schema text S inputs refusal.NotLeast is h = absurd h
 unprepared_refused schema text S inputs refusal.Output is h = absurd h
+unprepared_refused schema text S inputs refusal.TooManyRows is h = absurd h
+
+-- the same of a query that a plan answers
+pub unprepared_queried : (schema text : List ℕ) (S : Schema) (inputs : List Input) (r : Refusal) → schema_of schema ≡ Ok S → IsUnprepared S text inputs r → IsNotQueried schema text inputs r
+unprepared_queried schema text S inputs refusal.Memory is h = tt
+unprepared_queried schema text S inputs (refusal.Text r) is h = (S, is, h)
+unprepared_queried schema text S inputs (refusal.Scope r) is h = (S, is, h)
+unprepared_queried schema text S inputs (refusal.Table n r) is h = (S, h.0, record { is_schema = is; is_query = h.1 }, h.2)
+unprepared_queried schema text S inputs (refusal.TableDevice n) is h = (S, h.0, record { is_schema = is; is_query = h.1 }, h.2)
+unprepared_queried schema text S inputs (refusal.Schema r) is h = absurd h
+unprepared_queried schema text S inputs (refusal.Statistics r) is h = absurd h
+unprepared_queried schema text S inputs (refusal.Certificate r) is h = absurd h
+unprepared_queried schema text S inputs (refusal.Check r) is h = absurd h
+unprepared_queried schema text S inputs refusal.NotLeast is h = absurd h
+unprepared_queried schema text S inputs refusal.Output is h = absurd h
+unprepared_queried schema text S inputs refusal.TooManyRows is h = absurd h
 
 -- what is not prepared says nothing of the output
 pub unprepared_device : (text : List ℕ) (S : Schema) (inputs : List Input) (old new : List ℕ) (o : ℕ) (r : Refusal) → IsUnprepared S text inputs r → IsDeviceFault old new 0 0 r → IsDeviceFault old new o o r
@@ -121,11 +186,13 @@ unprepared_device text S inputs old new o (refusal.Certificate r) h d = absurd h
 unprepared_device text S inputs old new o (refusal.Check r) h d = absurd h
 unprepared_device text S inputs old new o refusal.NotLeast h d = absurd h
 unprepared_device text S inputs old new o refusal.Output h d = absurd h
+unprepared_device text S inputs old new o refusal.TooManyRows h d = absurd h
 
 pub answer_refused : (schema text : List ℕ) (S : Schema) (q : Query) (d : Stored) (inputs : List Input) (o p : ℕ) (r : Refusal) → schema_of schema ≡ Ok S → IsPrepared S text inputs q d
     → IsAnswerFault o p r → IsRefusedBy schema text inputs r
 answer_refused schema text S q d inputs o p refusal.Memory is ready h = tt
 answer_refused schema text S q d inputs o p refusal.Output is ready h = (S, q, record { is_schema = is; is_query = ready.is_query }, (d.tables, ready.files.reported))
+answer_refused schema text S q d inputs o p refusal.TooManyRows is ready h = absurd h
 answer_refused schema text S q d inputs o p (refusal.Text r) is ready h = absurd h
 answer_refused schema text S q d inputs o p (refusal.Scope r) is ready h = absurd h
 answer_refused schema text S q d inputs o p (refusal.Table n r) is ready h = absurd h
@@ -136,9 +203,25 @@ answer_refused schema text S q d inputs o p (refusal.Certificate r) is ready h =
 answer_refused schema text S q d inputs o p (refusal.Check r) is ready h = absurd h
 answer_refused schema text S q d inputs o p refusal.NotLeast is ready h = absurd h
 
+pub write_refused : (schema text : List ℕ) (S : Schema) (q : Query) (d : Stored) (inputs : List Input) (o p : ℕ) (r : Refusal) → schema_of schema ≡ Ok S → IsPrepared S text inputs q d
+    → IsWriteFault (HasLongAnswer S q d.tables) o p r → IsNotQueried schema text inputs r
+write_refused schema text S q d inputs o p refusal.Memory is ready h = tt
+write_refused schema text S q d inputs o p refusal.Output is ready h = (S, q, record { is_schema = is; is_query = ready.is_query }, (d.tables, ready.files.reported))
+write_refused schema text S q d inputs o p refusal.TooManyRows is ready h = many_planned schema text inputs S q d is ready h.0
+write_refused schema text S q d inputs o p (refusal.Text r) is ready h = absurd h
+write_refused schema text S q d inputs o p (refusal.Scope r) is ready h = absurd h
+write_refused schema text S q d inputs o p (refusal.Table n r) is ready h = absurd h
+write_refused schema text S q d inputs o p (refusal.TableDevice n) is ready h = absurd h
+write_refused schema text S q d inputs o p (refusal.Schema r) is ready h = absurd h
+write_refused schema text S q d inputs o p (refusal.Statistics r) is ready h = absurd h
+write_refused schema text S q d inputs o p (refusal.Certificate r) is ready h = absurd h
+write_refused schema text S q d inputs o p (refusal.Check r) is ready h = absurd h
+write_refused schema text S q d inputs o p refusal.NotLeast is ready h = absurd h
+
 pub answer_device : (old new : List ℕ) (o p : ℕ) (r : Refusal) → AreQuiet old new → IsAnswerFault o p r → IsDeviceFault old new o p r
 answer_device old new o p refusal.Memory quiet h = (quiet, h)
 answer_device old new o p refusal.Output quiet h = (quiet, h)
+answer_device old new o p refusal.TooManyRows quiet h = absurd h
 answer_device old new o p (refusal.Text r) quiet h = absurd h
 answer_device old new o p (refusal.Scope r) quiet h = absurd h
 answer_device old new o p (refusal.Table n r) quiet h = absurd h
@@ -153,6 +236,7 @@ answer_device old new o p refusal.NotLeast quiet h = absurd h
 pub answer_after : (o p : ℕ) (r : Refusal) → IsAnswerFault o p r → IsBefore r → ⊥
 answer_after o p refusal.Memory h before = before
 answer_after o p refusal.Output h before = before
+answer_after o p refusal.TooManyRows h before = before
 answer_after o p (refusal.Text r) h before = h
 answer_after o p (refusal.Scope r) h before = h
 answer_after o p (refusal.Table n r) h before = h
@@ -162,3 +246,32 @@ answer_after o p (refusal.Statistics r) h before = absurd h
 answer_after o p (refusal.Certificate r) h before = h
 answer_after o p (refusal.Check r) h before = h
 answer_after o p refusal.NotLeast h before = h
+
+-- so does one of rows that are written as a plan gives them
+pub write_device : (many : Type 0) (old new : List ℕ) (o p : ℕ) (r : Refusal) → AreQuiet old new → IsWriteFault many o p r → IsDeviceFault old new o p r
+write_device many old new o p refusal.Memory quiet h = (quiet, h)
+write_device many old new o p refusal.Output quiet h = (quiet, h)
+write_device many old new o p refusal.TooManyRows quiet h = (quiet, h.1)
+write_device many old new o p (refusal.Text r) quiet h = absurd h
+write_device many old new o p (refusal.Scope r) quiet h = absurd h
+write_device many old new o p (refusal.Table n r) quiet h = absurd h
+write_device many old new o p (refusal.TableDevice n) quiet h = absurd h
+write_device many old new o p (refusal.Schema r) quiet h = absurd h
+write_device many old new o p (refusal.Statistics r) quiet h = absurd h
+write_device many old new o p (refusal.Certificate r) quiet h = absurd h
+write_device many old new o p (refusal.Check r) quiet h = absurd h
+write_device many old new o p refusal.NotLeast quiet h = absurd h
+
+pub write_after : (many : Type 0) (o p : ℕ) (r : Refusal) → IsWriteFault many o p r → IsBefore r → ⊥
+write_after many o p refusal.Memory h before = before
+write_after many o p refusal.Output h before = before
+write_after many o p refusal.TooManyRows h before = before
+write_after many o p (refusal.Text r) h before = absurd h
+write_after many o p (refusal.Scope r) h before = absurd h
+write_after many o p (refusal.Table n r) h before = absurd h
+write_after many o p (refusal.TableDevice n) h before = absurd h
+write_after many o p (refusal.Schema r) h before = absurd h
+write_after many o p (refusal.Statistics r) h before = absurd h
+write_after many o p (refusal.Certificate r) h before = absurd h
+write_after many o p (refusal.Check r) h before = absurd h
+write_after many o p refusal.NotLeast h before = absurd h

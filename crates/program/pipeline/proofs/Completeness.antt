@@ -34,6 +34,7 @@ query_read text S q refusal.NotLeast is fault_is = absurd fault_is
 query_read text S q (refusal.Table n r) is fault_is = absurd fault_is
 query_read text S q (refusal.TableDevice n) is fault_is = absurd fault_is
 query_read text S q refusal.Output is fault_is = absurd fault_is
+query_read text S q refusal.TooManyRows is fault_is = absurd fault_is
 
 pub one_schema : (schema : List ℕ) (S T : Schema) → schema_of schema ≡ Ok S → schema_of schema ≡ Ok T → S ≡ T
 one_schema schema S T is are = same_ok (schema_of schema) S T is are
@@ -53,3 +54,4 @@ check_passes q p c d (refusal.Certificate r) query is replays h = absurd h
 check_passes q p c d (refusal.Table n r) query is replays h = absurd h
 check_passes q p c d (refusal.TableDevice n) query is replays h = absurd h
 check_passes q p c d refusal.Output query is replays h = absurd h
+check_passes q p c d refusal.TooManyRows query is replays h = absurd h

@@ -37,6 +37,7 @@ no_query_explained schema text statistics S refusal.NotLeast is h = absurd h
 no_query_explained schema text statistics S (refusal.Table n r) is h = absurd h
 no_query_explained schema text statistics S (refusal.TableDevice n) is h = absurd h
 no_query_explained schema text statistics S refusal.Output is h = absurd h
+no_query_explained schema text statistics S refusal.TooManyRows is h = absurd h
 
 pub not_counted : (schema text statistics : List ℕ) (S : Schema) (q : Query) (f : Fault StatisticsRefusal) → Asks schema text S q → Fails f (statistics_of S statistics)
     → IsNotExplained schema text statistics (of_statistics f)

@@ -37,6 +37,7 @@ no_query_labelled schema text statistics S refusal.NotLeast is h = absurd h
 no_query_labelled schema text statistics S (refusal.Table n r) is h = absurd h
 no_query_labelled schema text statistics S (refusal.TableDevice n) is h = absurd h
 no_query_labelled schema text statistics S refusal.Output is h = absurd h
+no_query_labelled schema text statistics S refusal.TooManyRows is h = absurd h
 
 pub not_counted_labelled : (schema text statistics : List ℕ) (S : Schema) (q : Query) (f : Fault StatisticsRefusal) → Asks schema text S q → Fails f (statistics_of S statistics)
     → IsNotLabelled schema text statistics (of_statistics f)
@@ -65,6 +66,7 @@ unlabelled schema text statistics a refusal.NotLeast h = absurd h
 unlabelled schema text statistics a (refusal.Table n r) h = absurd h
 unlabelled schema text statistics a (refusal.TableDevice n) h = absurd h
 unlabelled schema text statistics a refusal.Output h = absurd h
+unlabelled schema text statistics a refusal.TooManyRows h = absurd h
 
 -- ---- what is written
 

@@ -3,6 +3,7 @@ pub mod Answered
 pub mod Completeness
 pub mod Explaining
 pub mod LabelledPlans
+pub mod Lent
 pub mod Loaded
 pub mod Planning
 pub mod Plans

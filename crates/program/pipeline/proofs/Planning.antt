@@ -37,6 +37,7 @@ no_query_planned schema text statistics S refusal.NotLeast is h = absurd h
 no_query_planned schema text statistics S (refusal.Table n r) is h = absurd h
 no_query_planned schema text statistics S (refusal.TableDevice n) is h = absurd h
 no_query_planned schema text statistics S refusal.Output is h = absurd h
+no_query_planned schema text statistics S refusal.TooManyRows is h = absurd h
 
 pub no_statistics : (schema text statistics : List ℕ) (S : Schema) (q : Query) (f : Fault StatisticsRefusal) → Asks schema text S q → Fails f (statistics_of S statistics)
     → IsNotPlanned schema text statistics (of_statistics f)
@@ -55,6 +56,7 @@ unwritten_planned schema text statistics S q refusal.NotLeast asks h = absurd h
 unwritten_planned schema text statistics S q (refusal.Table n r) asks h = absurd h
 unwritten_planned schema text statistics S q (refusal.TableDevice n) asks h = absurd h
 unwritten_planned schema text statistics S q refusal.Output asks h = absurd h
+unwritten_planned schema text statistics S q refusal.TooManyRows asks h = absurd h
 
 -- what is written is accepted
 pub planned_accepts : (schema text bytes : List ℕ) (S : Schema) (q : Query) → Asks schema text S q → WithChecked S q (λ c. (written c ≡ Ok bytes) × IsReadableCertificate c) → AcceptsReadable schema text bytes

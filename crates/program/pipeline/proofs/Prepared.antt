@@ -45,6 +45,7 @@ no_query_unprepared text S inputs refusal.NotLeast h = absurd h
 no_query_unprepared text S inputs (refusal.Table n r) h = absurd h
 no_query_unprepared text S inputs (refusal.TableDevice n) h = absurd h
 no_query_unprepared text S inputs refusal.Output h = absurd h
+no_query_unprepared text S inputs refusal.TooManyRows h = absurd h
 
 -- where there is no query no device was asked
 pub no_query_quiet : (text : List ℕ) (S : Schema) (counts : List ℕ) (r : Refusal) → IsNoQuery text S r → IsDeviceFault counts counts 0 0 r
@@ -59,6 +60,7 @@ no_query_quiet text S counts refusal.NotLeast h = absurd h
 no_query_quiet text S counts (refusal.Table n r) h = absurd h
 no_query_quiet text S counts (refusal.TableDevice n) h = absurd h
 no_query_quiet text S counts refusal.Output h = absurd h
+no_query_quiet text S counts refusal.TooManyRows h = absurd h
 
 -- ---- the tables
 
@@ -67,6 +69,7 @@ load_unprepared text S q inputs refusal.Memory is h = tt
 load_unprepared text S q inputs (refusal.TableDevice n) is h = (q, is, h)
 load_unprepared text S q inputs (refusal.Table n r) is h = (q, is, h)
 load_unprepared text S q inputs refusal.Output is h = absurd h
+load_unprepared text S q inputs refusal.TooManyRows is h = absurd h
 load_unprepared text S q inputs (refusal.Schema r) is h = absurd h
 load_unprepared text S q inputs (refusal.Text r) is h = absurd h
 load_unprepared text S q inputs (refusal.Scope r) is h = absurd h

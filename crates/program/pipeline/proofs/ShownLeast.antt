@@ -55,6 +55,7 @@ no_query_least schema text statistics labelled S refusal.NotLeast is h = absurd 
 no_query_least schema text statistics labelled S (refusal.Table n r) is h = absurd h
 no_query_least schema text statistics labelled S (refusal.TableDevice n) is h = absurd h
 no_query_least schema text statistics labelled S refusal.Output is h = absurd h
+no_query_least schema text statistics labelled S refusal.TooManyRows is h = absurd h
 
 pub not_counted_least : (schema text statistics labelled : List ℕ) (S : Schema) (q : Query) (f : Fault StatisticsRefusal) → Asks schema text S q → Fails f (statistics_of S statistics)
     → IsNotLeast schema text statistics labelled (of_statistics f)
@@ -84,6 +85,7 @@ refused_least schema text statistics labelled a c labels (refusal.Certificate r)
 refused_least schema text statistics labelled a c labels (refusal.Table n r) bound is h = absurd h
 refused_least schema text statistics labelled a c labels (refusal.TableDevice n) bound is h = absurd h
 refused_least schema text statistics labelled a c labels refusal.Output bound is h = absurd h
+refused_least schema text statistics labelled a c labels refusal.TooManyRows bound is h = absurd h
 
 -- ---- what is accepted
 
@@ -113,6 +115,7 @@ least_passes s q c labels (refusal.Certificate r) replays shown h = absurd h
 least_passes s q c labels (refusal.Table n r) replays shown h = absurd h
 least_passes s q c labels (refusal.TableDevice n) replays shown h = absurd h
 least_passes s q c labels refusal.Output replays shown h = absurd h
+least_passes s q c labels refusal.TooManyRows replays shown h = absurd h
 
 -- so it is of what is the same
 pub same_passes : (s t : Statistics) (q p : Query) (c d : Certificate) (labels ls : List Label) (r : Refusal) → s ≡ t → q ≡ p → c ≡ d → labels ≡ ls → replayed p d ≡ Ok d → ShowLeast t p d ls → IsLeastRefused s q c labels r

@@ -1,5 +1,5 @@
 -- From bytes to bytes by a certificate that is handed in.
-use Rattle.std.specs.Prelude.{◌≡◌, ℕ, List, Ok, Err}
+use Rattle.std.specs.Prelude.{◌≡◌, ◌<◌, ◌^◌, ℕ, List, length, Ok, Err}
 use Rattle.schema.specs.declared.schema.Schema.{Schema}
 use Rattle.schema.specs.Databases.{Stored}
 use Rattle.schema.specs.Reading.{schema_of}
@@ -14,7 +14,7 @@ use Rattle.certificate_text.specs.Readable.{IsReadableCertificate}
 use Rattle.certificate_read.specs.TextFaults.{IsFirstFault}
 use Rattle.pipeline.specs.declared.refusal.Refusal.{Refusal}
 use Rattle.pipeline.specs.declared.refusal.Refusal.TheVariants as refusal
-use Rattle.pipeline.specs.EndToEnd.{Input, Asks, IsFromFiles, ByCertificate, IsUnbound, IsReached, IsTableRefused, AllReported, IsAnswerText, IsByPlan, WithQuery}
+use Rattle.pipeline.specs.EndToEnd.{Input, Asks, IsFromFiles, ByCertificate, IsUnbound, IsReached, IsTableRefused, AllReported, IsAnswerText, IsByPlan, IsLongAnswer, WithQuery}
 
 -- ---- what is accepted
 
@@ -59,7 +59,11 @@ IsCheckFault q c refusal.Memory = Unit {0}
 IsCheckFault q c (refusal.Check r) = replayed q c ≡ Err r
 IsCheckFault q c _ = ⊥
 
--- why a certificate gives no answer: the first fault, in the order check, tables, output
+-- the files give a database over which the certificate is checked, and its rows are more than 2^62
+abbrev pub IsLongByFiles : Schema → Query → Certificate → List Input → Type 0
+IsLongByFiles S q c inputs = (d : Stored) × IsFromFiles S inputs d × IsLongAnswer c S q d.tables
+
+-- why a certificate gives no answer: the first fault, in the order check, tables, output and number of rows
 abbrev pub IsNotAnswered : Schema → Query → Certificate → List Input → Refusal → Type 0
 IsNotAnswered S q c inputs refusal.Memory = Unit {0}
 IsNotAnswered S q c inputs (refusal.Check r) = replayed q c ≡ Err r
@@ -67,6 +71,7 @@ IsNotAnswered S q c inputs refusal.NotLeast = ⊥
 IsNotAnswered S q c inputs (refusal.Table n r) = IsChecked S q c × IsTableRefused S inputs n r
 IsNotAnswered S q c inputs (refusal.TableDevice n) = IsChecked S q c × IsReached S inputs n
 IsNotAnswered S q c inputs refusal.Output = IsChecked S q c × AllReported S inputs
+IsNotAnswered S q c inputs refusal.TooManyRows = IsLongByFiles S q c inputs
 IsNotAnswered S q c inputs (refusal.Schema r) = ⊥
 IsNotAnswered S q c inputs (refusal.Text r) = ⊥
 IsNotAnswered S q c inputs (refusal.Scope r) = ⊥
@@ -98,8 +103,14 @@ IsNotAccepted schema text certificate refusal.NotLeast = ⊥
 IsNotAccepted schema text certificate (refusal.Table n r) = ⊥
 IsNotAccepted schema text certificate (refusal.TableDevice n) = ⊥
 IsNotAccepted schema text certificate refusal.Output = ⊥
+IsNotAccepted schema text certificate refusal.TooManyRows = ⊥
 
--- why there is no answer: the same, and then tables and output
+-- there is a text of an answer, and its rows, which are by the plan of that certificate, are more than 2^62
+abbrev pub HasTooManyRowsBy : List ℕ → List ℕ → List ℕ → List Input → Type 0
+HasTooManyRowsBy schema text certificate inputs =
+    (answered : List ℕ) × (A : IsAnswerText schema text inputs answered) × (B : IsByPlan A) × IsCertificate certificate B.certificate × (2 ^ 62 < length A.rows)
+
+-- why there is no answer: the same, and then tables, output and number of rows
 abbrev pub IsNotRun : List ℕ → List ℕ → List ℕ → List Input → Refusal → Type 0
 IsNotRun schema text certificate inputs refusal.Memory = Unit {0}
 IsNotRun schema text certificate inputs (refusal.Schema r) = IsNotAccepted schema text certificate (refusal.Schema r)
@@ -112,3 +123,4 @@ IsNotRun schema text certificate inputs refusal.NotLeast = ⊥
 IsNotRun schema text certificate inputs (refusal.Table n r) = WithAccepted schema text certificate (λ S. IsTableRefused S inputs n r)
 IsNotRun schema text certificate inputs (refusal.TableDevice n) = WithAccepted schema text certificate (λ S. IsReached S inputs n)
 IsNotRun schema text certificate inputs refusal.Output = WithAccepted schema text certificate (λ S. AllReported S inputs)
+IsNotRun schema text certificate inputs refusal.TooManyRows = HasTooManyRowsBy schema text certificate inputs

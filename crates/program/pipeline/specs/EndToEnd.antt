@@ -1,5 +1,5 @@
 -- From bytes to bytes.
-use Rattle.std.specs.Prelude.{◌≡◌, ◌≢◌, ◌<◌, ℕ, List, [], length, slice_get, slice_index_or, Option, Some, None, Result, Ok, Err}
+use Rattle.std.specs.Prelude.{◌≡◌, ◌≢◌, ◌<◌, ◌^◌, ℕ, List, [], length, slice_get, slice_index_or, Option, Some, None, Result, Ok, Err}
 use Rattle.schema.specs.declared.schema.Schema.{Schema}
 use Rattle.schema.specs.declared.schema.Table.{Table}
 use Rattle.schema.specs.Databases.{Row, Database, Satisfies, Stored}
@@ -124,11 +124,24 @@ ByPlan S q D P = (c : Certificate) × ByCertificate c S q D P
 abbrev pub ByMeaning : Schema → Query → Database → (List ℕ → Type 0) → Type 0
 ByMeaning S q D P = (rows : List Row) × IsAnswer q (tables_of S D) rows × P (answer_text q.names rows)
 
+-- the certificate is checked, and the rows that its plan gives over the database are more than 2^62
+abbrev pub IsLongAnswer : Certificate → Schema → Query → Database → Type 0
+IsLongAnswer c S q D = IsChecked S q c × (2 ^ 62 < length (answer q (tables_of S D) c.plan))
+
+-- so it is of some certificate
+abbrev pub HasLongAnswer : Schema → Query → Database → Type 0
+HasLongAnswer S q D = (c : Certificate) × IsLongAnswer c S q D
+
 -- while the answer is made or written: memory ran out, or the output's count of failures rose between these
 abbrev pub IsAnswerFault : ℕ → ℕ → Refusal → Type 0
 IsAnswerFault out out' refusal.Memory = out' ≡ out
 IsAnswerFault out out' refusal.Output = Rose out out'
 IsAnswerFault out out' _ = ⊥
+
+-- the same while rows are written as a plan gives them: there may be too many of them, which is as said
+abbrev pub IsWriteFault : Type 0 → ℕ → ℕ → Refusal → Type 0
+IsWriteFault many out out' refusal.TooManyRows = many × (out' ≡ out)
+IsWriteFault many out out' r = IsAnswerFault out out' r
 
 -- the text of an answer of the query that is asked, over the rows that the files give
 pub record IsAnswerText (schema text : List ℕ) (inputs : List Input) (written : List ℕ) : Type 0 where
@@ -158,6 +171,10 @@ WithPlanned schema text inputs P = (written : List ℕ) × (A : IsAnswerText sch
 
 -- ---- refusals
 
+-- there is such a text, and its rows, which are by a checked plan, are more than 2^62
+abbrev pub HasTooManyRows : List ℕ → List ℕ → List Input → Type 0
+HasTooManyRows schema text inputs = (written : List ℕ) × (A : IsAnswerText schema text inputs written) × IsByPlan A × (2 ^ 62 < length A.rows)
+
 -- some query is asked, over a schema that is as said
 abbrev pub WithQuery : List ℕ → List ℕ → (Schema → Type 0) → Type 0
 WithQuery schema text P = (S : Schema) × (q : Query) × Asks schema text S q × P S
@@ -175,11 +192,18 @@ IsRefusedBy schema text inputs refusal.NotLeast = ⊥
 IsRefusedBy schema text inputs (refusal.Table n r) = WithQuery schema text (λ S. IsTableRefused S inputs n r)
 IsRefusedBy schema text inputs (refusal.TableDevice n) = WithQuery schema text (λ S. IsReached S inputs n)
 IsRefusedBy schema text inputs refusal.Output = WithQuery schema text (λ S. AllReported S inputs)
+IsRefusedBy schema text inputs refusal.TooManyRows = ⊥
+
+-- the same where a plan answers: at last its rows may be too many
+abbrev pub IsNotQueried : List ℕ → List ℕ → List Input → Refusal → Type 0
+IsNotQueried schema text inputs refusal.TooManyRows = HasTooManyRows schema text inputs
+IsNotQueried schema text inputs r = IsRefusedBy schema text inputs r
 
 -- the refusal comes before anything is written
 abbrev pub IsBefore : Refusal → Type 0
 IsBefore refusal.Memory = ⊥
 IsBefore refusal.Output = ⊥
+IsBefore refusal.TooManyRows = ⊥
 IsBefore (refusal.Schema r) = Unit {0}
 IsBefore (refusal.Text r) = Unit {0}
 IsBefore (refusal.Scope r) = Unit {0}
@@ -207,6 +231,7 @@ abbrev pub IsDeviceFault : List ℕ → List ℕ → ℕ → ℕ → Refusal →
 IsDeviceFault old new out out' (refusal.TableDevice n) = RoseAlone old new n × (out' ≡ out)
 IsDeviceFault old new out out' refusal.Output = AreQuiet old new × Rose out out'
 IsDeviceFault old new out out' refusal.Memory = IsQuiet old new out out'
+IsDeviceFault old new out out' refusal.TooManyRows = IsQuiet old new out out'
 IsDeviceFault old new out out' (refusal.Schema r) = IsQuiet old new out out'
 IsDeviceFault old new out out' (refusal.Text r) = IsQuiet old new out out'
 IsDeviceFault old new out out' (refusal.Scope r) = IsQuiet old new out out'

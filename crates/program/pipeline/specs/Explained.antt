@@ -49,3 +49,4 @@ IsNotExplained schema text statistics refusal.NotLeast = ⊥
 IsNotExplained schema text statistics (refusal.Table n r) = ⊥
 IsNotExplained schema text statistics (refusal.TableDevice n) = ⊥
 IsNotExplained schema text statistics refusal.Output = ⊥
+IsNotExplained schema text statistics refusal.TooManyRows = ⊥

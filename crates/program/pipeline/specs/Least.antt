@@ -107,6 +107,7 @@ IsNotLeast schema text statistics labelled refusal.NotLeast = (a : IsCounted sch
 IsNotLeast schema text statistics labelled (refusal.Table n r) = ⊥
 IsNotLeast schema text statistics labelled (refusal.TableDevice n) = ⊥
 IsNotLeast schema text statistics labelled refusal.Output = ⊥
+IsNotLeast schema text statistics labelled refusal.TooManyRows = ⊥
 
 -- ---- what is planned
 
@@ -155,3 +156,4 @@ IsNotLabelled schema text statistics refusal.NotLeast = ⊥
 IsNotLabelled schema text statistics (refusal.Table n r) = ⊥
 IsNotLabelled schema text statistics (refusal.TableDevice n) = ⊥
 IsNotLabelled schema text statistics refusal.Output = ⊥
+IsNotLabelled schema text statistics refusal.TooManyRows = ⊥

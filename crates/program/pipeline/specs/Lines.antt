@@ -9,7 +9,7 @@ use Rattle.sql_parse.specs.Codes as text
 use Rattle.binder.specs.Codes as scope
 use Rattle.statistics.specs.Refusals as statistics
 use Rattle.pipeline.specs.declared.refusal.Refusal.{Refusal}
-use Rattle.pipeline.specs.declared.refusal.Refusal.TheVariants.{Memory, Schema, Text, Scope, Statistics, Certificate, Check, NotLeast, Table, TableDevice, Output}
+use Rattle.pipeline.specs.declared.refusal.Refusal.TheVariants.{Memory, Schema, Text, Scope, Statistics, Certificate, Check, NotLeast, Table, TableDevice, Output, TooManyRows}
 use Rattle.store.specs.Faults as store
 
 -- the name of a table of a schema; nothing where there is none
@@ -43,3 +43,4 @@ line_of S NotLeast = codes "refused L01"
 line_of S (Table t r) = codes "refused " ++ (store.code_of r.cause ++ (codes " " ++ (table_name S t ++ (codes " row " ++ (decimal r.row ++ earlier_text (store.earlier_of r.cause))))))
 line_of S (TableDevice t) = codes "device T08 " ++ table_name S t
 line_of S Output = codes "device X02"
+line_of S TooManyRows = codes "refused X01"

@@ -44,3 +44,4 @@ IsNotPlanned schema text statistics refusal.NotLeast = ⊥
 IsNotPlanned schema text statistics (refusal.Table n r) = ⊥
 IsNotPlanned schema text statistics (refusal.TableDevice n) = ⊥
 IsNotPlanned schema text statistics refusal.Output = ⊥
+IsNotPlanned schema text statistics refusal.TooManyRows = ⊥

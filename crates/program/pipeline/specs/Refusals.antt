@@ -11,8 +11,12 @@ use Rattle.statistics.specs.declared.fault.StatisticsRefusal.{StatisticsRefusal}
 use Rattle.answer_text.specs.declared.output.OutputFailed.{OutputFailed}
 use Rattle.store.specs.declared.fault.TableFault.{TableFault}
 use Rattle.store.specs.declared.fault.TableFault.TheVariants as table
+use Rattle.cursors.specs.declared.fault.RunFault.{RunFault}
+use Rattle.cursors.specs.declared.fault.RunFault.TheVariants as cursor
+use Rattle.pipeline.specs.declared.written.WriteFault.{WriteFault}
+use Rattle.pipeline.specs.declared.written.WriteFault.TheVariants as write
 use Rattle.pipeline.specs.declared.refusal.Refusal.{Refusal}
-use Rattle.pipeline.specs.declared.refusal.Refusal.TheVariants.{Memory, Schema, Text, Scope, Statistics, Certificate, Check, NotLeast, Table, TableDevice, Output}
+use Rattle.pipeline.specs.declared.refusal.Refusal.TheVariants.{Memory, Schema, Text, Scope, Statistics, Certificate, Check, NotLeast, Table, TableDevice, Output, TooManyRows}
 
 abbrev pub of_schema : Fault SchemaRefusal → Refusal
 of_schema fault.Memory = Memory
@@ -42,6 +46,20 @@ abbrev pub of_answer : Fault OutputFailed → Refusal
 of_answer fault.Memory = Memory
 of_answer (fault.Refused r) = Output
 
+-- why a row that a cursor gives wasn't written
+abbrev pub write_of_cursor : RunFault → WriteFault
+write_of_cursor cursor.Memory = write.Memory
+write_of_cursor cursor.TooManyRows = write.TooManyRows
+
+abbrev pub write_of_answer : Fault OutputFailed → WriteFault
+write_of_answer fault.Memory = write.Memory
+write_of_answer (fault.Refused r) = write.Output
+
+abbrev pub of_write : WriteFault → Refusal
+of_write write.Memory = Memory
+of_write write.Output = Output
+of_write write.TooManyRows = TooManyRows
+
 abbrev pub of_table : ℕ → TableFault → Refusal
 of_table t table.Memory = Memory
 of_table t table.Device = TableDevice t
@@ -60,3 +78,4 @@ status_of NotLeast = 2
 status_of (Table t r) = 2
 status_of (TableDevice t) = 3
 status_of Output = 3
+status_of TooManyRows = 2

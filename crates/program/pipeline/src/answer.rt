@@ -4,7 +4,7 @@ ghost use Rattle.std.specs.Prelude.{◌≡◌, ◌⊎◌, [], OnOk, OnErr, IfErr
 ghost use Rattle.std.specs.Io.KnownBytes.{Appends};
 ghost use Rattle.query.specs.Bound.{IsBoundOver};
 ghost use Rattle.answer_text.specs.AnswerText.{HasFront};
-ghost use Rattle.pipeline.specs.EndToEnd.{ByCertificate, ByPlan, ByMeaning, IsAnswerFault};
+ghost use Rattle.pipeline.specs.EndToEnd.{ByCertificate, ByPlan, ByMeaning, HasLongAnswer, IsAnswerFault, IsLongAnswer, IsWriteFault};
 
 use crate::counted_columns::counted_columns;
 use crate::execution::write_answer;
@@ -31,7 +31,7 @@ pub(crate) fn answer_by<W: AnswerOutput>(
     ensures answered { OnOk result (ByCertificate checked.now.certificate checked.now.schema checked.now.query database.now.tables (Appends (W.contents out.old) (W.contents out.new))) }
     ensures handed { OnOk result (W.held out.new ≡ []) }
     ensures front { OnErr result ((out.new ≡ out.old) ⊎ ByCertificate checked.now.certificate checked.now.schema checked.now.query database.now.tables (HasFront (W.contents out.old) (W.contents out.new))) }
-    ensures fails { IfErr result (IsAnswerFault (W.failures out.old) (W.failures out.new)) }
+    ensures fails { IfErr result (IsWriteFault (IsLongAnswer checked.now.certificate checked.now.schema checked.now.query database.now.tables) (W.failures out.old) (W.failures out.new)) }
     ensures quiet { OnOk result (W.failures out.new ≡ W.failures out.old) }
 {
     // That it was checked says that what its plan gives is an answer.
@@ -56,7 +56,7 @@ pub(crate) fn answer_by_plan<'a, W: AnswerOutput>(
     ensures answered { OnOk result (ByPlan schema.now query.now database.now.tables (Appends (W.contents out.old) (W.contents out.new))) }
     ensures handed { OnOk result (W.held out.new ≡ []) }
     ensures front { OnErr result ((out.new ≡ out.old) ⊎ ByPlan schema.now query.now database.now.tables (HasFront (W.contents out.old) (W.contents out.new))) }
-    ensures fails { IfErr result (IsAnswerFault (W.failures out.old) (W.failures out.new)) }
+    ensures fails { IfErr result (IsWriteFault (HasLongAnswer schema.now query.now database.now.tables) (W.failures out.old) (W.failures out.new)) }
     ensures quiet { OnOk result (W.failures out.new ≡ W.failures out.old) }
 {
     let prepared = PreparedQuery::of(alloc, query)?;

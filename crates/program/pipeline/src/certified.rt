@@ -83,7 +83,7 @@ fn answer_by_certificate<R: TableInput, W: AnswerOutput>(
 /// writes what its plan gives. The tables are one input each, in the order of the schema.
 ///
 /// The first fault is reported, in the order schema, text, scope, certificate, check, tables, and `out` is then as it was. During the
-/// answer memory or the output may fail, and then a beginning of the answer has been written.
+/// answer memory or the output may fail, or there may be too many rows, and then a beginning of the answer has been written.
 pub fn run<R: TableInput, W: AnswerOutput>(
     alloc: Global,
     schema: &[u8],

@@ -3,7 +3,7 @@
 ghost use Rattle.std.specs.Prelude.{◌≡◌, ◌⊎◌, [], length, map, IfErr, OnOk, OnErr};
 ghost use Rattle.std.specs.Io.KnownBytes.{Appends};
 ghost use Rattle.answer_text.specs.AnswerText.{HasFront};
-ghost use Rattle.pipeline.specs.EndToEnd.{HasTables, WithAnswer, WithPlanned, IsRefusedBy, IsBefore, IsDeviceFault, IsQuiet};
+ghost use Rattle.pipeline.specs.EndToEnd.{HasTables, WithAnswer, WithPlanned, IsNotQueried, IsRefusedBy, IsBefore, IsDeviceFault, IsQuiet};
 
 use crate::answer::{answer_by_meaning, answer_by_plan};
 use crate::preparation::prepare;
@@ -19,7 +19,7 @@ use store::TableInput;
 /// which is explored so far.
 ///
 /// The first fault is reported, in the order schema, text, scope, tables, and `out` is then as it was. During the answer
-/// memory or the output may fail, and then a beginning of the answer has been written.
+/// memory or the output may fail, or there may be too many rows, and then a beginning of the answer has been written.
 pub fn query<R: TableInput, W: AnswerOutput>(
     alloc: Global,
     schema: &[u8],
@@ -34,7 +34,7 @@ pub fn query<R: TableInput, W: AnswerOutput>(
     ensures answered { OnOk result (WithPlanned schema.now text.now (map R.remaining tables.old) (Appends (W.contents out.old) (W.contents out.new))) }
     // Nothing of it is held back.
     ensures handed { OnOk result (W.held out.new ≡ []) }
-    ensures refused { IfErr result (IsRefusedBy schema.now text.now (map R.remaining tables.old)) }
+    ensures refused { IfErr result (IsNotQueried schema.now text.now (map R.remaining tables.old)) }
     ensures untouched { IfErr result (λ r. IsBefore r → out.new ≡ out.old) }
     // A fault that comes later leaves a beginning of such a text.
     ensures front { OnErr result ((out.new ≡ out.old) ⊎ WithPlanned schema.now text.now (map R.remaining tables.old) (HasFront (W.contents out.old) (W.contents out.new))) }

@@ -13,6 +13,7 @@ mod least;
 mod planned;
 mod preparation;
 mod refusal;
+pub mod written;
 
 pub use certified::{check, run};
 pub use commands::{evaluate, query};
@@ -23,3 +24,4 @@ pub use least::check_least;
 pub use planned::plan;
 pub use planner::Exploration;
 pub use refusal::{Refusal, fault_line};
+pub use written::WriteFault;

@@ -8,6 +8,7 @@ ghost use Rattle.certificate_text.specs.Codes as certificate;
 ghost use Rattle.pipeline.specs.Lines as lines;
 ghost use Rattle.store.specs.Faults.{code_of, earlier_of};
 
+use crate::written::WriteFault;
 use answer_text::AnswerFault;
 use binder::{BindFault, BindRefusal};
 use certificate::{CheckFault, CheckRefusal};
@@ -47,6 +48,9 @@ pub enum Refusal {
     TableDevice(usize),
     #[error("the output failed")]
     Output,
+    /// The answer has more than 2^62 rows.
+    #[error("too many rows")]
+    TooManyRows,
 }
 
 impl From<AllocError> for Refusal {
@@ -160,6 +164,20 @@ impl From<AnswerFault> for Refusal {
     }
 }
 
+impl From<WriteFault> for Refusal {
+    ghost use Rattle.pipeline.specs.Refusals.{of_write};
+
+    ghost from_gives = { λ fault e. e ≡ of_write fault };
+
+    fn from(fault: WriteFault) -> Refusal {
+        match fault {
+            WriteFault::Memory => Refusal::Memory,
+            WriteFault::Output => Refusal::Output,
+            WriteFault::TooManyRows => Refusal::TooManyRows,
+        }
+    }
+}
+
 impl Refusal {
     /// The fault of a table, by its place in the schema.
     pub fn of_table(table: usize, fault: TableFault) -> Refusal
@@ -264,5 +282,6 @@ pub fn fault_line(
             format!(in alloc; "device T08 {name}")
         }
         Refusal::Output => String::from_str(alloc, "device X02"),
+        Refusal::TooManyRows => code_line(alloc, "X01"),
     }
 }

@@ -16,7 +16,8 @@ use schema::{Schema, SchemaRefusal};
 use std::alloc::{AllocError, Global};
 use words::certificates::{of_certificate, of_check};
 use words::meanings::{
-    NOT_LEAST, OUTPUT_FAILED, TABLE_UNREAD, of_schema, of_scope, of_statistics, of_table, of_text,
+    NOT_LEAST, OUTPUT_FAILED, TABLE_UNREAD, TOO_MANY_ROWS, of_schema, of_scope, of_statistics,
+    of_table, of_text,
 };
 use words::{Meaning, explanation, explanation_at};
 
@@ -34,6 +35,7 @@ fn meaning(refusal: &Refusal) -> Option<Meaning> {
         Refusal::Table(_, refusal) => Some(of_table(refusal.cause)),
         Refusal::TableDevice(_) => Some(TABLE_UNREAD),
         Refusal::Output => Some(OUTPUT_FAILED),
+        Refusal::TooManyRows => Some(TOO_MANY_ROWS),
     }
 }
 

@@ -19,8 +19,8 @@ ghost use Rattle.certificate.specs.Codes.{code_of as check_code};
 
 use crate::certificates::{of_certificate, of_check};
 use crate::meanings::{
-    Meaning, NOT_LEAST, OUTPUT_FAILED, TABLE_UNREAD, of_schema, of_scope, of_statistics, of_table,
-    of_text,
+    Meaning, NOT_LEAST, OUTPUT_FAILED, TABLE_UNREAD, TOO_MANY_ROWS, of_schema, of_scope,
+    of_statistics, of_table, of_text,
 };
 use binder::BindReason;
 use certificate::CheckReason;
@@ -194,6 +194,7 @@ pub fn list_of_codes(alloc: Global) -> Result<String, AllocError> {
     push_tables(&mut list)?;
     push_certificates(&mut list)?;
     push_code(&mut list, "L01", NOT_LEAST)?;
+    push_code(&mut list, "X01", TOO_MANY_ROWS)?;
     push_code(&mut list, "X02", OUTPUT_FAILED)?;
     Ok(list)
 }

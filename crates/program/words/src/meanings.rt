@@ -188,6 +188,12 @@ pub const NOT_LEAST: Meaning = Meaning {
     example: "the label 0 - 141 where a scan of class 0 costs 140",
 };
 
+/// X01, which no reason stands for.
+pub const TOO_MANY_ROWS: Meaning = Meaning {
+    text: "the answer has more than 4,611,686,018,427,387,904 rows, which is 2 to the power of 62",
+    example: "four tables of 1,000,000 rows each, joined without a condition",
+};
+
 /// X02, which no reason stands for.
 pub const OUTPUT_FAILED: Meaning = Meaning {
     text: "the answer could not be written to its end",

@@ -2,8 +2,8 @@ use Rattle.std.proofs.Common.{◌∙◌, ap, map, Err, inl, inr}
 use Rattle.std.proofs.lemmas.Result.{err_from_is_err_and, on_ok_weaker, on_err_weaker, IfErr-weaker}
 use Rattle.std.specs.Io.KnownBytes.{Appends}
 use Rattle.answer_text.specs.AnswerText.{HasFront}
-use Rattle.pipeline.proofs.Answered.{of_fault}
-use Rattle.pipeline.proofs.Acceptance.{checked_itself, load_not_answered, answer_not_answered, by_files}
+use Rattle.pipeline.proofs.Answered.{of_fault, write_after, write_device, write_fault_weaker}
+use Rattle.pipeline.proofs.Acceptance.{checked_itself, load_not_answered, long_itself, answer_not_answered, by_files}
 use Rattle.pipeline.proofs.certified.answer_by_certificate.Goals as goal
 
 pub returns-in_err-database-clause-refused : goal.returns-in_err-database-clause-refused
@@ -22,9 +22,10 @@ returns-clause-answered g c = on_ok_weaker c.answer_by.result
 
 pub returns-clause-refused : goal.returns-clause-refused
 returns-clause-refused g c = IfErr-weaker c.answer_by.result _ _
-    (λ r. answer_not_answered c.args.schema.now c.args.query.now c.args.certificate.now (map g.R.TableInput.remaining c.args.tables.now) c.in_ok-database.database _ _ r
+    (λ r fault. answer_not_answered c.args.schema.now c.args.query.now c.args.certificate.now (map g.R.TableInput.remaining c.args.tables.now) c.in_ok-database.database _ _ r
     (checked_itself c.in_ok-checked.checked c.args.schema.now c.args.query.now c.args.certificate.now c.in_ok-checked.ensures.of c.in_ok-checked.ensures.verdict c.certificate-certificate.ensures.checked)
-    c.in_ok-database.ensures.loaded)
+    c.in_ok-database.ensures.loaded
+    (write_fault_weaker _ _ _ _ r (long_itself c.in_ok-checked.checked c.args.schema.now c.args.query.now c.args.certificate.now c.in_ok-database.database.tables c.in_ok-checked.ensures.of c.in_ok-checked.ensures.verdict) fault))
     c.answer_by.ensures.fails
 
 pub returns-clause-front : goal.returns-clause-front
@@ -35,3 +36,9 @@ returns-clause-front g c = on_err_weaker c.answer_by.result
           (HasFront (g.W.AnswerOutput.contents c.args.out.now) (g.W.AnswerOutput.contents c.answer_by.new.out)) c.in_ok-checked.ensures.of c.in_ok-checked.ensures.verdict c.in_ok-database.ensures.loaded more)
     ])
     c.answer_by.ensures.front
+
+pub returns-clause-untouched : goal.returns-clause-untouched
+returns-clause-untouched g c = IfErr-weaker c.answer_by.result _ _ (λ r fault before. absurd (write_after _ _ _ r fault before)) c.answer_by.ensures.fails
+
+pub returns-clause-device : goal.returns-clause-device
+returns-clause-device g c = IfErr-weaker c.answer_by.result _ _ (λ r. write_device _ _ _ _ _ r c.in_ok-database.ensures.quiet) c.answer_by.ensures.fails
