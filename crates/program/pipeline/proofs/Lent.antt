@@ -1,5 +1,5 @@
 -- Rows that a cursor lends.
-use Rattle.std.proofs.Common.{◌≡◌, ◌+◌, ap, sym, subst, ◌∙◌, ℕ, Bool, true, false, List, [], ◌∷◌, length, Option, Some, MatchOption, Ok, arith}
+use Rattle.std.proofs.Common.{◌≡◌, ◌+◌, ap, sym, subst, ◌∙◌, ℕ, Bool, true, false, [], ◌∷◌, length, Option, Some, MatchOption, Ok, arith}
 use Rattle.schema.specs.Databases.{Row}
 use Rattle.cursors.specs.Cursors.{Progress, IsStep}
 

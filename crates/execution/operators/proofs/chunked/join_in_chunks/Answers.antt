@@ -31,7 +31,7 @@ returns-in_ok-join-in-Inner c = λ S.
           ∙ filter_none _
           ∙ ap (λ D. join_rows (Inner D) R (rows_of left) (rows_of right) nulls) c.as_slice-conditions.ensures.conditions
           ∙ ap (λ K. join_rows (Inner C) K (rows_of left) (rows_of right) nulls) second-is.columns_are
-          ∙ join-needed (Inner C) _ left right _ _ nulls first-is.rows_are second-is.rows_are
+          ∙ join-needed (Inner C) _ left right (first all) (first (rest all)) nulls first-is.rows_are second-is.rows_are
           ∙ sym (ap (λ (m : Matching). join_rows m (second_columns (columns_of all)) (first all) (first (rest all)) nulls) c.in-Inner.is);
     }
 
@@ -51,8 +51,8 @@ returns-in_ok-join-in-Left c = λ S.
           ∙ sym (ap (λ (m : Matching). join_columns m (first_columns (columns_of all)) (second_columns (columns_of all))) c.in-Left.is);
       rows_are =
           so.rows_are
-          ∙ ap (λ D. join_rows (Left D) R (rows_of left) (rows_of right) nulls) c.as_slice-in-Left.ensures.conditions
+          ∙ ap (λ D. join_rows (Left D) R (rows_of left) (rows_of right) nulls) c.as_slice.ensures.conditions
           ∙ ap (λ K. join_rows (Left C) K (rows_of left) (rows_of right) nulls) second-is.columns_are
-          ∙ join-needed (Left C) _ left right _ _ nulls first-is.rows_are second-is.rows_are
+          ∙ join-needed (Left C) _ left right (first all) (first (rest all)) nulls first-is.rows_are second-is.rows_are
           ∙ sym (ap (λ (m : Matching). join_rows m (second_columns (columns_of all)) (first all) (first (rest all)) nulls) c.in-Left.is);
     }
