@@ -22,9 +22,11 @@ Reached rows now (Some number) = rows ≡ shown_row now.rows.selected.relation.r
 -- a number of those at hand is looked up
 pub looked-up : (rows : List Row) (old : ChunkedRows) (now : ShownRows) (o : Option ℕ) → now.rows.selected ≡ old.selected → IsNextNumber Empty old now.rows o
     → rows_to_come old now.places ++ shown_chunks now.more now.columns.items ≡ rows → Reached rows now o
-looked-up rows old now None same (none, left) is =
-    (left, ap (λ l. map (shown_row now.rows.selected.relation.rows now.places) l ++ shown_chunks now.more now.columns.items) left
-        ∙ sym (ap (λ l. map (shown_row old.selected.relation.rows now.places) l ++ shown_chunks now.more now.columns.items) none) ∙ is)
+looked-up rows old now None same (none, left) is = (
+  left,
+  ap (λ l. map (shown_row now.rows.selected.relation.rows now.places) l ++ shown_chunks now.more now.columns.items) left
+      ∙ sym (ap (λ l. map (shown_row old.selected.relation.rows now.places) l ++ shown_chunks now.more now.columns.items) none) ∙ is,
+)
 looked-up rows old now (Some number) same next is =
     sym is
     ∙ ap (λ l. map (shown_row old.selected.relation.rows now.places) l ++ shown_chunks now.more now.columns.items) next

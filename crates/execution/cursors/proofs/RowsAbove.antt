@@ -1,11 +1,13 @@
 -- What several operators select, one above the other.
-use Rattle.std.proofs.Common.{◌≡◌, refl, ap, ◌∙◌, subst, ℕ, List, [], ◌∷◌, ◌++◌, Result, IfOk}
+use Rattle.std.proofs.Common.{◌≡◌, refl, ap, ◌∙◌, subst, ℕ, List, [], ◌∷◌, ◌++◌, Option, MatchOption, Some, Result, IfOk}
 use Rattle.std.proofs.lemmas.List.{map-append}
 use Rattle.std.proofs.lemmas.List.Elements.{filter-append}
 use Rattle.algebra.specs.Bags.{Env, lay, nulls}
 use Rattle.algebra.specs.Columns.{has}
 use Rattle.algebra.specs.Conditions.{holds}
 use Rattle.physical.specs.Outputs.{no_classes}
+use Rattle.joins.specs.declared.chunked.ChunkedJoin.{ChunkedJoin}
+use Rattle.joins.specs.ChunkedJoins.{IsJoinOf}
 use Rattle.cursors.specs.declared.opening.OpenedRows.{OpenedRows}
 use Rattle.cursors.specs.declared.opening.Selecting.{Selecting}
 use Rattle.cursors.specs.declared.opening.Selecting.TheVariants.{Filter, Projection}
@@ -39,3 +41,7 @@ rows-none (Projection K ∷ above) = rows-none above
 -- equal columns and rows
 pub reopened : {E : Type 0} (result : Result OpenedRows E) (K L : List ℕ) (X Y : List Env) → K ≡ L → X ≡ Y → IfOk result (IsOpened K X) → IfOk result (IsOpened L Y)
 reopened result K L X Y columns rows reported = subst (λ M. IfOk result (IsOpened M Y)) columns (subst (λ Z. IfOk result (IsOpened K Z)) rows reported)
+
+-- a join that is there is as said
+pub join-some : (o : Option ChunkedJoin) (j : ChunkedJoin) (K : List ℕ) (X : List Env) → o ≡ Some j → MatchOption o (Unit {0}) (IsJoinOf K X) → IsJoinOf K X j
+join-some o j K X is so = subst (λ (o : Option ChunkedJoin). MatchOption o (Unit {0}) (IsJoinOf K X)) is so

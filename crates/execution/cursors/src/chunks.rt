@@ -68,8 +68,8 @@ impl<'p, 't: 'p> ChunkedRows<'p, 't> {
 impl<'p, 't: 'p> ChunkedRows<'p, 't> {
     /// Goes on with other rows, none of which has been handed over.
     pub fn restart(&mut self, selected: SelectedRows<'p, 't>)
-        ensures selected { self.new.selected ≡ selected }
-        ensures numbers { (e : lent.Env) → numbers_to_come e self.new ≡ selected_numbers e selected }
+        ensures selected { self.new.selected ≡ selected.entry }
+        ensures numbers { (e : lent.Env) → numbers_to_come e self.new ≡ selected_numbers e selected.entry }
     {
         self.selected = selected;
         self.next = 0;

@@ -24,6 +24,7 @@ returns-in_ok-push-in-Joined c = λ K X is.
     let how = c.args.how in
     let given = subst (IsOpened K X) c.in-Joined.is is in
     let j = c.in-Joined.chunks in
-    let more = c.in_ok-push-in-Joined.ensures.items in
-    (ap (λ (above : List Selecting). columns_above above (joined_columns j.join)) more ∙ columns-more j.above.items how (joined_columns j.join) ∙ ap (selecting_columns how) given.0
-    , ap (λ (above : List Selecting). rows_above above (joined_to_come j.join)) more ∙ rows-more j.above.items how (joined_to_come j.join) ∙ ap (λ rows. selecting_rows how rows nulls) given.1)
+    let more = c.in_ok-push-in-Joined.ensures.items in (
+      ap (λ (above : List Selecting). columns_above above (joined_columns j.join)) more ∙ columns-more j.above.items how (joined_columns j.join) ∙ ap (selecting_columns how) given.0,
+      ap (λ (above : List Selecting). rows_above above (joined_to_come j.join)) more ∙ rows-more j.above.items how (joined_to_come j.join) ∙ ap (λ rows. selecting_rows how rows nulls) given.1,
+    )
