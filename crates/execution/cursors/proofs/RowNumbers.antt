@@ -4,22 +4,12 @@ use Rattle.std.proofs.lemmas.Bool.Decides.{nat_tests}
 use Rattle.std.specs.List.{range_with_len}
 use Rattle.std.proofs.lemmas.List.Elements.{filter-append}
 use Rattle.algebra.proofs.Sets.{range_more}
-
-pub range-parts : (a m k : ℕ) → range_with_len a (m + k) ≡ range_with_len a m ++ range_with_len (a + m) k
-range-parts a zero k = ap (range_with_len a) (zero-add k) ∙ ap (λ b. range_with_len b k) (sym (add-zero a))
-range-parts a (suc m) k =
-    let more : suc m + k ≡ suc (m + k) = omega arith in
-    let on : a + 1 + m ≡ a + suc m = omega arith in
-    ap (range_with_len a) more ∙ ap (λ l. a ∷ l) (range-parts (a + 1) m k ∙ ap (λ b. range_with_len (a + 1) m ++ range_with_len b k) on)
+use Rattle.relations.proofs.Numbers.{range_between}
 
 -- those that pass from a row on: those up to another, and those from that on
 pub passing-parts : (p : ℕ → Bool) (start next count : ℕ) → start ≤ next → next ≤ count → filter p (range_with_len start (count - start)) ≡ filter p (range_with_len start (next - start)) ++ filter p (range_with_len next (count - next))
 passing-parts p start next count low within =
-    let parts : count - start ≡ (next - start) + (count - next) = omega (arith, low, within) in
-    let on : start + (next - start) ≡ next = omega (arith, low) in
-    ap (λ n. filter p (range_with_len start n)) parts
-    ∙ ap (filter p) (range-parts start (next - start) (count - next) ∙ ap (λ b. range_with_len start (next - start) ++ range_with_len b (count - next)) on)
-    ∙ filter-append p (range_with_len start (next - start)) (range_with_len next (count - next))
+    ap (filter p) (range_between start next count low within) ∙ filter-append p (range_with_len start (next - start)) (range_with_len next (count - next))
 
 -- none is behind the end
 pub passing-none : (p : ℕ → Bool) (next count : ℕ) → count ≤ next → filter p (range_with_len next (count - next)) ≡ []

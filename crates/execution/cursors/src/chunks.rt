@@ -65,6 +65,19 @@ impl<'p, 't: 'p> ChunkedRows<'p, 't> {
     }
 }
 
+impl<'p, 't: 'p> ChunkedRows<'p, 't> {
+    /// Goes on with other rows, none of which has been handed over.
+    pub fn restart(&mut self, selected: SelectedRows<'p, 't>)
+        ensures selected { self.new.selected ≡ selected.entry }
+        ensures numbers { (e : lent.Env) → numbers_to_come e self.new ≡ selected_numbers e selected.entry }
+    {
+        self.selected = selected;
+        self.next = 0;
+        self.chunk.clear();
+        self.handed = 0;
+    }
+}
+
 /// Looks up the next chunk where the last one has been handed over.
 fn look_up<'p, 't: 'p>(rows: &mut ChunkedRows<'p, 't>, env: &Env<'_, 't>) -> Result<(), AllocError>
     ensures selected { rows.new.selected ≡ rows.old.selected }

@@ -7,21 +7,18 @@ ghost use Rattle.query.specs.Rows.{tables_of};
 ghost use Rattle.algebra.specs.Bags as bags;
 ghost use Rattle.physical.specs.Outputs as outputs;
 ghost use Rattle.operators.specs.Runnable.{IsRunnable};
-ghost use Rattle.relations.specs.Relations.{column_place};
 ghost use Rattle.cursors.specs.Cursors.{IsLong, IsStep, opened};
 ghost use Rattle.cursors.specs.declared.fault.RunFault.TheVariants as fault;
 
-use crate::chunks::{ChunkedRows, next_number};
 use crate::fault::RunFault;
 use crate::lent_row::LentRow;
-use crate::opening::selected_rows;
+use crate::opening::opened_rows;
+use crate::shown::{ShownRows, next_row, shown_rows};
 use operators::Sources;
 use physical::Plan;
 use query::ColumnId;
-use relations::{Env, Heading, Place};
 use std::alloc::{AllocError, Global};
 use std::marker::Model;
-use values::Items;
 
 /// A cursor hands over no more rows.
 const MOST_ROWS: u64 = 4_611_686_018_427_387_904;
@@ -29,10 +26,8 @@ const MOST_ROWS: u64 = 4_611_686_018_427_387_904;
 /// The rows of a plan one after the other, in the columns that were asked. They are lent from the tables.
 #[derive(Drop)]
 pub struct Cursor<'p, 't> {
-    rows: ChunkedRows<'p, 't>,
-    /// The place of each column; none where the rows lack it, and it is Null.
-    places: Items<Option<Place>>,
-    /// The row that is lent, by its number.
+    shown: ShownRows<'p, 't>,
+    /// The row that is lent, by its number among those at hand.
     current: Option<usize>,
     handed: u64,
     fault: Option<RunFault>,
@@ -43,24 +38,10 @@ impl<'p, 't> Model for Cursor<'p, 't> {
 
     ghost Value = { Progress };
 
-    ghost use Rattle.cursors.specs.Progress.{current_row, rows_to_come};
+    ghost use Rattle.cursors.specs.Progress.{current_row};
+    ghost use Rattle.cursors.specs.ShownRows.{shown_to_come};
 
-    ghost view = { λ c. record { current = current_row c.rows c.places c.current; to_come = rows_to_come c.rows c.places; handed = c.handed; fault = c.fault } };
-}
-
-/// The places of columns in rows under a heading; none of those that the rows lack.
-fn places_under(
-    alloc: Global,
-    heading: &Heading,
-    columns: &[ColumnId],
-) -> Result<Items<Option<Place>>, AllocError>
-    ensures { IfOk result (λ places. places ≡ map (column_place heading.now) columns.now) }
-{
-    let mut places = Vec::with_capacity(alloc, columns.len())?;
-    for column in columns {
-        places.push(heading.place_of(*column))?;
-    }
-    Ok(Items::from_vec(places))
+    ghost view = { λ c. record { current = current_row c.shown.rows c.shown.places c.current; to_come = shown_to_come c.shown; handed = c.handed; fault = c.fault } };
 }
 
 impl<'p, 't: 'p> Cursor<'p, 't> {
@@ -76,12 +57,10 @@ impl<'p, 't: 'p> Cursor<'p, 't> {
         requires short { (S : Schema) → AreShortTables (tables_of S sources.tables.now) }
         ensures { (S : Schema) → IfOk result (λ cursor. cursor ≡ opened (map (λ r. map r columns.now) (outputs.output_rows sources.entry.instances.now (tables_of S sources.entry.tables.now) plan.now bags.nulls))) }
     {
-        let selected = selected_rows(alloc, plan, sources, &Env::Empty)?;
-        let places = places_under(alloc, &selected.relation.heading, columns)?;
-        let rows = ChunkedRows::new(alloc, selected)?;
+        let opened = opened_rows(alloc, plan, sources)?;
+        let shown = shown_rows(alloc, opened, columns)?;
         Ok(Cursor {
-            rows,
-            places,
+            shown,
             current: None,
             handed: 0,
             fault: None,
@@ -98,7 +77,7 @@ impl<'p, 't: 'p> Cursor<'p, 't> {
         if let Some(fault) = self.fault {
             return Err(fault);
         }
-        match next_number(&mut self.rows, &Env::Empty) {
+        match next_row(&mut self.shown) {
             Ok(Some(number)) => {
                 if self.handed >= MOST_ROWS {
                     self.fault = Some(RunFault::TooManyRows);
@@ -122,8 +101,8 @@ impl<'p, 't: 'p> Cursor<'p, 't> {
     {
         let number = self.current?;
         Some(LentRow {
-            rows: &self.rows.selected.relation.rows,
-            places: self.places.as_slice(),
+            rows: &self.shown.rows.selected.relation.rows,
+            places: self.shown.places.as_slice(),
             number,
         })
     }

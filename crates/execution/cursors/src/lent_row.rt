@@ -1,11 +1,12 @@
 //! A row that is lent.
 
-ghost use Rattle.std.specs.Prelude.{◌≡◌, length};
+ghost use Rattle.std.specs.Prelude.{◌≡◌, ◌∷◌, [], length};
 ghost use Rattle.values.specs.Cells.{value_of};
 ghost use Rattle.query.specs.Rows.{value_at};
 
 use relations::{Place, Rows};
 use std::marker::Model;
+use store::RowSource;
 use values::Cell;
 
 /// A row of a cursor. It lends its cells from the tables.
@@ -42,5 +43,22 @@ impl<'t> LentRow<'_, 't> {
             Some(None) => Cell::Null,
             None => Cell::Null,
         }
+    }
+}
+
+/// A list of this row alone, for those who read rows.
+impl RowSource for LentRow<'_, '_> {
+    ghost rows = { λ r. r ∷ [] };
+
+    fn len(&self) -> usize {
+        1
+    }
+
+    fn width(&self) -> usize {
+        LentRow::len(self)
+    }
+
+    fn cell(&self, _row: usize, column: usize) -> Cell<'_> {
+        LentRow::cell(self, column)
     }
 }

@@ -1,6 +1,7 @@
 pub mod AskedExistence
 pub mod AskedOutputs
 pub mod AskedPlans
+pub mod ChunkedPlans
 pub mod DecidedRows
 pub mod FilteredJoins
 pub mod FirstSeen

@@ -1,3 +1,4 @@
+pub mod ChunkedPlans
 pub mod Existence
 pub mod FilteredJoins
 pub mod Grouped

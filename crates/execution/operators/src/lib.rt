@@ -2,6 +2,7 @@
 #![tactic(auto)]
 
 mod aggregates;
+mod chunked;
 mod existence;
 mod grouped;
 mod groups;
@@ -17,6 +18,7 @@ mod sorting;
 mod sources;
 mod subqueries;
 
+pub use chunked::chunked_join;
 pub use running::{plan_found, plan_rows, run_plan};
 pub use scans::projected;
 pub use shown::{FoundRows, Row, owned_rows};
