@@ -12,12 +12,12 @@ use Rattle.cursors.specs.Shown.{shown_row}
 abbrev pub shown_to_come : ShownRows → List Row
 shown_to_come s = rows_to_come s.rows s.places ++ shown_chunks s.more s.columns.items
 
--- how many left rows of a join are still to come
+-- how many rows of a join are still to come
 abbrev pub left_behind : Option JoinedChunks → ℕ
 left_behind None = 0
 left_behind (Some j) = left_to_come j.join
 
--- the same rows are to come, and fewer left rows; without a chunk no row is
+-- the same rows are to come, and fewer of a join; without a chunk no row is
 abbrev pub IsRefilled : ShownRows → ShownRows → Bool → Type 0
 IsRefilled old new true = (shown_to_come new ≡ shown_to_come old) × (left_behind new.more < left_behind old.more)
 IsRefilled old new false = (shown_to_come old ≡ []) × (shown_to_come new ≡ [])

@@ -5,7 +5,7 @@ ghost use Rattle.relations.specs.declared.environment.Env as lent;
 ghost use Rattle.cursors.specs.Chunks.{IsNextNumber, numbers_to_come, selected_from};
 ghost use Rattle.cursors.specs.Selected.{selected_numbers};
 
-use crate::selected::{SelectedRows, push_selected};
+use crate::selected::{SelectedRows, fill_selected};
 use relations::Env;
 use std::alloc::{AllocError, Global};
 
@@ -40,7 +40,7 @@ fn filled<'p, 't: 'p>(
     let mut next = start;
     while chunk.is_empty() && next < count {
         let end = next + CHUNK.min(count - next);
-        push_selected(chunk, selected, next, end, env)?;
+        fill_selected(chunk, selected, next, end, env)?;
         next = end;
     }
     Ok(next)

@@ -6,7 +6,7 @@ ghost use Rattle.algebra.specs.Columns.{has};
 ghost use Rattle.relations.specs.Relations.{IsOutput, env_of};
 ghost use Rattle.cursors.specs.Selected.{IsSelection, selected_envs};
 
-use crate::selected::{SelectedRows, all_rows, push_selected};
+use crate::selected::{SelectedRows, all_rows, fill_selected};
 use algebra::Columns;
 use operators::projected as projected_relation;
 use relations::{Env, Heading, Relation};
@@ -22,7 +22,7 @@ fn drained<'p, 't: 'p>(
 {
     let mut numbers = Vec::new(alloc);
     let count = selected.relation.rows.count;
-    push_selected(&mut numbers, &selected, 0, count, env)?;
+    fill_selected(&mut numbers, &selected, 0, count, env)?;
     let SelectedRows { relation, tests: _ } = selected;
     relation.chosen(alloc, numbers.as_slice())
 }

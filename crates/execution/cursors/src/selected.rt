@@ -1,7 +1,7 @@
 //! Rows that are selected from those of a relation. A filter adds tests to them and a projection gives them another heading, so that neither
 //! makes rows.
 
-ghost use Rattle.std.specs.Prelude.{◌≡◌, ◌++◌, ◌-◌, ◌≤◌, filter, IfOk, OnOk};
+ghost use Rattle.std.specs.Prelude.{◌≡◌, ◌-◌, ◌≤◌, filter, IfOk, OnOk};
 ghost use Rattle.std.specs.List.{range_with_len};
 ghost use Rattle.algebra.specs.Conditions as spec;
 ghost use Rattle.physical.specs.Outputs.{no_classes};
@@ -11,7 +11,8 @@ ghost use Rattle.relations.specs.Resolved.{all_pass, inner_row};
 ghost use Rattle.cursors.specs.Selected.{IsSelection, selected_envs};
 
 use algebra::Condition;
-use relations::resolved::{Test, passes_all, resolve};
+use relations::passing::fill_passing;
+use relations::resolved::{Test, resolve};
 use relations::{Env, Relation};
 use std::alloc::{AllocError, Global};
 
@@ -50,8 +51,8 @@ pub fn filtered<'p, 't: 'p>(
     Ok(SelectedRows { relation, tests })
 }
 
-/// Adds the numbers of those from one row of the relation on, below an end.
-pub fn push_selected<'p, 't: 'p>(
+/// The numbers of those from one row of the relation on, below an end; in the place of what was there.
+pub fn fill_selected<'p, 't: 'p>(
     numbers: &mut Vec<usize>,
     selected: &SelectedRows<'p, 't>,
     start: usize,
@@ -59,13 +60,8 @@ pub fn push_selected<'p, 't: 'p>(
     env: &Env<'_, 't>,
 ) -> Result<(), AllocError>
     requires { start ≤ end }
-    ensures { OnOk result (numbers.new.items ≡ numbers.old.items ++ filter (all_pass selected.now.relation (inner_row env.now) selected.now.tests.items) (range_with_len start (end - start))) }
+    ensures { OnOk result (numbers.new.items ≡ filter (all_pass selected.now.relation (inner_row env.now) selected.now.tests.items) (range_with_len start (end - start))) }
 {
     let tests = selected.tests.as_slice();
-    for row in start..end {
-        if passes_all(tests, &selected.relation, row, env) {
-            numbers.push(row)?;
-        }
-    }
-    Ok(())
+    fill_passing(numbers, tests, &selected.relation, env, start, end)
 }

@@ -1,5 +1,5 @@
 -- Lists of values beside relations that come one by one, or change.
-use Rattle.std.proofs.Common.{◌≡◌, ℕ, zero, suc, ◌≤◌, List, [], ◌∷◌, ◌++◌, length, set, Option, Some, None, IfSome, arith}
+use Rattle.std.proofs.Common.{◌≡◌, ℕ, zero, suc, ◌≤◌, List, [], ◌∷◌, ◌++◌, length, set, Option, None, IfSome, arith}
 use Rattle.relations.specs.Relations.{rows_of}
 use Rattle.relations.specs.ValueLists.{AreListed, IsListed}
 use Rattle.relations.specs.declared.relation.Relation.{Relation}

@@ -7,7 +7,7 @@ use Rattle.algebra.specs.declared.condition.Condition.{Condition, roll-Condition
 use Rattle.algebra.specs.declared.condition.Condition.TheVariants.{rolls-Compare, rolls-IsNull, rolls-Not, rolls-And, rolls-Or, rolls-Exists, rolls-In}
 use Rattle.algebra.specs.declared.condition.Condition.TheOpen.{Condition-F}
 use Rattle.algebra.specs.Columns.{has}
-use Rattle.algebra.specs.Conditions.{truth, term_value, is_empty, holds, classes_in}
+use Rattle.algebra.specs.Conditions.{truth, term_value, is_empty, holds}
 use Rattle.algebra.proofs.Lists.{two}
 use Rattle.algebra.proofs.Truths.{truth-Compare, truth-IsNull, truth-Not, truth-And, truth-Or, truth-Exists, truth-In}
 use Rattle.query.specs.declared.query.TableInstance.{TableInstance}

@@ -1,8 +1,6 @@
 -- What the orders of an operator's inputs are worth to it.
-use Rattle.std.proofs.Common.{◌≡◌, refl, ap, sym, ◌∙◌, subst, ℕ, zero, suc, true, false, List, [], ◌∷◌, map, arith}
-use Rattle.std.specs.declared.cmp.Ordering.{Ordering}
-use Rattle.std.specs.declared.cmp.Ordering.TheVariants.{Less, Equal, Greater}
-use Rattle.std.specs.Ordering.{is_gt, ordering_then}
+use Rattle.std.proofs.Common.{◌≡◌, ap, sym, ◌∙◌, subst, ℕ, zero, suc, true, false, List, [], ◌∷◌, map, arith}
+use Rattle.std.specs.declared.cmp.Ordering.TheVariants.{Equal}
 use Rattle.std.proofs.lemmas.Bool.{and_parts}
 use Rattle.values.specs.Order.{order}
 use Rattle.query.specs.declared.query.TableInstance.{TableInstance}
@@ -28,7 +26,7 @@ use Rattle.relations.specs.declared.relation.Relation.{Relation}
 use Rattle.relations.specs.Relations.{IsInputOutput, numbered_env, rows_of}
 use Rattle.index_access.proofs.CutOrders.{not_gt-first}
 use Rattle.joins.specs.Merges.{AreMergeable, RiseBy}
-use Rattle.operators.specs.Groups.{AreTogether}
+use Rattle.grouping.specs.Groups.{AreTogether}
 use Rattle.operators.specs.Runnable.{AreRunnable, IsOperable}
 use Rattle.operators.specs.RightSides.{IsRightSide}
 use Rattle.operators.proofs.PlanOutputs.{output-first}

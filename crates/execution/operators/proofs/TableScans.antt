@@ -1,16 +1,13 @@
 -- The rows of a table under a table instance's heading, one by one, and the indexes that sort them.
-use Rattle.std.proofs.Common.{◌≡◌, ap, sym, subst, ℕ, true, List, [], ◌∷◌, length, map, get_or, slice_get, Option, Some, None}
+use Rattle.std.proofs.Common.{◌≡◌, sym, subst, ℕ, true, List, [], get_or, slice_get, Option, Some, None}
 use Rattle.std.specs.List.{range_with_len}
 use Rattle.schema.specs.Databases.{Row}
 use Rattle.query.specs.declared.query.TableInstance.{TableInstance}
-use Rattle.algebra.specs.Bags.{Env, nulls}
+use Rattle.algebra.specs.Bags.{Env}
 use Rattle.algebra.specs.Columns.{is_subset}
-use Rattle.algebra.specs.Expressions.{get_columns, instance_columns, instance_row}
+use Rattle.algebra.specs.Expressions.{get_columns}
 use Rattle.physical.specs.declared.plan.IndexAccess.{IndexAccess}
 use Rattle.physical.specs.Indexes.{columns_of_index, index_columns}
-use Rattle.relations.specs.declared.headings.Heading.{Heading}
-use Rattle.relations.specs.Places.{first_at}
-use Rattle.relations.specs.Relations.{row_env}
 use Rattle.index_access.specs.Cuts.{AreByIndex}
 use Rattle.index_access.proofs.TableIndexes.{index_sorts}
 use Rattle.operators.specs.Sources.{AreTableRows, IsAccessed, IsIndexOf, table_rows}

@@ -24,8 +24,8 @@ use Rattle.physical.proofs.Sorting.{Ascends}
 use Rattle.relations.specs.declared.relation.Relation.{Relation}
 use Rattle.relations.specs.Parts.{row_at}
 use Rattle.relations.specs.Relations.{column_places, numbered_env, rows_of}
-use Rattle.operators.specs.Groups.{AreTogether, key_at, same_at}
-use Rattle.operators.proofs.GroupEnvs.{same-key}
+use Rattle.grouping.specs.Groups.{AreTogether, key_at, same_at}
+use Rattle.grouping.proofs.GroupEnvs.{same-key}
 
 -- ---- between two rows that are the same
 

@@ -1,8 +1,6 @@
 pub mod ChunkedPlans
 pub mod Existence
 pub mod FilteredJoins
-pub mod Grouped
-pub mod Groups
 pub mod RightSides
 pub mod RowReadings
 pub mod Runnable

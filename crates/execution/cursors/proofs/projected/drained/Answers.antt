@@ -1,4 +1,4 @@
-use Rattle.std.proofs.Common.{◌≡◌, ap, ◌∙◌, ℕ, ◌-◌, List, ◌++◌, filter, map, arith}
+use Rattle.std.proofs.Common.{◌≡◌, ap, ◌∙◌, ℕ, ◌-◌, filter, map, arith}
 use Rattle.std.specs.List.{range_with_len}
 use Rattle.relations.specs.Relations.{env_of, numbered_env}
 use Rattle.relations.specs.Resolved.{all_pass, inner_row}
@@ -12,4 +12,4 @@ returns c =
     let e = env_of c.args.env.now in
     let all : r.rows.count - 0 ≡ r.rows.count = omega arith in
     reported c.chosen.result _ _ _ e c.chosen.ensures.columns (c.chosen.ensures.rows e)
-    (ap (map (numbered_env r e)) (c.as_slice.ensures.value ∙ c.in_ok-push_selected.ensures ∙ ap (λ (l : List ℕ). l ++ filter p (range_with_len 0 (r.rows.count - 0))) c.new-numbers.ensures.items ∙ ap (λ n. filter p (range_with_len 0 n)) all))
+    (ap (map (numbered_env r e)) (c.as_slice.ensures.value ∙ c.in_ok-fill_selected.ensures ∙ ap (λ n. filter p (range_with_len 0 n)) all))

@@ -1,8 +1,8 @@
-use Rattle.std.proofs.Common.{◌≡◌, ap, sym, subst, ◌∙◌, ◌+◌, ◌∷◌, [], length, length-append, take, List, Option, IfSome, arith}
+use Rattle.std.proofs.Common.{◌≡◌, ap, sym, subst, ◌∙◌, ◌+◌, ◌∷◌, [], length, length-append, take, Option, IfSome, arith}
 use Rattle.std.proofs.lemmas.List.{length-take}
 use Rattle.values.proofs.Lists.{take_next}
 use Rattle.relations.specs.Relations.{rows_of}
-use Rattle.relations.specs.ValueLists.{AreListed, IsListed}
+use Rattle.relations.specs.ValueLists.{IsListed}
 use Rattle.relations.specs.declared.relation.Relation.{Relation}
 use Rattle.relations.specs.declared.value_lists.ValueList.{ValueList}
 use Rattle.operators.proofs.ListedRelations.{listed-more}

@@ -1,0 +1,10 @@
+pub mod AllRows
+pub mod Chunks
+pub mod FirstSeen
+pub mod GroupEnvs
+pub mod KeyPlaces
+pub mod NumberedGroups
+pub mod Readable
+pub mod RunningGroups
+pub mod RunPlaces
+pub mod Zips

@@ -1,0 +1,4 @@
+pub mod Grouped
+pub mod Groups
+pub mod GroupTables
+pub mod Totals

@@ -1,7 +1,0 @@
--- The groups that an executor made.
-use Rattle.std.specs.Prelude.{ℕ, List}
-use Rattle.operators.specs.declared.grouped.Groups.{Groups}
-use Rattle.operators.specs.Groups.{GroupOf, placed_groups}
-
-abbrev pub groups_in : Groups → List (GroupOf ℕ)
-groups_in g = placed_groups g.places.items g.input.now
