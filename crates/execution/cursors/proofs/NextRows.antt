@@ -1,11 +1,9 @@
 -- The next row of a cursor, chunk by chunk.
-use Rattle.std.proofs.Common.{◌≡◌, refl, ap, sym, ◌∙◌, ℕ, Bool, true, false, List, [], ◌∷◌, ◌++◌, map, Option, Some, None}
+use Rattle.std.proofs.Common.{◌≡◌, ap, sym, ◌∙◌, ℕ, true, List, [], ◌∷◌, ◌++◌, map, Option, Some, None}
 use Rattle.std.specs.Option.{is_some}
 use Rattle.schema.specs.Databases.{Row}
 use Rattle.relations.specs.declared.environment.Env.{Empty}
-use Rattle.relations.specs.declared.headings.Place.{Place}
 use Rattle.cursors.specs.declared.chunks.ChunkedRows.{ChunkedRows}
-use Rattle.cursors.specs.declared.joined.JoinedChunks.{JoinedChunks}
 use Rattle.cursors.specs.declared.selected.SelectedRows.{SelectedRows}
 use Rattle.cursors.specs.declared.shown.ShownRows.{ShownRows}
 use Rattle.cursors.specs.Chunks.{IsNextNumber, numbers_to_come}

@@ -1,7 +1,6 @@
 -- The next chunk, taken up where the rows at hand have been handed over.
-use Rattle.std.proofs.Common.{◌≡◌, refl, ap, sym, ◌∙◌, subst, ◌<◌, ℕ, List, [], ◌++◌, map, Option, Some}
+use Rattle.std.proofs.Common.{◌≡◌, ap, sym, ◌∙◌, ℕ, List, [], ◌++◌, map, Option, Some}
 use Rattle.std.proofs.lemmas.List.{map-append}
-use Rattle.schema.specs.Databases.{Row}
 use Rattle.relations.specs.declared.environment.Env.{Empty}
 use Rattle.relations.specs.declared.headings.Place.{Place}
 use Rattle.relations.specs.Relations.{column_place}
@@ -9,7 +8,7 @@ use Rattle.cursors.specs.declared.chunks.ChunkedRows.{ChunkedRows}
 use Rattle.cursors.specs.declared.joined.JoinedChunks.{JoinedChunks}
 use Rattle.cursors.specs.declared.selected.SelectedRows.{SelectedRows}
 use Rattle.cursors.specs.Chunks.{numbers_to_come}
-use Rattle.cursors.specs.Joined.{IsNextSelected, chunks_to_come, shown_chunks}
+use Rattle.cursors.specs.Joined.{chunks_to_come, shown_chunks}
 use Rattle.cursors.specs.Progress.{rows_to_come}
 use Rattle.cursors.specs.Selected.{selected_envs, selected_numbers}
 use Rattle.cursors.specs.Shown.{shown_row}

@@ -1,13 +1,10 @@
-use Rattle.std.proofs.Common.{◌≡◌, ap, sym, subst, ◌∙◌, List, ◌∷◌, []}
+use Rattle.std.proofs.Common.{ap, subst, ◌∙◌, List}
 use Rattle.algebra.specs.Bags.{nulls}
 use Rattle.joins.specs.ChunkedJoins.{joined_columns, joined_to_come}
-use Rattle.relations.specs.declared.environment.Env.{Empty}
-use Rattle.cursors.specs.declared.opening.OpenedRows.{OpenedRows}
 use Rattle.cursors.specs.declared.opening.Selecting.{Selecting}
 use Rattle.cursors.specs.Opened.{IsOpened}
 use Rattle.cursors.specs.Selecting.{columns_above, rows_above, selecting_columns, selecting_rows}
 use Rattle.cursors.proofs.RowsAbove.{columns-more, rows-more}
-use Rattle.cursors.proofs.Selections.{reselected}
 use Rattle.cursors.proofs.opening.selected_above.Goals as goal
 
 pub returns-in_ok-selected-in-Selected : goal.returns-in_ok-selected-in-Selected

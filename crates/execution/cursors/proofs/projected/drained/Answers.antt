@@ -1,4 +1,4 @@
-use Rattle.std.proofs.Common.{◌≡◌, ap, ◌∙◌, ℕ, ◌-◌, filter, map, arith}
+use Rattle.std.proofs.Common.{◌≡◌, ap, ◌∙◌, ◌-◌, filter, map, arith}
 use Rattle.std.specs.List.{range_with_len}
 use Rattle.relations.specs.Relations.{env_of, numbered_env}
 use Rattle.relations.specs.Resolved.{all_pass, inner_row}

@@ -1,4 +1,4 @@
-use Rattle.std.proofs.Common.{ap, sym, ◌∙◌, ℕ, List, ◌++◌, map}
+use Rattle.std.proofs.Common.{ap, ◌∙◌, ℕ, List, ◌++◌}
 use Rattle.relations.specs.declared.environment.Env.{Empty}
 use Rattle.cursors.specs.Joined.{shown_chunks}
 use Rattle.cursors.specs.Progress.{rows_to_come}

@@ -1,0 +1,5 @@
+//! Tests of cursors over plans.
+#![tactic(auto)]
+
+#[cfg(test)]
+mod playing;
