@@ -14,7 +14,7 @@ loop-start-preserved c =
       within = omega (arith, c.min.ensures);
       kept =
           c.in_ok-append.ensures.items
-          ∙ ap (λ (l : List ℕ). l ++ c.fill_passing.new.rows.items) c.loop-start.invariant.kept
-          ∙ ap (λ (l : List ℕ). filter passes (range_with_len 0 start) ++ l) (c.in_ok-fill_passing.ensures ∙ ap (λ n. filter passes (range_with_len start n)) length)
+          ∙ ap (λ (l : List ℕ). l ++ c.fill_by_columns.new.rows.items) c.loop-start.invariant.kept
+          ∙ ap (λ (l : List ℕ). filter passes (range_with_len 0 start) ++ l) (c.in_ok-fill_by_columns.ensures ∙ ap (λ n. filter passes (range_with_len start n)) length)
           ∙ filter_split passes start more;
     }

@@ -1,12 +1,12 @@
 use Rattle.std.proofs.Common.{◌≡◌, ap, sym, ◌∙◌, ◌-◌, ℕ, List, [], ◌++◌, flat_map, length, map, arith}
 use Rattle.std.specs.List.{range_with_len}
-use Rattle.std.proofs.lemmas.List.{nil_from_length}
+use Rattle.std.proofs.lemmas.List.{length-append, nil_from_length}
 use Rattle.algebra.specs.declared.condition.Condition.{Condition}
 use Rattle.algebra.specs.Bags.{nulls}
 use Rattle.relations.specs.Relations.{numbered_env}
 use Rattle.joins.specs.ChunkedJoins.{pairs_from}
-use Rattle.joins.specs.Joins.{partners_of}
-use Rattle.joins.proofs.ChunkedPairs.{none-left, pairs-between, pairs-ended, pairs-moved, pairs-none, some-left}
+use Rattle.joins.specs.Joins.{pair_env, pair_envs, partners_of}
+use Rattle.joins.proofs.ChunkedPairs.{none-left, pairs-between, pairs-ended, pairs-none, some-left, two-some}
 use Rattle.joins.proofs.JoinRows.{loops-length}
 use Rattle.joins.proofs.chunked.ChunkedJoin.next_chunk.Goals as goal
 
@@ -35,14 +35,17 @@ returns-clause-chunk c =
     let lefts = so.left ∙ ap (λ D. flat_map (λ i. map (λ k. i) (M D i)) come) c.as_slice.ensures.value in
     let rights = so.right ∙ ap (λ D. flat_map (M D) come) c.as_slice.ensures.value in
     let some : made.pairs.right.items ≡ [] → ⊥ = λ none. let more = some-left _ _ c.if-is_empty.false c.is_empty.ensures in absurd (omega (arith, more, made.pairs.right.ok, ap length none)) in
-    let moved = pairs-moved j.unmatched C j.left j.right nulls j.next made.next made.pairs.right.items so.bounds.0 rights some in
+    let even : length made.pairs.left.items ≡ length made.pairs.right.items = ap length lefts ∙ loops-length (M C) come ∙ sym (ap length rights) in
+    let parts = pairs-between j.unmatched C j.left j.right nulls j.next made.next made.pairs.left.items made.pairs.right.items so.bounds.0 so.bounds.1 lefts rights in
+    let made-pairs = pair_envs j.left j.right nulls made.pairs.left.items made.pairs.right.items in
+    let behind = pairs_from j.unmatched C j.left j.right nulls made.next in
     let output = c.in_ok-chunk.ensures nulls in
     record {
       columns_are = output.columns_are;
-      rows_are =
-          pairs-between j.unmatched C j.left j.right nulls j.next made.next made.pairs.left.items made.pairs.right.items so.bounds.0 so.bounds.1 lefts rights
-          ∙ ap (λ l. l ++ pairs_from j.unmatched C j.left j.right nulls made.next) (sym output.rows_are);
-      fewer = omega (arith, moved, so.bounds.1);
+      rows_are = parts ∙ ap (λ l. l ++ behind) (sym output.rows_are);
+      fewer =
+          let some-made = two-some (pair_env j.left j.right nulls) made.pairs.left.items made.pairs.right.items even some in
+          omega (arith, some-made, ap length parts, length-append made-pairs behind);
     }
 
 pub paired-requires : goal.paired-requires
