@@ -23,7 +23,7 @@ use Rattle.pipeline.specs.declared.refusal.Refusal.{Refusal}
 use Rattle.pipeline.specs.declared.refusal.Refusal.TheVariants as refusal
 use Rattle.pipeline.specs.Refusals.{of_certificate, of_check}
 use Rattle.pipeline.specs.Certified.{IsCertificate, Accepts, ByFiles, IsLongByFiles, WithCertified, HasTooManyRowsBy, IsCheckFault, IsNotAnswered, IsNotAccepted, IsNotRun}
-use Rattle.pipeline.specs.EndToEnd.{Input, Asks, IsQuery, IsNoQuery, IsLoadFault, IsFromFiles, ByCertificate, IsLongAnswer, IsWriteFault, IsDeviceFault, AreQuiet}
+use Rattle.pipeline.specs.EndToEnd.{Input, Asks, IsNoQuery, IsLoadFault, IsFromFiles, ByCertificate, IsLongAnswer, IsWriteFault, IsDeviceFault}
 
 -- ---- refusals
 

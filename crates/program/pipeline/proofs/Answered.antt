@@ -22,7 +22,7 @@ use Rattle.pipeline.specs.Execution.{accepted_rows, accepted_text}
 use Rattle.pipeline.specs.declared.refusal.Refusal.{Refusal}
 use Rattle.pipeline.specs.declared.refusal.Refusal.TheVariants as refusal
 use Rattle.pipeline.specs.Refusals.{of_check, of_answer, of_write}
-use Rattle.pipeline.specs.EndToEnd.{Input, IsPrepared, IsUnprepared, IsFromFiles, Asks, IsQuery, ByCertificate, ByPlan, ByMeaning, IsLongAnswer, HasLongAnswer, IsAnswerFault, IsWriteFault, WithAnswer, WithPlanned, HasTooManyRows, IsRefusedBy, IsNotQueried, IsBefore, IsDeviceFault, AreQuiet}
+use Rattle.pipeline.specs.EndToEnd.{Input, IsPrepared, IsUnprepared, ByCertificate, ByPlan, ByMeaning, IsLongAnswer, HasLongAnswer, IsAnswerFault, IsWriteFault, WithAnswer, WithPlanned, HasTooManyRows, IsRefusedBy, IsNotQueried, IsBefore, IsDeviceFault, AreQuiet}
 
 -- ---- what holds of the fault that a call ends with
 

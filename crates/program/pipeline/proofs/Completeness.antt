@@ -1,5 +1,5 @@
 -- What is asked is asked in one way, so a certificate that can be read and replays for it is accepted.
-use Rattle.std.proofs.Common.{◌≡◌, refl, ap, sym, ◌∙◌, subst, ℕ, Bool, List, Result, Ok, Err}
+use Rattle.std.proofs.Common.{◌≡◌, refl, ap, sym, ◌∙◌, ℕ, List, Ok}
 use Rattle.values.specs.declared.fault.Fault.{Fault}
 use Rattle.values.specs.declared.fault.Fault.TheVariants as fault
 use Rattle.values.specs.Faults.{Fails}
@@ -10,12 +10,12 @@ use Rattle.sql_parse.proofs.OneReadings.{one_tree_of_text, tree_or_fault}
 use Rattle.query.specs.declared.query.Query.{Query}
 use Rattle.binder.specs.Queries.{bound_statement}
 use Rattle.certificate.specs.declared.certificate.Certificate.{Certificate}
-use Rattle.certificate.specs.Replay.{replayed, IsChecked}
+use Rattle.certificate.specs.Replay.{replayed}
 use Rattle.certificate_text.proofs.Exits.{not_both, same_ok}
 use Rattle.pipeline.specs.declared.refusal.Refusal.{Refusal}
 use Rattle.pipeline.specs.declared.refusal.Refusal.TheVariants as refusal
 use Rattle.pipeline.specs.Certified.{IsCheckFault}
-use Rattle.pipeline.specs.EndToEnd.{Asks, IsQuery, IsNoQuery}
+use Rattle.pipeline.specs.EndToEnd.{IsQuery, IsNoQuery}
 use Rattle.pipeline.specs.Refusals.{of_schema}
 
 pub schema_read : (schema : List ℕ) (S : Schema) (f : Fault SchemaRefusal) → schema_of schema ≡ Ok S → Fails f (schema_of schema) → of_schema f ≡ refusal.Memory

@@ -1,5 +1,5 @@
 -- Plans that are written with their labels, and explained with them, from bytes.
-use Rattle.std.proofs.Common.{◌≡◌, sym, ◌∙◌, ℕ, List, reverse, Ok, Err, inl, inr}
+use Rattle.std.proofs.Common.{◌≡◌, ℕ, List, Ok, inl, inr}
 use Rattle.values.specs.declared.fault.Fault.{Fault}
 use Rattle.values.specs.declared.fault.Fault.TheVariants as fault
 use Rattle.values.specs.Faults.{Fails}
@@ -21,7 +21,7 @@ use Rattle.pipeline.specs.EndToEnd.{Asks, IsNoQuery}
 use Rattle.pipeline.specs.Least.{AreLabelledTexts, ArePlannedTexts, IsCounted, IsNotLabelled, IsUnlabelled, ShowLeast}
 use Rattle.pipeline.specs.Refusals.{of_certificate, of_statistics}
 use Rattle.pipeline.proofs.Acceptance.{accepted}
-use Rattle.pipeline.proofs.ShownLeast.{accepted_least, counted}
+use Rattle.pipeline.proofs.ShownLeast.{accepted_least}
 
 -- ---- refusals
 

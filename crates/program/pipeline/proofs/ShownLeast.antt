@@ -1,5 +1,5 @@
 -- Plans that labels show to be the cheapest, from bytes.
-use Rattle.std.proofs.Common.{◌≡◌, refl, sym, ap, ◌∙◌, subst, ℕ, List, reverse, Ok, Err}
+use Rattle.std.proofs.Common.{◌≡◌, refl, ap, subst, ℕ, List, reverse, Ok}
 use Rattle.std.specs.List.{AllByRecursion}
 use Rattle.std.proofs.lemmas.Bool.{false≢true}
 use Rattle.values.specs.declared.fault.Fault.{Fault}

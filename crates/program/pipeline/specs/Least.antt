@@ -9,7 +9,6 @@ use Rattle.sql_parse.specs.Statements.{IsStatementFault}
 use Rattle.query.specs.declared.query.Query.{Query}
 use Rattle.physical.specs.declared.plan.Plan.{Plan}
 use Rattle.certificate.specs.declared.certificate.Certificate.{Certificate}
-use Rattle.certificate.specs.declared.certificate.CheckRefusal.{CheckRefusal}
 use Rattle.certificate.specs.QueryOrders.{query_order}
 use Rattle.certificate.specs.Replay.{replayed, root, IsChecked}
 use Rattle.certificate_text.specs.declared.fault.TextRefusal.{TextRefusal}

@@ -2,7 +2,7 @@ use Rattle.std.proofs.Common.{◌∙◌, ap, subst, Err}
 use Rattle.std.proofs.lemmas.Result.{err_from_is_err_and, on_ok_weaker, IfErr-weaker}
 use Rattle.pipeline.proofs.Answered.{of_fault}
 use Rattle.pipeline.proofs.Prepared.{asks_prepared, query_bound}
-use Rattle.pipeline.proofs.Acceptance.{no_query_accepted, text_not_accepted, check_not_accepted, accepted}
+use Rattle.pipeline.proofs.Acceptance.{text_not_accepted, check_not_accepted, accepted}
 use Rattle.pipeline.specs.Refusals.{of_certificate, of_schema}
 use Rattle.pipeline.specs.EndToEnd.{IsQuery}
 use Rattle.pipeline.proofs.Completeness.{check_passes, one_query, one_schema, query_read, schema_read}

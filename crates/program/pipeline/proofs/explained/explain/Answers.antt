@@ -4,7 +4,7 @@ use Rattle.pipeline.specs.Explained.{IsNotExplained}
 use Rattle.pipeline.specs.Refusals.{of_statistics}
 use Rattle.pipeline.proofs.Answered.{of_fault}
 use Rattle.pipeline.proofs.Prepared.{asks_prepared, query_bound}
-use Rattle.pipeline.proofs.Explaining.{no_query_explained, not_counted, is_explained}
+use Rattle.pipeline.proofs.Explaining.{not_counted, is_explained}
 use Rattle.pipeline.proofs.explained.explain.Goals as goal
 
 pub returns-in_err-statistics-clause-refused : goal.returns-in_err-statistics-clause-refused

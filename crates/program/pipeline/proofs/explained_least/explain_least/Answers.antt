@@ -4,7 +4,7 @@ use Rattle.pipeline.specs.Explained.{IsNotExplained}
 use Rattle.pipeline.specs.Refusals.{of_statistics}
 use Rattle.pipeline.proofs.Answered.{of_fault}
 use Rattle.pipeline.proofs.Prepared.{asks_prepared, query_bound}
-use Rattle.pipeline.proofs.Explaining.{no_query_explained, not_counted}
+use Rattle.pipeline.proofs.Explaining.{not_counted}
 use Rattle.pipeline.proofs.ShownLeast.{counted}
 use Rattle.pipeline.proofs.explained_least.explain_least.Goals as goal
 

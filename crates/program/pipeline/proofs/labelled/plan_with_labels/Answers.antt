@@ -2,7 +2,7 @@ use Rattle.std.proofs.Common.{◌∙◌, ap, Err}
 use Rattle.std.proofs.lemmas.Result.{err_from_is_err_and, IfErr-weaker, IfOk-weaker}
 use Rattle.pipeline.specs.Refusals.{of_statistics}
 use Rattle.pipeline.proofs.Answered.{of_fault}
-use Rattle.pipeline.proofs.LabelledPlans.{labelled_texts, no_query_labelled, not_counted_labelled, unlabelled}
+use Rattle.pipeline.proofs.LabelledPlans.{labelled_texts, not_counted_labelled, unlabelled}
 use Rattle.pipeline.proofs.Prepared.{asks_prepared, query_bound}
 use Rattle.pipeline.proofs.ShownLeast.{counted}
 use Rattle.pipeline.proofs.labelled.plan_with_labels.Goals as goal

@@ -7,7 +7,7 @@ use Rattle.pipeline.specs.Refusals.{of_certificate, of_schema, of_statistics}
 use Rattle.pipeline.proofs.Answered.{of_fault}
 use Rattle.pipeline.proofs.Completeness.{one_query, one_schema, query_read, schema_read}
 use Rattle.pipeline.proofs.Prepared.{asks_prepared, query_bound}
-use Rattle.pipeline.proofs.ShownLeast.{accepted_least, counted, no_query_least, not_counted_least, one_counts, refused_least, same_passes, statistics_read, text_not_least}
+use Rattle.pipeline.proofs.ShownLeast.{accepted_least, counted, not_counted_least, one_counts, refused_least, same_passes, statistics_read, text_not_least}
 use Rattle.pipeline.proofs.least.check_least.Goals as goal
 
 pub returns-in_err-statistics-clause-refused : goal.returns-in_err-statistics-clause-refused

@@ -3,7 +3,7 @@ use Rattle.std.proofs.lemmas.Result.{err_from_is_err_and, IfErr-weaker, IfOk-wea
 use Rattle.pipeline.specs.Refusals.{of_statistics}
 use Rattle.pipeline.proofs.Answered.{of_fault}
 use Rattle.pipeline.proofs.Prepared.{asks_prepared, query_bound}
-use Rattle.pipeline.proofs.Planning.{no_query_planned, no_statistics, unwritten_planned, planned_accepts}
+use Rattle.pipeline.proofs.Planning.{no_statistics, unwritten_planned, planned_accepts}
 use Rattle.pipeline.proofs.planned.plan.Goals as goal
 
 pub returns-in_err-statistics-clause-refused : goal.returns-in_err-statistics-clause-refused
