@@ -114,7 +114,8 @@ SELECT x.a FROM t x WHERE NOT EXISTS (SELECT * FROM t y WHERE y.b = x.b AND y.a 
 SELECT x.a FROM t x WHERE x.b > 10 AND EXISTS (SELECT * FROM t y WHERE y.b < x.b) => iscan 0: 0 0 0 | iscan 2: 1 1 0 | cut 3: 2 3 | subqueries 4 1 | cut 5: 0 => ;1,;5,";
 
 /// Groups of the rows of joins; some have 3,125, which come in chunks of at most 1,024.
-const GROUPS: &str = "SELECT COUNT(*), COUNT(e.b), SUM(e.a), MIN(a.a), MAX(e.b) FROM t a, t b, t c, t d, t e => scan 0 0 | scan 1 1 | loop 2 | scan 3 2 | loop 4 | scan 5 3 | loop 6 | scan 7 4 | loop 8 | group 9 | cut 10: 10 11 12 13 14 => ;3125,1875,9375,1,20,
+const GROUPS: &str =
+    "SELECT COUNT(*), COUNT(e.b), SUM(e.a), MIN(a.a), MAX(e.b) FROM t a, t b, t c, t d, t e => scan 0 0 | scan 1 1 | loop 2 | scan 3 2 | loop 4 | scan 5 3 | loop 6 | scan 7 4 | loop 8 | group 9 | cut 10: 10 11 12 13 14 => ;3125,1875,9375,1,20,
 SELECT e.b, COUNT(*), SUM(e.a), MAX(a.a) FROM t a, t b, t c, t d, t e GROUP BY e.b => scan 0 0 | scan 1 1 | loop 2 | scan 3 2 | loop 4 | scan 5 3 | loop 6 | scan 7 4 | loop 8 | group 9 | cut 10: 9 10 11 12 => ;20,1250,3750,5,;-,1250,3750,5,;10,625,1875,5,
 SELECT COUNT(*), MAX(d) FROM t JOIN u ON a = c => scan 0 0 | scan 1 1 | hash 2 | group 3 | cut 4: 4 5 => ;3,y,
 SELECT a, COUNT(d) FROM t LEFT JOIN u ON a = c GROUP BY a => scan 0 0 | scan 1 1 | left 2 | group 3 | cut 4: 0 4 => ;1,0,;2,0,;3,2,;4,0,;5,0,
