@@ -205,6 +205,14 @@ SELECT d.id FROM dept d WHERE EXISTS (SELECT e.id FROM emp e) => scan 0 0 | subq
 const METHODS: &str =
     "SELECT a, c, d FROM t JOIN u ON a = c => scan 0 0 | scan 1 1 | hash 2 | cut 3: 0 2 3 => accepted ;1,1,-,;3,3,x,;3,3,y,
 SELECT a, c, d FROM t LEFT JOIN u ON a = c AND c > 1 => scan 0 0 | scan 1 1 | hash 2 | cut 3: 0 2 3 => accepted ;1,-,-,;2,-,-,;3,3,x,;3,3,y,;4,-,-,;5,-,-,
+SELECT COUNT(*), COUNT(e.b), SUM(e.a), MIN(a.a), MAX(e.b) FROM t a, t b, t c, t d, t e => scan 0 0 | scan 1 1 | loop 2 | scan 3 2 | loop 4 | scan 5 3 | loop 6 | scan 7 4 | loop 8 | group 9 | cut 10: 10 11 12 13 14 => accepted ;3125,1875,9375,1,20,
+SELECT e.b, COUNT(*), SUM(e.a), MAX(a.a) FROM t a, t b, t c, t d, t e GROUP BY e.b => scan 0 0 | scan 1 1 | loop 2 | scan 3 2 | loop 4 | scan 5 3 | loop 6 | scan 7 4 | loop 8 | group 9 | cut 10: 9 10 11 12 => accepted ;20,1250,3750,5,;-,1250,3750,5,;10,625,1875,5,
+SELECT COUNT(*), MAX(d) FROM t JOIN u ON a = c => scan 0 0 | scan 1 1 | hash 2 | group 3 | cut 4: 4 5 => accepted ;3,y,
+SELECT a, COUNT(d) FROM t LEFT JOIN u ON a = c GROUP BY a => scan 0 0 | scan 1 1 | left 2 | group 3 | cut 4: 0 4 => accepted ;1,0,;2,0,;3,2,;4,0,;5,0,
+SELECT COUNT(*) FROM t, u WHERE a < c => scan 0 0 | scan 1 1 | loop 2 | filter 3 | group 4 | cut 5: 4 => accepted ;4,
+SELECT COUNT(*), SUM(a) FROM t, u WHERE a < 0 => scan 0 0 | scan 1 1 | loop 2 | filter 3 | group 4 | cut 5: 4 5 => accepted ;0,-,
+SELECT a, COUNT(*) FROM t, u WHERE a < 0 GROUP BY a => scan 0 0 | scan 1 1 | loop 2 | filter 3 | group 4 | cut 5: 0 4 => accepted
+SELECT x.a FROM t x WHERE x.a IN (SELECT COUNT(*) FROM t y, u WHERE y.a = x.a AND u.c = 3) => scan 0 0 | scan 1 1 | scan 2 2 | loop 3 | filter 4 | group 5 | cut 6: 6 | subqueries 7 1 | cut 8: 0 => accepted ;2,
 SELECT a, c FROM t JOIN u ON a < c => scan 0 0 | scan 1 1 | hash 2 | cut 3: 0 2 => K06 line 5
 SELECT x.a, y.a FROM t x JOIN t y ON x.b = y.b => scan 0 0 | scan 1 1 | hash 2 | cut 3: 0 2 => accepted ;1,1,;1,5,;3,3,;5,1,;5,5,
 SELECT x.a, y.a FROM t x LEFT JOIN t y ON x.b = y.b => scan 0 0 | scan 1 1 | hash 2 | cut 3: 0 2 => accepted ;1,1,;1,5,;2,-,;3,3,;4,-,;5,1,;5,5,

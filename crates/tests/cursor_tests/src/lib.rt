@@ -1,5 +1,0 @@
-//! Tests of cursors over plans.
-#![tactic(auto)]
-
-#[cfg(test)]
-mod playing;
