@@ -1,6 +1,8 @@
 pub mod ColumnRows
+pub mod CutRecords
 pub mod Decimals
 pub mod Fields
+pub mod FrontRecords
 pub mod IndexLists
 pub mod Keys
 pub mod Loads

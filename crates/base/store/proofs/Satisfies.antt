@@ -40,6 +40,12 @@ read_fault old new n t records faults.Memory h = tt
 read_fault old new n t records faults.Device h = tt
 read_fault old new n t records (faults.Refused refusal) h = h
 
+-- records that are read touch no device
+pub no_device : (t : Table) (records : List Record) (e : TableFault) (P : Type 0) → ReadsTable t records (Err e) → e ≡ faults.Device → P
+no_device t records faults.Memory P h is = cc is
+no_device t records faults.Device P h is = absurd h
+no_device t records (faults.Refused refusal) P h is = cc is
+
 pub loads_fault : (known : Option (List ℕ)) (bytes : List ℕ) (read : List ℕ → List Record) (old new : Stored) (n : ℕ) (t : Table) (e : TableFault) (r : Result (Unit {0}) TableFault) → r ≡ Err e
     → IfSome known (λ xs. bytes ≡ xs) → slice_get old.schema.tables n ≡ Some t → ReadsTable t (read bytes) (Err e) → IfSome known (λ xs. Loads old new n (read xs) r)
 loads_fault None bytes read old new n t e r is same at h = tt

@@ -42,9 +42,9 @@ between_step st.InComment c = between_cond (c == 10) _ _ (λ h. cc h) (λ h. cc 
 between_step st.AfterCr c = between_cond (c == 10) _ _ (λ h. cc h) (between_record c)
 
 -- a record leaves fewer bytes, and the reader between two
-record Leaves (size : ℕ) (p : Read) : Type 0 where
-  between : ends_at_end p.1 ≡ false
-  fewer : length p.2 ≤ size
+pub record Leaves (size : ℕ) (p : Read) : Type 0 where
+  pub between : ends_at_end p.1 ≡ false
+  pub fewer : length p.2 ≤ size
 
 leaves_cond : (b : Bool) (x : Read) (y : Option Read) (n : ℕ) (p : Read) → cond b (Some x) y ≡ Some p → (b ≡ true → Leaves n x) → (y ≡ Some p → Leaves n p) → Leaves n p
 leaves_cond true x y n p e h k = let same : x ≡ p = cc e in subst (λ t. Leaves n t) same (h refl)
@@ -54,7 +54,7 @@ leaves_end : (b : Bool) (x p : Read) → cond b (Some x) None ≡ Some p → end
 leaves_end true x p e h k = let same : x ≡ p = cc e in subst (λ t. Leaves 0 t) same (record { between = h; fewer = rw k (omega arith) })
 leaves_end false x p e h k = cc e
 
-leaves_after : (s : State) (fields : Record) (field xs : List ℕ) (p : Read) → next_record default_config s fields field xs ≡ Some p → Leaves (length xs) p
+pub leaves_after : (s : State) (fields : Record) (field xs : List ℕ) (p : Read) → next_record default_config s fields field xs ≡ Some p → Leaves (length xs) p
 unfolding next_record
 leaves_after s fields field [] p e = leaves_end (ends_at_end s) _ p e refl refl
 leaves_after s fields field (c ∷ rest) p e =
@@ -62,7 +62,7 @@ leaves_after s fields field (c ∷ rest) p e =
     (λ k. let r = leaves_after (step default_config s c).0 _ _ rest p k in record { between = r.between; fewer = omega arith })
 
 -- from between two records, a record takes at least one byte
-takes_one : (s : State) (xs : List ℕ) (p : Read) → ends_at_end s ≡ false → next_record default_config s [] [] xs ≡ Some p → length p.2 < length xs
+pub takes_one : (s : State) (xs : List ℕ) (p : Read) → ends_at_end s ≡ false → next_record default_config s [] [] xs ≡ Some p → length p.2 < length xs
 unfolding next_record
 takes_one s [] p q e = let bad : None ≡ Some p = rw q at e in cc bad
 takes_one s (c ∷ rest) p q e =

@@ -1,8 +1,10 @@
 pub mod Chains
+pub mod Cuts
 pub mod Databases
 pub mod Devices
 pub mod Faults
 pub mod Fields
+pub mod Fronts
 pub mod Indexes
 pub mod KeyedRows
 pub mod Keys

@@ -1,17 +1,18 @@
 //! The tables of a schema.
 
-ghost use Rattle.std.specs.Prelude.{◌≡◌, ◌≢◌, ◌<◌, ◌≤◌, [], length, map, slice_get, slice_index_or, Some, IfOk, IfErr, OnOk, OnErr, IfSome};
-ghost use Rattle.store.specs.Tables.{records_of};
+ghost use Rattle.std.specs.Prelude.{◌≡◌, ◌≢◌, ◌<◌, ◌≤◌, List, [], length, map, slice_get, slice_index_or, Some, IfOk, IfErr, OnOk, OnErr, IfSome};
+ghost use Rattle.store.specs.Tables.{Record, records_of};
 ghost use Rattle.schema.specs.Databases.{Satisfies, most_rows};
 ghost use Rattle.store.specs.declared.fault.TableFault.TheVariants as faults;
 ghost use Rattle.store.specs.Devices.{Rose};
-ghost use Rattle.store.specs.Parsing.{ReadsTable};
+ghost use Rattle.store.specs.Parsing.{ParsesFile, ReadsTable};
 ghost use Rattle.store.specs.Databases.{Loads, ReplacesTable};
 
 use crate::columns::ColumnStore;
 use crate::fault::{TableCause, TableFault, TableRefusal};
-use crate::input::{InputFault, TableInput, read_all};
-use crate::records::parse;
+use crate::input::{InputFault, TableInput};
+use crate::reading::parse_input;
+use crate::records::Parsed;
 use crate::table::Table;
 use crate::unique::earliest_repeat;
 use schema::Schema;
@@ -36,16 +37,11 @@ impl<'s> Model for Database<'s> {
     ghost invariant = { λ d. Satisfies d.schema.now d.tables.items };
 }
 
-/// The table whose file the bytes are.
-fn table_of(alloc: Global, entry: &schema::Table, bytes: Vec<u8>) -> Result<Table, TableFault>
-    ensures { ReadsTable entry.now (records_of bytes.items) result }
+/// The table whose file was parsed so.
+fn table_of(alloc: Global, entry: &schema::Table, parsed: Parsed) -> Result<Table, TableFault>
+    requires { length parsed.rows ≤ most_rows }
+    ensures { (records : List Record) → ParsesFile entry.now.columns records parsed → ReadsTable entry.now records result }
 {
-    let columns = entry.columns.as_slice();
-    let Ok(parsed) = parse(alloc, columns, bytes.as_slice()) else {
-        return Err(TableFault::Memory);
-    };
-    // The table has what it needs of the file, and the keys of the unique lists take its room.
-    drop(bytes);
     let Ok(found) = earliest_repeat(alloc, &parsed.rows, entry.unique.as_slice()) else {
         return Err(TableFault::Memory);
     };
@@ -125,13 +121,13 @@ impl<'s> Database<'s> {
         ensures refused { IfErr result (λ e. e ≢ faults.Device → R.failures input.new ≡ R.failures input.old) }
         ensures device { IfErr result (λ e. e ≡ faults.Device → Rose (R.failures input.old) (R.failures input.new)) }
     {
-        let bytes = match read_all(alloc, input) {
-            Ok(bytes) => bytes,
+        let entry = entry_of(self.schema, table);
+        let parsed = match parse_input(alloc, entry.columns.as_slice(), input) {
+            Ok(parsed) => parsed,
             Err(InputFault::Memory) => return Err(TableFault::Memory),
             Err(InputFault::Device) => return Err(TableFault::Device),
         };
-        let entry = entry_of(self.schema, table);
-        let loaded = table_of(alloc, entry, bytes)?;
+        let loaded = table_of(alloc, entry, parsed)?;
         self.tables[table] = loaded;
         Ok(())
     }

@@ -1,10 +1,9 @@
 //! Where a table's bytes come from.
 
-ghost use Rattle.std.specs.Prelude.{◌≡◌, ◌≤◌, ℕ, List, Option, None, IfOk, IfErr, IfSome, length};
+ghost use Rattle.std.specs.Prelude.{◌≡◌, ◌≤◌, ℕ, List, Option, None, IfOk, length};
 ghost use Rattle.std.specs.Io.KnownBytes.{ReadConsumes};
-ghost use Rattle.store.specs.Devices.{Counts, Rose};
+ghost use Rattle.store.specs.Devices.{Counts};
 
-use std::alloc::Global;
 use std::io::Read;
 
 /// A call of the device failed.
@@ -61,28 +60,4 @@ impl<R: Read> TableInput for CountedInput<R> {
 pub enum InputFault {
     Memory,
     Device,
-}
-
-/// All bytes of an input, up to its end.
-pub fn read_all<R: TableInput>(alloc: Global, input: &mut R) -> Result<Vec<u8>, InputFault>
-    ensures bytes { IfOk result (λ v. IfSome (R.remaining input.old) (λ xs. v.items ≡ xs)) }
-    ensures quiet { IfOk result (λ v. R.failures input.new ≡ R.failures input.old) }
-    ensures memory { IfErr result (λ e. e ≡ InputFault.Memory → R.failures input.new ≡ R.failures input.old) }
-    ensures device { IfErr result (λ e. e ≡ InputFault.Device → Rose (R.failures input.old) (R.failures input.new)) }
-{
-    let mut bytes = Vec::new(alloc);
-    let mut buffer = [0u8; 65_536];
-    for _ in 0..u64::MAX {
-        match input.read_some(&mut buffer) {
-            Ok(0) => return Ok(bytes),
-            Ok(count) => {
-                if bytes.extend_from_slice(&buffer[..count]).is_err() {
-                    return Err(InputFault::Memory);
-                }
-            }
-            Err(DeviceFailed) => return Err(InputFault::Device),
-        }
-    }
-    // An input of 2^64 reads fits no memory.
-    Err(InputFault::Memory)
 }

@@ -4,6 +4,7 @@
 mod cells;
 mod chains;
 mod columns;
+mod cuts;
 pub mod database;
 mod ends;
 pub mod fault;
@@ -12,6 +13,7 @@ mod indexes;
 pub mod input;
 pub mod key;
 pub mod numbers;
+mod reading;
 mod records;
 pub mod row;
 pub mod source;
