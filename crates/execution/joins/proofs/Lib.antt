@@ -4,11 +4,14 @@ pub mod Chains
 pub mod ChunkedPairs
 pub mod FilteredJoins
 pub mod FoundRows
+pub mod JoinChains
 pub mod JoinRows
 pub mod KeyColumns
 pub mod KeyMarks
+pub mod LeftSides
 pub mod Merges
 pub mod Outputs
+pub mod Refilled
 pub mod SharedKeys
 pub mod SideParts
 pub mod TestedPairs

@@ -1,9 +1,12 @@
 pub mod Chains
 pub mod ChunkedJoins
 pub mod Hashes
+pub mod JoinChains
+pub mod JoinStages
 pub mod Joins
 pub mod Keys
 pub mod KeyMarks
+pub mod LeftRows
 pub mod Merges
 pub mod SideParts
 pub mod TestedPairs

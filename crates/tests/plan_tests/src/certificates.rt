@@ -207,6 +207,8 @@ const METHODS: &str =
 SELECT a, c, d FROM t LEFT JOIN u ON a = c AND c > 1 => scan 0 0 | scan 1 1 | hash 2 | cut 3: 0 2 3 => accepted ;1,-,-,;2,-,-,;3,3,x,;3,3,y,;4,-,-,;5,-,-,
 SELECT COUNT(*), COUNT(e.b), SUM(e.a), MIN(a.a), MAX(e.b) FROM t a, t b, t c, t d, t e => scan 0 0 | scan 1 1 | loop 2 | scan 3 2 | loop 4 | scan 5 3 | loop 6 | scan 7 4 | loop 8 | group 9 | cut 10: 10 11 12 13 14 => accepted ;3125,1875,9375,1,20,
 SELECT e.b, COUNT(*), SUM(e.a), MAX(a.a) FROM t a, t b, t c, t d, t e GROUP BY e.b => scan 0 0 | scan 1 1 | loop 2 | scan 3 2 | loop 4 | scan 5 3 | loop 6 | scan 7 4 | loop 8 | group 9 | cut 10: 9 10 11 12 => accepted ;20,1250,3750,5,;-,1250,3750,5,;10,625,1875,5,
+SELECT COUNT(*), SUM(h.a), MIN(a.a) FROM t a, t b, t c, t d, t e, t f, t g, t h => scan 0 0 | scan 1 1 | loop 2 | scan 3 2 | loop 4 | scan 5 3 | loop 6 | scan 7 4 | loop 8 | scan 9 5 | loop 10 | scan 11 6 | loop 12 | scan 13 7 | loop 14 | group 15 | cut 16: 16 17 18 => accepted ;390625,1171875,1,
+SELECT COUNT(*), MAX(d), SUM(a.a) FROM t a, t b, t c, t d, t e, t f, t g JOIN u ON g.a = c => scan 0 0 | scan 1 1 | loop 2 | scan 3 2 | loop 4 | scan 5 3 | loop 6 | scan 7 4 | loop 8 | scan 9 5 | loop 10 | scan 11 6 | loop 12 | scan 13 7 | hash 14 | group 15 | cut 16: 16 17 18 => accepted ;46875,y,140625,
 SELECT COUNT(*), MAX(d) FROM t JOIN u ON a = c => scan 0 0 | scan 1 1 | hash 2 | group 3 | cut 4: 4 5 => accepted ;3,y,
 SELECT a, COUNT(d) FROM t LEFT JOIN u ON a = c GROUP BY a => scan 0 0 | scan 1 1 | left 2 | group 3 | cut 4: 0 4 => accepted ;1,0,;2,0,;3,2,;4,0,;5,0,
 SELECT COUNT(*) FROM t, u WHERE a < c => scan 0 0 | scan 1 1 | loop 2 | filter 3 | group 4 | cut 5: 4 => accepted ;4,

@@ -1,30 +1,33 @@
-use Rattle.std.proofs.Common.{◌≡◌, ◌∙◌, ap, sym, ◌++◌}
-use Rattle.algebra.specs.Bags.{join, nulls}
-use Rattle.algebra.specs.Columns.{has, rising}
+use Rattle.std.proofs.Common.{◌≡◌, ap, sym, ◌∙◌, List, ◌++◌}
+use Rattle.algebra.specs.Bags.{Bag, Env, join, nulls}
+use Rattle.algebra.specs.Columns.{has}
 use Rattle.algebra.specs.Conditions.{holds}
 use Rattle.physical.specs.Outputs.{no_classes}
 use Rattle.relations.specs.Relations.{rows_of}
+use Rattle.joins.specs.declared.pairs.Unmatched.TheVariants.{Dropped}
+use Rattle.joins.specs.ChunkedJoins.{joined_to_come}
+use Rattle.joins.specs.JoinStages.{Joining}
+use Rattle.joins.specs.LeftRows.{rows_or_none}
 use Rattle.joins.proofs.ChunkedPairs.{join-restated}
 use Rattle.joins.proofs.FilteredJoins.{conditions-both}
+use Rattle.joins.proofs.JoinChains.{rows-above}
 use Rattle.joins.proofs.chunked.ChunkedJoin.inner.Goals as goal
 
-pub returns : goal.returns
-returns c =
-    let sides = c.in_ok-left in
-    let left = sides.left in
-    let right = sides.right in
-    let R = c.args.right.heading.columns in
-    let C = c.as_slice.result.now in
-    let D = c.args.conjuncts.now ++ c.args.filter.now in
-    let is = sides.ensures in
-    let A = c.add_copies-2.new.copies.items in
-    let all : A ≡ D = c.in_ok-add_copies-2.ensures ∙ ap (λ l. l ++ c.args.filter.now) (c.in_ok-add_copies.ensures ∙ ap (λ l. l ++ c.args.conjuncts.now) c.new-all.ensures.items) in
-    join-restated c.new.result _ _ _ _
-    (ap (λ K. rising (left.heading.columns ++ K)) is.right_columns ∙ ap (λ K. rising (K ++ R)) is.left_columns)
-    (ap (λ K. join (holds no_classes A) (has K) (rows_of left) (rows_of right) nulls) is.right_columns
-    ∙ ap (λ E. join (holds no_classes E) (has R) (rows_of left) (rows_of right) nulls) all
-    ∙ ap (λ E. join (holds no_classes E) (has R) (rows_of left) (rows_of right) nulls) (sym (c.as_slice.ensures.value ∙ all))
-    ∙ is.pairs_are
-    ∙ ap (λ E. join (holds no_classes E) (has R) (rows_of c.args.left) (rows_of c.args.right) nulls) (c.as_slice.ensures.value ∙ all)
-    ∙ (λ i. conditions-both c.args.conjuncts.now c.args.filter.now (has R) (rows_of c.args.left) (rows_of c.args.right) i nulls))
-    c.new.ensures
+pub returns-in_ok-stage-in-Some : goal.returns-in_ok-stage-in-Some
+returns-in_ok-stage-in-Some c =
+    let first = c.args.left.first in
+    let right = c.args.right in
+    let C = c.args.conjuncts.now in
+    let F = c.args.filter.now in
+    let rest = c.in-Some.rest in
+    let stage = c.in_ok-stage-in-Some.stage in
+    let is = c.in_ok-stage-in-Some.ensures in
+    let R = right.heading.columns in
+    let all : List Env → List Env = λ more. join (holds no_classes (C ++ F)) (has R) (λ e. rows_of first nulls ++ more) (rows_of right) nulls in
+    let lefts : Bag = λ e. rows_of first nulls ++ rows_or_none c.args.left.rest in
+    join-restated c.below.result _ _ _ _
+    (ap (λ (j : Joining). j.columns) is.joining_is)
+    (rows-above Dropped (C ++ F) first.heading.columns right (rows_of first nulls) (joined_to_come rest) stage is
+    ∙ ap all (sym (ap rows_or_none c.in-Some.is))
+    ∙ (λ i. conditions-both C F (has R) lefts (rows_of right) i nulls))
+    c.below.ensures

@@ -4,11 +4,11 @@ use Rattle.std.proofs.lemmas.List.{length-append, nil_from_length}
 use Rattle.algebra.specs.declared.condition.Condition.{Condition}
 use Rattle.algebra.specs.Bags.{nulls}
 use Rattle.relations.specs.Relations.{numbered_env}
-use Rattle.joins.specs.ChunkedJoins.{pairs_from}
+use Rattle.joins.specs.JoinStages.{pairs_from}
 use Rattle.joins.specs.Joins.{pair_env, pair_envs, partners_of}
 use Rattle.joins.proofs.ChunkedPairs.{none-left, pairs-between, pairs-ended, pairs-none, some-left, two-some}
 use Rattle.joins.proofs.JoinRows.{loops-length}
-use Rattle.joins.proofs.chunked.ChunkedJoin.next_chunk.Goals as goal
+use Rattle.joins.proofs.stages.JoinStage.next_chunk.Goals as goal
 
 pub returns-then-is_empty-clause-chunk : goal.returns-then-is_empty-clause-chunk
 returns-then-is_empty-clause-chunk c =
