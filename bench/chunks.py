@@ -1,8 +1,8 @@
 #!/usr/bin/env python3
 """Measures joins whose pairs are made a chunk at a time, beside sqlite3 in the same run: time and peak memory of the whole process, against targets.
 
-Two tables of ROWS rows have all pairs with a lesser value of the right side joined, some half of all: they are counted, counted by group, and written to a
-reader that closes the pipe after ten rows. Times are processor time (user and system), the least of RUNS; sqlite3 imports the same rows into memory. Wants
+Two tables of ROWS rows have all pairs with a lesser value of the right side joined, some half of all: they are counted, counted by group, joined with a third
+table, and written to a reader that closes the pipe after ten rows. Times are processor time (user and system), the least of RUNS; sqlite3 imports the same rows into memory. Wants
 sqlite3 and GNU time (Debian: sqlite3, time) and the program built.
 
 usage: chunks.py [--rows N] [--runs N] [--program PATH]
@@ -18,18 +18,22 @@ import time
 ROOT = pathlib.Path(__file__).resolve().parent.parent
 SCHEMA = """{"tables":[{"name":"o","columns":[{"name":"a","kind":"INT","not_null":true},{"name":"c","kind":"INT","not_null":true}],
 "unique":[],"indexes":[]},{"name":"l","columns":[{"name":"b","kind":"INT","not_null":true},{"name":"v","kind":"INT","not_null":true}],
-"unique":[],"indexes":[]}]}"""
+"unique":[],"indexes":[]},{"name":"p","columns":[{"name":"k","kind":"INT","not_null":true},{"name":"n","kind":"INT","not_null":true}],
+"unique":[["k"]],"indexes":[]}]}"""
 SQLITE = """CREATE TABLE o(a INTEGER, c INTEGER);
 CREATE TABLE l(b INTEGER, v INTEGER);
+CREATE TABLE p(k INTEGER UNIQUE, n INTEGER);
 .mode csv
 .import --skip 1 {folder}/o.csv o
 .import --skip 1 {folder}/l.csv l
+.import --skip 1 {folder}/p.csv p
 {query};
 """
 PAIRS = "FROM o x, l WHERE l.v < x.c"
 CASES = [
     ("COUNT(*) of the pairs", f"SELECT COUNT(*) {PAIRS}", 3.0, 30),
     ("the same by 100 groups", f"SELECT x.a, COUNT(*), SUM(l.v) {PAIRS} GROUP BY x.a", None, 30),
+    ("the pairs joined with 50 rows by key", f"SELECT COUNT(*), SUM(p.n) {PAIRS.replace('l WHERE', 'l, p WHERE')} AND p.k = l.b", None, 30),
 ]
 
 
@@ -38,6 +42,7 @@ def write(folder, rows):
     for name, columns in (("o", "a,c"), ("l", "b,v")):
         lines = (f"{draw.randrange(100)},{draw.randrange(100_000)}\n" for _ in range(rows))
         (folder / f"{name}.csv").write_text(columns + "\n" + "".join(lines))
+    (folder / "p.csv").write_text("k,n\n" + "".join(f"{key},{key % 7}\n" for key in range(0, 100, 2)))
     (folder / "schema.json").write_text(SCHEMA)
 
 
