@@ -1,7 +1,8 @@
 -- A list that is narrowed test by test.
 use Rattle.std.proofs.Common.{◌≡◌, refl, ap, sym, ◌∙◌, ℕ, ◌+◌, ◌<◌, ◌≤◌, Bool, true, false, ◌&&◌, if◌then◌else◌, List, [], ◌∷◌, ◌++◌, drop, filter, get_or, length, set, take, append-nil, arith}
+use Rattle.std.specs.Int.{from_bool}
 use Rattle.std.specs.List.{list_all}
-use Rattle.std.proofs.lemmas.List.{drop-drop, drop-set-lt, get_or-drop, take_more_set}
+use Rattle.std.proofs.lemmas.List.{drop-drop, drop-set-lt, get_or-drop, take-set, take_more_set}
 use Rattle.std.proofs.lemmas.List.Elements.{filter_more}
 use Rattle.std.proofs.lemmas.List.Folds.{list_all_more}
 
@@ -47,6 +48,17 @@ module _ {X : Type 0} (p : X → Bool) (old rows : List X) (kept place : ℕ) (d
   pub place-left : p (get_or rows place d) ≡ false → take kept rows ≡ filter p (take (place + 1) old)
   place-left fails =
       front ∙ sym (next ∙ ap (λ b. filter p (take place old) ++ (if b then get_or rows place d ∷ [] else [])) fails ∙ append-nil (filter p (take place old)))
+
+  -- either way, where it is written first
+  pub place-written : (b : Bool) → p (get_or rows place d) ≡ b → take (kept + from_bool b) (set rows kept (get_or rows place d)) ≡ filter p (take (place + 1) old)
+  place-written true passes = place-kept passes
+  place-written false fails =
+      let same : kept + 0 ≡ kept = omega arith in
+      ap (λ n. take n (set rows kept (get_or rows place d))) same ∙ take-set rows kept (get_or rows place d) ∙ place-left fails
+
+  pub few-written : (b : Bool) → kept + from_bool b ≤ place + 1
+  few-written true = omega (arith, few)
+  few-written false = omega (arith, few)
 
   behind : (l : List X) → drop (place + 1) l ≡ drop 1 (drop place l)
   behind l = sym (drop-drop 1 place l)

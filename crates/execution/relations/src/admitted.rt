@@ -1,6 +1,7 @@
 //! What a comparison says of each order, known before many numbers are compared.
 
 ghost use Rattle.std.specs.Prelude.{◌≡◌};
+ghost use Rattle.std.specs.Ordering.{int_cmp};
 ghost use Rattle.std.specs.declared.cmp.Ordering.TheVariants as by;
 ghost use Rattle.values.specs.Truth as logic;
 ghost use Rattle.values.specs.declared.value.Value.TheVariants as value;
@@ -33,15 +34,14 @@ impl Admitted {
         }
     }
 
+    /// Whether it is true of two numbers, without a branch on their order, which nothing foretells.
     #[inline(always)]
-    pub fn admits(self, order: Ordering) -> bool
-        ensures { result ≡ logic.admits self.comparison order }
+    fn admits_order_of(self, first: i64, second: i64) -> bool
+        ensures { result ≡ logic.admits self.comparison (int_cmp first second) }
     {
-        match order {
-            Ordering::Less => self.less,
-            Ordering::Equal => self.equal,
-            Ordering::Greater => self.greater,
-        }
+        let less = first < second;
+        let greater = second < first;
+        (less & self.less) | (!less & ((greater & self.greater) | (!greater & self.equal)))
     }
 }
 
@@ -51,7 +51,7 @@ pub(crate) fn admits_number(admitted: Admitted, known: i64, number: Option<i64>)
     ensures { result ≡ logic.is_true (logic.compare admitted.comparison (value.Int known) (int_or_null number)) }
 {
     match number {
-        Some(number) => admitted.admits(known.cmp(&number)),
+        Some(number) => admitted.admits_order_of(known, number),
         None => false,
     }
 }

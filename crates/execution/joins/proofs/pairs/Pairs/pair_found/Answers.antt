@@ -1,26 +1,19 @@
-use Rattle.std.proofs.Common.{◌≡◌, ap, sym, ◌∙◌, ℕ, List, ◌+◌, ◌∷◌, [], ◌++◌, map, take, append_assoc, arith}
-use Rattle.std.proofs.lemmas.List.{map_more, take_all}
+use Rattle.std.proofs.Common.{◌≡◌, ap, ◌∙◌, refl, ℕ, List, ◌+◌, ◌-◌, ◌≤◌, ◌++◌, length, replicate, arith}
+use Rattle.std.specs.Vec.{vec_len}
+use Rattle.std.proofs.lemmas.List.{take_all}
+use Rattle.std.proofs.lemmas.Simd.{splat_is_map}
 use Rattle.joins.proofs.pairs.Pairs.pair_found.Goals as goal
-
-pub loop-preserved : goal.loop-preserved
-loop-preserved c =
-    let i = c.loop.counter in
-    let found = c.args.self.now.found.items in
-    record {
-      left =
-          c.in_ok-push.ensures.items ∙ ap (λ (l : List ℕ). l ++ c.args.left ∷ []) c.loop.invariant.left
-          ∙ append_assoc c.args.self.now.left.items (map (λ j. c.args.left) (take i found)) (c.args.left ∷ [])
-          ∙ ap (λ (l : List ℕ). c.args.self.now.left.items ++ l) (sym (map_more (λ j. c.args.left) found i 0 (omega arith)));
-      right = c.loop.invariant.right;
-      found = c.loop.invariant.found;
-    }
 
 pub returns : goal.returns
 returns c =
     let self = c.args.self.now in
-    let all : take c.loop.counter self.found.items ≡ self.found.items = take_all c.loop.counter self.found.items (omega (arith, c.loop-test.false, c.len-end.ensures, self.found.ok)) in
-    let more = c.in_ok-append.ensures.items in
+    let left = self.left.items in
+    let found = self.found.items in
+    let count = c.len.result + c.len-2.result in
+    let few : length left ≤ count = omega (arith, c.len.ensures, self.left.ok) in
+    let more : count - vec_len self.left ≡ length found = omega (arith, c.len.ensures, c.len-2.ensures, self.left.ok, self.found.ok) in
     record {
-      left = c.loop.invariant.left ∙ ap (λ (l : List ℕ). self.left.items ++ map (λ j. c.args.left) l) all;
-      right = more ∙ ap (λ (l : List ℕ). l ++ c.loop.self.found.items) c.loop.invariant.right ∙ ap (λ (l : List ℕ). self.right.items ++ l) c.loop.invariant.found;
+      left = c.in_ok-resize.ensures.items ∙ ap (λ l. l ++ replicate (count - vec_len self.left) c.args.left) (take_all count left few)
+          ∙ ap (λ l. left ++ l) (ap (λ n. replicate n c.args.left) more ∙ splat_is_map found (length found) c.args.left refl);
+      right = c.in_ok-append.ensures.items;
     }

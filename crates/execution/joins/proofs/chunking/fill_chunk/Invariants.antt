@@ -3,7 +3,7 @@ use Rattle.std.specs.List.{range_with_len}
 use Rattle.algebra.specs.Bags.{nulls}
 use Rattle.joins.specs.Joins.{partners_of}
 use Rattle.relations.specs.Relations.{numbered_env}
-use Rattle.joins.proofs.chunking.pairs_of_chunk.Given as goal
+use Rattle.joins.proofs.chunking.fill_chunk.Given as goal
 
 abbrev pub invariant-loop-number : goal.invariant-loop-number
 invariant-loop-number l = record {

@@ -3,7 +3,7 @@ use Rattle.algebra.specs.Bags.{nulls}
 use Rattle.joins.specs.Joins.{partners_of}
 use Rattle.relations.specs.Relations.{numbered_env}
 use Rattle.relations.proofs.Numbers.{flat_map_next_number}
-use Rattle.joins.proofs.chunking.pairs_of_chunk.Goals as goal
+use Rattle.joins.proofs.chunking.fill_chunk.Goals as goal
 
 pub loop-number-preserved : goal.loop-number-preserved
 loop-number-preserved c =
