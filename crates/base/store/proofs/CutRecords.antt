@@ -1,9 +1,9 @@
 -- The records of a text that is cut at a line feed outside of quotes.
-use Rattle.std.proofs.Common.{◌≡◌, ◌≢◌, ℕ, zero, suc, ◌+◌, ◌<◌, ◌≤◌, ◌==◌, ◌&&◌, ◌||◌, List, [], ◌∷◌, ◌++◌, length, take, drop, get_or, Bool, true, false, cond, Option, Some, None, refl, sym, ap, ◌∙◌, subst, arith, append_assoc, length-drop, drop-cons}
+use Rattle.std.proofs.Common.{◌≡◌, ◌≢◌, ℕ, zero, suc, ◌+◌, ◌-◌, ◌<◌, ◌≤◌, ◌==◌, ◌&&◌, ◌||◌, List, [], ◌∷◌, ◌++◌, length, take, drop, get_or, Bool, true, false, cond, Option, Some, None, refl, sym, ap, ◌∙◌, ⊎_elim, subst, arith, append_assoc, length-drop}
 use Rattle.std.specs.List.{list_any, starts_with}
-use Rattle.std.proofs.lemmas.List.{take-append-drop}
-use Rattle.std.proofs.lemmas.Bool.{eqb-true}
-use Rattle.std.proofs.Math.Seq.{take-suc}
+use Rattle.std.proofs.lemmas.List.{take-append-drop, take-append-le, take_all, drop-append-le, drop-drop, get_or-drop}
+use Rattle.std.proofs.lemmas.Bool.{cases_eq, eqb-true}
+use Rattle.std.proofs.Math.Seq.{take-suc, take-add}
 use Rattle.csv.specs.Machine.{Read, ends_at_end, is_end, next_record, step, fields_after, field_after, ends_with, in_field, start_field, start_record}
 use Rattle.csv.specs.Reading.{default_config, records, records_from, records_next, strip_bom, is_bom}
 use Rattle.csv.specs.declared.parser.State.{State}
@@ -11,10 +11,11 @@ use Rattle.csv.specs.declared.parser.State.TheVariants as st
 use Rattle.csv.specs.declared.parser.Action.{Action}
 use Rattle.csv.specs.declared.parser.Action.TheVariants as act
 use Rattle.csv.specs.declared.parser.Terminator.TheVariants as term
+use Rattle.memchr.specs.Find.{Nowhere, Passes, is_byte}
 use Rattle.store.specs.Tables.{Record, records_of}
 use Rattle.store.specs.declared.cuts.Quotes.{Quotes}
 use Rattle.store.specs.declared.cuts.Quotes.TheVariants.{Fresh, Plain, Open, Closed}
-use Rattle.store.specs.Cuts.{state_after, quotes_outside, quotes_after, QuotesIn, EndsLine, IsLineEnd, CutsText, CutsFile}
+use Rattle.store.specs.Cuts.{state_after, quotes_outside, quotes_after, quotes_behind, IsQuoteless, QuotesIn, EndsLine, IsLineEnd, CutsText, CutsFile}
 use Rattle.store.proofs.Steps.{leaves_after, takes_one}
 
 -- ---- all records of a text, by one recursion on its bytes
@@ -229,12 +230,25 @@ ends_step st.InComment c e h = absurd h
 ends_step st.AfterQuote c e h = ends_unless (c == 34) _ _ e (ends_field c)
 ends_step st.AfterCr c e h = ends_cond (c == 10) _ _ tt (ends_record c e)
 
+no_true : (b : Bool) → (b ≡ true → ⊥) → b ≡ false
+no_true true h = absurd (h refl)
+no_true false h = refl
+
 neither : (a b : Bool) → (a || b) ≡ false → (a ≡ false) × (b ≡ false)
 neither true b e = cc e
 neither false b e = (refl, e)
 
 abbrev quoteless : List ℕ → Bool
 quoteless xs = list_any (λ y. y == 34) xs
+
+-- before the first quote there is none
+pub quoteless_before : (xs : List ℕ) (k : ℕ) → Nowhere (Passes (is_byte 34) xs) 0 k → IsQuoteless (take k xs)
+quoteless_before xs zero h = refl
+quoteless_before [] (suc k) h = refl
+quoteless_before (c ∷ xs) (suc k) h =
+    let here : (c == 34) ≡ false = no_true (c == 34) (h 0 (omega arith) (omega arith)) in
+    let rest = quoteless_before xs k (λ m low high p. h (suc m) (omega arith) (omega arith) p) in
+    rw (here, rest) refl
 
 ends_after : (s : State) (xs : List ℕ) → quoteless xs ≡ false → EndsLine s → EndsLine (state_after s xs)
 ends_after s [] e h = h
@@ -257,7 +271,7 @@ less_strip (a ∷ b ∷ []) e = e
 less_strip (a ∷ b ∷ c ∷ rest) e =
     less_cond (is_bom a b c) rest (a ∷ b ∷ c ∷ rest) (neither (c == 34) (quoteless rest) (neither (b == 34) (quoteless (c ∷ rest)) (neither (a == 34) (quoteless (b ∷ c ∷ rest)) e).1).1).1 e
 
-pub cuts_quoteless : (bytes : List ℕ) (n : ℕ) → list_any (λ y. y == 34) bytes ≡ false → IsLineEnd bytes n → CutsFile bytes n
+pub cuts_quoteless : (bytes : List ℕ) (n : ℕ) → IsQuoteless bytes → IsLineEnd bytes n → CutsFile bytes n
 cuts_quoteless bytes n e h = cuts_file bytes n h (ends_after st.StartRecord (strip_bom (take n bytes)) (less_strip (take n bytes) (less_take n bytes e)) tt)
 
 -- ---- with quotes
@@ -304,12 +318,6 @@ quotes_step st.AfterCr q c h = rw h (quotes_first (c == 10) (quotes_after Fresh 
 quotes_step st.InEscape q c h = absurd h
 quotes_step st.InComment q c h = absurd h
 
-pub quotes_more : (text : List ℕ) (at : ℕ) (q : Quotes) → at < length text → QuotesIn q (state_after st.StartRecord (take at text)) → QuotesIn (quotes_after q (get_or text at 0)) (state_after st.StartRecord (take (at + 1) text))
-quotes_more text at q lt h =
-    let one : at + 1 ≡ suc at = omega arith in
-    let next : take (at + 1) text ≡ take at text ++ get_or text at 0 ∷ [] = ap (λ (n : ℕ). take n text) one ∙ take-suc text at 0 lt in
-    rw (next, state_append st.StartRecord (take at text) (get_or text at 0 ∷ [])) (quotes_step (state_after st.StartRecord (take at text)) q (get_or text at 0) h)
-
 outside_ends : (s : State) (q : Quotes) → QuotesIn q s → q ≢ Open → EndsLine s
 outside_ends st.StartRecord q h n = tt
 outside_ends st.StartField q h n = tt
@@ -320,11 +328,103 @@ outside_ends st.AfterCr q h n = tt
 outside_ends st.InEscape q h n = absurd h
 outside_ends st.InComment q h n = absurd h
 
-pub line_there : (bytes : List ℕ) (at : ℕ) → at < length bytes → get_or bytes at 0 ≡ 10 → IsLineEnd bytes at
-line_there bytes at lt e = (drop (suc at) bytes, drop-cons bytes at 0 lt ∙ ap (λ (c : ℕ). c ∷ drop (suc at) bytes) e)
+-- ---- over bytes that are no quotes
 
-pub cuts_text : (text : List ℕ) (at : ℕ) (q : Quotes) → at < length text → get_or text at 0 ≡ 10 → q ≢ Open → QuotesIn q (state_after st.StartRecord (take at text)) → CutsText text at
-cuts_text text at q lt e n h = (line_there text at lt e, outside_ends (state_after st.StartRecord (take at text)) q h n)
+pub behind_none : (q : Quotes) (xs : List ℕ) → (length xs == 0) ≡ true → q ≡ quotes_behind q xs
+behind_none q [] e = refl
+behind_none q (c ∷ xs) e = let nothing : suc (length xs) ≡ 0 = eqb-true (suc (length xs)) 0 e in absurd (omega arith)
+
+pub behind_open : (xs : List ℕ) → IsQuoteless xs → Open ≡ quotes_behind Open xs
+behind_open [] e = refl
+behind_open (c ∷ xs) e = let (p, r) = neither (c == 34) (quoteless xs) e in rw p (behind_open xs r)
+
+after_outside : (q : Quotes) (c : ℕ) → q ≢ Open → (c == 34) ≡ false → quotes_after q c ≡ quotes_outside c
+after_outside Fresh c n e = rw e refl
+after_outside Plain c n e = refl
+after_outside Open c n e = absurd (n refl)
+after_outside Closed c n e = rw e refl
+
+outside_cond : (a b : Bool) → cond a Fresh (cond b Fresh Plain) ≢ Open
+outside_cond true b e = cc e
+outside_cond false true e = cc e
+outside_cond false false e = cc e
+
+behind_one_more : (q : Quotes) (c : ℕ) (xs : List ℕ) → q ≢ Open → IsQuoteless (c ∷ xs) → quotes_outside (get_or (c ∷ xs) (length xs) 0) ≡ quotes_behind q (c ∷ xs)
+behind_one_more q c [] n e = sym (after_outside q c n (neither (c == 34) false e).0)
+behind_one_more q c (d ∷ xs) n e =
+    let (p, r) = neither (c == 34) (quoteless (d ∷ xs)) e in
+    rw (after_outside q c n p) (behind_one_more (quotes_outside c) d xs (outside_cond (c == 44) ((c == 13) || (c == 10))) r)
+
+pub behind_last : (q : Quotes) (xs : List ℕ) → (length xs == 0) ≡ false → q ≢ Open → IsQuoteless xs → quotes_outside (get_or xs (length xs - 1) 0) ≡ quotes_behind q xs
+behind_last q [] some n e = cc some
+behind_last q (c ∷ xs) some n e =
+    let last : length (c ∷ xs) - 1 ≡ length xs = omega arith in
+    ap (λ (k : ℕ). quotes_outside (get_or (c ∷ xs) k 0)) last ∙ behind_one_more q c xs n e
+
+quotes_all : (s : State) (q : Quotes) (xs : List ℕ) → QuotesIn q s → QuotesIn (quotes_behind q xs) (state_after s xs)
+quotes_all s q [] h = h
+quotes_all s q (c ∷ xs) h = quotes_all (step default_config s c).0 (quotes_after q c) xs (quotes_step s q c h)
+
+quotes_more : (text : List ℕ) (at : ℕ) (q : Quotes) → at < length text → QuotesIn q (state_after st.StartRecord (take at text)) → QuotesIn (quotes_after q (get_or text at 0)) (state_after st.StartRecord (take (at + 1) text))
+quotes_more text at q lt h =
+    let one : at + 1 ≡ suc at = omega arith in
+    let next : take (at + 1) text ≡ take at text ++ get_or text at 0 ∷ [] = ap (λ (n : ℕ). take n text) one ∙ take-suc text at 0 lt in
+    rw (next, state_append st.StartRecord (take at text) (get_or text at 0 ∷ [])) (quotes_step (state_after st.StartRecord (take at text)) q (get_or text at 0) h)
+
+-- behind the n bytes that are no quotes, and a quote
+quotes_quote : (text : List ℕ) (begin n : ℕ) (q : Quotes) → begin + n < length text → get_or (drop begin text) n 0 ≡ 34 → QuotesIn q (state_after st.StartRecord (take begin text))
+    → QuotesIn (quotes_after (quotes_behind q (take n (drop begin text))) 34) (state_after st.StartRecord (take (begin + n + 1) text))
+quotes_quote text begin n q lt e h =
+    let plain = take n (drop begin text) in
+    let all : QuotesIn (quotes_behind q plain) (state_after st.StartRecord (take (begin + n) text)) =
+    rw (take-add begin n text, state_append st.StartRecord (take begin text) plain) (quotes_all (state_after st.StartRecord (take begin text)) q plain h) in
+    let quote : get_or text (begin + n) 0 ≡ 34 = sym (get_or-drop begin text n 0) ∙ e in
+    subst (λ (c : ℕ). QuotesIn (quotes_after (quotes_behind q plain) c) (state_after st.StartRecord (take (begin + n + 1) text))) quote (quotes_more text (begin + n) (quotes_behind q plain) lt all)
+
+-- a line feed of the n bytes that are no quotes
+cuts_plain : (text : List ℕ) (begin n at : ℕ) (q : Quotes) → QuotesIn q (state_after st.StartRecord (take begin text)) → q ≢ Open → IsQuoteless (take n (drop begin text)) → IsLineEnd (take n (drop begin text)) at → CutsText text (begin + at)
+cuts_plain text begin n at q h outside none (rest, e) =
+    let plain = take n (drop begin text) in
+    let tail = drop n (drop begin text) in
+    let long = length-drop at plain in
+    let some : length (drop at plain) ≡ suc (length rest) = ap length e in
+    let within : at ≤ length plain = omega (arith, long, some) in
+    let whole : drop begin text ≡ plain ++ tail = sym (take-append-drop n (drop begin text)) in
+    let front : take (begin + at) text ≡ take begin text ++ take at plain =
+    take-add begin at text ∙ ap (λ (y : List ℕ). take begin text ++ take at y) whole ∙ ap (λ (y : List ℕ). take begin text ++ y) (take-append-le at plain tail within) in
+    let back : drop (begin + at) text ≡ 10 ∷ (rest ++ tail) =
+    sym (drop-drop at begin text) ∙ ap (λ (y : List ℕ). drop at y) whole ∙ drop-append-le at plain tail within ∙ ap (λ (y : List ℕ). y ++ tail) e in
+    let s = state_after st.StartRecord (take begin text) in
+    let ends : EndsLine (state_after s (take at plain)) = ends_after s (take at plain) (less_take at plain none) (outside_ends s q h outside) in
+    ((rest ++ tail, back), rw (front, state_append st.StartRecord (take begin text) (take at plain)) ends)
+
+-- the same of the slices of last_outside
+
+rest_all : (text : List ℕ) (begin : ℕ) → take (length text - begin) (drop begin text) ≡ drop begin text
+rest_all text begin = let long = length-drop begin text in take_all (length text - begin) (drop begin text) (omega (arith, long))
+
+plain_front : (text : List ℕ) (begin n : ℕ) → take (begin + n - begin) (drop begin text) ≡ take n (drop begin text)
+plain_front text begin n = let same : begin + n - begin ≡ n = omega arith in ap (λ (k : ℕ). take k (drop begin text)) same
+
+pub before_end : (text : List ℕ) (begin n : ℕ) → n ≤ length (take (length text - begin) (drop begin text)) → begin < length text → (begin + n ≡ length text → ⊥) → n < length (take (length text - begin) (drop begin text))
+before_end text begin n le lt other =
+    let long = length-drop begin text in
+    let same = ap length (rest_all text begin) in
+    ⊎_elim (λ e. absurd (other (omega (arith, long, same)))) (λ ne. omega arith) (cases_eq n (length (take (length text - begin) (drop begin text))))
+
+pub quotes_next : (text : List ℕ) (begin n : ℕ) (q : Quotes) → n < length (take (length text - begin) (drop begin text)) → get_or (take (length text - begin) (drop begin text)) n 0 ≡ 34
+    → QuotesIn q (state_after st.StartRecord (take begin text)) → QuotesIn (quotes_after (quotes_behind q (take (begin + n - begin) (drop begin text))) 34) (state_after st.StartRecord (take (begin + n + 1) text))
+quotes_next text begin n q lt e h =
+    let left : n < length (drop begin text) = subst (λ (y : List ℕ). n < length y) (rest_all text begin) lt in
+    let there : get_or (drop begin text) n 0 ≡ 34 = subst (λ (y : List ℕ). get_or y n 0 ≡ 34) (rest_all text begin) e in
+    let long = length-drop begin text in
+    rw (plain_front text begin n) (quotes_quote text begin n q (omega (arith, long)) there h)
+
+pub cuts_next : (text : List ℕ) (begin n at : ℕ) (q : Quotes) → QuotesIn q (state_after st.StartRecord (take begin text)) → IsQuoteless (take n (take (length text - begin) (drop begin text)))
+    → IsLineEnd (take (begin + n - begin) (drop begin text)) at × (q ≢ Open) → CutsText text (begin + at)
+cuts_next text begin n at q h none (line, outside) =
+    let plain : IsQuoteless (take n (drop begin text)) = subst (λ (y : List ℕ). IsQuoteless (take n y)) (rest_all text begin) none in
+    cuts_plain text begin n at q h outside plain (subst (λ (y : List ℕ). IsLineEnd y at) (plain_front text begin n) line)
 
 -- ---- behind a mark, and with none
 

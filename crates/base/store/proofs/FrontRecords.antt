@@ -1,11 +1,10 @@
 -- What is parsed of a file's front, and what comes after it.
-use Rattle.std.proofs.Common.{◌≡◌, ◌≢◌, ℕ, ◌≤◌, List, [], ◌∷◌, ◌++◌, length, take, drop, map, Bool, true, false, Option, Some, None, is_some, Result, Ok, Err, OnOk, refl, sym, ap, ◌∙◌, subst, append_assoc, inl, inr}
+use Rattle.std.proofs.Common.{◌≡◌, ℕ, ◌≤◌, List, [], ◌∷◌, ◌++◌, length, take, drop, map, Bool, true, false, Option, Some, None, is_some, Result, Ok, Err, OnOk, refl, sym, ap, ◌∙◌, subst, append_assoc, inl, inr}
 use Rattle.std.proofs.lemmas.List.{append-nil}
 use Rattle.schema.specs.declared.schema.Column.{Column}
 use Rattle.schema.specs.Databases.{Row, most_rows}
 use Rattle.store.specs.declared.fault.TableCause.TheVariants.{OtherHeader}
 use Rattle.store.specs.declared.fault.TableRefusal.{TableRefusal}
-use Rattle.store.specs.declared.records.Parsed.{Parsed}
 use Rattle.store.specs.Tables.{Record, names_of, records_of}
 use Rattle.store.specs.Fields.{field_of}
 use Rattle.store.specs.Reading.{NextOf}

@@ -1,14 +1,13 @@
 -- Databases that satisfy their schema.
-use Rattle.std.proofs.Common.{◌≡◌, ℕ, zero, suc, ◌<◌, ◌≤◌, List, [], ◌∷◌, length, get_or, map, Option, Some, None, Result, Ok, Err, IfSome, slice_get, refl, ap, arith}
+use Rattle.std.proofs.Common.{◌≡◌, ℕ, zero, suc, ◌<◌, ◌≤◌, List, [], ◌∷◌, length, get_or, Option, Some, None, Result, Ok, Err, IfSome, slice_get, refl, ap, arith}
 use Rattle.std.proofs.Math.ListN.{set}
-use Rattle.std.specs.List.{AllByRecursion}
 use Rattle.schema.specs.declared.schema.Table.{Table}
 use Rattle.store.specs.declared.fault.TableFault.{TableFault}
 use Rattle.store.specs.declared.fault.TableFault.TheVariants as faults
 use Rattle.store.specs.Tables.{Record, IsReported}
 use Rattle.store.specs.Parsing.{ReadsTable}
 use Rattle.store.specs.Databases.{LoadsTable, Loads}
-use Rattle.schema.specs.Databases.{Row, Database, IsUnique, SatisfiesTable, SatisfyTables, Stored, most_rows}
+use Rattle.schema.specs.Databases.{Row, Database, SatisfiesTable, SatisfyTables, Stored, most_rows}
 
 pub satisfy_length : (ts : List Table) (D : Database) → SatisfyTables ts D → length ts ≡ length D
 satisfy_length [] [] h = refl

@@ -1,5 +1,6 @@
 -- Where a part of a file can be cut.
-use Rattle.std.specs.Prelude.{◌≡◌, ◌≤◌, ◌==◌, ◌||◌, ℕ, List, [], ◌∷◌, ◌++◌, length, take, drop, if◌then◌else◌}
+use Rattle.std.specs.Prelude.{◌≡◌, ◌≤◌, ◌==◌, ◌||◌, ℕ, false, List, [], ◌∷◌, ◌++◌, length, take, drop, if◌then◌else◌}
+use Rattle.std.specs.List.{list_any}
 use Rattle.csv.specs.Machine.{step, carriage_return, line_feed}
 use Rattle.csv.specs.Reading.{default_config}
 use Rattle.csv.specs.declared.parser.State.{State}
@@ -23,6 +24,15 @@ quotes_after Fresh c = if c == 34 then Open else quotes_outside c
 quotes_after Plain c = quotes_outside c
 quotes_after Open c = if c == 34 then Closed else Open
 quotes_after Closed c = if c == 34 then Open else quotes_outside c
+
+-- the same of bytes, one by one
+abbrev pub quotes_behind : Quotes → List ℕ → Quotes
+quotes_behind quotes [] = quotes
+quotes_behind quotes (c ∷ rest) = quotes_behind (quotes_after quotes c) rest
+
+-- none of the bytes is a quote
+abbrev pub IsQuoteless : List ℕ → Type 0
+IsQuoteless bytes = list_any (λ y. y == 34) bytes ≡ false
 
 -- what a quote does in the state; by default no byte escapes another, and none begins a comment
 abbrev pub QuotesIn : Quotes → State → Type 0

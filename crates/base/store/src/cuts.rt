@@ -1,7 +1,9 @@
 //! Where a part of a table's file can be cut, so that the records of both sides are those of the whole.
 
-ghost use Rattle.std.specs.Prelude.{◌≡◌, ◌≢◌, IfSome, IsTrue};
-ghost use Rattle.store.specs.Cuts.{quotes_outside, quotes_after, IsLineEnd, CutsText, CutsFile};
+ghost use Rattle.std.specs.Prelude.{◌≡◌, ◌≢◌, ◌<◌, ◌≤◌, length, take, slice_index, IfSome};
+ghost use Rattle.store.specs.Cuts.{quotes_outside, quotes_after, quotes_behind, IsQuoteless, IsLineEnd, CutsText, CutsFile};
+
+use memchr::{memchr, memrchr};
 
 const QUOTE: u8 = b'"';
 
@@ -56,11 +58,48 @@ fn behind(quotes: Quotes, byte: u8) -> Quotes
     }
 }
 
-/// Whether the byte is a line feed in no quotes.
-fn ends_line(quotes: Quotes, byte: u8) -> bool
-    ensures { IsTrue result → (byte ≡ 10) × (quotes ≢ Quotes.Open) }
+/// What a quote would do behind bytes of which none is one.
+#[tactic(auto, using(crate::proofs::CutRecords::behind_none, crate::proofs::CutRecords::behind_open, crate::proofs::CutRecords::behind_last))]
+fn behind_plain(quotes: Quotes, bytes: &[u8]) -> Quotes
+    requires { IsQuoteless bytes.now }
+    ensures { result ≡ quotes_behind quotes bytes.now }
 {
-    byte == LINE_FEED && !matches!(quotes, Quotes::Open)
+    if bytes.is_empty() {
+        return quotes;
+    }
+    match quotes {
+        Quotes::Open => Quotes::Open,
+        Quotes::Fresh | Quotes::Plain | Quotes::Closed => outside(bytes[bytes.len() - 1]),
+    }
+}
+
+/// How many bytes there are before the first quote.
+fn until_quote(bytes: &[u8]) -> usize
+    ensures within { result ≤ length bytes.now }
+    ensures plain { IsQuoteless (take result bytes.now) }
+    ensures quote { result < length bytes.now → slice_index bytes.now result ≡ 34 }
+{
+    match memchr(QUOTE, bytes) {
+        Some(at) => at,
+        None => bytes.len(),
+    }
+}
+
+/// The last line feed.
+fn last_line_feed(bytes: &[u8]) -> Option<usize>
+    ensures { IfSome result (IsLineEnd bytes.now) }
+{
+    memrchr(LINE_FEED, bytes)
+}
+
+/// The last line feed of bytes of which none is a quote, if they are in no quotes.
+fn last_line_end(quotes: Quotes, bytes: &[u8]) -> Option<usize>
+    ensures { IfSome result (λ at. IsLineEnd bytes.now at × (quotes ≢ Quotes.Open)) }
+{
+    match quotes {
+        Quotes::Open => None,
+        Quotes::Fresh | Quotes::Plain | Quotes::Closed => last_line_feed(bytes),
+    }
 }
 
 /// The last line feed of a text that is in no quotes.
@@ -69,27 +108,21 @@ fn last_outside(text: &[u8]) -> Option<usize>
 {
     let mut quotes = Quotes::Fresh;
     let mut cut = None;
-    for at in 0..text.len() {
-        let byte = text[at];
-        if ends_line(quotes, byte) {
-            cut = Some(at);
+    let mut begin = 0;
+    // From quote to quote: of what lies between, the last byte and the last line feed are all that counts.
+    while begin < text.len() {
+        let end = begin + until_quote(&text[begin..]);
+        let plain = &text[begin..end];
+        if let Some(at) = last_line_end(quotes, plain) {
+            cut = Some(begin + at);
         }
-        quotes = behind(quotes, byte);
+        if end == text.len() {
+            return cut;
+        }
+        quotes = behind(behind_plain(quotes, plain), QUOTE);
+        begin = end + 1;
     }
     cut
-}
-
-/// The last line feed.
-fn last_line_feed(bytes: &[u8]) -> Option<usize>
-    ensures { IfSome result (IsLineEnd bytes.now) }
-{
-    for back in 0..bytes.len() {
-        let at = bytes.len() - 1 - back;
-        if bytes[at] == LINE_FEED {
-            return Some(at);
-        }
-    }
-    None
 }
 
 /// A place at which the bytes can be cut, whatever comes behind them: the last one that there is.
@@ -97,7 +130,8 @@ pub fn cut_of(bytes: &[u8]) -> Option<usize>
     ensures { IfSome result (CutsFile bytes.now) }
 {
     // Most files have no quotes, and then each line feed is a place.
-    if !bytes.contains(&QUOTE) {
+    let plain = until_quote(bytes);
+    if plain == bytes.len() {
         return last_line_feed(bytes);
     }
     // Behind a byte order mark the text begins, so that a quote there opens a field.

@@ -1,4 +1,4 @@
-use Rattle.std.proofs.Common.{refl, sym, ap, ℕ, [], ◌<◌, ◌++◌, length, take, ◌∙◌, arith}
+use Rattle.std.proofs.Common.{sym, ap, ℕ, [], ◌<◌, ◌++◌, length, take, ◌∙◌, arith}
 use Rattle.std.proofs.lemmas.List.{append-nil}
 use Rattle.std.proofs.KnownBytes.{Consumes-trans, Consumes-all}
 use Rattle.store.proofs.reading.parse_input.Goals as goal

@@ -1,4 +1,4 @@
-use Rattle.std.proofs.Common.{◌≡◌, ◌<◌, ◌≤◌, ◌∷◌, [], length, arith, rules, length-append}
+use Rattle.std.proofs.Common.{◌≡◌, ◌<◌, ◌∷◌, [], length, arith, rules, length-append}
 use Rattle.schema.specs.Databases.{most_rows}
 use Rattle.store.specs.declared.fault.TableCause.TheVariants.{TooMany}
 use Rattle.store.specs.Reading.{Remains}

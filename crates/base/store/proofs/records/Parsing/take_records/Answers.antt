@@ -1,4 +1,4 @@
-use Rattle.std.proofs.Common.{◌≡◌, ◌++◌, ◌∙◌}
+use Rattle.std.proofs.Common.{◌++◌, ◌∙◌}
 use Rattle.store.proofs.FrontRecords.{on_both, front_named, begun}
 use Rattle.store.proofs.records.Parsing.take_records.Goals as goal
 
