@@ -10,12 +10,6 @@ pub passing-parts : (p : ℕ → Bool) (start next count : ℕ) → start ≤ ne
 passing-parts p start next count low within =
     ap (filter p) (range_between start next count low within) ∙ filter-append p (range_with_len start (next - start)) (range_with_len next (count - next))
 
--- none is behind the end
-pub passing-none : (p : ℕ → Bool) (next count : ℕ) → count ≤ next → filter p (range_with_len next (count - next)) ≡ []
-passing-none p next count past =
-    let none : count - next ≡ 0 = omega (arith, past) in
-    ap (λ n. filter p (range_with_len next n)) none
-
 -- those that pass up to a row, in the place of an empty chunk
 pub next-part : (p : ℕ → Bool) (start next end count : ℕ) (chunk new : List ℕ) → next ≤ end → end ≤ count → chunk ≡ [] → new ≡ filter p (range_with_len next (end - next))
     → filter p (range_with_len start (count - start)) ≡ chunk ++ filter p (range_with_len next (count - next))
