@@ -7,7 +7,7 @@ use Rattle.physical.specs.declared.plan.Operator.{Operator}
 use Rattle.physical.specs.declared.plan.Plan.{Plan, fold-roll-Plan}
 use Rattle.explain.specs.ConditionTexts.{condition_text}
 use Rattle.explain.specs.PlanTexts.{PlacedNode, nodes_layer, nodes_from, indentation, estimate_at}
-use Rattle.explain.specs.WorkedTexts.{names, a_plan, same_department, department_same, is_paid, has_no_boss, is_named, ColumnsAreSpelled, ConditionsAreSpelled, PlanIsSpelled, NodesAreSpelled, PictureIsSpelled}
+use Rattle.explain.specs.WorkedTexts.{names, a_plan, same_department, department_same, is_paid, has_no_boss, is_named, ColumnsAreSpelled, ConditionsAreSpelled, PlanIsSpelled, NodesAreSpelled, MeasuresAreSpelled, PictureIsSpelled}
 use Rattle.explain.proofs.ConditionTexts.{form-Compare, form-IsNull, form-Not, form-And, form-Or, form-Exists, form-In}
 use Rattle.explain.proofs.PlanTexts.{nodes_below}
 use Rattle.explain.proofs.DotTexts.{inputs_left}
@@ -75,3 +75,9 @@ drawn-plan estimates o inputs k = ap (λ (f : ℕ → Drawn). f k) (fold-roll-Pl
 pub picture_is_spelled : PictureIsSpelled
 unfolding digits
 picture_is_spelled = rw (drawn-plan, drawn-plan, slash-text) refl
+
+-- ---- what was measured
+
+pub measures_are_spelled : MeasuresAreSpelled
+unfolding digits indentation
+measures_are_spelled = (rw (nodes-plan, nodes-plan, slash-text) refl, rw (nodes-plan, nodes-plan, slash-text) refl)

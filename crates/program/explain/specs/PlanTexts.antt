@@ -1,5 +1,6 @@
 -- The text by which a plan is explained: a line for each node, each node before its inputs, which stand two spaces deeper.
-use Rattle.std.specs.Prelude.{ℕ, zero, suc, ◌+◌, Bool, true, false, List, [], ◌∷◌, ◌++◌, slice_index_or, flat_map, codes, decimal}
+use Rattle.std.specs.Prelude.{ℕ, zero, suc, ◌+◌, ◌==◌, Bool, true, false, List, [], ◌∷◌, ◌++◌, Option, Some, None, slice_index_or, flat_map, codes, decimal, nat_lt, if◌then◌else◌}
+use Rattle.hex.specs.Hex.{encode_lower}
 use Rattle.algebra.specs.declared.expr.Aggregation.{Aggregation}
 use Rattle.physical.specs.declared.plan.GroupMethod.{GroupMethod}
 use Rattle.physical.specs.declared.plan.GroupMethod.TheVariants as group
@@ -17,8 +18,11 @@ use Rattle.physical.specs.declared.plan.Plan.{Plan, fold-Plan}
 use Rattle.physical.specs.declared.plan.Plan.TheOpen.{Plan-F}
 use Rattle.physical.specs.Indexes.{index_columns}
 use Rattle.costs.specs.declared.nodes.Estimate.{Estimate}
+use Rattle.measures.specs.declared.measured.Measure.{Measure}
 use Rattle.explain.specs.Names.{Text, ◌␣◌, list_text, Naming, table_text, aggregate_text, column_text, columns_text}
 use Rattle.explain.specs.ConditionTexts.{conjuncts_text}
+use Rattle.explain.specs.declared.plan_text.NodeForm.{NodeForm}
+use Rattle.explain.specs.declared.plan_text.NodeForm.TheVariants.{Line, Object}
 
 -- ---- joins
 
@@ -111,14 +115,54 @@ unfoldable pub indentation : ℕ → Text
 indentation zero = []
 indentation (suc depth) = codes "  " ++ indentation depth
 
-abbrev pub line_text : Naming → PlacedNode → Estimate → Text
-line_text names n e = indentation n.depth ++ (node_text names n.node e ++ codes "\n")
+-- what was measured of a node, behind its estimate
+abbrev pub measure_text : Option Measure → Text
+measure_text None = []
+measure_text (Some m) = codes " actual=" ++ (decimal m.rows ++ (codes " time=" ++ (decimal m.microseconds ++ codes "us")))
 
--- the lines of nodes that are numbered from the first number on
-abbrev pub lines_from : Naming → List Estimate → ℕ → List PlacedNode → Text
-lines_from names estimates k [] = []
-lines_from names estimates k (n ∷ nodes) = line_text names n (estimate_at estimates k) ++ lines_from names estimates (k + 1) nodes
+abbrev pub line_text : Naming → PlacedNode → Estimate → Option Measure → Text
+line_text names n e m = indentation n.depth ++ (node_text names n.node e ++ (measure_text m ++ codes "\n"))
 
--- the text of a plan, whose estimates stand in the order of the lines
-abbrev pub plan_text : Naming → List Estimate → Plan → Text
-plan_text names estimates p = lines_from names estimates 0 (nodes_from p 0)
+-- ---- nodes as JSON (RFC 8259)
+
+-- a byte of a string: quotes, backslashes and control bytes are escaped
+abbrev pub json_escaped : ℕ → Text
+json_escaped byte = if byte == 34 then codes "\\\"" else if byte == 92 then codes "\\\\" else if nat_lt byte 32 then codes "\\u00" ++ encode_lower (byte ∷ []) else byte ∷ []
+
+-- what was measured of a node
+abbrev pub json_measure : Option Measure → Text
+json_measure None = codes ",\"rows\":null,\"microseconds\":null"
+json_measure (Some m) = codes ",\"rows\":" ++ (decimal m.rows ++ (codes ",\"microseconds\":" ++ decimal m.microseconds))
+
+-- what stands before a node with a number: it begins the array, or is parted from the one before it
+abbrev pub json_before : ℕ → Text
+json_before k = if k == 0 then codes "[\n" else codes ",\n"
+
+-- what is known of a node besides what it does
+abbrev pub json_figures : Estimate → Option Measure → Text
+json_figures e m = codes "\",\"estimated_rows\":" ++ (decimal e.rows ++ (codes ",\"cost\":" ++ (decimal e.cost ++ (json_measure m ++ codes "}"))))
+
+abbrev pub object_text : Naming → ℕ → PlacedNode → Estimate → Option Measure → Text
+object_text names k n e m = json_before k ++ (codes "{\"depth\":" ++ (decimal n.depth ++ (codes ",\"node\":\"" ++ (flat_map json_escaped (node_words names n.node) ++ json_figures e m))))
+
+-- what was measured of the node with a number; nothing, if there is no such number
+abbrev pub measure_at : List (Option Measure) → ℕ → Option Measure
+measure_at measures k = slice_index_or measures k None
+
+-- a node with a number, as text or as JSON
+abbrev pub form_text : NodeForm → Naming → ℕ → PlacedNode → Estimate → Option Measure → Text
+form_text Line names k n e m = line_text names n e m
+form_text Object names k n e m = object_text names k n e m
+
+-- nodes that are numbered from the first number on
+abbrev pub nodes_text : NodeForm → Naming → List Estimate → List (Option Measure) → ℕ → List PlacedNode → Text
+nodes_text form names estimates measures k [] = []
+nodes_text form names estimates measures k (n ∷ nodes) = form_text form names k n (estimate_at estimates k) (measure_at measures k) ++ nodes_text form names estimates measures (k + 1) nodes
+
+-- the text of a plan, whose estimates and measures stand in the order of the lines
+abbrev pub plan_text : Naming → List Estimate → List (Option Measure) → Plan → Text
+plan_text names estimates measures p = nodes_text Line names estimates measures 0 (nodes_from p 0)
+
+-- a plan as JSON: an array of its nodes in the same order
+abbrev pub json_text : Naming → List Estimate → List (Option Measure) → Plan → Text
+json_text names estimates measures p = nodes_text Object names estimates measures 0 (nodes_from p 0) ++ codes "\n]\n"

@@ -1,5 +1,5 @@
--- Texts that are spelled out: of columns, of each form of condition, of a plan, of a node of each operator, and of a picture.
-use Rattle.std.specs.Prelude.{◌≡◌, ℕ, pos, negsuc, true, false, List, [], ◌∷◌, codes}
+-- Texts that are spelled out: of columns, of each form of condition, of a plan, of a node of each operator, of a picture, and of a plan that was measured.
+use Rattle.std.specs.Prelude.{◌≡◌, ℕ, pos, negsuc, true, false, List, [], ◌∷◌, Option, Some, None, codes}
 use Rattle.values.specs.declared.truth.Comparison.TheVariants as by
 use Rattle.values.specs.declared.value.Value.{Value}
 use Rattle.values.specs.declared.value.Value.TheVariants as value
@@ -19,9 +19,10 @@ use Rattle.physical.specs.declared.plan.Operator.TheVariants.{Scan, IndexScan, F
 use Rattle.physical.specs.declared.plan.Node.TheVariants.{Implements, Sort}
 use Rattle.physical.specs.declared.plan.Plan.{Plan, roll-Plan}
 use Rattle.costs.specs.declared.nodes.Estimate.{Estimate}
+use Rattle.measures.specs.declared.measured.Measure.{Measure}
 use Rattle.explain.specs.Names.{Text, Naming, column_text}
 use Rattle.explain.specs.ConditionTexts.{condition_text}
-use Rattle.explain.specs.PlanTexts.{node_text, plan_text}
+use Rattle.explain.specs.PlanTexts.{json_text, node_text, plan_text}
 use Rattle.explain.specs.DotTexts.{dot_text}
 
 -- ---- a query
@@ -105,7 +106,7 @@ paid_employees_text =
     codes "cut d.id,e.id rows=2 cost=285\n  filter e.pay > 0 rows=2 cost=284\n    hash left e.dept = d.id rows=3 cost=281\n      scan dept d rows=3 cost=130\n      scan emp e rows=4 cost=140\n"
 
 abbrev pub PlanIsSpelled : Type 0
-PlanIsSpelled = plan_text names estimated paid_employees ≡ paid_employees_text
+PlanIsSpelled = plan_text names estimated [] paid_employees ≡ paid_employees_text
 
 -- ---- nodes
 
@@ -146,3 +147,15 @@ abbrev pub PictureIsSpelled : Type 0
 PictureIsSpelled =
     dot_text names (an_estimate 2 135 ∷ []) other_departments
     ≡ codes "digraph plan {\n  n0 [label=\"filter d.name <> '\\\\ or \\\"' rows=2 cost=135\"];\n  n0 -> n1;\n  n1 [label=\"scan dept d rows=0 cost=0\"];\n}\n"
+
+-- ---- what was measured
+
+-- of the filter 2 rows in 7 microseconds, and of the scan nothing
+abbrev pub measured : List (Option Measure)
+measured = Some (record { rows = 2; microseconds = 7 }) ∷ None ∷ []
+
+abbrev pub MeasuresAreSpelled : Type 0
+MeasuresAreSpelled =
+    (plan_text names (an_estimate 2 135 ∷ []) measured other_departments ≡ codes "filter d.name <> '\\ or \"' rows=2 cost=135 actual=2 time=7us\n  scan dept d rows=0 cost=0\n")
+    × (json_text names (an_estimate 2 135 ∷ []) measured other_departments
+    ≡ codes "[\n{\"depth\":0,\"node\":\"filter d.name <> '\\\\ or \\\"'\",\"estimated_rows\":2,\"cost\":135,\"rows\":2,\"microseconds\":7},\n{\"depth\":1,\"node\":\"scan dept d\",\"estimated_rows\":0,\"cost\":0,\"rows\":null,\"microseconds\":null}\n]\n")

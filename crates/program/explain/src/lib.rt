@@ -3,6 +3,7 @@
 
 mod condition_text;
 pub mod dot_text;
+mod json_text;
 pub mod log_plans;
 mod names;
 mod naming;
@@ -12,6 +13,6 @@ pub mod plan_text;
 pub mod worked;
 
 pub use dot_text::dot;
-pub use log_plans::{dot_plan, explain_plan};
+pub use log_plans::{dot_plan, explain_plan, json_plan};
 pub use naming::Naming;
-pub use plan_text::explain;
+pub use plan_text::{explain, json};

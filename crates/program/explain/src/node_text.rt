@@ -240,6 +240,21 @@ fn push_operator(
     }
 }
 
+/// Adds what a node does.
+pub(crate) fn push_words(
+    alloc: Global,
+    text: &mut Vec<u8>,
+    names: &Naming<'_>,
+    node: &Node,
+) -> Result<(), AllocError>
+    ensures { OnOk result (text.new.items ≡ text.old.items ++ spec.node_words names.now node.now) }
+{
+    match node {
+        Node::Implements { line: _, operator } => push_operator(alloc, text, names, operator),
+        Node::Sort { keys } => push_sort(text, names, keys.as_slice()),
+    }
+}
+
 /// Adds a node with its estimate, and no indentation.
 pub(crate) fn push_node(
     alloc: Global,
@@ -250,10 +265,7 @@ pub(crate) fn push_node(
 ) -> Result<(), AllocError>
     ensures { OnOk result (text.new.items ≡ text.old.items ++ spec.node_text names.now node.now estimate) }
 {
-    match node {
-        Node::Implements { line: _, operator } => push_operator(alloc, text, names, operator)?,
-        Node::Sort { keys } => push_sort(text, names, keys.as_slice())?,
-    }
+    push_words(alloc, text, names, node)?;
     push_amount(text, " rows=", estimate.rows)?;
     push_amount(text, " cost=", estimate.cost)
 }

@@ -110,7 +110,7 @@ fn push_plan(
 ) -> Result<(), AllocError> {
     match what {
         What::Text => {
-            let text = explain_plan(alloc, statistics, log, own, plan)?;
+            let text = explain_plan(alloc, statistics, log, own, &[], plan)?;
             push_text(reported, text.as_slice())
         }
         What::Graph => {

@@ -22,8 +22,8 @@ loop-place-preserved c =
     let is : row ≡ get_or rows place row = c.index-row.ensures in
     let b = c.admits_number.result in
     let passes : p (get_or rows place row) ≡ b =
-        ap p (sym is) ∙ ap (λ v. is_true (compare c.args.comparison (value.Int known) v)) (sym c.number.ensures)
-        ∙ ap (λ op. is_true (compare op (value.Int known) (int_or_null c.number.result))) (sym c.by-admitted.ensures) ∙ sym c.admits_number.ensures in
+    ap p (sym is) ∙ ap (λ v. is_true (compare c.args.comparison (value.Int known) v)) (sym c.number.ensures)
+    ∙ ap (λ op. is_true (compare op (value.Int known) (int_or_null c.number.result))) (sym c.by-admitted.ensures) ∙ sym c.admits_number.ensures in
     record {
       kept = ap (λ n. take (kept + n) (set rows kept row)) c.from-kept.ensures ∙ ap (λ x. take (kept + from_bool b) (set rows kept x)) is ∙ place-written p old rows kept place row inv.kept inv.rest inv.few below inv.long b passes;
       rest = rest-kept p old rows kept place row inv.kept inv.rest inv.few below inv.long row;

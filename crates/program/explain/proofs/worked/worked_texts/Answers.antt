@@ -1,4 +1,4 @@
-use Rattle.explain.proofs.WorkedTexts.{columns_are_spelled, conditions_are_spelled, plan_is_spelled, nodes_are_spelled, picture_is_spelled}
+use Rattle.explain.proofs.WorkedTexts.{columns_are_spelled, conditions_are_spelled, plan_is_spelled, nodes_are_spelled, picture_is_spelled, measures_are_spelled}
 use Rattle.explain.proofs.worked.worked_texts.Goals as goal
 
 pub returns-clause-columns : goal.returns-clause-columns
@@ -15,3 +15,6 @@ returns-clause-nodes c = nodes_are_spelled
 
 pub returns-clause-picture : goal.returns-clause-picture
 returns-clause-picture c = picture_is_spelled
+
+pub returns-clause-measures : goal.returns-clause-measures
+returns-clause-measures c = measures_are_spelled
