@@ -1,5 +1,5 @@
 -- From bytes to a plan explained.
-use Rattle.std.specs.Prelude.{◌≡◌, ℕ, List, reverse, Ok}
+use Rattle.std.specs.Prelude.{◌≡◌, ℕ, List, [], reverse, Ok}
 use Rattle.schema.specs.declared.schema.Schema.{Schema}
 use Rattle.statistics.specs.declared.counts.Statistics.{Statistics}
 use Rattle.statistics.specs.Reading.{statistics_of}
@@ -20,7 +20,7 @@ use Rattle.pipeline.specs.Planned.{WithChecked, IsNotPlanned}
 
 -- a plan over the lines of a log
 abbrev pub shown : PlanForm → Statistics → List TableInstance → List Aggregation → Log → Plan → List ℕ
-shown Text s instances own E p = explained s instances own E p
+shown Text s instances own E p = explained s instances own E [] p
 shown Graph s instances own E p = graph s instances own E p
 
 -- the plan of a certificate, with what the statistics say of it over the certificate's own lines

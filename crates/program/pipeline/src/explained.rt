@@ -42,7 +42,7 @@ fn shown(
     ensures { IfOk result (λ text. text.items ≡ shown form statistics.now log.now.instances own.now log.now.log plan.now) }
 {
     match form {
-        PlanForm::Text => explain_plan(alloc, statistics, log, own, plan),
+        PlanForm::Text => explain_plan(alloc, statistics, log, own, &[], plan),
         PlanForm::Graph => dot_plan(alloc, statistics, log, own, plan),
     }
 }
