@@ -6,9 +6,9 @@ import tempfile
 
 from parts import run_all
 
-WITH_ROWS = ["tutorial", "answers", "queries", "planned", "texts", "plans", "joins", "rules"]
-OF_QUERIES = ["answers", "queries", "planned", "plans", "costs", "rules"]
-IN_ORDER = ["answers", "queries", "planned", "plans", "joins", "rules"]
+WITH_ROWS = ["tutorial", "answers", "queries", "planned", "texts", "plans", "joins", "rules", "imported"]
+OF_QUERIES = ["answers", "queries", "planned", "plans", "costs", "rules", "imported"]
+IN_ORDER = ["answers", "queries", "planned", "plans", "joins", "rules", "imported"]
 WRONG_PROGRAMS = [
     ("drops the last row of an answer", 'case $1 in query|run) "$P" "$@" | sed "2,\\${\\$d}"; exit ${PIPESTATUS[0]};; esac', WITH_ROWS),
     ("swaps the first two rows", 'case $1 in query|run) "$P" "$@" | sed "2{\\$!{h;d}};3G"; exit ${PIPESTATUS[0]};; esac', IN_ORDER),
