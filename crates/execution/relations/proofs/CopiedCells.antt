@@ -1,14 +1,16 @@
--- Rows of cells that are copied one by one, with the place of each among the copies.
+-- Rows of values that are copied one by one, with the place of each among the copies.
 use Rattle.std.proofs.Common.{◌≡◌, refl, ap, sym, subst, ◌∙◌, ◌⊎◌, inl, inr, ℕ, ◌<◌, ◌≤◌, List, [], ◌∷◌, ◌++◌, length, get_or, map, length-append, arith}
 use Rattle.std.specs.List.{AllByRecursion}
 use Rattle.std.proofs.lemmas.List.{get_or-map, length-map, map-append}
 use Rattle.std.proofs.Math.ListN.{get_or-append, get_or-eq_default}
 use Rattle.std.proofs.Math.Seq.{get_or-append_seam}
 use Rattle.values.proofs.Lists.{all_append}
-use Rattle.values.specs.declared.cell.Cell.{Cell}
-use Rattle.values.specs.Cells.{value_of}
+use Rattle.values.specs.declared.value.Value.{Value}
 use Rattle.schema.specs.Databases.{Row}
-use Rattle.relations.specs.Parts.{cell_rows}
+
+-- a row of each value
+abbrev pub value_rows : List Value → List Row
+value_rows values = map (λ v. v ∷ []) values
 
 -- a place is that of a copy, or the number past them all
 abbrev pub IsPlaced : ℕ → List Row → ℕ → Type 0
@@ -74,19 +76,19 @@ module _ (end : ℕ) (rows copies : List Row) (places numbers : List ℕ) (so : 
             ∙ sym (map-append (λ m. get_or rows m []) numbers (n ∷ []));
       }
 
--- the same of cells
-module _ (end : ℕ) (cells copies : List Cell) (places numbers : List ℕ) (so : AreCopied end (cell_rows cells) (cell_rows copies) places numbers) (below : length numbers < end) (n : ℕ) where
-  pub cell-copied : (copies' : List Cell) (places' : List ℕ) (place : ℕ) (d : Cell) → copies' ≡ copies ++ get_or cells n d ∷ [] → places' ≡ places ++ place ∷ [] → place ≡ length copies → n < length cells → AreCopied end (cell_rows cells) (cell_rows copies') places' (numbers ++ n ∷ [])
-  cell-copied copies' places' place d more at last within =
-      let row = λ (c : Cell). value_of c ∷ [] in
-      let rows : cell_rows copies' ≡ cell_rows copies ++ get_or (cell_rows cells) n [] ∷ [] =
-      ap cell_rows more ∙ map-append row copies (get_or cells n d ∷ []) ∙ ap (λ (r : Row). cell_rows copies ++ r ∷ []) (sym (get_or-map row cells n d [] within)) in
-      let placed' : places' ≡ places ++ length (cell_rows copies) ∷ [] = at ∙ ap (λ p. places ++ p ∷ []) (last ∙ sym (length-map copies row)) in
-      subst (λ r. AreCopied end (cell_rows cells) r places' (numbers ++ n ∷ [])) (sym rows)
-      (subst (λ p. AreCopied end (cell_rows cells) (cell_rows copies ++ get_or (cell_rows cells) n [] ∷ []) p (numbers ++ n ∷ [])) (sym placed')
-      (copied-row end (cell_rows cells) (cell_rows copies) places numbers so below n))
+-- the same of values, a row of each
+module _ (end : ℕ) (values copies : List Value) (places numbers : List ℕ) (so : AreCopied end (value_rows values) (value_rows copies) places numbers) (below : length numbers < end) (n : ℕ) where
+  pub value-copied : (copies' : List Value) (places' : List ℕ) (place : ℕ) (d : Value) → copies' ≡ copies ++ get_or values n d ∷ [] → places' ≡ places ++ place ∷ [] → place ≡ length copies → n < length values → AreCopied end (value_rows values) (value_rows copies') places' (numbers ++ n ∷ [])
+  value-copied copies' places' place d more at last within =
+      let row = λ (v : Value). v ∷ [] in
+      let rows : value_rows copies' ≡ value_rows copies ++ get_or (value_rows values) n [] ∷ [] =
+      ap value_rows more ∙ map-append row copies (get_or values n d ∷ []) ∙ ap (λ (r : Row). value_rows copies ++ r ∷ []) (sym (get_or-map row values n d [] within)) in
+      let placed' : places' ≡ places ++ length (value_rows copies) ∷ [] = at ∙ ap (λ p. places ++ p ∷ []) (last ∙ sym (length-map copies row)) in
+      subst (λ r. AreCopied end (value_rows values) r places' (numbers ++ n ∷ [])) (sym rows)
+      (subst (λ p. AreCopied end (value_rows values) (value_rows copies ++ get_or (value_rows values) n [] ∷ []) p (numbers ++ n ∷ [])) (sym placed')
+      (copied-row end (value_rows values) (value_rows copies) places numbers so below n))
 
-  pub cell-past : (places' : List ℕ) → places' ≡ places ++ end ∷ [] → length cells ≤ n → AreCopied end (cell_rows cells) (cell_rows copies) places' (numbers ++ n ∷ [])
-  cell-past places' at past =
-      subst (λ p. AreCopied end (cell_rows cells) (cell_rows copies) p (numbers ++ n ∷ [])) (sym at)
-      (copied-past end (cell_rows cells) (cell_rows copies) places numbers so below n (let all = length-map cells (λ (c : Cell). value_of c ∷ []) in omega (arith, all, past)))
+  pub value-past : (places' : List ℕ) → places' ≡ places ++ end ∷ [] → length values ≤ n → AreCopied end (value_rows values) (value_rows copies) places' (numbers ++ n ∷ [])
+  value-past places' at past =
+      subst (λ p. AreCopied end (value_rows values) (value_rows copies) p (numbers ++ n ∷ [])) (sym at)
+      (copied-past end (value_rows values) (value_rows copies) places numbers so below n (let all = length-map values (λ (v : Value). v ∷ []) in omega (arith, all, past)))

@@ -86,11 +86,13 @@ pub own-within : (n m end : ℕ) → m + n ≤ end → AllByRecursion (λ p. p.p
 own-within zero m end below = tt
 own-within (suc n) m end below = (omega (arith, below), own-within n (m + 1) end (omega (arith, below)))
 
--- ---- columns of cells
+-- ---- columns of values
+
+pub value-column : (values : List Value) (fs : List Env) (c : ℕ) → values ≡ map (λ f. f c) fs → map (λ v. v ∷ []) values ≡ map (λ f. f c ∷ []) fs
+value-column values fs c same = ap (map (λ (v : Value). v ∷ [])) same ∙ map-map (λ (v : Value). v ∷ []) (λ (f : Env). f c) fs
 
 pub cell-column : (cells : List Cell) (fs : List Env) (c : ℕ) → map value_of cells ≡ map (λ f. f c) fs → cell_rows cells ≡ map (λ f. f c ∷ []) fs
-cell-column cells fs c same =
-    sym (map-map (λ (v : Value). v ∷ []) value_of cells) ∙ ap (map (λ (v : Value). v ∷ [])) same ∙ map-map (λ (v : Value). v ∷ []) (λ (f : Env). f c) fs
+cell-column cells fs c same = sym (map-map (λ (v : Value). v ∷ []) value_of cells) ∙ value-column (map value_of cells) fs c same
 
 pub made-even : (K : List ℕ) (made : List Env) (count : ℕ) → length made ≡ count → AllByRecursion (λ part. length part ≡ count) (map (λ c. map (λ f. f c ∷ []) made) K)
 made-even [] made count many = tt

@@ -1,4 +1,5 @@
 pub mod Comparisons
+pub mod MadeColumns
 pub mod PairTests
 pub mod Parts
 pub mod Places

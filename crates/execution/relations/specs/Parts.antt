@@ -9,6 +9,7 @@ use Rattle.query.specs.Rows.{value_at}
 use Rattle.relations.specs.declared.headings.Place.{Place}
 use Rattle.relations.specs.declared.parts.Source.{Source}
 use Rattle.relations.specs.declared.parts.Source.TheVariants.{Stored, Made}
+use Rattle.relations.specs.MadeColumns.{made_rows}
 
 -- a row of each cell
 abbrev pub cell_rows : List Cell → List Row
@@ -16,7 +17,7 @@ cell_rows cells = map (λ c. value_of c ∷ []) cells
 
 abbrev pub source_rows : Source → List Row
 source_rows (Stored table) = table.now
-source_rows (Made cells) = cell_rows cells.items
+source_rows (Made column) = made_rows column
 
 -- all rows, or those with some numbers
 abbrev pub numbered_rows : List Row → Option (List ℕ) → List Row

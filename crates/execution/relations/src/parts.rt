@@ -4,9 +4,11 @@ ghost use Rattle.std.specs.Prelude.{◌≡◌, ℕ, List, ◌∷◌, [], length,
 ghost use Rattle.values.specs.Cells.{value_of};
 ghost use Rattle.schema.specs.Databases.{Row};
 ghost use Rattle.query.specs.Rows.{value_at};
+ghost use Rattle.relations.specs.MadeColumns.{made_rows};
 ghost use Rattle.relations.specs.Parts.{cell_rows, numbered_rows, source_rows};
 ghost use Rattle.relations.specs.RowColumns.{column_value, number_value};
 
+use crate::made_columns::MadeColumn;
 use crate::number_column::NumberColumn;
 use crate::row_columns::RowColumn;
 use std::alloc::{AllocError, Global};
@@ -18,8 +20,8 @@ use values::{Cell, Items};
 #[derive(Drop)]
 pub enum Source<'t> {
     Stored(&'t Table),
-    /// Cells that an operator made, each of them a row.
-    Made(Vec<Cell<'t>>),
+    /// Values that an operator made, each of them a row.
+    Made(MadeColumn<'t>),
 }
 
 impl<'t> Source<'t> {
@@ -28,7 +30,7 @@ impl<'t> Source<'t> {
     {
         match self {
             Source::Stored(table) => table.len(),
-            Source::Made(cells) => cells.len(),
+            Source::Made(column) => column.len(),
         }
     }
 
@@ -38,10 +40,7 @@ impl<'t> Source<'t> {
     {
         match self {
             Source::Stored(table) => RowCells::Stored(table, row).cell(at),
-            Source::Made(cells) => match cells.as_slice().get(row) {
-                Some(cell) => made_cell(*cell, at),
-                None => Cell::Null,
-            },
+            Source::Made(column) => made_cell(column.cell(row), at),
         }
     }
 }
@@ -56,8 +55,8 @@ impl<'t> Source<'t> {
                 source: Source::Stored(*table),
                 numbers: Some(numbers),
             }),
-            Source::Made(cells) => {
-                let (copies, places) = copied(alloc, cells.as_slice(), numbers.as_slice())?;
+            Source::Made(column) => {
+                let (copies, places) = copied(alloc, column, numbers.as_slice())?;
                 Ok(Part {
                     source: Source::Made(copies),
                     numbers: Some(Items::from_vec(places)),
@@ -74,20 +73,20 @@ fn made_cell<'t>(cell: Cell<'t>, at: usize) -> Cell<'t>
     if at == 0 { cell } else { Cell::Null }
 }
 
-/// Of some cells those with these numbers, and the place of each among them; past the end there is none.
+/// Of some values those with these numbers, and the place of each among them; past the end there is none.
 fn copied<'t>(
     alloc: Global,
-    cells: &[Cell<'t>],
+    column: &MadeColumn<'t>,
     numbers: &[usize],
-) -> Result<(Vec<Cell<'t>>, Vec<usize>), AllocError>
-    ensures { IfOk result (λ p. map (λ n. slice_index_or (cell_rows p.0.items) n []) p.1.items ≡ map (λ n. slice_index_or (cell_rows cells.now) n []) numbers.now) }
+) -> Result<(MadeColumn<'t>, Vec<usize>), AllocError>
+    ensures { IfOk result (λ p. map (λ n. slice_index_or (made_rows p.0) n []) p.1.items ≡ map (λ n. slice_index_or (made_rows column.now) n []) numbers.now) }
 {
-    let mut copies = Vec::with_capacity(alloc, numbers.len())?;
+    let mut copies = MadeColumn::with_capacity(alloc, numbers.len())?;
     let mut places = Vec::with_capacity(alloc, numbers.len())?;
     for number in numbers {
-        if *number < cells.len() {
+        if *number < column.len() {
             places.push(copies.len())?;
-            copies.push(cells[*number])?;
+            copies.push(alloc, column.cell(*number))?;
         } else {
             places.push(numbers.len())?;
         }
@@ -170,8 +169,15 @@ impl<'t> Part<'t> {
     pub fn made(cells: Vec<Cell<'t>>) -> Part<'t>
         ensures { result ≡ cell_rows cells.entry.items }
     {
+        Part::of_column(MadeColumn::Cells(cells))
+    }
+
+    /// A row of each value.
+    pub fn of_column(column: MadeColumn<'t>) -> Part<'t>
+        ensures { result ≡ made_rows column.entry }
+    {
         Part {
-            source: Source::Made(cells),
+            source: Source::Made(column),
             numbers: None,
         }
     }

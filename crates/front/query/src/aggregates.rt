@@ -76,8 +76,8 @@ fn summand<'t>(of: Aggregate, cell: Cell<'t>) -> Cell<'t>
     }
 }
 
-/// An aggregate of one value more, given that of the values of so many rows before it.
-fn one_more<'t>(of: Aggregate, cell: Cell<'t>, so_far: Cell<'t>, rows: usize) -> Cell<'t>
+/// An aggregate of one value more, given that of the values of so many rows before it. Numbers of 64 bits don't pass 128 in fewer than 2^64 rows.
+pub fn one_more<'t>(of: Aggregate, cell: Cell<'t>, so_far: Cell<'t>, rows: usize) -> Cell<'t>
     requires few { rows + 1 < 2 ^ 64 }
     requires small { spec.size_of of (value_of so_far) ≤ rows * 2 ^ 63 }
     requires read { spec.MayRead of (λ place. value_of cell) }

@@ -1,7 +1,7 @@
 use Rattle.std.proofs.Common.{length, take}
-use Rattle.relations.specs.Parts.{cell_rows}
+use Rattle.relations.specs.MadeColumns.{made_rows}
 use Rattle.relations.proofs.CopiedCells.{AreCopied}
 use Rattle.relations.proofs.parts.copied.Given as goal
 
 abbrev pub invariant-loop-number : goal.invariant-loop-number
-invariant-loop-number l = AreCopied (length l.numbers) (cell_rows l.cells) (cell_rows l.copies.items) l.places.items (take l.number-index l.numbers)
+invariant-loop-number l = AreCopied (length l.numbers) (made_rows l.column) (made_rows l.copies) l.places.items (take l.number-index l.numbers)
