@@ -1,8 +1,9 @@
 -- Groups as they are first seen, row by row.
-use Rattle.std.proofs.Common.{◌≡◌, refl, ap, sym, ◌∙◌, ◌+◌, Bool, true, false, not, ◌||◌, if◌then◌else◌, List, [], ◌∷◌, ◌++◌, length, map, filter, zero, suc, ℕ, append-nil, arith}
+use Rattle.std.proofs.Common.{◌≡◌, refl, ap, sym, ◌∙◌, ◌+◌, ◌<◌, Bool, true, false, not, ◌||◌, if◌then◌else◌, List, [], ◌∷◌, ◌++◌, length, get_or, map, filter, zero, suc, ℕ, append-nil, arith}
 use Rattle.std.specs.List.{AllByRecursion, list_any, position_or_len}
 use Rattle.std.specs.Cmp.{IsEquivalence}
 use Rattle.values.proofs.Each.{all_filter}
+use Rattle.values.proofs.Lists.{all_at}
 use Rattle.std.proofs.lemmas.List.Elements.{filter-append}
 use Rattle.grouping.specs.Groups.{GroupOf, first_seen, groups_by, added_at, with_founder}
 
@@ -188,3 +189,54 @@ module _ {X K : Type 0} (key : X → K) (eq : K → K → Bool) (law : IsEquival
   -- a row that is like none before it has the next place
   pub place-new : (rows : List X) (r : X) → AllByRecursion (λ x. alike r x ≡ false) rows → place rows r ≡ length (first_seen alike rows)
   place-new rows r all = position-none r (first_seen alike rows) (all-first (λ x. alike r x ≡ false) rows all)
+
+  -- ---- a row and the first rows of groups
+
+  -- each is unlike all behind it
+  abbrev pub AreUnlike : List X → Type 0
+  AreUnlike [] = Unit {0}
+  AreUnlike (x ∷ xs) = AllByRecursion (λ y. alike x y ≡ false) xs × AreUnlike xs
+
+  unlike-filter : (p : X → Bool) (xs : List X) → AreUnlike xs → AreUnlike (filter p xs)
+  unlike-filter p [] unlike = tt
+  unlike-filter p (x ∷ xs) unlike = by (p x) (unlike-filter p xs unlike.1)
+    where
+      by : (b : Bool) → AreUnlike (filter p xs) → AreUnlike (if b then x ∷ filter p xs else filter p xs)
+      by true later = (all_filter (λ y. alike x y ≡ false) p xs unlike.0, later)
+      by false later = later
+
+  kept-unlike : (x : X) (xs : List X) → AllByRecursion (λ y. alike x y ≡ false) (filter (λ s. not (alike x s)) xs)
+  kept-unlike x [] = tt
+  kept-unlike x (y ∷ xs) = by (alike x y) refl (kept-unlike x xs)
+    where
+      by : (b : Bool) → alike x y ≡ b → AllByRecursion (λ z. alike x z ≡ false) (filter (λ s. not (alike x s)) xs)
+          → AllByRecursion (λ z. alike x z ≡ false) (if not b then y ∷ filter (λ s. not (alike x s)) xs else filter (λ s. not (alike x s)) xs)
+      by true is later = later
+      by false is later = (is, later)
+
+  pub seen-unlike : (rows : List X) → AreUnlike (first_seen alike rows)
+  seen-unlike [] = tt
+  seen-unlike (r ∷ rows) = (kept-unlike r (first_seen alike rows), unlike-filter (λ s. not (alike r s)) (first_seen alike rows) (seen-unlike rows))
+
+  -- a row that is like one of them has its place
+  pub found-place : (r : X) (xs : List X) (i : ℕ) (d : X) → AreUnlike xs → i < length xs → alike r (get_or xs i d) ≡ true → position_or_len (eq (key r)) (map key xs) ≡ i
+  found-place r [] i d unlike below is = absurd (omega (arith, below))
+  found-place r (x ∷ xs) zero d unlike below is = ap (λ b. if not b then 1 + position_or_len (eq (key r)) (map key xs) else 0) is
+  found-place r (x ∷ xs) (suc i) d unlike below is =
+      ap (λ b. if not b then 1 + position_or_len (eq (key r)) (map key xs) else 0) (by (alike r x) refl) ∙ ap (λ n. 1 + n) (found-place r xs i d unlike.1 (omega (arith, below)) is)
+      ∙ (let next : 1 + i ≡ suc i = omega arith in next)
+    where
+      g : X
+      g = get_or xs i d
+
+      by : (b : Bool) → alike r x ≡ b → alike r x ≡ false
+      by true like = absurd (let e : true ≡ false = sym is ∙ law.congr (key r) (key x) (key g) like ∙ all_at (λ y. alike x y ≡ false) xs i d (omega (arith, below)) unlike.0 in cc)
+      by false other = other
+
+  -- one that is like none of them has the next place
+  pub other-place : (r : X) (xs : List X) (d : X) → ((j : ℕ) → j < length xs → alike r (get_or xs j d) ≡ false) → position_or_len (eq (key r)) (map key xs) ≡ length xs
+  other-place r xs d other = position-none r xs (each xs other)
+    where
+      each : (ys : List X) → ((j : ℕ) → j < length ys → alike r (get_or ys j d) ≡ false) → AllByRecursion (λ y. alike r y ≡ false) ys
+      each [] so = tt
+      each (y ∷ ys) so = (so zero (omega arith), each ys (λ j below. so (suc j) (omega (arith, below))))

@@ -27,6 +27,7 @@ use Rattle.relations.specs.declared.headings.Place.{Place}
 use Rattle.relations.specs.Parts.{row_at, value_in}
 use Rattle.relations.specs.Places.{listed}
 use Rattle.relations.specs.Relations.{column_place, column_places, row_env, numbered_env, numbers_of, rows_of}
+use Rattle.grouping.specs.RowNumbers.{numbers_in}
 use Rattle.grouping.specs.Groups.{GroupOf, first_seen, groups_by, key_at, same_at, group_env, group_envs, member_envs, placed_groups, row_group_envs}
 use Rattle.relations.proofs.ColumnPlaces.{found-column, other-column}
 
@@ -152,7 +153,7 @@ group-laid (k ∷ K) A x e =
     map-map (λ f. lay (has (rising (L ++ aggregate_columns A))) f e) one (distinct_on L (x e)) ∙ (λ i. map (λ r. laid-group L A (filter (same_on L r) (x e)) r e i) (distinct_on L (x e)))
 
 -- there are as many groups as first rows
-pub groups-many : (g : Grouping) (G : Groups) (e : Env) → length (group_envs g G.input.now e (groups_in G)) ≡ length G.firsts.items
+pub groups-many : (g : Grouping) (G : Groups) (e : Env) → length (group_envs g G.input.now e (groups_in G)) ≡ length (numbers_in G.firsts)
 groups-many g G e =
     let same : ℕ → ℕ → Bool = same_at G.places.items G.input.now.rows in
     length-map (groups_in G) (λ group. group_env g (member_envs G.input.now e group) (numbered_env G.input.now e group.first) e)

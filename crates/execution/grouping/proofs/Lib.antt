@@ -1,7 +1,10 @@
 pub mod AllRows
 pub mod Chunks
 pub mod FirstSeen
+pub mod FoundGroups
+pub mod GroupChains
 pub mod GroupEnvs
+pub mod GroupValues
 pub mod KeyPlaces
 pub mod NumberedGroups
 pub mod Readable

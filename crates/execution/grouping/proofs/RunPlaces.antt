@@ -6,7 +6,7 @@ use Rattle.grouping.specs.Groups.{StandTogether, continues, first_seen}
 use Rattle.grouping.proofs.FirstSeen.{place, place-again, place-new}
 use Rattle.store.proofs.IndexLists.{numbers_more}
 
-all-numbers : (P : ℕ → Type 0) (a n : ℕ) → ((i : ℕ) → a ≤ i → i < a + n → P i) → AllByRecursion P (range_with_len a n)
+pub all-numbers : (P : ℕ → Type 0) (a n : ℕ) → ((i : ℕ) → a ≤ i → i < a + n → P i) → AllByRecursion P (range_with_len a n)
 all-numbers P a zero each = tt
 all-numbers P a (suc n) each = (each a (omega arith) (omega arith), all-numbers P (a + 1) n (λ i low high. each i (omega (arith, low)) (omega (arith, high))))
 

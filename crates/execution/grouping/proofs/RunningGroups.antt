@@ -44,7 +44,7 @@ module _ (a : Aggregate) (value : ℕ → Value) where
       let short : length g.rows ≤ most = few.0 in
       ((all.0.of, omega (arith, rows, short, below)), after-few groups running most below few.1 all.1)
 
-length-filter : {X : Type 0} (p : X → Bool) (xs : List X) → length (filter p xs) ≤ length xs
+pub length-filter : {X : Type 0} (p : X → Bool) (xs : List X) → length (filter p xs) ≤ length xs
 length-filter p [] = omega arith
 length-filter p (x ∷ xs) = by (p x) (length-filter p xs)
   where

@@ -6,6 +6,7 @@ use Rattle.schema.specs.Databases.{Row}
 use Rattle.store.specs.Keys.{key_eq}
 use Rattle.query.specs.declared.query.Aggregate.{Aggregate}
 use Rattle.query.specs.declared.aggregates.Running.{Running}
+use Rattle.query.specs.Aggregates.{aggregate_of}
 use Rattle.query.specs.Running.{IsAfter}
 use Rattle.algebra.specs.Columns.{has}
 use Rattle.algebra.specs.Bags.{Env, lay}
@@ -91,6 +92,12 @@ member_envs input e group = map (numbered_env input e) group.rows
 -- the rows of the groups
 abbrev pub group_envs : Grouping → Relation → Env → List (GroupOf ℕ) → List Env
 group_envs g input e groups = row_group_envs g (numbered_env input e) e groups
+
+-- ---- aggregates
+
+-- what an aggregate is of each group's rows, of which the column's values are given
+abbrev pub group_values : Aggregate → (ℕ → Value) → List (GroupOf ℕ) → List Value
+group_values a value groups = map (λ g. aggregate_of a (length (map value g.rows)) (λ place. map value g.rows)) groups
 
 -- ---- aggregates that run
 

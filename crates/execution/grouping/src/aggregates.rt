@@ -1,19 +1,20 @@
 //! Aggregates of rows that come one by one.
 
-ghost use Rattle.std.specs.Prelude.{◌≡◌, ◌+◌, ◌^◌, ◌<◌, ℕ, List, [], ◌∷◌, length, map, IfOk, OnOk};
+ghost use Rattle.std.specs.Prelude.{◌≡◌, ◌+◌, ◌*◌, ◌^◌, ◌<◌, ◌≤◌, ℕ, List, [], ◌∷◌, length, map, IfOk, OnOk};
 ghost use Rattle.std.specs.List.{AllByRecursion};
 ghost use Rattle.values.specs.declared.value.Value.{Value};
 ghost use Rattle.values.specs.Cells.{value_of};
 ghost use Rattle.query.specs.Aggregates as spec;
-ghost use Rattle.grouping.specs.Groups.{AreAfter, GroupOf, added_at, member_envs};
+ghost use Rattle.grouping.specs.Groups.{AreAfter, GroupOf, added_at, group_values, member_envs};
 ghost use Rattle.grouping.specs.Grouped.{groups_in};
 ghost use Rattle.query.specs.Running.{IsAfter};
-ghost use Rattle.relations.specs.Relations.{env_of, numbered_env, rows_of};
+ghost use Rattle.relations.specs.MadeColumns.{made_values};
+ghost use Rattle.relations.specs.Relations.{env_of, rows_of};
 
 use crate::row_groups::Groups;
 use query::Aggregate;
-use query::aggregates::{Running, column_of};
-use relations::{Env, Relation, row_column};
+use query::aggregates::{Running, column_of, one_more};
+use relations::{Env, MadeColumn, row_column};
 use std::alloc::{AllocError, Global};
 use values::Cell;
 
@@ -46,22 +47,51 @@ pub fn add_to_group<'t>(
     Ok(())
 }
 
-/// An aggregate of each group, while the rows come in their order.
-fn running_groups<'t>(
+/// Takes the value of a row with so many rows before it into the aggregate of the group with this number, which it founds where there is none.
+fn add_to_column<'t>(
+    alloc: Global,
+    so_far: &mut MadeColumn<'t>,
+    group: usize,
+    of: Aggregate,
+    cell: Cell<'t>,
+    rows: usize,
+) -> Result<(), AllocError>
+    requires few { rows + 1 < 2 ^ 64 }
+    requires small { AllByRecursion (λ v. spec.size_of of v ≤ rows * 2 ^ 63) (made_values so_far.old) }
+    requires read { spec.MayRead of (λ place. value_of cell) }
+    ensures { (value : ℕ → Value) (groups : List (GroupOf ℕ)) (n : ℕ) → value_of cell.entry ≡ value n → made_values so_far.old ≡ group_values of value groups → OnOk result (made_values so_far.new ≡ group_values of value (added_at group n groups)) }
+{
+    if group < so_far.len() {
+        let more = one_more(of, cell, so_far.cell(group), rows);
+        so_far.set(alloc, group, more)
+    } else {
+        so_far.push(alloc, running_of(of, cell).value())
+    }
+}
+
+/// An aggregate of each group. The rows come in their order.
+pub fn aggregate_column<'t>(
     alloc: Global,
     groups: &Groups<'_, 't>,
     env: &Env<'_, 't>,
     of: Aggregate,
-) -> Result<Vec<Running<'t>>, AllocError>
+) -> Result<MadeColumn<'t>, AllocError>
     requires { AllByRecursion (spec.MayRead of) (rows_of groups.now.input.now (env_of env.now)) }
-    ensures { IfOk result (λ running. AreAfter of (λ n. numbered_env groups.now.input.now (env_of env.now) n (spec.column_of of)) (groups_in groups.now) running.items) }
+    ensures { IfOk result (λ column. made_values column ≡ map (λ group. spec.aggregate_of of (length (member_envs groups.now.input.now (env_of env.now) group)) (λ k. map (λ r. r k) (member_envs groups.now.input.now (env_of env.now) group))) (groups_in groups.now)) }
 {
-    let mut running = Vec::new(alloc);
+    let mut so_far = MadeColumn::with_capacity(alloc, groups.firsts.len())?;
     let column = row_column(groups.input, env, column_of(of));
     for row in 0..groups.input.rows.count {
-        add_to_group(&mut running, groups.numbers[row], of, column.cell(row))?;
+        add_to_column(
+            alloc,
+            &mut so_far,
+            groups.numbers.number(row),
+            of,
+            column.cell(row),
+            row,
+        )?;
     }
-    Ok(running)
+    Ok(so_far)
 }
 
 /// What the aggregates are.
@@ -73,18 +103,4 @@ pub fn values_of<'t>(alloc: Global, running: &[Running<'t>]) -> Result<Vec<Cell<
         cells.push(group.value())?;
     }
     Ok(cells)
-}
-
-/// An aggregate of each group.
-pub fn aggregate_column<'t>(
-    alloc: Global,
-    groups: &Groups<'_, 't>,
-    env: &Env<'_, 't>,
-    of: Aggregate,
-) -> Result<Vec<Cell<'t>>, AllocError>
-    requires { AllByRecursion (spec.MayRead of) (rows_of groups.now.input.now (env_of env.now)) }
-    ensures { IfOk result (λ cells. map value_of cells.items ≡ map (λ group. spec.aggregate_of of (length (member_envs groups.now.input.now (env_of env.now) group)) (λ k. map (λ r. r k) (member_envs groups.now.input.now (env_of env.now) group))) (groups_in groups.now)) }
-{
-    let running = running_groups(alloc, groups, env, of)?;
-    values_of(alloc, running.as_slice())
 }

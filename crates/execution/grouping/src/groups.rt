@@ -1,13 +1,14 @@
 //! Groups and distinct rows of a relation.
 
-ghost use Rattle.std.specs.Prelude.{◌≡◌, ◌++◌, ◌<◌, [], ◌∷◌, length, map, IfOk};
-ghost use Rattle.values.specs.Cells.{value_of};
+ghost use Rattle.std.specs.Prelude.{◌≡◌, ◌++◌, ◌<◌, ℕ, [], ◌∷◌, length, map, IfOk};
 ghost use Rattle.algebra.specs.Bags as bags;
 ghost use Rattle.algebra.specs.Columns.{has, rising};
 ghost use Rattle.algebra.specs.Expressions as expressions;
 ghost use Rattle.physical.specs.declared.plan.GroupMethod.TheVariants as by;
 ghost use Rattle.physical.specs.Origins.{AreReadable};
+ghost use Rattle.relations.specs.MadeColumns.{made_values};
 ghost use Rattle.relations.specs.Relations.{IsOutput, env_of, numbered_env, rows_of};
+ghost use Rattle.relations.specs.RowColumns.{column_value};
 ghost use Rattle.grouping.specs.Groups.{AreTogether, group_envs};
 ghost use Rattle.grouping.specs.Grouped.{groups_in};
 
@@ -17,9 +18,8 @@ use crate::totals::Totals;
 use algebra::{Aggregation, Columns};
 use physical::GroupMethod;
 use query::ColumnId;
-use relations::{Env, Part, Relation, row_cell};
+use relations::{Env, MadeColumn, Part, Relation, RowColumn, row_column};
 use std::alloc::{AllocError, Global};
-use values::Cell;
 
 /// One of each row, as first seen. By the method sorted, those that are the same stand together.
 pub fn distinct<'t>(
@@ -46,7 +46,7 @@ fn distinct_numbers(
     let heading = &input.heading;
     let places = heading.places_of(alloc, heading.columns.as_slice())?;
     let groups = Groups::new(alloc, method, input, places)?;
-    Ok(groups.into_firsts())
+    groups.into_firsts(alloc)
 }
 
 /// How rows are grouped: by which columns, and with which aggregates.
@@ -57,55 +57,55 @@ pub struct Grouping<'a> {
 }
 
 /// A column of the groups: an aggregate, or else as the first row of each has it.
-fn group_cells<'t>(
+fn group_column<'t>(
     alloc: Global,
     grouping: Grouping<'_>,
     groups: &Groups<'_, 't>,
     env: &Env<'_, 't>,
     column: ColumnId,
-) -> Result<Vec<Cell<'t>>, AllocError>
+) -> Result<MadeColumn<'t>, AllocError>
     requires { AreReadable grouping.added.now (rows_of groups.now.input.now (env_of env.now)) }
-    ensures { IfOk result (λ cells. map value_of cells.items ≡ map (λ f. f column) (group_envs grouping.entry groups.now.input.now (env_of env.now) (groups_in groups.now))) }
+    ensures { IfOk result (λ made. made_values made ≡ map (λ f. f column) (group_envs grouping.entry groups.now.input.now (env_of env.now) (groups_in groups.now))) }
 {
     for added in grouping.added {
         if added.column == column {
             return aggregate_column(alloc, groups, env, added.aggregate);
         }
     }
-    first_cells(alloc, grouping, groups, env, column)
+    first_column(alloc, grouping, groups, env, column)
 }
 
 /// A column as the first row of each group has it.
-fn first_cells<'t>(
+fn first_column<'t>(
     alloc: Global,
     grouping: Grouping<'_>,
     groups: &Groups<'_, 't>,
     env: &Env<'_, 't>,
     column: ColumnId,
-) -> Result<Vec<Cell<'t>>, AllocError>
-    ensures { IfOk result (λ cells. map value_of cells.items ≡ map (λ group. bags.lay (has grouping.entry.keys.now) (numbered_env groups.now.input.now (env_of env.now) group.first) (env_of env.now) column) (groups_in groups.now)) }
+) -> Result<MadeColumn<'t>, AllocError>
+    ensures { IfOk result (λ made. made_values made ≡ map (λ group. bags.lay (has grouping.entry.keys.now) (numbered_env groups.now.input.now (env_of env.now) group.first) (env_of env.now) column) (groups_in groups.now)) }
 {
-    let mut cells = Vec::with_capacity(alloc, groups.firsts.len())?;
-    for first in groups.firsts.as_slice() {
-        cells.push(first_cell(grouping, groups.input, *first, env, column))?;
+    let mut made = MadeColumn::with_capacity(alloc, groups.firsts.len())?;
+    let values = key_column(grouping, groups.input, env, column);
+    for group in 0..groups.firsts.len() {
+        made.push(alloc, values.cell(groups.firsts.number(group)))?;
     }
-    Ok(cells)
+    Ok(made)
 }
 
-/// A column as a group's first row has it, if it is a key, and else as the environment has it.
-fn first_cell<'t>(
+/// A column as the rows have it, if it is a key, and else as the environment has it.
+fn key_column<'p, 't>(
     grouping: Grouping<'_>,
-    input: &Relation<'t>,
-    first: usize,
+    input: &'p Relation<'t>,
     env: &Env<'_, 't>,
     column: ColumnId,
-) -> Cell<'t>
-    ensures { value_of result ≡ bags.lay (has grouping.entry.keys.now) (numbered_env input.now (env_of env.now) first) (env_of env.now) column }
+) -> RowColumn<'p, 't>
+    ensures { (n : ℕ) → column_value result n ≡ bags.lay (has grouping.entry.keys.now) (numbered_env input.now (env_of env.now) n) (env_of env.now) column }
 {
     if grouping.keys.contains(column) {
-        row_cell(input, first, env, column)
+        row_column(input, env, column)
     } else {
-        env.column(column)
+        RowColumn::Known(env.column(column))
     }
 }
 
@@ -122,8 +122,8 @@ fn group_parts<'t>(
 {
     let mut parts = Vec::with_capacity(alloc, columns.len())?;
     for column in columns {
-        let cells = group_cells(alloc, grouping, groups, env, *column)?;
-        parts.push(Part::made(cells))?;
+        let made = group_column(alloc, grouping, groups, env, *column)?;
+        parts.push(Part::of_column(made))?;
     }
     Ok(parts)
 }

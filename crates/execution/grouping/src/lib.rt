@@ -2,12 +2,15 @@
 #![tactic(auto)]
 
 mod aggregates;
+mod chains;
 mod chunked;
 mod group_keys;
 mod group_table;
 mod groups;
+mod hashed_groups;
 mod keys;
 mod row_groups;
+mod row_numbers;
 mod runs;
 mod totals;
 

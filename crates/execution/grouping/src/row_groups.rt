@@ -4,9 +4,12 @@ ghost use Rattle.std.specs.Prelude.{◌≡◌, length, IfOk};
 ghost use Rattle.std.specs.List.{range_with_len};
 ghost use Rattle.physical.specs.declared.plan.GroupMethod.TheVariants as by;
 ghost use Rattle.grouping.specs.Groups as spec;
+ghost use Rattle.grouping.specs.RowNumbers.{numbers_in};
 ghost use Rattle.relations.specs.Relations.{numbers_of};
 
-use crate::keys::{GroupNumbers, group_numbers};
+use crate::hashed_groups::group_numbers;
+use crate::keys::GroupNumbers;
+use crate::row_numbers::RowNumbers;
 use crate::runs::run_numbers;
 use physical::GroupMethod;
 use relations::{Place, Relation, Rows};
@@ -21,9 +24,9 @@ fn numbered(
     places: &[Place],
 ) -> Result<GroupNumbers, AllocError>
     requires { method ≡ by.Sorted → spec.StandTogether (spec.same_at places.now rows.now) rows.now.count }
-    ensures firsts { IfOk result (λ groups. groups.firsts.items ≡ spec.first_seen (spec.same_at places.now rows.now) (range_with_len 0 rows.now.count)) }
-    ensures numbers { IfOk result (λ groups. spec.AreNumbered (spec.same_at places.now rows.now) groups.numbers.items) }
-    ensures each { IfOk result (λ groups. length groups.numbers.items ≡ rows.now.count) }
+    ensures firsts { IfOk result (λ groups. numbers_in groups.firsts ≡ spec.first_seen (spec.same_at places.now rows.now) (range_with_len 0 rows.now.count)) }
+    ensures numbers { IfOk result (λ groups. spec.AreNumbered (spec.same_at places.now rows.now) (numbers_in groups.numbers)) }
+    ensures each { IfOk result (λ groups. length (numbers_in groups.numbers) ≡ rows.now.count) }
 {
     match method {
         GroupMethod::Hash => group_numbers(alloc, rows, places),
@@ -37,12 +40,12 @@ pub struct Groups<'a, 't> {
     pub input: &'a Relation<'t>,
     places: Vec<Place>,
     /// The row that was seen first in each group.
-    pub firsts: Vec<usize>,
+    pub firsts: RowNumbers,
     /// The number of each row's group.
-    pub numbers: Vec<usize>,
-    ghost seen: { firsts.items ≡ spec.first_seen (spec.same_at places.items input.now.rows) (numbers_of input.now) },
-    ghost numbered: { spec.AreNumbered (spec.same_at places.items input.now.rows) numbers.items },
-    ghost each: { length numbers.items ≡ input.now.rows.count },
+    pub numbers: RowNumbers,
+    ghost seen: { numbers_in firsts ≡ spec.first_seen (spec.same_at places.items input.now.rows) (numbers_of input.now) },
+    ghost numbered: { spec.AreNumbered (spec.same_at places.items input.now.rows) (numbers_in numbers) },
+    ghost each: { length (numbers_in numbers) ≡ input.now.rows.count },
 }
 
 impl<'a, 't> Groups<'a, 't> {
@@ -72,8 +75,8 @@ impl<'a, 't> Groups<'a, 't> {
     }
 
     /// The row that was seen first in each group.
-    pub fn into_firsts(self) -> Vec<usize>
-        ensures { result.items ≡ self.entry.firsts.items }
+    pub fn into_firsts(self, alloc: Global) -> Result<Vec<usize>, AllocError>
+        ensures { IfOk result (λ firsts. firsts.items ≡ numbers_in self.entry.firsts) }
     {
         let Groups {
             input: _,
@@ -81,6 +84,6 @@ impl<'a, 't> Groups<'a, 't> {
             firsts,
             numbers: _,
         } = self;
-        firsts
+        firsts.into_vec(alloc)
     }
 }

@@ -1,10 +1,12 @@
-use Rattle.std.proofs.Common.{◌≡◌, ap, sym, subst, ◌∙◌, ℕ, ◌+◌, Bool, List, [], ◌∷◌, length, length-append, arith}
+use Rattle.std.proofs.Common.{◌≡◌, ap, sym, subst, ◌∙◌, ℕ, ◌+◌, Bool, if◌then◌else◌, List, [], ◌∷◌, length, length-append, arith}
 use Rattle.std.specs.List.{range_with_len}
 use Rattle.schema.specs.Databases.{Row}
 use Rattle.store.specs.Keys.{key_eq, key_equiv}
 use Rattle.store.proofs.IndexLists.{numbers_more}
 use Rattle.relations.specs.Parts.{row_at}
-use Rattle.grouping.specs.Groups.{AreNumbered, added_at, first_seen, groups_by, key_at, same_at, with_founder}
+use Rattle.grouping.specs.KeyBuckets.{column_key}
+use Rattle.grouping.specs.Groups.{AreNumbered, added_at, continues, first_seen, groups_by, key_at, same_at, with_founder}
+use Rattle.grouping.specs.RowNumbers.{numbers_in}
 use Rattle.grouping.proofs.FirstSeen.{founders-more, groups-numbered, place}
 use Rattle.grouping.proofs.NumberedGroups.{numbered-more}
 use Rattle.grouping.proofs.RunPlaces.{run-place}
@@ -18,12 +20,14 @@ loop-number-preserved c =
     let key : ℕ → Row = λ m. key_at places (row_at rows.parts.items m) in
     let same : ℕ → ℕ → Bool = same_at places rows in
     let before : List ℕ = range_with_len 0 n in
-    let numbers = c.loop-number.groups.numbers.items in
+    let numbers = numbers_in c.loop-number.groups.numbers in
     let group = c.run_at-group.result in
     let many : length numbers ≡ n = c.loop-number.invariant.each in
-    let founders : length c.loop-number.groups.firsts.items ≡ length (first_seen same before) = ap length c.loop-number.invariant.firsts in
+    let founders : length (numbers_in c.loop-number.groups.firsts) ≡ length (first_seen same before) = ap length c.loop-number.invariant.firsts in
     let next : c.len.result ≡ length (first_seen same before) = omega (arith, c.len.ensures, founders) in
-    let is : group ≡ place key key_eq key_equiv before n = c.run_at-group.ensures ∙ run-place key key_eq key_equiv rows.count n c.loop-number.group c.len.result c.requires (omega arith) c.loop-number.invariant.last next in
+    let keys : column_key c.as_slice.result.now ≡ key = ap column_key c.as_slice.ensures.value ∙ (λ i m. c.in_ok-columns.ensures m i) in
+    let run = ap (λ (k : ℕ → Row). if continues (λ a b. key_eq (k a) (k b)) n then c.loop-number.group else c.len.result) keys in
+    let is : group ≡ place key key_eq key_equiv before n = c.run_at-group.ensures ∙ run ∙ run-place key key_eq key_equiv rows.count n c.loop-number.group c.len.result c.requires (omega arith) c.loop-number.invariant.last next in
     let added : groups_by same (range_with_len 0 (n + 1)) ≡ added_at group n (groups_by same before) =
     ap (groups_by same) (numbers_more n) ∙ groups-numbered key key_eq key_equiv before n ∙ ap (λ g. added_at g n (groups_by same before)) (sym is) in
     record {
