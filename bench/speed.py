@@ -6,7 +6,7 @@ the same unique columns, and answers the same query. The C program reads the sam
 rows of the first query; it checks nothing. Wants sqlite3, gcc, GNU time and valgrind (Debian: sqlite3, gcc, time,
 valgrind) and the program built.
 
-usage: speed.py [--rows N] [--runs N] [NAME..]    names of the table's first column; without any, all
+usage: speed.py [--rows N] [--runs N] [--program PATH] [NAME..]    names of the table's first column; without any, all
 """
 
 import argparse
@@ -18,8 +18,8 @@ import subprocess
 import tempfile
 
 ROOT = pathlib.Path(__file__).resolve().parent.parent
-PROGRAM = ROOT / "crates/program/sqlplan/out/sqlplan"
 NUMBERS = [("id", "INT", True), ("dept", "INT", False), ("pay", "INT", False), ("badge", "INT", False)]
+KEYS = [("k", "INT", True), ("v", "INT", True)]
 TEXTS = [(f"t{number}", "TEXT", False) for number in range(10)]
 C_SCAN = r"""
 #include <stdio.h>
@@ -93,6 +93,17 @@ def write_texts(folder, rows):
             theirs.write(line)
 
 
+def write_keys(folder, rows):
+    """Numbers, nine tenths of which are different, and a value beside each."""
+    draw = random.Random(3)
+    keys = list(range(rows * 9 // 10))
+    keys += [draw.choice(keys) for _ in range(rows - len(keys))]
+    draw.shuffle(keys)
+    lines = "".join(f"{key},{draw.randrange(1_000_000)}\n" for key in keys)
+    (folder / "emp.csv").write_text("k,v\n" + lines)
+    (folder / "plain.csv").write_text(lines)
+
+
 def once(words, job=None):
     """Processor seconds, peak memory in bytes and standard output of a process. GNU time stands between: what a process has before its
     program is loaded would count as its memory too, and Python has much."""
@@ -115,13 +126,13 @@ def least(runs, words, job=None):
 
 
 class Bench:
-    def __init__(self, folder, rows, runs):
-        self.folder, self.rows, self.runs = folder, rows, runs
+    def __init__(self, folder, asked):
+        self.folder, self.rows, self.runs, self.program = folder, asked.rows, asked.runs, asked.program
 
     def ours(self, columns, unique, query):
         (self.folder / "schema.json").write_text(schema(columns, unique))
         (self.folder / "query.sql").write_text(query)
-        return [PROGRAM, "query", self.folder / "schema.json", self.folder / "query.sql", self.folder]
+        return [self.program, "query", self.folder / "schema.json", self.folder / "query.sql", self.folder]
 
     def theirs(self, columns, unique, query):
         names = ", ".join(f"{n} {'INTEGER' if k == 'INT' else 'TEXT'}{' UNIQUE' if n in unique else ''}" for n, k, _ in columns)
@@ -171,6 +182,7 @@ def main():
     parser = argparse.ArgumentParser()
     parser.add_argument("--rows", type=int, default=1_000_000)
     parser.add_argument("--runs", type=int, default=5)
+    parser.add_argument("--program", default=ROOT / "crates/program/sqlplan/out/sqlplan")
     parser.add_argument("names", nargs="*")
     wanted = parser.parse_args()
 
@@ -180,7 +192,7 @@ def main():
     print("| What | sqlplan | sqlite3 | ratio or value | target | | |\n|---|---|---|---|---|---|---|")
     with tempfile.TemporaryDirectory() as name:
         folder = pathlib.Path(name)
-        bench = Bench(folder, wanted.rows, wanted.runs)
+        bench = Bench(folder, wanted)
         write_numbers(folder, wanted.rows)
         if asked("scan"):
             mine, _ = bench.beside("scan", 0.12, "SELECT id FROM emp WHERE pay <> 500", "SELECT id FROM emp WHERE pay <> 500 AND pay <> -1")
@@ -190,6 +202,13 @@ def main():
             bench.line("the same beside a plain C scan", f"{mine:.3f} s", f"C {plain:.3f} s", mine / plain, 5)
         if asked("group"):
             bench.beside("group", 0.12, "SELECT dept, COUNT(*), SUM(pay) FROM emp GROUP BY dept")
+        if asked("groups"):
+            write_keys(folder, wanted.rows)
+            _, memory = bench.beside("many groups", 0.5, "SELECT k, COUNT(*) FROM emp GROUP BY k", columns=KEYS, unique=())
+            bench.line("peak memory, many groups, times the file", "", "", memory, 4)
+            _, memory = bench.beside("many groups with sums", 0.5, "SELECT k, COUNT(*), SUM(v) FROM emp GROUP BY k", columns=KEYS, unique=())
+            bench.line("peak memory, many groups with sums, times the file", "", "", memory, 4)
+            write_numbers(folder, wanted.rows)
         if asked("distinct"):
             bench.beside("distinct", 0.10, "SELECT DISTINCT dept, pay FROM emp")
         if asked("sort"):
