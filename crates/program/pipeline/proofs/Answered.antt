@@ -1,14 +1,20 @@
 -- The answer of a query, and of a text.
-use Rattle.std.proofs.Common.{◌≡◌, ◌≢◌, ◌<◌, ◌^◌, refl, sym, ◌∙◌, subst, ℕ, List, length, Result, Ok, Err, IfErr, OnErr}
+use Rattle.std.proofs.Common.{◌≡◌, ◌≢◌, ◌<◌, ◌^◌, refl, sym, ◌∙◌, subst, ap, ℕ, false, List, [], length, Option, Some, None, Result, Ok, Err, IfErr, OnErr}
 use Rattle.values.specs.declared.fault.Fault.{Fault}
 use Rattle.values.specs.declared.fault.Fault.TheVariants as fault
 use Rattle.values.specs.Faults.{Fails}
 use Rattle.schema.specs.declared.schema.Schema.{Schema}
 use Rattle.schema.specs.Reading.{schema_of}
-use Rattle.schema.specs.Databases.{Row, Stored}
+use Rattle.schema.specs.Databases.{Database, Row, Stored}
 use Rattle.store.specs.Devices.{Rose}
 use Rattle.query.specs.declared.query.Query.{Query}
-use Rattle.query.specs.Rows.{tables_of}
+use Rattle.query.specs.Rows.{tables_in, tables_of}
+use Rattle.std.specs.Io.KnownBytes.{Appends}
+use Rattle.statistics.specs.declared.counts.Statistics.{Statistics}
+use Rattle.statistics.specs.declared.counts.TableColumn.{TableColumn}
+use Rattle.statistics.specs.Counting.{counts_of}
+use Rattle.measures.specs.declared.measured.Measure.{Measure}
+use Rattle.measures.specs.Measures.{AreMeasured, plans_run}
 use Rattle.certificate.specs.QueryOrders.{answer}
 use Rattle.certificate.specs.declared.certificate.Certificate.{Certificate}
 use Rattle.certificate.specs.declared.certificate.CheckRefusal.{CheckRefusal}
@@ -17,12 +23,15 @@ use Rattle.checker.specs.Accepted.{Accepted}
 use Rattle.answer_text.specs.declared.output.OutputFailed.{OutputFailed}
 use Rattle.pipeline.specs.declared.written.WriteFault.{WriteFault}
 use Rattle.pipeline.specs.declared.written.WriteFault.TheVariants as write
-use Rattle.answer_text.specs.AnswerText.{answer_text}
+use Rattle.answer_text.specs.AnswerText.{answer_text, HasFront}
+use Rattle.answer_text.proofs.Sent.{front_of_all}
 use Rattle.pipeline.specs.Execution.{accepted_rows, accepted_text}
 use Rattle.pipeline.specs.declared.refusal.Refusal.{Refusal}
 use Rattle.pipeline.specs.declared.refusal.Refusal.TheVariants as refusal
 use Rattle.pipeline.specs.Refusals.{of_check, of_answer, of_write}
 use Rattle.pipeline.specs.EndToEnd.{Input, IsPrepared, IsUnprepared, ByCertificate, ByPlan, ByMeaning, IsLongAnswer, HasLongAnswer, IsAnswerFault, IsWriteFault, WithAnswer, WithPlanned, HasTooManyRows, IsRefusedBy, IsNotQueried, IsBefore, IsDeviceFault, AreQuiet}
+use Rattle.pipeline.specs.declared.measured.ReportForm.{ReportForm}
+use Rattle.pipeline.specs.Measured.{ByMeasured, IsReport, IsReported, WithMeasured, report_in}
 
 -- ---- what holds of the fault that a call ends with
 
@@ -31,6 +40,11 @@ of_fault r e P is h = rw is h
 
 pub on_fault : {A E : Type 0} (r : Result A E) (e : E) (P : Type 0) → r ≡ Err e → P → OnErr r P
 on_fault r e P is h = rw is h
+
+-- what is so of any fault
+pub on_any_fault : {A E : Type 0} (r : Result A E) (P : Type 0) → P → OnErr r P
+on_any_fault (Ok x) P p = tt
+on_any_fault (Err e) P p = p
 
 -- ---- the check
 
@@ -103,6 +117,52 @@ planned schema text inputs S q d P is ready by = (
   record { certificate = by.0; checked = by.1.0; rows_are = refl },
   by.1.1,
 )
+
+-- the same, and what is reported of the plan
+pub measured : (form : Option ReportForm) (schema text : List ℕ) (inputs : List Input) (S : Schema) (q : Query) (d : Stored) (P : List ℕ → Type 0) (report : List ℕ) → schema_of schema ≡ Ok S → IsPrepared S text inputs q d
+    → ByMeasured form S q d.tables P report → WithMeasured form schema text inputs P report
+measured form schema text inputs S q d P report is ready by = (
+  answer_text q.names (answer q (tables_of S d.tables) by.0.plan),
+  record {
+    S = S;
+    query = q;
+    asks = record { is_schema = is; is_query = ready.is_query };
+    database = d.tables;
+    reported = ready.files.reported;
+    satisfies = ready.files.satisfies;
+    rows = answer q (tables_of S d.tables) by.0.plan;
+    answers = by.1.0.answers d.tables ready.files.satisfies;
+    written_is = refl;
+  },
+  record { certificate = by.0; checked = by.1.0; rows_are = refl },
+  by.1.1,
+  by.2,
+)
+
+-- what is reported of a checked certificate, by the counts of the database
+pub is_report : (form : ReportForm) (S : Schema) (q r : Query) (d : Stored) (V U : Certificate) (s : Statistics) (counted : List TableColumn) (measures : List (Option Measure)) (report : List ℕ) → d.schema ≡ S → q ≡ r → V ≡ U → s ≡ counts_of counted d
+    → AreMeasured q.tables (tables_in d) (plans_run false V.plan) measures → report ≡ report_in form s r measures U → IsReport form S q d.tables V report
+is_report form S q r d V U s counted measures report over asked same counts measured is = record {
+  counted = counted;
+  measures = measures;
+  measured = subst (λ T. AreMeasured q.tables (tables_of T d.tables) (plans_run false V.plan) measures) over measured;
+  report_is = is ∙ ap (λ x. report_in form s x measures U) (sym asked) ∙ ap (λ (W : Certificate). report_in form s q measures W) (sym same) ∙ ap (λ x. report_in form x q measures V) counts
+      ∙ ap (λ T. report_in form (counts_of counted (record { schema = T; tables = d.tables })) q measures V) over;
+}
+
+pub reported_none : (form : Option ReportForm) (S : Schema) (q : Query) (D : Database) (V : Certificate) (report : List ℕ) → form ≡ None → report ≡ [] → IsReported form S q D V report
+reported_none form S q D V report none is = subst (λ f. IsReported f S q D V report) (sym none) is
+
+pub reported_some : (form : Option ReportForm) (asked : ReportForm) (S : Schema) (q : Query) (D : Database) (V : Certificate) (report : List ℕ) → form ≡ Some asked → IsReport asked S q D V report → IsReported form S q D V report
+reported_some form asked S q D V report some is = subst (λ f. IsReported f S q D V report) (sym some) is
+
+-- a whole text is one of its beginnings
+pub front_of_certificate : (V : Certificate) (S : Schema) (q : Query) (D : Database) (a c : Option (List ℕ)) → ByCertificate V S q D (Appends a c) → ByCertificate V S q D (HasFront a c)
+front_of_certificate V S q D a c by = (by.0, front_of_all a c _ by.1)
+
+-- which is an answer by a plan
+pub of_measured : (form : Option ReportForm) (schema text : List ℕ) (inputs : List Input) (P : List ℕ → Type 0) (report : List ℕ) → WithMeasured form schema text inputs P report → WithPlanned schema text inputs P
+of_measured form schema text inputs P report w = (w.0, w.1, w.2, w.3)
 
 pub meant : (schema text : List ℕ) (inputs : List Input) (S : Schema) (q : Query) (d : Stored) (P : List ℕ → Type 0) → schema_of schema ≡ Ok S → IsPrepared S text inputs q d
     → ByMeaning d.schema q d.tables P → WithAnswer schema text inputs P

@@ -1,5 +1,5 @@
 -- The answer that a plan gives, and that the plan may be run.
-use Rattle.std.proofs.Common.{◌≡◌, ap, sym, subst, ◌∙◌, ℕ, List, map}
+use Rattle.std.proofs.Common.{◌≡◌, ap, sym, subst, ◌∙◌, ℕ, false, List, Option, map}
 use Rattle.schema.specs.declared.schema.Schema.{Schema}
 use Rattle.schema.specs.Databases.{Database, Satisfies}
 use Rattle.query.specs.declared.query.TableInstance.{TableInstance}
@@ -15,6 +15,8 @@ use Rattle.physical.specs.Outputs.{output_rows}
 use Rattle.certificate.specs.QueryOrders.{answer}
 use Rattle.certificate.specs.Replay.{IsChecked}
 use Rattle.operators.specs.Runnable.{IsRunnable}
+use Rattle.measures.specs.declared.measured.Measure.{Measure}
+use Rattle.measures.specs.Measures.{AreMeasured, plans_run}
 
 -- the rows that a plan produces, read in the query's columns, are its answer
 pub answer_of : (q r : Query) (U V : Certificate) (S : Schema) (tables D : Database) (columns : List ℕ) (instances : List TableInstance) → columns ≡ query_numbers q → instances ≡ q.tables → q ≡ r → U ≡ V
@@ -42,3 +44,12 @@ runnable_of S q r U V instances same_instances same proof checked =
 -- whose numbers have 64 bits
 pub short_of : (S : Schema) (tables D : Database) → tables ≡ D → Satisfies S D → (T : Schema) → AreShortTables (tables_of T tables)
 short_of S tables D given satisfies T = subst (λ ts. AreShortTables (tables_of T ts)) (sym given) (satisfying_short S D satisfies)
+
+-- ---- what is measured of it
+
+pub measured_of : (q r : Query) (U V : Certificate) (S : Schema) (tables D : Database) (instances : List TableInstance) (all : List (Option Measure)) → instances ≡ q.tables → q ≡ r → U ≡ V → tables ≡ D
+    → AreMeasured instances (tables_of S tables) (plans_run false U.plan) all → AreMeasured r.tables (tables_of S D) (plans_run false V.plan) all
+measured_of q r U V S tables D instances all same_instances same proof given measured =
+    subst (λ ts. AreMeasured r.tables (tables_of S ts) (plans_run false V.plan) all) given
+    (subst (λ (W : Certificate). AreMeasured r.tables (tables_of S tables) (plans_run false W.plan) all) proof
+    (subst (λ us. AreMeasured us (tables_of S tables) (plans_run false U.plan) all) (same_instances ∙ ap (λ (x : Query). x.tables) same) measured))

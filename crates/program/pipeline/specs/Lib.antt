@@ -5,5 +5,6 @@ pub mod Explained
 pub mod ExplainedLeast
 pub mod Least
 pub mod Lines
+pub mod Measured
 pub mod Planned
 pub mod Refusals
