@@ -11,6 +11,7 @@ const VERSION: &str = "0.1.0 (Rattle, logic dac8208d650f15bf)";
 const EXAMPLES: &str = "\
 Examples:
   sqlplan query schema.json query.sql data
+  sqlplan query schema.json query.sql data --explain
   sqlplan meaning schema.json query.sql data
   sqlplan plan schema.json query.sql stats.json > query.cert
   sqlplan explain schema.json query.sql stats.json --format dot
@@ -20,6 +21,9 @@ Examples:
   sqlplan run schema.json query.sql query.cert data
   sqlplan codes
   sqlplan help query";
+
+/// How a plan that has answered may be reported.
+const REPORTS: &[&str] = &["text", "json"];
 
 /// How a plan may be shown.
 const FORMATS: &[&str] = &["text", "dot"];
@@ -86,6 +90,21 @@ fn format(alloc: Global) -> Arg<'static> {
         .help("text, or dot: a graph for Graphviz")
 }
 
+/// How the plan that answered is reported, if it is.
+fn report(alloc: Global) -> Arg<'static> {
+    Arg::new(alloc, "explain")
+        .long("explain")
+        .value_name("FORMAT")
+        .value_parser(REPORTS)
+        .num_args(0..=1)
+        .require_equals(true)
+        .default_missing_value("text")
+        .action(ArgAction::Set)
+        .help(
+            "says on standard error behind the answer the plan that gave it, with the rows and the time of each node, which is run once more for that: text, or json",
+        )
+}
+
 /// Where a plan goes with the labels that show it to be the cheapest.
 fn labels(alloc: Global) -> Arg<'static> {
     Arg::new(alloc, "labels")
@@ -123,7 +142,8 @@ fn query<'a>(alloc: Global) -> Result<Command<'a>, AllocError> {
     )?
     .arg(progress(alloc))?
     .arg(folder(alloc))?
-    .arg(limit(alloc))
+    .arg(limit(alloc))?
+    .arg(report(alloc))
 }
 
 fn meaning<'a>(alloc: Global) -> Result<Command<'a>, AllocError> {

@@ -13,6 +13,8 @@ use store::{DeviceFailed, TableInput};
 pub struct TableWatch<'a> {
     pub progress: &'a Progress<'a>,
     pub table: &'a str,
+    /// How many bytes the file has, where that is known.
+    pub size: Option<u64>,
     /// Whether no file is read behind this one.
     pub is_last: bool,
 }
@@ -23,7 +25,7 @@ impl TableWatch<'_> {
         if count == 0 && self.is_last {
             self.progress.tables_read();
         } else {
-            self.progress.reading(self.table, bytes);
+            self.progress.reading(self.table, bytes, self.size);
         }
     }
 }

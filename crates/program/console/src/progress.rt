@@ -71,10 +71,18 @@ impl<'a> Progress<'a> {
         }
     }
 
-    /// Says how many bytes of a table's file have been read.
-    pub fn reading(&self, table: &str, bytes: u64) {
-        if let Some(seconds) = self.due(false) {
-            self.say(format_args!("progress table {table} {bytes} bytes {seconds} s"));
+    /// Says how many bytes of a table's file have been read, and of how many where that is known. What is read is parsed.
+    pub fn reading(&self, table: &str, bytes: u64, size: Option<u64>) {
+        let Some(seconds) = self.due(false) else {
+            return;
+        };
+        match size {
+            Some(size) => {
+                self.say(format_args!(
+                    "progress table {table} {bytes} of {size} bytes {seconds} s"
+                ));
+            }
+            None => self.say(format_args!("progress table {table} {bytes} bytes {seconds} s")),
         }
     }
 

@@ -6,6 +6,7 @@ ghost use Rattle.schema.specs.Reading.{schema_of};
 ghost use Rattle.sqlplan.specs.Stops.{SaysFile, SaysTable, table_path};
 
 mod arguments;
+mod clock;
 mod explained;
 mod stop;
 
@@ -13,13 +14,14 @@ use answer_text::CountedOutput;
 use arguments::arguments;
 use clap::ArgMatches;
 use clap::error::ErrorKind;
+use clock::Clock;
 use console::{Progress, TableFile, TableWatch, WatchedOutput, command};
 use devices::{ReadFailure, StandardStream, read_file, write_file};
 use explained::{Inputs, file_in_words, in_words, schema_in_words};
 use input_hints::{FoundRow, found_row};
 use pipeline::{
-    Exploration, PlanForm, Refusal, check, check_least, evaluate, explain, explain_least, plan,
-    plan_with_labels, query, run,
+    Exploration, PlanForm, Refusal, ReportForm, check, check_least, evaluate, explain,
+    explain_least, plan, plan_with_labels, query, query_measured, run,
 };
 use schema::{Schema, SchemaFault};
 use std::alloc::{AllocError, Global};
@@ -64,10 +66,21 @@ fn path_of(alloc: Global, folder: &str, name: &str) -> Result<String, AllocError
     }
 }
 
+/// How many bytes a file has, where it is one: of a pipe that isn't known.
+fn size_of(file: &File) -> Option<u64> {
+    let attributes = file.metadata().ok()?;
+    if attributes.is_file() {
+        Some(attributes.len())
+    } else {
+        None
+    }
+}
+
 /// Who is told how far the file of the table with this number has been read.
 fn watch_of<'a>(
     schema: &'a Schema,
     number: usize,
+    file: &File,
     progress: Option<&'a Progress<'a>>,
 ) -> Option<TableWatch<'a>> {
     let progress = progress?;
@@ -75,6 +88,7 @@ fn watch_of<'a>(
     Some(TableWatch {
         progress,
         table: tables.get(number)?.name.as_str(),
+        size: size_of(file),
         is_last: number.saturating_add(1) == tables.len(),
     })
 }
@@ -93,10 +107,12 @@ fn open_tables<'a>(
     let alloc = rt.alloc();
     let mut tables = Vec::new(alloc);
     for table in schema.tables.as_slice() {
-        let watch = watch_of(schema, tables.len(), progress);
         let path = path_of(alloc, folder, table.name.as_str())?;
         match fs::open(rt, path.as_str()) {
-            Ok(file) => tables.push(TableFile::new(file, watch))?,
+            Ok(file) => {
+                let watch = watch_of(schema, tables.len(), &file, progress);
+                tables.push(TableFile::new(file, watch))?;
+            }
             Err(error) => {
                 let failure = ReadFailure::from(error);
                 return Err(failed_file(alloc, path.as_str(), &failure, words));
@@ -123,8 +139,8 @@ struct Showing {
 /// What is asked of a query, with the paths of the files besides its schema and its text.
 #[derive(Clone, Copy)]
 enum Asked<'a> {
-    /// Its answer by a plan that was checked, over the tables of a folder.
-    Query(&'a str, Search),
+    /// Its answer by a plan that was checked, over the tables of a folder; and the plan as it was measured, in this form.
+    Query(&'a str, Search, Option<ReportForm>),
     /// Its answer by the slow evaluator, over the tables of a folder.
     Meaning(&'a str),
     /// The certificate of a plan, by statistics.
@@ -175,11 +191,23 @@ fn search_of(arguments: &ArgMatches<'_>) -> Search {
     }
 }
 
+/// In which form the plan that answers is reported, if it is.
+fn report_of(arguments: &ArgMatches<'_>) -> Option<ReportForm> {
+    match arguments.get_str("explain") {
+        Some("json") => Some(ReportForm::Json),
+        Some(_) => Some(ReportForm::Text),
+        None => None,
+    }
+}
+
 impl<'a> Asked<'a> {
     /// What a command asks.
     fn of(command: &str, arguments: &'a ArgMatches<'_>) -> Option<Asked<'a>> {
         match command {
-            "query" => Some(Asked::Query(arguments.get_str("DIR")?, search_of(arguments))),
+            "query" => {
+                let folder = arguments.get_str("DIR")?;
+                Some(Asked::Query(folder, search_of(arguments), report_of(arguments)))
+            }
             "meaning" => Some(Asked::Meaning(arguments.get_str("DIR")?)),
             "plan" => {
                 let statistics = arguments.get_str("STATS")?;
@@ -206,7 +234,7 @@ impl<'a> Asked<'a> {
     /// The folder of the tables; nothing where a command reads none.
     fn folder(self) -> &'a str {
         match self {
-            Asked::Query(folder, _) | Asked::Meaning(folder) | Asked::Run(_, folder) => folder,
+            Asked::Query(folder, _, _) | Asked::Meaning(folder) | Asked::Run(_, folder) => folder,
             Asked::Plan(_, _)
             | Asked::PlanWithLabels(_, _, _)
             | Asked::Explain(_, _, _)
@@ -219,7 +247,7 @@ impl<'a> Asked<'a> {
 /// What says how far a command is. Those that read no table are soon done.
 fn progress_of<'a>(rt: &'a HostRuntime, asked: Asked<'_>, lines: bool) -> Option<Progress<'a>> {
     match asked {
-        Asked::Query(_, _) | Asked::Meaning(_) | Asked::Run(_, _) => Progress::new(rt, lines),
+        Asked::Query(_, _, _) | Asked::Meaning(_) | Asked::Run(_, _) => Progress::new(rt, lines),
         Asked::Plan(_, _)
         | Asked::PlanWithLabels(_, _, _)
         | Asked::Explain(_, _, _)
@@ -408,7 +436,39 @@ fn answer(rt: &HostRuntime, given: Given<'_>, folder: &str, search: Search) -> R
     given.ended_over(rt.alloc(), outcome, output, tables.as_mut_slice())
 }
 
-/// The same by the slow evaluator.
+/// The same, and on standard error behind the answer the plan that gave it, as it was measured. That it can't be said changes nothing.
+fn answer_measured(
+    rt: &HostRuntime,
+    given: Given<'_>,
+    folder: &str,
+    search: Search,
+    form: ReportForm,
+) -> Result<(), Stop>
+    requires { schema_of given.bytes.now ≡ Ok given.schema.now }
+{
+    let mut tables = open_tables(rt, given.schema, folder, given.words, given.progress)?;
+    let mut output = output(rt, given.progress)?;
+    let outcome = query_measured(
+        rt.alloc(),
+        given.bytes,
+        given.text,
+        tables.as_mut_slice(),
+        search.limit,
+        search.exploration,
+        form,
+        &mut Clock::new(rt),
+        &mut output,
+    );
+    let (ended, report) = match outcome {
+        Ok(report) => (Ok(()), report),
+        Err(refusal) => (Err(refusal), Vec::new(rt.alloc())),
+    };
+    given.ended_over(rt.alloc(), ended, output, tables.as_mut_slice())?;
+    let _ = StandardStream::error(rt).write_all(report.as_slice());
+    Ok(())
+}
+
+/// The same as `answer`, by the slow evaluator.
 fn answer_by_meaning(rt: &HostRuntime, given: Given<'_>, folder: &str) -> Result<(), Stop>
     requires { schema_of given.bytes.now ≡ Ok given.schema.now }
 {
@@ -586,7 +646,10 @@ fn serve(rt: &HostRuntime, asked: Asked<'_>, given: Given<'_>) -> Result<(), Sto
     requires { schema_of given.bytes.now ≡ Ok given.schema.now }
 {
     match asked {
-        Asked::Query(folder, search) => answer(rt, given, folder, search),
+        Asked::Query(folder, search, None) => answer(rt, given, folder, search),
+        Asked::Query(folder, search, Some(form)) => {
+            answer_measured(rt, given, folder, search, form)
+        }
         Asked::Meaning(folder) => answer_by_meaning(rt, given, folder),
         Asked::Plan(statistics, search) => plan_by_statistics(rt, given, statistics, search),
         Asked::PlanWithLabels(statistics, labels, search) => {
