@@ -20,11 +20,19 @@ class Program:
 
     def __init__(self, path, folder):
         self.path, self.folder = str(path), pathlib.Path(folder)
+        self.environment = None
+        """The variables of the environment that the program gets; those of these tests, if there are none."""
 
     def say(self, command, *words, seconds=SECONDS):
         """What the program says to a command, run in the folder."""
         ended = subprocess.run(
-            [self.path, command, *map(str, words)], cwd=self.folder, stdin=subprocess.DEVNULL, capture_output=True, timeout=seconds, check=False
+            [self.path, command, *map(str, words)],
+            cwd=self.folder,
+            env=self.environment,
+            stdin=subprocess.DEVNULL,
+            capture_output=True,
+            timeout=seconds,
+            check=False,
         )
         return Said(ended.returncode, ended.stdout.decode("utf-8", "backslashreplace"), ended.stderr.decode("utf-8", "backslashreplace").strip())
 

@@ -16,6 +16,7 @@ WRONG_PROGRAMS = [
     ("accepts all labels", 'if [ "$1" = check-least ]; then echo accepted; exit 0; fi', ["least"]),
     ("refuses each query as too large", 'case $1 in query|meaning|plan) echo "refused B10 at 0" >&2; exit 2;; esac', OF_QUERIES),
     ("counts a row too many", 'if [ "$1" = query ]; then "$P" "$@" 2> >(sed "s/actual=0/actual=1/;s/\"rows\":0/\"rows\":1/" >&2); status=$?; wait; exit $status; fi', ["measured"]),
+    ("runs no plan and answers by the meaning", 'if [ "$1" = run ]; then exec "$P" meaning "$2" "$3" "$5"; fi', ["requests"]),
     ("tells other costs", 'if [ "$1" = explain ]; then "$P" "$@" | sed "s/cost=1/cost=2/"; exit 0; fi', ["costs"]),
 ]
 """What a wrong program does, what it does in bash before it goes on as the right one, and the parts that have to fail for it."""
