@@ -1,8 +1,8 @@
 #!/usr/bin/env python3
 """Measures joins whose pairs are made a chunk at a time, beside sqlite3 in the same run: time and peak memory of the whole process, against targets.
 
-Two tables of ROWS rows have all pairs with a lesser value of the right side joined, some half of all: they are counted, counted by group, left joined with
-a third table, and written to a reader that closes the pipe after ten rows. Times are processor time (user and system), the least of RUNS; sqlite3 imports the same rows into memory. Wants
+Two tables of ROWS rows have all pairs with a lesser value of the right side joined, some half of all: they are counted, counted by group, made distinct, left joined
+with a third table, and written to a reader that closes the pipe after ten rows. Times are processor time (user and system), the least of RUNS; sqlite3 imports the same rows into memory. Wants
 sqlite3 and GNU time (Debian: sqlite3, time) and the program built.
 
 usage: chunks.py [--rows N] [--runs N] [--program PATH]
@@ -33,6 +33,7 @@ PAIRS = "FROM o x, l WHERE l.v < x.c"
 CASES = [
     ("COUNT(*) of the pairs", f"SELECT COUNT(*) {PAIRS}", 3.0, 30),
     ("the same by 100 groups", f"SELECT x.a, COUNT(*), SUM(l.v) {PAIRS} GROUP BY x.a", None, 30),
+    ("10,000 different rows of the pairs", f"SELECT DISTINCT x.a, l.b {PAIRS}", None, 30),
     ("the pairs left joined with 50 rows", "SELECT COUNT(*), SUM(p.n) FROM o x JOIN l ON l.v < x.c LEFT JOIN p ON p.k = l.b AND p.n < x.a", None, 30),
 ]
 

@@ -7,10 +7,9 @@ use Rattle.cursors.specs.declared.chunks.ChunkedRows.{ChunkedRows}
 use Rattle.cursors.specs.declared.selected.SelectedRows.{SelectedRows}
 use Rattle.cursors.specs.declared.shown.ShownRows.{ShownRows}
 use Rattle.cursors.specs.Chunks.{IsNextNumber, numbers_to_come}
-use Rattle.cursors.specs.Joined.{shown_chunks}
 use Rattle.cursors.specs.Progress.{rows_to_come}
 use Rattle.cursors.specs.Shown.{shown_row}
-use Rattle.cursors.specs.ShownRows.{IsNextRow, shown_to_come}
+use Rattle.cursors.specs.ShownRows.{IsNextRow, shown_chunks, shown_to_come}
 
 -- a row of those at hand has been found, or all of these have been handed over and the others are still to come
 abbrev pub Reached : List Row → ShownRows → Option ℕ → Type 0

@@ -1,9 +1,7 @@
 pub mod Chunks
 pub mod Cursors
-pub mod Joined
 pub mod Opened
 pub mod Progress
 pub mod Selected
-pub mod Selecting
 pub mod Shown
 pub mod ShownRows

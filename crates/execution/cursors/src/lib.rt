@@ -5,7 +5,6 @@
 mod chunks;
 mod cursor;
 mod fault;
-mod joined;
 mod lent_row;
 mod opening;
 mod projected;

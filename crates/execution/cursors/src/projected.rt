@@ -8,8 +8,8 @@ ghost use Rattle.cursors.specs.Selected.{IsSelection, selected_envs};
 
 use crate::selected::{SelectedRows, all_rows, fill_selected};
 use algebra::Columns;
-use operators::projected as projected_relation;
 use relations::{Env, Heading, Relation};
+use selections::projected as projected_relation;
 use std::alloc::{AllocError, Global};
 
 /// The relation of the selected rows alone.

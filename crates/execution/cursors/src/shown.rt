@@ -5,17 +5,16 @@ ghost use Rattle.algebra.specs.Bags as bags;
 ghost use Rattle.relations.specs.Relations.{column_place};
 ghost use Rattle.relations.specs.declared.environment.Env.{Empty};
 ghost use Rattle.cursors.specs.Chunks.{numbers_to_come};
-ghost use Rattle.cursors.specs.Joined.{shown_chunks};
 ghost use Rattle.cursors.specs.Opened.{IsOpened};
 ghost use Rattle.cursors.specs.Selected.{selected_envs};
-ghost use Rattle.cursors.specs.ShownRows.{IsNextRow, IsRefilled, shown_to_come};
+ghost use Rattle.cursors.specs.ShownRows.{IsNextRow, IsRefilled, shown_chunks, shown_to_come};
 
 use crate::chunks::{ChunkedRows, next_number};
-use crate::joined::JoinedChunks;
 use crate::opening::OpenedRows;
 use crate::selected::{SelectedRows, all_rows};
 use query::ColumnId;
 use relations::{Env, Heading, Place, Relation};
+use selections::RowChunks;
 use std::alloc::{AllocError, Global};
 use values::Items;
 
@@ -27,7 +26,7 @@ pub struct ShownRows<'p, 't> {
     pub rows: ChunkedRows<'p, 't>,
     /// The place of each column in the rows at hand; none where these lack it, and it is Null.
     pub places: Items<Option<Place>>,
-    pub more: Option<JoinedChunks<'p, 't>>,
+    pub more: Option<RowChunks<'p, 't>>,
 }
 
 /// The places of columns in rows under a heading; none of those that the rows lack.
@@ -49,7 +48,7 @@ pub fn places_under(
 fn shown_from<'p, 't: 'p>(
     alloc: Global,
     selected: SelectedRows<'p, 't>,
-    more: Option<JoinedChunks<'p, 't>>,
+    more: Option<RowChunks<'p, 't>>,
     columns: &[ColumnId],
 ) -> Result<ShownRows<'p, 't>, AllocError>
     ensures { IfOk result (λ shown. shown_to_come shown ≡ map (λ e. map e columns.now) (selected_envs Empty selected.entry) ++ shown_chunks more.entry columns.now) }
@@ -77,7 +76,7 @@ pub fn shown_rows<'p, 't: 'p>(
 {
     match opened {
         OpenedRows::Selected(selected) => shown_from(alloc, selected, None, columns),
-        OpenedRows::Joined(chunks) => {
+        OpenedRows::InChunks(chunks) => {
             let none = all_rows(alloc, Relation::none(alloc)?);
             shown_from(alloc, none, Some(chunks), columns)
         }
@@ -92,9 +91,10 @@ fn refill<'p, 't: 'p>(shown: &mut ShownRows<'p, 't>) -> Result<bool, AllocError>
     let Some(more) = &mut shown.more else {
         return Ok(false);
     };
-    let Some(selected) = more.next_selected(shown.alloc)? else {
+    let Some(chunk) = more.next_chunk(shown.alloc)? else {
         return Ok(false);
     };
+    let selected = all_rows(shown.alloc, chunk);
     let heading = &selected.relation.heading;
     shown.places = places_under(shown.alloc, heading, shown.columns.as_slice())?;
     shown.rows.restart(selected);

@@ -4,8 +4,8 @@ use Rattle.std.specs.List.{AllByRecursion}
 use Rattle.std.proofs.lemmas.List.{drop-drop, get_or-drop, length-append, length-drop}
 use Rattle.std.proofs.Math.Seq.{take-add, take-append_seam, drop-append_seam}
 use Rattle.std.proofs.Math.ListN.{get_or-append}
-use Rattle.joins.specs.declared.chunked.ChunkedJoin.{ChunkedJoin}
-use Rattle.joins.specs.ChunkedJoins.{IsChunk, joined_to_come}
+use Rattle.selections.specs.declared.row_chunks.RowChunks.{RowChunks}
+use Rattle.selections.specs.RowChunks.{IsSelectedChunk, chunks_to_come}
 use Rattle.relations.specs.declared.relation.Relation.{Relation}
 
 module _ {X : Type 0} (n : ℕ) (all xs ys : List X) (is : drop n all ≡ xs ++ ys) where
@@ -38,7 +38,7 @@ chunk-all {X = X} P n all xs ys is each = all-front xs ys (subst (AllByRecursion
     all-front (x ∷ l) m each = (each.0, all-front l m each.1)
 
 -- where no chunk comes no row is to come
-pub chunk-none : (old new : ChunkedJoin) (o : Option Relation) → ((r : Relation) → o ≡ Some r → ⊥) → IsChunk old new o → joined_to_come old ≡ []
+pub chunk-none : (old new : RowChunks) (o : Option Relation) → ((r : Relation) → o ≡ Some r → ⊥) → IsSelectedChunk old new o → chunks_to_come old ≡ []
 chunk-none old new None not chunk = chunk.0
 chunk-none old new (Some r) not chunk = absurd (not r refl)
 

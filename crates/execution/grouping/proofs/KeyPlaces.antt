@@ -8,7 +8,8 @@ use Rattle.schema.specs.Databases.{Row}
 use Rattle.algebra.specs.Columns.{has}
 use Rattle.algebra.specs.Bags.{Env, lay, nulls}
 use Rattle.grouping.specs.Groups.{GroupOf, first_seen}
-use Rattle.grouping.specs.GroupTables.{groups_seen, keys_seen, placed_value, row_key, same_key}
+use Rattle.grouping.specs.GroupTables.{groups_seen, keys_seen, row_key, same_key}
+use Rattle.grouping.specs.KeyTables.{placed_value}
 
 has-at : (K : List ℕ) (place column : ℕ) → place < length K → get_or K place 0 ≡ column → has K column ≡ true
 has-at [] place column below is = absurd (omega (arith, below))

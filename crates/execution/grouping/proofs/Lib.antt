@@ -4,7 +4,9 @@ pub mod FirstSeen
 pub mod FoundGroups
 pub mod GroupChains
 pub mod GroupEnvs
+pub mod GroupHashes
 pub mod GroupValues
+pub mod KeyColumns
 pub mod KeyPlaces
 pub mod NumberedGroups
 pub mod Readable

@@ -21,3 +21,8 @@ each-read a row first (suc count) (suc n) below all = subst (λ m. MayRead a (ro
 
 pub number-reads : (a : Aggregate) (row : ℕ → Env) (count n : ℕ) → n < count → AllByRecursion (MayRead a) (map row (range_with_len 0 count)) → MayRead a (row n)
 number-reads a row count n below all = subst (λ m. MayRead a (row m)) (omega arith) (each-read a row 0 count n below all)
+
+-- no aggregate reads a row
+pub none-readable : (rows : List Env) → AreReadable [] rows
+none-readable [] = tt
+none-readable (r ∷ rows) = (tt, none-readable rows)

@@ -1,8 +1,6 @@
 -- Groups of rows that come a chunk at a time. The rows are given by their numbers.
-use Rattle.std.specs.Prelude.{◌≡◌, ◌+◌, ◌<◌, ℕ, Bool, List, length, map, slice_index_or, Option, None, Some}
+use Rattle.std.specs.Prelude.{◌≡◌, ◌+◌, ◌<◌, ℕ, Bool, List, length, map, slice_index_or}
 use Rattle.std.specs.List.{AllZip, range_with_len}
-use Rattle.values.specs.declared.value.Value.{Value}
-use Rattle.values.specs.declared.value.Value.TheVariants as value
 use Rattle.schema.specs.Databases.{Row}
 use Rattle.store.specs.Keys.{key_eq}
 use Rattle.query.specs.Aggregates.{column_of}
@@ -11,6 +9,7 @@ use Rattle.algebra.specs.Bags.{Env, nulls}
 use Rattle.relations.specs.declared.relation.Relation.{Relation}
 use Rattle.relations.specs.Relations.{numbered_env}
 use Rattle.grouping.specs.declared.group_table.GroupTable.{GroupTable}
+use Rattle.grouping.specs.KeyTables.{HasKeys}
 use Rattle.grouping.specs.Groups.{AreAfter, GroupOf, added_at, first_seen, groups_by}
 
 -- the values of a row in the columns of the keys
@@ -38,10 +37,5 @@ AreNumberedFrom key first numbers = (i : ℕ) → i < length numbers → groups_
 
 -- the keys of so many rows, and for each aggregate those of their groups
 pub record HasGroups (K : List ℕ) (A : List Aggregation) (row : ℕ → Env) (t : GroupTable) : Type 0 where
-  pub keys_are : t.keys.keys ≡ keys_seen (row_key row K) t.count
+  pub keys_are : HasKeys (length K) (keys_seen (row_key row K) t.count) t.keys
   pub held : AllZip (λ a r. AreAfter a.aggregate (λ n. row n (column_of a.aggregate)) (groups_seen (row_key row K) t.count) r.items) A t.running.items
-
--- the value at a place of a key; Null where there is none
-abbrev pub placed_value : Option ℕ → Row → Value
-placed_value None key = value.Null
-placed_value (Some place) key = slice_index_or key place value.Null

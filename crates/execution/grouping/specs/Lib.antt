@@ -3,5 +3,7 @@ pub mod Groups
 pub mod GroupTables
 pub mod Totals
 pub mod GroupChains
+pub mod GroupHashes
 pub mod KeyBuckets
+pub mod KeyTables
 pub mod RowNumbers

@@ -3,34 +3,33 @@
 ghost use Rattle.std.specs.Prelude.{◌≡◌, ◌+◌, ◌^◌, ◌<◌, ℕ, false, List, [], ◌∷◌, length, map, slice_index_or, IfOk, MatchOption, OnOk};
 ghost use Rattle.std.specs.List.{AllByRecursion};
 ghost use Rattle.schema.specs.Databases.{Row};
-ghost use Rattle.values.specs.Cells.{value_of};
 ghost use Rattle.query.specs.Aggregates as spec;
 ghost use Rattle.algebra.specs.Bags as bags;
 ghost use Rattle.algebra.specs.Bags.{nulls};
 ghost use Rattle.algebra.specs.Columns.{has};
 ghost use Rattle.physical.specs.Origins.{AreReadable};
 ghost use Rattle.relations.specs.Relations.{IsOutput, numbered_env, rows_of};
+ghost use Rattle.relations.specs.MadeColumns.{made_values};
 ghost use Rattle.relations.specs.RowColumns.{column_value};
 ghost use Rattle.grouping.specs.Groups.{AreAfter, row_group_envs};
-ghost use Rattle.grouping.specs.GroupTables.{AreNumberedFrom, HasGroups, HasRowsFrom, groups_seen, keys_seen, placed_value, row_key};
+ghost use Rattle.grouping.specs.GroupTables.{AreNumberedFrom, HasGroups, HasRowsFrom, groups_seen, keys_seen, row_key};
+ghost use Rattle.grouping.specs.KeyTables.{HasKeys};
 
 use crate::aggregates::{add_to_group, values_of};
-use crate::group_keys::{GroupKey, key_number};
 use crate::groups::Grouping;
+use crate::key_table::KeyTable;
 use algebra::{Aggregation, Columns};
-use indexmap::IndexSet;
 use query::aggregates::{Running, column_of};
 use query::{Aggregate, ColumnId};
-use relations::{Env, Part, Relation, RowColumn, row_column};
+use relations::{Env, MadeColumn, Part, Relation, RowColumn, row_column};
 use std::alloc::{AllocError, Global};
-use values::Cell;
 
 /// Keys of groups in the order in which they were first seen, and aggregates of these groups.
 #[derive(Drop)]
 pub struct GroupTable<'t> {
     /// How many rows came.
     count: usize,
-    keys: IndexSet<GroupKey<'t>>,
+    keys: KeyTable<'t>,
     /// For each aggregate those of the groups.
     running: Vec<Vec<Running<'t>>>,
 }
@@ -53,23 +52,22 @@ fn key_columns<'p, 't>(
 /// The number of each row's group, by its values in columns. The keys of groups that are new go last.
 fn group_numbers<'p, 't>(
     alloc: Global,
-    keys: &mut IndexSet<GroupKey<'t>>,
+    keys: &mut KeyTable<'t>,
     columns: &[RowColumn<'p, 't>],
     first: usize,
     count: usize,
 ) -> Result<Vec<usize>, AllocError>
-    ghost key: { ℕ → Row }
-    requires shown { (i : ℕ) → i < count → map (λ column. column_value column i) columns.now ≡ key (first + i) }
-    requires seen { keys.old.keys ≡ keys_seen key first }
-    ensures seen { OnOk result (keys.new.keys ≡ keys_seen key (first + count)) }
-    ensures numbered { IfOk result (λ numbers. AreNumberedFrom key first numbers.items) }
+    ghost of: { (ℕ → Row) × ℕ }
+    requires first { first ≡ of.1 }
+    requires shown { (i : ℕ) → i < count → map (λ column. column_value column i) columns.now ≡ of.0 (of.1 + i) }
+    requires seen { HasKeys (length columns.now) (keys_seen of.0 of.1) keys.old }
+    ensures seen { OnOk result (HasKeys (length columns.now) (keys_seen of.0 (of.1 + count)) keys.new) }
+    ensures numbered { IfOk result (λ numbers. AreNumberedFrom of.0 of.1 numbers.items) }
     ensures each { IfOk result (λ numbers. length numbers.items ≡ count) }
 {
     let mut numbers = Vec::with_capacity(alloc, count)?;
-    let mut lent = GroupKey::empty(alloc);
     for row in 0..count {
-        lent.fill(columns, row)?;
-        let group = key_number(alloc, keys, &lent)?;
+        let group = keys.number_of(alloc, columns, row)?;
         numbers.push(group)?;
     }
     Ok(numbers)
@@ -101,9 +99,13 @@ fn add_rows<'t>(
 
 impl<'t> GroupTable<'t> {
     /// Of no rows.
-    pub fn new(alloc: Global, added: &[Aggregation]) -> Result<GroupTable<'t>, AllocError>
+    pub fn new(
+        alloc: Global,
+        keys: &Columns,
+        added: &[Aggregation],
+    ) -> Result<GroupTable<'t>, AllocError>
         ensures empty { IfOk result (λ table. table.count ≡ 0) }
-        ensures groups { (K : List ℕ) (row : ℕ → bags.Env) → IfOk result (HasGroups K added.now row) }
+        ensures groups { (row : ℕ → bags.Env) → IfOk result (HasGroups keys.now added.now row) }
     {
         let mut running = Vec::with_capacity(alloc, added.len())?;
         for _ in added {
@@ -111,7 +113,7 @@ impl<'t> GroupTable<'t> {
         }
         Ok(GroupTable {
             count: 0,
-            keys: IndexSet::new(alloc),
+            keys: KeyTable::new(alloc, keys.as_slice().len())?,
             running,
         })
     }
@@ -158,16 +160,6 @@ impl<'t> GroupTable<'t> {
     }
 }
 
-/// The value at a place of a key; Null where there is none.
-fn placed_cell<'t>(key: &GroupKey<'t>, place: Option<usize>) -> Cell<'t>
-    ensures { value_of result ≡ placed_value place key.now }
-{
-    match place {
-        Some(place) => key.cell(place),
-        None => Cell::Null,
-    }
-}
-
 /// The place of a column among those of the keys.
 fn key_place(keys: &[ColumnId], column: ColumnId) -> Option<usize>
     ensures { MatchOption result (has keys.now column ≡ false) (λ place. (place < length keys.now) × (slice_index_or keys.now place 0 ≡ column)) }
@@ -181,45 +173,35 @@ fn key_place(keys: &[ColumnId], column: ColumnId) -> Option<usize>
 }
 
 impl<'t> GroupTable<'t> {
-    /// The values at a place of the keys; Nulls where there is none.
-    fn placed_cells(&self, alloc: Global, place: Option<usize>) -> Result<Vec<Cell<'t>>, AllocError>
-        ensures { IfOk result (λ cells. map value_of cells.items ≡ map (placed_value place) self.now.keys.keys) }
-    {
-        let mut cells = Vec::with_capacity(alloc, self.keys.len())?;
-        for key in self.keys.as_slice() {
-            cells.push(placed_cell(key, place))?;
-        }
-        Ok(cells)
-    }
-
     /// A column of the groups as their keys have it; Null where these lack it.
-    fn key_cells(
+    fn key_column(
         &self,
         alloc: Global,
         keys: &Columns,
         column: ColumnId,
-    ) -> Result<Vec<Cell<'t>>, AllocError>
-        ensures { (A : List Aggregation) (row : ℕ → bags.Env) → HasGroups keys.now A row self.now → IfOk result (λ cells. map value_of cells.items ≡ map (λ group. bags.lay (has keys.now) (row group.first) nulls column) (groups_seen (row_key row keys.now) self.now.count)) }
+    ) -> Result<MadeColumn<'t>, AllocError>
+        ensures { (A : List Aggregation) (row : ℕ → bags.Env) → HasGroups keys.now A row self.now → IfOk result (λ made. made_values made ≡ map (λ group. bags.lay (has keys.now) (row group.first) nulls column) (groups_seen (row_key row keys.now) self.now.count)) }
     {
-        self.placed_cells(alloc, key_place(keys.as_slice(), column))
+        self.keys.column(alloc, key_place(keys.as_slice(), column))
     }
 
     /// A column of the groups: an aggregate, or else as the keys have it.
-    fn cells(
+    fn column(
         &self,
         alloc: Global,
         grouping: Grouping<'_>,
         column: ColumnId,
-    ) -> Result<Vec<Cell<'t>>, AllocError>
+    ) -> Result<MadeColumn<'t>, AllocError>
         requires { length self.now.running.items ≡ length grouping.added.now }
-        ensures { (row : ℕ → bags.Env) → HasGroups grouping.entry.keys.now grouping.entry.added.now row self.now → IfOk result (λ cells. map value_of cells.items ≡ map (λ f. f column) (row_group_envs grouping.entry row nulls (groups_seen (row_key row grouping.entry.keys.now) self.now.count))) }
+        ensures { (row : ℕ → bags.Env) → HasGroups grouping.entry.keys.now grouping.entry.added.now row self.now → IfOk result (λ made. made_values made ≡ map (λ f. f column) (row_group_envs grouping.entry row nulls (groups_seen (row_key row grouping.entry.keys.now) self.now.count))) }
     {
         for (place, one) in grouping.added.iter().enumerate() {
             if one.column == column {
-                return values_of(alloc, self.running[place].as_slice());
+                let cells = values_of(alloc, self.running[place].as_slice())?;
+                return Ok(MadeColumn::Cells(cells));
             }
         }
-        self.key_cells(alloc, grouping.keys, column)
+        self.key_column(alloc, grouping.keys, column)
     }
 
     /// The columns of the groups.
@@ -234,8 +216,8 @@ impl<'t> GroupTable<'t> {
     {
         let mut parts = Vec::with_capacity(alloc, columns.len())?;
         for column in columns {
-            let cells = self.cells(alloc, grouping, *column)?;
-            parts.push(Part::made(cells))?;
+            let made = self.column(alloc, grouping, *column)?;
+            parts.push(Part::of_column(made))?;
         }
         Ok(parts)
     }

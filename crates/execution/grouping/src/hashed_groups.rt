@@ -1,99 +1,56 @@
 //! Groups of rows with the same key, found by hash.
 
-ghost use Rattle.std.specs.Prelude.{◌≡◌, ◌+◌, ◌<◌, ◌^◌, ◌++◌, ◌∷◌, [], length, IfOk, OnOk};
+ghost use Rattle.std.specs.Prelude.{◌≡◌, length, map, IfOk};
 ghost use Rattle.std.specs.List.{range_with_len};
 ghost use Rattle.grouping.specs.Groups as spec;
 ghost use Rattle.grouping.specs.RowNumbers.{numbers_in};
-ghost use Rattle.grouping.specs.KeyBuckets.{HasChains, IsGroup, column_key};
+ghost use Rattle.grouping.specs.KeyBuckets.{AreHashed, IsGroup, column_key, key_hash};
 
-use crate::chains::GroupChains;
-use crate::keys::{GroupNumbers, are_same, placed_columns, row_bucket};
+use crate::group_hashes::GroupHashes;
+use crate::keys::{GroupNumbers, are_same, placed_columns, row_hash};
 use crate::row_numbers::RowNumbers;
 use relations::{Place, RowColumn, Rows};
 use std::alloc::{AllocError, Global};
 
-/// How many buckets there are at first. They double where there are as many groups.
-const FIRST_BUCKETS: usize = 1024;
-
-/// Past half as many there are no more.
-const MOST_BUCKETS: usize = 4_294_967_295;
-
-/// The groups whose first rows these are, in so many buckets.
-fn chained(
-    alloc: Global,
-    columns: &[RowColumn<'_, '_>],
-    firsts: &RowNumbers,
-    buckets: usize,
-) -> Result<GroupChains, AllocError>
-    requires some { 0 < buckets }
-    requires few { buckets < 2 ^ 32 }
-    requires room { length (numbers_in firsts.now) + 1 < 2 ^ 64 }
-    ensures { IfOk result (HasChains columns.now (numbers_in firsts.now)) }
-{
-    let mut chains = GroupChains::new(alloc, buckets, firsts.len())?;
-    for group in 0..firsts.len() {
-        chains.push(alloc, row_bucket(columns, firsts.number(group), buckets))?;
-    }
-    Ok(chains)
-}
-
-/// The group of a row's key, or the next one where there is none.
+/// The group of a row's key, or the next one where there is none. The key's hash is given.
 fn found(
-    chains: &GroupChains,
+    hashes: &GroupHashes,
     columns: &[RowColumn<'_, '_>],
     firsts: &RowNumbers,
     row: usize,
+    hash: u32,
 ) -> usize
-    requires { HasChains columns.now (numbers_in firsts.now) chains.now }
-    ensures { IsGroup (column_key columns.now) (numbers_in firsts.now) row result }
+    requires hashed { AreHashed (map (column_key columns.now) (numbers_in firsts.now)) hashes.now }
+    requires hash { hash ≡ key_hash (column_key columns.now row) }
+    ensures { IsGroup (map (column_key columns.now) (numbers_in firsts.now)) (column_key columns.now row) result }
 {
-    let mut from = chains.last(row_bucket(columns, row, chains.buckets()));
+    let mut from = hashes.last(hash);
     while from > 0 {
         let group = from - 1;
         if are_same(columns, row, firsts.number(group)) {
             return group;
         }
-        from = chains.before(group);
+        from = hashes.before(group);
     }
     firsts.len()
-}
-
-/// Takes in the group that this row founds.
-fn founded(
-    alloc: Global,
-    chains: &mut GroupChains,
-    columns: &[RowColumn<'_, '_>],
-    firsts: &RowNumbers,
-    row: usize,
-) -> Result<(), AllocError>
-    requires chains { HasChains columns.now (numbers_in firsts.now) chains.old }
-    requires room { length (numbers_in firsts.now) + 1 < 2 ^ 64 }
-    ensures { OnOk result (HasChains columns.now (numbers_in firsts.now ++ row ∷ []) chains.new) }
-{
-    let buckets = chains.buckets();
-    if buckets <= firsts.len() && buckets <= MOST_BUCKETS / 2 {
-        *chains = chained(alloc, columns, firsts, buckets * 2)?;
-    }
-    chains.push(alloc, row_bucket(columns, row, chains.buckets()))?;
-    Ok(())
 }
 
 /// The group of a row's key, which the row founds where there is none.
 fn group_of(
     alloc: Global,
-    chains: &mut GroupChains,
+    hashes: &mut GroupHashes,
     columns: &[RowColumn<'_, '_>],
     firsts: &RowNumbers,
     row: usize,
 ) -> Result<usize, AllocError>
-    requires chains { HasChains columns.now (numbers_in firsts.now) chains.old }
-    requires room { length (numbers_in firsts.now) + 1 < 2 ^ 64 }
-    ensures group { IfOk result (IsGroup (column_key columns.now) (numbers_in firsts.now) row) }
-    ensures chains { IfOk result (λ group. HasChains columns.now (spec.with_founder (numbers_in firsts.now) group row) chains.new) }
+    requires { AreHashed (map (column_key columns.now) (numbers_in firsts.now)) hashes.old }
+    ensures group { IfOk result (IsGroup (map (column_key columns.now) (numbers_in firsts.now)) (column_key columns.now row)) }
+    ensures hashed { IfOk result (λ group. AreHashed (map (column_key columns.now) (spec.with_founder (numbers_in firsts.now) group row)) hashes.new) }
 {
-    let group = found(chains, columns, firsts, row);
+    let hash = row_hash(columns, row);
+    let group = found(hashes, columns, firsts, row, hash);
     if group == firsts.len() {
-        founded(alloc, chains, columns, firsts, row)?;
+        hashes.push(alloc, hash)?;
     }
     Ok(group)
 }
@@ -113,11 +70,11 @@ pub fn group_numbers(
         firsts: RowNumbers::new(alloc),
         numbers: RowNumbers::with_capacity(alloc, rows.count)?,
     };
-    let mut chains = chained(alloc, columns.as_slice(), &groups.firsts, FIRST_BUCKETS)?;
+    let mut hashes = GroupHashes::new(alloc)?;
     for number in 0..rows.count {
         let group = group_of(
             alloc,
-            &mut chains,
+            &mut hashes,
             columns.as_slice(),
             &groups.firsts,
             number,

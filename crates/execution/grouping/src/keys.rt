@@ -1,13 +1,13 @@
 //! Rows by their values in columns.
 
-ghost use Rattle.std.specs.Prelude.{◌≡◌, ◌<◌, ◌++◌, ◌∷◌, ◌^◌, ℕ, [], IfOk, OnOk};
+ghost use Rattle.std.specs.Prelude.{◌≡◌, ◌++◌, ◌∷◌, ℕ, [], IfOk, OnOk};
 ghost use Rattle.grouping.specs.Groups as spec;
-ghost use Rattle.grouping.specs.KeyBuckets.{bucket_of, column_key, key_hash, same_in};
+ghost use Rattle.grouping.specs.KeyBuckets.{column_key, key_hash, same_in};
 ghost use Rattle.grouping.specs.RowNumbers.{numbers_in};
 ghost use Rattle.relations.specs.Parts.{row_at};
 
 use crate::row_numbers::RowNumbers;
-use joins::{hash_behind, hash_bucket};
+use joins::hash_behind;
 use relations::{Place, RowColumn, Rows};
 use std::alloc::{AllocError, Global};
 
@@ -39,7 +39,7 @@ pub fn are_same(columns: &[RowColumn<'_, '_>], one: usize, other: usize) -> bool
 }
 
 /// What the values of a row in the columns hash to.
-fn row_hash(columns: &[RowColumn<'_, '_>], row: usize) -> u64
+pub fn row_hash(columns: &[RowColumn<'_, '_>], row: usize) -> u32
     ensures { result ≡ key_hash (column_key columns.now row) }
 {
     let mut hash = 0;
@@ -49,17 +49,7 @@ fn row_hash(columns: &[RowColumn<'_, '_>], row: usize) -> u64
             None => hash,
         };
     }
-    hash
-}
-
-/// The bucket, of so many, of a row's values in the columns.
-pub fn row_bucket(columns: &[RowColumn<'_, '_>], row: usize, buckets: usize) -> usize
-    requires some { 0 < buckets }
-    requires few { buckets < 2 ^ 32 }
-    ensures is { result ≡ bucket_of buckets (column_key columns.now row) }
-    ensures within { result < buckets }
-{
-    hash_bucket(row_hash(columns, row), buckets)
+    (hash / 4294967296) as u32
 }
 
 /// The number of the row that was seen first in each group, and the number of each row's group.

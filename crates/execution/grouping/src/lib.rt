@@ -4,15 +4,16 @@
 mod aggregates;
 mod chains;
 mod chunked;
-mod group_keys;
+mod group_hashes;
 mod group_table;
 mod groups;
 mod hashed_groups;
+mod key_table;
 mod keys;
 mod row_groups;
 mod row_numbers;
 mod runs;
 mod totals;
 
-pub use chunked::grouped_in_chunks;
+pub use chunked::{distinct_in_chunks, grouped_in_chunks};
 pub use groups::{distinct, grouped};

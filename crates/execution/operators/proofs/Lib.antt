@@ -8,6 +8,7 @@ pub mod ListedRelations
 pub mod MovedRows
 pub mod PlainParts
 pub mod PlanOutputs
+pub mod PlansAbove
 pub mod RightSides
 pub mod RowTruths
 pub mod RunnablePlans

@@ -1,4 +1,5 @@
 pub mod ChunkedPlans
+pub mod Distinct
 pub mod Existence
 pub mod FilteredJoins
 pub mod RightSides

@@ -4,6 +4,8 @@
 mod existence;
 mod index_scans;
 mod listed;
+mod plan_lists;
+mod plan_parts;
 mod right_sides;
 mod running;
 mod scans;
@@ -12,7 +14,7 @@ mod sorting;
 mod sources;
 mod subqueries;
 
-pub use running::{chunked_join, plan_found, plan_rows, run_plan};
-pub use scans::projected;
+pub use plan_lists::{plan_found, plan_rows};
+pub use running::{chunked_rows, run_plan};
 pub use shown::{FoundRows, Row, owned_rows};
 pub use sources::{IndexedTables, Sources};

@@ -3,9 +3,9 @@ use Rattle.algebra.specs.declared.condition.Condition.{Condition}
 use Rattle.algebra.specs.Conditions.{holds}
 use Rattle.physical.specs.Outputs.{no_classes}
 use Rattle.relations.specs.Relations.{env_of}
-use Rattle.cursors.specs.declared.opening.Selecting.{Selecting}
+use Rattle.selections.specs.declared.selecting.Selecting.{Selecting}
 use Rattle.cursors.specs.Selected.{selected_envs}
-use Rattle.cursors.specs.Selecting.{selecting_columns, selecting_rows}
+use Rattle.selections.specs.Selecting.{selecting_columns, selecting_rows}
 use Rattle.cursors.proofs.Selections.{reselected}
 use Rattle.cursors.proofs.opening.selected_by.Goals as goal
 

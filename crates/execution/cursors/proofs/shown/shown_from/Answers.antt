@@ -1,7 +1,7 @@
 use Rattle.std.proofs.Common.{ap, ◌∙◌, ℕ, List, ◌++◌}
 use Rattle.relations.specs.declared.environment.Env.{Empty}
-use Rattle.cursors.specs.Joined.{shown_chunks}
 use Rattle.cursors.specs.Progress.{rows_to_come}
+use Rattle.cursors.specs.ShownRows.{shown_chunks}
 use Rattle.cursors.proofs.ShownNumbers.{shown-selected}
 use Rattle.cursors.proofs.shown.shown_from.Goals as goal
 

@@ -4,7 +4,7 @@ use mathlib.Core.List.{map-id}
 use Rattle.algebra.specs.Columns.{has, rising}
 use Rattle.algebra.specs.Bags.{Bag, Env, group, lay, nulls}
 use Rattle.algebra.specs.Expressions.{with_aggregates}
-use Rattle.joins.specs.ChunkedJoins.{joined_to_come}
+use Rattle.selections.specs.RowChunks.{chunks_to_come}
 use Rattle.joins.proofs.Outputs.{restated}
 use Rattle.relations.proofs.Numbers.{by-number}
 use Rattle.grouping.specs.declared.groups.Grouping.{Grouping}
@@ -32,12 +32,12 @@ table_of-requires c = (refl, c.requires)
 
 pub row-requires : goal.row-requires
 row-requires c =
-    let all = joined_to_come c.args.join in
+    let all = chunks_to_come c.args.chunks in
     (all, subst (λ o. MatchOption o (2 ^ 62 < length all) (AreTotals c.args.added.now all)) c.in-Some.is c.in_ok-totals.ensures)
 
 pub rows-requires : goal.rows-requires
 rows-requires c =
-    let all = joined_to_come c.args.join in
+    let all = chunks_to_come c.args.chunks in
     let row : ℕ → Env = λ n. get_or all n nulls in
     (row, (subst (λ o. MatchOption o (2 ^ 62 < length all) (λ t. HasGroups c.args.keys.now c.args.added.now row t × (t.count ≡ length all))) c.in-Some-2.is c.in_ok-table.ensures).0)
 
@@ -45,7 +45,7 @@ pub returns-then-as_slice-eq0 : goal.returns-then-as_slice-eq0
 returns-then-as_slice-eq0 c =
     let K = c.args.keys.now in
     let A = c.args.added.now in
-    let all = joined_to_come c.args.join in
+    let all = chunks_to_come c.args.chunks in
     let x : Bag = λ e. all in
     let totals : AreTotals A all c.in-Some.totals = subst (λ o. MatchOption o (2 ^ 62 < length all) (AreTotals A all)) c.in-Some.is c.in_ok-totals.ensures in
     restated {E = Unit {0}} (Ok c.in_ok-row.row) _ _ _ _ nulls c.in_ok-columns.ensures
@@ -57,7 +57,7 @@ pub returns : goal.returns
 returns c =
     let K = c.args.keys.now in
     let A = c.args.added.now in
-    let all = joined_to_come c.args.join in
+    let all = chunks_to_come c.args.chunks in
     let x : Bag = λ e. all in
     let row : ℕ → Env = λ n. get_or all n nulls in
     let so = subst (λ o. MatchOption o (2 ^ 62 < length all) (λ t. HasGroups K A row t × (t.count ≡ length all))) c.in-Some-2.is c.in_ok-table.ensures in

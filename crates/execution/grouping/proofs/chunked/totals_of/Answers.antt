@@ -4,7 +4,7 @@ use Rattle.std.proofs.lemmas.List.{length-append, take_all}
 use Rattle.std.proofs.lemmas.List.FromFn.{length-map-range_with_len}
 use Rattle.query.specs.Aggregates.{MayRead}
 use Rattle.algebra.specs.Bags.{Env, nulls}
-use Rattle.joins.specs.ChunkedJoins.{IsChunk, IsNextChunk, joined_to_come}
+use Rattle.selections.specs.RowChunks.{IsNextSelected, IsSelectedChunk, chunks_to_come}
 use Rattle.relations.specs.Relations.{numbered_env, rows_of}
 use Rattle.grouping.specs.Totals.{AreTotals}
 use Rattle.grouping.proofs.Chunks.{all-came, chunk-all, chunk-fits, chunk-none, drop-more, take-more}
@@ -25,9 +25,9 @@ loop-totals-preserved g c =
     let n = c.loop-totals.totals.count in
     let chunk = c.in-Some.chunk in
     let xs = rows_of chunk nulls in
-    let ys = joined_to_come c.next_chunk.new.self in
+    let ys = chunks_to_come c.next_chunk.new.self in
     let inv = c.loop-totals.invariant in
-    let next : IsNextChunk c.loop-totals.join c.next_chunk.new.self chunk = subst (IsChunk c.loop-totals.join c.next_chunk.new.self) c.in-Some.is c.in_ok-chunk.ensures.chunk in
+    let next : IsNextSelected c.loop-totals.chunks c.next_chunk.new.self chunk = subst (IsSelectedChunk c.loop-totals.chunks c.next_chunk.new.self) c.in-Some.is c.in_ok-chunk.ensures in
     let is : drop n g.all ≡ xs ++ ys = sym inv.rest ∙ next.rows_are in
     let long : length xs ≡ chunk.rows.count = length-map-range_with_len (numbered_env chunk nulls) 0 chunk.rows.count in
     let many : c.add.new.self.count ≡ n + length xs = omega (arith, c.add.ensures.count_is, length-append (take n g.all) xs, inv.totals.count_is) in
@@ -43,10 +43,10 @@ add-requires g c =
     let n = c.loop-totals.totals.count in
     let chunk = c.in-Some.chunk in
     let inv = c.loop-totals.invariant in
-    let next : IsNextChunk c.loop-totals.join c.next_chunk.new.self chunk = subst (IsChunk c.loop-totals.join c.next_chunk.new.self) c.in-Some.is c.in_ok-chunk.ensures.chunk in (
+    let next : IsNextSelected c.loop-totals.chunks c.next_chunk.new.self chunk = subst (IsSelectedChunk c.loop-totals.chunks c.next_chunk.new.self) c.in-Some.is c.in_ok-chunk.ensures in (
       λ fits. omega (arith, inv.totals.count_is, inv.few, c.count.ensures, c.if-chunk-count.false),
       (
-        chunk-all (λ (r : Env). AllByRecursion (λ a. MayRead a.aggregate r) c.args.added.now) n g.all (rows_of chunk nulls) (joined_to_come c.next_chunk.new.self) (sym inv.rest ∙ next.rows_are) c.requires.1,
+        chunk-all (λ (r : Env). AllByRecursion (λ a. MayRead a.aggregate r) c.args.added.now) n g.all (rows_of chunk nulls) (chunks_to_come c.next_chunk.new.self) (sym inv.rest ∙ next.rows_are) c.requires.1,
         inv.totals,
       ),
     )
@@ -56,14 +56,14 @@ returns-then-chunk-count g c =
     let n = c.loop-totals.totals.count in
     let chunk = c.in-Some.chunk in
     let xs = rows_of chunk nulls in
-    let ys = joined_to_come c.next_chunk.new.self in
+    let ys = chunks_to_come c.next_chunk.new.self in
     let inv = c.loop-totals.invariant in
-    let next : IsNextChunk c.loop-totals.join c.next_chunk.new.self chunk = subst (IsChunk c.loop-totals.join c.next_chunk.new.self) c.in-Some.is c.in_ok-chunk.ensures.chunk in
+    let next : IsNextSelected c.loop-totals.chunks c.next_chunk.new.self chunk = subst (IsSelectedChunk c.loop-totals.chunks c.next_chunk.new.self) c.in-Some.is c.in_ok-chunk.ensures in
     let long : length xs ≡ chunk.rows.count = length-map-range_with_len (numbered_env chunk nulls) 0 chunk.rows.count in
     omega (arith, long, c.count.ensures, c.if-chunk-count.true, inv.few, chunk-fits n g.all xs ys (sym inv.rest ∙ next.rows_are) inv.within)
 
 pub returns : goal.returns
 returns g c =
     let inv = c.loop-totals.invariant in
-    let none = sym inv.rest ∙ chunk-none c.loop-totals.join c.next_chunk.new.self c.in_ok-chunk.field-0 c.in_default.not-Some c.in_ok-chunk.ensures.chunk in
+    let none = sym inv.rest ∙ chunk-none c.loop-totals.chunks c.next_chunk.new.self c.in_ok-chunk.field-0 c.in_default.not-Some c.in_ok-chunk.ensures in
     subst (λ rows. AreTotals c.args.added.now rows c.loop-totals.totals) (take_all c.loop-totals.totals.count g.all (omega (arith, all-came c.loop-totals.totals.count g.all none inv.within))) inv.totals

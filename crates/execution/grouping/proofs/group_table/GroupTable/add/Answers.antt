@@ -1,6 +1,6 @@
 use Rattle.std.proofs.Common.{◌≡◌, refl, ap, sym, subst, ◌∙◌, ◌+◌, ℕ, List, Vec, Global, get_or, length, map, arith}
 use Rattle.std.specs.List.{AllZip}
-use Rattle.std.proofs.lemmas.List.{get_or_default}
+use Rattle.std.proofs.lemmas.List.{get_or_default, length-map}
 use Rattle.query.specs.declared.aggregates.Running.{Running}
 use Rattle.query.specs.Aggregates.{column_of}
 use Rattle.algebra.specs.declared.expr.Aggregation.{Aggregation}
@@ -10,6 +10,7 @@ use Rattle.relations.specs.RowColumns.{column_value}
 use Rattle.relations.specs.Relations.{numbered_env, rows_of}
 use Rattle.grouping.specs.Groups.{AreAfter}
 use Rattle.grouping.specs.GroupTables.{AreNumberedFrom, HasRowsFrom, groups_seen, keys_seen, row_key}
+use Rattle.grouping.specs.KeyTables.{HasKeys}
 use Rattle.grouping.proofs.AllRows.{none}
 use Rattle.grouping.proofs.Readable.{aggregate-readable}
 use Rattle.grouping.proofs.Zips.{zip-begun, zip-done, zip-next, zip-set-next, zip-to-length}
@@ -19,13 +20,17 @@ module _ (of : List ℕ × (ℕ → Env)) (count : ℕ) where
   abbrev held : Aggregation → Vec Running Global → Type 0
   held a r = AreAfter a.aggregate (λ n. of.1 n (column_of a.aggregate)) (groups_seen (row_key of.1 of.0) count) r.items
 
+-- as many columns as keys
+key-width : (columns : List RowColumn) (keys : List ℕ) (row : Env) (K : List ℕ) (slice : List RowColumn) → slice ≡ columns → map (λ column. column_value column 0) columns ≡ map row keys → keys ≡ K → length slice ≡ length K
+key-width columns keys row K slice is shown same = ap length is ∙ sym (length-map columns (λ column. column_value column 0)) ∙ ap length shown ∙ length-map keys row ∙ ap length same
+
 pub returns-clause-groups : goal.returns-clause-groups
 returns-clause-groups g c =
     let first = c.args.self.now.count in
     let last = first + c.args.chunk.now.rows.count in
     let is : last ≡ c.loop-place.self.count + c.args.chunk.now.rows.count = omega (arith, c.loop-place.invariant.count) in
     record {
-      keys_are = c.loop-place.invariant.keys ∙ ap (keys_seen (row_key g.of.1 g.of.0)) is;
+      keys_are = subst (λ n. HasKeys (length g.of.0) (keys_seen (row_key g.of.1 g.of.0) n) c.loop-place.self.keys) is c.loop-place.invariant.keys;
       held = subst (λ n. AllZip (held g.of n) c.args.added.now c.loop-place.self.running.items) is (zip-done (held g.of last) (held g.of first) c.loop-place.place c.args.added.now c.loop-place.self.running.items (omega arith) c.loop-place.invariant.held);
     }
 
@@ -35,7 +40,9 @@ loop-place-init g c =
     let last = first + c.args.chunk.now.rows.count in
     record {
       held = zip-begun (held g.of last) (held g.of first) c.args.added.now c.args.self.now.running.items c.requires.1.1.1.1.held;
-      keys = c.in_ok-numbers.ensures.seen;
+      keys = subst (λ width. HasKeys width (keys_seen (row_key g.of.1 g.of.0) last) c.group_numbers.new.keys)
+          (key-width c.in_ok-columns.columns.items _ (numbered_env c.args.chunk.now nulls 0) g.of.0 c.as_slice-2.result.now c.as_slice-2.ensures.value (c.in_ok-columns.ensures 0) (c.as_slice.ensures.columns ∙ c.requires.0))
+          c.in_ok-numbers.ensures.seen;
       count = refl;
     }
 
@@ -48,11 +55,14 @@ index_mut-running-requires g c =
 pub group_numbers-requires : goal.group_numbers-requires
 group_numbers-requires g c =
     let chunk = c.args.chunk.now in (
-      λ i below.
-          ap (map (λ (column : RowColumn). column_value column i)) c.as_slice-2.ensures.value ∙ c.in_ok-columns.ensures i
-          ∙ ap (map (numbered_env chunk nulls i)) (c.as_slice.ensures.columns ∙ c.requires.0)
-          ∙ ap (λ (e : Env). map e g.of.0) (c.requires.1.1.0 i below),
-      c.requires.1.1.1.1.keys_are,
+      refl,
+      (
+        λ i below.
+            ap (map (λ (column : RowColumn). column_value column i)) c.as_slice-2.ensures.value ∙ c.in_ok-columns.ensures i
+            ∙ ap (map (numbered_env chunk nulls i)) (c.as_slice.ensures.columns ∙ c.requires.0)
+            ∙ ap (λ (e : Env). map e g.of.0) (c.requires.1.1.0 i below),
+        subst (λ width. HasKeys width (keys_seen (row_key g.of.1 g.of.0) c.args.self.now.count) c.args.self.now.keys) (sym (key-width c.in_ok-columns.columns.items _ (numbered_env chunk nulls 0) g.of.0 c.as_slice-2.result.now c.as_slice-2.ensures.value (c.in_ok-columns.ensures 0) (c.as_slice.ensures.columns ∙ c.requires.0))) c.requires.1.1.1.1.keys_are,
+      ),
     )
 
 pub add_rows-requires : goal.add_rows-requires

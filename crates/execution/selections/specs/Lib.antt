@@ -1,0 +1,2 @@
+pub mod RowChunks
+pub mod Selecting
