@@ -12,6 +12,8 @@ const EXAMPLES: &str = "\
 Examples:
   sqlplan query schema.json query.sql data
   sqlplan query schema.json query.sql data --explain
+  sqlplan query schema.json data --sql 'SELECT id FROM emp'
+  echo 'SELECT id FROM emp' | sqlplan query schema.json - data
   sqlplan meaning schema.json query.sql data
   sqlplan plan schema.json query.sql stats.json > query.cert
   sqlplan explain schema.json query.sql stats.json --format dot
@@ -36,6 +38,25 @@ fn place<'a>(alloc: Global, name: &'a str, help: &'a str) -> Arg<'a> {
         .help(help)
 }
 
+/// The last of the words that have to stand there: where the query's text is given by itself, all behind the schema stand a place further to
+/// the front, and this one's place is empty.
+fn last<'a>(alloc: Global, name: &'a str, help: &'a str) -> Result<Arg<'a>, AllocError> {
+    Arg::new(alloc, name)
+        .action(ArgAction::Set)
+        .help(help)
+        .required_unless_present("sql")?
+        .conflicts_with("sql")
+}
+
+/// The query's text by itself.
+fn sql(alloc: Global) -> Arg<'static> {
+    Arg::new(alloc, "sql")
+        .long("sql")
+        .value_name("TEXT")
+        .action(ArgAction::Set)
+        .help("takes this text for the query, and QUERY is left out")
+}
+
 /// Whether a refusal is put in words.
 fn words(alloc: Global) -> Arg<'static> {
     Arg::new(alloc, "words")
@@ -46,12 +67,23 @@ fn words(alloc: Global) -> Arg<'static> {
         )
 }
 
-/// A command over a schema and the text of a query.
-fn of_query<'a>(alloc: Global, name: &'a str, about: &'a str) -> Result<Command<'a>, AllocError> {
+/// A command over a schema and the text of a query, which is called so.
+fn of_query<'a>(
+    alloc: Global,
+    name: &'a str,
+    about: &'a str,
+    usage: &'a str,
+) -> Result<Command<'a>, AllocError> {
     Command::new(alloc, name)
         .about(about)
+        .override_usage(usage)
         .arg(place(alloc, "SCHEMA", "the tables and their columns, a JSON file"))?
-        .arg(place(alloc, "QUERY", "the text of the query, a file"))?
+        .arg(place(
+            alloc,
+            "QUERY",
+            "the text of the query, a file, or - for standard input",
+        ))?
+        .arg(sql(alloc))?
         .arg(words(alloc))
 }
 
@@ -63,9 +95,14 @@ fn progress(alloc: Global) -> Arg<'static> {
         .help("says on standard error how far the work is, every two seconds at most")
 }
 
+/// What stands at the place of statistics, and of a certificate.
+const STATISTICS: &str = "the statistics of the tables, a JSON file";
+
+const CERTIFICATE: &str = "the certificate of a plan, a file";
+
 /// The place of statistics.
-fn statistics(alloc: Global) -> Arg<'static> {
-    place(alloc, "STATS", "the statistics of the tables, a JSON file")
+fn statistics(alloc: Global) -> Result<Arg<'static>, AllocError> {
+    last(alloc, "STATS", STATISTICS)
 }
 
 /// How many lines a log may have that a plan is searched for over.
@@ -124,14 +161,9 @@ fn least(alloc: Global) -> Arg<'static> {
         .help("says behind the plan over how many goals and lines it is the cheapest")
 }
 
-/// The place of a certificate.
-fn certificate(alloc: Global) -> Arg<'static> {
-    place(alloc, "CERT", "the certificate of a plan, a file")
-}
-
 /// The place of a folder of tables.
-fn folder(alloc: Global) -> Arg<'static> {
-    place(alloc, "DIR", "the folder with <table>.csv for each table")
+fn folder(alloc: Global) -> Result<Arg<'static>, AllocError> {
+    last(alloc, "DIR", "the folder with <table>.csv for each table")
 }
 
 fn query<'a>(alloc: Global) -> Result<Command<'a>, AllocError> {
@@ -139,9 +171,10 @@ fn query<'a>(alloc: Global) -> Result<Command<'a>, AllocError> {
         alloc,
         "query",
         "Answers a query over tables in CSV files, by a plan that was checked",
+        "sqlplan query [OPTIONS] <SCHEMA> <QUERY> <DIR>",
     )?
     .arg(progress(alloc))?
-    .arg(folder(alloc))?
+    .arg(folder(alloc)?)?
     .arg(limit(alloc))?
     .arg(report(alloc))
 }
@@ -151,9 +184,10 @@ fn meaning<'a>(alloc: Global) -> Result<Command<'a>, AllocError> {
         alloc,
         "meaning",
         "Answers a query over tables in CSV files, as its meaning says: slowly, with no plan",
+        "sqlplan meaning [OPTIONS] <SCHEMA> <QUERY> <DIR>",
     )?
     .arg(progress(alloc))?
-    .arg(folder(alloc))
+    .arg(folder(alloc)?)
 }
 
 fn plan<'a>(alloc: Global) -> Result<Command<'a>, AllocError> {
@@ -161,8 +195,9 @@ fn plan<'a>(alloc: Global) -> Result<Command<'a>, AllocError> {
         alloc,
         "plan",
         "Plans a query by statistics, and writes the certificate of its plan",
+        "sqlplan plan [OPTIONS] <SCHEMA> <QUERY> <STATS>",
     )?
-    .arg(statistics(alloc))?
+    .arg(statistics(alloc)?)?
     .arg(limit(alloc))?
     .arg(labels(alloc))
 }
@@ -172,8 +207,9 @@ fn explain<'a>(alloc: Global) -> Result<Command<'a>, AllocError> {
         alloc,
         "explain",
         "Plans a query by statistics, and shows its plan with rows and costs",
+        "sqlplan explain [OPTIONS] <SCHEMA> <QUERY> <STATS>",
     )?
-    .arg(statistics(alloc))?
+    .arg(statistics(alloc)?)?
     .arg(format(alloc))?
     .arg(limit(alloc))?
     .arg(least(alloc))
@@ -184,8 +220,9 @@ fn check<'a>(alloc: Global) -> Result<Command<'a>, AllocError> {
         alloc,
         "check",
         "Checks that a certificate's plan answers a query, and says accepted where it does",
+        "sqlplan check [OPTIONS] <SCHEMA> <QUERY> <CERT>",
     )?
-    .arg(certificate(alloc))
+    .arg(last(alloc, "CERT", CERTIFICATE)?)
 }
 
 fn check_least<'a>(alloc: Global) -> Result<Command<'a>, AllocError> {
@@ -193,13 +230,14 @@ fn check_least<'a>(alloc: Global) -> Result<Command<'a>, AllocError> {
         alloc,
         "check-least",
         "Checks that a certificate's plan answers a query, and that no plan of its lines costs less, and says accepted where both are so",
+        "sqlplan check-least [OPTIONS] <SCHEMA> <QUERY> <STATS> <LABELS>",
     )?
-    .arg(statistics(alloc))?
-    .arg(place(
+    .arg(place(alloc, "STATS", STATISTICS))?
+    .arg(last(
         alloc,
         "LABELS",
         "a certificate with labels, a file that plan --labels wrote",
-    ))
+    )?)
 }
 
 fn run<'a>(alloc: Global) -> Result<Command<'a>, AllocError> {
@@ -207,10 +245,11 @@ fn run<'a>(alloc: Global) -> Result<Command<'a>, AllocError> {
         alloc,
         "run",
         "Answers a query over tables in CSV files, by the plan of a certificate that is accepted",
+        "sqlplan run [OPTIONS] <SCHEMA> <QUERY> <CERT> <DIR>",
     )?
     .arg(progress(alloc))?
-    .arg(certificate(alloc))?
-    .arg(folder(alloc))
+    .arg(place(alloc, "CERT", CERTIFICATE))?
+    .arg(folder(alloc)?)
 }
 
 fn codes<'a>(alloc: Global) -> Command<'a> {

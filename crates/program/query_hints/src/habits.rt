@@ -30,6 +30,23 @@ const COUNT_DISTINCT: &str =
 const ARITHMETIC: &str =
     "arithmetic; a query shows and compares columns as they are, and a - stands directly before digits";
 
+const CONCATENATION: &str = "texts joined by ||; a query shows and compares columns as they are";
+
+const DECIMAL: &str = "numbers with a point; numbers are whole, so x > 1.5 is x >= 2";
+
+const DATE: &str =
+    "dates and times; texts as '2024-01-31' are in the order of time, and x >= '2024-01-01' AND x < '2025-01-01' is the year 2024";
+
+const TRUTH: &str =
+    "TRUE and FALSE; a value is a number, a text or Null, so write x = 1 where 1 stands for true";
+
+const COLLATION: &str = "COLLATE; texts are compared and sorted by their bytes";
+
+const BYTE_ORDER_MARK: &str = "a byte order mark; the text is the query alone";
+
+const BEYOND_ASCII: &str =
+    "a sign beyond ASCII, which only texts have, between ' and '; a name is letters from a to z, digits and _";
+
 const USING: &str = "USING; write ON with a comparison, as ON e.dept = d.id";
 
 const UNION: &str =
@@ -45,6 +62,8 @@ const LIKE: &str = "patterns; texts are compared as wholes, by =, <>, <, <=, > a
 
 const CASE: &str = "CASE; a query shows columns as they are";
 
+const WINDOW: &str = "windows; GROUP BY shows the COUNT, SUM, MIN or MAX of each group, in one row";
+
 const OTHER_JOIN: &str =
     "RIGHT, FULL, CROSS and NATURAL; a RIGHT JOIN is a LEFT JOIN turned round, and a CROSS JOIN a comma";
 
@@ -53,9 +72,24 @@ const FUNCTION: &str = "functions but for the aggregates COUNT, SUM, MIN and MAX
 const SUBQUERY: &str =
     "a subquery in the place of a table or a value; it stands behind IN or EXISTS";
 
+const VALUE_OF_SUBQUERY: &str =
+    "a subquery as a value; in WHERE, if it has one row, write IN for = and NOT IN for <>, as x IN (SELECT MAX(y) FROM t)";
+
 const CONSTANT: &str = "a constant that is shown; a SELECT shows columns and aggregates";
 
 const NUMBERED_KEY: &str = "a key by its number; name the column";
+
+const AGGREGATE_AS_KEY: &str =
+    "an aggregate as a key, or its reserved word alone; show it with an alias, as COUNT(*) AS n, and write ORDER BY n";
+
+const AGGREGATE_AS_NAME: &str =
+    "COUNT, SUM, MIN or MAX as a name, since they are reserved; write another, as COUNT(*) AS n";
+
+const NULLS_ORDER: &str =
+    "NULLS FIRST and NULLS LAST; Null is before all values, and with DESC behind them";
+
+const SCHEMA_OF_TABLE: &str =
+    "a schema's name before a table's; write the table's alone, as in FROM emp";
 
 const PARAMETER: &str = "parameters; write the value into the query's text";
 
@@ -65,8 +99,14 @@ const SECOND: &str = "a second statement; a text is one query";
 
 const OTHER_STATEMENT: &str = "statements but SELECT; the tables are files, which are only read";
 
-/// What stands before the place, what begins there, and what is said of it. Tokens have a space between them; `1` is any literal. The
-/// first that fits is said.
+const EXPLAIN: &str =
+    "EXPLAIN; sqlplan explain shows the plan of a query, and sqlplan query --explain the plan that answered it";
+
+const AGGREGATES: &[&str] = &["COUNT", "SUM", "MIN", "MAX"];
+
+/// What stands before the place, what begins there, and what is said of it. Tokens have a space between them; `1` is any literal, before
+/// the place any number, `name` any other word, `aggregate` one of `AGGREGATES`, and `beyond` a sign beyond ASCII. The first that fits is
+/// said.
 const HABITS: &[(&str, &str, &str)] = &[
     ("LIMIT", "1", LIMIT),
     ("OFFSET", "1", LIMIT),
@@ -79,9 +119,13 @@ const HABITS: &[(&str, &str, &str)] = &[
     ("", "--", COMMENT),
     ("", "/*", COMMENT),
     ("", "#", COMMENT),
+    ("COLLATE", "", COLLATION),
+    ("", "COLLATE", COLLATION),
     ("", "\"", QUOTED_NAME),
     ("", "`", QUOTED_NAME),
     ("", "[", QUOTED_NAME),
+    ("", "\u{feff}", BYTE_ORDER_MARK),
+    ("", "beyond", BEYOND_ASCII),
     (".", "*", STAR_OF_TABLE),
     (",", "*", STAR_ALONE),
     ("SELECT *", ",", STAR_ALONE),
@@ -93,6 +137,26 @@ const HABITS: &[(&str, &str, &str)] = &[
     ("SELECT", "1", CONSTANT),
     ("DISTINCT", "1", CONSTANT),
     ("BY", "1", NUMBERED_KEY),
+    ("ORDER BY", "aggregate", AGGREGATE_AS_KEY),
+    (",", "aggregate", AGGREGATE_AS_KEY),
+    ("AS", "aggregate", AGGREGATE_AS_NAME),
+    ("", "NULLS FIRST", NULLS_ORDER),
+    ("", "NULLS LAST", NULLS_ORDER),
+    ("FROM name", ".", SCHEMA_OF_TABLE),
+    ("JOIN name", ".", SCHEMA_OF_TABLE),
+    (", name", ".", SCHEMA_OF_TABLE),
+    (". name", ".", SCHEMA_OF_TABLE),
+    ("1", ".", DECIMAL),
+    ("<", ".", DECIMAL),
+    (">", ".", DECIMAL),
+    ("=", ".", DECIMAL),
+    ("DATE", "'", DATE),
+    ("TIMESTAMP", "'", DATE),
+    ("INTERVAL", "'", DATE),
+    ("EXTRACT", "(", DATE),
+    ("DATE_TRUNC", "(", DATE),
+    ("STRFTIME", "(", DATE),
+    ("YEAR", "(", DATE),
     ("USING", "(", USING),
     ("", "USING", USING),
     ("UNION", "SELECT", UNION),
@@ -115,8 +179,13 @@ const HABITS: &[(&str, &str, &str)] = &[
     ("", "FULL", OTHER_JOIN),
     ("", "CROSS", OTHER_JOIN),
     ("", "NATURAL", OTHER_JOIN),
+    (") OVER", "", WINDOW),
+    ("ROW_NUMBER", "(", WINDOW),
+    ("RANK", "(", WINDOW),
+    ("DENSE_RANK", "(", WINDOW),
+    ("LAG", "(", WINDOW),
+    ("LEAD", "(", WINDOW),
     ("AVG", "(", FUNCTION),
-    ("OVER", "(", FUNCTION),
     ("CAST", "(", FUNCTION),
     ("COALESCE", "(", FUNCTION),
     ("UPPER", "(", FUNCTION),
@@ -125,12 +194,17 @@ const HABITS: &[(&str, &str, &str)] = &[
     ("ROUND", "(", FUNCTION),
     ("ABS", "(", FUNCTION),
     ("", "::", FUNCTION),
+    ("< =", "( SELECT", SUBQUERY),
+    ("> =", "( SELECT", SUBQUERY),
+    ("=", "( SELECT", VALUE_OF_SUBQUERY),
+    ("< >", "( SELECT", VALUE_OF_SUBQUERY),
     ("", "( SELECT", SUBQUERY),
     ("=", "=", EQUALS),
     ("", "?", PARAMETER),
     ("", ":", PARAMETER),
     ("", "$", PARAMETER),
     ("", "@", PARAMETER),
+    ("", "EXPLAIN", EXPLAIN),
     ("", "INSERT", OTHER_STATEMENT),
     ("FOR", "UPDATE", FOR_UPDATE),
     ("", "UPDATE", OTHER_STATEMENT),
@@ -142,7 +216,11 @@ const HABITS: &[(&str, &str, &str)] = &[
     ("", "*", ARITHMETIC),
     ("", "/", ARITHMETIC),
     ("", "%", ARITHMETIC),
-    ("", "||", ARITHMETIC),
+    ("", "||", CONCATENATION),
+    ("", "TRUE", TRUTH),
+    ("", "FALSE", TRUTH),
+    ("TRUE", "", TRUTH),
+    ("FALSE", "", TRUTH),
 ];
 
 fn is_word(byte: u8) -> bool {
@@ -156,12 +234,22 @@ fn last_token(text: &[u8]) -> (&[u8], &[u8]) {
     text.split_at(text.len().saturating_sub(word.max(1)))
 }
 
+/// Whether a word or one byte is a token of the table.
+fn is_token(found: &[u8], token: &str) -> bool {
+    let first = found.first();
+    match token {
+        "1" => first.is_some_and(|byte| byte.is_ascii_digit()),
+        "name" => first.is_some_and(|byte| is_word(*byte) && !byte.is_ascii_digit()),
+        _ => token.is_empty() || found.eq_ignore_ascii_case(token.as_bytes()),
+    }
+}
+
 /// Whether a text ends in these tokens.
 fn ends_in(text: &[u8], tokens: &str) -> bool {
     let mut rest = text;
     for token in tokens.rsplit(' ') {
         let (front, last) = last_token(rest);
-        if !token.is_empty() && !last.eq_ignore_ascii_case(token.as_bytes()) {
+        if !is_token(last, token) {
             return false;
         }
         rest = front;
@@ -189,10 +277,22 @@ fn begins_with_literal(text: &[u8]) -> bool {
     }
 }
 
+fn begins_with_aggregate(text: &[u8]) -> bool {
+    AGGREGATES.iter().any(|word| behind(text, word).is_some())
+}
+
+/// Whether a sign beyond ASCII stands at the front of a text, and no byte that isn't UTF-8.
+fn begins_beyond_ascii(text: &[u8]) -> bool {
+    text.first().is_some_and(|byte| !byte.is_ascii()) && str::from_utf8(text).is_ok()
+}
+
 /// Whether a text begins with these tokens.
 fn begins_with(text: &[u8], tokens: &str) -> bool {
-    if tokens == "1" {
-        return begins_with_literal(text);
+    match tokens {
+        "1" => return begins_with_literal(text),
+        "aggregate" => return begins_with_aggregate(text),
+        "beyond" => return begins_beyond_ascii(text),
+        _ => {}
     }
     let mut rest = text;
     for token in tokens.split(' ') {
@@ -212,6 +312,19 @@ fn habit(text: &[u8], at: usize) -> Option<&'static str> {
     found.map(|(_, _, says)| *says)
 }
 
+/// Adds what is said of a habit: a line of its own.
+fn push_habit(said: &mut String, says: &str) -> Result<(), AllocError> {
+    write!(said, "not part of this language, see docs/SQL.md: {says}\n")
+}
+
+/// Says of a column's name that there is none what is meant by it in other dialects, if it is TRUE or FALSE.
+pub(crate) fn say_truth(name: &str, said: &mut String) -> Result<(), AllocError> {
+    if name == "true" || name == "false" {
+        push_habit(said, TRUTH)?;
+    }
+    Ok(())
+}
+
 /// What is to be written in place of a habit of another dialect: a line of its own, or nothing where a text is refused for another reason.
 pub fn habits_there(
     alloc: Global,
@@ -222,8 +335,9 @@ pub fn habits_there(
         ParseReason::NoToken | ParseReason::Unexpected => habit(text, refusal.at),
         _ => None,
     };
-    match found {
-        Some(says) => format!(in alloc; "not part of this language, see docs/SQL.md: {says}\n"),
-        None => Ok(String::new(alloc)),
+    let mut said = String::new(alloc);
+    if let Some(says) = found {
+        push_habit(&mut said, says)?;
     }
+    Ok(said)
 }

@@ -1,5 +1,6 @@
 //! The tables and columns that there are, where a name of a query means none of them or several.
 
+use crate::habits::say_truth;
 use schema::{Column, Schema, Table};
 use sql_parse::Name;
 use sql_parse::statement::{
@@ -172,7 +173,8 @@ pub(crate) fn say_unknown(
 ) -> Result<(), AllocError> {
     let column = name.name.text.as_str();
     let Some(table) = &name.table else {
-        return say_missing_anywhere(alloc, schema, column, tables, said);
+        say_missing_anywhere(alloc, schema, column, tables, said)?;
+        return say_truth(column, said);
     };
     let table = table.text.as_str();
     match tables

@@ -200,17 +200,25 @@ fn report_of(arguments: &ArgMatches<'_>) -> Option<ReportForm> {
     }
 }
 
+/// The word with this name. Where the query's text is given by itself it stands at the place of the one before it.
+fn word_of<'a>(arguments: &'a ArgMatches<'_>, before: &str, name: &str) -> Option<&'a str> {
+    match arguments.get_str("sql") {
+        Some(_) => arguments.get_str(before),
+        None => arguments.get_str(name),
+    }
+}
+
 impl<'a> Asked<'a> {
     /// What a command asks.
     fn of(command: &str, arguments: &'a ArgMatches<'_>) -> Option<Asked<'a>> {
         match command {
             "query" => {
-                let folder = arguments.get_str("DIR")?;
+                let folder = word_of(arguments, "QUERY", "DIR")?;
                 Some(Asked::Query(folder, search_of(arguments), report_of(arguments)))
             }
-            "meaning" => Some(Asked::Meaning(arguments.get_str("DIR")?)),
+            "meaning" => Some(Asked::Meaning(word_of(arguments, "QUERY", "DIR")?)),
             "plan" => {
-                let statistics = arguments.get_str("STATS")?;
+                let statistics = word_of(arguments, "QUERY", "STATS")?;
                 let search = search_of(arguments);
                 Some(match arguments.get_str("labels") {
                     Some(labels) => Asked::PlanWithLabels(statistics, labels, search),
@@ -218,15 +226,19 @@ impl<'a> Asked<'a> {
                 })
             }
             "explain" => {
-                let statistics = arguments.get_str("STATS")?;
+                let statistics = word_of(arguments, "QUERY", "STATS")?;
                 Some(Asked::Explain(statistics, how_shown(arguments)?, search_of(arguments)))
             }
-            "check" => Some(Asked::Check(arguments.get_str("CERT")?)),
+            "check" => Some(Asked::Check(word_of(arguments, "QUERY", "CERT")?)),
             "check-least" => {
-                let statistics = arguments.get_str("STATS")?;
-                Some(Asked::CheckLeast(statistics, arguments.get_str("LABELS")?))
+                let statistics = word_of(arguments, "QUERY", "STATS")?;
+                let labels = word_of(arguments, "STATS", "LABELS")?;
+                Some(Asked::CheckLeast(statistics, labels))
             }
-            "run" => Some(Asked::Run(arguments.get_str("CERT")?, arguments.get_str("DIR")?)),
+            "run" => {
+                let certificate = word_of(arguments, "QUERY", "CERT")?;
+                Some(Asked::Run(certificate, word_of(arguments, "CERT", "DIR")?))
+            }
             _ => None,
         }
     }
@@ -679,6 +691,21 @@ fn refused_schema(alloc: Global, fault: SchemaFault, text: &[u8], words: bool) -
     }
 }
 
+/// The file of standard input.
+const STANDARD_INPUT: &str = "/dev/stdin";
+
+/// The text of the query: given by itself, or that of a file or of standard input.
+fn query_text(rt: &HostRuntime, arguments: &ArgMatches<'_>, words: bool) -> Result<Vec<u8>, Stop> {
+    if let Some(text) = arguments.get_str("sql") {
+        return Ok(Vec::from_slice(rt.alloc(), text.as_bytes())?);
+    }
+    match arguments.get_str("QUERY") {
+        Some("-") => bytes_of(rt, STANDARD_INPUT, words),
+        Some(path) => bytes_of(rt, path, words),
+        None => Err(Stop::Usage),
+    }
+}
+
 /// A command. The schema is read and tested before any other file is opened.
 fn obey(rt: &HostRuntime, command: &str, arguments: &ArgMatches<'_>) -> Result<(), Stop> {
     if command == "codes" {
@@ -687,8 +714,7 @@ fn obey(rt: &HostRuntime, command: &str, arguments: &ArgMatches<'_>) -> Result<(
     let Some(asked) = Asked::of(command, arguments) else {
         return Err(Stop::Usage);
     };
-    let (Some(schema), Some(query)) = (arguments.get_str("SCHEMA"), arguments.get_str("QUERY"))
-    else {
+    let Some(schema) = arguments.get_str("SCHEMA") else {
         return Err(Stop::Usage);
     };
     let words = arguments.get_flag("words") || rt.stderr().is_terminal();
@@ -696,7 +722,7 @@ fn obey(rt: &HostRuntime, command: &str, arguments: &ArgMatches<'_>) -> Result<(
     let bytes = bytes.as_slice();
     match Schema::read(rt.alloc(), bytes) {
         Ok(schema) => {
-            let text = bytes_of(rt, query, words)?;
+            let text = query_text(rt, arguments, words)?;
             let progress = progress_of(rt, asked, arguments.get_flag("progress"));
             let given = Given {
                 bytes,
@@ -712,11 +738,11 @@ fn obey(rt: &HostRuntime, command: &str, arguments: &ArgMatches<'_>) -> Result<(
     }
 }
 
-/// What the parser of the command line has to say in place of a command. The version was asked for, and goes to standard output.
+/// What the parser of the command line has to say in place of a command. What was asked for, help or the version, goes to standard output.
 fn say(rt: &HostRuntime, error: &clap::Error) -> Result<(), Stop> {
     match error.kind() {
         ErrorKind::OutOfMemory => Err(Stop::Memory),
-        ErrorKind::DisplayVersion => {
+        ErrorKind::DisplayHelp | ErrorKind::DisplayVersion => {
             let text = format!(in rt.alloc(); "{error}")?;
             print_bytes(rt, text.as_bytes())
         }

@@ -18,7 +18,7 @@ use words::spelled;
 /// Why the program stops early.
 #[derive(Debug, Drop)]
 pub enum Stop {
-    /// The command line was reported to be wrong, or its help was shown.
+    /// The command line was reported to be wrong.
     Usage,
     Memory,
     /// Nobody reads standard output any more. Nothing is said, as of a filter that a signal ends there.
