@@ -38,8 +38,8 @@ SELECT d.id FROM dept d WHERE EXISTS (SELECT e.id FROM emp e WHERE e.dept = d.id
 
 /// Reports what a command answers over the files of `examples/hr`. The text is spelt.
 #[derive(Drop)]
-struct Answers<'a> {
-    way: Way<'a>,
+pub struct Answers<'a> {
+    pub way: Way<'a>,
 }
 
 impl Reporting for Answers<'_> {

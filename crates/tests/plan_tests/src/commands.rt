@@ -4,7 +4,10 @@ ghost use Rattle.pipeline.specs.EndToEnd.{HasTables};
 
 use answer_text::CountedOutput;
 use fixtures::push_lines;
-use pipeline::{Exploration, Refusal, check, evaluate, fault_line, query, run};
+use pipeline::{
+    Exploration, Refusal, ReportForm, Stopwatch, check, evaluate, fault_line, query,
+    query_measured, run,
+};
 use schema::Schema;
 use std::alloc::{AllocError, Global};
 use std::io::BufWriter;
@@ -16,9 +19,24 @@ use values::Fault;
 #[derive(Clone, Copy)]
 pub enum Way<'a> {
     Plan,
+    /// The same, and a report of the plan, which stands behind the answer.
+    MeasuredPlan(ReportForm),
     Meaning,
     /// The plan of the certificate with this text.
     Certificate(&'a [u8]),
+}
+
+/// A clock that each look at it puts forward, so that each node takes a microsecond.
+#[derive(Drop)]
+struct Ticks {
+    microseconds: u64,
+}
+
+impl Stopwatch for Ticks {
+    fn microseconds(&mut self) -> u64 {
+        self.microseconds = self.microseconds.saturating_add(1);
+        self.microseconds
+    }
 }
 
 /// What a command reads.
@@ -30,13 +48,13 @@ pub struct Files<'a> {
     pub emp: &'a [u8],
 }
 
-/// Runs a command over the two tables.
+/// Runs a command over the two tables. Gives what is reported of the plan.
 fn answer(
     alloc: Global,
     way: Way<'_>,
     files: Files<'_>,
     out: &mut CountedOutput<BufWriter<Vec<u8>>>,
-) -> Result<(), Refusal>
+) -> Result<Vec<u8>, Refusal>
     requires { HasTables files.schema.now 2 }
 {
     let mut tables = [CountedInput::new(files.dept), CountedInput::new(files.emp)];
@@ -49,8 +67,21 @@ fn answer(
             2_000,
             Exploration::ToLimit,
             out,
-        ),
-        Way::Meaning => evaluate(alloc, files.schema, files.text, &mut tables, out),
+        )?,
+        Way::MeasuredPlan(form) => {
+            return query_measured(
+                alloc,
+                files.schema,
+                files.text,
+                &mut tables,
+                2_000,
+                Exploration::ToLimit,
+                form,
+                &mut Ticks { microseconds: 0 },
+                out,
+            );
+        }
+        Way::Meaning => evaluate(alloc, files.schema, files.text, &mut tables, out)?,
         Way::Certificate(certificate) => run(
             alloc,
             files.schema,
@@ -58,22 +89,28 @@ fn answer(
             certificate,
             &mut tables,
             out,
-        ),
+        )?,
     }
+    Ok(Vec::new(alloc))
 }
 
-/// The lines of what was written, with `;` between them, and the line that reports a refusal.
+/// The lines of what was written, with `;` between them, and those of the report, or the line that reports a refusal.
 fn push_outcome(
     alloc: Global,
     reported: &mut String,
     written: &[u8],
-    outcome: &Result<(), Refusal>,
+    outcome: &Result<Vec<u8>, Refusal>,
     schema: Option<&Schema>,
 ) -> Result<(), AllocError> {
     let written = str::from_utf8(written).unwrap_or("no text");
     push_lines(reported, written.strip_suffix("\n").unwrap_or(written), ";")?;
     match outcome {
-        Ok(()) => Ok(()),
+        Ok(report) if report.is_empty() => Ok(()),
+        Ok(report) => {
+            reported.push_str(";")?;
+            let report = str::from_utf8(report.as_slice()).unwrap_or("no text");
+            push_lines(reported, report.strip_suffix("\n").unwrap_or(report), ";")
+        }
         Err(refusal) => reported.push_str(fault_line(alloc, refusal, schema)?.as_str()),
     }
 }

@@ -15,3 +15,5 @@ mod files;
 mod handed_certificates;
 #[cfg(test)]
 mod labelled;
+#[cfg(test)]
+mod measured;
