@@ -336,6 +336,20 @@ class Shown:
     def text(self, node, depth=0):
         return f"{'  ' * depth}{self.label(node)}\n" + "".join(self.text(below, depth + 1) for below in node["inputs"])
 
+    def json(self, plan):
+        """The plan as a JSON array, an object a node in the order of the lines, on which nothing was measured."""
+        objects = []
+
+        def add(node, depth):
+            words = self.node(node).replace("\\", "\\\\").replace('"', '\\"')
+            estimated = f'"estimated_rows":{self.model.node_rows(node)},"cost":{self.model.cost(node)}'
+            objects.append(f'{{"depth":{depth},"node":"{words}",{estimated},"rows":null,"microseconds":null}}')
+            for below in node["inputs"]:
+                add(below, depth + 1)
+
+        add(plan, 0)
+        return "[\n" + ",\n".join(objects) + "\n]\n"
+
     def graph(self, plan):
         """The plan as a graph for Graphviz, its nodes numbered in the order of the lines."""
         lines = []

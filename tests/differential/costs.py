@@ -1,5 +1,5 @@
 """What `explain` prints of random queries by random statistics, beside a model of docs/COSTS.md (cost_model.py): the nodes with their parameters, the
-rows of each and its cost, to the byte, as lines and as a graph.
+rows of each and its cost, to the byte, as lines, as a graph and as JSON.
 
 The plan and its lines are read from the certificate that `plan` writes by the same statistics, so both commands have to speak of one plan. The
 numbers of the statistics are below 5,000, or any of 64 bits, with 0 and the greatest among them, and past which all are cut.
@@ -36,7 +36,7 @@ def fault(program, query, tables, statistics, counts):
         return f"plan: {planned.error}"
     lines, plan = read_certificate(planned.output)
     shown = Shown(Model(Lines(Layout(tables, query), lines), statistics))
-    for form, wanted in (("text", shown.text(plan)), ("dot", shown.graph(plan))):
+    for form, wanted in (("text", shown.text(plan)), ("dot", shown.graph(plan)), ("json", shown.json(plan))):
         given = program.say("explain", "schema.json", "query.sql", "stats.json", "--limit", 2_000, "--format", form)
         if (given.status, given.output) != (0, wanted):
             return f"explain --format {form} gives\n{given.output}{given.error}\nand should give\n{wanted}\n{planned.output}"

@@ -28,7 +28,7 @@ Examples:
 const REPORTS: &[&str] = &["text", "json"];
 
 /// How a plan may be shown.
-const FORMATS: &[&str] = &["text", "dot"];
+const FORMATS: &[&str] = &["text", "dot", "json"];
 
 /// A word that has to stand there.
 fn place<'a>(alloc: Global, name: &'a str, help: &'a str) -> Arg<'a> {
@@ -57,13 +57,21 @@ fn sql(alloc: Global) -> Arg<'static> {
         .help("takes this text for the query, and QUERY is left out")
 }
 
-/// Whether a refusal is put in words.
+/// How a refusal may be put in words.
+const WORDS: &[&str] = &["text", "json"];
+
+/// Whether a refusal is put in words, and how.
 fn words(alloc: Global) -> Arg<'static> {
     Arg::new(alloc, "words")
         .long("words")
-        .action(ArgAction::SetTrue)
+        .value_name("FORMAT")
+        .value_parser(WORDS)
+        .num_args(0..=1)
+        .require_equals(true)
+        .default_missing_value("text")
+        .action(ArgAction::Set)
         .help(
-            "says behind the line of a refusal what is meant, and where, as on a terminal it does by itself",
+            "says behind the line of a refusal what is meant, and where, as on a terminal it does by itself; or json: one object in place of the line",
         )
 }
 
@@ -124,7 +132,7 @@ fn format(alloc: Global) -> Arg<'static> {
         .value_name("FORMAT")
         .value_parser(FORMATS)
         .action(ArgAction::Set)
-        .help("text, or dot: a graph for Graphviz")
+        .help("text; dot: a graph for Graphviz; or json: an object for each node")
 }
 
 /// How the plan that answered is reported, if it is.

@@ -10,9 +10,9 @@ use Rattle.frame.specs.FormedFrames.{own_aggregates}
 use Rattle.derivation.specs.Logs.{Log}
 use Rattle.physical.specs.declared.plan.Plan.{Plan}
 use Rattle.certificate.specs.declared.certificate.Certificate.{Certificate}
-use Rattle.explain.specs.LogPlans.{explained, graph}
+use Rattle.explain.specs.LogPlans.{explained, graph, json}
 use Rattle.pipeline.specs.declared.explained.PlanForm.{PlanForm}
-use Rattle.pipeline.specs.declared.explained.PlanForm.TheVariants.{Text, Graph}
+use Rattle.pipeline.specs.declared.explained.PlanForm.TheVariants.{Text, Graph, Json}
 use Rattle.pipeline.specs.declared.refusal.Refusal.{Refusal}
 use Rattle.pipeline.specs.declared.refusal.Refusal.TheVariants as refusal
 use Rattle.pipeline.specs.EndToEnd.{Asks}
@@ -22,6 +22,7 @@ use Rattle.pipeline.specs.Planned.{WithChecked, IsNotPlanned}
 abbrev pub shown : PlanForm → Statistics → List TableInstance → List Aggregation → Log → Plan → List ℕ
 shown Text s instances own E p = explained s instances own E [] p
 shown Graph s instances own E p = graph s instances own E p
+shown Json s instances own E p = json s instances own E [] p
 
 -- the plan of a certificate, with what the statistics say of it over the certificate's own lines
 abbrev pub plan_in : PlanForm → Statistics → Query → Certificate → List ℕ

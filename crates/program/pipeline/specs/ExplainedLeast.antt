@@ -11,22 +11,28 @@ use Rattle.planner.specs.declared.planned.Exploration.{Exploration}
 use Rattle.planner.specs.NotDearer.{certificate_cost}
 use Rattle.planner.specs.Searched.{IsToldOf}
 use Rattle.pipeline.specs.declared.explained.PlanForm.{PlanForm}
-use Rattle.pipeline.specs.declared.explained.PlanForm.TheVariants.{Text, Graph}
+use Rattle.pipeline.specs.declared.explained.PlanForm.TheVariants.{Text, Graph, Json}
 use Rattle.pipeline.specs.Explained.{plan_in}
 use Rattle.pipeline.specs.Least.{ShowLeast, IsCheapest, IsCounted}
 
--- what a line that is no part of the plan begins with
-abbrev pub comment_mark : PlanForm → List ℕ
-comment_mark Text = []
-comment_mark Graph = codes "// "
+-- what a line that is no part of the plan begins and ends with: in a graph it is a comment, behind JSON a value of its own
+abbrev pub mark_before : PlanForm → List ℕ
+mark_before Text = []
+mark_before Graph = codes "// "
+mark_before Json = codes "\""
+
+abbrev pub mark_behind : PlanForm → List ℕ
+mark_behind Text = []
+mark_behind Graph = []
+mark_behind Json = codes "\""
 
 -- over how many goals and lines a plan is the cheapest; it says that the lines are closed, or how many there are
 abbrev pub least_words : ℕ → ℕ → Bool → List ℕ
-least_words goals lines true = codes "least of " ++ (decimal goals ++ (codes " goals over " ++ (decimal lines ++ codes " lines, closed\n")))
-least_words goals lines false = codes "least of " ++ (decimal goals ++ (codes " goals, not closed at " ++ (decimal lines ++ codes " lines\n")))
+least_words goals lines true = codes "least of " ++ (decimal goals ++ (codes " goals over " ++ (decimal lines ++ codes " lines, closed")))
+least_words goals lines false = codes "least of " ++ (decimal goals ++ (codes " goals, not closed at " ++ (decimal lines ++ codes " lines")))
 
 abbrev pub least_line : PlanForm → ℕ → ℕ → Bool → List ℕ
-least_line form goals lines is_closed = comment_mark form ++ least_words goals lines is_closed
+least_line form goals lines is_closed = mark_before form ++ (least_words goals lines is_closed ++ (mark_behind form ++ codes "\n"))
 
 -- the plan of a checked certificate, and a line that says by how many labels it is the cheapest plan of how many lines
 pub record IsLeastShown (form : PlanForm) (S : Schema) (q : Query) (s : Statistics) (limit : ℕ) (exploration : Exploration) (written : List ℕ) : Type 0 where

@@ -11,7 +11,7 @@ use crate::preparation::bound_query;
 use crate::refusal::Refusal;
 use algebra::Aggregation;
 use certificate::Certificate;
-use explain::{dot_plan, explain_plan};
+use explain::{dot_plan, explain_plan, json_plan};
 use logs::Log;
 use physical::Plan;
 use planner;
@@ -28,6 +28,8 @@ pub enum PlanForm {
     Text,
     /// A graph for Graphviz.
     Graph,
+    /// A JSON array with an object for each node, in the same order.
+    Json,
 }
 
 /// A plan over the lines of a log.
@@ -44,6 +46,7 @@ fn shown(
     match form {
         PlanForm::Text => explain_plan(alloc, statistics, log, own, &[], plan),
         PlanForm::Graph => dot_plan(alloc, statistics, log, own, plan),
+        PlanForm::Json => json_plan(alloc, statistics, log, own, &[], plan),
     }
 }
 

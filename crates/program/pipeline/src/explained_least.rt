@@ -17,16 +17,43 @@ use statistics::Statistics;
 use std::alloc::{AllocError, Global};
 
 /// What a line that is no part of the plan begins with.
-fn comment_mark(form: PlanForm) -> &'static str
-    ensures { result.now ≡ spec.comment_mark form }
+fn mark_before(form: PlanForm) -> &'static str
+    ensures { result.now ≡ spec.mark_before form }
 {
     match form {
         PlanForm::Text => "",
         PlanForm::Graph => "// ",
+        PlanForm::Json => "\"",
+    }
+}
+
+/// And what it ends with.
+fn mark_behind(form: PlanForm) -> &'static str
+    ensures { result.now ≡ spec.mark_behind form }
+{
+    match form {
+        PlanForm::Text | PlanForm::Graph => "",
+        PlanForm::Json => "\"",
     }
 }
 
 /// Over how many goals and lines a plan is the cheapest; it says that the lines are closed, or how many there are.
+fn least_words(
+    alloc: Global,
+    goals: usize,
+    lines: usize,
+    is_closed: bool,
+) -> Result<String, AllocError>
+    ensures { IfOk result (λ words. string_bytes words ≡ spec.least_words goals lines is_closed) }
+{
+    if is_closed {
+        format!(in alloc; "least of {goals} goals over {lines} lines, closed")
+    } else {
+        format!(in alloc; "least of {goals} goals, not closed at {lines} lines")
+    }
+}
+
+/// The same as a line of its own.
 fn least_line(
     alloc: Global,
     form: PlanForm,
@@ -36,12 +63,9 @@ fn least_line(
 ) -> Result<String, AllocError>
     ensures { IfOk result (λ line. string_bytes line ≡ spec.least_line form goals lines is_closed) }
 {
-    let mark = comment_mark(form);
-    if is_closed {
-        format!(in alloc; "{mark}least of {goals} goals over {lines} lines, closed\n")
-    } else {
-        format!(in alloc; "{mark}least of {goals} goals, not closed at {lines} lines\n")
-    }
+    let words = least_words(alloc, goals, lines, is_closed)?;
+    let (before, behind) = (mark_before(form), mark_behind(form));
+    format!(in alloc; "{before}{words}{behind}\n")
 }
 
 /// The plan of a query, with what the statistics say of it, and the line behind it.
@@ -72,7 +96,7 @@ fn explained_query(
 }
 
 /// Explains a plan as `explain` does, and says on a line behind it by how many goals it is shown to be the cheapest, and over how many lines; in a graph the
-/// line is a comment.
+/// line is a comment, and behind JSON a string.
 ///
 /// The first fault is reported, in the order schema, text, scope, statistics.
 pub fn explain_least(

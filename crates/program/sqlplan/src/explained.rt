@@ -4,6 +4,7 @@ ghost use Rattle.std.specs.Prelude.{ℕ, List};
 ghost use Rattle.sqlplan.specs.Stops.{Says};
 
 use crate::path_of;
+use crate::said::{Said, Words, said_of};
 use crate::stop::Stop;
 use devices::ReadFailure;
 use input_hints::{
@@ -14,12 +15,12 @@ use pipeline::Refusal;
 use query_hints::{habits_there, names_there};
 use schema::{Schema, SchemaRefusal};
 use std::alloc::{AllocError, Global};
+use words::Meaning;
 use words::certificates::{of_certificate, of_check};
 use words::meanings::{
     NOT_LEAST, OUTPUT_FAILED, TABLE_UNREAD, TOO_MANY_ROWS, of_schema, of_scope, of_statistics,
     of_table, of_text,
 };
-use words::{Meaning, explanation, explanation_at};
 
 /// What a refusal means. Out of memory needs no words.
 fn meaning(refusal: &Refusal) -> Option<Meaning> {
@@ -116,59 +117,74 @@ fn more(alloc: Global, refusal: &Refusal, inputs: Inputs<'_>) -> Result<String, 
     }
 }
 
-/// A refusal in words: nothing where it needs none.
-fn words_of(alloc: Global, refusal: &Refusal, inputs: Inputs<'_>) -> Result<String, AllocError> {
-    let Some(meaning) = meaning(refusal) else {
-        return Ok(String::new(alloc));
-    };
-    let more = more(alloc, refusal, inputs)?;
-    match place_of(alloc, refusal, inputs) {
-        Some((text, at)) => explanation_at(alloc, meaning, text, at, more.as_str()),
-        None => explanation(alloc, meaning, more.as_str()),
-    }
+/// What there is to say of a refusal.
+fn said_there<'a>(
+    alloc: Global,
+    refusal: &Refusal,
+    inputs: Inputs<'a>,
+) -> Result<Said<'a>, AllocError> {
+    Ok(Said {
+        meaning: meaning(refusal),
+        place: place_of(alloc, refusal, inputs),
+        more: more(alloc, refusal, inputs)?,
+    })
 }
 
-/// The refusal of a schema in words, by its text.
-fn words_of_schema(
+/// What there is to say of the refusal of a schema, by its text.
+fn said_of_schema<'a>(
     alloc: Global,
     refusal: SchemaRefusal,
+    text: &'a [u8],
+) -> Result<Said<'a>, AllocError> {
+    let place = match json_fault(alloc, text) {
+        Some(at) => Some((text, at)),
+        None => None,
+    };
+    Ok(Said {
+        meaning: Some(of_schema(refusal)),
+        place,
+        more: schema_there(alloc, text, refusal)?,
+    })
+}
+
+/// Why a file can't be opened or read.
+fn said_of_file(alloc: Global, failure: &ReadFailure) -> Result<Said<'static>, AllocError> {
+    Ok(Said {
+        meaning: None,
+        place: None,
+        more: failure_explanation(alloc, failure)?,
+    })
+}
+
+/// The stop of a refusal, and what is said of it.
+pub fn in_words(
+    alloc: Global,
+    stop: Stop,
+    refusal: &Refusal,
+    inputs: Inputs<'_>,
+    words: Words,
+) -> Stop
+    ensures { (line : List ℕ) (status : ℕ) → Says line status stop → Says line status result }
+{
+    said_of(alloc, stop, said_there(alloc, refusal, inputs), words)
+}
+
+/// The stop of a schema that is refused, and what is said of it.
+pub fn schema_in_words(
+    alloc: Global,
+    stop: Stop,
+    refusal: SchemaRefusal,
     text: &[u8],
-) -> Result<String, AllocError> {
-    let meaning = of_schema(refusal);
-    let more = schema_there(alloc, text, refusal)?;
-    match json_fault(alloc, text) {
-        Some(at) => explanation_at(alloc, meaning, text, at, more.as_str()),
-        None => explanation(alloc, meaning, more.as_str()),
-    }
-}
-
-/// A stop with words behind its line. Without memory for them the line stands alone.
-fn said(stop: Stop, words: Result<String, AllocError>) -> Stop
+    words: Words,
+) -> Stop
     ensures { (line : List ℕ) (status : ℕ) → Says line status stop → Says line status result }
 {
-    match words {
-        Ok(words) => stop.with_words(words),
-        Err(AllocError) => stop,
-    }
+    said_of(alloc, stop, said_of_schema(alloc, refusal, text), words)
 }
 
-/// The stop of a refusal with its words behind the line.
-pub fn in_words(alloc: Global, stop: Stop, refusal: &Refusal, inputs: Inputs<'_>) -> Stop
+/// The stop of a file that can't be opened or read, and why.
+pub fn file_in_words(alloc: Global, stop: Stop, failure: &ReadFailure, words: Words) -> Stop
     ensures { (line : List ℕ) (status : ℕ) → Says line status stop → Says line status result }
 {
-    said(stop, words_of(alloc, refusal, inputs))
-}
-
-/// The stop of a schema that is refused, with its words behind the line.
-pub fn schema_in_words(alloc: Global, stop: Stop, refusal: SchemaRefusal, text: &[u8]) -> Stop
-    ensures { (line : List ℕ) (status : ℕ) → Says line status stop → Says line status result }
-{
-    said(stop, words_of_schema(alloc, refusal, text))
-}
-
-/// The stop of a file with why it can't be opened or read behind its line.
-pub fn file_in_words(alloc: Global, stop: Stop, failure: &ReadFailure) -> Stop
-    ensures { (line : List ℕ) (status : ℕ) → Says line status stop → Says line status result }
-{
-    said(stop, failure_explanation(alloc, failure))
+    said_of(alloc, stop, said_of_file(alloc, failure), words)
 }

@@ -8,6 +8,7 @@ ghost use Rattle.sqlplan.specs.Stops.{SaysFile, SaysTable, table_path};
 mod arguments;
 mod clock;
 mod explained;
+mod said;
 mod stop;
 
 use answer_text::CountedOutput;
@@ -23,6 +24,7 @@ use pipeline::{
     Exploration, PlanForm, Refusal, ReportForm, check, check_least, evaluate, explain,
     explain_least, plan, plan_with_labels, query, query_measured, run,
 };
+use said::Words;
 use schema::{Schema, SchemaFault};
 use std::alloc::{AllocError, Global};
 use std::fs;
@@ -32,20 +34,16 @@ use std::process::ExitCode;
 use stop::Stop;
 use words::{list_of_codes, readable};
 
-/// The stop of a file that can't be opened or read, in words if they are asked for.
-fn failed_file(alloc: Global, path: &str, failure: &ReadFailure, words: bool) -> Stop
+/// The stop of a file that can't be opened or read, worded as is asked.
+fn failed_file(alloc: Global, path: &str, failure: &ReadFailure, words: Words) -> Stop
     ensures { SaysFile path.now result }
 {
     let stop = Stop::of_file(alloc, path, failure);
-    if words {
-        file_in_words(alloc, stop, failure)
-    } else {
-        stop
-    }
+    file_in_words(alloc, stop, failure, words)
 }
 
 /// The bytes of a file.
-fn bytes_of(rt: &HostRuntime, path: &str, words: bool) -> Result<Vec<u8>, Stop>
+fn bytes_of(rt: &HostRuntime, path: &str, words: Words) -> Result<Vec<u8>, Stop>
     ensures { IfErr result (SaysFile path.now) }
 {
     match read_file(rt, path) {
@@ -98,7 +96,7 @@ fn open_tables<'a>(
     rt: &HostRuntime,
     schema: &'a Schema,
     folder: &str,
-    words: bool,
+    words: Words,
     progress: Option<&'a Progress<'a>>,
 ) -> Result<Vec<TableFile<'a, File>>, Stop>
     ensures each { IfOk result (λ tables. vec_len tables ≡ length schema.now.tables) }
@@ -162,6 +160,7 @@ fn form(arguments: &ArgMatches<'_>) -> Option<PlanForm> {
     match arguments.get_str("format") {
         None | Some("text") => Some(PlanForm::Text),
         Some("dot") => Some(PlanForm::Graph),
+        Some("json") => Some(PlanForm::Json),
         Some(_) => None,
     }
 }
@@ -277,8 +276,8 @@ struct Given<'a> {
     text: &'a [u8],
     /// The folder of the tables; nothing where a command reads none.
     folder: &'a str,
-    /// Whether a refusal is put in words.
-    words: bool,
+    /// How a refusal is put in words, if it is.
+    words: Words,
     /// What is told how far the work is, where lines are wanted.
     progress: Option<&'a Progress<'a>>,
 }
@@ -317,7 +316,7 @@ impl Given<'_> {
         row: Option<&FoundRow>,
     ) -> Stop {
         let stop = Stop::of_refusal(alloc, refusal, Some(self.schema));
-        if self.words {
+        if self.words != Words::None {
             let inputs = Inputs {
                 schema: self.schema,
                 text: self.text,
@@ -326,7 +325,7 @@ impl Given<'_> {
                 failure,
                 row,
             };
-            in_words(alloc, stop, refusal, inputs)
+            in_words(alloc, stop, refusal, inputs, self.words)
         } else {
             stop
         }
@@ -346,7 +345,7 @@ impl Given<'_> {
         if is_unread(&refusal, output) {
             return Err(Stop::BrokenPipe);
         }
-        let row = if self.words {
+        let row = if self.words != Words::None {
             found_again(alloc, &refusal, self.schema, tables)
         } else {
             None
@@ -677,17 +676,26 @@ fn serve(rt: &HostRuntime, asked: Asked<'_>, given: Given<'_>) -> Result<(), Sto
 }
 
 /// The stop of a schema that is refused. Its text is at hand for the words.
-fn refused_schema(alloc: Global, fault: SchemaFault, text: &[u8], words: bool) -> Stop {
+fn refused_schema(alloc: Global, fault: SchemaFault, text: &[u8], words: Words) -> Stop {
     match fault {
         SchemaFault::Memory => Stop::Memory,
         SchemaFault::Refused(refusal) => {
             let stop = Stop::of_refusal(alloc, &Refusal::Schema(refusal), None);
-            if words {
-                schema_in_words(alloc, stop, refusal, text)
-            } else {
-                stop
+            match words {
+                Words::None => stop,
+                Words::Lines | Words::Json => { schema_in_words(alloc, stop, refusal, text, words) }
             }
         }
+    }
+}
+
+/// How a refusal is put in words: as is asked, and on a terminal in lines.
+fn words_of(rt: &HostRuntime, arguments: &ArgMatches<'_>) -> Words {
+    match arguments.get_str("words") {
+        Some("json") => Words::Json,
+        Some(_) => Words::Lines,
+        None if rt.stderr().is_terminal() => Words::Lines,
+        None => Words::None,
     }
 }
 
@@ -695,7 +703,7 @@ fn refused_schema(alloc: Global, fault: SchemaFault, text: &[u8], words: bool) -
 const STANDARD_INPUT: &str = "/dev/stdin";
 
 /// The text of the query: given by itself, or that of a file or of standard input.
-fn query_text(rt: &HostRuntime, arguments: &ArgMatches<'_>, words: bool) -> Result<Vec<u8>, Stop> {
+fn query_text(rt: &HostRuntime, arguments: &ArgMatches<'_>, words: Words) -> Result<Vec<u8>, Stop> {
     if let Some(text) = arguments.get_str("sql") {
         return Ok(Vec::from_slice(rt.alloc(), text.as_bytes())?);
     }
@@ -717,7 +725,7 @@ fn obey(rt: &HostRuntime, command: &str, arguments: &ArgMatches<'_>) -> Result<(
     let Some(schema) = arguments.get_str("SCHEMA") else {
         return Err(Stop::Usage);
     };
-    let words = arguments.get_flag("words") || rt.stderr().is_terminal();
+    let words = words_of(rt, arguments);
     let bytes = bytes_of(rt, schema, words)?;
     let bytes = bytes.as_slice();
     match Schema::read(rt.alloc(), bytes) {

@@ -23,8 +23,17 @@ pub enum Stop {
     Memory,
     /// Nobody reads standard output any more. Nothing is said, as of a filter that a signal ends there.
     BrokenPipe,
-    /// A line to say, the exit status, and what is said behind the line for people, if anything.
-    Line(String, u8, String),
+    /// A line to say, the exit status, and what else is said.
+    Line(String, u8, Wording),
+}
+
+/// What is said of a refusal besides its line.
+#[derive(Debug, Drop)]
+pub enum Wording {
+    /// Lines behind it, if there are any.
+    Behind(String),
+    /// A line in its place.
+    Instead(String),
 }
 
 fn device_line(alloc: Global, path: &str) -> Result<String, AllocError>
@@ -40,7 +49,7 @@ impl Stop {
         ensures { spec.Says (line_of (option_copied schema.entry) refusal.now) (refusals.status_of refusal.now) result }
     {
         match fault_line(alloc, refusal, schema) {
-            Ok(line) => Stop::Line(line, refusal.status(), String::new(alloc)),
+            Ok(line) => { Stop::Line(line, refusal.status(), Wording::Behind(String::new(alloc))) }
             Err(AllocError) => Stop::Memory,
         }
     }
@@ -53,34 +62,37 @@ impl Stop {
             return Stop::Memory;
         }
         match device_line(alloc, path) {
-            Ok(line) => Stop::Line(line, 3, String::new(alloc)),
+            Ok(line) => Stop::Line(line, 3, Wording::Behind(String::new(alloc))),
             Err(AllocError) => Stop::Memory,
         }
     }
 
-    /// Says the line on standard error, and the words behind it. That it can't be said changes nothing.
+    /// Says the line on standard error, and the words behind it or in its place. That it can't be said changes nothing.
     pub fn report(&self, rt: &HostRuntime) {
         let mut error = StandardStream::error(rt);
         let _ = match self {
             Stop::Usage | Stop::BrokenPipe => Ok(()),
             Stop::Memory => error.write_all(b"memory\n"),
-            Stop::Line(line, _, words) => match format!(in rt.alloc(); "{line}\n{words}") {
-                Ok(text) => error.write_all(text.as_bytes()),
-                // Without memory for one text the line alone is said.
-                Err(AllocError) => writeln!(error, "{line}"),
-            },
+            Stop::Line(_, _, Wording::Instead(line)) => writeln!(error, "{line}"),
+            Stop::Line(line, _, Wording::Behind(words)) => {
+                match format!(in rt.alloc(); "{line}\n{words}") {
+                    Ok(text) => error.write_all(text.as_bytes()),
+                    // Without memory for one text the line alone is said.
+                    Err(AllocError) => writeln!(error, "{line}"),
+                }
+            }
         };
     }
 
-    /// The same stop with words behind its line.
-    pub fn with_words(self, words: String) -> Stop
+    /// The same stop, worded so.
+    pub fn with_wording(self, wording: Wording) -> Stop
         ensures { (line : List ℕ) (status : ℕ) → spec.Says line status self → spec.Says line status result }
     {
         match self {
             Stop::Usage => Stop::Usage,
             Stop::Memory => Stop::Memory,
             Stop::BrokenPipe => Stop::BrokenPipe,
-            Stop::Line(line, status, _) => Stop::Line(line, status, words),
+            Stop::Line(line, status, _) => Stop::Line(line, status, wording),
         }
     }
 

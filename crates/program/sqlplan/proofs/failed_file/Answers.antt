@@ -2,5 +2,5 @@ use Rattle.std.proofs.Common.{◌++◌, codes}
 use Rattle.words.specs.Spelling.{spelled}
 use Rattle.sqlplan.proofs.failed_file.Goals as goal
 
-pub returns-then-words : goal.returns-then-words
-returns-then-words c = c.file_in_words.ensures (codes "device " ++ spelled c.args.path.now) 3 c.of_file-stop.ensures
+pub returns : goal.returns
+returns c = c.file_in_words.ensures (codes "device " ++ spelled c.args.path.now) 3 c.of_file-stop.ensures
