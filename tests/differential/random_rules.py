@@ -20,7 +20,7 @@ from rule_book import BOOK, Unfit, given, has_subquery
 SEED, ROUND, PLANS, FAULTS = 19, 100, 2, 4
 MOST_LINES = 120
 """A query with more lines than these is left out, for the time that it takes to look for matches in them."""
-WEIGHTS = [1, 6, 1, 4, 2, 2, 2, 1, 1, 5, 1, 1, 4, 4, 2, 4, 4, 6, 8, 4, 4, 4, 4, 20, 6, 6, 6, 6, 6, 6, 16]
+WEIGHTS = [1, 6, 1, 4, 2, 2, 2, 1, 1, 5, 1, 1, 4, 4, 4, 2, 4, 4, 6, 8, 4, 4, 4, 4, 20, 6, 6, 6, 6, 6, 6, 16]
 """How often each rule is tried, in the order of the book: more often where fewer lines fit."""
 NEVER = ("null", ("i", 1))
 """A condition that no query has."""

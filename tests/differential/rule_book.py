@@ -133,6 +133,15 @@ def group_is_distinct(_, top):
     return ("distinct", ("keep", top[1], top[3]))
 
 
+def select_below_group(lines, top, below):
+    wants(top, "select")
+    wants(below, "group")
+    (_, conditions, _), (_, keys, added, input_) = top, below
+    moved = some([condition for condition in conditions if not has_subquery(condition) and lines.mentions(condition) <= set(keys)])
+    holds(keys)
+    return selected(less(conditions, moved), ("group", keys, added, ("select", moved, input_)))
+
+
 def is_never_true(condition, nulls):
     """Whether the condition can't be true where the columns are Null."""
     return True not in outcomes(condition, nulls)
@@ -347,6 +356,7 @@ BOOK = {
     "K3": Rule(keep_below_join, 2, ["keep"]),
     "D1": Rule(distinct_of_keyed, 1, ["distinct"]),
     "G1": Rule(group_is_distinct, 1, ["group"]),
+    "G2": Rule(select_below_group, 2, ["select"]),
     "O1": Rule(outer_join_is_inner, 2, ["select"]),
     "O2": Rule(select_below_left_join, 2, ["select"]),
     "O3": Rule(condition_below_left_join, 1, ["left"]),

@@ -3,13 +3,14 @@ use Rattle.std.proofs.Common.{◌≡◌, ap, sym, ◌∙◌, subst, ℕ, suc, �
 use Rattle.values.specs.Faults.{◌>>=◌, wanted, wanted_if}
 use Rattle.algebra.specs.declared.condition.Condition.{Condition}
 use Rattle.algebra.specs.declared.condition.Term.{Term}
+use Rattle.algebra.specs.declared.expr.Aggregation.{Aggregation}
 use Rattle.algebra.specs.declared.expr.Expr.{Expr}
 use Rattle.algebra.specs.declared.expr.Expr.TheVariants as expr
 use Rattle.props.specs.Knowledge.{Knowledge}
 use Rattle.rules.specs.declared.pattern.Input.TheVariants.{First}
 use Rattle.rules.specs.declared.shape.Shape.{Shape, roll-Shape, fold-roll-Shape, map-Shape}
 use Rattle.rules.specs.declared.shape.Shape.TheOpen.{Shape-F}
-use Rattle.rules.specs.declared.shape.Shape.TheVariants.{Class, Select, Join, LeftJoin, Semi, Anti, Keep, Distinct, rolls-Class, rolls-Select, rolls-Join, rolls-LeftJoin, rolls-Semi, rolls-Anti, rolls-Keep, rolls-Distinct}
+use Rattle.rules.specs.declared.shape.Shape.TheVariants.{Class, Select, Join, LeftJoin, Semi, Anti, Keep, Distinct, Group, rolls-Class, rolls-Select, rolls-Join, rolls-LeftJoin, rolls-Semi, rolls-Anti, rolls-Keep, rolls-Distinct, rolls-Group}
 use Rattle.rules.specs.declared.unfit.Unfit.{Unfit}
 use Rattle.rules.specs.declared.unfit.Unfit.TheVariants.{Pattern}
 use Rattle.rules.specs.Bindings.{SubqueryPick, ClassPick, three_lines_over, subquery, subquery_line, class_line}
@@ -31,6 +32,7 @@ use Rattle.plain_rules.specs.JoinCommutes as join_commutes
 use Rattle.plain_rules.specs.KeepBelowJoin as keep_below_join
 use Rattle.plain_rules.specs.KeepOfAll as keep_of_all
 use Rattle.plain_rules.specs.KeepsMerge as keeps_merge
+use Rattle.plain_rules.specs.SelectBelowGroup as select_below_group
 use Rattle.plain_rules.specs.SelectBelowJoin as select_below_join
 use Rattle.plain_rules.specs.SelectBelowSemi as select_below_semi
 use Rattle.plain_rules.specs.SelectIntoJoin as select_into_join
@@ -41,7 +43,7 @@ use Rattle.semijoin_rules.specs.SemijoinIsJoin as semijoin_is_join
 use Rattle.subquery_rules.specs.SubqueryOfInput as subquery_of_input
 use Rattle.subquery_rules.specs.Unnesting.{Unnesting, member, denied_member, is_exists, is_not_exists, others, exists_as_semi, not_exists_as_anti, member_as_semi, in_as_semi, member_as_anti, not_in_as_anti, alone, of_select}
 use Rattle.book.specs.declared.names.RuleName.{RuleName}
-use Rattle.book.specs.declared.names.RuleName.TheVariants.{JoinCommutes, JoinAssociates, SelectsMerge, SelectBelowJoin, SelectIntoJoin, ConditionBelowJoin, SelectBelowSemi, KeepsMerge, KeepOfAll, KeepBelowJoin, DistinctOfKeyed, GroupIsDistinct, OuterJoinIsInner, SelectBelowLeftJoin, ConditionBelowLeftJoin, LeftJoinBelowJoin, LeftJoinAboveJoin, KeepOfLeftSide, OuterJoinIsAnti, ExistsIsSemi, NotExistsIsAnti, InIsSemi, NotInIsAnti, AntijoinOfFilled, SubqueryOfInput, ExistsOfSelectIsSemi, NotExistsOfSelectIsAnti, InSelectIsSemi, NotInSelectIsAnti, SemijoinBelowJoin, SemijoinIsJoin}
+use Rattle.book.specs.declared.names.RuleName.TheVariants.{JoinCommutes, JoinAssociates, SelectsMerge, SelectBelowJoin, SelectIntoJoin, ConditionBelowJoin, SelectBelowSemi, KeepsMerge, KeepOfAll, KeepBelowJoin, DistinctOfKeyed, GroupIsDistinct, SelectBelowGroup, OuterJoinIsInner, SelectBelowLeftJoin, ConditionBelowLeftJoin, LeftJoinBelowJoin, LeftJoinAboveJoin, KeepOfLeftSide, OuterJoinIsAnti, ExistsIsSemi, NotExistsIsAnti, InIsSemi, NotInIsAnti, AntijoinOfFilled, SubqueryOfInput, ExistsOfSelectIsSemi, NotExistsOfSelectIsAnti, InSelectIsSemi, NotInSelectIsAnti, SemijoinBelowJoin, SemijoinIsJoin}
 use Rattle.book.specs.Book.{given_by}
 use Rattle.bindings.specs.Shallow.{count_layer, operator_count, BookIsShallow}
 
@@ -66,6 +68,9 @@ keep-has n L x has = record { count = omega (arith, count-at (Shape-F.Keep L x) 
 
 distinct-has : (n : ℕ) (x : Shape) → HasAtMost n x → HasAtMost (suc n) (Distinct x)
 distinct-has n x has = record { count = omega (arith, count-at (Shape-F.Distinct x) _ (rolls-Distinct x), has.count) }
+
+group-has : (n : ℕ) (L : List ℕ) (G : List Aggregation) (x : Shape) → HasAtMost n x → HasAtMost (suc n) (Group L G x)
+group-has n L G x has = record { count = omega (arith, count-at (Shape-F.Group L G x) _ (rolls-Group L G x), has.count) }
 
 join-has : (m n : ℕ) (C : List Condition) (a b : Shape) → HasAtMost m a → HasAtMost n b → HasAtMost (suc (m + n)) (Join C a b)
 join-has m n C a b left right = record { count = omega (arith, count-at (Shape-F.Join C a b) _ (rolls-Join C a b), left.count, right.count) }
@@ -166,6 +171,17 @@ keys-shallow (k ∷ L) x = distinct-has 2 _ (keep-has 1 _ _ (class-has 1 x))
 grouped-shallow : (K : Knowledge) (x : Expr) → Gives (group_is_distinct.as_distinct K x)
 grouped-shallow K (expr.Group L [] x) = keys-shallow L x
 grouped-shallow K x = tt
+
+keyed-shallow : (K : List ℕ) (P : List Condition) (f : List Condition → Shape) → ((P : List Condition) → HasAtMost 3 (f P)) → Gives (wanted_some P >>= λ P. select_below_group.if_keyed K (f P))
+keyed-shallow K [] f all = tt
+keyed-shallow [] (c ∷ P) f all = tt
+keyed-shallow (k ∷ K) (c ∷ P) f all = all (c ∷ P)
+
+group_pushed-shallow : (K : Knowledge) (x y : Expr) → Gives (select_below_group.pushed_below K x y)
+group_pushed-shallow K (expr.Select C y) (expr.Group L G x) =
+    keyed-shallow L (select_below_group.of_keys L C) (λ P. selected (select_below_group.of_others L C) (Group L G (Select P (Class x))))
+    (λ P. selected-has 2 _ _ (group-has 1 _ _ _ (select-has 0 _ _ (class-has 0 x))))
+group_pushed-shallow K x y = tt
 
 -- ---- the rules of outer joins
 
@@ -278,6 +294,7 @@ rule-shallow KeepOfAll = bound-shallow one_line keep_of_all.dropped keep_dropped
 rule-shallow KeepBelowJoin = bound-shallow two_lines (λ K l. keep_below_join.narrowed_below K l.0 l.1) (λ K l. narrowed-shallow K l.0 l.1)
 rule-shallow DistinctOfKeyed = bound-shallow one_line distinct_of_keyed.dropped distinct_dropped-shallow
 rule-shallow GroupIsDistinct = bound-shallow one_line group_is_distinct.as_distinct grouped-shallow
+rule-shallow SelectBelowGroup = bound-shallow two_lines (λ K l. select_below_group.pushed_below K l.0 l.1) (λ K l. group_pushed-shallow K l.0 l.1)
 rule-shallow OuterJoinIsInner = bound-shallow two_lines (λ K l. outer_join_is_inner.inner K l.0 l.1) (λ K l. inner-shallow K l.0 l.1)
 rule-shallow SelectBelowLeftJoin = bound-shallow two_lines (λ K l. select_below_left_join.pushed_below K l.0 l.1) (λ K l. left_pushed-shallow K l.0 l.1)
 rule-shallow ConditionBelowLeftJoin = bound-shallow one_line condition_below_left_join.lowered_below left_lowered-shallow

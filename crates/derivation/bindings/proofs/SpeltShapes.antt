@@ -22,17 +22,17 @@ use Rattle.derivation.specs.Logs.{Log, founds, member}
 use Rattle.derivation.specs.Replay.{Replays, is_earlier, is_known}
 use Rattle.derivation.specs.Spelling.{spelling, class_with}
 use Rattle.derivation.proofs.Lookups.{member-within}
-use Rattle.logs.proofs.Equations.{spelt_Class, spelt_Select, spelt_Join, spelt_LeftJoin, spelt_Semi, spelt_Anti, spelt_Keep, spelt_Distinct, class_Class, with-class}
+use Rattle.logs.proofs.Equations.{spelt_Class, spelt_Select, spelt_Join, spelt_LeftJoin, spelt_Semi, spelt_Anti, spelt_Keep, spelt_Distinct, spelt_Group, class_Class, with-class}
 use Rattle.bindings.specs.declared.operators.OverOne.{OverOne}
 use Rattle.bindings.specs.declared.operators.OverOne.TheVariants as one
 use Rattle.bindings.specs.declared.operators.OverTwo.{OverTwo}
 use Rattle.bindings.specs.declared.operators.OverTwo.TheVariants as two_
-use Rattle.rules.specs.Formed.{Formed, are_joined, formed}
+use Rattle.rules.specs.Formed.{Formed, are_joined, formed, groups_formed}
 use Rattle.bindings.specs.Operators.{over_one, over_two}
 use Rattle.bindings.specs.Operators.{one_shape, two_shape}
 use Rattle.bindings.specs.Spelt.{cols, HasLine, MayStand, MayBeFounded, IsSpelt, IsPlaced}
 use Rattle.bindings.proofs.FormedLogs.{kept_by}
-use Rattle.rules.proofs.FormedShapes.{formed_class, formed_select, formed_join, formed_left_join, formed_semi, formed_anti, formed_keep, formed_distinct}
+use Rattle.rules.proofs.FormedShapes.{formed_class, formed_select, formed_join, formed_left_join, formed_semi, formed_anti, formed_keep, formed_distinct, formed_group}
 
 -- ---- a line with an expression
 
@@ -87,6 +87,14 @@ module _ (instances : List TableInstance) (own : List Aggregation) (E : Log) whe
         founded = λ g there same. may-be-founded _ (and_from _ _ (and_from _ _ there refl) refl) refl;
         columns = λ g same. same ∙ sym (ap (λ f. f.columns) is);
       }
+  one-fits (one.Group L G) x may =
+      let is = formed_group instances own (cols instances E) (founds E) L.now G.now x in
+      let parts = and_parts _ _ (sym (ap (λ f. f.is_formed) is) ∙ may) in
+      record {
+        spelt = spelt_Group (member E) L.now G.now x;
+        founded = λ g there same. may-be-founded _ (and_from _ _ (and_from _ _ there refl) refl) (ap (groups_formed instances own (cols instances E) (founds E) L.now G.now) same ∙ parts.1);
+        columns = λ g same. sym (ap (λ f. f.columns) is);
+      }
 
   -- what is so of an operator over inputs that may stand is so of these
   pub select_input : (C : List Condition) (x : Shape) → MayStand instances own E (shape.Select C x) → MayStand instances own E x
@@ -97,6 +105,9 @@ module _ (instances : List TableInstance) (own : List Aggregation) (E : Log) whe
 
   pub distinct_input : (x : Shape) → MayStand instances own E (shape.Distinct x) → MayStand instances own E x
   distinct_input x may = sym (ap (λ f. f.is_formed) (formed_distinct instances own (cols instances E) (founds E) x)) ∙ may
+
+  pub group_input : (L : List ℕ) (G : List Aggregation) (x : Shape) → MayStand instances own E (shape.Group L G x) → MayStand instances own E x
+  group_input L G x may = (and_parts _ _ (sym (ap (λ f. f.is_formed) (formed_group instances own (cols instances E) (founds E) L G x)) ∙ may)).0
 
   pub one_spelt : (op : OverOne) (x : Shape) (g : ℕ) (makes : List ℕ) → MayStand instances own E (one_shape op x) → IsPlaced instances own E x g makes → IsSpelt instances own E (one_shape op x) (over_one op g) makes
   one_spelt op x g makes may is =

@@ -13,6 +13,7 @@ abbrev pub over_one : OverOne → ℕ → Expr
 over_one (one.Select C) = expr.Select C.now
 over_one (one.Keep L) = expr.Keep L.now
 over_one one.Distinct = expr.Distinct
+over_one (one.Group L G) = expr.Group L.now G.now
 
 abbrev pub over_two : OverTwo → ℕ → ℕ → Expr
 over_two (two.Join C) = expr.Join C.now
@@ -24,6 +25,7 @@ abbrev pub one_shape : OverOne → Shape → Shape
 one_shape (one.Select C) = shape.Select C.now
 one_shape (one.Keep L) = shape.Keep L.now
 one_shape one.Distinct = shape.Distinct
+one_shape (one.Group L G) = shape.Group L.now G.now
 
 abbrev pub two_shape : OverTwo → Shape → Shape → Shape
 two_shape (two.Join C) = shape.Join C.now

@@ -16,6 +16,7 @@ count_layer (Shape-F.Semi C a b) = 1 + (a + b)
 count_layer (Shape-F.Anti S M a b) = 1 + (a + b)
 count_layer (Shape-F.Keep L x) = 1 + x
 count_layer (Shape-F.Distinct x) = 1 + x
+count_layer (Shape-F.Group L G x) = 1 + x
 
 unfoldable pub operator_count : Shape → ℕ
 operator_count = fold-Shape ℕ count_layer

@@ -3,7 +3,7 @@
 ghost use Rattle.std.specs.Prelude.{◌≡◌, IfOk};
 ghost use Rattle.bindings.specs.Operators as spec;
 
-use algebra::{ClassId, Columns, Conjuncts, Expr};
+use algebra::{Aggregations, ClassId, Columns, Conjuncts, Expr};
 use std::alloc::{AllocError, Global};
 
 /// An operator over one input, which is still to be found.
@@ -12,6 +12,7 @@ pub enum OverOne<'a> {
     Select(&'a Conjuncts),
     Keep(&'a Columns),
     Distinct,
+    Group(&'a Columns, &'a Aggregations),
 }
 
 /// An operator over two.
@@ -32,6 +33,7 @@ impl OverOne<'_> {
             OverOne::Select(c) => Ok(Expr::Select(c.copy(alloc)?, class)),
             OverOne::Keep(k) => Ok(Expr::Keep(k.copy(alloc)?, class)),
             OverOne::Distinct => Ok(Expr::Distinct(class)),
+            OverOne::Group(k, added) => Ok(Expr::Group(k.copy(alloc)?, added.copy(alloc)?, class)),
         }
     }
 }

@@ -15,6 +15,7 @@ use Rattle.plain_rules.proofs.JoinCommutes.{join_commutes_sound, join_commutes_k
 use Rattle.plain_rules.proofs.KeepBelowJoin.{keep_below_join_sound, keep_below_join_keeps, keep_below_join_formed, keep_below_join_stable}
 use Rattle.plain_rules.proofs.KeepOfAll.{keep_of_all_sound, keep_of_all_keeps, keep_of_all_formed, keep_of_all_stable}
 use Rattle.plain_rules.proofs.KeepsMerge.{keeps_merge_sound, keeps_merge_keeps, keeps_merge_formed, keeps_merge_stable}
+use Rattle.plain_rules.proofs.SelectBelowGroup.{select_below_group_sound, select_below_group_keeps, select_below_group_formed, select_below_group_stable}
 use Rattle.plain_rules.proofs.SelectBelowJoin.{select_below_join_sound, select_below_join_keeps, select_below_join_formed, select_below_join_stable}
 use Rattle.plain_rules.proofs.SelectBelowSemi.{select_below_semi_sound, select_below_semi_keeps, select_below_semi_formed, select_below_semi_stable}
 use Rattle.plain_rules.proofs.SelectIntoJoin.{select_into_join_sound, select_into_join_keeps, select_into_join_formed, select_into_join_stable}
@@ -32,7 +33,7 @@ use Rattle.subquery_rules.proofs.NotInIsAnti.{not_in_is_anti_sound, not_in_is_an
 use Rattle.subquery_rules.proofs.NotInSelectIsAnti.{not_in_select_is_anti_sound, not_in_select_is_anti_keeps, not_in_select_is_anti_formed, not_in_select_is_anti_stable}
 use Rattle.subquery_rules.proofs.SubqueryOfInput.{subquery_of_input_sound, subquery_of_input_keeps, subquery_of_input_formed, subquery_of_input_stable}
 use Rattle.book.specs.declared.names.RuleName.{RuleName}
-use Rattle.book.specs.declared.names.RuleName.TheVariants.{JoinCommutes, JoinAssociates, SelectsMerge, SelectBelowJoin, SelectIntoJoin, ConditionBelowJoin, SelectBelowSemi, KeepsMerge, KeepOfAll, KeepBelowJoin, DistinctOfKeyed, GroupIsDistinct, OuterJoinIsInner, SelectBelowLeftJoin, ConditionBelowLeftJoin, LeftJoinBelowJoin, LeftJoinAboveJoin, KeepOfLeftSide, OuterJoinIsAnti, ExistsIsSemi, NotExistsIsAnti, InIsSemi, NotInIsAnti, AntijoinOfFilled, SubqueryOfInput, ExistsOfSelectIsSemi, NotExistsOfSelectIsAnti, InSelectIsSemi, NotInSelectIsAnti, SemijoinBelowJoin, SemijoinIsJoin}
+use Rattle.book.specs.declared.names.RuleName.TheVariants.{JoinCommutes, JoinAssociates, SelectsMerge, SelectBelowJoin, SelectIntoJoin, ConditionBelowJoin, SelectBelowSemi, KeepsMerge, KeepOfAll, KeepBelowJoin, DistinctOfKeyed, GroupIsDistinct, SelectBelowGroup, OuterJoinIsInner, SelectBelowLeftJoin, ConditionBelowLeftJoin, LeftJoinBelowJoin, LeftJoinAboveJoin, KeepOfLeftSide, OuterJoinIsAnti, ExistsIsSemi, NotExistsIsAnti, InIsSemi, NotInIsAnti, AntijoinOfFilled, SubqueryOfInput, ExistsOfSelectIsSemi, NotExistsOfSelectIsAnti, InSelectIsSemi, NotInSelectIsAnti, SemijoinBelowJoin, SemijoinIsJoin}
 use Rattle.book.specs.Book.{rules, BookIsSound, BookKeepsToPatterns, BookIsFormed, BookIsStable}
 
 pub book_sound : BookIsSound
@@ -48,6 +49,7 @@ book_sound KeepOfAll = keep_of_all_sound
 book_sound KeepBelowJoin = keep_below_join_sound
 book_sound DistinctOfKeyed = distinct_of_keyed_sound
 book_sound GroupIsDistinct = group_is_distinct_sound
+book_sound SelectBelowGroup = select_below_group_sound
 book_sound OuterJoinIsInner = outer_join_is_inner_sound
 book_sound SelectBelowLeftJoin = select_below_left_join_sound
 book_sound ConditionBelowLeftJoin = condition_below_left_join_sound
@@ -81,6 +83,7 @@ book_keeps KeepOfAll = keep_of_all_keeps
 book_keeps KeepBelowJoin = keep_below_join_keeps
 book_keeps DistinctOfKeyed = distinct_of_keyed_keeps
 book_keeps GroupIsDistinct = group_is_distinct_keeps
+book_keeps SelectBelowGroup = select_below_group_keeps
 book_keeps OuterJoinIsInner = outer_join_is_inner_keeps
 book_keeps SelectBelowLeftJoin = select_below_left_join_keeps
 book_keeps ConditionBelowLeftJoin = condition_below_left_join_keeps
@@ -114,6 +117,7 @@ book_formed KeepOfAll = keep_of_all_formed
 book_formed KeepBelowJoin = keep_below_join_formed
 book_formed DistinctOfKeyed = distinct_of_keyed_formed
 book_formed GroupIsDistinct = group_is_distinct_formed
+book_formed SelectBelowGroup = select_below_group_formed
 book_formed OuterJoinIsInner = outer_join_is_inner_formed
 book_formed SelectBelowLeftJoin = select_below_left_join_formed
 book_formed ConditionBelowLeftJoin = condition_below_left_join_formed
@@ -147,6 +151,7 @@ book_stable KeepOfAll = keep_of_all_stable
 book_stable KeepBelowJoin = keep_below_join_stable
 book_stable DistinctOfKeyed = distinct_of_keyed_stable
 book_stable GroupIsDistinct = group_is_distinct_stable
+book_stable SelectBelowGroup = select_below_group_stable
 book_stable OuterJoinIsInner = outer_join_is_inner_stable
 book_stable SelectBelowLeftJoin = select_below_left_join_stable
 book_stable ConditionBelowLeftJoin = condition_below_left_join_stable
@@ -181,22 +186,23 @@ each_rule P all KeepOfAll = all.1.1.1.1.1.1.1.1.0
 each_rule P all KeepBelowJoin = all.1.1.1.1.1.1.1.1.1.0
 each_rule P all DistinctOfKeyed = all.1.1.1.1.1.1.1.1.1.1.0
 each_rule P all GroupIsDistinct = all.1.1.1.1.1.1.1.1.1.1.1.0
-each_rule P all OuterJoinIsInner = all.1.1.1.1.1.1.1.1.1.1.1.1.0
-each_rule P all SelectBelowLeftJoin = all.1.1.1.1.1.1.1.1.1.1.1.1.1.0
-each_rule P all ConditionBelowLeftJoin = all.1.1.1.1.1.1.1.1.1.1.1.1.1.1.0
-each_rule P all LeftJoinBelowJoin = all.1.1.1.1.1.1.1.1.1.1.1.1.1.1.1.0
-each_rule P all LeftJoinAboveJoin = all.1.1.1.1.1.1.1.1.1.1.1.1.1.1.1.1.0
-each_rule P all KeepOfLeftSide = all.1.1.1.1.1.1.1.1.1.1.1.1.1.1.1.1.1.0
-each_rule P all OuterJoinIsAnti = all.1.1.1.1.1.1.1.1.1.1.1.1.1.1.1.1.1.1.0
-each_rule P all ExistsIsSemi = all.1.1.1.1.1.1.1.1.1.1.1.1.1.1.1.1.1.1.1.0
-each_rule P all NotExistsIsAnti = all.1.1.1.1.1.1.1.1.1.1.1.1.1.1.1.1.1.1.1.1.0
-each_rule P all InIsSemi = all.1.1.1.1.1.1.1.1.1.1.1.1.1.1.1.1.1.1.1.1.1.0
-each_rule P all NotInIsAnti = all.1.1.1.1.1.1.1.1.1.1.1.1.1.1.1.1.1.1.1.1.1.1.0
-each_rule P all AntijoinOfFilled = all.1.1.1.1.1.1.1.1.1.1.1.1.1.1.1.1.1.1.1.1.1.1.1.0
-each_rule P all SubqueryOfInput = all.1.1.1.1.1.1.1.1.1.1.1.1.1.1.1.1.1.1.1.1.1.1.1.1.0
-each_rule P all ExistsOfSelectIsSemi = all.1.1.1.1.1.1.1.1.1.1.1.1.1.1.1.1.1.1.1.1.1.1.1.1.1.0
-each_rule P all NotExistsOfSelectIsAnti = all.1.1.1.1.1.1.1.1.1.1.1.1.1.1.1.1.1.1.1.1.1.1.1.1.1.1.0
-each_rule P all InSelectIsSemi = all.1.1.1.1.1.1.1.1.1.1.1.1.1.1.1.1.1.1.1.1.1.1.1.1.1.1.1.0
-each_rule P all NotInSelectIsAnti = all.1.1.1.1.1.1.1.1.1.1.1.1.1.1.1.1.1.1.1.1.1.1.1.1.1.1.1.1.0
-each_rule P all SemijoinBelowJoin = all.1.1.1.1.1.1.1.1.1.1.1.1.1.1.1.1.1.1.1.1.1.1.1.1.1.1.1.1.1.0
-each_rule P all SemijoinIsJoin = all.1.1.1.1.1.1.1.1.1.1.1.1.1.1.1.1.1.1.1.1.1.1.1.1.1.1.1.1.1.1.0
+each_rule P all SelectBelowGroup = all.1.1.1.1.1.1.1.1.1.1.1.1.0
+each_rule P all OuterJoinIsInner = all.1.1.1.1.1.1.1.1.1.1.1.1.1.0
+each_rule P all SelectBelowLeftJoin = all.1.1.1.1.1.1.1.1.1.1.1.1.1.1.0
+each_rule P all ConditionBelowLeftJoin = all.1.1.1.1.1.1.1.1.1.1.1.1.1.1.1.0
+each_rule P all LeftJoinBelowJoin = all.1.1.1.1.1.1.1.1.1.1.1.1.1.1.1.1.0
+each_rule P all LeftJoinAboveJoin = all.1.1.1.1.1.1.1.1.1.1.1.1.1.1.1.1.1.0
+each_rule P all KeepOfLeftSide = all.1.1.1.1.1.1.1.1.1.1.1.1.1.1.1.1.1.1.0
+each_rule P all OuterJoinIsAnti = all.1.1.1.1.1.1.1.1.1.1.1.1.1.1.1.1.1.1.1.0
+each_rule P all ExistsIsSemi = all.1.1.1.1.1.1.1.1.1.1.1.1.1.1.1.1.1.1.1.1.0
+each_rule P all NotExistsIsAnti = all.1.1.1.1.1.1.1.1.1.1.1.1.1.1.1.1.1.1.1.1.1.0
+each_rule P all InIsSemi = all.1.1.1.1.1.1.1.1.1.1.1.1.1.1.1.1.1.1.1.1.1.1.0
+each_rule P all NotInIsAnti = all.1.1.1.1.1.1.1.1.1.1.1.1.1.1.1.1.1.1.1.1.1.1.1.0
+each_rule P all AntijoinOfFilled = all.1.1.1.1.1.1.1.1.1.1.1.1.1.1.1.1.1.1.1.1.1.1.1.1.0
+each_rule P all SubqueryOfInput = all.1.1.1.1.1.1.1.1.1.1.1.1.1.1.1.1.1.1.1.1.1.1.1.1.1.0
+each_rule P all ExistsOfSelectIsSemi = all.1.1.1.1.1.1.1.1.1.1.1.1.1.1.1.1.1.1.1.1.1.1.1.1.1.1.0
+each_rule P all NotExistsOfSelectIsAnti = all.1.1.1.1.1.1.1.1.1.1.1.1.1.1.1.1.1.1.1.1.1.1.1.1.1.1.1.0
+each_rule P all InSelectIsSemi = all.1.1.1.1.1.1.1.1.1.1.1.1.1.1.1.1.1.1.1.1.1.1.1.1.1.1.1.1.0
+each_rule P all NotInSelectIsAnti = all.1.1.1.1.1.1.1.1.1.1.1.1.1.1.1.1.1.1.1.1.1.1.1.1.1.1.1.1.1.0
+each_rule P all SemijoinBelowJoin = all.1.1.1.1.1.1.1.1.1.1.1.1.1.1.1.1.1.1.1.1.1.1.1.1.1.1.1.1.1.1.0
+each_rule P all SemijoinIsJoin = all.1.1.1.1.1.1.1.1.1.1.1.1.1.1.1.1.1.1.1.1.1.1.1.1.1.1.1.1.1.1.1.0

@@ -1,7 +1,7 @@
 -- The rules by their names in certificates, the lines that each takes, and what it gives.
 use Rattle.std.specs.Prelude.{ℕ, List, [], ◌∷◌, Result, codes}
 use Rattle.book.specs.declared.names.RuleName.{RuleName}
-use Rattle.book.specs.declared.names.RuleName.TheVariants.{JoinCommutes, JoinAssociates, SelectsMerge, SelectBelowJoin, SelectIntoJoin, ConditionBelowJoin, SelectBelowSemi, KeepsMerge, KeepOfAll, KeepBelowJoin, DistinctOfKeyed, GroupIsDistinct, OuterJoinIsInner, SelectBelowLeftJoin, ConditionBelowLeftJoin, LeftJoinBelowJoin, LeftJoinAboveJoin, KeepOfLeftSide, OuterJoinIsAnti, ExistsIsSemi, NotExistsIsAnti, InIsSemi, NotInIsAnti, AntijoinOfFilled, SubqueryOfInput, ExistsOfSelectIsSemi, NotExistsOfSelectIsAnti, InSelectIsSemi, NotInSelectIsAnti, SemijoinBelowJoin, SemijoinIsJoin}
+use Rattle.book.specs.declared.names.RuleName.TheVariants.{JoinCommutes, JoinAssociates, SelectsMerge, SelectBelowJoin, SelectIntoJoin, ConditionBelowJoin, SelectBelowSemi, KeepsMerge, KeepOfAll, KeepBelowJoin, DistinctOfKeyed, GroupIsDistinct, SelectBelowGroup, OuterJoinIsInner, SelectBelowLeftJoin, ConditionBelowLeftJoin, LeftJoinBelowJoin, LeftJoinAboveJoin, KeepOfLeftSide, OuterJoinIsAnti, ExistsIsSemi, NotExistsIsAnti, InIsSemi, NotInIsAnti, AntijoinOfFilled, SubqueryOfInput, ExistsOfSelectIsSemi, NotExistsOfSelectIsAnti, InSelectIsSemi, NotInSelectIsAnti, SemijoinBelowJoin, SemijoinIsJoin}
 use Rattle.rules.specs.declared.shape.Shape.{Shape}
 use Rattle.rules.specs.declared.unfit.Unfit.{Unfit}
 use Rattle.rules.specs.declared.pattern.Pattern.{Pattern}
@@ -26,6 +26,7 @@ use Rattle.plain_rules.specs.JoinCommutes as join_commutes
 use Rattle.plain_rules.specs.KeepBelowJoin as keep_below_join
 use Rattle.plain_rules.specs.KeepOfAll as keep_of_all
 use Rattle.plain_rules.specs.KeepsMerge as keeps_merge
+use Rattle.plain_rules.specs.SelectBelowGroup as select_below_group
 use Rattle.plain_rules.specs.SelectBelowJoin as select_below_join
 use Rattle.plain_rules.specs.SelectBelowSemi as select_below_semi
 use Rattle.plain_rules.specs.SelectIntoJoin as select_into_join
@@ -44,7 +45,7 @@ use Rattle.subquery_rules.specs.NotInSelectIsAnti as not_in_select_is_anti
 use Rattle.subquery_rules.specs.SubqueryOfInput as subquery_of_input
 
 abbrev pub rules : List RuleName
-rules = JoinCommutes ∷ JoinAssociates ∷ SelectsMerge ∷ SelectBelowJoin ∷ SelectIntoJoin ∷ ConditionBelowJoin ∷ SelectBelowSemi ∷ KeepsMerge ∷ KeepOfAll ∷ KeepBelowJoin ∷ DistinctOfKeyed ∷ GroupIsDistinct ∷ OuterJoinIsInner ∷ SelectBelowLeftJoin ∷ ConditionBelowLeftJoin ∷ LeftJoinBelowJoin ∷ LeftJoinAboveJoin ∷ KeepOfLeftSide ∷ OuterJoinIsAnti ∷ ExistsIsSemi ∷ NotExistsIsAnti ∷ InIsSemi ∷ NotInIsAnti ∷ AntijoinOfFilled ∷ SubqueryOfInput ∷ ExistsOfSelectIsSemi ∷ NotExistsOfSelectIsAnti ∷ InSelectIsSemi ∷ NotInSelectIsAnti ∷ SemijoinBelowJoin ∷ SemijoinIsJoin ∷ []
+rules = JoinCommutes ∷ JoinAssociates ∷ SelectsMerge ∷ SelectBelowJoin ∷ SelectIntoJoin ∷ ConditionBelowJoin ∷ SelectBelowSemi ∷ KeepsMerge ∷ KeepOfAll ∷ KeepBelowJoin ∷ DistinctOfKeyed ∷ GroupIsDistinct ∷ SelectBelowGroup ∷ OuterJoinIsInner ∷ SelectBelowLeftJoin ∷ ConditionBelowLeftJoin ∷ LeftJoinBelowJoin ∷ LeftJoinAboveJoin ∷ KeepOfLeftSide ∷ OuterJoinIsAnti ∷ ExistsIsSemi ∷ NotExistsIsAnti ∷ InIsSemi ∷ NotInIsAnti ∷ AntijoinOfFilled ∷ SubqueryOfInput ∷ ExistsOfSelectIsSemi ∷ NotExistsOfSelectIsAnti ∷ InSelectIsSemi ∷ NotInSelectIsAnti ∷ SemijoinBelowJoin ∷ SemijoinIsJoin ∷ []
 
 abbrev pub code_of : RuleName → List ℕ
 code_of JoinCommutes = codes "J1"
@@ -59,6 +60,7 @@ code_of KeepOfAll = codes "K2"
 code_of KeepBelowJoin = codes "K3"
 code_of DistinctOfKeyed = codes "D1"
 code_of GroupIsDistinct = codes "G1"
+code_of SelectBelowGroup = codes "G2"
 code_of OuterJoinIsInner = codes "O1"
 code_of SelectBelowLeftJoin = codes "O2"
 code_of ConditionBelowLeftJoin = codes "O3"
@@ -92,6 +94,7 @@ given_by KeepOfAll = keep_of_all.keep_of_all
 given_by KeepBelowJoin = keep_below_join.keep_below_join
 given_by DistinctOfKeyed = distinct_of_keyed.distinct_of_keyed
 given_by GroupIsDistinct = group_is_distinct.group_is_distinct
+given_by SelectBelowGroup = select_below_group.select_below_group
 given_by OuterJoinIsInner = outer_join_is_inner.outer_join_is_inner
 given_by SelectBelowLeftJoin = select_below_left_join.select_below_left_join
 given_by ConditionBelowLeftJoin = condition_below_left_join.condition_below_left_join
@@ -125,6 +128,7 @@ pattern_of KeepOfAll = keep_of_all.pattern
 pattern_of KeepBelowJoin = keep_below_join.pattern
 pattern_of DistinctOfKeyed = distinct_of_keyed.pattern
 pattern_of GroupIsDistinct = group_is_distinct.pattern
+pattern_of SelectBelowGroup = select_below_group.pattern
 pattern_of OuterJoinIsInner = outer_join_is_inner.pattern
 pattern_of SelectBelowLeftJoin = select_below_left_join.pattern
 pattern_of ConditionBelowLeftJoin = condition_below_left_join.pattern
@@ -158,6 +162,7 @@ promise_of KeepOfAll = keep_of_all.promise
 promise_of KeepBelowJoin = keep_below_join.promise
 promise_of DistinctOfKeyed = distinct_of_keyed.promise
 promise_of GroupIsDistinct = group_is_distinct.promise
+promise_of SelectBelowGroup = select_below_group.promise
 promise_of OuterJoinIsInner = outer_join_is_inner.promise
 promise_of SelectBelowLeftJoin = select_below_left_join.promise
 promise_of ConditionBelowLeftJoin = condition_below_left_join.promise

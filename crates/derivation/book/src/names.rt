@@ -22,6 +22,7 @@ use plain_rules::join_commutes::JoinCommutes;
 use plain_rules::keep_below_join::KeepBelowJoin;
 use plain_rules::keep_of_all::KeepOfAll;
 use plain_rules::keeps_merge::KeepsMerge;
+use plain_rules::select_below_group::SelectBelowGroup;
 use plain_rules::select_below_join::SelectBelowJoin;
 use plain_rules::select_below_semi::SelectBelowSemi;
 use plain_rules::select_into_join::SelectIntoJoin;
@@ -56,6 +57,7 @@ pub enum RuleName {
     KeepBelowJoin,
     DistinctOfKeyed,
     GroupIsDistinct,
+    SelectBelowGroup,
     OuterJoinIsInner,
     SelectBelowLeftJoin,
     ConditionBelowLeftJoin,
@@ -77,7 +79,7 @@ pub enum RuleName {
     SemijoinIsJoin,
 }
 
-const RULES: [RuleName; 31] = [
+const RULES: [RuleName; 32] = [
     RuleName::JoinCommutes,
     RuleName::JoinAssociates,
     RuleName::SelectsMerge,
@@ -90,6 +92,7 @@ const RULES: [RuleName; 31] = [
     RuleName::KeepBelowJoin,
     RuleName::DistinctOfKeyed,
     RuleName::GroupIsDistinct,
+    RuleName::SelectBelowGroup,
     RuleName::OuterJoinIsInner,
     RuleName::SelectBelowLeftJoin,
     RuleName::ConditionBelowLeftJoin,
@@ -149,6 +152,7 @@ impl RuleName {
             RuleName::KeepBelowJoin => KeepBelowJoin::CODE,
             RuleName::DistinctOfKeyed => DistinctOfKeyed::CODE,
             RuleName::GroupIsDistinct => GroupIsDistinct::CODE,
+            RuleName::SelectBelowGroup => SelectBelowGroup::CODE,
             RuleName::OuterJoinIsInner => OuterJoinIsInner::CODE,
             RuleName::SelectBelowLeftJoin => SelectBelowLeftJoin::CODE,
             RuleName::ConditionBelowLeftJoin => ConditionBelowLeftJoin::CODE,
@@ -195,6 +199,7 @@ impl RuleName {
             RuleName::KeepBelowJoin => KeepBelowJoin::pattern(),
             RuleName::DistinctOfKeyed => DistinctOfKeyed::pattern(),
             RuleName::GroupIsDistinct => GroupIsDistinct::pattern(),
+            RuleName::SelectBelowGroup => SelectBelowGroup::pattern(),
             RuleName::OuterJoinIsInner => OuterJoinIsInner::pattern(),
             RuleName::SelectBelowLeftJoin => SelectBelowLeftJoin::pattern(),
             RuleName::ConditionBelowLeftJoin => ConditionBelowLeftJoin::pattern(),
@@ -234,6 +239,7 @@ impl RuleName {
             RuleName::KeepBelowJoin => KeepBelowJoin::promise(alloc, at),
             RuleName::DistinctOfKeyed => DistinctOfKeyed::promise(alloc, at),
             RuleName::GroupIsDistinct => GroupIsDistinct::promise(alloc, at),
+            RuleName::SelectBelowGroup => SelectBelowGroup::promise(alloc, at),
             RuleName::OuterJoinIsInner => OuterJoinIsInner::promise(alloc, at),
             RuleName::SelectBelowLeftJoin => SelectBelowLeftJoin::promise(alloc, at),
             RuleName::ConditionBelowLeftJoin => ConditionBelowLeftJoin::promise(alloc, at),
@@ -273,6 +279,7 @@ impl RuleName {
             RuleName::KeepBelowJoin => KeepBelowJoin::apply(alloc, at),
             RuleName::DistinctOfKeyed => DistinctOfKeyed::apply(alloc, at),
             RuleName::GroupIsDistinct => GroupIsDistinct::apply(alloc, at),
+            RuleName::SelectBelowGroup => SelectBelowGroup::apply(alloc, at),
             RuleName::OuterJoinIsInner => OuterJoinIsInner::apply(alloc, at),
             RuleName::SelectBelowLeftJoin => SelectBelowLeftJoin::apply(alloc, at),
             RuleName::ConditionBelowLeftJoin => ConditionBelowLeftJoin::apply(alloc, at),

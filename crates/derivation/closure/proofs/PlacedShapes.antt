@@ -13,7 +13,7 @@ use Rattle.props.specs.Knowledge.{Knowledge}
 use Rattle.rules.specs.declared.shape.Shape.{Shape, roll-Shape, map-Shape, ind-Shape}
 use Rattle.rules.specs.declared.shape.Shape.TheOpen.{Shape-F}
 use Rattle.rules.specs.declared.shape.Shape.TheVariants as shape
-use Rattle.rules.specs.declared.shape.Shape.TheVariants.{rolls-Class, rolls-Select, rolls-Join, rolls-LeftJoin, rolls-Semi, rolls-Anti, rolls-Keep, rolls-Distinct}
+use Rattle.rules.specs.declared.shape.Shape.TheVariants.{rolls-Class, rolls-Select, rolls-Join, rolls-LeftJoin, rolls-Semi, rolls-Anti, rolls-Keep, rolls-Distinct, rolls-Group}
 use Rattle.rules.specs.Matches as matches
 use Rattle.derivation.specs.Logs as logs
 use Rattle.derivation.specs.Logs.{Log, member, least, are_same}
@@ -27,7 +27,7 @@ use Rattle.closure.specs.Closed.{over_one_of, over_two_of, is_over_one, is_over_
 use Rattle.closure.specs.Lines.{stands_in_class, has_result_of}
 use Rattle.closure.proofs.Agreeing.{are-alike}
 use Rattle.closure.proofs.AnyLine.{line-passes}
-use Rattle.closure.proofs.Shapes.{there_class, there_select, there_join, there_left_join, there_semi, there_anti, there_keep, there_distinct}
+use Rattle.closure.proofs.Shapes.{there_class, there_select, there_join, there_left_join, there_semi, there_anti, there_keep, there_distinct, there_group}
 
 abbrev class-or : ℕ → Option (ℕ × List ℕ) → ℕ
 class-or h None = h
@@ -149,6 +149,7 @@ module _ (instances : List TableInstance) (E : Log) where
   layer (Shape-F.Anti S M a b) = subst Stands (sym (rolls-Anti S M a.0 b.0)) (two-stands (expr.Anti S M) (λ j k. refl) a.0 b.0 a.1 b.1 _ (λ makes. ap (λ s. s.class makes) (spelling-at (member E) (Shape-F.Anti S M a.0 b.0) _ (rolls-Anti S M a.0 b.0))) (there_anti K E S M a.0 b.0))
   layer (Shape-F.Keep L x) = subst Stands (sym (rolls-Keep L x.0)) (one-stands (expr.Keep L) (λ k. refl) x.0 x.1 _ (λ makes. ap (λ s. s.class makes) (spelling-at (member E) (Shape-F.Keep L x.0) _ (rolls-Keep L x.0))) (there_keep K E L x.0))
   layer (Shape-F.Distinct x) = subst Stands (sym (rolls-Distinct x.0)) (one-stands expr.Distinct (λ k. refl) x.0 x.1 _ (λ makes. ap (λ s. s.class makes) (spelling-at (member E) (Shape-F.Distinct x.0) _ (rolls-Distinct x.0))) (there_distinct K E x.0))
+  layer (Shape-F.Group L G x) = subst Stands (sym (rolls-Group L G x.0)) (one-stands (expr.Group L G) (λ k. refl) x.0 x.1 _ (λ makes. ap (λ s. s.class makes) (spelling-at (member E) (Shape-F.Group L G x.0) _ (rolls-Group L G x.0))) (there_group K E L G x.0))
 
   shape-stands : (s : Shape) → Stands s
   shape-stands = ind-Shape Stands (λ x y is. subst (λ z. Stands (roll-Shape z)) is (layer y))

@@ -1,12 +1,13 @@
 -- Where a shape stands: one equation for each form.
 use Rattle.std.proofs.Common.{◌≡◌, ap, sym, ◌∙◌, ℕ, Bool, List}
 use Rattle.algebra.specs.declared.condition.Condition.{Condition}
+use Rattle.algebra.specs.declared.expr.Aggregation.{Aggregation}
 use Rattle.algebra.specs.declared.expr.Expr.TheVariants as expr
 use Rattle.props.specs.Knowledge.{Knowledge}
 use Rattle.props.specs.Knowledge as knowledge
 use Rattle.rules.specs.declared.shape.Shape.{Shape, roll-Shape, fold-roll-Shape, map-Shape}
 use Rattle.rules.specs.declared.shape.Shape.TheOpen.{Shape-F}
-use Rattle.rules.specs.declared.shape.Shape.TheVariants.{Class, Select, Join, LeftJoin, Semi, Anti, Keep, Distinct, rolls-Class, rolls-Select, rolls-Join, rolls-LeftJoin, rolls-Semi, rolls-Anti, rolls-Keep, rolls-Distinct}
+use Rattle.rules.specs.declared.shape.Shape.TheVariants.{Class, Select, Join, LeftJoin, Semi, Anti, Keep, Distinct, Group, rolls-Class, rolls-Select, rolls-Join, rolls-LeftJoin, rolls-Semi, rolls-Anti, rolls-Keep, rolls-Distinct, rolls-Group}
 use Rattle.derivation.specs.Logs.{Log}
 use Rattle.closure.specs.Closed.{is_over_one, is_over_two, has_line, standing_layer, is_there}
 
@@ -38,3 +39,6 @@ module _ (K : Knowledge) (E : Log) where
 
   pub there_distinct : (x : Shape) (g : ℕ) → is_there K E (Distinct x) g ≡ has_line K E (is_over_one K expr.Distinct (is_there K E x)) g
   there_distinct x g = there-at (Shape-F.Distinct x) _ (rolls-Distinct x) g
+
+  pub there_group : (L : List ℕ) (G : List Aggregation) (x : Shape) (g : ℕ) → is_there K E (Group L G x) g ≡ has_line K E (is_over_one K (expr.Group L G) (is_there K E x)) g
+  there_group L G x g = there-at (Shape-F.Group L G x) _ (rolls-Group L G x) g

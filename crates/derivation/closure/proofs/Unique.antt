@@ -3,6 +3,7 @@ use Rattle.std.proofs.Common.{◌≡◌, refl, ap, sym, ◌∙◌, subst, ℕ, B
 use Rattle.std.proofs.lemmas.Bool.{and_parts, and_from, eq-eqb, eqb-true}
 use Rattle.query.specs.declared.query.TableInstance.{TableInstance}
 use Rattle.algebra.specs.declared.condition.Condition.{Condition}
+use Rattle.algebra.specs.declared.expr.Aggregation.{Aggregation}
 use Rattle.algebra.specs.declared.expr.Expr.{Expr}
 use Rattle.algebra.specs.declared.expr.Expr.TheVariants as expr
 use Rattle.algebra.specs.declared.expr.Expr.TheVariants.{Get, Group}
@@ -12,6 +13,7 @@ use Rattle.algebra.proofs.Lists.{two}
 use Rattle.props.specs.Knowledge.{Knowledge}
 use Rattle.rules.specs.declared.shape.Shape.{Shape, roll-Shape, fold-roll-Shape, map-Shape, ind-Shape}
 use Rattle.rules.specs.declared.shape.Shape.TheOpen.{Shape-F}
+use Rattle.rules.specs.declared.shape.Shape.TheVariants as shape
 use Rattle.rules.specs.declared.shape.Shape.TheVariants.{Class, Select, Join, LeftJoin, Semi, Anti, Keep, Distinct}
 use Rattle.rules.specs.Matches as matches
 use Rattle.derivation.specs.Logs as logs
@@ -21,7 +23,7 @@ use Rattle.closure.specs.Operators.{OneAnswers, TwoAnswers, StandsAs}
 use Rattle.closure.proofs.Agreeing.{alike-are, are-alike}
 use Rattle.closure.proofs.AnyLine.{passing-line, line-passes}
 use Rattle.closure.proofs.ExpressionNumbers.{rooted-children}
-use Rattle.closure.proofs.Shapes.{there_class, there_select, there_join, there_left_join, there_semi, there_anti, there_keep, there_distinct}
+use Rattle.closure.proofs.Shapes.{there_class, there_select, there_join, there_left_join, there_semi, there_anti, there_keep, there_distinct, there_group}
 
 -- what isn't so
 not-true : (b : Bool) → (b ≡ true → true ≡ false) → b ≡ false
@@ -120,6 +122,9 @@ module _ (instances : List TableInstance) (E : Log) (united : AreUnited E) where
   is-distinct : IsOne expr.Distinct
   is-distinct = record { keeps = λ g h is. ap expr.Distinct is; takes_one = λ g. refl }
 
+  is-group : (L : List ℕ) (G : List Aggregation) → IsOne (expr.Group L G)
+  is-group L G = record { keeps = λ g h is. ap (expr.Group L G) is; takes_one = λ g. refl }
+
   is-join : (C : List Condition) → IsTwo (expr.Join C)
   is-join C = record { keeps = λ g h j k is also. two (expr.Join (rooted_conjuncts root C)) is also; takes_two = λ g h. refl }
 
@@ -149,6 +154,7 @@ module _ (instances : List TableInstance) (E : Log) (united : AreUnited E) where
   layer (Shape-F.Anti S M a b) = two-unique _ _ _ (is-anti S M) a.1 b.1
   layer (Shape-F.Keep L x) = one-unique _ _ (is-keep L) x.1
   layer (Shape-F.Distinct x) = one-unique _ _ is-distinct x.1
+  layer (Shape-F.Group L G x) = one-unique _ _ (is-group L G) x.1
 
   step : (y : Shape-F Part) → P (roll-Shape (map-Shape Part Shape (λ p. p.0) y))
   unfolding is_there
@@ -180,6 +186,7 @@ module _ (instances : List TableInstance) (E : Log) (united : AreUnited E) where
   moving-layer (Shape-F.Anti S M a b) = line-moves _
   moving-layer (Shape-F.Keep L x) = line-moves _
   moving-layer (Shape-F.Distinct x) = line-moves _
+  moving-layer (Shape-F.Group L G x) = line-moves _
 
   moving-step : (y : Shape-F Shape) → IsMoving (is_there K E (roll-Shape y))
   unfolding is_there
@@ -253,6 +260,9 @@ module _ (instances : List TableInstance) (E : Log) (united : AreUnited E) where
 
   pub stands_distinct : (x : Shape) (o found : Option ℕ) → StandsAs K E x o → OneAnswers E expr.Distinct o found → StandsAs K E (Distinct x) found
   stands_distinct x = one-stands expr.Distinct is-distinct x (Distinct x) (there_distinct K E x)
+
+  pub stands_group : (L : List ℕ) (G : List Aggregation) (x : Shape) (o found : Option ℕ) → StandsAs K E x o → OneAnswers E (expr.Group L G) o found → StandsAs K E (shape.Group L G x) found
+  stands_group L G x = one-stands (expr.Group L G) (is-group L G) x (shape.Group L G x) (there_group K E L G x)
 
   pub stands_join : (C : List Condition) (a b : Shape) (o p found : Option ℕ) → StandsAs K E a o → StandsAs K E b p → TwoAnswers E (expr.Join C) o p found → StandsAs K E (Join C a b) found
   stands_join C a b = two-stands (expr.Join C) (is-join C) a b (Join C a b) (there_join K E C a b)

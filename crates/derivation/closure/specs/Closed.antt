@@ -72,6 +72,7 @@ module _ (K : Knowledge) where
     standing_layer (Shape-F.Anti S M a b) = has_line (is_over_two (expr.Anti S M) a b)
     standing_layer (Shape-F.Keep L x) = has_line (is_over_one (expr.Keep L) x)
     standing_layer (Shape-F.Distinct x) = has_line (is_over_one expr.Distinct x)
+    standing_layer (Shape-F.Group L G x) = has_line (is_over_one (expr.Group L G) x)
 
     -- whether a shape stands in a class
     unfoldable pub is_there : Shape → ℕ → Bool

@@ -163,6 +163,11 @@ fn class_of(
             let found = with_one(alloc, log, over, OverOne::Distinct, x)?;
             Ok(found)
         }
+        Shape::Group(k, added, x) => {
+            let x = class_of(alloc, log, over, x.get())?;
+            let found = with_one(alloc, log, over, OverOne::Group(k, added), x)?;
+            Ok(found)
+        }
     }
 }
 

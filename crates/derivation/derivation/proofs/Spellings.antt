@@ -13,6 +13,7 @@ use Rattle.algebra.specs.Equality.{same_expr}
 use Rattle.algebra.specs.Expressions.{Classes, means, columns_of}
 use Rattle.algebra.proofs.Lists.{two}
 use Rattle.algebra.proofs.Same.{equal_expr}
+use Rattle.algebra.proofs.SameGroups.{aggregated-same}
 use Rattle.algebra.proofs.SameBags.{SameTest, same_bag-trans, select-same, join-same, left_join-same, semi-same, anti-same, keep-same, distinct-same}
 use Rattle.rules.specs.declared.shape.Shape.{Shape, roll-Shape, fold-roll-Shape, map-Shape, ind-Shape}
 use Rattle.rules.specs.declared.shape.Shape.TheOpen.{Shape-F}
@@ -134,6 +135,7 @@ module _ (instances : List TableInstance) (own : List Aggregation) (D : Tables) 
     is.0,
     subst (λ K. SameBag (distinct (meant V a.0).columns (meant V a.0).rows) (distinct K (V.rows g))) is.0 (distinct-same (meant V a.0).columns _ _ is.1),
   )) a.1
+  layer (Shape-F.Group L G a) = one-spells (expr.Group L G) _ (meant V a.0) (spelling member a.0) (λ g is. (refl, aggregated-same L G _ _ is.1)) a.1
 
   step : (y : Shape-F Part) → P (roll-Shape (map-Shape Part Shape (λ p. p.0) y))
   unfolding meant spelling

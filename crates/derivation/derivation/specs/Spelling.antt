@@ -47,6 +47,7 @@ module _ (member : ℕ → Option Line) where
   spelling_layer (Shape-F.Anti S M a b) = over_two (expr.Anti S M) a b
   spelling_layer (Shape-F.Keep K x) = over_one (expr.Keep K) x
   spelling_layer (Shape-F.Distinct x) = over_one expr.Distinct x
+  spelling_layer (Shape-F.Group L G x) = over_one (expr.Group L G) x
 
   unfoldable pub spelling : Shape → Spelling
   spelling = fold-Shape Spelling spelling_layer

@@ -1,9 +1,10 @@
 -- How many operators a shape has, and what room is left behind them.
 use Rattle.std.proofs.Common.{◌≡◌, ap, sym, ◌∙◌, subst, ℕ, ◌+◌, ◌<◌, List, Option, None, IfSome}
 use Rattle.algebra.specs.declared.condition.Condition.{Condition}
+use Rattle.algebra.specs.declared.expr.Aggregation.{Aggregation}
 use Rattle.rules.specs.declared.shape.Shape.{Shape, roll-Shape, fold-roll-Shape, map-Shape}
 use Rattle.rules.specs.declared.shape.Shape.TheOpen.{Shape-F}
-use Rattle.rules.specs.declared.shape.Shape.TheVariants.{rolls-Class, rolls-Select, rolls-Join, rolls-LeftJoin, rolls-Semi, rolls-Anti, rolls-Keep, rolls-Distinct}
+use Rattle.rules.specs.declared.shape.Shape.TheVariants.{rolls-Class, rolls-Select, rolls-Join, rolls-LeftJoin, rolls-Semi, rolls-Anti, rolls-Keep, rolls-Distinct, rolls-Group}
 use Rattle.rules.specs.declared.shape.Shape.TheVariants as shape
 use Rattle.bindings.specs.Shallow.{count_layer, operator_count}
 
@@ -22,6 +23,9 @@ keep_counts K x = count-at (Shape-F.Keep K x) _ (rolls-Keep K x)
 
 pub distinct_counts : (x : Shape) → operator_count (shape.Distinct x) ≡ 1 + operator_count x
 distinct_counts x = count-at (Shape-F.Distinct x) _ (rolls-Distinct x)
+
+pub group_counts : (L : List ℕ) (G : List Aggregation) (x : Shape) → operator_count (shape.Group L G x) ≡ 1 + operator_count x
+group_counts L G x = count-at (Shape-F.Group L G x) _ (rolls-Group L G x)
 
 pub join_counts : (C : List Condition) (x y : Shape) → operator_count (shape.Join C x y) ≡ 1 + (operator_count x + operator_count y)
 join_counts C x y = count-at (Shape-F.Join C x y) _ (rolls-Join C x y)

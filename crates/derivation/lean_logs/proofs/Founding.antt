@@ -35,7 +35,7 @@ use Rattle.lean_logs.specs.declared.founded.Spelt.{Spelt}
 use Rattle.lean_logs.specs.declared.lean_log.Member.{Member}
 use Rattle.lean_logs.specs.Founding.{IsAdded, TellsNew, FoundsNew, MayStandBehind, TakesNewest, IsPlacedBehind, IsSpeltBehind, IsFilled, IsInterned}
 use Rattle.lean_logs.specs.Growth.{Extends, AreNew, GrowsLean}
-use Rattle.lean_logs.proofs.Counts.{select_counts, keep_counts, distinct_counts, join_counts, left_join_counts, semi_counts, anti_counts}
+use Rattle.lean_logs.proofs.Counts.{select_counts, keep_counts, distinct_counts, group_counts, join_counts, left_join_counts, semi_counts, anti_counts}
 use Rattle.lean_logs.proofs.Growth.{extended_along, grows-itself, grows-by_one, grows-along, new_along, none_waits, same_extends, within_along}
 use Rattle.lean_logs.proofs.Numbers.{all_has, has_append, less_or}
 
@@ -156,6 +156,7 @@ one_counts : (op : OverOne) (x : Shape) → operator_count (one_shape op x) ≡ 
 one_counts (one_.Select C) x = select_counts C.now x
 one_counts (one_.Keep L) x = keep_counts L.now x
 one_counts one_.Distinct x = distinct_counts x
+one_counts (one_.Group L G) x = group_counts L.now G.now x
 
 two_counts : (op : OverTwo) (x y : Shape) → operator_count (two_shape op x y) ≡ 1 + (operator_count x + operator_count y)
 two_counts (two_.Join C) x y = join_counts C.now x y
@@ -183,6 +184,7 @@ module _ (limit : ℕ) where
   one-takes (one_.Select C) g = or_left _ _ (eq-eqb g g refl)
   one-takes (one_.Keep L) g = or_left _ _ (eq-eqb g g refl)
   one-takes one_.Distinct g = or_left _ _ (eq-eqb g g refl)
+  one-takes (one_.Group L G) g = or_left _ _ (eq-eqb g g refl)
 
   pub one_behind : (a b : Logged) (op : OverOne) (x : Shape) (p : Placed) (e : Spelt) → MayStandBehind a (one_shape op x) → IsPlacedBehind a x p b → e.expr ≡ over_one op p.class → e.makes ≡ p.makes
       → IsSpeltBehind a (one_shape op x) e b

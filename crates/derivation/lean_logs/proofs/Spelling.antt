@@ -11,7 +11,7 @@ use Rattle.bindings.specs.declared.operators.OverOne.TheVariants as one_
 use Rattle.bindings.specs.declared.operators.OverTwo.{OverTwo}
 use Rattle.bindings.specs.declared.operators.OverTwo.TheVariants as two_
 use Rattle.bindings.specs.Operators.{over_one, over_two, one_shape, two_shape}
-use Rattle.bindings.proofs.SpeltShapes.{select_input, keep_input, distinct_input, join_inputs, left_join_inputs, semi_inputs, anti_inputs}
+use Rattle.bindings.proofs.SpeltShapes.{select_input, keep_input, distinct_input, group_input, join_inputs, left_join_inputs, semi_inputs, anti_inputs}
 use Rattle.lean_logs.specs.declared.founded.Placed.{Placed}
 use Rattle.lean_logs.specs.declared.founded.Spelt.{Spelt}
 use Rattle.lean_logs.specs.declared.lean_log.Member.{Member}
@@ -26,6 +26,7 @@ pub one_input : (a : Logged) (op : OverOne) (x : Shape) → MayStandBehind a (on
 one_input a (one_.Select C) x may = λ l is. select_input l.instances l.own l.log C.now x (may l is)
 one_input a (one_.Keep K) x may = λ l is. keep_input l.instances l.own l.log K.now x (may l is)
 one_input a one_.Distinct x may = λ l is. distinct_input l.instances l.own l.log x (may l is)
+one_input a (one_.Group L G) x may = λ l is. group_input l.instances l.own l.log L.now G.now x (may l is)
 
 pub first_input : (a : Logged) (op : OverTwo) (x y : Shape) → MayStandBehind a (two_shape op x y) → MayStandBehind a x
 first_input a (two_.Join C) x y may = λ l is. (join_inputs l.instances l.own l.log C.now x y (may l is)).0

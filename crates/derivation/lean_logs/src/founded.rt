@@ -77,6 +77,9 @@ impl<'q> LeanLog<'q> {
             Shape::Select(c, x) => self.spell_one(alloc, limit, OverOne::Select(c), x.get()),
             Shape::Keep(k, x) => self.spell_one(alloc, limit, OverOne::Keep(k), x.get()),
             Shape::Distinct(x) => self.spell_one(alloc, limit, OverOne::Distinct, x.get()),
+            Shape::Group(k, added, x) => {
+                self.spell_one(alloc, limit, OverOne::Group(k, added), x.get())
+            }
             Shape::Join(c, a, b) => {
                 self.spell_two(alloc, limit, OverTwo::Join(c), a.get(), b.get())
             }

@@ -32,6 +32,7 @@ fn room_behind(shape: &Shape, room: usize) -> Option<usize>
         Shape::Select(_, x) => room_over(x.get(), room),
         Shape::Keep(_, x) => room_over(x.get(), room),
         Shape::Distinct(x) => room_over(x.get(), room),
+        Shape::Group(_, _, x) => room_over(x.get(), room),
         Shape::Join(_, a, b) => room_over_both(a.get(), b.get(), room),
         Shape::LeftJoin(_, a, b) => room_over_both(a.get(), b.get(), room),
         Shape::Semi(_, a, b) => room_over_both(a.get(), b.get(), room),

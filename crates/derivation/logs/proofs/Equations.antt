@@ -6,13 +6,14 @@ use Rattle.algebra.specs.declared.condition.Term.{Term}
 use Rattle.algebra.specs.declared.condition.Condition.{Condition, roll-Condition, fold-roll-Condition, map-Condition}
 use Rattle.algebra.specs.declared.condition.Condition.TheOpen.{Condition-F}
 use Rattle.algebra.specs.declared.condition.Condition.TheVariants.{Compare, IsNull, Not, And, Or, Exists, In, rolls-Compare, rolls-IsNull, rolls-Not, rolls-And, rolls-Or, rolls-Exists, rolls-In}
+use Rattle.algebra.specs.declared.expr.Aggregation.{Aggregation}
 use Rattle.algebra.specs.declared.expr.Expr.{Expr}
 use Rattle.algebra.specs.declared.expr.Expr.TheVariants as expr
 use Rattle.algebra.specs.Alike.{rooted_layer, rooted_condition}
 use Rattle.rules.specs.declared.shape.Shape.{Shape, roll-Shape, fold-roll-Shape, ind-Shape, map-Shape}
 use Rattle.rules.specs.declared.shape.Shape.TheOpen.{Shape-F}
 use Rattle.rules.specs.declared.shape.Shape.TheVariants as shape
-use Rattle.rules.specs.declared.shape.Shape.TheVariants.{rolls-Class, rolls-Select, rolls-Join, rolls-LeftJoin, rolls-Semi, rolls-Anti, rolls-Keep, rolls-Distinct}
+use Rattle.rules.specs.declared.shape.Shape.TheVariants.{rolls-Class, rolls-Select, rolls-Join, rolls-LeftJoin, rolls-Semi, rolls-Anti, rolls-Keep, rolls-Distinct, rolls-Group}
 use Rattle.rules.specs.Matches.{Line}
 use Rattle.derivation.specs.Spelling.{Spelling, class_with, class_by, spelling_layer, spelling}
 
@@ -76,6 +77,10 @@ module _ (member : ℕ → Option Line) where
   pub spelt_Distinct : (x : Shape) (makes : List ℕ) → (spelling member (shape.Distinct x)).expr makes ≡ option_and_then (λ p. Some (expr.Distinct p.0, p.1)) ((spelling member x).class makes)
   spelt_Distinct x makes = ap (λ s. s.expr makes) (spelling-at (Shape-F.Distinct x) _ (rolls-Distinct x))
 
+  pub spelt_Group : (L : List ℕ) (G : List Aggregation) (x : Shape) (makes : List ℕ)
+      → (spelling member (shape.Group L G x)).expr makes ≡ option_and_then (λ p. Some (expr.Group L G p.0, p.1)) ((spelling member x).class makes)
+  spelt_Group L G x makes = ap (λ s. s.expr makes) (spelling-at (Shape-F.Group L G x) _ (rolls-Group L G x))
+
   pub class_Class : (g : ℕ) (makes : List ℕ) → (spelling member (shape.Class g)).class makes ≡ Some (g, makes)
   class_Class g makes = ap (λ s. s.class makes) (spelling-at (Shape-F.Class g) _ (rolls-Class g))
 
@@ -99,6 +104,7 @@ module _ (member : ℕ → Option Line) where
   needs-line (Shape-F.Anti S M a b) other makes = subst (λ q. q.class makes ≡ class_by member q.expr makes) (sym (spelling-at (Shape-F.Anti S M a b) _ refl)) refl
   needs-line (Shape-F.Keep K x) other makes = subst (λ q. q.class makes ≡ class_by member q.expr makes) (sym (spelling-at (Shape-F.Keep K x) _ refl)) refl
   needs-line (Shape-F.Distinct x) other makes = subst (λ q. q.class makes ≡ class_by member q.expr makes) (sym (spelling-at (Shape-F.Distinct x) _ refl)) refl
+  needs-line (Shape-F.Group L G x) other makes = subst (λ q. q.class makes ≡ class_by member q.expr makes) (sym (spelling-at (Shape-F.Group L G x) _ refl)) refl
 
   class-needs-line : (s : Shape) → NeedsLine s
   class-needs-line = ind-Shape NeedsLine (λ x y is. subst (λ z. NeedsLine (roll-Shape z)) is (needs-line (map-Shape Part Shape (λ p. p.0) y)))

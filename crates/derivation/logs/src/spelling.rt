@@ -23,7 +23,7 @@ fn class_with(lines: &[Line], expr: &Expr, line: LineId) -> Option<ClassId>
 
 /// What the lines that come next make of a shape that is no class, and the lines behind them.
 #[cycle(spelling)]
-#[tactic(auto, using(crate::proofs::Equations::spelt_Class, crate::proofs::Equations::spelt_Select, crate::proofs::Equations::spelt_Join, crate::proofs::Equations::spelt_LeftJoin, crate::proofs::Equations::spelt_Semi, crate::proofs::Equations::spelt_Anti, crate::proofs::Equations::spelt_Keep, crate::proofs::Equations::spelt_Distinct))]
+#[tactic(auto, using(crate::proofs::Equations::spelt_Class, crate::proofs::Equations::spelt_Select, crate::proofs::Equations::spelt_Join, crate::proofs::Equations::spelt_LeftJoin, crate::proofs::Equations::spelt_Semi, crate::proofs::Equations::spelt_Anti, crate::proofs::Equations::spelt_Keep, crate::proofs::Equations::spelt_Distinct, crate::proofs::Equations::spelt_Group))]
 fn expr_of<'m>(lines: &[Line], shape: Shape, makes: &'m [LineId]) -> Option<(Expr, &'m [LineId])>
     ensures { option_map (λ p. (p.0, p.1.now)) result ≡ (spec.spelling (logs.member (reverse lines.now)) shape).expr makes.now }
 {
@@ -60,6 +60,10 @@ fn expr_of<'m>(lines: &[Line], shape: Shape, makes: &'m [LineId]) -> Option<(Exp
         Shape::Distinct(x) => {
             let (x, rest) = class_of(lines, x.into_inner(), makes)?;
             Some((Expr::Distinct(x), rest))
+        }
+        Shape::Group(k, added, x) => {
+            let (x, rest) = class_of(lines, x.into_inner(), makes)?;
+            Some((Expr::Group(k, added, x), rest))
         }
     }
 }

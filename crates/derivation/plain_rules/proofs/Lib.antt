@@ -1,11 +1,13 @@
 pub mod ConditionBelowJoin
 pub mod DistinctOfKeyed
 pub mod GroupIsDistinct
+pub mod GroupedRows
 pub mod JoinAssociates
 pub mod JoinCommutes
 pub mod KeepBelowJoin
 pub mod KeepOfAll
 pub mod KeepsMerge
+pub mod SelectBelowGroup
 pub mod SelectBelowJoin
 pub mod SelectBelowSemi
 pub mod SelectIntoJoin

@@ -6,6 +6,7 @@ pub mod JoinCommutes
 pub mod KeepBelowJoin
 pub mod KeepOfAll
 pub mod KeepsMerge
+pub mod SelectBelowGroup
 pub mod SelectBelowJoin
 pub mod SelectBelowSemi
 pub mod SelectIntoJoin

@@ -9,6 +9,7 @@ pub mod join_commutes;
 pub mod keep_below_join;
 pub mod keep_of_all;
 pub mod keeps_merge;
+pub mod select_below_group;
 pub mod select_below_join;
 pub mod select_below_semi;
 pub mod select_into_join;

@@ -10,13 +10,13 @@ use Rattle.algebra.specs.declared.expr.Expr.{Expr}
 use Rattle.algebra.specs.declared.expr.Expr.TheVariants as expr
 use Rattle.algebra.specs.Columns.{is_subset, rising}
 use Rattle.algebra.specs.ConjunctParts.{union, part, rest}
-use Rattle.algebra.specs.Expressions.{children, classes_pass, columns_of, is_formed, is_plain, names_own, sides_formed, subqueries_pass}
+use Rattle.algebra.specs.Expressions.{aggregate_columns, children, classes_pass, columns_of, is_formed, is_plain, names_own, sides_formed, subqueries_pass}
 use Rattle.props.specs.Knowledge.{Knowledge}
 use Rattle.rules.specs.declared.shape.Shape.{Shape}
-use Rattle.rules.specs.declared.shape.Shape.TheVariants.{Class, Select, Join, LeftJoin, Semi, Anti, Keep, Distinct}
+use Rattle.rules.specs.declared.shape.Shape.TheVariants.{Class, Select, Join, LeftJoin, Semi, Anti, Keep, Distinct, Group}
 use Rattle.rules.specs.declared.unfit.Unfit.{Unfit}
 use Rattle.rules.specs.declared.unfit.Unfit.TheVariants.{Pattern}
-use Rattle.rules.specs.Formed.{IsFormed, IsFormedLine, Rises, formed}
+use Rattle.rules.specs.Formed.{IsFormed, IsFormedLine, Rises, formed, groups_formed}
 use Rattle.rules.specs.Bindings.{is_same_as}
 use Rattle.rules.specs.Matches.{Line, Matched, one_line, two_lines}
 use Rattle.rules.specs.Shapes.{selected}
@@ -119,6 +119,9 @@ module _ (S : Site) where
 
   pub distinct-stands : (x : Shape) (X : List ℕ) → Is x X → Is (Distinct x) X
   distinct-stands = shapes.distinct-formed S.instances S.own K.columns S.founds
+
+  pub group-stands : (L : List ℕ) (G : List Aggregation) (x : Shape) (X : List ℕ) → Is x X → groups_formed S.instances S.own K.columns S.founds L G X ≡ true → Is (Group L G x) (rising (L ++ aggregate_columns G))
+  group-stands = shapes.group-formed S.instances S.own K.columns S.founds
 
   -- conditions that are moved
   pub part-are : (p : Condition → Bool) (C : List Condition) → Are C → Are (part p C)

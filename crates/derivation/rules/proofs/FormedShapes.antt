@@ -11,7 +11,7 @@ use Rattle.algebra.specs.declared.expr.Aggregation.{Aggregation}
 use Rattle.algebra.specs.Columns.{has, rising, is_subset, is_same_set, are_disjoint}
 use Rattle.algebra.specs.Conditions.{all_classes, all_columns}
 use Rattle.algebra.specs.ConjunctParts.{union, part, rest}
-use Rattle.algebra.specs.Expressions.{is_plain, is_query_column, sides_formed}
+use Rattle.algebra.specs.Expressions.{aggregate_columns, is_plain, is_query_column, sides_formed}
 use Rattle.algebra.proofs.ConjunctLists.{conjuncts-all}
 use Rattle.algebra.proofs.ConjunctSplits.{split_passes}
 use Rattle.algebra.proofs.Equations.{all_columns_and, all_classes_and}
@@ -21,8 +21,8 @@ use Rattle.algebra.proofs.Sets.{has-rising, one-rising, rises-rising, rising-aga
 use Rattle.laws.proofs.Expressions.{has-both}
 use Rattle.rules.specs.declared.shape.Shape.{Shape, roll-Shape, fold-roll-Shape, map-Shape}
 use Rattle.rules.specs.declared.shape.Shape.TheOpen.{Shape-F}
-use Rattle.rules.specs.declared.shape.Shape.TheVariants.{Class, Select, Join, LeftJoin, Semi, Anti, Keep, Distinct, rolls-Class, rolls-Select, rolls-Join, rolls-LeftJoin, rolls-Semi, rolls-Anti, rolls-Keep, rolls-Distinct}
-use Rattle.rules.specs.Formed.{Formed, are_formed, are_joined, formed_layer, formed}
+use Rattle.rules.specs.declared.shape.Shape.TheVariants.{Class, Select, Join, LeftJoin, Semi, Anti, Keep, Distinct, Group, rolls-Class, rolls-Select, rolls-Join, rolls-LeftJoin, rolls-Semi, rolls-Anti, rolls-Keep, rolls-Distinct, rolls-Group}
+use Rattle.rules.specs.Formed.{Formed, are_formed, are_joined, formed_layer, formed, groups_formed}
 
 -- the classes of both lists' conditions pass
 pub classes-union : (p : ℕ → Bool) (C D : List Condition) → list_all (λ d. all_classes d p) C ≡ true → list_all (λ d. all_classes d p) D ≡ true → list_all (λ d. all_classes d p) (union C D) ≡ true
@@ -59,6 +59,10 @@ module _ (instances : List TableInstance) (own : List Aggregation) (columns : �
 
   pub formed_distinct : (x : Shape) → F (Distinct x) ≡ F x
   formed_distinct x = formed-at (Shape-F.Distinct x) _ (rolls-Distinct x)
+
+  pub formed_group : (L : List ℕ) (G : List Aggregation) (x : Shape)
+      → F (Group L G x) ≡ record { columns = rising (L ++ aggregate_columns G); is_formed = (F x).is_formed && groups_formed instances own columns founds L G (F x).columns }
+  formed_group L G x = formed-at (Shape-F.Group L G x) _ (rolls-Group L G x)
 
   -- ---- a shape that is well formed, with its columns
 
@@ -124,6 +128,12 @@ module _ (instances : List TableInstance) (own : List Aggregation) (columns : �
 
   pub distinct-formed : (x : Shape) (X : List ℕ) → IsFormed x X → IsFormed (Distinct x) X
   distinct-formed x X is = record { formed_ = ap (λ f. f.is_formed) (formed_distinct x) ∙ is.formed_; columns_ = ap (λ f. f.columns) (formed_distinct x) ∙ is.columns_ }
+
+  pub group-formed : (L : List ℕ) (G : List Aggregation) (x : Shape) (X : List ℕ) → IsFormed x X → groups_formed instances own columns founds L G X ≡ true → IsFormed (Group L G x) (rising (L ++ aggregate_columns G))
+  group-formed L G x X is all = record {
+    formed_ = ap (λ f. f.is_formed) (formed_group L G x) ∙ and_from _ _ is.formed_ (ap (groups_formed instances own columns founds L G) is.columns_ ∙ all);
+    columns_ = ap (λ f. f.columns) (formed_group L G x);
+  }
 
   -- ---- conditions that are moved
 

@@ -2,14 +2,15 @@
 use Rattle.std.proofs.Common.{◌≡◌, refl, ap, sym, ◌∙◌, subst, ℕ, true, ◌&&◌, List, [], ◌∷◌, ◌++◌, filter}
 use Rattle.algebra.specs.declared.condition.Condition.{Condition}
 use Rattle.algebra.specs.Columns.{has, rising}
-use Rattle.algebra.specs.Bags.{Env, Bag, SameBag, select, join, left_join, semi, anti, keep, distinct}
+use Rattle.algebra.specs.Bags.{Env, Bag, SameBag, select, join, left_join, semi, anti, keep, distinct, group}
 use Rattle.algebra.specs.Conditions.{holds, allows}
-use Rattle.algebra.specs.Expressions.{Classes}
+use Rattle.algebra.specs.declared.expr.Aggregation.{Aggregation}
+use Rattle.algebra.specs.Expressions.{Classes, with_aggregates, aggregate_columns}
 use Rattle.algebra.proofs.Lists.{two}
 use Rattle.algebra.proofs.SameBags.{same_bag-equal}
 use Rattle.rules.specs.declared.shape.Shape.{Shape, roll-Shape, fold-roll-Shape, map-Shape}
 use Rattle.rules.specs.declared.shape.Shape.TheOpen.{Shape-F}
-use Rattle.rules.specs.declared.shape.Shape.TheVariants.{Class, Select, Join, LeftJoin, Semi, Anti, Keep, Distinct, rolls-Class, rolls-Select, rolls-Join, rolls-LeftJoin, rolls-Semi, rolls-Anti, rolls-Keep, rolls-Distinct}
+use Rattle.rules.specs.declared.shape.Shape.TheVariants.{Class, Select, Join, LeftJoin, Semi, Anti, Keep, Distinct, Group, rolls-Class, rolls-Select, rolls-Join, rolls-LeftJoin, rolls-Semi, rolls-Anti, rolls-Keep, rolls-Distinct, rolls-Group}
 use Rattle.rules.specs.Shapes.{Meant, shape_layer, meant, selected}
 
 module _ (W : Classes) where
@@ -52,6 +53,11 @@ module _ (W : Classes) where
 
   pub distinct-is : (x : Shape) (m : Meant) → meant W x ≡ m → meant W (Distinct x) ≡ record { columns = m.columns; rows = distinct m.columns m.rows }
   distinct-is x m is = meant-at (Shape-F.Distinct x) _ (rolls-Distinct x) ∙ ap (λ m. record { columns = m.columns; rows = distinct m.columns m.rows }) is
+
+  pub group-is : (L : List ℕ) (G : List Aggregation) (x : Shape) (m : Meant) → meant W x ≡ m
+      → meant W (Group L G x) ≡ record { columns = rising (L ++ aggregate_columns G); rows = group L (with_aggregates G) m.rows }
+  group-is L G x m is =
+      meant-at (Shape-F.Group L G x) _ (rolls-Group L G x) ∙ ap (λ m. record { columns = rising (L ++ aggregate_columns G); rows = group L (with_aggregates G) m.rows }) is
 
   -- no conjuncts select all rows
   pub selected-same : (C : List Condition) (x : Shape) (m : Meant) → meant W x ≡ m → SameBag (select (holds W.rows C) m.rows) (meant W (selected C x)).rows

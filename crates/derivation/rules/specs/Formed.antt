@@ -1,6 +1,6 @@
 -- Well formed shapes: those that can stand in a log, operator by operator.
 use Rattle.std.specs.Prelude.{◌≡◌, ℕ, Bool, true, ◌&&◌, List, ◌∷◌, ◌++◌, Ok, Result}
-use Rattle.std.specs.List.{AllByRecursion}
+use Rattle.std.specs.List.{AllByRecursion, list_all}
 use Rattle.std.specs.List.Sorted.{IsStrictlyIncreasing}
 use Rattle.query.specs.declared.query.TableInstance.{TableInstance}
 use Rattle.algebra.specs.declared.condition.Condition.{Condition}
@@ -8,7 +8,7 @@ use Rattle.algebra.specs.declared.expr.Aggregation.{Aggregation}
 use Rattle.algebra.specs.declared.expr.Expr.{Expr}
 use Rattle.algebra.specs.declared.expr.Expr.TheVariants.{Get, Select, Join, LeftJoin, Semi, Anti, Keep, Distinct, Group}
 use Rattle.algebra.specs.Columns.{is_subset, rising}
-use Rattle.algebra.specs.Expressions.{classes_pass, columns_of, is_formed, names_own, sides_formed, subqueries_pass}
+use Rattle.algebra.specs.Expressions.{aggregate_columns, aggregation_formed, are_different, classes_pass, columns_of, is_formed, names_own, sides_formed, subqueries_pass}
 use Rattle.props.specs.Knowledge.{Knowledge, are_same}
 use Rattle.rules.specs.declared.shape.Shape.{Shape, fold-Shape}
 use Rattle.rules.specs.declared.shape.Shape.TheOpen.{Shape-F}
@@ -30,6 +30,10 @@ module _ (instances : List TableInstance) (own : List Aggregation) (columns : �
   abbrev pub are_joined : List Condition → Formed → Formed → Bool
   are_joined C a b = (a.is_formed && b.is_formed) && (are_formed C && sides_formed C a.columns b.columns)
 
+  -- a group's keys are columns of its input, and its aggregates read these and are new
+  abbrev pub groups_formed : List ℕ → List Aggregation → List ℕ → Bool
+  groups_formed L G input = is_subset L input && are_different (aggregate_columns G) && list_all (aggregation_formed own input) G
+
   -- each operator asks what it asks of an expression
   abbrev pub formed_layer : Shape-F Formed → Formed
   formed_layer (Shape-F.Class g) = record { columns = columns g; is_formed = founds g }
@@ -40,6 +44,7 @@ module _ (instances : List TableInstance) (own : List Aggregation) (columns : �
   formed_layer (Shape-F.Anti S M a b) = record { columns = a.columns; is_formed = are_joined (S ++ M) a b }
   formed_layer (Shape-F.Keep L x) = record { columns = L; is_formed = x.is_formed && is_subset L x.columns }
   formed_layer (Shape-F.Distinct x) = x
+  formed_layer (Shape-F.Group L G x) = record { columns = rising (L ++ aggregate_columns G); is_formed = x.is_formed && groups_formed L G x.columns }
 
   unfoldable pub formed : Shape → Formed
   formed = fold-Shape Formed formed_layer

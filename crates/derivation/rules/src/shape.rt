@@ -1,6 +1,6 @@
 //! What rules give.
 
-use algebra::{ClassId, Columns, Conjuncts};
+use algebra::{Aggregations, ClassId, Columns, Conjuncts};
 use values::Boxed;
 
 /// An expression whose inputs are classes, or are expressions made with it.
@@ -14,4 +14,5 @@ pub enum Shape {
     Anti(Conjuncts, Conjuncts, Boxed<Shape>, Boxed<Shape>),
     Keep(Columns, Boxed<Shape>),
     Distinct(Boxed<Shape>),
+    Group(Columns, Aggregations, Boxed<Shape>),
 }

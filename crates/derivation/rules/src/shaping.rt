@@ -8,7 +8,7 @@ ghost use Rattle.rules.specs.Shapes as spec;
 
 use crate::shape::Shape;
 use crate::unfit::{RuleFault, Unfit};
-use algebra::{Columns, Conjuncts};
+use algebra::{Aggregations, Columns, Conjuncts};
 use std::alloc::{AllocError, Global};
 use values::{Boxed, Fault};
 
@@ -107,4 +107,15 @@ pub fn anti(
     let (left, right) = boxed(alloc, left, right)?;
     let (ordinary, null_aware) = lists;
     Ok(Shape::Anti(ordinary, null_aware, left, right))
+}
+
+pub fn group(
+    alloc: Global,
+    keys: Columns,
+    added: Aggregations,
+    input: Shape,
+) -> Result<Shape, AllocError>
+    ensures { IfOk result (λ s. s ≡ shape.Group keys added input) }
+{
+    Ok(Shape::Group(keys, added, Boxed::new(alloc, input)?))
 }

@@ -78,6 +78,11 @@ impl CongruentLines {
                 let operation = under(Operator::Distinct, &[], &[]);
                 self.line_over(alloc, log, operation, x.get())
             }
+            Shape::Group(k, added, x) => {
+                let operator = Operator::Group(k.as_slice(), added.as_slice());
+                let operation = under(operator, &[], &[]);
+                self.line_over(alloc, log, operation, x.get())
+            }
             Shape::Join(c, a, b) => {
                 let operation = under(Operator::Join, c.as_slice(), &[]);
                 self.line_over_both(alloc, log, operation, a.get(), b.get())

@@ -102,7 +102,15 @@ D1: 7 distinct 1 => the condition fails
 D1: 7 keep 0 0 1 => another form
 G1: 7 group 3 0 2 => distinct (keep 0 2 (3))
 G1: 7 group 3 => the condition fails
-G1: 7 count 3 0 => another form";
+G1: 7 count 3 0 => another form
+G2: 7 select 3 lr, 3 count 4 0 => select [=(c2,i7)] (group 0 +9 (select [=(c0,i7)] (4)))
+G2: 7 select 3 m, 3 group 4 0 2 => group 0 2 (select [=(c0,c2)] (4))
+G2: 7 select 3 lex, 3 count 4 0 2 => select [exists(6);in(c0,6,c4)] (group 0 2 +9 (select [=(c0,i7)] (4)))
+G2: 7 select 3 k, 3 count 4 0 => group 0 +9 (select [=(i1,i2)] (4))
+G2: 7 select 3 k, 3 count 4 => the condition fails
+G2: 7 select 3 l, 3 count 4 => another form
+G2: 7 select 3 m, 3 count 4 0 => another form
+G2: 7 select 3 l, 3 keep 4 0 => another form";
     const OUTER_JOINS: &str =
         "O1: 7 select 3 r, 3 left 0 1 m => select [=(c2,i7)] (join [=(c0,c2)] (0) (1))
 O1: 7 select 4 lrx, 3 left 0 1 m => select [=(c0,i7);=(c2,i7);exists(6)] (join [=(c0,c2)] (0) (1))
@@ -349,9 +357,9 @@ U12 pick 1: 7 semi 1 0 m => another form";
 #[test]
 fn rules_are_found(rt: HostRuntime) {
     for code in [
-        "J1", "J2", "S1", "S2", "S3", "S4", "S5", "K1", "K2", "K3", "D1", "G1", "O1", "O2", "O3",
-        "O4", "O5", "O6", "O7", "U1", "U2", "U3", "U4", "U5", "U6", "U7", "U8", "U9", "U10", "U11",
-        "U12",
+        "J1", "J2", "S1", "S2", "S3", "S4", "S5", "K1", "K2", "K3", "D1", "G1", "G2", "O1", "O2",
+        "O3", "O4", "O5", "O6", "O7", "U1", "U2", "U3", "U4", "U5", "U6", "U7", "U8", "U9", "U10",
+        "U11", "U12",
     ] {
         assert_eq!(rt; RuleName::of_code(code).map(|rule| rule.code()), Some(code));
     }

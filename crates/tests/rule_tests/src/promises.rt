@@ -77,6 +77,7 @@ K2: 7 keep 1 2 => simpler
 K3: 7 keep 3 1 3, 3 join 0 1 m => a projection more
 D1: 7 distinct 1 => simpler
 G1: 7 group 3 0 2 => simpler
+G2: 7 select 3 l, 3 count 4 0 => simpler
 O1: 7 select 3 r, 3 left 0 1 m => simpler
 O1: 7 select 3 l, 3 left 0 1 m => simpler
 O2: 7 select 3 l, 3 left 0 1 m => simpler

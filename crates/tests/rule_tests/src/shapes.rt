@@ -1,7 +1,7 @@
 //! Shapes as texts: an operator, its lists and columns, and its inputs in parentheses; a class by its number.
 
 use algebra::condition_text::condition_text;
-use algebra::{Columns, Conjuncts};
+use algebra::{Aggregations, Columns, Conjuncts};
 use fixtures::push_number;
 use rules::Shape;
 use std::alloc::{AllocError, Global};
@@ -22,6 +22,14 @@ pub fn push_conjuncts(
 fn push_columns(reported: &mut String, columns: &Columns) -> Result<(), AllocError> {
     for column in columns.as_slice() {
         push_number(reported, " ", *column as usize)?;
+    }
+    Ok(())
+}
+
+/// Adds the columns of aggregates, each behind a `+`.
+fn push_added(reported: &mut String, added: &Aggregations) -> Result<(), AllocError> {
+    for aggregation in added.as_slice() {
+        push_number(reported, " +", aggregation.column as usize)?;
     }
     Ok(())
 }
@@ -81,6 +89,12 @@ pub fn push_shape(alloc: Global, reported: &mut String, shape: &Shape) -> Result
         }
         Shape::Distinct(x) => {
             reported.push_str("distinct")?;
+            push_input(alloc, reported, x.get())
+        }
+        Shape::Group(k, added, x) => {
+            reported.push_str("group")?;
+            push_columns(reported, k)?;
+            push_added(reported, added)?;
             push_input(alloc, reported, x.get())
         }
     }

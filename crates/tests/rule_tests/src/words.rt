@@ -62,7 +62,7 @@ fn is_seven(column: ColumnId) -> Condition {
 /// class 0 and of the class 1 and one of the class 2; `n` is IS NULL of a column of the class 0, `e` its IN among the class 6; `z` and `w`
 /// are IS NULL of the columns of the class 1; `x` is EXISTS of the class 6, which has the free column 2. `y` and `i` are EXISTS and IN of the class 2,
 /// which has none; `f` asks it for a column that is another class's, `g` for one of its own for the other. `o` compares a column of the class 0 with
-/// itself, `d` with NULL.
+/// itself, `d` with NULL, and `k` a number with another one.
 fn plain_condition(letter: char) -> Condition {
     match letter {
         'l' => is_seven(0),
@@ -75,6 +75,11 @@ fn plain_condition(letter: char) -> Condition {
             Comparison::Equal,
             Term::Column(0),
             Term::Literal(Literal::null()),
+        ),
+        'k' => Condition::Compare(
+            Comparison::Equal,
+            Term::Literal(Literal::number(1)),
+            Term::Literal(Literal::number(2)),
         ),
         'n' => Condition::IsNull(Term::Column(0)),
         'z' => Condition::IsNull(Term::Column(2)),

@@ -3,7 +3,7 @@ use Rattle.props.specs.Knowledge.{Knowledge}
 use Rattle.rules.specs.declared.shape.Shape.{Shape}
 use Rattle.derivation.specs.Logs.{knowledge}
 use Rattle.closure.specs.Operators.{StandsAs}
-use Rattle.closure.proofs.Unique.{stands_class, stands_select, stands_join, stands_left_join, stands_semi, stands_anti, stands_keep, stands_distinct}
+use Rattle.closure.proofs.Unique.{stands_class, stands_select, stands_join, stands_left_join, stands_semi, stands_anti, stands_keep, stands_distinct, stands_group}
 use Rattle.closure.proofs.standing.+class_of.Goals as goal
 
 pub returns-in-Class : goal.returns-in-Class
@@ -59,3 +59,9 @@ returns-in_ok-found-in-Distinct t c =
     let K : Knowledge = knowledge c.args.log.now.instances c.args.log.now.log in
     subst (λ (s : Shape). StandsAs K c.args.log.now.log s c.in_ok-found-in-Distinct.found) (sym c.in-Distinct.is)
     (stands_distinct c.args.log.now.instances c.args.log.now.log c.requires.united c.in-Distinct.x _ _ (subst (λ (s : Shape). StandsAs K c.args.log.now.log s c.in_ok-x-in-Distinct.x) c.get-in-Distinct.ensures c.in_ok-x-in-Distinct.ensures) c.in_ok-found-in-Distinct.ensures)
+
+pub returns-in_ok-found-in-Group : goal.returns-in_ok-found-in-Group
+returns-in_ok-found-in-Group t c =
+    let K : Knowledge = knowledge c.args.log.now.instances c.args.log.now.log in
+    subst (λ (s : Shape). StandsAs K c.args.log.now.log s c.in_ok-found-in-Group.found) (sym c.in-Group.is)
+    (stands_group c.args.log.now.instances c.args.log.now.log c.requires.united _ _ c.in-Group.x _ _ (subst (λ (s : Shape). StandsAs K c.args.log.now.log s c.in_ok-x-in-Group.x) c.get-in-Group.ensures c.in_ok-x-in-Group.ensures) c.in_ok-found-in-Group.ensures)

@@ -1,7 +1,7 @@
 use Rattle.std.proofs.Common.{◌≡◌, ap, sym, ◌∙◌, ◌+◌, arith}
 use Rattle.rules.specs.declared.shape.Shape.{Shape}
 use Rattle.bindings.specs.Shallow.{operator_count}
-use Rattle.lean_logs.proofs.Counts.{same_none, same_room, class_counts, select_counts, keep_counts, distinct_counts, join_counts, left_join_counts, semi_counts, anti_counts}
+use Rattle.lean_logs.proofs.Counts.{same_none, same_room, class_counts, select_counts, keep_counts, distinct_counts, group_counts, join_counts, left_join_counts, semi_counts, anti_counts}
 use Rattle.lean_logs.proofs.given_results.+counting.Goals as goal
 
 pub room_behind-returns-in-Class-clause-some : goal.room_behind-returns-in-Class-clause-some
@@ -24,6 +24,12 @@ room_behind-returns-in-Distinct-clause-some t c = same_room _ _ c.args.room c.ro
 
 pub room_behind-returns-in-Distinct-clause-none : goal.room_behind-returns-in-Distinct-clause-none
 room_behind-returns-in-Distinct-clause-none t c = same_none _ _ c.args.room c.room_over-in-Distinct.result (ap operator_count c.in-Distinct.is ∙ distinct_counts c.in-Distinct.x ∙ ap (λ (s : Shape). 1 + operator_count s) (sym c.get-in-Distinct.ensures)) c.room_over-in-Distinct.ensures.none
+
+pub room_behind-returns-in-Group-clause-some : goal.room_behind-returns-in-Group-clause-some
+room_behind-returns-in-Group-clause-some t c = same_room _ _ c.args.room c.room_over-in-Group.result (ap operator_count c.in-Group.is ∙ group_counts c.in-Group.field-0 c.in-Group.field-1 c.in-Group.x ∙ ap (λ (s : Shape). 1 + operator_count s) (sym c.get-in-Group.ensures)) c.room_over-in-Group.ensures.some
+
+pub room_behind-returns-in-Group-clause-none : goal.room_behind-returns-in-Group-clause-none
+room_behind-returns-in-Group-clause-none t c = same_none _ _ c.args.room c.room_over-in-Group.result (ap operator_count c.in-Group.is ∙ group_counts c.in-Group.field-0 c.in-Group.field-1 c.in-Group.x ∙ ap (λ (s : Shape). 1 + operator_count s) (sym c.get-in-Group.ensures)) c.room_over-in-Group.ensures.none
 
 pub room_behind-returns-in-Join-clause-some : goal.room_behind-returns-in-Join-clause-some
 room_behind-returns-in-Join-clause-some t c = same_room _ _ c.args.room c.room_over_both.result
