@@ -116,6 +116,13 @@ def sqlite_database(tables, contents):
     return database
 
 
+def takes_having_alone():
+    """Whether sqlite3 takes a HAVING without GROUP BY, which it does from 3.39 on."""
+    import sqlite3
+
+    return sqlite3.sqlite_version_info >= (3, 39)
+
+
 def sqlite_rows(database, query):
     """sqlite3's answer, as lists of fields."""
     return [list(map(field_of, row)) for row in database.execute(query)]

@@ -2,7 +2,7 @@
 
 import json
 
-from common import Column, Table
+from common import Column, Table, takes_having_alone
 
 TABLES = [
     Table("r", [Column("a", "INT", False), Column("b", "INT", False), Column("t", "TEXT", False)], [], [["a"], ["b", "a"], ["t"]]),
@@ -62,12 +62,14 @@ class Maker:
     """Makes one query. Its table instances have names of their own, so each qualified name means one column.
 
     `equated` is how often a join's ON equates columns of both sides, `pinned` how often a WHERE compares a column with a literal, and `conditions` how
-    often there is any other condition, on top of these. `inner` is how many joins of an ON are inner ones.
+    often there is any other condition, on top of these. `inner` is how many joins of an ON are inner ones. `grouped` is how many SELECTs have groups, and
+    `having` how many of these a HAVING.
     """
 
-    def __init__(self, rng, tables=None, equated=0.0, pinned=0.0, conditions=0.7, inner=0.33):
+    def __init__(self, rng, tables=None, equated=0.0, pinned=0.0, conditions=0.7, inner=0.33, grouped=0.35, having=0.4):
         self.rng, self.tables, self.made = rng, tables or TABLES, 0
         self.equated, self.pinned, self.conditions, self.inner = equated, pinned, conditions, inner
+        self.grouped, self.having = grouped, having
 
     def table(self):
         table, self.made = self.rng.choice(self.tables), self.made + 1
@@ -136,11 +138,46 @@ class Maker:
         counted = [c[0] for c in own if c[1] == kind]
         if plain and not (grouped and self.rng.random() < 0.6):
             return self.rng.choice(plain)
-        if not grouped:
-            return self.rng.choice(counted)
+        return self.aggregate(own, kind) if grouped else self.rng.choice(counted)
+
+    def aggregate(self, own, kind):
+        """An aggregate of this kind, of a column of the own FROM."""
         functions = ["MIN", "MAX"] + (["SUM", "COUNT", "*"] if kind == "INT" else [])
         function = self.rng.choice(functions)
-        return "COUNT(*)" if function == "*" else f"{function}({self.rng.choice(counted)})"
+        if function == "*":
+            return "COUNT(*)"
+        return f"{function}({self.rng.choice([name for name, its in own if its == kind or function == 'COUNT'])})"
+
+    def of_group(self, own, keys, kind):
+        """A term of a HAVING: an aggregate, a column of the GROUP BY or a literal."""
+        if self.rng.random() < 0.5:
+            return self.aggregate(own, kind)
+        return self.term(keys, kind)
+
+    def test_of_group(self, own, keys):
+        """A comparison or a test for Null of a HAVING; often of keys alone."""
+        kind = self.rng.choice(["INT", "INT", "TEXT"])
+        if keys and self.rng.random() < 0.3:
+            return self.comparison(keys)
+        left = self.of_group(own, keys, kind)
+        if self.rng.random() < 0.25:
+            return f"{left} IS {self.rng.choice(['', 'NOT '])}NULL"
+        return f"{left} {self.rng.choice(COMPARISONS)} {self.of_group(own, keys, kind)}"
+
+    def condition_of_group(self, own, keys, size=2):
+        if size == 0 or self.rng.random() < 0.4:
+            return self.test_of_group(own, keys)
+        if self.rng.random() < 0.25:
+            return f"NOT ({self.condition_of_group(own, keys, size - 1)})"
+        parts = [self.condition_of_group(own, keys, size - 1) for _ in range(2)]
+        return "(" + self.rng.choice([" AND ", " OR "]).join(parts) + ")"
+
+    def having_of(self, own, keys):
+        """The HAVING of a grouped SELECT, if it has one. Mostly its conjuncts stand at the top."""
+        if self.rng.random() >= self.having or not (keys or takes_having_alone()):
+            return ""
+        parts = [self.condition_of_group(own, keys) for _ in range(self.rng.choice([1, 1, 2]))]
+        return " HAVING " + " AND ".join(parts)
 
     def where(self, chains, own, outer, depth):
         """The WHERE, if there is one. Of two chains it mostly equates columns where ONs do."""
@@ -153,13 +190,14 @@ class Maker:
         return " WHERE " + " AND ".join(parts) if parts else ""
 
     def grouping(self, own, outer, wanted):
-        """The items and the GROUP BY."""
-        grouped = self.rng.random() < 0.35
+        """The items, and the GROUP BY with the HAVING."""
+        grouped = self.rng.random() < self.grouped
         keys = self.rng.sample(own, self.rng.randint(0, 2)) if grouped else []
         items = self.items(own, outer, grouped, keys, wanted)
         if grouped and not keys and not any("(" in item for item in items):
             items[0] = {"INT": "COUNT(*)", "TEXT": f"MIN({next(c for c, k in own if k == 'TEXT')})"}[wanted or "INT"]
-        return items, " GROUP BY " + ", ".join(key for key, _ in keys) if keys else ""
+        having = self.having_of(own, keys) if grouped else ""
+        return items, (" GROUP BY " + ", ".join(key for key, _ in keys) if keys else "") + having
 
     def select(self, outer=(), depth=2, wanted=None, outermost=False, of_one=False):
         """A SELECT, within the tables around it, of the wanted kind behind IN; of one table, where that is asked."""

@@ -73,6 +73,7 @@ def fault(program, query, contents, wanted, statistics, counts):
     nodes = planned.output.split("\nplan ")[1].split("\n")
     counts["joined"] += any(word in JOINED for node in nodes for word in node.split())
     counts["filters"] += any(node.startswith("filtersub ") for node in nodes)
+    counts["below groups"] += " G2 " in planned.output
     counts["rows"] += len(wanted)
     return ""
 

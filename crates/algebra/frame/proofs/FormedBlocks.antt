@@ -3,7 +3,8 @@ use Rattle.std.proofs.Common.{◌≡◌, refl, ap, sym, ◌∙◌, subst, ℕ, �
 use Rattle.std.specs.Prelude.{slice_index_or}
 use Rattle.std.specs.List.{list_all, list_any, AllByRecursion}
 use Rattle.std.proofs.lemmas.Bool.{and_parts, and_from, or_parts, eq-eqb, eqb-true, lt-ltb, ltb-true, or_left, or_right, cond_both, cond-true, not_from_false, not-true, false≢true}
-use Rattle.std.proofs.lemmas.List.Folds.{list_any-append}
+use Rattle.std.proofs.lemmas.List.Folds.{list_all-append, list_any-append}
+use mathlib.Core.List.{map-append}
 use Rattle.query.specs.declared.query.Column.{Column}
 use Rattle.query.specs.declared.query.Aggregate.{Aggregate}
 use Rattle.query.specs.declared.query.Aggregate.TheVariants as by
@@ -12,7 +13,7 @@ use Rattle.query.specs.declared.query.Item.TheVariants as item
 use Rattle.query.specs.declared.query.TableInstance.{TableInstance}
 use Rattle.query.specs.declared.query.Cond.{Cond}
 use Rattle.query.specs.declared.query.Block.{Block}
-use Rattle.query.specs.Bound.{Scope, BlockScope, number, number_at, names, is_among, all_differ, aggregate_numbers, bound_aggregate, bound_item, bound_group_item, bound_items, bound_filter, cond_scope, from_scope}
+use Rattle.query.specs.Bound.{Scope, having_scope, BlockScope, number, number_at, names, is_among, all_differ, aggregate_numbers, bound_aggregate, bound_item, bound_group_item, bound_items, bound_filter, cond_scope, from_scope, item_number}
 use Rattle.query.proofs.ScopeEquations.{scope-Block}
 use Rattle.algebra.specs.declared.expr.Aggregation.{Aggregation}
 use Rattle.algebra.specs.declared.expr.Expr.{Expr}
@@ -23,11 +24,12 @@ use Rattle.algebra.specs.Equality.{same_aggregation}
 use Rattle.algebra.specs.Expressions.{is_query_column, is_formed, aggregate_reads, aggregate_columns, aggregation_formed, are_different}
 use Rattle.algebra.specs.Classes.{class_columns, AreFormed}
 use Rattle.frame.specs.Frames as frame
-use Rattle.frame.specs.Frames.{CondLines, BlockFrame, cond_frame, from_frame, where_lines, group_lines, keep_lines, distinct_lines, key_columns, aggregations, numbered_aggregate, item_number, own_numbers, kept, last}
+use Rattle.frame.specs.Frames.{CondLines, BlockFrame, cond_frame, from_frame, select_lines, group_lines, keep_lines, distinct_lines, key_columns, aggregations, numbered_aggregate, own_numbers, kept, last}
 use Rattle.frame.proofs.FormedParts.{all-three, AllOwn, among_own, GroupsOwn, groups-before, number-own, FormedCond, FormedBlock, CondFormed, FromFormed, BlockFormed}
 use Rattle.frame.proofs.FrameEquations.{frame-Block}
 use Rattle.frame.proofs.FrameGroups.{place-has, key-has, key-below}
-use Rattle.frame.proofs.FrameShapes.{end-grows, FromShape, CondShape, WhereShape, BoundParts, cond-shape, from-shape, where-shape, bound-parts}
+use Rattle.frame.proofs.FrameShapes.{end-grows, CondShape, BoundParts, Stages, cond-shape, bound-parts, bound-left, filtered, grouped, asked, stages-of}
+use Rattle.frame.proofs.Shown.{all_parts}
 use Rattle.frame.proofs.Growth.{grows-none, grows-longer, grows-some, top-columns, last-below}
 use Rattle.frame.proofs.Induction.{OfFilter}
 use Rattle.algebra.proofs.AggregateLists.{has-ordered, different-ordered, each-ordered}
@@ -35,7 +37,7 @@ use Rattle.algebra.proofs.ConnectiveParts.{conjuncts-columns, conjuncts-classes}
 use Rattle.algebra.proofs.Puts.{differ-left, differ-right}
 use Rattle.algebra.proofs.Same.{equal_aggregation}
 use Rattle.algebra.proofs.Sets.{has-rising}
-use Rattle.algebra.proofs.MentionedColumns.{all-rising}
+use Rattle.algebra.proofs.MentionedColumns.{all-rising, each_has}
 
 -- ---- aggregates
 
@@ -116,10 +118,10 @@ kept-all p scope items all = all-rising p (own_numbers scope items) ∙ listed i
     listed (i ∷ its) all = cond_both (frame.is_block_item i) _ _ (λ ks. list_all p ks ≡ true) (λ is. and_from _ _ (all.0 is) (listed its all.1)) (λ isnt. listed its all.1)
 
 module _ (instances : List TableInstance) (own : List Aggregation) where
-  -- ---- WHERE
+  -- ---- WHERE and HAVING
 
   where-formed : (o : Option Cond) (inner : Scope) (A : List Expr) → OfFilter (CondFormed instances own) (FromFormed instances own) (BlockFormed instances own) o → AllOwn instances own inner → AreFormed instances own A → 0 < length A
-      → bound_filter (option_map (cond_scope instances) o) inner ≡ true → GroupsOwn instances own (where_lines (option_map (cond_frame instances) o) inner A) → AreFormed instances own (where_lines (option_map (cond_frame instances) o) inner A)
+      → bound_filter (option_map (cond_scope instances) o) inner ≡ true → GroupsOwn instances own (select_lines (option_map (cond_frame instances) o) inner A) → AreFormed instances own (select_lines (option_map (cond_frame instances) o) inner A)
   where-formed None inner A is_formed all formed some bound groups = formed
   where-formed (Some c) inner A is_formed all formed some bound groups =
       let framed : CondLines = cond_frame instances c inner A in
@@ -182,25 +184,25 @@ module _ (instances : List TableInstance) (own : List Aggregation) where
     plain-kept (item.Aggregate n a ∷ items) bound = absurd (false≢true bound)
 
     -- the columns of a Group are its keys' and its aggregates'
-    abbrev grouped : List ℕ → List Item → List ℕ
-    grouped keys items = rising (key_columns numbers keys ++ aggregate_columns (by_column (aggregations numbers items)))
+    abbrev group_columns : List ℕ → List Item → List ℕ
+    group_columns keys items = rising (key_columns numbers keys ++ aggregate_columns (by_column (aggregations numbers items)))
 
-    grouped-has : (keys : List ℕ) (items : List Item) (c : ℕ) → has (grouped keys items) c ≡ (has (map (number_at numbers) keys) c || has (aggregate_numbers items) c)
-    grouped-has keys items c =
+    group-has : (keys : List ℕ) (items : List Item) (c : ℕ) → has (group_columns keys items) c ≡ (has (map (number_at numbers) keys) c || has (aggregate_numbers items) c)
+    group-has keys items c =
         has-rising c (key_columns numbers keys ++ aggregate_columns (by_column (aggregations numbers items))) ∙ list_any-append (λ k. k == c) (key_columns numbers keys) (aggregate_columns (by_column (aggregations numbers items)))
         ∙ rw (has-rising c (map (number_at numbers) keys), has-ordered (aggregations numbers items) c, columns-are numbers items) refl
 
     group-kept : (keys : List ℕ) (items its : List Item) → AllByRecursion (HasNumber items) its → list_all (bound_group_item (length numbers) keys (numbers ∷ scope)) its ≡ true
-        → AllByRecursion (λ i. frame.is_block_item i ≡ true → has (grouped keys items) (item_number (numbers ∷ scope) i) ≡ true) its
+        → AllByRecursion (λ i. frame.is_block_item i ≡ true → has (group_columns keys items) (item_number (numbers ∷ scope) i) ≡ true) its
     group-kept keys items [] have bound = tt
     group-kept keys items (item.Column c ∷ its) have bound =
         let parts = and_parts (bound_group_item (length numbers) keys (numbers ∷ scope) (item.Column c)) _ bound in (
           λ is. let key : is_among c.place keys ≡ true = sym (cond-true _ _ _ is) ∙ parts.0 in
-              ap (has (grouped keys items)) (own-number numbers scope c is) ∙ grouped-has keys items (number_at numbers c.place) ∙ or_left _ _ (key-has numbers keys c.place key),
+              ap (has (group_columns keys items)) (own-number numbers scope c is) ∙ group-has keys items (number_at numbers c.place) ∙ or_left _ _ (key-has numbers keys c.place key),
           group-kept keys items its have.1 parts.1,
         )
     group-kept keys items (item.Aggregate n a ∷ its) have bound =
-        (λ is. grouped-has keys items n ∙ or_right (has (map (number_at numbers) keys) n) _ have.0, group-kept keys items its have.1 (and_parts (bound_aggregate (length numbers) a) _ bound).1)
+        (λ is. group-has keys items n ∙ or_right (has (map (number_at numbers) keys) n) _ have.0, group-kept keys items its have.1 (and_parts (bound_aggregate (length numbers) a) _ bound).1)
 
     -- ---- the last lines
 
@@ -212,22 +214,23 @@ module _ (instances : List TableInstance) (own : List Aggregation) where
     distinct-formed false G some formed = formed
     distinct-formed true G some formed = (rw (lt-ltb (last G) (length G) (last-below G some)) refl, refl, formed)
 
-    without-distinct : (twice : Bool) (G : List Expr) → GroupsOwn instances own (distinct_lines twice G) → GroupsOwn instances own G
-    without-distinct false G groups = groups
-    without-distinct true G groups = groups.1
-
-    end-formed : (twice is_grouped : Bool) (keys : List ℕ) (items : List Item) → all_differ (aggregate_numbers items ++ numbers) ≡ true → bound_items is_grouped (length numbers) keys items (numbers ∷ scope) ≡ true
-        → AreFormed instances own B → GroupsOwn instances own (distinct_lines twice (keep_lines (numbers ∷ scope) items (group_lines is_grouped numbers keys items B)))
-        → AreFormed instances own (distinct_lines twice (keep_lines (numbers ∷ scope) items (group_lines is_grouped numbers keys items B)))
-    end-formed twice false keys items differ bound formed groups = distinct-formed twice (keep_lines (numbers ∷ scope) items B) (omega arith) (keep-formed items B some formed (plain-kept items bound))
-    end-formed twice true keys items differ bound formed groups =
+    -- the lines of a Group, where there is one
+    groups-formed : (is_grouped : Bool) (keys : List ℕ) (items : List Item) → all_differ (aggregate_numbers items ++ numbers) ≡ true → bound_items is_grouped (length numbers) keys items (numbers ∷ scope) ≡ true
+        → AreFormed instances own B → GroupsOwn instances own (group_lines is_grouped numbers keys items B) → AreFormed instances own (group_lines is_grouped numbers keys items B)
+    groups-formed false keys items differ bound formed groups = formed
+    groups-formed true keys items differ bound formed groups =
         let parts = and_parts (list_all (λ k. nat_lt k (length numbers)) keys) _ bound in
+        let among : among_own instances own (aggregations numbers items) ≡ true = among-ordered instances own numbers items (apart numbers items numbers differ) groups.0 in
+        (rw (lt-ltb (last B) (length B) (last-below B some)) refl, group-formed keys items parts.0 differ parts.1 among, formed)
+
+    -- their last class has the numbers of the block's own items
+    groups-kept : (is_grouped : Bool) (keys : List ℕ) (items its : List Item) → AllByRecursion (HasNumber items) its → bound_items is_grouped (length numbers) keys its (numbers ∷ scope) ≡ true
+        → AllByRecursion (λ i. frame.is_block_item i ≡ true → has (class_columns instances (group_lines is_grouped numbers keys items B) (last (group_lines is_grouped numbers keys items B))) (item_number (numbers ∷ scope) i) ≡ true) its
+    groups-kept false keys items its have bound = plain-kept its bound
+    groups-kept true keys items its have bound =
         let top : Expr = Group (key_columns numbers keys) (by_column (aggregations numbers items)) (last B) in
-        let among : among_own instances own (aggregations numbers items) ≡ true = among-ordered instances own numbers items (apart numbers items numbers differ) (without-distinct twice (keep_lines (numbers ∷ scope) items (top ∷ B)) groups).1.0 in
-        let kept_columns : AllByRecursion (λ i. frame.is_block_item i ≡ true → has (class_columns instances (top ∷ B) (length B)) (item_number (numbers ∷ scope) i) ≡ true) items =
-        subst (λ cs. AllByRecursion (λ i. frame.is_block_item i ≡ true → has cs (item_number (numbers ∷ scope) i) ≡ true) items) (sym (top-columns instances top B)) (group-kept keys items items (have-numbers items) parts.1) in
-        distinct-formed twice (keep_lines (numbers ∷ scope) items (top ∷ B)) (omega arith)
-        (keep-formed items (top ∷ B) (omega arith) (rw (lt-ltb (last B) (length B) (last-below B some)) refl, group-formed keys items parts.0 differ parts.1 among, formed) kept_columns)
+        subst (λ cs. AllByRecursion (λ i. frame.is_block_item i ≡ true → has cs (item_number (numbers ∷ scope) i) ≡ true) its) (sym (top-columns instances top B))
+        (group-kept keys items its have (and_parts (list_all (λ k. nat_lt k (length numbers)) keys) _ bound).1)
 
   -- ---- what is shown
 
@@ -247,15 +250,12 @@ module _ (instances : List TableInstance) (own : List Aggregation) where
       let listed = and_parts (list_any (same_aggregation a_own) own) _ among in
       and_from _ _ (or_right _ _ (aggregate-own own a_own listed.0)) (group-shown numbers keys scope all below items (and_parts (bound_aggregate (length numbers) a) _ bound).1 listed.1)
 
-  end-shown : (twice is_grouped : Bool) (numbers keys : List ℕ) (scope : Scope) (items : List Item) (B : List Expr) → AllOwn instances own (numbers ∷ scope) → all_differ (aggregate_numbers items ++ numbers) ≡ true → bound_items is_grouped (length numbers) keys items (numbers ∷ scope) ≡ true
-      → GroupsOwn instances own (distinct_lines twice (keep_lines (numbers ∷ scope) items (group_lines is_grouped numbers keys items B))) → list_all (is_query_column instances own) (map (item_number (numbers ∷ scope)) items) ≡ true
-  end-shown twice false numbers keys scope items B all differ bound groups = plain-shown (numbers ∷ scope) all items bound
-  end-shown false true numbers keys scope items B all differ bound groups =
+  groups-shown : (is_grouped : Bool) (numbers keys : List ℕ) (scope : Scope) (items : List Item) (B : List Expr) → AllOwn instances own (numbers ∷ scope) → all_differ (aggregate_numbers items ++ numbers) ≡ true → bound_items is_grouped (length numbers) keys items (numbers ∷ scope) ≡ true
+      → GroupsOwn instances own (group_lines is_grouped numbers keys items B) → list_all (is_query_column instances own) (map (item_number (numbers ∷ scope)) items) ≡ true
+  groups-shown false numbers keys scope items B all differ bound groups = plain-shown (numbers ∷ scope) all items bound
+  groups-shown true numbers keys scope items B all differ bound groups =
       let parts = and_parts (list_all (λ k. nat_lt k (length numbers)) keys) _ bound in
-      group-shown numbers keys scope all parts.0 items parts.1 (among-ordered instances own numbers items (apart numbers items numbers differ) groups.1.0)
-  end-shown true true numbers keys scope items B all differ bound groups =
-      let parts = and_parts (list_all (λ k. nat_lt k (length numbers)) keys) _ bound in
-      group-shown numbers keys scope all parts.0 items parts.1 (among-ordered instances own numbers items (apart numbers items numbers differ) groups.1.1.0)
+      group-shown numbers keys scope all parts.0 items parts.1 (among-ordered instances own numbers items (apart numbers items numbers differ) groups.0)
 
   -- ---- blocks
 
@@ -263,22 +263,36 @@ module _ (instances : List TableInstance) (own : List Aggregation) where
       → s.bound scope ≡ true → GroupsOwn instances own (f.lines scope E) → FormedBlock instances own f scope E
   block-as f g s t scope E is as_ h = rw (is, as_) h
 
-  pub formed-Block : (q : Block) → FromFormed instances own q.from → OfFilter (CondFormed instances own) (FromFormed instances own) (BlockFormed instances own) q.filter → BlockFormed instances own q
-  formed-Block q from_formed filter_formed scope E all formed =
+  pub formed-Block : (q : Block) → FromFormed instances own q.from → OfFilter (CondFormed instances own) (FromFormed instances own) (BlockFormed instances own) q.filter → OfFilter (CondFormed instances own) (FromFormed instances own) (BlockFormed instances own) q.having → BlockFormed instances own q
+  formed-Block q from_formed filter_formed having_formed scope E all formed =
       let numbers : List ℕ = (from_frame instances q.from).numbers in
+      let inner : Scope = numbers ∷ scope in
+      let items : List Item = q.items ++ q.having_items in
       let A : List Expr = (from_frame instances q.from).lines scope E in
-      let B : List Expr = where_lines (option_map (cond_frame instances) q.filter) (numbers ∷ scope) A in
-      let G : List Expr = group_lines q.grouped numbers q.keys q.items B in
-      let first : FromShape instances (from_frame instances q.from) (from_scope instances q.from) scope E = from-shape instances q.from scope E in
-      let second : WhereShape instances q.filter (numbers ∷ scope) A = where-shape instances q.filter (numbers ∷ scope) A first.some in
-      let inner : AllOwn instances own (numbers ∷ scope) = (λ c in_. or_left _ _ (first.used c in_), all) in
+      let B : List Expr = filtered instances q scope E in
+      let G : List Expr = grouped instances q scope E in
+      let H : List Expr = asked instances q scope E in
+      let stages : Stages instances q scope E = stages-of instances q scope E in
+      let inner_own : AllOwn instances own inner = (λ c in_. or_left _ _ (stages.from.used c in_), all) in
+      let columns : (c : ℕ) → has (class_columns instances B (last B)) c ≡ has numbers c = λ c. ap (λ ns. has ns c) stages.where_.columns ∙ stages.from.columns c in
       block-as _ _ _ _ scope E (frame-Block instances q) (scope-Block instances q) (λ bound groups.
       let parts : BoundParts instances q scope = bound-parts instances q scope bound in
-      let differ : all_differ (aggregate_numbers q.items ++ numbers) ≡ true = (and_parts (all_differ (aggregate_numbers q.items ++ numbers)) _ parts.new).0 in
-      let behind : GroupsOwn instances own B = groups-before instances own (distinct_lines q.distinct (keep_lines (numbers ∷ scope) q.items G)) B (end-grows q.distinct q.grouped (numbers ∷ scope) numbers q.keys q.items B B (grows-none B)) groups in
-      let source : AreFormed instances own A = from_formed scope E all formed parts.from (differ-right (aggregate_numbers q.items) numbers differ) (groups-before instances own B A second.grows behind) in
-      let filtered : AreFormed instances own B = where-formed q.filter (numbers ∷ scope) A filter_formed inner source first.some parts.filter behind in
+      let differ : all_differ (aggregate_numbers items ++ numbers) ≡ true = (and_parts (all_differ (aggregate_numbers items ++ numbers)) _ parts.new).0 in
+      let asked_own : GroupsOwn instances own H = groups-before instances own (distinct_lines q.distinct (keep_lines inner q.items H)) H (end-grows q.distinct inner q.items H H (grows-none H)) groups in
+      let groups_own : GroupsOwn instances own G = groups-before instances own H G stages.having.grows asked_own in
+      let behind : GroupsOwn instances own B = groups-before instances own H B stages.behind asked_own in
+      let source : AreFormed instances own A = from_formed scope E all formed parts.from (differ-right (aggregate_numbers items) numbers differ) (groups-before instances own B A stages.where_.grows behind) in
+      let selected : AreFormed instances own B = where-formed q.filter inner A filter_formed inner_own source stages.from.some parts.filter behind in
+      let grouped_formed : AreFormed instances own G = groups-formed numbers scope B stages.filtered_some columns q.grouped q.keys items differ parts.items selected groups_own in
+      let shown : list_all (is_query_column instances own) (map (item_number inner) q.items ++ map (item_number inner) q.having_items) ≡ true =
+      sym (ap (list_all (is_query_column instances own)) (map-append (item_number inner) q.items q.having_items)) ∙ groups-shown q.grouped numbers q.keys scope items B inner_own differ parts.items groups_own in
+      let both = and_parts (list_all (is_query_column instances own) (map (item_number inner) q.items)) _ (sym (list_all-append (is_query_column instances own) (map (item_number inner) q.items) (map (item_number inner) q.having_items)) ∙ shown) in
+      let asked_formed : AreFormed instances own H = where-formed q.having (having_scope inner q.having_items) G having_formed (each_has (is_query_column instances own) (map (item_number inner) q.having_items) both.1, tt) grouped_formed stages.grouped_some parts.having asked_own in
+      let kept_columns : AllByRecursion (λ i. frame.is_block_item i ≡ true → has (class_columns instances G (last G)) (item_number inner i) ≡ true) q.items =
+      groups-kept numbers scope B stages.filtered_some columns q.grouped q.keys items q.items (all_parts (HasNumber items) q.items q.having_items (have-numbers items)).0 (bound-left q.grouped (length numbers) q.keys q.items q.having_items inner parts.items) in
       record {
-        lines = end-formed numbers scope B (grows-some B A second.grows first.some) (λ k. ap (λ ns. has ns k) second.columns ∙ first.columns k) q.distinct q.grouped q.keys q.items differ parts.items filtered groups;
-        shown = end-shown q.distinct q.grouped numbers q.keys scope q.items B inner differ parts.items groups;
+        lines = distinct-formed numbers scope B stages.filtered_some columns q.distinct (keep_lines inner q.items H) (omega arith)
+            (keep-formed numbers scope B stages.filtered_some columns q.items H (grows-some H G stages.having.grows stages.grouped_some) asked_formed
+            (subst (λ cs. AllByRecursion (λ i. frame.is_block_item i ≡ true → has cs (item_number inner i) ≡ true) q.items) (sym stages.having.columns) kept_columns));
+        shown = both.0;
       })

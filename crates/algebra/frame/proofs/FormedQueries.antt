@@ -11,7 +11,7 @@ use Rattle.query.specs.declared.query.Item.{Item}
 use Rattle.query.specs.declared.query.Item.TheVariants as item
 use Rattle.query.specs.declared.query.TableInstance.{TableInstance}
 use Rattle.query.specs.declared.query.Block.{Block}
-use Rattle.query.specs.Bound.{Scope, names, is_among, bound_aggregate, bound_item, bound_group_item, bound_items, block_scope}
+use Rattle.query.specs.Bound.{Scope, names, is_among, bound_aggregate, bound_item, bound_group_item, bound_items, block_scope, item_number}
 use Rattle.query.proofs.ScopeEquations.{scope-Block}
 use Rattle.algebra.specs.declared.expr.Aggregation.{Aggregation}
 use Rattle.algebra.specs.declared.expr.Expr.{Expr}
@@ -21,13 +21,13 @@ use Rattle.algebra.specs.Equality.{same_aggregation}
 use Rattle.algebra.specs.Classes.{class_columns, AreFormed}
 use Rattle.frame.specs.FormedFrames.{group_aggregates, own_aggregates, FramesAreFormed}
 use Rattle.frame.specs.Frames as frame
-use Rattle.frame.specs.Frames.{cond_frame, from_frame, block_frame, where_lines, group_lines, keep_lines, distinct_lines, item_number, own_numbers, kept, last, query_frame, query_numbers}
+use Rattle.frame.specs.Frames.{cond_frame, from_frame, block_frame, select_lines, group_lines, keep_lines, distinct_lines, own_numbers, kept, last, query_frame, query_numbers}
 use Rattle.frame.proofs.FormedBlocks.{formed-Block}
 use Rattle.frame.proofs.FormedConds.{formed-Compare, formed-IsNull, formed-Not, formed-And, formed-Or, formed-Exists, formed-In}
 use Rattle.frame.proofs.FormedFroms.{formed-Table, formed-Join, formed-LeftJoin, formed-Comma}
 use Rattle.frame.proofs.FormedParts.{among_own, GroupsOwn, FormedBlock, CondFormed, FromFormed, BlockFormed}
 use Rattle.frame.proofs.FrameEquations.{frame-Block}
-use Rattle.frame.proofs.FrameShapes.{BoundParts, block-shape, bound-parts}
+use Rattle.frame.proofs.FrameShapes.{BoundParts, block-shape, bound-parts, bound-left, asked}
 use Rattle.frame.proofs.Growth.{top-columns, last-is}
 use Rattle.frame.proofs.Induction.{Steps, each-block}
 use Rattle.frame.proofs.OwnAggregates.{flat-apart, lines-apart}
@@ -136,10 +136,8 @@ module _ (instances : List TableInstance) where
   block-shown : (q : Block) → (block_scope instances q).bound [] ≡ true → is_subset ((block_frame instances q).shown []) (class_columns instances ((block_frame instances q).lines [] []) (last ((block_frame instances q).lines [] []))) ≡ true
   block-shown q bound =
       let numbers : List ℕ = (from_frame instances q.from).numbers in
-      let A : List Expr = (from_frame instances q.from).lines [] [] in
-      let B : List Expr = where_lines (option_map (cond_frame instances) q.filter) (numbers ∷ []) A in
       let parts : BoundParts instances q [] = bound-parts instances q [] (sym (ap (λ s. s.bound []) (scope-Block instances q)) ∙ bound) in
-      rw (frame-Block instances q) (shown-in q.distinct (numbers ∷ []) q.items (group_lines q.grouped numbers q.keys q.items B) (items-own q.grouped numbers q.keys q.items parts.items))
+      rw (frame-Block instances q) (shown-in q.distinct (numbers ∷ []) q.items (asked instances q [] []) (items-own q.grouped numbers q.keys q.items (bound-left q.grouped (length numbers) q.keys q.items q.having_items (numbers ∷ []) parts.items)))
 
 -- ---- queries
 

@@ -65,14 +65,29 @@ module _ (instances : List TableInstance) where
   pub frame-Comma : (f g : From) → from_frame instances (from.Comma f g) ≡ from_frame_layer instances (From-F.Comma (from_frame instances f) (from_frame instances g))
   frame-Comma f g = from_at (From-F.Comma f g) _ (from.rolls-Comma f g)
 
+  -- a layer with the frames of its parts, where its WHERE and its HAVING are given
+  abbrev framed_with : Block-F Cond From Block → Option Cond → Option Cond → Block-F CondFrame FromFrame BlockFrame
+  framed_with x w h = record {
+    from = from_frame instances x.from;
+    filter = option_map (cond_frame instances) w;
+    grouped = x.grouped;
+    keys = x.keys;
+    having = option_map (cond_frame instances) h;
+    having_items = x.having_items;
+    items = x.items;
+    distinct = x.distinct;
+  }
+
   -- the layer of a block with the frames of its parts
   abbrev pub framed : Block → Block-F CondFrame FromFrame BlockFrame
-  framed q = record { from = from_frame instances q.from; filter = option_map (cond_frame instances) q.filter; grouped = q.grouped; keys = q.keys; items = q.items; distinct = q.distinct }
+  framed q = framed_with (out-Block q) q.filter q.having
 
-  framed-is : (x : Block-F Cond From Block) (w : Option Cond) → block_frame_layer (map-Block Cond From Block CondFrame FromFrame BlockFrame (cond_frame instances) (from_frame instances) (block_frame instances) (record x { filter = w }))
-      ≡ block_frame_layer (record { from = from_frame instances x.from; filter = option_map (cond_frame instances) w; grouped = x.grouped; keys = x.keys; items = x.items; distinct = x.distinct })
-  framed-is x None = refl
-  framed-is x (Some c) = refl
+  framed-is : (x : Block-F Cond From Block) (w h : Option Cond)
+      → block_frame_layer (map-Block Cond From Block CondFrame FromFrame BlockFrame (cond_frame instances) (from_frame instances) (block_frame instances) (record x { filter = w; having = h })) ≡ block_frame_layer (framed_with x w h)
+  framed-is x None None = refl
+  framed-is x None (Some d) = refl
+  framed-is x (Some c) None = refl
+  framed-is x (Some c) (Some d) = refl
 
   pub frame-Block : (q : Block) → block_frame instances q ≡ block_frame_layer (framed q)
-  frame-Block q = block_roll q ∙ framed-is (out-Block q) (out-Block q).filter
+  frame-Block q = block_roll q ∙ framed-is (out-Block q) (out-Block q).filter (out-Block q).having

@@ -15,8 +15,8 @@ use Rattle.query.specs.declared.query.Aggregate.TheVariants as by
 use Rattle.query.specs.declared.query.Item.{Item}
 use Rattle.query.specs.declared.query.Item.TheVariants as item
 use Rattle.query.specs.Rows.{value_at, same_rows, column}
-use Rattle.query.specs.Aggregates.{aggregate, aggregate_of, together, plus, lesser, greater, known, group_of}
-use Rattle.query.specs.Meaning.{item_of_row, item_of_group, key_value, all_shown}
+use Rattle.query.specs.Aggregates.{aggregate, aggregate_of, together, plus, lesser, greater, known, group_of, groups}
+use Rattle.query.specs.Meaning.{item_of_row, item_of_group, key_value}
 use Rattle.query.specs.Bound.{Scope, number, number_at, names, is_among, all_differ, bound_item, bound_group_item, bound_aggregate, aggregate_numbers, none_among}
 use Rattle.algebra.specs.Columns.{has, insert, rising}
 use Rattle.algebra.specs.Bags.{Env, Bag, lay, same_on, distinct_on, group}
@@ -281,10 +281,8 @@ module _ (numbers : List ℕ) (scope : Scope) (ρ : List Row) (e : Env) (agree :
         (λ s ws. ap (λ X. Aggregates items X (lay (has K) (g s) e)) (through Wide g (same_on K (g s)) (λ r. same_rows (values_at (k ∷ keys) s) (values_at (k ∷ keys) r)) L (λ r wr. same_key s r ws wr) wide))
         (all-distinct Wide _ L wide)
 
-    -- what a block's groups show, by first rows
-    pub groups-keyed : (items : List Item) (k : ℕ) (keys : List ℕ) (L : List Row)
-        → all_shown true (k ∷ keys) items ρ L ≡ map (λ s. map (item_of_group (k ∷ keys) ρ (record { key = values_at (k ∷ keys) s; rows = with_key (k ∷ keys) L s })) items) (first_rows (k ∷ keys) L)
-    groups-keyed items k keys L =
-        ap (λ ks. map (λ G. map (item_of_group (k ∷ keys) ρ G) items) (map (group_of (k ∷ keys) L) ks)) (distinct-by (map (values_at (k ∷ keys)) L) ∙ distinct-map (values_at (k ∷ keys)) same_rows L)
-        ∙ map-map (λ G. map (item_of_group (k ∷ keys) ρ G) items) (group_of (k ∷ keys) L) (map (values_at (k ∷ keys)) (first_rows (k ∷ keys) L))
-        ∙ map-map (λ key. map (item_of_group (k ∷ keys) ρ (group_of (k ∷ keys) L key)) items) (values_at (k ∷ keys)) (first_rows (k ∷ keys) L)
+-- groups by their first rows
+pub groups-keyed : (k : ℕ) (keys : List ℕ) (L : List Row) → groups (k ∷ keys) L ≡ map (λ s. record { key = values_at (k ∷ keys) s; rows = with_key (k ∷ keys) L s }) (first_rows (k ∷ keys) L)
+groups-keyed k keys L =
+    ap (map (group_of (k ∷ keys) L)) (distinct-by (map (values_at (k ∷ keys)) L) ∙ distinct-map (values_at (k ∷ keys)) same_rows L)
+    ∙ map-map (group_of (k ∷ keys) L) (values_at (k ∷ keys)) (first_rows (k ∷ keys) L)

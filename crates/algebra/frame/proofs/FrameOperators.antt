@@ -16,7 +16,7 @@ use Rattle.query.specs.declared.query.Block.{Block, roll-Block}
 use Rattle.query.specs.declared.query.Query.{Query}
 use Rattle.query.specs.Bound.{Scope}
 use Rattle.algebra.specs.declared.expr.Expr.{Expr}
-use Rattle.frame.specs.Frames.{CondFrame, all_frames, cond_frame, from_frame, block_frame, where_lines, group_lines, distinct_lines, query_frame, is_framed}
+use Rattle.frame.specs.Frames.{CondFrame, all_frames, cond_frame, from_frame, block_frame, select_lines, group_lines, distinct_lines, query_frame, is_framed}
 use Rattle.frame.proofs.FrameEquations.{frame-Compare, frame-IsNull, frame-Not, frame-And, frame-Or, frame-Exists, frame-In, frame-Table, frame-Join, frame-LeftJoin, frame-Comma, frame-Block}
 
 -- lines of a frame's operators
@@ -59,7 +59,7 @@ module _ (instances : List TableInstance) where
   FilterKeeps None = Unit {0}
   FilterKeeps (Some c) = CondKeeps (cond_frame instances c)
 
-  filter-keeps : (o : Option Cond) → FilterKeeps o → LinesKeep (where_lines (option_map (cond_frame instances) o))
+  filter-keeps : (o : Option Cond) → FilterKeeps o → LinesKeep (select_lines (option_map (cond_frame instances) o))
   filter-keeps None k scope E h = h
   filter-keeps (Some c) k scope E h = k scope E h
 
@@ -80,21 +80,23 @@ module _ (instances : List TableInstance) where
   from-keeps (From-F.LeftJoin f o on) = subst (λ f. LinesKeep (from_frame instances f).lines) (sym (from.rolls-LeftJoin f.0 o on.0)) (subst (λ f. LinesKeep f.lines) (sym (frame-LeftJoin instances f.0 o on.0)) (λ scope E h. on.1 _ _ (f.1 scope E h)))
   from-keeps (From-F.Comma f g) = subst (λ f. LinesKeep (from_frame instances f).lines) (sym (from.rolls-Comma f.0 g.0)) (subst (λ f. LinesKeep f.lines) (sym (frame-Comma instances f.0 g.0)) (λ scope E h. g.1 scope _ (f.1 scope E h)))
 
-  one-keeps : (q : Block) → LinesKeep (from_frame instances q.from).lines → FilterKeeps q.filter → LinesKeep (block_frame instances q).lines
-  one-keeps q from_ filter_ = subst (λ b. LinesKeep b.lines) (sym (frame-Block instances q)) (λ scope E h.
-      distinct-keeps q.distinct _ (group-keeps q.grouped _ q.keys q.items _ (filter-keeps q.filter filter_ _ _ (from_ scope E h))))
+  one-keeps : (q : Block) → LinesKeep (from_frame instances q.from).lines → FilterKeeps q.filter → FilterKeeps q.having → LinesKeep (block_frame instances q).lines
+  one-keeps q from_ filter_ having_ = subst (λ b. LinesKeep b.lines) (sym (frame-Block instances q)) (λ scope E h.
+      distinct-keeps q.distinct _ (filter-keeps q.having having_ _ _ (group-keeps q.grouped _ q.keys _ _ (filter-keeps q.filter filter_ _ _ (from_ scope E h)))))
 
   abbrev plain_block : Block-F CondPart FromPart BlockPart → Block-F Cond From Block
   plain_block = map-Block _ _ _ Cond From Block (λ c. c.0) (λ f. f.0) (λ q. q.0)
 
-  block-keeps : (y : Block-F CondPart FromPart BlockPart) (w : Option CondPart) → LinesKeep (block_frame instances (roll-Block (plain_block (record y { filter = w })))).lines
-  block-keeps y None = one-keeps (roll-Block (plain_block (record y { filter = None }))) y.from.1 tt
-  block-keeps y (Some c) = one-keeps (roll-Block (plain_block (record y { filter = Some c }))) y.from.1 c.1
+  block-keeps : (y : Block-F CondPart FromPart BlockPart) (w d : Option CondPart) → LinesKeep (block_frame instances (roll-Block (plain_block (record y { filter = w; having = d })))).lines
+  block-keeps y None None = one-keeps (roll-Block (plain_block (record y { filter = None; having = None }))) y.from.1 tt tt
+  block-keeps y None (Some d) = one-keeps (roll-Block (plain_block (record y { filter = None; having = Some d }))) y.from.1 tt d.1
+  block-keeps y (Some c) None = one-keeps (roll-Block (plain_block (record y { filter = Some c; having = None }))) y.from.1 c.1 tt
+  block-keeps y (Some c) (Some d) = one-keeps (roll-Block (plain_block (record y { filter = Some c; having = Some d }))) y.from.1 c.1 d.1
 
   blocks-keep : (q : Block) → LinesKeep (block_frame instances q).lines
   blocks-keep = ind-Block (λ c. CondKeeps (cond_frame instances c)) (λ f. LinesKeep (from_frame instances f).lines) (λ q. LinesKeep (block_frame instances q).lines)
       (λ x y is. subst (λ z. CondKeeps (cond_frame instances (roll-Cond z))) is (cond-keeps y)) (λ x y is. subst (λ z. LinesKeep (from_frame instances (roll-From z)).lines) is (from-keeps y))
-      (λ x y is. subst (λ z. LinesKeep (block_frame instances (roll-Block z)).lines) is (block-keeps y y.filter))
+      (λ x y is. subst (λ z. LinesKeep (block_frame instances (roll-Block z)).lines) is (block-keeps y y.filter y.having))
 
 all-reverse : (lines : List Expr) → AreFramed lines → AreFramed (reverse lines)
 all-reverse [] h = refl

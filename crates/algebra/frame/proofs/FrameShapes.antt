@@ -1,9 +1,9 @@
 -- The shape of a frame, whatever it means: the lines that it adds, the classes that its conditions name, and the columns
 -- of its last class.
-use Rattle.std.proofs.Common.{◌≡◌, refl, ap, sym, ◌∙◌, subst, inl, inr, ℕ, zero, suc, ◌-◌, ◌<◌, ◌≤◌, Bool, true, false, ◌||◌, ◌&&◌, ◌==◌, List, [], ◌∷◌, ◌++◌, map, length, Option, Some, None, option_map, arith}
+use Rattle.std.proofs.Common.{◌≡◌, refl, ap, sym, ◌∙◌, subst, inl, inr, ℕ, zero, suc, ◌-◌, ◌<◌, ◌≤◌, Bool, true, false, ◌||◌, ◌&&◌, ◌==◌, nat_lt, List, [], ◌∷◌, ◌++◌, map, length, Option, Some, None, option_map, arith}
 use Rattle.std.specs.List.{list_all, list_any, slice_get, AllByRecursion}
 use Rattle.std.proofs.lemmas.Bool.{eqb-true, and_parts, and_from, or_cases, or_left, or_right, false≢true}
-use Rattle.std.proofs.lemmas.List.Folds.{list_any-append}
+use Rattle.std.proofs.lemmas.List.Folds.{list_all-append, list_any-append}
 use Rattle.values.specs.declared.truth.Comparison.{Comparison}
 use Rattle.query.specs.declared.query.Term.{Term}
 use Rattle.query.specs.declared.query.Item.{Item}
@@ -14,7 +14,7 @@ use Rattle.query.specs.declared.query.Cond.TheVariants as cond
 use Rattle.query.specs.declared.query.From.{From}
 use Rattle.query.specs.declared.query.From.TheVariants as from
 use Rattle.query.specs.declared.query.Block.{Block}
-use Rattle.query.specs.Bound.{Scope, CondScope, FromScope, BlockScope, cond_scope, from_scope, block_scope, join_scope, names_instance, numbers_of_instance, instance_numbers, is_single, are_new, aggregate_numbers, bound_filter, bound_items, block_scope_layer, none_of_tables}
+use Rattle.query.specs.Bound.{Scope, CondScope, FromScope, BlockScope, cond_scope, from_scope, block_scope, join_scope, names_instance, numbers_of_instance, instance_numbers, is_single, are_new, aggregate_numbers, bound_filter, bound_item, bound_group_item, bound_items, having_scope, block_scope_layer, none_of_tables, item_number}
 use Rattle.query.proofs.ScopeEquations.{scope-Compare, scope-IsNull, scope-Not, scope-And, scope-Or, scope-Exists, scope-In, scope-Table, scope-Join, scope-LeftJoin, scope-Comma, scope-Block, scoped}
 use Rattle.algebra.specs.declared.condition.Condition.{Condition}
 use Rattle.algebra.specs.declared.expr.Expr.{Expr}
@@ -23,11 +23,11 @@ use Rattle.algebra.specs.Columns.{has, rising}
 use Rattle.algebra.specs.Conditions.{all_classes}
 use Rattle.algebra.specs.Expressions.{columns_of, instance_columns, get_columns, subqueries_pass}
 use Rattle.algebra.specs.Classes.{class_columns}
-use Rattle.frame.specs.Frames.{CondLines, AllLines, conjuncts_of, FromFrame, BlockFrame, cond_frame, from_frame, block_frame, join_frame, on_lines, all_frames, framed_as, numbered, item_number, where_lines, group_lines, keep_lines, distinct_lines, last}
+use Rattle.frame.specs.Frames.{CondLines, AllLines, conjuncts_of, FromFrame, BlockFrame, cond_frame, from_frame, block_frame, join_frame, on_lines, all_frames, framed_as, numbered, select_lines, group_lines, keep_lines, distinct_lines, last}
 use Rattle.algebra.proofs.ConditionNames.{classes-Compare, classes-IsNull, classes-Not, classes-Exists, classes-In}
 use Rattle.algebra.proofs.ConnectiveParts.{classes-and_of, classes-or_of}
 use Rattle.frame.proofs.FrameEquations.{frame-Compare, frame-IsNull, frame-Not, frame-And, frame-Or, frame-Exists, frame-In, frame-Table, frame-Join, frame-LeftJoin, frame-Comma, frame-Block}
-use Rattle.frame.proofs.Growth.{Grows, grows-none, grows-one, grows-more, grows-longer, kept-columns, top-columns, last-below, last-is}
+use Rattle.frame.proofs.Growth.{Grows, grows-none, grows-one, grows-more, grows-longer, grows-some, kept-columns, top-columns, last-below, last-is}
 use Rattle.frame.proofs.Induction.{Steps, OfFilter, each-cond, each-from, each-block}
 use Rattle.algebra.proofs.Lists.{two, all-each}
 use Rattle.algebra.proofs.Sets.{has-rising}
@@ -50,18 +50,26 @@ table-used [] n c h = h
 table-used (t ∷ instances) zero c h = or_left _ _ h
 table-used (t ∷ instances) (suc n) c h = or_right _ _ (table-used instances n c h)
 
--- what stands behind a block's FROM and WHERE adds lines
-pub end-grows : (twice grouped : Bool) (scope : Scope) (numbers keys : List ℕ) (items : List Item) (A E : List Expr) → Grows A E → Grows (distinct_lines twice (keep_lines scope items (group_lines grouped numbers keys items A))) E
-end-grows false false scope numbers keys items A E g = grows-more _ A E (grows-one _ A) g
-end-grows true false scope numbers keys items A E g = grows-more _ _ E (grows-one _ _) (grows-more _ A E (grows-one _ A) g)
-end-grows false true scope numbers keys items A E g = grows-more _ _ E (grows-one _ _) (grows-more _ A E (grows-one _ A) g)
-end-grows true true scope numbers keys items A E g = grows-more _ _ E (grows-one _ _) (grows-more _ _ E (grows-one _ _) (grows-more _ A E (grows-one _ A) g))
+-- a Group adds a line, where there is one
+pub group-grows : (grouped : Bool) (numbers keys : List ℕ) (items : List Item) (A : List Expr) → Grows (group_lines grouped numbers keys items A) A
+group-grows false numbers keys items A = grows-none A
+group-grows true numbers keys items A = grows-one _ A
 
-pub end-adds : (twice grouped : Bool) (scope : Scope) (numbers keys : List ℕ) (items : List Item) (A : List Expr) → length A < length (distinct_lines twice (keep_lines scope items (group_lines grouped numbers keys items A)))
-end-adds false false scope numbers keys items A = omega arith
-end-adds true false scope numbers keys items A = omega arith
-end-adds false true scope numbers keys items A = omega arith
-end-adds true true scope numbers keys items A = omega arith
+-- what stands behind a block's HAVING adds lines
+pub end-grows : (twice : Bool) (scope : Scope) (items : List Item) (A E : List Expr) → Grows A E → Grows (distinct_lines twice (keep_lines scope items A)) E
+end-grows false scope items A E g = grows-more _ A E (grows-one _ A) g
+end-grows true scope items A E g = grows-more _ _ E (grows-one _ _) (grows-more _ A E (grows-one _ A) g)
+
+end-adds : (twice : Bool) (scope : Scope) (items : List Item) (A : List Expr) → length A < length (distinct_lines twice (keep_lines scope items A))
+end-adds false scope items A = omega arith
+end-adds true scope items A = omega arith
+
+-- items that are bound beside others are bound
+pub bound-left : (is_grouped : Bool) (width : ℕ) (keys : List ℕ) (items others : List Item) (scope : Scope) → bound_items is_grouped width keys (items ++ others) scope ≡ true → bound_items is_grouped width keys items scope ≡ true
+bound-left false width keys items others scope bound = (and_parts (list_all (bound_item scope) items) _ (sym (list_all-append (bound_item scope) items others) ∙ bound)).0
+bound-left true width keys items others scope bound =
+    let parts = and_parts (list_all (λ k. nat_lt k width) keys) _ bound in
+    and_from _ _ parts.0 (and_parts (list_all (bound_group_item width keys scope) items) _ (sym (list_all-append (bound_group_item width keys scope) items others) ∙ parts.1)).0
 
 one-shown : (f : Item → ℕ) (items : List Item) → is_single items ≡ true → (k : ℕ) × (map f items ≡ k ∷ [])
 one-shown f [] single = absurd (false≢true single)
@@ -273,10 +281,10 @@ module _ (instances : List TableInstance) where
 
   -- ---- blocks
 
-  -- a WHERE's last class has the columns of its input
+  -- the last class of a WHERE or a HAVING has the columns of its input
   pub record WhereShape (o : Option Cond) (inner : Scope) (A : List Expr) : Type 0 where
-    pub grows : Grows (where_lines (option_map (cond_frame instances) o) inner A) A
-    pub columns : class_columns instances (where_lines (option_map (cond_frame instances) o) inner A) (last (where_lines (option_map (cond_frame instances) o) inner A)) ≡ class_columns instances A (last A)
+    pub grows : Grows (select_lines (option_map (cond_frame instances) o) inner A) A
+    pub columns : class_columns instances (select_lines (option_map (cond_frame instances) o) inner A) (last (select_lines (option_map (cond_frame instances) o) inner A)) ≡ class_columns instances A (last A)
 
   filter-shape : (o : Option Cond) → OfFilter CondShaped FromShaped BlockShaped o → (inner : Scope) (A : List Expr) → 0 < length A → WhereShape o inner A
   filter-shape None has_shape inner A some = record { grows = grows-none A; columns = refl }
@@ -292,19 +300,55 @@ module _ (instances : List TableInstance) where
   block-as : (f g : BlockFrame) (s t : BlockScope) (scope : Scope) (E : List Expr) → f ≡ g → s ≡ t → BlockShape g t scope E → BlockShape f s scope E
   block-as f g s t scope E is as_ shape = rw (is, as_) shape
 
-  shape-Block : (q : Block) → FromShaped q.from → OfFilter CondShaped FromShaped BlockShaped q.filter → BlockShaped q
-  shape-Block q from_has filter_has scope E =
-      let numbers : List ℕ = (from_frame instances q.from).numbers in
+  -- the lines of a block behind its WHERE, its Group and its HAVING
+  module _ (q : Block) (scope : Scope) (E : List Expr) where
+    abbrev pub own_scope : Scope
+    own_scope = (from_frame instances q.from).numbers ∷ scope
+
+    abbrev pub filtered : List Expr
+    filtered = select_lines (option_map (cond_frame instances) q.filter) own_scope ((from_frame instances q.from).lines scope E)
+
+    abbrev pub grouped : List Expr
+    grouped = group_lines q.grouped (from_frame instances q.from).numbers q.keys (q.items ++ q.having_items) filtered
+
+    abbrev pub asked : List Expr
+    asked = select_lines (option_map (cond_frame instances) q.having) (having_scope own_scope q.having_items) grouped
+
+  -- what is known of them
+  pub record Stages (q : Block) (scope : Scope) (E : List Expr) : Type 0 where
+    pub from : FromShape (from_frame instances q.from) (from_scope instances q.from) scope E
+    pub where_ : WhereShape q.filter (own_scope q scope E) ((from_frame instances q.from).lines scope E)
+    pub filtered_some : 0 < length (filtered q scope E)
+    pub grouped_some : 0 < length (grouped q scope E)
+    pub having : WhereShape q.having (having_scope (own_scope q scope E) q.having_items) (grouped q scope E)
+    pub behind : Grows (asked q scope E) (filtered q scope E)
+
+  all-stages : (q : Block) → FromShaped q.from → OfFilter CondShaped FromShaped BlockShaped q.filter → OfFilter CondShaped FromShaped BlockShaped q.having → (scope : Scope) (E : List Expr) → Stages q scope E
+  all-stages q from_has filter_has having_has scope E =
+      let inner : Scope = own_scope q scope E in
       let A : List Expr = (from_frame instances q.from).lines scope E in
+      let B : List Expr = filtered q scope E in
+      let G : List Expr = grouped q scope E in
       let first : FromShape (from_frame instances q.from) (from_scope instances q.from) scope E = from_has scope E in
-      let second : WhereShape q.filter (numbers ∷ scope) A = filter-shape q.filter filter_has (numbers ∷ scope) A first.some in
-      let B : List Expr = where_lines (option_map (cond_frame instances) q.filter) (numbers ∷ scope) A in
-      let more : Grows B E = grows-more B A E second.grows first.grows in
+      let second : WhereShape q.filter inner A = filter-shape q.filter filter_has inner A first.some in
+      let some : 0 < length B = grows-some B A second.grows first.some in
+      let more : Grows G B = group-grows q.grouped (from_frame instances q.from).numbers q.keys (q.items ++ q.having_items) B in
+      let some_too : 0 < length G = grows-some G B more some in
+      let third : WhereShape q.having (having_scope inner q.having_items) G = filter-shape q.having having_has (having_scope inner q.having_items) G some_too in
+      record { from = first; where_ = second; filtered_some = some; grouped_some = some_too; having = third; behind = grows-more (asked q scope E) G B third.grows more }
+
+  shape-Block : (q : Block) → FromShaped q.from → OfFilter CondShaped FromShaped BlockShaped q.filter → OfFilter CondShaped FromShaped BlockShaped q.having → BlockShaped q
+  shape-Block q from_has filter_has having_has scope E =
+      let stages : Stages q scope E = all-stages q from_has filter_has having_has scope E in
+      let inner : Scope = own_scope q scope E in
+      let A : List Expr = (from_frame instances q.from).lines scope E in
+      let H : List Expr = asked q scope E in
+      let more : Grows H E = grows-more H (filtered q scope E) E stages.behind (grows-more (filtered q scope E) A E stages.where_.grows stages.from.grows) in
       block-as _ _ _ _ scope E (frame-Block instances q) (scope-Block instances q)
       (record {
-        grows = end-grows q.distinct q.grouped (numbers ∷ scope) numbers q.keys q.items B E more;
-        adds = let low : length E ≤ length B = grows-longer B E more in let high = end-adds q.distinct q.grouped (numbers ∷ scope) numbers q.keys q.items B in omega (arith, low, high);
-        single = λ h. one-shown (item_number (numbers ∷ scope)) q.items h;
+        grows = end-grows q.distinct inner q.items H E more;
+        adds = let low : length E ≤ length H = grows-longer H E more in let high = end-adds q.distinct inner q.items H in omega (arith, low, high);
+        single = λ h. one-shown (item_number inner) q.items h;
       })
 
   -- ---- all of them
@@ -337,9 +381,12 @@ module _ (instances : List TableInstance) where
   pub block-below : (q : Block) (scope : Scope) (E : List Expr) → last ((block_frame instances q).lines scope E) < length ((block_frame instances q).lines scope E)
   block-below q scope E = let adds : length E < length ((block_frame instances q).lines scope E) = (block-shape q scope E).adds in last-below ((block_frame instances q).lines scope E) (omega (arith, adds))
 
-  pub where-shape : (o : Option Cond) (inner : Scope) (A : List Expr) → 0 < length A → WhereShape o inner A
-  where-shape None = filter-shape None tt
-  where-shape (Some c) = filter-shape (Some c) (cond-shape c)
+  each-filter : (o : Option Cond) → OfFilter CondShaped FromShaped BlockShaped o
+  each-filter None = tt
+  each-filter (Some c) = cond-shape c
+
+  pub stages-of : (q : Block) (scope : Scope) (E : List Expr) → Stages q scope E
+  stages-of q = all-stages q (from-shape q.from) (each-filter q.filter) (each-filter q.having)
 
   pub join-sides : (f : From) (o : TableReference) (on : Cond) (scope : Scope) (E : List Expr) → Sides f o on scope E
   join-sides f o on = sides f o on (from-shape f) (cond-shape on)
@@ -349,21 +396,26 @@ module _ (instances : List TableInstance) where
 
   -- what is known of a bound block, over the column numbers of its FROM's frame
   pub record BoundParts (q : Block) (scope : Scope) : Type 0 where
-    pub new : are_new (aggregate_numbers q.items ++ (from_frame instances q.from).numbers) scope ≡ true
-    pub apart : none_of_tables instances (aggregate_numbers q.items) ≡ true
+    pub new : are_new (aggregate_numbers (q.items ++ q.having_items) ++ (from_frame instances q.from).numbers) scope ≡ true
+    pub apart : none_of_tables instances (aggregate_numbers (q.items ++ q.having_items)) ≡ true
     pub from : (from_scope instances q.from).bound scope ≡ true
     pub filter : bound_filter (option_map (cond_scope instances) q.filter) ((from_frame instances q.from).numbers ∷ scope) ≡ true
-    pub items : bound_items q.grouped (length (from_frame instances q.from).numbers) q.keys q.items ((from_frame instances q.from).numbers ∷ scope) ≡ true
+    pub items : bound_items q.grouped (length (from_frame instances q.from).numbers) q.keys (q.items ++ q.having_items) ((from_frame instances q.from).numbers ∷ scope) ≡ true
+    pub having : bound_filter (option_map (cond_scope instances) q.having) (having_scope ((from_frame instances q.from).numbers ∷ scope) q.having_items) ≡ true
 
   pub bound-parts : (q : Block) (scope : Scope) → (block_scope_layer instances (scoped instances q)).bound scope ≡ true → BoundParts q scope
   bound-parts q scope bound =
-      let moved = subst (λ ns. (are_new (aggregate_numbers q.items ++ ns) scope && (none_of_tables instances (aggregate_numbers q.items) && ((from_scope instances q.from).bound scope && (bound_filter (option_map (cond_scope instances) q.filter) (ns ∷ scope) && bound_items q.grouped (length ns) q.keys q.items (ns ∷ scope))))) ≡ true)
+      let all : List Item = q.items ++ q.having_items in
+      let moved = subst (λ ns. (are_new (aggregate_numbers all ++ ns) scope && (none_of_tables instances (aggregate_numbers all) && ((from_scope instances q.from).bound scope && (bound_filter (option_map (cond_scope instances) q.filter) (ns ∷ scope)
+      && (bound_items q.grouped (length ns) q.keys all (ns ∷ scope) && bound_filter (option_map (cond_scope instances) q.having) (having_scope (ns ∷ scope) q.having_items)))))) ≡ true)
       (from-shape q.from scope []).numbers bound in
-      let a = and_parts (are_new (aggregate_numbers q.items ++ (from_frame instances q.from).numbers) scope) _ moved in
-      let others = and_parts (none_of_tables instances (aggregate_numbers q.items)) _ a.1 in
+      let numbers : List ℕ = (from_frame instances q.from).numbers in
+      let a = and_parts (are_new (aggregate_numbers all ++ numbers) scope) _ moved in
+      let others = and_parts (none_of_tables instances (aggregate_numbers all)) _ a.1 in
       let b = and_parts ((from_scope instances q.from).bound scope) _ others.1 in
-      let c = and_parts (bound_filter (option_map (cond_scope instances) q.filter) ((from_frame instances q.from).numbers ∷ scope)) _ b.1 in
-      record { new = a.0; apart = others.0; from = b.0; filter = c.0; items = c.1 }
+      let c = and_parts (bound_filter (option_map (cond_scope instances) q.filter) (numbers ∷ scope)) _ b.1 in
+      let d = and_parts (bound_items q.grouped (length numbers) q.keys all (numbers ∷ scope)) _ c.1 in
+      record { new = a.0; apart = others.0; from = b.0; filter = c.0; items = d.0; having = d.1 }
 
   -- what is known of a bound join, over the column numbers of its left side's frame
   pub record JoinParts (f : From) (o : TableReference) (on : Cond) (scope : Scope) : Type 0 where

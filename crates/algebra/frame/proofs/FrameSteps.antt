@@ -1,5 +1,5 @@
 -- The frame of each form of condition, FROM and block, by the steps that compute it.
-use Rattle.std.proofs.Common.{◌≡◌, refl, ap, ◌∙◌, ℕ, List, [], ◌∷◌, ◌++◌, length, map, reverse, option_map, Result, Ok, Err, IfOk, OnOk}
+use Rattle.std.proofs.Common.{◌≡◌, refl, ap, ◌∙◌, ℕ, Bool, true, List, [], ◌∷◌, ◌++◌, length, map, reverse, option_map, Result, Ok, Err, IfOk, OnOk}
 use Rattle.values.specs.declared.truth.Comparison.{Comparison}
 use Rattle.query.specs.declared.query.Term as named
 use Rattle.query.specs.declared.query.TableReference.{TableReference}
@@ -10,15 +10,18 @@ use Rattle.query.specs.declared.query.From.{From}
 use Rattle.query.specs.declared.query.From.TheVariants as from
 use Rattle.query.specs.declared.query.Block.{Block, out-Block}
 use Rattle.query.specs.declared.query.Item.{Item}
+use Rattle.query.specs.declared.query.Item.TheVariants as item
 use Rattle.query.specs.declared.query.Query.{Query}
-use Rattle.query.specs.Bound.{Scope, instance_numbers}
+use Rattle.query.specs.Bound.{Scope, instance_numbers, item_number}
 use Rattle.algebra.specs.declared.condition.Term.{Term}
 use Rattle.algebra.specs.declared.condition.Condition.{Condition}
 use Rattle.algebra.specs.declared.condition.Condition.TheVariants.{Compare, IsNull, Not, Exists, In}
+use Rattle.algebra.specs.declared.expr.Aggregation.{Aggregation}
 use Rattle.algebra.specs.declared.expr.Expr.{Expr}
-use Rattle.algebra.specs.declared.expr.Expr.TheVariants.{Get, Join, LeftJoin}
+use Rattle.algebra.specs.declared.expr.Expr.TheVariants.{Get, Join, LeftJoin, Group}
+use Rattle.algebra.specs.AggregateOrder.{by_column}
 use Rattle.algebra.specs.Connectives.{and_of, or_of}
-use Rattle.frame.specs.Frames.{CondLines, AllLines, FromFrame, cond_frame, from_frame, block_frame, all_frames, framed_as, numbered, last, first_shown, conjuncts_of, on_lines, join_frame, item_number, where_lines, group_lines, keep_lines, distinct_lines, query_frame}
+use Rattle.frame.specs.Frames.{CondLines, AllLines, FromFrame, cond_frame, from_frame, block_frame, all_frames, framed_as, numbered, last, first_shown, conjuncts_of, on_lines, join_frame, select_lines, group_lines, key_columns, aggregations, numbered_aggregate, keep_lines, distinct_lines, query_frame}
 use Rattle.frame.proofs.FrameEquations.{frame-Compare, frame-IsNull, frame-Not, frame-And, frame-Or, frame-Exists, frame-In, frame-Table, frame-Join, frame-LeftJoin, frame-Comma, frame-Block}
 
 -- ---- conditions
@@ -120,16 +123,30 @@ module _ (instances : List TableInstance) (scope : Scope) (lines : List Expr) (f
 
 -- ---- blocks
 
+aggregations-append : (numbers : List ℕ) (items others : List Item) → aggregations numbers (items ++ others) ≡ aggregations numbers items ++ aggregations numbers others
+aggregations-append numbers [] others = refl
+aggregations-append numbers (item.Column c ∷ items) others = aggregations-append numbers items others
+aggregations-append numbers (item.Aggregate n a ∷ items) others = ap (λ G. record { column = n; aggregate = numbered_aggregate numbers a } ∷ G) (aggregations-append numbers items others)
+
+-- a Group, by the aggregates of the items and of those that HAVING reads
+pub group_is : (is_grouped : Bool) (numbers keys lent_keys : List ℕ) (items lent asked lent_asked : List Item) (K : List ℕ) (none first both view G : List Aggregation) (input : ℕ) (lines : List Expr) → is_grouped ≡ true → lent_keys ≡ keys → K ≡ key_columns numbers lent_keys
+    → none ≡ [] → lent ≡ items → first ≡ none ++ aggregations numbers lent → lent_asked ≡ asked → both ≡ first ++ aggregations numbers lent_asked → view ≡ both → G ≡ by_column view → input ≡ last lines
+    → Group K G input ∷ lines ≡ group_lines is_grouped numbers keys (items ++ asked) lines
+group_is is_grouped numbers keys lent_keys items lent asked lent_asked K none first both view G input lines grouped at_keys k empty at_items f at_asked b v g i =
+    rw (grouped, k, at_keys, g, v, b, f, empty, at_items, at_asked, i, aggregations-append numbers items asked) refl
+
 module _ (instances : List TableInstance) (scope : Scope) (lines : List Expr) (q : Block) where
   pub first_shown_is : (numbers lent : List ℕ) (items : List Item) (k : ℕ) → numbers ≡ (from_frame instances (out-Block q).from).numbers → lent ≡ numbers → items ≡ (out-Block q).items
       → k ≡ first_shown (map (item_number (lent ∷ scope)) items) → k ≡ first_shown ((block_frame instances q).shown scope)
   first_shown_is numbers lent items k n at items_are is = is ∙ rw (items_are, at, n, frame-Block instances q) refl
 
-  pub block_lines_are : (numbers lent grouped : List ℕ) (sourced filtered added ended : List Expr) → numbers ≡ (from_frame instances (out-Block q).from).numbers → lent ≡ numbers → grouped ≡ numbers
-      → sourced ≡ (from_frame instances (out-Block q).from).lines scope lines → filtered ≡ where_lines (option_map (cond_frame instances) (out-Block q).filter) (lent ∷ scope) sourced
-      → added ≡ group_lines (out-Block q).grouped grouped (out-Block q).keys (out-Block q).items filtered
-      → ended ≡ distinct_lines (out-Block q).distinct (keep_lines (lent ∷ scope) (out-Block q).items added) → ended ≡ (block_frame instances q).lines scope lines
-  block_lines_are numbers lent grouped sourced filtered added ended n at by s f a e = rw (e, a, f, s, by, at, n, frame-Block instances q) refl
+  pub block_lines_are : (numbers lent grouped asked lent_asked : List ℕ) (having_items : List Item) (sourced filtered added selected ended : List Expr) → numbers ≡ (from_frame instances (out-Block q).from).numbers → lent ≡ numbers → grouped ≡ numbers
+      → sourced ≡ (from_frame instances (out-Block q).from).lines scope lines → filtered ≡ select_lines (option_map (cond_frame instances) (out-Block q).filter) (lent ∷ scope) sourced
+      → added ≡ group_lines (out-Block q).grouped grouped (out-Block q).keys ((out-Block q).items ++ (out-Block q).having_items) filtered
+      → having_items ≡ (out-Block q).having_items → asked ≡ map (item_number (lent ∷ scope)) having_items → lent_asked ≡ asked
+      → selected ≡ select_lines (option_map (cond_frame instances) (out-Block q).having) (lent_asked ∷ []) added
+      → ended ≡ distinct_lines (out-Block q).distinct (keep_lines (lent ∷ scope) (out-Block q).items selected) → ended ≡ (block_frame instances q).lines scope lines
+  block_lines_are numbers lent grouped asked lent_asked having_items sourced filtered added selected ended n at by s f a items_are asked_is at_asked h e = rw (e, h, at_asked, asked_is, items_are, a, f, s, by, at, n, frame-Block instances q) refl
 
 -- ---- queries
 

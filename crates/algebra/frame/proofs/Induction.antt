@@ -13,7 +13,7 @@ use Rattle.query.specs.declared.query.From.TheVariants as from
 use Rattle.query.specs.declared.query.Block.{Block, roll-Block}
 
 module _ (C : Cond → Type 0) (F : From → Type 0) (B : Block → Type 0) where
-  -- of a WHERE, if there is one
+  -- of a WHERE or a HAVING, if there is one
   abbrev pub OfFilter : Option Cond → Type 0
   OfFilter None = Unit {0}
   OfFilter (Some c) = C c
@@ -30,7 +30,7 @@ module _ (C : Cond → Type 0) (F : From → Type 0) (B : Block → Type 0) wher
     pub join : (f : From) (o : TableReference) (on : Cond) → F f → C on → F (from.Join f o on)
     pub left_join : (f : From) (o : TableReference) (on : Cond) → F f → C on → F (from.LeftJoin f o on)
     pub comma : (f g : From) → F f → F g → F (from.Comma f g)
-    pub block : (q : Block) → F q.from → OfFilter q.filter → B q
+    pub block : (q : Block) → F q.from → OfFilter q.filter → OfFilter q.having → B q
 
   abbrev ProvedCond : Type 0
   ProvedCond = (c : Cond) × C c
@@ -70,16 +70,18 @@ module _ (C : Cond → Type 0) (F : From → Type 0) (B : Block → Type 0) wher
     from-step (From-F.LeftJoin f o on) = subst F (sym (from.rolls-LeftJoin f.0 o on.0)) (steps.left_join f.0 o on.0 f.1 on.1)
     from-step (From-F.Comma f g) = subst F (sym (from.rolls-Comma f.0 g.0)) (steps.comma f.0 g.0 f.1 g.1)
 
-    block-step : (y : Block-F ProvedCond ProvedFrom ProvedBlock) (w : Option ProvedCond) → B (roll-Block (plain_block (record y { filter = w })))
-    block-step y None = steps.block (roll-Block (plain_block (record y { filter = None }))) y.from.1 tt
-    block-step y (Some c) = steps.block (roll-Block (plain_block (record y { filter = Some c }))) y.from.1 c.1
+    block-step : (y : Block-F ProvedCond ProvedFrom ProvedBlock) (w h : Option ProvedCond) → B (roll-Block (plain_block (record y { filter = w; having = h })))
+    block-step y None None = steps.block (roll-Block (plain_block (record y { filter = None; having = None }))) y.from.1 tt tt
+    block-step y None (Some d) = steps.block (roll-Block (plain_block (record y { filter = None; having = Some d }))) y.from.1 tt d.1
+    block-step y (Some c) None = steps.block (roll-Block (plain_block (record y { filter = Some c; having = None }))) y.from.1 c.1 tt
+    block-step y (Some c) (Some d) = steps.block (roll-Block (plain_block (record y { filter = Some c; having = Some d }))) y.from.1 c.1 d.1
 
     -- so it is of each condition, FROM and block
     pub each-cond : (c : Cond) → C c
-    each-cond = ind-Cond C F B (λ x y is. subst (λ z. C (roll-Cond z)) is (cond-step y)) (λ x y is. subst (λ z. F (roll-From z)) is (from-step y)) (λ x y is. subst (λ z. B (roll-Block z)) is (block-step y y.filter))
+    each-cond = ind-Cond C F B (λ x y is. subst (λ z. C (roll-Cond z)) is (cond-step y)) (λ x y is. subst (λ z. F (roll-From z)) is (from-step y)) (λ x y is. subst (λ z. B (roll-Block z)) is (block-step y y.filter y.having))
 
     pub each-from : (f : From) → F f
-    each-from = ind-From C F B (λ x y is. subst (λ z. C (roll-Cond z)) is (cond-step y)) (λ x y is. subst (λ z. F (roll-From z)) is (from-step y)) (λ x y is. subst (λ z. B (roll-Block z)) is (block-step y y.filter))
+    each-from = ind-From C F B (λ x y is. subst (λ z. C (roll-Cond z)) is (cond-step y)) (λ x y is. subst (λ z. F (roll-From z)) is (from-step y)) (λ x y is. subst (λ z. B (roll-Block z)) is (block-step y y.filter y.having))
 
     pub each-block : (q : Block) → B q
-    each-block = ind-Block C F B (λ x y is. subst (λ z. C (roll-Cond z)) is (cond-step y)) (λ x y is. subst (λ z. F (roll-From z)) is (from-step y)) (λ x y is. subst (λ z. B (roll-Block z)) is (block-step y y.filter))
+    each-block = ind-Block C F B (λ x y is. subst (λ z. C (roll-Cond z)) is (cond-step y)) (λ x y is. subst (λ z. F (roll-From z)) is (from-step y)) (λ x y is. subst (λ z. B (roll-Block z)) is (block-step y y.filter y.having))

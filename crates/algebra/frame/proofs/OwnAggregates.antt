@@ -11,7 +11,7 @@ use Rattle.query.specs.declared.query.TableReference.{TableReference}
 use Rattle.query.specs.declared.query.Cond.{Cond}
 use Rattle.query.specs.declared.query.From.{From}
 use Rattle.query.specs.declared.query.Block.{Block}
-use Rattle.query.specs.Bound.{Scope, CondScope, FromScope, BlockScope, cond_scope, from_scope, block_scope, join_scope, bound_term, bound_aggregate, bound_group_item, bound_items, bound_filter, aggregate_numbers, all_differ, none_of_tables, is_of_tables, instance_numbers}
+use Rattle.query.specs.Bound.{Scope, having_scope, CondScope, FromScope, BlockScope, cond_scope, from_scope, block_scope, join_scope, bound_term, bound_aggregate, bound_group_item, bound_items, bound_filter, aggregate_numbers, all_differ, none_of_tables, is_of_tables, instance_numbers}
 use Rattle.query.proofs.ScopeEquations.{scope-Compare, scope-IsNull, scope-Not, scope-And, scope-Or, scope-Exists, scope-In, scope-Table, scope-Join, scope-LeftJoin, scope-Comma, scope-Block}
 use Rattle.algebra.specs.declared.condition.Condition.{Condition}
 use Rattle.algebra.specs.declared.expr.Aggregation.{Aggregation}
@@ -23,11 +23,11 @@ use Rattle.algebra.specs.Expressions.{aggregate_reads}
 use Rattle.algebra.specs.TableColumns.{is_table_column, is_apart, are_apart}
 use Rattle.algebra.proofs.AggregateLists.{each-ordered}
 use Rattle.frame.specs.FormedFrames.{group_aggregates}
-use Rattle.frame.specs.Frames.{CondLines, FromFrame, BlockFrame, cond_frame, from_frame, block_frame, join_frame, all_frames, where_lines, group_lines, keep_lines, distinct_lines, aggregations, numbered_aggregate}
+use Rattle.frame.specs.Frames.{CondLines, FromFrame, BlockFrame, cond_frame, from_frame, block_frame, join_frame, all_frames, select_lines, group_lines, keep_lines, distinct_lines, aggregations, numbered_aggregate}
 use Rattle.frame.proofs.FormedBlocks.{apart}
 use Rattle.frame.proofs.FrameEquations.{frame-Compare, frame-IsNull, frame-Not, frame-And, frame-Or, frame-Exists, frame-In, frame-Table, frame-Join, frame-LeftJoin, frame-Comma, frame-Block}
 use Rattle.frame.proofs.FrameGroups.{place-has}
-use Rattle.frame.proofs.FrameShapes.{FromShape, BoundParts, JoinParts, from-shape, bound-parts, join-parts}
+use Rattle.frame.proofs.FrameShapes.{FromShape, BoundParts, JoinParts, from-shape, bound-parts, join-parts, filtered, grouped, asked}
 use Rattle.frame.proofs.Induction.{Steps, OfFilter, each-block}
 
 module _ (instances : List TableInstance) where
@@ -74,7 +74,7 @@ module _ (instances : List TableInstance) where
 
   -- ---- blocks
 
-  where-apart : (o : Option Cond) → OfFilter CondApart FromApart BlockApart o → (inner : Scope) (A : List Expr) → LinesApart A → bound_filter (option_map (cond_scope instances) o) inner ≡ true → LinesApart (where_lines (option_map (cond_frame instances) o) inner A)
+  where-apart : (o : Option Cond) → OfFilter CondApart FromApart BlockApart o → (inner : Scope) (A : List Expr) → LinesApart A → bound_filter (option_map (cond_scope instances) o) inner ≡ true → LinesApart (select_lines (option_map (cond_frame instances) o) inner A)
   where-apart None test inner A all bound = all
   where-apart (Some c) test inner A all bound = (refl, test inner A all bound)
 
@@ -99,12 +99,14 @@ module _ (instances : List TableInstance) where
     group-apart keys scope items differ others bound =
         each-ordered (is_apart T) (aggregations numbers items) (apart numbers items numbers differ) ∙ items-apart keys scope items (and_parts (list_all (λ k. nat_lt k (length numbers)) keys) _ bound).1 others
 
-    end-apart : (twice is_grouped : Bool) (keys : List ℕ) (scope : Scope) (items : List Item) (B : List Expr) → all_differ (aggregate_numbers items ++ numbers) ≡ true → none_of_tables instances (aggregate_numbers items) ≡ true
-        → bound_items is_grouped (length numbers) keys items (numbers ∷ scope) ≡ true → LinesApart B → LinesApart (distinct_lines twice (keep_lines (numbers ∷ scope) items (group_lines is_grouped numbers keys items B)))
-    end-apart false false keys scope items B differ others bound all = (refl, all)
-    end-apart true false keys scope items B differ others bound all = (refl, (refl, all))
-    end-apart false true keys scope items B differ others bound all = (refl, (group-apart keys scope items differ others bound, all))
-    end-apart true true keys scope items B differ others bound all = (refl, (refl, (group-apart keys scope items differ others bound, all)))
+    groups-apart : (is_grouped : Bool) (keys : List ℕ) (scope : Scope) (items : List Item) (B : List Expr) → all_differ (aggregate_numbers items ++ numbers) ≡ true → none_of_tables instances (aggregate_numbers items) ≡ true
+        → bound_items is_grouped (length numbers) keys items (numbers ∷ scope) ≡ true → LinesApart B → LinesApart (group_lines is_grouped numbers keys items B)
+    groups-apart false keys scope items B differ others bound all = all
+    groups-apart true keys scope items B differ others bound all = (group-apart keys scope items differ others bound, all)
+
+  end-apart : (twice : Bool) (scope : Scope) (items : List Item) (B : List Expr) → LinesApart B → LinesApart (distinct_lines twice (keep_lines scope items B))
+  end-apart false scope items B all = (refl, all)
+  end-apart true scope items B all = (refl, (refl, all))
 
   steps : Steps CondApart FromApart BlockApart
   steps = record {
@@ -122,13 +124,15 @@ module _ (instances : List TableInstance) where
     comma = λ f g left right scope E all. from-as _ _ _ _ scope E (frame-Comma instances f g) (scope-Comma instances f g) (λ bound.
         let parts = and_parts ((from_scope instances f).bound scope) _ bound in
         (refl, right scope ((from_frame instances f).lines scope E) (left scope E all parts.0) parts.1));
-    block = λ q from filter scope E all. block-as _ _ _ _ scope E (frame-Block instances q) (scope-Block instances q) (λ bound.
+    block = λ q from filter having scope E all. block-as _ _ _ _ scope E (frame-Block instances q) (scope-Block instances q) (λ bound.
         let numbers : List ℕ = (from_frame instances q.from).numbers in
         let A : List Expr = (from_frame instances q.from).lines scope E in
         let shape : FromShape instances (from_frame instances q.from) (from_scope instances q.from) scope E = from-shape instances q.from scope E in
         let parts : BoundParts instances q scope = bound-parts instances q scope bound in
-        end-apart numbers shape.used q.distinct q.grouped q.keys scope q.items (where_lines (option_map (cond_frame instances) q.filter) (numbers ∷ scope) A) (and_parts _ _ parts.new).0 parts.apart parts.items
-        (where-apart q.filter filter (numbers ∷ scope) A (from scope E all parts.from) parts.filter));
+        end-apart q.distinct (numbers ∷ scope) q.items (asked instances q scope E)
+        (where-apart q.having having (having_scope (numbers ∷ scope) q.having_items) (grouped instances q scope E)
+        (groups-apart numbers shape.used q.grouped q.keys scope (q.items ++ q.having_items) (filtered instances q scope E) (and_parts _ _ parts.new).0 parts.apart parts.items
+        (where-apart q.filter filter (numbers ∷ scope) A (from scope E all parts.from) parts.filter)) parts.having));
   }
 
   -- the groups of a bound block's lines

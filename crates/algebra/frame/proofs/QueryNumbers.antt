@@ -7,8 +7,8 @@ use Rattle.query.specs.declared.query.From.{From}
 use Rattle.query.specs.declared.query.From.TheVariants as from
 use Rattle.query.specs.declared.query.Block.{out-Block}
 use Rattle.query.specs.declared.query.Query.{Query}
-use Rattle.query.specs.Bound.{instance_numbers}
-use Rattle.frame.specs.Frames.{from_frame, item_number, query_numbers}
+use Rattle.query.specs.Bound.{instance_numbers, item_number}
+use Rattle.frame.specs.Frames.{from_frame, query_numbers}
 use Rattle.frame.proofs.FrameEquations.{frame-Table, frame-Join, frame-LeftJoin, frame-Comma, frame-Block}
 
 module _ (instances : List TableInstance) where

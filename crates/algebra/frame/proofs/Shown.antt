@@ -1,5 +1,5 @@
 -- What a block's last lines show: rows projected to the block's own columns, and one of each.
-use Rattle.std.proofs.Common.{◌≡◌, refl, ap, sym, ◌∙◌, ℕ, Bool, true, false, ◌&&◌, not, nat_lt, ◌==◌, if◌then◌else◌, List, [], ◌∷◌, map, filter}
+use Rattle.std.proofs.Common.{◌≡◌, refl, ap, sym, ◌∙◌, ℕ, Bool, true, false, ◌&&◌, not, nat_lt, ◌==◌, if◌then◌else◌, List, [], ◌∷◌, ◌++◌, map, filter}
 use Rattle.std.specs.List.{list_all, AllByRecursion}
 use Rattle.std.specs.declared.cmp.Ordering.{Ordering}
 use Rattle.std.specs.declared.cmp.Ordering.TheVariants.{Less, Equal, Greater}
@@ -14,10 +14,10 @@ use Rattle.values.proofs.Orders.{same_itself}
 use Rattle.query.specs.declared.query.Item.{Item}
 use Rattle.query.specs.Rows as rows
 use Rattle.query.specs.Rows.{same_rows}
-use Rattle.query.specs.Bound.{Scope}
+use Rattle.query.specs.Bound.{Scope, item_number}
 use Rattle.algebra.specs.Columns.{has, insert, rising}
 use Rattle.algebra.specs.Bags.{Env, lay, same_on, distinct_on}
-use Rattle.frame.specs.Frames.{item_number, is_block_item, own_numbers}
+use Rattle.frame.specs.Frames.{is_block_item, own_numbers}
 use Rattle.algebra.proofs.Sets.{has-rising}
 use Rattle.algebra.proofs.Lists.{two, map-same, distinct_by, distinct-map, distinct-same, all-distinct, cons-same}
 use Rattle.algebra.proofs.Puts.{lay-lay}
@@ -39,9 +39,12 @@ pub distinct-by : (L : List Row) → rows.distinct L ≡ distinct_by same_rows L
 distinct-by [] = refl
 distinct-by (r ∷ L) = ap (λ ys. r ∷ filter (λ s. not (same_rows r s)) ys) (distinct-by L)
 
--- ---- all of a set
-
 -- ---- items
+
+-- what holds of each of two lists' items holds of each of either
+pub all_parts : {X : Type 0} (P : X → Type 0) (xs ys : List X) → AllByRecursion P (xs ++ ys) → AllByRecursion P xs × AllByRecursion P ys
+all_parts P [] ys all = (tt, all)
+all_parts P (x ∷ xs) ys all = let rest = all_parts P xs ys all.1 in ((all.0, rest.0), rest.1)
 
 -- the rows h of things x, in the environment e, show each item as sh does; and e itself shows what isn't the block's own
 pub record Reads {X : Type 0} (scope : Scope) (e : Env) (h : X → Env) (sh : X → Item → Value) (P : X → Type 0) (i : Item) : Type 0 where
@@ -49,6 +52,11 @@ pub record Reads {X : Type 0} (scope : Scope) (e : Env) (h : X → Env) (sh : X 
   pub around : is_block_item i ≡ false → (x : X) → P x → e (item_number scope i) ≡ sh x i
 
 module _ {X : Type 0} (scope : Scope) (e : Env) (h : X → Env) (sh : X → Item → Value) (P : X → Type 0) where
+  -- rows that read as they show have the items' row in their columns
+  pub reads-row : (items : List Item) (x : X) → P x → AllByRecursion (Reads scope e h sh P) items → map (h x) (map (item_number scope) items) ≡ map (sh x) items
+  reads-row [] x px all = refl
+  reads-row (i ∷ items) x px all = cons-same (all.0.own x px) (reads-row items x px all.1)
+
   own-has : (i : Item) (items : List Item) → is_block_item i ≡ true → has (own_numbers scope (i ∷ items)) (item_number scope i) ≡ true
   own-has i items is = ap (λ ks. has ks (item_number scope i)) (cond-true _ _ _ is) ∙ or_left _ _ (eq-eqb (item_number scope i) (item_number scope i) refl)
 

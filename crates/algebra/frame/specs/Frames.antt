@@ -19,7 +19,7 @@ use Rattle.query.specs.declared.query.Cond.TheOpen.{Cond-F, From-F, Block-F}
 use Rattle.query.specs.declared.query.Cond.TheFolds.{fold-Cond, fold-From, fold-Block}
 use Rattle.query.specs.Rows.{Tables, IsFitting, count}
 use Rattle.query.specs.Meaning.{often}
-use Rattle.query.specs.Bound.{is_bound, Scope, number, number_at, instance_numbers}
+use Rattle.query.specs.Bound.{is_bound, Scope, number, number_at, instance_numbers, item_number, having_scope}
 use Rattle.algebra.specs.declared.condition.Term.{Term}
 use Rattle.algebra.specs.declared.condition.Term.TheVariants as term
 use Rattle.algebra.specs.declared.condition.Condition.{Condition}
@@ -127,10 +127,10 @@ from_frame_layer instances (From-F.Comma f g) = record {
 
 -- ---- blocks
 
--- the lines of a WHERE's subqueries and its Select
-abbrev pub where_lines : Option CondFrame → Scope → List Expr → List Expr
-where_lines None scope lines = lines
-where_lines (Some c) scope lines = let framed = c scope lines in Select (conjuncts_of framed) (last lines) ∷ framed.lines
+-- the lines of the subqueries of a WHERE or a HAVING, and its Select
+abbrev pub select_lines : Option CondFrame → Scope → List Expr → List Expr
+select_lines None scope lines = lines
+select_lines (Some c) scope lines = let framed = c scope lines in Select (conjuncts_of framed) (last lines) ∷ framed.lines
 
 -- an aggregate that names its column by its number
 abbrev pub numbered_aggregate : List ℕ → Aggregate → Aggregate
@@ -153,11 +153,6 @@ key_columns numbers keys = rising (map (number_at numbers) keys)
 abbrev pub group_lines : Bool → List ℕ → List ℕ → List Item → List Expr → List Expr
 group_lines false numbers keys items lines = lines
 group_lines true numbers keys items lines = Group (key_columns numbers keys) (by_column (aggregations numbers items)) (last lines) ∷ lines
-
--- the number of what an item shows
-abbrev pub item_number : Scope → Item → ℕ
-item_number scope (item.Column c) = number scope c
-item_number scope (item.Aggregate n a) = n
 
 -- whether it is of the block itself, and no column of a row around
 abbrev pub is_block_item : Item → Bool
@@ -186,8 +181,8 @@ block_frame_layer q =
     record {
       shown = λ scope. map (item_number (numbers ∷ scope)) q.items;
       lines = λ scope lines.
-          distinct_lines q.distinct (keep_lines (numbers ∷ scope) q.items
-          (group_lines q.grouped numbers q.keys q.items (where_lines q.filter (numbers ∷ scope) (q.from.lines scope lines))));
+          let groups = group_lines q.grouped numbers q.keys (q.items ++ q.having_items) (select_lines q.filter (numbers ∷ scope) (q.from.lines scope lines)) in
+          distinct_lines q.distinct (keep_lines (numbers ∷ scope) q.items (select_lines q.having (having_scope (numbers ∷ scope) q.having_items) groups));
     }
 
 -- ---- the whole

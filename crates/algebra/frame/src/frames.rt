@@ -2,11 +2,13 @@
 
 ghost use Rattle.std.specs.Prelude.{◌≡◌, ◌++◌, true, length, map, option_map, IfOk, OnOk};
 ghost use Rattle.query.specs.declared.query.Block.{out-Block};
+ghost use Rattle.query.specs.Bound as bound;
 ghost use Rattle.query.specs.Bound.{is_bound, instance_numbers};
 ghost use Rattle.frame.specs.Frames as spec;
 ghost use Rattle.frame.specs.Lent.{scope_of};
 
 use crate::lines::Lines;
+use crate::numbers::item_numbers;
 use crate::scope::{Scope, instance_numbers, number_at};
 use algebra::{Aggregation, Aggregations, ClassId, Columns, Condition, Conjuncts, Expr, Term};
 use query::{Aggregate, Block, ColumnId, Cond, From, Item, Query, TableInstance, TableReference};
@@ -36,15 +38,14 @@ fn numbered_aggregate(numbers: &[ColumnId], aggregate: Aggregate) -> Aggregate
     }
 }
 
-/// The aggregates of the items.
-fn aggregations(
-    alloc: Global,
+/// Adds the aggregates of items to others.
+fn add_aggregations(
     numbers: &[ColumnId],
     items: &[Item],
-) -> Result<Vec<Aggregation>, AllocError>
-    ensures { IfOk result (λ added. added.items ≡ spec.aggregations numbers.now items.now) }
+    added: &mut Vec<Aggregation>,
+) -> Result<(), AllocError>
+    ensures { OnOk result (added.new.items ≡ added.old.items ++ spec.aggregations numbers.now items.now) }
 {
-    let mut added = Vec::new(alloc);
     for item in items {
         if let Item::Aggregate(column, aggregate) = item {
             added.push(Aggregation {
@@ -53,12 +54,12 @@ fn aggregations(
             })?;
         }
     }
-    Ok(added)
+    Ok(())
 }
 
 /// The number of what an item shows.
 pub(crate) fn item_number(scope: &Scope<'_>, item: Item) -> ColumnId
-    ensures { result ≡ spec.item_number (scope_of scope.now) item }
+    ensures { result ≡ bound.item_number (scope_of scope.now) item }
 {
     match item {
         Item::Column(column) => scope.number(column),
@@ -102,7 +103,7 @@ fn key_columns(alloc: Global, numbers: &[ColumnId], keys: &[usize]) -> Result<Co
 
 /// The number of what the first item shows.
 fn first_number(scope: &Scope<'_>, items: &[Item]) -> ColumnId
-    ensures { result ≡ spec.first_shown (map (spec.item_number (scope_of scope.now)) items.now) }
+    ensures { result ≡ spec.first_shown (map (bound.item_number (scope_of scope.now)) items.now) }
 {
     match items {
         [] => 0,
@@ -288,7 +289,7 @@ fn add_from(
     }
 }
 
-/// Adds the lines of a WHERE's subqueries and its Select.
+/// Adds the lines of the subqueries of a WHERE or a HAVING, and its Select.
 #[cycle(frames)]
 fn add_filter(
     alloc: Global,
@@ -297,7 +298,7 @@ fn add_filter(
     scope: &Scope<'_>,
     lines: &mut Lines,
 ) -> Result<(), AllocError>
-    ensures { OnOk result (lines.new ≡ spec.where_lines (option_map (spec.cond_frame instances.now) filter.now) (scope_of scope.now) lines.old) }
+    ensures { OnOk result (lines.new ≡ spec.select_lines (option_map (spec.cond_frame instances.now) filter.now) (scope_of scope.now) lines.old) }
 {
     let Some(cond) = filter else {
         return Ok(());
@@ -314,13 +315,15 @@ fn add_group(
     block: &Block,
     lines: &mut Lines,
 ) -> Result<(), AllocError>
-    ensures { OnOk result (lines.new ≡ spec.group_lines (out-Block block.now).grouped numbers.now (out-Block block.now).keys (out-Block block.now).items lines.old) }
+    ensures { OnOk result (lines.new ≡ spec.group_lines (out-Block block.now).grouped numbers.now (out-Block block.now).keys ((out-Block block.now).items ++ (out-Block block.now).having_items) lines.old) }
 {
     if !block.grouped {
         return Ok(());
     }
     let keys = key_columns(alloc, numbers, block.keys.as_slice())?;
-    let added = aggregations(alloc, numbers, block.items.as_slice())?;
+    let mut added = Vec::new(alloc);
+    add_aggregations(numbers, block.items.as_slice(), &mut added)?;
+    add_aggregations(numbers, block.having_items.as_slice(), &mut added)?;
     let added = Aggregations::of(alloc, added.as_slice())?;
     let input = lines.last();
     lines.push(Expr::Group(keys, added, input))
@@ -361,6 +364,9 @@ fn add_block(
     let scope = Scope::Inner(numbers.as_slice(), &*outer);
     add_filter(alloc, instances, &block.filter, &scope, lines)?;
     add_group(alloc, numbers.as_slice(), block, lines)?;
+    let asked = item_numbers(alloc, &scope, block.having_items.as_slice())?;
+    let row = Scope::Inner(asked.as_slice(), &Scope::Outermost);
+    add_filter(alloc, instances, &block.having, &row, lines)?;
     add_end(alloc, &scope, block, lines)?;
     Ok(first_number(&scope, block.items.as_slice()))
 }

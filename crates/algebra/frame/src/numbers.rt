@@ -1,6 +1,7 @@
 //! The column numbers of a query's items.
 
 ghost use Rattle.std.specs.Prelude.{◌≡◌, ◌++◌, map, IfOk};
+ghost use Rattle.query.specs.Bound as bound;
 ghost use Rattle.frame.specs.Frames as spec;
 ghost use Rattle.frame.specs.Lent.{scope_of};
 
@@ -41,12 +42,13 @@ fn from_numbers(
     }
 }
 
-fn item_numbers(
+/// The numbers of what items show.
+pub(crate) fn item_numbers(
     alloc: Global,
     scope: &Scope<'_>,
     items: &[Item],
 ) -> Result<Vec<ColumnId>, AllocError>
-    ensures { IfOk result (λ numbers. numbers.items ≡ map (spec.item_number (scope_of scope.now)) items.now) }
+    ensures { IfOk result (λ numbers. numbers.items ≡ map (bound.item_number (scope_of scope.now)) items.now) }
 {
     let mut numbers = Vec::new(alloc);
     for item in items {

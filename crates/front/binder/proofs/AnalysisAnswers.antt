@@ -22,11 +22,14 @@ use Rattle.binder.specs.declared.tables.Numbered.{Numbered}
 use Rattle.binder.specs.Numbers.{enter, with_aggregates}
 use Rattle.binder.specs.Outputs.{aggregates, is_grouped, key_in, outputs_in}
 use Rattle.binder.specs.Scopes.{Scope, Scopes}
-use Rattle.binder.specs.Selects.{FromSoFar, condition_in, join_in, chain_in, select_in, comparison_in, membership_in, term_in, all_in, joined, through, commas, from_in, filter_in, block_of}
-use Rattle.binder.specs.Parts.{term_faults, the_term, known, table_faults, the_reference, key_faults, the_key, list_faults, shown}
-use Rattle.binder.specs.Analyses.{Before, Content, behind, nothing, both, all_contents, ConditionAnalysis, JoinAnalysis, ChainAnalysis, SelectAnalysis, all_become, one_table, joins_faults, joins_become, chain_layer, chains_faults, commas_become, from_faults, from_becomes, from_content, filter_content, filter_faults, filter_becomes, scope_of_from, select_layer, condition_analysis, join_analysis, chain_analysis, select_analysis}
+use Rattle.binder.specs.HavingShapes.{having_values}
+use Rattle.binder.specs.Havings.{having_asked}
+use Rattle.binder.specs.Selects.{FromSoFar, condition_in, join_in, chain_in, select_in, comparison_in, membership_in, term_in, all_in, joined, through, commas, from_in, filter_in, block_of, nothing_asked, with_asked}
+use Rattle.binder.specs.Parts.{term_faults, the_term, known, table_faults, the_reference, key_faults, the_key, list_faults, shown, the_asked}
+use Rattle.binder.specs.Analyses.{Before, Content, behind, nothing, both, all_contents, ConditionAnalysis, JoinAnalysis, ChainAnalysis, SelectAnalysis, all_become, one_table, joins_faults, joins_become, chain_layer, chains_faults, commas_become, from_faults, from_becomes, from_content, filter_content, filter_faults, filter_becomes, scope_of_from, select_layer, condition_analysis, join_analysis, chain_analysis, select_analysis, having_faults, having_content}
 use Rattle.binder.proofs.PartAnswers.{answer, then-answer, made-answer, each-answer, term-answer, comparison-answer, membership-answer, key-answer, list-answer, shown-kinds, numbered, enter-answer}
 use Rattle.binder.proofs.SelectParts.{compared, null_tested, negated, conjoined, disjoined, existing, contained, join_at, chain_at, select_at}
+use Rattle.binder.proofs.Havings.{calls, having-answer}
 use Rattle.binder.proofs.AnalysisParts.{analysis-condition, analysis-join, analysis-chain, select_parts, analysis-select}
 
 -- ---- what stands before
@@ -252,16 +255,24 @@ module _ (S : Schema) where
       let keys = map (the_key scopes) x.group in
       let further : Before = behind inside (from_content chains) in
       let last : Before = behind further (filter_content filter) in
+      let values = having_values x.having in
+      let asked = the_asked scopes last.aggregates values in
+      let grouped = is_grouped keys x.list x.having in
       let analysis = select_layer (select_parts S x chains filter) in
+      let ended : Numbered = with_asked (state last) (record { items = asked; next_aggregate = last.aggregates + calls values }) in
       select_at S q outer (state b) (state inside) (chains_of cs) x.group (sym (state-aggregates b (aggregates x.list))) from_is refl
       ∙ then-answer (from_in (map (chain_in S) (chains_of cs)) outer (state inside)) (from_faults outer chains) (from_becomes outer inside chains, scope, state further) _ _ _ (from-answer cs outer inside)
       (then-answer (filter_in (option_map (condition_in S) x.filter) scopes (state further)) (filter_faults scopes filter) (filter_becomes scopes further filter, state last) _ _ _
       (ap (λ o. filter_in (option_map (condition_in S) o) scopes (state further)) (sym filter_is) ∙ filter-answer w scopes further)
       (then-answer (each (key_in scopes) x.group) (flat_map (key_faults scopes) x.group) keys _ _ _ (each-answer (key_in scopes) (key_faults scopes) (the_key scopes) (key-answer scopes) x.group)
-      (made-answer (outputs_in scope scopes (is_grouped keys x.list) keys b.aggregates x.list) (list_faults scope scopes (is_grouped keys x.list) keys x.list) (shown scope scopes b.aggregates x.list)
-      (λ outputs. (record { block = block_of x.distinct (from_becomes outer inside chains) (filter_becomes scopes further filter) (is_grouped keys x.list) keys outputs; outputs = outputs; scope = scope }, state last))
-      (list-answer scopes (is_grouped keys x.list) keys scope b.aggregates x.list))))
-      ∙ ap (λ (m : Before). answer (analysis.faults outer) (bound_select analysis outer b, state m)) (behind-both inside (from_content chains) (filter_content filter) ∙ behind-both b own (both (from_content chains) (filter_content filter))))
+      (then-answer (having_asked scopes keys x.having (nothing_asked (state last))) (having_faults scopes keys x.having) (record { items = asked; next_aggregate = last.aggregates + calls values }) _ _ _ (having-answer scopes keys x.having last.aggregates)
+      (made-answer (outputs_in scope scopes grouped keys b.aggregates x.list) (list_faults scope scopes grouped keys x.list) (shown scope scopes b.aggregates x.list)
+      (λ outputs. (record { block = block_of x.distinct (from_becomes outer inside chains) (filter_becomes scopes further filter) grouped keys x.having asked outputs; outputs = outputs; scope = scope }, ended))
+      (list-answer scopes grouped keys scope b.aggregates x.list)))))
+      ∙ ap (λ n. answer (analysis.faults outer) (bound_select analysis outer b, n)) (state-aggregates last (calls values))
+      ∙ ap (λ (m : Before). answer (analysis.faults outer) (bound_select analysis outer b, state m))
+      (behind-both further (filter_content filter) (having_content x.having) ∙ behind-both inside (from_content chains) (both (filter_content filter) (having_content x.having))
+      ∙ behind-both b own (both (from_content chains) (both (filter_content filter) (having_content x.having)))))
     where
       x : Select-F Condition Chain Join Select
       x = out-Select q

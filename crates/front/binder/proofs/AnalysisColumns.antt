@@ -13,7 +13,7 @@ use Rattle.binder.specs.declared.extent.Extent.{Extent}
 use Rattle.binder.specs.Extents.{all_of, of_condition, of_join, of_chain, of_select, of_filter, width_of, one_table as table_extent}
 use Rattle.binder.specs.Lookups.{find_table}
 use Rattle.binder.specs.Parts.{no_table, the_table, widths}
-use Rattle.binder.specs.Analyses.{Content, all_contents, both, ConditionAnalysis, JoinAnalysis, ChainAnalysis, SelectAnalysis, condition_layer, condition_analysis, join_analysis, chain_analysis, select_analysis, filter_content, from_content}
+use Rattle.binder.specs.Analyses.{Content, all_contents, both, ConditionAnalysis, JoinAnalysis, ChainAnalysis, SelectAnalysis, condition_layer, condition_analysis, join_analysis, chain_analysis, select_analysis, filter_content, from_content, having_content}
 use Rattle.binder.proofs.BoundConditions.{columns_of, columns-all}
 use Rattle.binder.proofs.ExtentParts.{extent-Compare, extent-IsNull, extent-Not, extent-And, extent-Or, extent-Exists, extent-In, extent-join, extent-chain, extent-select}
 use Rattle.binder.proofs.PartAnswers.{widths-append}
@@ -118,9 +118,12 @@ module _ (S : Schema) where
       = subst (λ cs. columns_of (map (of_chain S) cs) ≡ wide (from_content (map (chain_analysis S) cs))) from_is (all-wide (of_chain S) (chain_analysis S) (λ c. c.content) chains) in
       let where_ : (of_filter (option_map (of_condition S) x.filter)).columns ≡ wide (filter_content (option_map (condition_analysis S) x.filter))
       = subst (λ o. (of_filter (option_map (of_condition S) o)).columns ≡ wide (filter_content (option_map (condition_analysis S) o))) filter_is (filter-wide w) in
-      let together = widths-append S (from_content (map (chain_analysis S) x.from)).tables (filter_content (option_map (condition_analysis S) x.filter)).tables in
+      let filters = filter_content (option_map (condition_analysis S) x.filter) in
+      let inside = both filters (having_content x.having) in
+      let together = widths-append S (from_content (map (chain_analysis S) x.from)).tables inside.tables in
+      let alone = widths-append S filters.tables [] in
       let sum : (all_of (map (of_chain S) x.from)).columns + (of_filter (option_map (of_condition S) x.filter)).columns
-      ≡ wide (both (from_content (map (chain_analysis S) x.from)) (filter_content (option_map (condition_analysis S) x.filter))) = omega (arith, others, from, where_, together) in
+      ≡ wide (both (from_content (map (chain_analysis S) x.from)) inside) = omega (arith, others, from, where_, together, alone) in
       ap (λ e. e.columns) (extent-select S q) ∙ sum ∙ ap (λ (s : SelectAnalysis). wide s.content) (sym (analysis-select S q))
 
   select-by : (y : Select-F ProvedCondition ProvedChain ProvedJoin ProvedSelect) (w : Option ProvedCondition)

@@ -25,7 +25,7 @@ module _ (S : Schema) where
   analysis-chain c = fold_out-Chain ConditionAnalysis ChainAnalysis JoinAnalysis SelectAnalysis condition_layer (chain_layer S) (join_layer S) select_layer c
 
   abbrev pub select_parts : Select-F Condition Chain Join Select → List ChainAnalysis → Option ConditionAnalysis → Select-F ConditionAnalysis ChainAnalysis JoinAnalysis SelectAnalysis
-  select_parts x chains filter = record { distinct = x.distinct; list = x.list; from = chains; filter = filter; group = x.group }
+  select_parts x chains filter = record { distinct = x.distinct; list = x.list; from = chains; filter = filter; group = x.group; having = x.having }
 
   select_layers : (x : Select-F Condition Chain Join Select) (o : Option Condition)
       → select_layer (map-Select Condition Chain Join Select ConditionAnalysis ChainAnalysis JoinAnalysis SelectAnalysis (condition_analysis S) (chain_analysis S) (join_analysis S) (select_analysis S) (record x { filter = o }))

@@ -19,7 +19,8 @@ use Rattle.binder.specs.declared.fault.BindReason.TheVariants.{MixedKinds}
 use Rattle.binder.specs.declared.extent.Extent.{Extent}
 use Rattle.binder.specs.Lookups.{refusal}
 use Rattle.binder.specs.Scopes.{Scopes, meant}
-use Rattle.binder.specs.Selects.{condition_in, select_in, comparison_in, membership_in, term_in, all_in, one_output, are_comparable}
+use Rattle.binder.specs.Kinds.{are_comparable}
+use Rattle.binder.specs.Selects.{condition_in, select_in, comparison_in, membership_in, term_in, all_in, one_output}
 use Rattle.binder.specs.Extents.{of_condition, of_select, beside, nothing, all_of}
 use Rattle.query.specs.Bound as numbers
 use Rattle.query.specs.Bound.{CondScope, cond_scope, bound_term}

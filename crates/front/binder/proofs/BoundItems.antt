@@ -1,8 +1,8 @@
 -- What a SELECT shows is there: columns of the FROMs around, in a grouped one keys, and aggregates of own columns, which have
 -- numbers one after the other.
-use Rattle.std.proofs.Common.{◌≡◌, refl, ℕ, ◌+◌, ◌≤◌, ◌<◌, Bool, true, false, not, ◌||◌, ◌==◌, if◌then◌else◌, nat_lt, List, [], ◌∷◌, map, filter, length, Option, Some, None, arith}
+use Rattle.std.proofs.Common.{◌≡◌, refl, ℕ, ◌+◌, ◌≤◌, ◌<◌, Bool, true, false, not, ◌||◌, ◌==◌, if◌then◌else◌, nat_lt, List, [], ◌∷◌, map, filter, length, Option, Some, None, arith, ◌++◌, flat_map, append_assoc, append-nil, length-append, ap, sym, ◌∙◌}
 use Rattle.std.specs.List.{AllByRecursion, list_all}
-use Rattle.std.proofs.lemmas.Bool.{and_parts, and_from, lt-ltb, eqb-true}
+use Rattle.std.proofs.lemmas.Bool.{and_parts, and_from, lt-ltb, eqb-true, cond-true}
 use Rattle.values.proofs.Lists.{all_append}
 use Rattle.schema.specs.declared.schema.Kind.{Kind}
 use Rattle.schema.specs.declared.schema.Kind.TheVariants as kind
@@ -16,22 +16,31 @@ use Rattle.sql_parse.specs.declared.statement.ItemValue.TheVariants as text
 use Rattle.sql_parse.specs.declared.statement.SelectItem.{SelectItem}
 use Rattle.sql_parse.specs.declared.statement.SelectList.{SelectList}
 use Rattle.sql_parse.specs.declared.statement.SelectList.TheVariants as list
+use Rattle.sql_parse.specs.declared.statement.HavingCondition.{HavingCondition}
+use Rattle.sql_parse.specs.declared.statement.HavingTerm.{HavingTerm}
+use Rattle.sql_parse.specs.declared.statement.HavingTerm.TheVariants as asked
 use Rattle.query.specs.declared.query.Column.{Column}
 use Rattle.query.specs.declared.query.Aggregate.{Aggregate}
 use Rattle.query.specs.declared.query.Item.{Item}
 use Rattle.query.specs.declared.query.Item.TheVariants as item
 use Rattle.binder.specs.declared.scope.TypedColumn.{TypedColumn}
 use Rattle.binder.specs.declared.output.Output.{Output}
-use Rattle.binder.specs.declared.fault.BindReason.TheVariants.{UngroupedColumn, OuterAggregate}
+use Rattle.binder.specs.declared.fault.BindReason.TheVariants.{UngroupedColumn, OuterAggregate, MixedKinds}
 use Rattle.binder.specs.Lookups.{own, refusal}
 use Rattle.binder.specs.Scopes.{Scope, Scopes, meant, place_in_text}
 use Rattle.binder.specs.Outputs.{is_call, is_aggregate, aggregates, key_in, shows, sum_of, aggregate_of, aggregate_in, item_in, output_in, items_in, columns_from, all_columns, is_shown, outputs_in}
 use Rattle.binder.specs.Lent.{width}
 use Rattle.query.specs.Bound as numbers
 use Rattle.query.specs.Bound.{names, bound_aggregate, bound_item, bound_group_item, bound_items, aggregate_numbers, is_among}
-use Rattle.binder.proofs.Given.{Given, and-then, given-if}
-use Rattle.binder.proofs.Rising.{Rising}
+use Rattle.binder.proofs.Given.{Given, and-then, given-if, weaker}
+use Rattle.binder.proofs.Rising.{Rising, rising-append}
 use Rattle.binder.proofs.NamesThere.{Around, IsNamed, meant-there}
+use Rattle.binder.proofs.HavingEquations.{each-having, shape-Compare, shape-IsNull, shape-Not, shape-And, shape-Or, asked-Compare, asked-IsNull, asked-Not, asked-And, asked-Or}
+use Rattle.binder.specs.declared.having.Asked.{Asked}
+use Rattle.binder.specs.Havings.{is_key, with_column, with_aggregate, term_asked, all_asked, condition_asked, having_asked}
+use Rattle.binder.specs.HavingShapes.{named, having_shape, having_values}
+use Rattle.binder.specs.Kinds.{are_comparable}
+use Rattle.std.proofs.lemmas.List.Folds.{list_all-append}
 
 -- an item of a block that is grouped or not
 abbrev pub item_bound : Bool → ℕ → List ℕ → numbers.Scope → Item → Bool
@@ -58,6 +67,11 @@ Takes number true (item.Column c) = ⊥
 Takes number true (item.Aggregate n a) = n ≡ number
 Takes number false (item.Column c) = Unit {0}
 Takes number false (item.Aggregate n a) = ⊥
+
+pub numbers-append : (xs ys : List Item) → aggregate_numbers (xs ++ ys) ≡ aggregate_numbers xs ++ aggregate_numbers ys
+numbers-append [] ys = refl
+numbers-append (item.Column c ∷ xs) ys = numbers-append xs ys
+numbers-append (item.Aggregate n a ∷ xs) ys = ap (λ ns. n ∷ ns) (numbers-append xs ys)
 
 module _ (b : ℕ) (scope : Scope) (outer : Scopes) (row : List ℕ) (rows : numbers.Scope) (fits : Around b (scope ∷ outer) (row ∷ rows)) where
   -- a name of the own FROM is one of its columns
@@ -177,6 +191,76 @@ module _ (b : ℕ) (scope : Scope) (outer : Scopes) (row : List ℕ) (rows : num
         let shown_one : is_shown grouped keys (item.Column (own place)) ≡ true = rw is at tests.0 in
         let more = own-all number outputs all.1 tests.1 in
         rw is (and_from _ _ (own-bound place lt shown_one) more.0, more.1)
+
+  -- ---- HAVING
+
+  module _ (keys : List ℕ) where
+    -- so many more are named, each bound, and their aggregates are numbered on
+    pub record AskedAre (x : Asked) (count : ℕ) (y : Asked) : Type 0 where
+      pub more : List Item
+      pub items : y.items ≡ x.items ++ more
+      pub bound : list_all (bound_group_item (length row) keys (row ∷ rows)) more ≡ true
+      pub rises : Rising x.next_aggregate y.next_aggregate (aggregate_numbers more)
+      pub counts : length more ≡ count
+
+    none-asked : (x : Asked) → AskedAre x 0 x
+    none-asked x = record { more = []; items = sym (append-nil x.items); bound = refl; rises = omega arith; counts = refl }
+
+    asked-then : (x y z : Asked) (m n : ℕ) → AskedAre x m y → AskedAre y n z → AskedAre x (m + n) z
+    asked-then x y z m n first next = record {
+      more = first.more ++ next.more;
+      items = next.items ∙ ap (λ items. items ++ next.more) first.items ∙ append_assoc x.items first.more next.more;
+      bound = list_all-append (bound_group_item (length row) keys (row ∷ rows)) first.more next.more ∙ and_from _ _ first.bound next.bound;
+      rises = rw (numbers-append first.more next.more) (rising-append x.next_aggregate y.next_aggregate z.next_aggregate (aggregate_numbers first.more) (aggregate_numbers next.more) first.rises next.rises);
+      counts = length-append first.more next.more ∙ ap (λ k. k + length next.more) first.counts ∙ ap (λ k. m + k) next.counts;
+    }
+
+    key-bound-item : (c : Column) → is_key keys c ≡ true → bound_group_item (length row) keys (row ∷ rows) (item.Column c) ≡ true
+    key-bound-item c key = let parts = and_parts (c.level == 0) _ key in cond-true _ _ _ parts.0 ∙ parts.1
+
+    column-asked-is : (x : Asked) (c : Column) → is_key keys c ≡ true → AskedAre x 1 (with_column x c)
+    column-asked-is x c key = record { more = item.Column c ∷ []; items = refl; bound = and_from _ _ (key-bound-item c key) refl; rises = omega arith; counts = refl }
+
+    aggregate-asked-is : (x : Asked) (a : Aggregate) → bound_aggregate (length row) a ≡ true → AskedAre x 1 (with_aggregate x a)
+    aggregate-asked-is x a below = record { more = item.Aggregate x.next_aggregate a ∷ []; items = refl; bound = and_from _ _ below refl; rises = (omega arith, omega arith); counts = refl }
+
+    term-are : (a : HavingTerm) (x : Asked) → Given (λ r. AskedAre x (length (named a)) r.1) (term_asked (scope ∷ outer) keys a x)
+    term-are (asked.Column c) x =
+        and-then (IsNamed (row ∷ rows)) _ (meant c (scope ∷ outer)) _ (meant-there c b (scope ∷ outer) (row ∷ rows) fits) (λ found there.
+        given-if (λ r. AskedAre x 1 r.1) (refusal UngroupedColumn (place_in_text c)) (is_key keys found.column) (Some found.kind, with_column x found.column) (column-asked-is x found.column))
+    term-are (asked.Aggregate call) x =
+        and-then (λ a. bound_aggregate (length row) a.0 ≡ true) _ (aggregate_in (scope ∷ outer) call.function call.at call.column) _ (aggregate-bound call.function call.at call.column)
+        (λ a below. aggregate-asked-is x a.0 below)
+    term-are (asked.Literal v) x = none-asked x
+
+    abbrev ConditionAre : HavingCondition → Type 0
+    ConditionAre c = (x : Asked) → Given (AskedAre x (length (having_shape c).values)) (condition_asked (scope ∷ outer) keys c x)
+
+    abbrev values_of : List HavingCondition → List ItemValue
+    values_of cs = flat_map (λ c. c.values) (map having_shape cs)
+
+    all-are : (cs : List HavingCondition) → AllByRecursion ConditionAre cs → (x : Asked) → Given (AskedAre x (length (values_of cs))) (all_asked (map (condition_asked (scope ∷ outer) keys) cs) x)
+    all-are [] each x = none-asked x
+    all-are (c ∷ cs) each x =
+        and-then (AskedAre x (length (having_shape c).values)) _ (condition_asked (scope ∷ outer) keys c x) _ (each.0 x) (λ y first.
+        weaker (AskedAre y (length (values_of cs))) (AskedAre x (length (values_of (c ∷ cs)))) (all_asked (map (condition_asked (scope ∷ outer) keys) cs) y) (all-are cs each.1 y)
+        (λ z next. rw (length-append (having_shape c).values (values_of cs)) (asked-then x y z _ _ first next)))
+
+    condition-are : (c : HavingCondition) → ConditionAre c
+    condition-are = each-having ConditionAre
+        (λ a op o x. rw (asked-Compare (scope ∷ outer) keys a op o, shape-Compare a op o)
+        (and-then (λ r. AskedAre x (length (named a)) r.1) _ (term_asked (scope ∷ outer) keys a x) _ (term-are a x) (λ left first.
+        and-then (λ r. AskedAre left.1 (length (named o)) r.1) _ (term_asked (scope ∷ outer) keys o left.1) _ (term-are o left.1) (λ right next.
+        given-if (AskedAre x (length (named a ++ named o))) (refusal MixedKinds op.at) (are_comparable left.0 right.0) right.1
+        (λ fit. rw (length-append (named a) (named o)) (asked-then x left.1 right.1 _ _ first next))))))
+        (λ a x. rw (asked-IsNull (scope ∷ outer) keys a, shape-IsNull a) (and-then (λ r. AskedAre x (length (named a)) r.1) _ (term_asked (scope ∷ outer) keys a x) _ (term-are a x) (λ tested is. is)))
+        (λ c is x. rw (asked-Not (scope ∷ outer) keys c, shape-Not c) (is x))
+        (λ cs each x. rw (asked-And (scope ∷ outer) keys cs, shape-And cs) (all-are cs each x))
+        (λ cs each x. rw (asked-Or (scope ∷ outer) keys cs, shape-Or cs) (all-are cs each x))
+
+    pub having-are : (having : Option HavingCondition) (x : Asked) → Given (AskedAre x (length (having_values having))) (having_asked (scope ∷ outer) keys having x)
+    having-are None x = none-asked x
+    having-are (Some h) x = condition-are h x
 
   pub outputs-are : (grouped : Bool) (keys : List ℕ) (number : ℕ) (l : SelectList) → (0 < aggregates l → grouped ≡ true) → Given (OutputsAre grouped keys number (aggregates l)) (outputs_in scope (scope ∷ outer) grouped keys number l)
   outputs-are grouped keys number (list.Items items) allowed = items-are grouped keys items number (allowed-from grouped keys items allowed)

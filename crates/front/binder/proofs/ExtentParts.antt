@@ -14,7 +14,8 @@ use Rattle.sql_parse.specs.declared.statement.Join.{Join, out-Join}
 use Rattle.sql_parse.specs.declared.statement.Chain.{Chain, out-Chain}
 use Rattle.sql_parse.specs.declared.statement.Select.{Select, out-Select}
 use Rattle.binder.specs.declared.extent.Extent.{Extent}
-use Rattle.binder.specs.Extents.{of_condition, of_join, of_chain, of_select, of_filter, condition_layer, join_layer, chain_layer, select_layer, one_test, one_table, nothing, beside, all_of, one_level_more}
+use Rattle.binder.specs.HavingShapes.{having_tests}
+use Rattle.binder.specs.Extents.{of_condition, of_join, of_chain, of_select, of_filter, condition_layer, join_layer, chain_layer, select_layer, with_tests, one_test, one_table, nothing, beside, all_of, one_level_more}
 
 condition_roll : (S : Schema) (x : Condition-F Condition Chain Join Select) → of_condition S (roll-Condition x)
     ≡ condition_layer (map-Condition Condition Chain Join Select Extent Extent Extent Extent (of_condition S) (of_chain S) (of_join S) (of_select S) x)
@@ -61,11 +62,11 @@ select_roll S q = fold_out-Select Extent Extent Extent Extent condition_layer (c
 
 select_layers : (S : Schema) (x : Select-F Condition Chain Join Select) (o : Option Condition)
     → select_layer (map-Select Condition Chain Join Select Extent Extent Extent Extent (of_condition S) (of_chain S) (of_join S) (of_select S) (record x { filter = o }))
-    ≡ one_level_more (beside (all_of (map (of_chain S) x.from)) (of_filter (option_map (of_condition S) o)))
+    ≡ with_tests (having_tests x.having) (one_level_more (beside (all_of (map (of_chain S) x.from)) (of_filter (option_map (of_condition S) o))))
 select_layers S x None = refl
 select_layers S x (Some c) = refl
 
-pub extent-select : (S : Schema) (q : Select) → of_select S q ≡ one_level_more (beside (all_of (map (of_chain S) (out-Select q).from)) (of_filter (option_map (of_condition S) (out-Select q).filter)))
+pub extent-select : (S : Schema) (q : Select) → of_select S q ≡ with_tests (having_tests (out-Select q).having) (one_level_more (beside (all_of (map (of_chain S) (out-Select q).from)) (of_filter (option_map (of_condition S) (out-Select q).filter))))
 extent-select S q = select_roll S q ∙ select_layers S (out-Select q) (out-Select q).filter
 
 -- ---- parts one after the other, as a loop goes over them

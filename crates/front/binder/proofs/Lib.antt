@@ -12,6 +12,11 @@ pub mod ExtentParts
 pub mod FirstOnes
 pub mod Given
 pub mod Growth
+pub mod HavingEquations
+pub mod HavingLoops
+pub mod HavingRules
+pub mod HavingShapes
+pub mod Havings
 pub mod Indexes
 pub mod KeyOrder
 pub mod ListingEquations
@@ -22,6 +27,7 @@ pub mod Naming
 pub mod NumberedStatements
 pub mod OutputLoops
 pub mod PartAnswers
+pub mod Requirements
 pub mod Rising
 pub mod RulesHold
 pub mod RulesOnly

@@ -10,8 +10,7 @@ use Rattle.query.specs.declared.query.Cond.TheFolds.{fold-roll-Cond, fold-roll-F
 use Rattle.query.specs.declared.query.From.{From, roll-From}
 use Rattle.query.specs.declared.query.From.TheVariants as from
 use Rattle.query.specs.declared.query.Block.{Block, out-Block}
-use Rattle.query.specs.Bound.{aggregate_numbers}
-use Rattle.binder.specs.TextNumbers.{Listing, no_listing, one_listing, both_listings, all_listings, filter_listing, cond_layer, from_layer, block_layer, cond_listing, from_listing, block_listing}
+use Rattle.binder.specs.TextNumbers.{Listing, no_listing, one_listing, both_listings, all_listings, filter_listing, items_listing, cond_layer, from_layer, block_layer, cond_listing, from_listing, block_listing}
 
 cond_at : (x : Cond-F Cond From Block) (c : Cond) → roll-Cond x ≡ c → cond_listing c ≡ cond_layer (map-Cond Cond From Block Listing Listing Listing cond_listing from_listing block_listing x)
 unfolding cond_listing from_listing block_listing
@@ -54,17 +53,20 @@ listing-LeftJoin f o on = from_at (From-F.LeftJoin f o on) _ (from.rolls-LeftJoi
 pub listing-Comma : (f g : From) → from_listing (from.Comma f g) ≡ both_listings (from_listing f) (from_listing g)
 listing-Comma f g = from_at (From-F.Comma f g) _ (from.rolls-Comma f g)
 
-abbrev items_listing : Block → Listing
-items_listing q = record { references = []; aggregates = aggregate_numbers q.items }
-
 block_roll : (q : Block) → block_listing q ≡ block_layer (map-Block Cond From Block Listing Listing Listing cond_listing from_listing block_listing (out-Block q))
 unfolding cond_listing from_listing block_listing
 block_roll q = fold_out-Block Listing Listing Listing cond_layer from_layer block_layer q
 
-block-is : (x : Block-F Cond From Block) (w : Option Cond) → block_layer (map-Block Cond From Block Listing Listing Listing cond_listing from_listing block_listing (record x { filter = w }))
-    ≡ both_listings (record { references = []; aggregates = aggregate_numbers x.items }) (both_listings (from_listing x.from) (filter_listing (option_map cond_listing w)))
-block-is x None = refl
-block-is x (Some c) = refl
+-- what stands in a block, where its WHERE and its HAVING are given
+abbrev pub block_parts : Block-F Cond From Block → Option Cond → Option Cond → Listing
+block_parts x w h = both_listings (items_listing x.items)
+    (both_listings (from_listing x.from) (both_listings (filter_listing (option_map cond_listing w)) (both_listings (filter_listing (option_map cond_listing h)) (items_listing x.having_items))))
 
-pub listing-Block : (q : Block) → block_listing q ≡ both_listings (items_listing q) (both_listings (from_listing q.from) (filter_listing (option_map cond_listing q.filter)))
-listing-Block q = block_roll q ∙ block-is (out-Block q) (out-Block q).filter
+block-is : (x : Block-F Cond From Block) (w h : Option Cond) → block_layer (map-Block Cond From Block Listing Listing Listing cond_listing from_listing block_listing (record x { filter = w; having = h })) ≡ block_parts x w h
+block-is x None None = refl
+block-is x None (Some d) = refl
+block-is x (Some c) None = refl
+block-is x (Some c) (Some d) = refl
+
+pub listing-Block : (q : Block) → block_listing q ≡ block_parts (out-Block q) q.filter q.having
+listing-Block q = block_roll q ∙ block-is (out-Block q) (out-Block q).filter (out-Block q).having

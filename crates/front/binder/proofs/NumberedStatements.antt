@@ -10,20 +10,24 @@ use Rattle.sql_parse.specs.declared.statement.Condition.TheFolds.{ind-Chain, ind
 use Rattle.sql_parse.specs.declared.statement.Join.{Join, out-Join, roll-Join, out-roll-Join}
 use Rattle.sql_parse.specs.declared.statement.Chain.{Chain, out-Chain, roll-Chain, out-roll-Chain}
 use Rattle.sql_parse.specs.declared.statement.Select.{Select, out-Select, roll-Select, out-roll-Select}
+use Rattle.sql_parse.specs.declared.statement.HavingCondition.{HavingCondition}
 use Rattle.sql_parse.specs.declared.statement.Statement.{Statement}
 use Rattle.sql_parse.specs.declared.statement.TableName.{TableName}
 use Rattle.query.specs.declared.query.From.{From}
 use Rattle.query.specs.declared.query.From.TheVariants as from
 use Rattle.query.specs.declared.query.TableInstance.{TableInstance}
 use Rattle.binder.specs.Outputs.{aggregates, is_grouped}
-use Rattle.binder.specs.Parts.{known, table_faults, term_faults, the_term, the_key, the_reference, the_instance, the_table, widths, instances_behind, shown}
+use Rattle.binder.specs.Parts.{known, table_faults, term_faults, the_term, the_key, the_reference, the_instance, the_table, widths, instances_behind, shown, the_asked}
 use Rattle.binder.specs.Scopes.{Scope, Scopes}
 use Rattle.binder.specs.Selects.{block_of}
-use Rattle.binder.specs.Analyses.{Before, Content, behind, both, all_contents, ConditionAnalysis, JoinAnalysis, ChainAnalysis, SelectAnalysis, all_become, condition_layer, one_table, joins_faults, joins_become, chain_layer, chains_faults, commas_become, from_faults, from_becomes, from_content, filter_content, filter_faults, filter_becomes, scope_of_from, select_layer, condition_analysis, join_analysis, chain_analysis, select_analysis, statement_content, statement_faults, statement_query}
-use Rattle.binder.specs.TextNumbers.{Listing, one_listing, both_listings, all_listings, filter_listing, cond_listing, from_listing, block_listing, columns_together, IsNumbered}
+use Rattle.binder.specs.Analyses.{Before, Content, behind, both, all_contents, ConditionAnalysis, JoinAnalysis, ChainAnalysis, SelectAnalysis, all_become, condition_layer, one_table, joins_faults, joins_become, chain_layer, chains_faults, commas_become, from_faults, from_becomes, from_content, filter_content, filter_faults, filter_becomes, scope_of_from, select_layer, condition_analysis, join_analysis, chain_analysis, select_analysis, statement_content, statement_faults, statement_query, having_content}
+use Rattle.binder.specs.HavingShapes.{having_becomes, having_values}
+use Rattle.binder.specs.TextNumbers.{Listing, one_listing, both_listings, all_listings, filter_listing, items_listing, cond_listing, from_listing, block_listing, columns_together, IsNumbered}
 use Rattle.binder.proofs.PartAnswers.{instances-length, widths-append}
 use Rattle.binder.proofs.AnalysisNumbers.{nil-parts, both-assoc, both-none, listing-joined, references_behind, of_content, both-listed, shown-numbers}
 use Rattle.binder.proofs.AnalysisParts.{analysis-condition, analysis-join, analysis-chain, select_parts, analysis-select}
+use Rattle.binder.proofs.HavingShapes.{placed-none}
+use Rattle.binder.proofs.Havings.{asked-numbers}
 use Rattle.binder.proofs.ListingEquations.{listing-Compare, listing-IsNull, listing-Not, listing-And, listing-Or, listing-Exists, listing-In, listing-Table, listing-Comma, listing-Block}
 
 module _ (S : Schema) where
@@ -158,6 +162,14 @@ module _ (S : Schema) where
   filter-listed None scopes b none = refl
   filter-listed (Some c) scopes b none = c.1 scopes b none
 
+  -- a HAVING lists its aggregates
+  pub having-listed : (scopes : Scopes) (having : Option HavingCondition) (b : Before)
+      → both_listings (filter_listing (option_map cond_listing (having_becomes having))) (items_listing (the_asked scopes b.aggregates (having_values having))) ≡ of_content S b (having_content having)
+  having-listed scopes None b = refl
+  having-listed scopes (Some h) b =
+      ap (λ x. both_listings x (items_listing (the_asked scopes b.aggregates (having_values (Some h))))) (placed-none h 0)
+      ∙ ap (λ ns. record { references = []; aggregates = ns }) (asked-numbers scopes b.aggregates (having_values (Some h)))
+
   select-listed : (q : Select) (cs : List ProvedChain) (w : Option ProvedCondition) → map (λ c. c.0) cs ≡ (out-Select q).from → filter_of w ≡ (out-Select q).filter → SelectListed (select_analysis S q)
   select-listed q cs w from_is filter_is = subst SelectListed (sym (analysis-select S q ∙ ap (λ chains. select_layer (select_parts S x (map (chain_analysis S) chains) (option_map (condition_analysis S) x.filter))) (sym from_is)
       ∙ ap (λ o. select_layer (select_parts S x (chains_of cs) (option_map (condition_analysis S) o))) (sym filter_is))) (λ outer b none.
@@ -172,12 +184,19 @@ module _ (S : Schema) where
       let outputs = shown scope scopes b.aggregates x.list in
       let first = nil-parts (from_faults outer chains) _ none in
       let next = nil-parts (filter_faults scopes filter) _ first.1 in
-      listing-Block (block_of x.distinct (from_becomes outer inside chains) (filter_becomes scopes further filter) (is_grouped keys x.list) keys outputs)
-      ∙ ap (λ ns. both_listings (record { references = []; aggregates = ns }) (both_listings (from_listing (from_becomes outer inside chains)) (filter_listing (option_map cond_listing (filter_becomes scopes further filter))))) (shown-numbers scope scopes b.aggregates x.list)
-      ∙ ap (λ y. both_listings (of_content S b own) (both_listings y (filter_listing (option_map cond_listing (filter_becomes scopes further filter))))) (from-listed cs outer inside first.0)
-      ∙ ap (λ y. both_listings (of_content S b own) (both_listings (of_content S inside (from_content chains)) y)) (filter-listed w scopes further next.0)
-      ∙ ap (both_listings (of_content S b own)) (both-listed S inside (from_content chains) (filter_content filter))
-      ∙ both-listed S b own (both (from_content chains) (filter_content filter)))
+      let last : Before = behind further (filter_content filter) in
+      let asked = the_asked scopes last.aggregates (having_values x.having) in
+      let from_ : Listing = from_listing (from_becomes outer inside chains) in
+      let where_ : Listing = filter_listing (option_map cond_listing (filter_becomes scopes further filter)) in
+      let asked_ : Listing = both_listings (filter_listing (option_map cond_listing (having_becomes x.having))) (items_listing asked) in
+      listing-Block (block_of x.distinct (from_becomes outer inside chains) (filter_becomes scopes further filter) (is_grouped keys x.list x.having) keys x.having asked outputs)
+      ∙ ap (λ ns. both_listings (record { references = []; aggregates = ns }) (both_listings from_ (both_listings where_ asked_))) (shown-numbers scope scopes b.aggregates x.list)
+      ∙ ap (λ y. both_listings (of_content S b own) (both_listings y (both_listings where_ asked_))) (from-listed cs outer inside first.0)
+      ∙ ap (λ y. both_listings (of_content S b own) (both_listings (of_content S inside (from_content chains)) (both_listings y asked_))) (filter-listed w scopes further next.0)
+      ∙ ap (λ y. both_listings (of_content S b own) (both_listings (of_content S inside (from_content chains)) (both_listings (of_content S further (filter_content filter)) y))) (having-listed scopes x.having last)
+      ∙ ap (λ y. both_listings (of_content S b own) (both_listings (of_content S inside (from_content chains)) y)) (both-listed S further (filter_content filter) (having_content x.having))
+      ∙ ap (both_listings (of_content S b own)) (both-listed S inside (from_content chains) (both (filter_content filter) (having_content x.having)))
+      ∙ both-listed S b own (both (from_content chains) (both (filter_content filter) (having_content x.having))))
     where
       x : Select-F Condition Chain Join Select
       x = out-Select q
@@ -209,6 +228,12 @@ module _ (S : Schema) where
       (λ x y is. subst (λ z. ChainListed (chain_analysis S (roll-Chain z))) is (chain-by y))
       (λ x y is. subst (λ z. JoinListed (join_analysis S (roll-Join z))) is (join-by y))
       (λ x y is. subst (λ z. SelectListed (select_analysis S (roll-Select z))) is (select-by y y.filter))
+
+  -- of a WHERE, if there is one
+  pub filters-listed : (scopes : Scopes) (w : Option Condition) (b : Before) → filter_faults scopes (option_map (condition_analysis S) w) ≡ []
+      → filter_listing (option_map cond_listing (filter_becomes scopes b (option_map (condition_analysis S) w))) ≡ of_content S b (filter_content (option_map (condition_analysis S) w))
+  filters-listed scopes None b none = refl
+  filters-listed scopes (Some c) b none = conditions-listed c scopes b none
 
   pub chains-listed : (c : Chain) → ChainListed (chain_analysis S c)
   chains-listed = ind-Chain (λ c. ConditionListed (condition_analysis S c)) (λ c. ChainListed (chain_analysis S c)) (λ j. JoinListed (join_analysis S j)) (λ q. SelectListed (select_analysis S q))

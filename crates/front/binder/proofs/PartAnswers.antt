@@ -41,7 +41,8 @@ use Rattle.binder.specs.Numbers.{enter, entered, with_table}
 use Rattle.binder.specs.Ordering.{first_place, one_column, order_in, sort_key_in, without_repeats}
 use Rattle.binder.specs.Outputs.{aggregate_in, aggregate_of, all_columns as all_columns_from, columns_from, is_aggregate, is_shown, item_in, items_in, key_in, output_in, output_name, outputs_in, shows}
 use Rattle.binder.specs.Scopes.{Scope, Scopes, is_taken, known_name, meant, place_in_text}
-use Rattle.binder.specs.Selects.{are_comparable, comparison_in, membership_in, one_output, term_in}
+use Rattle.binder.specs.Kinds.{are_comparable}
+use Rattle.binder.specs.Selects.{comparison_in, membership_in, one_output, term_in}
 use Rattle.binder.specs.Parts.{all_columns, output_at, unless, fault_in, value_in, name_faults, the_column, term_faults, the_term, no_table, the_table, known, table_faults, widths, the_reference, the_instance, instances_behind, key_faults, the_key, aggregate_by, kind_by, has_aggregate, aggregate_faults, the_aggregate, aggregate_kind, item_faults, the_item, item_kind, the_output, the_outputs, list_faults, shown, kinds_shown, is_one, first_kind, is_empty, are_one, place_of, items_meant, order_faults, the_sort_key}
 
 -- ---- answers

@@ -14,6 +14,7 @@ use Rattle.sql_parse.specs.declared.statement.Condition.{Condition, roll-Conditi
 use Rattle.sql_parse.specs.declared.statement.Condition.TheVariants as tree
 use Rattle.sql_parse.specs.declared.statement.Condition.TheOpen.{Condition-F, Join-F, Chain-F, Select-F}
 use Rattle.sql_parse.specs.declared.statement.Condition.TheFolds.{ind-Select, map-Condition, map-Join, map-Chain, map-Select}
+use Rattle.sql_parse.specs.declared.statement.HavingCondition.{HavingCondition}
 use Rattle.sql_parse.specs.declared.statement.ItemValue.{ItemValue}
 use Rattle.sql_parse.specs.declared.statement.ItemValue.TheVariants as text
 use Rattle.sql_parse.specs.declared.statement.Join.{Join, out-Join, roll-Join, out-roll-Join}
@@ -32,15 +33,16 @@ use Rattle.query.specs.declared.query.SortKey.{SortKey}
 use Rattle.binder.specs.declared.fault.BindReason.{BindReason}
 use Rattle.binder.specs.declared.fault.BindRefusal.{BindRefusal}
 use Rattle.binder.specs.declared.output.Output.{Output}
-use Rattle.binder.specs.Analyses.{Before, Content, behind, ConditionAnalysis, JoinAnalysis, ChainAnalysis, SelectAnalysis, all_become, condition_layer, one_table, joins_faults, joins_become, chain_layer, chains_faults, commas_become, from_faults, from_becomes, from_content, filter_faults, filter_becomes, scope_of_from, select_layer, condition_analysis, join_analysis, chain_analysis, select_analysis}
+use Rattle.binder.specs.Analyses.{Before, Content, behind, ConditionAnalysis, JoinAnalysis, ChainAnalysis, SelectAnalysis, all_become, condition_layer, one_table, joins_faults, joins_become, chain_layer, chains_faults, commas_become, from_faults, from_becomes, from_content, filter_faults, filter_becomes, scope_of_from, select_layer, condition_analysis, join_analysis, chain_analysis, select_analysis, having_faults, filter_content}
 use Rattle.binder.specs.Lookups.{find_table}
 use Rattle.binder.specs.Meanings.{HasAny, IsFirst, Means, HasInstance}
 use Rattle.binder.specs.Ordering.{first_place, same_item}
-use Rattle.binder.specs.Outputs.{aggregates, is_aggregate, is_grouped}
-use Rattle.binder.specs.Parts.{unless, name_faults, the_column, term_faults, the_term, no_table, the_table, known, table_faults, the_reference, key_faults, the_key, aggregate_faults, the_aggregate, aggregate_kind, item_faults, the_item, item_kind, the_outputs, list_faults, shown, is_one, first_kind, is_empty, are_one, items_meant, place_of, order_faults, the_sort_key}
-use Rattle.binder.specs.Rules.{BindsTerm, BindsKey, BindsAggregate, BindsValue, BindsItem, BindsList, BindsTable, BindsCondition, BindsConditions, BindsJoins, BindsChain, BindsCommas, BindsFilter, BindsSelect, BindsOrder}
+use Rattle.binder.specs.Outputs.{aggregates, is_aggregate, is_grouped, is_call}
+use Rattle.binder.specs.Parts.{unless, name_faults, the_column, term_faults, the_term, no_table, the_table, known, table_faults, the_reference, key_faults, the_key, aggregate_faults, the_aggregate, aggregate_kind, item_faults, the_item, item_kind, the_outputs, list_faults, shown, is_one, first_kind, is_empty, are_one, items_meant, place_of, order_faults, the_sort_key, asked_faults, the_asked}
+use Rattle.binder.specs.Rules.{BindsTerm, BindsKey, BindsAggregate, BindsValue, BindsItem, BindsList, BindsTable, BindsCondition, BindsConditions, BindsJoins, BindsChain, BindsCommas, BindsFilter, BindsSelect, BindsOrder, BindsAsked, BindsHaving}
 use Rattle.binder.specs.Scopes.{Scope, Scopes, is_taken, known_name, instance_named}
-use Rattle.binder.specs.Selects.{are_comparable}
+use Rattle.binder.specs.Kinds.{are_comparable}
+use Rattle.binder.specs.HavingShapes.{having_fits, having_values}
 use Rattle.binder.proofs.AnalysisAnswers.{bound_select, has-kinds}
 use Rattle.binder.proofs.AnalysisNumbers.{nil-parts}
 use Rattle.binder.proofs.AnalysisParts.{analysis-condition, analysis-join, analysis-chain, select_parts, analysis-select}
@@ -48,12 +50,10 @@ use Rattle.binder.proofs.FirstOnes.{first-here, first-behind, none-here}
 use Rattle.binder.proofs.Indexes.{taken-instance}
 use Rattle.binder.proofs.NameMeanings.{names_mean, FoundInstance, found-instance}
 use Rattle.binder.proofs.PartAnswers.{answer, name-answer}
+use Rattle.binder.proofs.Requirements.{held}
+use Rattle.binder.proofs.HavingRules.{having-holds}
 
 -- ---- requirements
-
-pub held : (b : Bool) (reason : BindReason) (at : ℕ) → unless b reason at ≡ [] → b ≡ true
-held true reason at none = refl
-held false reason at none = cc none
 
 pub name-means : (scopes : Scopes) (c : ColumnName) → name_faults scopes c ≡ [] → Means c scopes (the_column scopes c)
 name-means scopes c none = (names_mean c scopes (the_column scopes c)).0 (name-answer scopes c ∙ ap (λ fs. answer fs (the_column scopes c)) none)
@@ -82,6 +82,40 @@ value-binds scopes grouped keys number (text.Column c) none =
     (the_column scopes c, name-means scopes c parts.0, held _ _ _ parts.1, refl, refl)
 value-binds scopes grouped keys number (text.Aggregate call) none =
     (number, the_aggregate scopes call.function call.column, aggregate-binds scopes call.function call.at call.column none, refl)
+
+-- what a HAVING names
+abbrev next_of : ℕ → ItemValue → ℕ
+next_of number v = if is_call v then number + 1 else number
+
+abbrev found_of : Scopes → ℕ → List ItemValue → List (Item × Kind)
+found_of scopes number [] = []
+found_of scopes number (v ∷ values) = (the_item scopes number v, item_kind scopes v) ∷ found_of scopes (next_of number v) values
+
+found-items : (scopes : Scopes) (number : ℕ) (values : List ItemValue) → the_asked scopes number values ≡ map (λ f. f.0) (found_of scopes number values)
+found-items scopes number [] = refl
+found-items scopes number (v ∷ values) = ap (λ items. the_item scopes number v ∷ items) (found-items scopes (next_of number v) values)
+
+found-kinds : (scopes : Scopes) (number : ℕ) (values : List ItemValue) → map (λ f. f.1) (found_of scopes number values) ≡ map (item_kind scopes) values
+found-kinds scopes number [] = refl
+found-kinds scopes number (v ∷ values) = ap (λ ks. item_kind scopes v ∷ ks) (found-kinds scopes (next_of number v) values)
+
+asked-binds : (scopes : Scopes) (keys : List ℕ) (number : ℕ) (v : ItemValue) → asked_faults scopes keys v ≡ [] → BindsAsked scopes keys v (the_item scopes number v, item_kind scopes v)
+asked-binds scopes keys number (text.Column c) none =
+    let parts = nil-parts (name_faults scopes c) _ none in
+    (the_column scopes c, name-means scopes c parts.0, held _ _ _ parts.1, refl, refl)
+asked-binds scopes keys number (text.Aggregate call) none = value-binds scopes true keys number (text.Aggregate call) none
+
+all-asked-bind : (scopes : Scopes) (keys : List ℕ) (number : ℕ) (values : List ItemValue) → flat_map (asked_faults scopes keys) values ≡ [] → Pairs (BindsAsked scopes keys) values (found_of scopes number values)
+all-asked-bind scopes keys number [] none = tt
+all-asked-bind scopes keys number (v ∷ values) none =
+    let parts = nil-parts (asked_faults scopes keys v) _ none in
+    (asked-binds scopes keys number v parts.0, all-asked-bind scopes keys (next_of number v) values parts.1)
+
+having-binds : (scopes : Scopes) (keys : List ℕ) (number : ℕ) (having : Option HavingCondition) → having_faults scopes keys having ≡ [] → BindsHaving scopes keys having (the_asked scopes number (having_values having))
+having-binds scopes keys number having none =
+    let parts = having-holds scopes keys having none in
+    let values = having_values having in
+    (found_of scopes number values, all-asked-bind scopes keys number values parts.0, ap (λ ks. having_fits ks having) (found-kinds scopes number values) ∙ parts.1, found-items scopes number values)
 
 items-bind : (scopes : Scopes) (grouped : Bool) (keys : List ℕ) (number : ℕ) (items : List SelectItem) → flat_map (λ i. item_faults scopes grouped keys i.value) items ≡ []
     → Pairs (BindsItem scopes grouped keys) items (the_outputs scopes number items)
@@ -284,12 +318,14 @@ module _ (S : Schema) where
           let chain = nil-parts (analysis.faults outer []) (chains_faults outer analysis.scope (chains_of chains)) first.0 in
           let next = nil-parts (filter_faults scopes filter) _ first.1 in
           let last = nil-parts (flat_map (key_faults scopes) x.group) _ next.1 in
+          let ends = nil-parts (having_faults scopes keys x.having) _ last.1 in
+          let number : ℕ = (behind (behind inside (from_content all)) (filter_content filter)).aggregates in
           let where_ = filter-binds w scopes (behind inside (from_content all)) next.0 in
-          BindsSelect.select c.0 (map (λ c. c.0) chains) analysis.scope scope (analysis.becomes outer inside) (from_becomes outer inside all) (filter_becomes scopes (behind inside (from_content all)) filter) keys (shown scope scopes b.aggregates x.list)
+          BindsSelect.select c.0 (map (λ c. c.0) chains) analysis.scope scope (analysis.becomes outer inside) (from_becomes outer inside all) (filter_becomes scopes (behind inside (from_content all)) filter) keys (the_asked scopes number (having_values x.having)) (shown scope scopes b.aggregates x.list)
           (sym is) (c.1 outer [] inside chain.0) (commas-bind chains outer analysis.scope (behind inside analysis.content) (analysis.becomes outer inside) chain.1)
           (subst (λ o. BindsFilter S scopes o (filter_becomes scopes (behind inside (from_content all)) filter)) filter_is where_)
           (each-pairs (BindsKey scopes) (key_faults scopes) (the_key scopes) (key-binds scopes) x.group last.0)
-          (list-binds scope scopes (is_grouped keys x.list) keys b.aggregates x.list last.1) refl
+          (having-binds scopes keys number x.having ends.0) (list-binds scope scopes (is_grouped keys x.list x.having) keys b.aggregates x.list ends.1) refl
 
   -- ---- each part, wherever it stands
 

@@ -10,6 +10,7 @@ use Rattle.schema.specs.declared.schema.Schema.{Schema}
 use Rattle.schema.specs.Each.{Pairs}
 use Rattle.sql_parse.specs.declared.statement.AggregateFunction.{AggregateFunction}
 use Rattle.sql_parse.specs.declared.statement.ColumnName.{ColumnName}
+use Rattle.sql_parse.specs.declared.statement.HavingCondition.{HavingCondition}
 use Rattle.sql_parse.specs.declared.statement.ItemValue.{ItemValue}
 use Rattle.sql_parse.specs.declared.statement.ItemValue.TheVariants as text
 use Rattle.sql_parse.specs.declared.statement.SelectItem.{SelectItem}
@@ -28,28 +29,25 @@ use Rattle.binder.specs.declared.fault.BindRefusal.{BindRefusal}
 use Rattle.binder.specs.declared.output.Output.{Output}
 use Rattle.binder.specs.declared.scope.TypedColumn.{TypedColumn}
 use Rattle.binder.specs.declared.selects.BoundTerm.{BoundTerm}
-use Rattle.binder.specs.Analyses.{Before, Content, behind}
+use Rattle.binder.specs.Analyses.{Before, Content, behind, having_faults}
 use Rattle.binder.specs.Lookups.{find_table}
 use Rattle.binder.specs.Meanings.{HasInstance, IsFirst, Means}
 use Rattle.binder.specs.Outputs.{is_aggregate, is_call, is_shown, shows}
-use Rattle.binder.specs.Parts.{unless, fault_in, value_in, name_faults, the_column, term_faults, the_term, no_table, the_table, known, table_faults, the_reference, key_faults, the_key, has_aggregate, aggregate_faults, the_aggregate, aggregate_kind, item_faults, the_item, item_kind, the_output, the_outputs, all_columns, list_faults, shown}
-use Rattle.binder.specs.Rules.{BindsTerm, BindsKey, BindsAggregate, BindsValue, BindsItem, BindsList, BindsTable}
+use Rattle.binder.specs.Parts.{unless, fault_in, value_in, name_faults, the_column, term_faults, the_term, no_table, the_table, known, table_faults, the_reference, key_faults, the_key, has_aggregate, aggregate_faults, the_aggregate, aggregate_kind, item_faults, the_item, item_kind, the_output, the_outputs, all_columns, list_faults, shown, asked_faults, the_asked}
+use Rattle.binder.specs.Rules.{BindsTerm, BindsKey, BindsAggregate, BindsValue, BindsItem, BindsList, BindsTable, BindsAsked, BindsHaving}
 use Rattle.binder.specs.Scopes.{Known, Scope, Scopes, is_taken, known_name, instance_named}
 use Rattle.binder.specs.TextNumbers.{Listing, one_listing, both_listings}
+use Rattle.binder.specs.HavingShapes.{having_fits, having_values}
+use Rattle.binder.specs.Havings.{is_key}
 use Rattle.binder.proofs.AnalysisNumbers.{of_content}
 use Rattle.binder.proofs.FirstOnes.{first-once}
 use Rattle.binder.proofs.Indexes.{taken-instance}
 use Rattle.binder.proofs.NameMeanings.{names_mean, FoundInstance, found-instance}
 use Rattle.binder.proofs.RulesHold.{FoundTable, found-table}
+use Rattle.binder.proofs.Requirements.{required, no-faults}
+use Rattle.binder.proofs.HavingRules.{having-quiet}
 
--- ---- requirements
-
-pub required : (b : Bool) (reason : BindReason) (at : ℕ) → b ≡ true → unless b reason at ≡ []
-required true reason at is = refl
-required false reason at is = cc is
-
-pub no-faults : (fs gs : List BindRefusal) → fs ≡ [] → gs ≡ [] → fs ++ gs ≡ []
-no-faults fs gs none also = ap (λ x. x ++ gs) none ∙ also
+-- ---- names
 
 pub name-only : (scopes : Scopes) (c : ColumnName) (found : TypedColumn) → Means c scopes found → (name_faults scopes c ≡ []) × (found ≡ the_column scopes c)
 name-only scopes c found means =
@@ -123,6 +121,39 @@ value-only scopes grouped keys number (text.Aggregate call) i k others (n, a, bi
     let first : n ≡ number = cc in
     let rest : aggregate_numbers others ≡ range_with_len (number + 1) (length (aggregate_numbers others)) = cc in
     (one.0, is ∙ ap (λ m. item.Aggregate m a) first ∙ ap (item.Aggregate number) one.1, one.2, rest)
+
+-- what a HAVING names, and that the numbers behind it go on
+asked-only : (scopes : Scopes) (keys : List ℕ) (number : ℕ) (v : ItemValue) (i : Item) (k : Kind) (others : List Item) → BindsAsked scopes keys v (i, k)
+    → aggregate_numbers (i ∷ others) ≡ range_with_len number (length (aggregate_numbers (i ∷ others)))
+    → (asked_faults scopes keys v ≡ []) × (i ≡ the_item scopes number v) × (k ≡ item_kind scopes v)
+    × (aggregate_numbers others ≡ range_with_len (if is_call v then number + 1 else number) (length (aggregate_numbers others)))
+asked-only scopes keys number (text.Column c) i k others (found, means, key, is, kind) runs =
+    let name = name-only scopes c found means in
+    let same = name.1 in
+    let own : is_key keys (the_column scopes c).column ≡ true = sym (ap (λ (x : TypedColumn). is_key keys x.column) same) ∙ key in
+    let more = rw is at runs in
+    (no-faults _ _ name.0 (required _ _ _ own), is ∙ ap (λ (x : TypedColumn). item.Column x.column) same, kind ∙ ap (λ (x : TypedColumn). x.kind) same, more)
+asked-only scopes keys number (text.Aggregate call) i k others binds runs = value-only scopes true keys number (text.Aggregate call) i k others binds runs
+
+all-asked-only : (scopes : Scopes) (keys : List ℕ) (number : ℕ) (values : List ItemValue) (found : List (Item × Kind)) → Pairs (BindsAsked scopes keys) values found
+    → aggregate_numbers (map (λ f. f.0) found) ≡ range_with_len number (length (aggregate_numbers (map (λ f. f.0) found)))
+    → (flat_map (asked_faults scopes keys) values ≡ []) × (map (λ f. f.0) found ≡ the_asked scopes number values) × (map (λ f. f.1) found ≡ map (item_kind scopes) values)
+all-asked-only scopes keys number [] [] pairs runs = (refl, refl, refl)
+all-asked-only scopes keys number [] (f ∷ found) pairs runs = absurd pairs
+all-asked-only scopes keys number (v ∷ values) [] pairs runs = absurd pairs
+all-asked-only scopes keys number (v ∷ values) ((i, k) ∷ found) pairs runs =
+    let one = asked-only scopes keys number v i k (map (λ f. f.0) found) pairs.0 runs in
+    let others = all-asked-only scopes keys (if is_call v then number + 1 else number) values found pairs.1 one.3 in (
+      no-faults _ _ one.0 others.0,
+      ap (λ j. j ∷ map (λ f. f.0) found) one.1 ∙ ap (λ items. the_item scopes number v ∷ items) others.1,
+      ap (λ j. j ∷ map (λ f. f.1) found) one.2 ∙ ap (λ ks. item_kind scopes v ∷ ks) others.2,
+    )
+
+pub having-only : (scopes : Scopes) (keys : List ℕ) (number : ℕ) (having : Option HavingCondition) (items : List Item) → BindsHaving scopes keys having items → aggregate_numbers items ≡ range_with_len number (length (aggregate_numbers items))
+    → (having_faults scopes keys having ≡ []) × (items ≡ the_asked scopes number (having_values having))
+having-only scopes keys number having items (found, pairs, fit, are) runs =
+    let all = all-asked-only scopes keys number (having_values having) found pairs (rw are at runs) in
+    (having-quiet scopes keys having all.0 (sym (ap (λ ks. having_fits ks having) all.2) ∙ fit), are ∙ all.1)
 
 items-only : (scopes : Scopes) (grouped : Bool) (keys : List ℕ) (items : List SelectItem) (outputs : List Output) (number : ℕ) → Pairs (BindsItem scopes grouped keys) items outputs
     → aggregate_numbers (map (λ o. o.item) outputs) ≡ range_with_len number (length (aggregate_numbers (map (λ o. o.item) outputs)))

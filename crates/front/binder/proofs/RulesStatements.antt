@@ -37,10 +37,11 @@ use Rattle.binder.proofs.BoundStatements.{selects_bound}
 use Rattle.binder.proofs.Given.{given-ok}
 use Rattle.binder.proofs.NumberedStatements.{first-columns, numbered, same-tables, selects-listed, together-widths}
 use Rattle.binder.proofs.PartAnswers.{answer}
-use Rattle.binder.proofs.RulesHold.{each-pairs, held, order-binds, selects-bind}
-use Rattle.binder.proofs.RulesOnly.{Runs, no-faults, required}
+use Rattle.binder.proofs.RulesHold.{each-pairs, order-binds, selects-bind}
+use Rattle.binder.proofs.RulesOnly.{Runs}
 use Rattle.binder.proofs.RulesTrees.{selects-only}
 use Rattle.binder.proofs.StatementAnswers.{selects-answer, start, statements_accepted}
+use Rattle.binder.proofs.Requirements.{held, no-faults, required}
 
 -- ---- ORDER BY
 

@@ -1,5 +1,5 @@
 -- A condition, a FROM or a SELECT by the rules, numbered in the order of the text, is what it means, and has no fault.
-use Rattle.std.proofs.Common.{◌≡◌, refl, sym, ◌∙◌, ap, subst, ℕ, true, List, [], ◌∷◌, ◌++◌, flat_map, map, Option, Some, None, option_map, append_assoc, append-nil}
+use Rattle.std.proofs.Common.{◌≡◌, refl, sym, ◌∙◌, ap, subst, ℕ, true, List, [], ◌∷◌, ◌++◌, flat_map, map, Option, Some, None, option_map, append_assoc, append-nil, Bool}
 use Rattle.schema.specs.declared.schema.Schema.{Schema}
 use Rattle.schema.specs.Each.{Pairs}
 use Rattle.sql_parse.specs.declared.statement.Chain.{Chain, out-Chain}
@@ -8,6 +8,7 @@ use Rattle.sql_parse.specs.declared.statement.Condition.TheVariants as tree
 use Rattle.sql_parse.specs.declared.statement.Condition.TheOpen.{Condition-F}
 use Rattle.sql_parse.specs.declared.statement.Join.{Join, out-Join}
 use Rattle.sql_parse.specs.declared.statement.Operator.{Operator}
+use Rattle.sql_parse.specs.declared.statement.HavingCondition.{HavingCondition}
 use Rattle.sql_parse.specs.declared.statement.Select.{Select, out-Select}
 use Rattle.sql_parse.specs.declared.statement.TableName.{TableName}
 use Rattle.sql_parse.specs.declared.statement.Term as terms
@@ -16,24 +17,29 @@ use Rattle.query.specs.declared.query.Cond.TheVariants as cond
 use Rattle.query.specs.declared.query.From.{From}
 use Rattle.query.specs.declared.query.From.TheVariants as from
 use Rattle.query.specs.declared.query.TableReference.{TableReference}
+use Rattle.query.specs.declared.query.Item.{Item}
 use Rattle.query.specs.Bound.{aggregate_numbers}
 use Rattle.binder.specs.declared.fault.BindRefusal.{BindRefusal}
 use Rattle.binder.specs.declared.output.Output.{Output}
 use Rattle.binder.specs.declared.selects.BoundSelect.{BoundSelect}
 use Rattle.binder.specs.declared.selects.BoundTerm.{BoundTerm}
-use Rattle.binder.specs.Analyses.{Before, Content, behind, both, ConditionAnalysis, JoinAnalysis, ChainAnalysis, SelectAnalysis, all_become, one_table, joins_faults, joins_become, chains_faults, commas_become, from_faults, from_becomes, from_content, filter_faults, filter_becomes, scope_of_from, select_layer, condition_analysis, join_analysis, chain_analysis, select_analysis}
+use Rattle.binder.specs.Analyses.{Before, Content, behind, both, ConditionAnalysis, JoinAnalysis, ChainAnalysis, SelectAnalysis, all_become, one_table, joins_faults, joins_become, chains_faults, commas_become, from_faults, from_becomes, from_content, filter_faults, filter_becomes, scope_of_from, select_layer, condition_analysis, join_analysis, chain_analysis, select_analysis, having_faults, filter_content}
 use Rattle.binder.specs.Outputs.{aggregates, is_grouped}
-use Rattle.binder.specs.Parts.{is_one, first_kind, key_faults, known, list_faults, shown, the_key, the_reference, the_term}
-use Rattle.binder.specs.Rules.{BindsTerm, BindsKey, BindsList, BindsTable, BindsCondition, BindsConditions, BindsJoins, BindsChain, BindsCommas, BindsFilter, BindsSelect}
+use Rattle.binder.specs.Parts.{is_one, first_kind, key_faults, known, list_faults, shown, the_key, the_reference, the_term, the_asked}
+use Rattle.binder.specs.Rules.{BindsTerm, BindsKey, BindsList, BindsTable, BindsCondition, BindsConditions, BindsJoins, BindsChain, BindsCommas, BindsFilter, BindsSelect, BindsHaving}
 use Rattle.binder.specs.Scopes.{Known, Scope, Scopes}
-use Rattle.binder.specs.Selects.{are_comparable, block_of, joined}
-use Rattle.binder.specs.TextNumbers.{Listing, no_listing, one_listing, both_listings, all_listings, filter_listing, cond_listing, from_listing, block_listing}
+use Rattle.binder.specs.Kinds.{are_comparable}
+use Rattle.binder.specs.Selects.{block_of, joined}
+use Rattle.binder.specs.TextNumbers.{Listing, no_listing, one_listing, both_listings, all_listings, filter_listing, cond_listing, from_listing, block_listing, items_listing}
+use Rattle.binder.specs.HavingShapes.{having_becomes, having_values}
 use Rattle.binder.proofs.AnalysisAnswers.{bound_select, has-kinds}
 use Rattle.binder.proofs.AnalysisNumbers.{both-assoc, both-none, both-listed, listing-joined, of_content, shown-numbers}
 use Rattle.binder.proofs.AnalysisParts.{analysis-condition, analysis-join, analysis-chain, select_parts, analysis-select}
 use Rattle.binder.proofs.ListingEquations.{listing-Not, listing-And, listing-Or, listing-Exists, listing-In, listing-Table, listing-Comma, listing-Block}
-use Rattle.binder.proofs.NumberedStatements.{conditions-listed, chains-listed, froms-listed}
-use Rattle.binder.proofs.RulesOnly.{Runs, runs-left, runs-right, required, no-faults, term-only, keys-only, list-only, table-only}
+use Rattle.binder.proofs.NumberedStatements.{conditions-listed, chains-listed, froms-listed, filters-listed}
+use Rattle.binder.proofs.RulesOnly.{Runs, runs-left, runs-right, term-only, keys-only, list-only, table-only, having-only}
+use Rattle.binder.proofs.Requirements.{required, no-faults}
+use Rattle.binder.proofs.HavingShapes.{placed-none}
 
 module _ (S : Schema) where
   -- ---- the claims
@@ -240,12 +246,19 @@ module _ (S : Schema) where
   only-filter : (scopes : Scopes) (c : Condition) (x : Cond) → ConditionOnly scopes c x → FilterOnly scopes (Some c) (Some x)
   only-filter scopes c x condition b runs = let one = condition b runs in (one.0, ap (λ z. Some z) one.1)
 
-  abbrev made : Select → From → Option Cond → List ℕ → List Output → Scope → BoundSelect
-  made q sources where_ keys outputs scope =
-      record { block = block_of (out-Select q).distinct sources where_ (is_grouped keys (out-Select q).list) keys outputs; outputs = outputs; scope = scope }
+  abbrev grouped_by : Select → List ℕ → Bool
+  grouped_by q keys = is_grouped keys (out-Select q).list (out-Select q).having
+
+  abbrev made : Select → From → Option Cond → List ℕ → List Item → List Output → Scope → BoundSelect
+  made q sources where_ keys asked outputs scope =
+      record { block = block_of (out-Select q).distinct sources where_ (grouped_by q keys) keys (out-Select q).having asked outputs; outputs = outputs; scope = scope }
 
   abbrev items_listed : List Output → Listing
-  items_listed outputs = record { references = []; aggregates = aggregate_numbers (map (λ o. o.item) outputs) }
+  items_listed outputs = items_listing (map (λ o. o.item) outputs)
+
+  having-none : (having : Option HavingCondition) → filter_listing (option_map cond_listing (having_becomes having)) ≡ no_listing
+  having-none None = refl
+  having-none (Some h) = placed-none h 0
 
   abbrev keys_in : Select → Scopes → List ℕ
   keys_in q scopes = map (the_key scopes) (out-Select q).group
@@ -254,13 +267,13 @@ module _ (S : Schema) where
   abbrev select_faults : Select → Scopes → List ChainAnalysis → Scope → List ℕ → List BindRefusal
   select_faults q outer chains scope keys =
       from_faults outer chains ++ (filter_faults (scope ∷ outer) (option_map (condition_analysis S) (out-Select q).filter)
-      ++ (flat_map (key_faults (scope ∷ outer)) (out-Select q).group ++ list_faults scope (scope ∷ outer) (is_grouped keys (out-Select q).list) keys (out-Select q).list))
+      ++ (flat_map (key_faults (scope ∷ outer)) (out-Select q).group ++ (having_faults (scope ∷ outer) keys (out-Select q).having ++ list_faults scope (scope ∷ outer) (grouped_by q keys) keys (out-Select q).list)))
 
-  only-select : (outer : Scopes) (q : Select) (r : BoundSelect) (c : Chain) (cs : List Chain) (first scope : Scope) (left sources : From) (where_ : Option Cond) (keys : List ℕ) (outputs : List Output)
+  only-select : (outer : Scopes) (q : Select) (r : BoundSelect) (c : Chain) (cs : List Chain) (first scope : Scope) (left sources : From) (where_ : Option Cond) (keys : List ℕ) (asked : List Item) (outputs : List Output)
       → (out-Select q).from ≡ c ∷ cs → ChainOnly outer [] c first left → CommasOnly outer first left cs scope sources → FilterOnly (scope ∷ outer) (out-Select q).filter where_
-      → Pairs (BindsKey (scope ∷ outer)) (out-Select q).group keys → BindsList scope (scope ∷ outer) (is_grouped keys (out-Select q).list) keys (out-Select q).list outputs
-      → r ≡ made q sources where_ keys outputs scope → SelectOnly outer q r
-  only-select outer q r c cs first scope left sources where_ keys outputs from_is chain (rest, split, more) filter group list is b runs =
+      → Pairs (BindsKey (scope ∷ outer)) (out-Select q).group keys → BindsHaving (scope ∷ outer) keys (out-Select q).having asked → BindsList scope (scope ∷ outer) (grouped_by q keys) keys (out-Select q).list outputs
+      → r ≡ made q sources where_ keys asked outputs scope → SelectOnly outer q r
+  only-select outer q r c cs first scope left sources where_ keys asked outputs from_is chain (rest, split, more) filter group having list is b runs =
       let x = out-Select q in
       let ca = chain_analysis S c in
       let others = map (chain_analysis S) cs in
@@ -272,30 +285,40 @@ module _ (S : Schema) where
       let items : Listing = items_listed outputs in
       let source : Listing = from_listing sources in
       let filtered : Listing = filter_listing (option_map cond_listing where_) in
-      let parts = subst (Runs b) (ap (λ (z : BoundSelect). block_listing z.block) is ∙ listing-Block (block_of x.distinct sources where_ (is_grouped keys x.list) keys outputs)) runs in
-      let mine = runs-left b items (both_listings source filtered) parts in
-      let listed = list-only scope (scope ∷ outer) (is_grouped keys x.list) keys x.list outputs b.aggregates list mine.1 in
+      let asks : Listing = both_listings (filter_listing (option_map cond_listing (having_becomes x.having))) (items_listing asked) in
+      let inner : Listing = both_listings source (both_listings filtered asks) in
+      let last : Before = behind further (filter_content filters) in
+      let parts = subst (Runs b) (ap (λ (z : BoundSelect). block_listing z.block) is ∙ listing-Block (block_of x.distinct sources where_ (grouped_by q keys) keys x.having asked outputs)) runs in
+      let mine = runs-left b items inner parts in
+      let listed = list-only scope (scope ∷ outer) (grouped_by q keys) keys x.list outputs b.aggregates list mine.1 in
       let items_are : items ≡ of_content S b own = ap items_listed listed.1 ∙ ap (λ ns. numbers_listed ns) (shown-numbers scope (scope ∷ outer) b.aggregates x.list) in
-      let behind_items = runs-right S b items (both_listings source filtered) own parts items_are in
-      let whole = subst (Runs inside) split (runs-left inside source filtered behind_items) in
+      let behind_items = runs-right S b items inner own parts items_are in
+      let whole = subst (Runs inside) split (runs-left inside source (both_listings filtered asks) behind_items) in
       let one = chain inside (runs-left inside (from_listing left) rest whole) in
       let left_is = ap from_listing one.1 ∙ chains-listed S c outer [] inside one.0 in
       let tail = more (behind inside ca.content) (runs-right S inside (from_listing left) rest ca.content whole left_is) in
       let quiet : from_faults outer all ≡ [] = no-faults _ _ one.0 (ap (λ s. chains_faults outer s others) (sym one.2) ∙ tail.0) in
       let sources_are : sources ≡ from_becomes outer inside all = tail.1 ∙ ap (λ f. commas_become outer (behind inside ca.content) f others) one.1 in
       let source_is : source ≡ of_content S inside (from_content all) = ap from_listing sources_are ∙ froms-listed S (c ∷ cs) outer inside quiet in
-      let test = filter further (runs-right S inside source filtered (from_content all) behind_items source_is) in
+      let behind_source = runs-right S inside source (both_listings filtered asks) (from_content all) behind_items source_is in
+      let test = filter further (runs-left further filtered asks behind_source) in
+      let filtered_is : filtered ≡ of_content S further (filter_content filters) = ap (λ w. filter_listing (option_map cond_listing w)) test.1 ∙ filters-listed S (scope ∷ outer) x.filter further test.0 in
+      let behind_filter = runs-right S further filtered asks (filter_content filters) behind_source filtered_is in
+      let asks_items : asks ≡ items_listing asked = ap (λ l. both_listings l (items_listing asked)) (having-none x.having) in
+      let named = having-only (scope ∷ outer) keys last.aggregates x.having asked having (subst (Runs last) asks_items behind_filter).1 in
       let grouped = keys-only (scope ∷ outer) x.group keys group in
       let scope_is : scope ≡ scope_of_from all = tail.2 ∙ ap (λ s. s ++ scope_of_from others) one.2 in
       let none : select_faults q outer all scope (keys_in q (scope ∷ outer)) ≡ [] =
-      subst (λ ks. select_faults q outer all scope ks ≡ []) grouped.1 (no-faults _ _ quiet (no-faults _ _ test.0 (no-faults _ _ grouped.0 listed.0))) in
-      let r_is : r ≡ made q (from_becomes outer inside all) (filter_becomes (scope ∷ outer) further filters) (keys_in q (scope ∷ outer)) (shown scope (scope ∷ outer) b.aggregates x.list) scope =
-      is ∙ ap (λ s. made q s where_ keys outputs scope) sources_are ∙ ap (λ w. made q (from_becomes outer inside all) w keys outputs scope) test.1
-      ∙ ap (λ ks. made q (from_becomes outer inside all) (filter_becomes (scope ∷ outer) further filters) ks outputs scope) grouped.1
-      ∙ ap (λ os. made q (from_becomes outer inside all) (filter_becomes (scope ∷ outer) further filters) (keys_in q (scope ∷ outer)) os scope) listed.1 in
+      subst (λ ks. select_faults q outer all scope ks ≡ []) grouped.1 (no-faults _ _ quiet (no-faults _ _ test.0 (no-faults _ _ grouped.0 (no-faults _ _ named.0 listed.0)))) in
+      let asked_in : Scope → List Item = λ s. the_asked (s ∷ outer) last.aggregates (having_values x.having) in
+      let r_is : r ≡ made q (from_becomes outer inside all) (filter_becomes (scope ∷ outer) further filters) (keys_in q (scope ∷ outer)) (asked_in scope) (shown scope (scope ∷ outer) b.aggregates x.list) scope =
+      is ∙ ap (λ s. made q s where_ keys asked outputs scope) sources_are ∙ ap (λ w. made q (from_becomes outer inside all) w keys asked outputs scope) test.1
+      ∙ ap (λ ks. made q (from_becomes outer inside all) (filter_becomes (scope ∷ outer) further filters) ks asked outputs scope) grouped.1
+      ∙ ap (λ asks. made q (from_becomes outer inside all) (filter_becomes (scope ∷ outer) further filters) (keys_in q (scope ∷ outer)) asks outputs scope) named.1
+      ∙ ap (λ os. made q (from_becomes outer inside all) (filter_becomes (scope ∷ outer) further filters) (keys_in q (scope ∷ outer)) (asked_in scope) os scope) listed.1 in
       subst (SelectIsOnly outer r b) (sym (analysis-select S q ∙ ap (λ chains. select_layer (select_parts S x (map (chain_analysis S) chains) filters)) from_is)) (
         subst (λ s. select_faults q outer all s (keys_in q (s ∷ outer)) ≡ []) scope_is none,
-        r_is ∙ ap (λ s. made q (from_becomes outer inside all) (filter_becomes (s ∷ outer) further filters) (keys_in q (s ∷ outer)) (shown s (s ∷ outer) b.aggregates x.list) s) scope_is,
+        r_is ∙ ap (λ s. made q (from_becomes outer inside all) (filter_becomes (s ∷ outer) further filters) (keys_in q (s ∷ outer)) (asked_in s) (shown s (s ∷ outer) b.aggregates x.list) s) scope_is,
       )
     where
       numbers_listed : List ℕ → Listing
@@ -336,9 +359,9 @@ module _ (S : Schema) where
     filter-only scopes w x (BindsFilter.filter {c = c} {x = y} condition) = only-filter scopes c y (condition-only scopes c y condition)
 
     select-only : (outer : Scopes) (q : Select) (r : BoundSelect) → BindsSelect S outer q r → SelectOnly outer q r
-    select-only outer q r (BindsSelect.select c cs first scope left sources where_ keys outputs from_is one others test group list is) =
-        only-select outer q r c cs first scope left sources where_ keys outputs from_is (chain-only outer [] c first left one) (commas-only outer first left cs scope sources others)
-        (filter-only (scope ∷ outer) (out-Select q).filter where_ test) group list is
+    select-only outer q r (BindsSelect.select c cs first scope left sources where_ keys asked outputs from_is one others test group having list is) =
+        only-select outer q r c cs first scope left sources where_ keys asked outputs from_is (chain-only outer [] c first left one) (commas-only outer first left cs scope sources others)
+        (filter-only (scope ∷ outer) (out-Select q).filter where_ test) group having list is
 
   pub selects-only : (outer : Scopes) (q : Select) (r : BoundSelect) → BindsSelect S outer q r → SelectOnly outer q r
   selects-only = select-only

@@ -1,5 +1,5 @@
 -- Each exit of IN, JOIN and SELECT, by the steps that were taken before it.
-use Rattle.std.proofs.Common.{◌≡◌, refl, ℕ, Bool, List, ◌∷◌, Option, map, Result, Ok, subst, option_map}
+use Rattle.std.proofs.Common.{◌≡◌, refl, ℕ, Bool, List, [], ◌∷◌, Option, map, Result, Ok, subst, option_map, ap, ◌∙◌}
 use Rattle.values.specs.declared.fault.Fault.{Fault}
 use Rattle.values.specs.Faults.{◌>>=◌, Fails, Gives}
 use Rattle.schema.specs.declared.schema.Schema.{Schema}
@@ -10,12 +10,15 @@ use Rattle.sql_parse.specs.declared.statement.Condition.{Condition}
 use Rattle.sql_parse.specs.declared.statement.Condition.TheVariants.{In}
 use Rattle.sql_parse.specs.declared.statement.Join.{Join, out-Join}
 use Rattle.sql_parse.specs.declared.statement.Chain.{Chain}
+use Rattle.sql_parse.specs.declared.statement.HavingCondition.{HavingCondition}
 use Rattle.sql_parse.specs.declared.statement.Select.{Select, out-Select}
+use Rattle.sql_parse.specs.declared.statement.SelectList.{SelectList}
 use Rattle.query.specs.declared.query.Cond.{Cond}
 use Rattle.query.specs.declared.query.TableReference.{TableReference}
 use Rattle.query.specs.declared.query.From.{From}
 use Rattle.query.specs.declared.query.Item.{Item}
 use Rattle.query.specs.declared.query.Block.{roll-Block}
+use Rattle.binder.specs.declared.having.Asked.{Asked}
 use Rattle.binder.specs.declared.tables.Numbered.{Numbered}
 use Rattle.binder.specs.declared.output.Output.{Output}
 use Rattle.binder.specs.declared.selects.BoundTerm.{BoundTerm}
@@ -24,8 +27,10 @@ use Rattle.binder.specs.declared.fault.BindRefusal.{BindRefusal}
 use Rattle.binder.specs.Scopes.{Scope, Scopes}
 use Rattle.binder.specs.Numbers.{enter, with_aggregates}
 use Rattle.binder.specs.Outputs.{aggregates, is_grouped, key_in, outputs_in}
-use Rattle.binder.specs.Selects.{FromSoFar, condition_in, join_in, chain_in, joined, select_in, membership_in, term_in, from_in, filter_in, block_of}
-use Rattle.binder.proofs.SelectParts.{contained, join_at, select_at}
+use Rattle.binder.specs.HavingShapes.{having_becomes}
+use Rattle.binder.specs.Havings.{having_asked}
+use Rattle.binder.specs.Selects.{FromSoFar, condition_in, join_in, chain_in, joined, select_in, membership_in, term_in, from_in, filter_in, with_asked}
+use Rattle.binder.proofs.SelectParts.{contained, join_at, select_at, behind_from, behind_filter, behind_keys, behind_having}
 use Rattle.binder.proofs.Steps.{reported, handed, seen}
 
 -- ---- `left IN query`
@@ -66,52 +71,62 @@ module _ (S : Schema) (j : Join) (outer : Scopes) (before : Scope) (left : FromS
 -- ---- SELECT
 
 module _ (S : Schema) (q : Select) (outer : Scopes) (n m : Numbered) (chains : List Chain) (group : List ColumnName) (counted : m ≡ with_aggregates n (aggregates (out-Select q).list)) (at : chains ≡ (out-Select q).from) (by : group ≡ (out-Select q).group) where
+  abbrev list : SelectList
+  list = (out-Select q).list
+
+  abbrev having : Option HavingCondition
+  having = (out-Select q).having
+
+  abbrev twice : Bool
+  twice = (out-Select q).distinct
+
   pub from_fails : (e : Fault BindRefusal) → Fails e (from_in (map (chain_in S) chains) outer m) → Fails e (select_in S q outer n)
   from_fails e = reported e _ _ _ (select_at S q outer n m chains group counted at by)
 
-  with_from : (sources : FromSoFar) → from_in (map (chain_in S) chains) outer m ≡ Ok sources → select_in S q outer n
-      ≡ (filter_in (option_map (condition_in S) (out-Select q).filter) (sources.1 ∷ outer) sources.2
-      >>= λ filter. each (key_in (sources.1 ∷ outer)) group
-      >>= λ keys. outputs_in sources.1 (sources.1 ∷ outer) (is_grouped keys (out-Select q).list) keys n.next_aggregate (out-Select q).list
-      >>= λ outputs. Ok (record { block = block_of (out-Select q).distinct sources.0 filter.0 (is_grouped keys (out-Select q).list) keys outputs; outputs = outputs; scope = sources.1 }, filter.1))
-  with_from sources found = handed _ _ _ _ (select_at S q outer n m chains group counted at by) found
+  module _ (sources : FromSoFar) (found : from_in (map (chain_in S) chains) outer m ≡ Ok sources) where
+    with_from : select_in S q outer n ≡ behind_from S list having twice outer n group (out-Select q).filter sources
+    with_from = handed _ _ _ _ (select_at S q outer n m chains group counted at by) found
 
-  pub filter_fails : (e : Fault BindRefusal) (sources : FromSoFar) → from_in (map (chain_in S) chains) outer m ≡ Ok sources
-      → Fails e (filter_in (option_map (condition_in S) (out-Select q).filter) (sources.1 ∷ outer) sources.2) → Fails e (select_in S q outer n)
-  filter_fails e sources found = reported e _ _ _ (with_from sources found)
+    pub filter_fails : (e : Fault BindRefusal) → Fails e (filter_in (option_map (condition_in S) (out-Select q).filter) (sources.1 ∷ outer) sources.2) → Fails e (select_in S q outer n)
+    filter_fails e = reported e _ _ _ with_from
 
-  with_filter : (sources : FromSoFar) (filter : Option Cond × Numbered) → from_in (map (chain_in S) chains) outer m ≡ Ok sources
-      → filter_in (option_map (condition_in S) (out-Select q).filter) (sources.1 ∷ outer) sources.2 ≡ Ok filter → select_in S q outer n
-      ≡ (each (key_in (sources.1 ∷ outer)) group
-      >>= λ keys. outputs_in sources.1 (sources.1 ∷ outer) (is_grouped keys (out-Select q).list) keys n.next_aggregate (out-Select q).list
-      >>= λ outputs. Ok (record { block = block_of (out-Select q).distinct sources.0 filter.0 (is_grouped keys (out-Select q).list) keys outputs; outputs = outputs; scope = sources.1 }, filter.1))
-  with_filter sources filter found bound = handed _ _ _ _ (with_from sources found) bound
+    module _ (filter : Option Cond × Numbered) (bound : filter_in (option_map (condition_in S) (out-Select q).filter) (sources.1 ∷ outer) sources.2 ≡ Ok filter) where
+      with_filter : select_in S q outer n ≡ behind_filter S list having twice outer n group sources filter
+      with_filter = handed _ _ _ _ with_from bound
 
-  pub keys_fail : (e : Fault BindRefusal) (sources : FromSoFar) (filter : Option Cond × Numbered) → from_in (map (chain_in S) chains) outer m ≡ Ok sources
-      → filter_in (option_map (condition_in S) (out-Select q).filter) (sources.1 ∷ outer) sources.2 ≡ Ok filter
-      → Fails e (each (key_in (sources.1 ∷ outer)) group) → Fails e (select_in S q outer n)
-  keys_fail e sources filter found bound = reported e _ _ _ (with_filter sources filter found bound)
+      pub keys_fail : (e : Fault BindRefusal) → Fails e (each (key_in (sources.1 ∷ outer)) group) → Fails e (select_in S q outer n)
+      keys_fail e = reported e _ _ _ with_filter
 
-  pub outputs_fail : (e : Fault BindRefusal) (sources : FromSoFar) (filter : Option Cond × Numbered) (keys : List ℕ) (grouped : Bool) → from_in (map (chain_in S) chains) outer m ≡ Ok sources
-      → filter_in (option_map (condition_in S) (out-Select q).filter) (sources.1 ∷ outer) sources.2 ≡ Ok filter
-      → each (key_in (sources.1 ∷ outer)) group ≡ Ok keys → grouped ≡ is_grouped keys (out-Select q).list
-      → Fails e (outputs_in sources.1 (sources.1 ∷ outer) grouped keys n.next_aggregate (out-Select q).list) → Fails e (select_in S q outer n)
-  outputs_fail e sources filter keys grouped found bound kept by_group h =
-      reported e _ _ _ (handed _ _ _ _ (with_filter sources filter found bound) kept)
-      (subst (λ by. Fails e (outputs_in sources.1 (sources.1 ∷ outer) by keys n.next_aggregate (out-Select q).list)) by_group h)
+      module _ (keys : List ℕ) (kept : each (key_in (sources.1 ∷ outer)) group ≡ Ok keys) where
+        with_keys : select_in S q outer n ≡ behind_keys S list having twice outer n sources filter keys
+        with_keys = handed _ _ _ _ with_filter kept
 
-  pub select_is : (sources : FromSoFar) (filter : Option Cond × Numbered) (keys : List ℕ) (grouped : Bool) (outputs : List Output) (items : List Item) → from_in (map (chain_in S) chains) outer m ≡ Ok sources
-      → filter_in (option_map (condition_in S) (out-Select q).filter) (sources.1 ∷ outer) sources.2 ≡ Ok filter
-      → each (key_in (sources.1 ∷ outer)) group ≡ Ok keys → grouped ≡ is_grouped keys (out-Select q).list
-      → outputs_in sources.1 (sources.1 ∷ outer) grouped keys n.next_aggregate (out-Select q).list ≡ Ok outputs → items ≡ map (λ o. o.item) outputs
-      → select_in S q outer n ≡ Ok (
-        record {
-          block = roll-Block (record { from = sources.0; filter = filter.0; grouped = grouped; keys = keys; items = items; distinct = (out-Select q).distinct });
-          outputs = outputs;
-          scope = sources.1;
-        },
-        filter.1,
-      )
-  select_is sources filter keys grouped outputs items found bound kept by_group shown named =
-      rw (by_group, named) (handed _ _ _ _ (handed _ _ _ _ (with_filter sources filter found bound) kept)
-      (subst (λ by. outputs_in sources.1 (sources.1 ∷ outer) by keys n.next_aggregate (out-Select q).list ≡ Ok outputs) by_group shown))
+        -- what is lent of HAVING, and the number of its first aggregate
+        module _ (lent : Option HavingCondition) (number : ℕ) (is : lent ≡ having) (next : number ≡ filter.1.next_aggregate) where
+          abbrev lent_with : Option HavingCondition → ℕ → Option HavingCondition × ℕ
+          lent_with h k = (h, k)
+
+          both : lent_with lent number ≡ lent_with having filter.1.next_aggregate
+          both = ap (λ h. lent_with h number) is ∙ ap (lent_with having) next
+
+          pub having_fails : (e : Fault BindRefusal) → Fails e (having_asked (sources.1 ∷ outer) keys lent (record { items = []; next_aggregate = number })) → Fails e (select_in S q outer n)
+          having_fails e h = reported e _ _ _ with_keys (subst (λ x. Fails e (having_asked (sources.1 ∷ outer) keys x.0 (record { items = []; next_aggregate = x.1 }))) both h)
+
+          module _ (asked : Asked) (named : having_asked (sources.1 ∷ outer) keys lent (record { items = []; next_aggregate = number }) ≡ Ok asked) (grouped : Bool) (by_group : grouped ≡ is_grouped keys list having) where
+            with_having : select_in S q outer n ≡ behind_having S list having twice outer n sources filter keys asked
+            with_having = handed _ _ _ _ with_keys (subst (λ x. having_asked (sources.1 ∷ outer) keys x.0 (record { items = []; next_aggregate = x.1 }) ≡ Ok asked) both named)
+
+            pub outputs_fail : (e : Fault BindRefusal) → Fails e (outputs_in sources.1 (sources.1 ∷ outer) grouped keys n.next_aggregate list) → Fails e (select_in S q outer n)
+            outputs_fail e h = reported e _ _ _ with_having (subst (λ by. Fails e (outputs_in sources.1 (sources.1 ∷ outer) by keys n.next_aggregate list)) by_group h)
+
+            pub select_is : (outputs : List Output) (items : List Item) (becomes : Option Cond) → outputs_in sources.1 (sources.1 ∷ outer) grouped keys n.next_aggregate list ≡ Ok outputs → items ≡ map (λ o. o.item) outputs
+                → becomes ≡ having_becomes having → select_in S q outer n ≡ Ok (
+                  record {
+                    block = roll-Block (record { from = sources.0; filter = filter.0; grouped = grouped; keys = keys; having = becomes; having_items = asked.items; items = items; distinct = twice });
+                    outputs = outputs;
+                    scope = sources.1;
+                  },
+                  with_asked filter.1 asked,
+                )
+            select_is outputs items becomes shown listed became =
+                rw (by_group, listed, became) (handed _ _ _ _ with_having (subst (λ by. outputs_in sources.1 (sources.1 ∷ outer) by keys n.next_aggregate list ≡ Ok outputs) by_group shown))

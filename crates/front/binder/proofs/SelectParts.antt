@@ -1,6 +1,5 @@
 -- What becomes of each form of condition, join, chain and SELECT: one equation for each, of parts that are given by equations.
-use Rattle.std.proofs.Common.{◌≡◌, refl, ℕ, ◌<◌, ◌≤◌, Bool, true, false, ◌||◌, nat_lt, List, [], ◌∷◌, length, map, Option, Some, None, Ok, ap, sym, ◌∙◌, option_map, arith}
-use Rattle.std.proofs.lemmas.Bool.Decides.{nat_tests}
+use Rattle.std.proofs.Common.{◌≡◌, refl, ℕ, Bool, ◌||◌, nat_lt, length, is_some, List, [], ◌∷◌, map, Option, Some, None, Result, Ok, ap, sym, ◌∙◌, option_map}
 use Rattle.values.specs.Faults.{◌>>=◌}
 use Rattle.schema.specs.declared.schema.Schema.{Schema}
 use Rattle.schema.specs.Each.{each}
@@ -11,17 +10,23 @@ use Rattle.sql_parse.specs.declared.statement.ColumnName.{ColumnName}
 use Rattle.sql_parse.specs.declared.statement.Condition.{Condition, roll-Condition}
 use Rattle.sql_parse.specs.declared.statement.Condition.TheVariants.{Compare, IsNull, Not, And, Or, Exists, In, rolls-Compare, rolls-IsNull, rolls-Not, rolls-And, rolls-Or, rolls-Exists, rolls-In}
 use Rattle.sql_parse.specs.declared.statement.Condition.TheOpen.{Condition-F, Select-F}
+use Rattle.sql_parse.specs.declared.statement.HavingCondition.{HavingCondition}
 use Rattle.sql_parse.specs.declared.statement.Condition.TheFolds.{fold-roll-Condition, fold_out-Join, fold_out-Chain, fold_out-Select, map-Condition, map-Join, map-Chain, map-Select}
 use Rattle.sql_parse.specs.declared.statement.Join.{Join, out-Join}
 use Rattle.sql_parse.specs.declared.statement.Chain.{Chain, out-Chain}
 use Rattle.sql_parse.specs.declared.statement.Select.{Select, out-Select}
+use Rattle.query.specs.declared.query.Cond.{Cond}
 use Rattle.query.specs.declared.query.Cond.TheVariants as cond
 use Rattle.query.specs.declared.query.From.TheVariants as from
+use Rattle.binder.specs.declared.fault.BindRefusal.{BindRefusal}
+use Rattle.binder.specs.declared.having.Asked.{Asked}
+use Rattle.binder.specs.declared.selects.BoundSelect.{BoundSelect}
 use Rattle.binder.specs.declared.tables.Numbered.{Numbered}
+use Rattle.binder.specs.Havings.{having_asked}
 use Rattle.binder.specs.Scopes.{Scope, Scopes}
 use Rattle.binder.specs.Numbers.{enter, with_aggregates}
 use Rattle.binder.specs.Outputs.{aggregates, is_grouped, key_in, outputs_in}
-use Rattle.binder.specs.Selects.{CondBinding, JoinBinding, ChainBinding, SelectBinding, FromSoFar, condition_in, join_in, chain_in, select_in, condition_layer, join_layer, chain_layer, select_layer, comparison_in, membership_in, term_in, all_in, joined, through, from_in, filter_in, block_of}
+use Rattle.binder.specs.Selects.{CondBinding, JoinBinding, ChainBinding, SelectBinding, FromSoFar, condition_in, join_in, chain_in, select_in, condition_layer, join_layer, chain_layer, select_layer, comparison_in, membership_in, term_in, all_in, joined, through, from_in, filter_in, block_of, nothing_asked, with_asked}
 
 condition_roll : (S : Schema) (x : Condition-F Condition Chain Join Select) → condition_in S (roll-Condition x)
     ≡ condition_layer (map-Condition Condition Chain Join Select CondBinding ChainBinding JoinBinding SelectBinding (condition_in S) (chain_in S) (join_in S) (select_in S) x)
@@ -89,41 +94,32 @@ chain_at S c outer before n none lent empty at = rw (empty, at) (ap (λ m. m out
 
 -- ---- SELECT
 
+module _ (S : Schema) (list : SelectList) (having : Option HavingCondition) (distinct : Bool) (outer : Scopes) (n : Numbered) where
+  -- what a SELECT becomes behind its FROM, its WHERE, its GROUP BY and its HAVING
+  abbrev pub behind_having : FromSoFar → Option Cond × Numbered → List ℕ → Asked → Result (BoundSelect × Numbered) BindRefusal
+  behind_having sources filter keys asked = outputs_in sources.1 (sources.1 ∷ outer) (is_grouped keys list having) keys n.next_aggregate list
+      >>= λ outputs. Ok (record { block = block_of distinct sources.0 filter.0 (is_grouped keys list having) keys having asked.items outputs; outputs = outputs; scope = sources.1 }, with_asked filter.1 asked)
+
+  abbrev pub behind_keys : FromSoFar → Option Cond × Numbered → List ℕ → Result (BoundSelect × Numbered) BindRefusal
+  behind_keys sources filter keys = having_asked (sources.1 ∷ outer) keys having (nothing_asked filter.1) >>= behind_having sources filter keys
+
+  abbrev pub behind_filter : List ColumnName → FromSoFar → Option Cond × Numbered → Result (BoundSelect × Numbered) BindRefusal
+  behind_filter group sources filter = each (key_in (sources.1 ∷ outer)) group >>= behind_keys sources filter
+
+  abbrev pub behind_from : List ColumnName → Option Condition → FromSoFar → Result (BoundSelect × Numbered) BindRefusal
+  behind_from group filter sources = filter_in (option_map (condition_in S) filter) (sources.1 ∷ outer) sources.2 >>= behind_filter group sources
+
 select_layers : (S : Schema) (x : Select-F Condition Chain Join Select) (o : Option Condition)
     → select_layer (map-Select Condition Chain Join Select CondBinding ChainBinding JoinBinding SelectBinding (condition_in S) (chain_in S) (join_in S) (select_in S) (record x { filter = o }))
-    ≡ (λ outer n. from_in (map (chain_in S) x.from) outer (with_aggregates n (aggregates x.list))
-    >>= λ sources. filter_in (option_map (condition_in S) o) (sources.1 ∷ outer) sources.2
-    >>= λ filter. each (key_in (sources.1 ∷ outer)) x.group
-    >>= λ keys. outputs_in sources.1 (sources.1 ∷ outer) (is_grouped keys x.list) keys n.next_aggregate x.list
-    >>= λ outputs. Ok (record { block = block_of x.distinct sources.0 filter.0 (is_grouped keys x.list) keys outputs; outputs = outputs; scope = sources.1 }, filter.1))
+    ≡ (λ outer n. from_in (map (chain_in S) x.from) outer (with_aggregates n (aggregates x.list)) >>= behind_from S x.list x.having x.distinct outer n x.group o)
 select_layers S x None = refl
 select_layers S x (Some c) = refl
 
 pub select_at : (S : Schema) (q : Select) (outer : Scopes) (n m : Numbered) (chains : List Chain) (group : List ColumnName) → m ≡ with_aggregates n (aggregates (out-Select q).list) → chains ≡ (out-Select q).from → group ≡ (out-Select q).group
-    → select_in S q outer n
-    ≡ (from_in (map (chain_in S) chains) outer m
-    >>= λ sources. filter_in (option_map (condition_in S) (out-Select q).filter) (sources.1 ∷ outer) sources.2
-    >>= λ filter. each (key_in (sources.1 ∷ outer)) group
-    >>= λ keys. outputs_in sources.1 (sources.1 ∷ outer) (is_grouped keys (out-Select q).list) keys n.next_aggregate (out-Select q).list
-    >>= λ outputs. Ok (record { block = block_of (out-Select q).distinct sources.0 filter.0 (is_grouped keys (out-Select q).list) keys outputs; outputs = outputs; scope = sources.1 }, filter.1))
+    → select_in S q outer n ≡ (from_in (map (chain_in S) chains) outer m >>= behind_from S (out-Select q).list (out-Select q).having (out-Select q).distinct outer n group (out-Select q).filter)
 select_at S q outer n m chains group counted at by = rw (counted, at, by) (ap (λ f. f outer n) (select_roll S q ∙ select_layers S (out-Select q) (out-Select q).filter))
 
 -- ---- groups
 
-or-true : (a b : Bool) → a ≡ true → a ≡ (a || b)
-or-true true b is = refl
-or-true false b is = cc
-
-or-false : (a b : Bool) → a ≡ false → b ≡ (a || b)
-or-false true b is = cc
-or-false false b is = refl
-
-pub grouped_by_keys : (keys : List ℕ) (list : SelectList) (n : ℕ) → n ≡ length keys → 0 < n → nat_lt 0 n ≡ is_grouped keys list
-grouped_by_keys keys list n is lt =
-    let has : nat_lt 0 (length keys) ≡ true = grind (arith, nat_tests) in
-    rw is (or-true (nat_lt 0 (length keys)) (nat_lt 0 (aggregates list)) has)
-
-pub grouped_by_aggregates : (keys : List ℕ) (list : SelectList) (n m : ℕ) → n ≡ length keys → n ≤ 0 → m ≡ aggregates list → nat_lt 0 m ≡ is_grouped keys list
-grouped_by_aggregates keys list n m is none counted =
-    let has : nat_lt 0 (length keys) ≡ false = grind (arith, nat_tests) in
-    rw counted (or-false (nat_lt 0 (length keys)) (nat_lt 0 (aggregates list)) has)
+pub grouped_is : (keys : List ℕ) (list : SelectList) (having : Option HavingCondition) (n m : ℕ) (has grouped : Bool) → n ≡ length keys → m ≡ aggregates list → has ≡ is_some having → grouped ≡ (nat_lt 0 n || nat_lt 0 m || has) → grouped ≡ is_grouped keys list having
+grouped_is keys list having n m has grouped counted shown asks is = rw (← counted, ← shown, ← asks) is

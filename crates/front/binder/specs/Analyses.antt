@@ -1,12 +1,15 @@
 -- What a statement means, and every fault of it in the order in which it is looked at: an attribute grammar over its tree
 -- (D. E. Knuth, Semantics of Context-Free Languages, 1968), by the rules of this project's profile of SQL. Faults are lists one
 -- behind the other, and numbers are lengths of what stands before.
-use Rattle.std.specs.Prelude.{◌≡◌, ◌↔◌, ◌+◌, ℕ, not, nat_le, List, [], ◌∷◌, ◌++◌, flat_map, map, Option, Some, None, Ok, Err}
+use Rattle.std.specs.Prelude.{◌≡◌, ◌↔◌, ◌+◌, ℕ, not, nat_le, List, [], ◌∷◌, ◌++◌, filter, flat_map, length, map, Option, Some, None, Ok, Err}
 use Rattle.schema.specs.declared.schema.Kind.{Kind}
 use Rattle.schema.specs.declared.schema.Schema.{Schema}
 use Rattle.sql_parse.specs.declared.statement.Condition.{Condition}
 use Rattle.sql_parse.specs.declared.statement.Condition.TheOpen.{Condition-F, Join-F, Chain-F, Select-F}
 use Rattle.sql_parse.specs.declared.statement.Condition.TheFolds.{fold-Condition, fold-Join, fold-Chain, fold-Select}
+use Rattle.sql_parse.specs.declared.statement.HavingCondition.{HavingCondition}
+use Rattle.sql_parse.specs.declared.statement.HavingCondition.TheOpen.{HavingCondition-F}
+use Rattle.sql_parse.specs.declared.statement.HavingCondition.TheFolds.{fold-HavingCondition}
 use Rattle.sql_parse.specs.declared.statement.Join.{Join}
 use Rattle.sql_parse.specs.declared.statement.Chain.{Chain}
 use Rattle.sql_parse.specs.declared.statement.Select.{Select}
@@ -23,12 +26,14 @@ use Rattle.binder.specs.declared.fault.BindRefusal.{BindRefusal}
 use Rattle.binder.specs.declared.output.Output.{Output}
 use Rattle.binder.specs.declared.statement.TheConstants.{MAX_COLUMNS}
 use Rattle.binder.specs.Extents.{is_within, of_select}
+use Rattle.binder.specs.HavingShapes.{having_values}
+use Rattle.binder.specs.Kinds.{are_comparable}
 use Rattle.binder.specs.Ordering.{without_repeats}
-use Rattle.binder.specs.Outputs.{aggregates, is_grouped}
-use Rattle.binder.specs.Parts.{unless, term_faults, the_term, known, table_faults, widths, the_reference, instances_behind, key_faults, the_key, list_faults, shown, kinds_shown, is_empty, is_one, first_kind, order_faults, the_sort_key}
+use Rattle.binder.specs.Outputs.{aggregates, is_call, is_grouped}
+use Rattle.binder.specs.Parts.{unless, term_faults, the_term, term_asked_faults, asked_kind, the_asked, known, table_faults, widths, the_reference, instances_behind, key_faults, the_key, list_faults, shown, kinds_shown, is_empty, is_one, first_kind, order_faults, the_sort_key}
 use Rattle.binder.specs.Queries.{bound_statement}
 use Rattle.binder.specs.Scopes.{Scope, Scopes}
-use Rattle.binder.specs.Selects.{are_comparable, block_of, joined}
+use Rattle.binder.specs.Selects.{block_of, joined}
 
 -- ---- what is asked of each part
 
@@ -169,6 +174,34 @@ abbrev pub from_becomes : Scopes → Before → List ChainAnalysis → From
 from_becomes outer before [] = from.Table (record { number = 0; table = 0 })
 from_becomes outer before (c ∷ chains) = commas_become outer (behind before c.content) (c.becomes outer before) chains
 
+-- ---- HAVING
+
+-- every fault of a HAVING, among these scopes and over these keys: of a comparison its terms come first, and then their kinds
+abbrev pub HavingFaults : Type 0
+HavingFaults = Scopes → List ℕ → List BindRefusal
+
+abbrev pub all_asked_faults : List HavingFaults → HavingFaults
+all_asked_faults cs scopes keys = flat_map (λ c. c scopes keys) cs
+
+abbrev pub having_faults_layer : HavingCondition-F HavingFaults → HavingFaults
+having_faults_layer (HavingCondition-F.Compare a op b) scopes keys =
+    term_asked_faults scopes keys a ++ (term_asked_faults scopes keys b ++ unless (are_comparable (asked_kind scopes a) (asked_kind scopes b)) MixedKinds op.at)
+having_faults_layer (HavingCondition-F.IsNull a) scopes keys = term_asked_faults scopes keys a
+having_faults_layer (HavingCondition-F.Not c) scopes keys = c scopes keys
+having_faults_layer (HavingCondition-F.And cs) scopes keys = all_asked_faults cs scopes keys
+having_faults_layer (HavingCondition-F.Or cs) scopes keys = all_asked_faults cs scopes keys
+
+unfoldable pub condition_asked_faults : HavingCondition → HavingFaults
+condition_asked_faults = fold-HavingCondition HavingFaults having_faults_layer
+
+abbrev pub having_faults : Scopes → List ℕ → Option HavingCondition → List BindRefusal
+having_faults scopes keys None = []
+having_faults scopes keys (Some h) = condition_asked_faults h scopes keys
+
+-- its aggregates stand behind all others of its SELECT
+abbrev pub having_content : Option HavingCondition → Content
+having_content having = record { tables = []; aggregates = length (filter is_call (having_values having)) }
+
 -- ---- SELECT
 
 abbrev pub filter_content : Option ConditionAnalysis → Content
@@ -189,19 +222,22 @@ scope_of_from = flat_map (λ c. c.scope)
 abbrev pub from_content : List ChainAnalysis → Content
 from_content chains = all_contents (map (λ c. c.content) chains)
 
--- FROM, WHERE, GROUP BY, and then the items
+-- FROM, WHERE, GROUP BY, HAVING, and then the items
 abbrev pub select_layer : Select-F ConditionAnalysis ChainAnalysis JoinAnalysis SelectAnalysis → SelectAnalysis
 select_layer x = record {
-  content = both (record { tables = []; aggregates = aggregates x.list }) (both (from_content x.from) (filter_content x.filter));
+  content = both (record { tables = []; aggregates = aggregates x.list }) (both (from_content x.from) (both (filter_content x.filter) (having_content x.having)));
   faults = λ outer.
       let scopes = scope_of_from x.from ∷ outer in
       let keys = map (the_key scopes) x.group in
-      from_faults outer x.from ++ (filter_faults scopes x.filter ++ (flat_map (key_faults scopes) x.group ++ list_faults (scope_of_from x.from) scopes (is_grouped keys x.list) keys x.list));
+      from_faults outer x.from ++ (filter_faults scopes x.filter ++ (flat_map (key_faults scopes) x.group
+      ++ (having_faults scopes keys x.having ++ list_faults (scope_of_from x.from) scopes (is_grouped keys x.list x.having) keys x.list)));
   becomes = λ outer before.
       let scopes = scope_of_from x.from ∷ outer in
       let keys = map (the_key scopes) x.group in
       let inside = behind before (record { tables = []; aggregates = aggregates x.list }) in
-      block_of x.distinct (from_becomes outer inside x.from) (filter_becomes scopes (behind inside (from_content x.from)) x.filter) (is_grouped keys x.list) keys
+      let further = behind inside (from_content x.from) in
+      block_of x.distinct (from_becomes outer inside x.from) (filter_becomes scopes further x.filter) (is_grouped keys x.list x.having) keys
+      x.having (the_asked scopes (behind further (filter_content x.filter)).aggregates (having_values x.having))
       (shown (scope_of_from x.from) scopes before.aggregates x.list);
   scope = scope_of_from x.from;
   kinds = λ outer. kinds_shown (scope_of_from x.from) (scope_of_from x.from ∷ outer) x.list;

@@ -9,6 +9,7 @@ use Rattle.sql_parse.specs.declared.statement.Condition.TheFolds.{fold-Condition
 use Rattle.sql_parse.specs.declared.statement.Join.{Join}
 use Rattle.sql_parse.specs.declared.statement.Chain.{Chain}
 use Rattle.sql_parse.specs.declared.statement.Select.{Select}
+use Rattle.binder.specs.HavingShapes.{having_tests}
 use Rattle.binder.specs.Lookups.{find_table}
 use Rattle.binder.specs.declared.extent.Extent.{Extent}
 use Rattle.binder.specs.declared.extent.TheConstants.{MAX_TABLES, MAX_LEVELS, MAX_TESTS}
@@ -66,8 +67,12 @@ abbrev pub of_filter : Option Extent → Extent
 of_filter None = nothing
 of_filter (Some c) = c
 
+-- with so many tests more
+abbrev pub with_tests : ℕ → Extent → Extent
+with_tests n e = record { tables = e.tables; columns = e.columns; levels = e.levels; tests = e.tests + n }
+
 abbrev pub select_layer : Select-F Extent Extent Extent Extent → Extent
-select_layer x = one_level_more (beside (all_of x.from) (of_filter x.filter))
+select_layer x = with_tests (having_tests x.having) (one_level_more (beside (all_of x.from) (of_filter x.filter)))
 
 -- ---- the whole
 

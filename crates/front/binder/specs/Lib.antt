@@ -3,6 +3,9 @@ pub mod BoundStatements
 pub mod Chained
 pub mod Codes
 pub mod Extents
+pub mod HavingShapes
+pub mod Havings
+pub mod Kinds
 pub mod Lent
 pub mod Lookups
 pub mod Meanings

@@ -1,5 +1,5 @@
 -- What a SELECT shows: its items, their names and kinds, and what a grouped one may show (this project's profile of SQL).
-use Rattle.std.specs.Prelude.{◌+◌, ◌==◌, ℕ, Bool, true, false, not, ◌||◌, nat_lt, if◌then◌else◌, List, [], ◌∷◌, ◌++◌, length, filter, codes, Option, Some, None, Result, Ok, Err}
+use Rattle.std.specs.Prelude.{◌+◌, ◌==◌, ℕ, Bool, true, false, not, ◌||◌, nat_lt, if◌then◌else◌, List, [], ◌∷◌, ◌++◌, length, filter, codes, is_some, Option, Some, None, Result, Ok, Err}
 use Rattle.std.specs.List.{list_any, list_all}
 use Rattle.values.specs.Faults.{◌>>=◌, wanted_if}
 use Rattle.schema.specs.declared.schema.Kind.{Kind}
@@ -9,6 +9,7 @@ use Rattle.sql_parse.specs.declared.name.Name.{Name}
 use Rattle.sql_parse.specs.declared.statement.ColumnName.{ColumnName}
 use Rattle.sql_parse.specs.declared.statement.AggregateFunction.{AggregateFunction}
 use Rattle.sql_parse.specs.declared.statement.AggregateFunction.TheVariants as function
+use Rattle.sql_parse.specs.declared.statement.HavingCondition.{HavingCondition}
 use Rattle.sql_parse.specs.declared.statement.ItemValue.{ItemValue}
 use Rattle.sql_parse.specs.declared.statement.ItemValue.TheVariants as text
 use Rattle.sql_parse.specs.declared.statement.SelectItem.{SelectItem}
@@ -40,9 +41,9 @@ abbrev pub aggregates : SelectList → ℕ
 aggregates (list.Star at) = 0
 aggregates (list.Items items) = length (filter is_aggregate items)
 
--- a SELECT is grouped if it has GROUP BY columns or shows an aggregate
-abbrev pub is_grouped : List ℕ → SelectList → Bool
-is_grouped keys items = nat_lt 0 (length keys) || nat_lt 0 (aggregates items)
+-- a SELECT is grouped if it has GROUP BY columns, shows an aggregate or has a HAVING
+abbrev pub is_grouped : List ℕ → SelectList → Option HavingCondition → Bool
+is_grouped keys items having = nat_lt 0 (length keys) || nat_lt 0 (aggregates items) || is_some having
 
 -- a GROUP BY column is one of the own FROM
 abbrev pub key_in : Scopes → ColumnName → Result ℕ BindRefusal

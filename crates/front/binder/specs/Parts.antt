@@ -10,6 +10,8 @@ use Rattle.schema.specs.declared.schema.Schema.{Schema}
 use Rattle.sql_parse.specs.declared.statement.AggregateFunction.{AggregateFunction}
 use Rattle.sql_parse.specs.declared.statement.AggregateFunction.TheVariants as function
 use Rattle.sql_parse.specs.declared.statement.ColumnName.{ColumnName}
+use Rattle.sql_parse.specs.declared.statement.HavingTerm.{HavingTerm}
+use Rattle.sql_parse.specs.declared.statement.HavingTerm.TheVariants as asked
 use Rattle.sql_parse.specs.declared.statement.ItemValue.{ItemValue}
 use Rattle.sql_parse.specs.declared.statement.ItemValue.TheVariants as text
 use Rattle.sql_parse.specs.declared.statement.OrderKey.{OrderKey}
@@ -33,12 +35,14 @@ use Rattle.binder.specs.declared.fault.BindRefusal.{BindRefusal}
 use Rattle.binder.specs.declared.output.Output.{Output}
 use Rattle.binder.specs.declared.scope.TypedColumn.{TypedColumn}
 use Rattle.binder.specs.declared.selects.BoundTerm.{BoundTerm}
+use Rattle.binder.specs.HavingShapes.{named}
+use Rattle.binder.specs.Havings.{is_key}
+use Rattle.binder.specs.Kinds.{kind_of}
 use Rattle.binder.specs.Lookups.{find_table, own, refusal}
 use Rattle.binder.specs.Meanings.{columns_of}
 use Rattle.binder.specs.Ordering.{first_place, outputs_meant, same_item}
-use Rattle.binder.specs.Outputs.{is_aggregate, is_shown, output_name, shows}
+use Rattle.binder.specs.Outputs.{is_aggregate, is_call, is_shown, output_name, shows}
 use Rattle.binder.specs.Scopes.{Known, Scope, Scopes, is_taken, known_name, meant, place_in_text}
-use Rattle.binder.specs.Selects.{kind_of}
 
 -- ---- faults
 
@@ -168,6 +172,27 @@ module _ (scopes : Scopes) where
   abbrev pub the_outputs : ℕ → List SelectItem → List Output
   the_outputs number [] = []
   the_outputs number (i ∷ items) = the_output number i ∷ the_outputs (if is_aggregate i then number + 1 else number) items
+
+  -- ---- HAVING, over these keys
+
+  -- what it names is a GROUP BY column or an aggregate
+  abbrev pub asked_faults : List ℕ → ItemValue → List BindRefusal
+  asked_faults keys (text.Column c) = name_faults scopes c ++ unless (is_key keys (the_column scopes c).column) UngroupedColumn (place_in_text c)
+  asked_faults keys (text.Aggregate call) = aggregate_faults call.function call.at call.column
+
+  abbrev pub term_asked_faults : List ℕ → HavingTerm → List BindRefusal
+  term_asked_faults keys a = flat_map (asked_faults keys) (named a)
+
+  -- NULL has either kind
+  abbrev pub asked_kind : HavingTerm → Option Kind
+  asked_kind (asked.Column c) = Some (item_kind (text.Column c))
+  asked_kind (asked.Aggregate call) = Some (item_kind (text.Aggregate call))
+  asked_kind (asked.Literal v) = kind_of v
+
+  -- each aggregate has the next number
+  abbrev pub the_asked : ℕ → List ItemValue → List Item
+  the_asked number [] = []
+  the_asked number (v ∷ values) = the_item number v ∷ the_asked (if is_call v then number + 1 else number) values
 
 -- ---- what a SELECT shows, whose own FROM is the innermost of the scopes
 

@@ -11,6 +11,7 @@ use Rattle.sql_parse.specs.declared.statement.Chain.{Chain, out-Chain}
 use Rattle.sql_parse.specs.declared.statement.ColumnName.{ColumnName}
 use Rattle.sql_parse.specs.declared.statement.Condition.{Condition}
 use Rattle.sql_parse.specs.declared.statement.Condition.TheVariants as tree
+use Rattle.sql_parse.specs.declared.statement.HavingCondition.{HavingCondition}
 use Rattle.sql_parse.specs.declared.statement.ItemValue.{ItemValue}
 use Rattle.sql_parse.specs.declared.statement.ItemValue.TheVariants as text
 use Rattle.sql_parse.specs.declared.statement.Join.{Join, out-Join}
@@ -44,13 +45,16 @@ use Rattle.binder.specs.declared.selects.BoundTerm.{BoundTerm}
 use Rattle.binder.specs.declared.statement.TheConstants.{MAX_COLUMNS}
 use Rattle.binder.specs.Analyses.{statement_content}
 use Rattle.binder.specs.Extents.{is_within, of_select}
+use Rattle.binder.specs.HavingShapes.{having_fits, having_values}
+use Rattle.binder.specs.Havings.{is_key}
+use Rattle.binder.specs.Kinds.{are_comparable, kind_of}
 use Rattle.binder.specs.Meanings.{HasAny, IsFirst, Means}
 use Rattle.binder.specs.Ordering.{first_place, same_item, without_repeats}
 use Rattle.binder.specs.Outputs.{is_grouped, is_shown, output_name, shows}
 use Rattle.binder.specs.Parts.{aggregate_by, all_columns, has_aggregate, items_meant, kind_by}
 use Rattle.binder.specs.Queries.{bound_statement}
 use Rattle.binder.specs.Scopes.{Known, Scope, Scopes, known_name}
-use Rattle.binder.specs.Selects.{are_comparable, block_of, joined, kind_of}
+use Rattle.binder.specs.Selects.{block_of, joined}
 use Rattle.binder.specs.TextNumbers.{IsNumbered, block_listing, columns_together}
 
 -- ---- terms and items
@@ -73,6 +77,16 @@ abbrev pub BindsValue : Scopes → Bool → List ℕ → ItemValue → Item → 
 BindsValue scopes grouped keys (text.Column c) i k =
     (found : TypedColumn) × Means c scopes found × (shows grouped keys found.column ≡ true) × (i ≡ item.Column found.column) × (k ≡ found.kind)
 BindsValue scopes grouped keys (text.Aggregate call) i k = (number : ℕ) × (a : Aggregate) × BindsAggregate scopes call.function call.column a k × (i ≡ item.Aggregate number a)
+
+-- what a HAVING names is a GROUP BY column or an aggregate
+abbrev pub BindsAsked : Scopes → List ℕ → ItemValue → Item × Kind → Type 0
+BindsAsked scopes keys (text.Column c) (i, k) = (found : TypedColumn) × Means c scopes found × (is_key keys found.column ≡ true) × (i ≡ item.Column found.column) × (k ≡ found.kind)
+BindsAsked scopes keys (text.Aggregate call) (i, k) = BindsValue scopes true keys (text.Aggregate call) i k
+
+-- and what it compares goes together
+abbrev pub BindsHaving : Scopes → List ℕ → Option HavingCondition → List Item → Type 0
+BindsHaving scopes keys having items =
+    (found : List (Item × Kind)) × Pairs (BindsAsked scopes keys) (having_values having) found × (having_fits (map (λ f. f.1) found) having ≡ true) × (items ≡ map (λ f. f.0) found)
 
 abbrev pub BindsItem : Scopes → Bool → List ℕ → SelectItem → Output → Type 0
 BindsItem scopes grouped keys i o = (o.name ≡ output_name i.alias i.value) × BindsValue scopes grouped keys i.value o.item o.kind
@@ -135,13 +149,14 @@ module _ (S : Schema) where
       no_filter : {scopes : Scopes} → BindsFilter scopes None None
       filter : {scopes : Scopes} {c : Condition} {x : Cond} → BindsCondition scopes c x → BindsFilter scopes (Some c) (Some x)
 
-    -- A FROM has at least one chain. WHERE, GROUP BY and the items see all of its tables.
+    -- A FROM has at least one chain. WHERE, GROUP BY, HAVING and the items see all of its tables.
     pub data BindsSelect : Scopes → Select → BoundSelect → Type 0 where
-      select : {outer : Scopes} {q : Select} {r : BoundSelect} (c : Chain) (cs : List Chain) (first scope : Scope) (left sources : From) (where_ : Option Cond) (keys : List ℕ) (outputs : List Output)
+      select : {outer : Scopes} {q : Select} {r : BoundSelect} (c : Chain) (cs : List Chain) (first scope : Scope) (left sources : From) (where_ : Option Cond) (keys : List ℕ) (asked : List Item) (outputs : List Output)
           → (out-Select q).from ≡ c ∷ cs → BindsChain outer [] c first left → BindsCommas outer first left cs scope sources
           → BindsFilter (scope ∷ outer) (out-Select q).filter where_ → Pairs (BindsKey (scope ∷ outer)) (out-Select q).group keys
-          → BindsList scope (scope ∷ outer) (is_grouped keys (out-Select q).list) keys (out-Select q).list outputs
-          → r ≡ record { block = block_of (out-Select q).distinct sources where_ (is_grouped keys (out-Select q).list) keys outputs; outputs = outputs; scope = scope }
+          → BindsHaving (scope ∷ outer) keys (out-Select q).having asked
+          → BindsList scope (scope ∷ outer) (is_grouped keys (out-Select q).list (out-Select q).having) keys (out-Select q).list outputs
+          → r ≡ record { block = block_of (out-Select q).distinct sources where_ (is_grouped keys (out-Select q).list (out-Select q).having) keys (out-Select q).having asked outputs; outputs = outputs; scope = scope }
           → BindsSelect outer q r
 
   -- ---- the whole

@@ -1,11 +1,7 @@
 -- Conditions, joins, FROMs and SELECTs over a schema, with the first fault of each (this project's profile of SQL). Each
 -- layer takes its parts in the order in which faults are reported, which for table instances is that of the text.
-use Rattle.std.specs.Prelude.{ℕ, Bool, true, false, List, [], ◌∷◌, ◌++◌, map, Option, Some, None, Result, Ok, Err}
-use Rattle.values.specs.declared.value.Value.{Value}
-use Rattle.values.specs.declared.value.Value.TheVariants as value
+use Rattle.std.specs.Prelude.{ℕ, Bool, List, [], ◌∷◌, ◌++◌, map, Option, Some, None, Result, Ok, Err}
 use Rattle.values.specs.Faults.{◌>>=◌, wanted_if}
-use Rattle.schema.specs.declared.schema.Kind.{Kind}
-use Rattle.schema.specs.declared.schema.Kind.TheVariants as kind
 use Rattle.schema.specs.declared.schema.Schema.{Schema}
 use Rattle.schema.specs.Each.{each}
 use Rattle.sql_parse.specs.declared.statement.Term as tree
@@ -16,6 +12,7 @@ use Rattle.sql_parse.specs.declared.statement.JoinKind.TheVariants as by
 use Rattle.sql_parse.specs.declared.statement.Condition.{Condition}
 use Rattle.sql_parse.specs.declared.statement.Condition.TheOpen.{Condition-F, Join-F, Chain-F, Select-F}
 use Rattle.sql_parse.specs.declared.statement.Condition.TheFolds.{fold-Condition, fold-Join, fold-Chain, fold-Select}
+use Rattle.sql_parse.specs.declared.statement.HavingCondition.{HavingCondition}
 use Rattle.sql_parse.specs.declared.statement.Join.{Join}
 use Rattle.sql_parse.specs.declared.statement.Chain.{Chain}
 use Rattle.sql_parse.specs.declared.statement.Select.{Select}
@@ -26,12 +23,17 @@ use Rattle.query.specs.declared.query.TableReference.{TableReference}
 use Rattle.query.specs.declared.query.From.{From}
 use Rattle.query.specs.declared.query.From.TheVariants as from
 use Rattle.query.specs.declared.query.Block.{Block, roll-Block}
+use Rattle.query.specs.declared.query.Item.{Item}
+use Rattle.binder.specs.declared.having.Asked.{Asked}
 use Rattle.binder.specs.declared.tables.Numbered.{Numbered}
 use Rattle.binder.specs.declared.output.Output.{Output}
 use Rattle.binder.specs.declared.selects.BoundTerm.{BoundTerm}
 use Rattle.binder.specs.declared.selects.BoundSelect.{BoundSelect}
 use Rattle.binder.specs.declared.fault.BindReason.TheVariants.{MixedKinds, NotOneColumn, UnknownTable}
 use Rattle.binder.specs.declared.fault.BindRefusal.{BindRefusal}
+use Rattle.binder.specs.HavingShapes.{having_becomes}
+use Rattle.binder.specs.Havings.{having_asked}
+use Rattle.binder.specs.Kinds.{are_comparable, kind_of}
 use Rattle.binder.specs.Lookups.{refusal}
 use Rattle.binder.specs.Scopes.{Scope, Scopes, meant}
 use Rattle.binder.specs.Numbers.{enter, with_aggregates}
@@ -57,24 +59,6 @@ abbrev pub SelectBinding : Type 0
 SelectBinding = Scopes → Numbered → Result (BoundSelect × Numbered) BindRefusal
 
 -- ---- terms
-
--- NULL has either kind
-abbrev pub kind_of : Value → Option Kind
-kind_of value.Null = None
-kind_of (value.Int n) = Some kind.Int
-kind_of (value.Text t) = Some kind.Text
-
-abbrev pub same_kind : Kind → Kind → Bool
-same_kind kind.Int kind.Int = true
-same_kind kind.Text kind.Text = true
-same_kind kind.Int kind.Text = false
-same_kind kind.Text kind.Int = false
-
--- a number isn't compared with a text
-abbrev pub are_comparable : Option Kind → Option Kind → Bool
-are_comparable None b = true
-are_comparable (Some a) None = true
-are_comparable (Some a) (Some b) = same_kind a b
 
 abbrev pub term_in : Scopes → tree.Term → Result BoundTerm BindRefusal
 term_in scopes (text.Column c) = meant c scopes >>= λ found. Ok (record { term = term.Column found.column; kind = Some found.kind })
@@ -164,24 +148,36 @@ abbrev pub filter_in : Option CondBinding → Scopes → Numbered → Result (Op
 filter_in None scopes n = Ok (None, n)
 filter_in (Some c) scopes n = c scopes n >>= λ part. Ok (Some part.0, part.1)
 
-abbrev pub block_of : Bool → From → Option Cond → Bool → List ℕ → List Output → Block
-block_of distinct sources filter grouped keys outputs = roll-Block (record {
+abbrev pub block_of : Bool → From → Option Cond → Bool → List ℕ → Option HavingCondition → List Item → List Output → Block
+block_of distinct sources filter grouped keys having asked outputs = roll-Block (record {
   from = sources;
   filter = filter;
   grouped = grouped;
   keys = keys;
+  having = having_becomes having;
+  having_items = asked;
   items = map (λ o. o.item) outputs;
   distinct = distinct;
 })
 
--- FROM, WHERE, GROUP BY and the items. The aggregates among the items stand before those of the subqueries.
+-- a HAVING has named nothing so far, and its first aggregate has the next number
+abbrev pub nothing_asked : Numbered → Asked
+nothing_asked n = record { items = []; next_aggregate = n.next_aggregate }
+
+-- the aggregates of a HAVING have numbers
+abbrev pub with_asked : Numbered → Asked → Numbered
+with_asked n x = record { tables = n.tables; next_column = n.next_column; next_aggregate = x.next_aggregate }
+
+-- FROM, WHERE, GROUP BY, HAVING and the items. The aggregates among the items stand before those of the subqueries, and those
+-- of HAVING behind them.
 abbrev pub select_layer : Select-F CondBinding ChainBinding JoinBinding SelectBinding → SelectBinding
 select_layer x outer n = do
   sources ← from_in x.from outer (with_aggregates n (aggregates x.list))
   filter ← filter_in x.filter (sources.1 ∷ outer) sources.2
   keys ← each (key_in (sources.1 ∷ outer)) x.group
-  outputs ← outputs_in sources.1 (sources.1 ∷ outer) (is_grouped keys x.list) keys n.next_aggregate x.list
-  Ok (record { block = block_of x.distinct sources.0 filter.0 (is_grouped keys x.list) keys outputs; outputs = outputs; scope = sources.1 }, filter.1)
+  asked ← having_asked (sources.1 ∷ outer) keys x.having (nothing_asked filter.1)
+  outputs ← outputs_in sources.1 (sources.1 ∷ outer) (is_grouped keys x.list x.having) keys n.next_aggregate x.list
+  Ok (record { block = block_of x.distinct sources.0 filter.0 (is_grouped keys x.list x.having) keys x.having asked.items outputs; outputs = outputs; scope = sources.1 }, with_asked filter.1 asked)
 
 -- ---- the whole
 

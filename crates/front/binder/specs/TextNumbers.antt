@@ -6,13 +6,14 @@ use Rattle.query.specs.declared.query.Cond.{Cond}
 use Rattle.query.specs.declared.query.Cond.TheFolds.{fold-Cond, fold-From, fold-Block}
 use Rattle.query.specs.declared.query.Cond.TheOpen.{Cond-F, From-F, Block-F}
 use Rattle.query.specs.declared.query.From.{From}
+use Rattle.query.specs.declared.query.Item.{Item}
 use Rattle.query.specs.declared.query.TableReference.{TableReference}
 use Rattle.query.specs.declared.query.Query.{Query}
 use Rattle.query.specs.declared.query.TableInstance.{TableInstance}
 use Rattle.query.specs.Bound.{aggregate_numbers}
 
 -- What stands in a part: its instances, as they stand in the text, and the numbers of its aggregates, SELECT by SELECT from
--- the outside.
+-- the outside, those of a HAVING behind all others in its SELECT.
 pub record Listing : Type 0 where
   pub references : List TableReference
   pub aggregates : List ℕ
@@ -49,8 +50,11 @@ from_layer (From-F.Join f o on) = both_listings f (both_listings (one_listing o)
 from_layer (From-F.LeftJoin f o on) = both_listings f (both_listings (one_listing o) on)
 from_layer (From-F.Comma f g) = both_listings f g
 
+abbrev pub items_listing : List Item → Listing
+items_listing items = record { references = []; aggregates = aggregate_numbers items }
+
 abbrev pub block_layer : Block-F Listing Listing Listing → Listing
-block_layer x = both_listings (record { references = []; aggregates = aggregate_numbers x.items }) (both_listings x.from (filter_listing x.filter))
+block_layer x = both_listings (items_listing x.items) (both_listings x.from (both_listings (filter_listing x.filter) (both_listings (filter_listing x.having) (items_listing x.having_items))))
 
 unfoldable pub cond_listing : Cond → Listing
 cond_listing = fold-Cond Listing Listing Listing cond_layer from_layer block_layer

@@ -3,6 +3,7 @@
 ghost use Rattle.std.specs.Prelude.{◌≡◌, map, fold, option_map, IfOk};
 ghost use Rattle.binder.specs.Extents as spec;
 
+use crate::having::having_tests;
 use crate::scope::find_table;
 use crate::sums::sum;
 use schema::Schema;
@@ -166,6 +167,6 @@ pub fn of_select(schema: &Schema, select: &Select) -> Result<Extent, AllocError>
         tables: inside.tables,
         columns: inside.columns,
         levels: sum(inside.levels, 1)?,
-        tests: inside.tests,
+        tests: sum(inside.tests, having_tests(&select.having)?)?,
     })
 }

@@ -3,6 +3,7 @@
 
 mod extent;
 pub mod fault;
+mod having;
 pub mod laws;
 pub mod meaning;
 mod named;

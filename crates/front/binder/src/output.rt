@@ -1,6 +1,6 @@
 //! What a SELECT shows: its items, their names, and what a grouped one may show.
 
-ghost use Rattle.std.specs.Prelude.{◌≡◌, ◌+◌, ◌++◌, ◌==◌, filter, length, IfOk, OnOk};
+ghost use Rattle.std.specs.Prelude.{◌≡◌, ◌+◌, ◌++◌, ◌==◌, ◌||◌, nat_lt, filter, length, IfOk, OnOk};
 ghost use Rattle.std.specs.List.{list_any, list_all};
 ghost use Rattle.schema.specs.Each.{each};
 ghost use Rattle.values.specs.Faults.{Gives};
@@ -61,6 +61,13 @@ pub fn aggregates(list: &SelectList) -> usize
             .filter(|item| is_aggregate(item))
             .count(),
     }
+}
+
+/// Whether a SELECT with so many GROUP BY columns and aggregates is grouped.
+pub fn is_grouped(keys: usize, aggregates: usize, has_having: bool) -> bool
+    ensures { result ≡ (nat_lt 0 keys || nat_lt 0 aggregates || has_having) }
+{
+    keys > 0 || aggregates > 0 || has_having
 }
 
 /// The GROUP BY columns, by their places in the own FROM.
@@ -128,7 +135,8 @@ fn aggregate_of(call: &AggregateCall, own: TypedColumn) -> Result<(Aggregate, Ki
     }
 }
 
-fn aggregate_in(
+/// An aggregate that a text calls, and its kind.
+pub fn aggregate_in(
     call: &AggregateCall,
     scopes: &Scopes<'_, '_>,
 ) -> Result<(Aggregate, Kind), BindFault>

@@ -2,11 +2,13 @@
 
 ghost use Rattle.std.specs.Prelude.{◌≡◌, ◌∷◌, map, option_map, IfOk};
 ghost use Rattle.values.specs.Faults.{Gives};
+ghost use Rattle.binder.specs.Kinds as kinds;
 ghost use Rattle.binder.specs.Selects as spec;
 ghost use Rattle.binder.specs.Chained.{scopes_of};
 
 use crate::fault::{BindFault, BindReason, refused};
-use crate::output::{Grouping, Output, aggregates, keys, outputs};
+use crate::having::{becomes, named_values};
+use crate::output::{Grouping, Output, aggregates, is_grouped, keys, outputs};
 use crate::scope::{Scope, Scopes, meant};
 use crate::tables::{Numbered, enter};
 use query::{Block, Cond, From, Item, TableReference, Term};
@@ -31,8 +33,9 @@ pub struct BoundSelect<'s> {
     pub scope: Scope<'s>,
 }
 
-fn kind_of(literal: &Value) -> Option<Kind>
-    ensures { result ≡ spec.kind_of literal.now }
+/// The kind of a literal; NULL has either.
+pub fn kind_of(literal: &Value) -> Option<Kind>
+    ensures { result ≡ kinds.kind_of literal.now }
 {
     match literal {
         Value::Null => None,
@@ -60,8 +63,8 @@ fn term(alloc: Global, text: &tree::Term, scopes: &Scopes<'_, '_>) -> Result<Bou
 }
 
 /// Whether two kinds may be compared.
-fn are_comparable(a: Option<Kind>, b: Option<Kind>) -> bool
-    ensures { result ≡ spec.are_comparable a b }
+pub fn are_comparable(a: Option<Kind>, b: Option<Kind>) -> bool
+    ensures { result ≡ kinds.are_comparable a b }
 {
     match (a, b) {
         (Some(a), Some(b)) => a == b,
@@ -306,7 +309,9 @@ pub fn select<'s>(
     let scopes = Scopes::Inner(&scope, outer);
     let filter = filter(alloc, schema, &part.filter, &scopes, numbered)?;
     let keys = keys(alloc, part.group.as_slice(), &scopes)?;
-    let grouped = keys.len() > 0 || own_aggregates > 0;
+    let asked = named_values(alloc, &part.having, &keys, &scopes, numbered.next_aggregate)?;
+    numbered.next_aggregate = asked.next_aggregate;
+    let grouped = is_grouped(keys.len(), own_aggregates, part.having.is_some());
     let grouping = Grouping {
         grouped,
         keys: &keys,
@@ -318,6 +323,8 @@ pub fn select<'s>(
         filter,
         grouped,
         keys: keys.into_items(),
+        having: becomes(alloc, &part.having)?,
+        having_items: asked.items,
         items,
         distinct: part.distinct,
     };

@@ -3,3 +3,4 @@ mod Grouping
 mod Lists
 mod Short
 mod Sorting
+pub mod Views

@@ -8,6 +8,7 @@ ghost use Rattle.query.specs.Aggregates.{AreShort};
 ghost use Rattle.query.specs.Meaning as spec;
 ghost use Rattle.query.specs.Rows as rows;
 ghost use Rattle.oracle.specs.Given.{env_of, rows_at};
+ghost use Rattle.oracle.specs.Views.{view_of_row, view_of_group, views};
 
 use crate::aggregates::aggregate;
 use crate::environment::{Env, value_at};
@@ -15,6 +16,15 @@ use crate::rows::{Row, distinct, same_rows};
 use query::{Block, Item};
 use std::alloc::{AllocError, Global};
 use values::{Cell, Items, Value};
+
+/// What a block shows of a row of its FROM, or of a group.
+#[derive(Drop)]
+pub struct View {
+    /// The row that its HAVING sees.
+    pub asked: Row,
+    /// The row of its items.
+    pub shown: Row,
+}
 
 /// An item of a row; an aggregate stands in grouped blocks alone.
 fn item_of_row(alloc: Global, env: &Env<'_>, row: &[Value], item: Item) -> Result<Value, AllocError>
@@ -35,7 +45,7 @@ fn items_of_row(
     env: &Env<'_>,
     row: &[Value],
 ) -> Result<Row, AllocError>
-    ensures { IfOk result (λ values. values ≡ map (spec.item_of_row (env_of env.now) row.now) items.now) }
+    ensures { IfOk result (λ values. values ≡ spec.row_of_row (env_of env.now) items.now row.now) }
 {
     let mut values = Items::new(alloc);
     for item in items {
@@ -44,18 +54,20 @@ fn items_of_row(
     Ok(values)
 }
 
-/// The items of each row.
-fn items_of_rows(
+/// What a block shows of each row of its FROM.
+fn views_of_rows(
     alloc: Global,
-    items: &[Item],
+    block: &Block,
     env: &Env<'_>,
     source: &[Row],
-) -> Result<Vec<Row>, AllocError>
-    ensures { IfOk result (λ all. all.items ≡ map (λ s. map (spec.item_of_row (env_of env.now) s) items.now) source.now) }
+) -> Result<Vec<View>, AllocError>
+    ensures { IfOk result (λ all. all.items ≡ map (view_of_row block.now (env_of env.now)) source.now) }
 {
     let mut all = Vec::new(alloc);
     for row in source {
-        all.push(items_of_row(alloc, items, env, row.as_slice())?)?;
+        let asked = items_of_row(alloc, block.having_items.as_slice(), env, row.as_slice())?;
+        let shown = items_of_row(alloc, block.items.as_slice(), env, row.as_slice())?;
+        all.push(View { asked, shown })?;
     }
     Ok(all)
 }
@@ -170,7 +182,7 @@ fn items_of_group(
     members: &[&Row],
 ) -> Result<Row, AllocError>
     requires { AreShort (rows_at members.now) }
-    ensures { IfOk result (λ values. values ≡ map (spec.item_of_group keys.now (env_of env.now) (record { key = key.now; rows = rows_at members.now })) items.now) }
+    ensures { IfOk result (λ values. values ≡ spec.row_of_group keys.now (env_of env.now) items.now (record { key = key.now; rows = rows_at members.now })) }
 {
     let mut values = Items::new(alloc);
     for item in items {
@@ -179,59 +191,64 @@ fn items_of_group(
     Ok(values)
 }
 
-/// The items of each group.
-fn items_of_groups(
+/// What a block shows of a group.
+fn view_of_group(
     alloc: Global,
-    keys: &[usize],
-    items: &[Item],
+    block: &Block,
+    env: &Env<'_>,
+    key: &[Value],
+    members: &[&Row],
+) -> Result<View, AllocError>
+    requires { AreShort (rows_at members.now) }
+    ensures { IfOk result (λ view. view ≡ view_of_group block.now (env_of env.now) (record { key = key.now; rows = rows_at members.now })) }
+{
+    let keys = block.keys.as_slice();
+    let asked = items_of_group(
+        alloc,
+        keys,
+        block.having_items.as_slice(),
+        env,
+        key,
+        members,
+    )?;
+    let shown = items_of_group(alloc, keys, block.items.as_slice(), env, key, members)?;
+    Ok(View { asked, shown })
+}
+
+/// What a block shows of each group.
+fn views_of_groups(
+    alloc: Global,
+    block: &Block,
     env: &Env<'_>,
     source: &[Row],
-) -> Result<Vec<Row>, AllocError>
+) -> Result<Vec<View>, AllocError>
     requires { AreShort source.now }
-    ensures { IfOk result (λ all. all.items ≡ map (λ g. map (spec.item_of_group keys.now (env_of env.now) g) items.now) (groups.groups keys.now source.now)) }
+    ensures { IfOk result (λ all. all.items ≡ map (view_of_group block.now (env_of env.now)) (groups.groups block.now.keys source.now)) }
 {
+    let keys = block.keys.as_slice();
     let group_keys = group_keys(alloc, keys, source)?;
     let mut all = Vec::new(alloc);
     for key in group_keys.as_slice() {
         let members = members(alloc, keys, source, key.as_slice())?;
-        let row = items_of_group(alloc, keys, items, env, key.as_slice(), members.as_slice())?;
-        all.push(row)?;
+        let view = view_of_group(alloc, block, env, key.as_slice(), members.as_slice())?;
+        all.push(view)?;
     }
     Ok(all)
 }
 
-/// What the items show of these rows.
-fn all_shown(
+/// What a block shows of these rows, or of their groups, before its HAVING.
+pub fn views(
     alloc: Global,
     block: &Block,
     env: &Env<'_>,
     source: &[Row],
-) -> Result<Vec<Row>, AllocError>
+) -> Result<Vec<View>, AllocError>
     requires { AreShort source.now }
-    ensures { IfOk result (λ all. all.items ≡ spec.all_shown block.now.grouped block.now.keys block.now.items (env_of env.now) source.now) }
+    ensures { IfOk result (λ all. all.items ≡ views block.now (env_of env.now) source.now) }
 {
-    let items = block.items.as_slice();
     if block.grouped {
-        items_of_groups(alloc, block.keys.as_slice(), items, env, source)
+        views_of_groups(alloc, block, env, source)
     } else {
-        items_of_rows(alloc, items, env, source)
-    }
-}
-
-/// What a block shows of these rows: the same, each row once with DISTINCT.
-pub fn shown(
-    alloc: Global,
-    block: &Block,
-    env: &Env<'_>,
-    source: &[Row],
-) -> Result<Vec<Row>, AllocError>
-    requires { AreShort source.now }
-    ensures { IfOk result (λ all. all.items ≡ spec.shown block.now.distinct block.now.grouped block.now.keys block.now.items (env_of env.now) source.now) }
-{
-    let all = all_shown(alloc, block, env, source)?;
-    if block.distinct {
-        distinct(alloc, all)
-    } else {
-        Ok(all)
+        views_of_rows(alloc, block, env, source)
     }
 }

@@ -95,10 +95,13 @@ width-Comma f g = width_at (From-F.Comma f g) _ (rolls-Comma f g)
 
 -- ---- blocks
 
-rows_layer : (x : Block-F Cond From Block) (o : Option Cond) → block_layer (map-Block Cond From Block CondMeaning RowsMeaning RowsMeaning truth source rows (record x { filter = o }))
-    ≡ (λ D e. shown x.distinct x.grouped x.keys x.items e (filter (passes_filter (option_map truth o) D e) (source x.from D e)))
-rows_layer x None = refl
-rows_layer x (Some c) = refl
+rows_layer : (x : Block-F Cond From Block) (o h : Option Cond) → block_layer (map-Block Cond From Block CondMeaning RowsMeaning RowsMeaning truth source rows (record x { filter = o; having = h }))
+    ≡ (λ D e. shown x.distinct x.grouped x.keys x.having_items (passes_filter (option_map truth h) D []) x.items e (filter (passes_filter (option_map truth o) D e) (source x.from D e)))
+rows_layer x None None = refl
+rows_layer x None (Some d) = refl
+rows_layer x (Some c) None = refl
+rows_layer x (Some c) (Some d) = refl
 
-pub rows-Block : (q : Block) (D : Tables) (e : Env) → rows q D e ≡ shown q.distinct q.grouped q.keys q.items e (filter (passes_filter (option_map truth q.filter) D e) (source q.from D e))
-rows-Block q D e = ap (λ m. m D e) (rows_roll q ∙ rows_layer (out-Block q) (out-Block q).filter)
+pub rows-Block : (q : Block) (D : Tables) (e : Env)
+    → rows q D e ≡ shown q.distinct q.grouped q.keys q.having_items (passes_filter (option_map truth q.having) D []) q.items e (filter (passes_filter (option_map truth q.filter) D e) (source q.from D e))
+rows-Block q D e = ap (λ m. m D e) (rows_roll q ∙ rows_layer (out-Block q) (out-Block q).filter (out-Block q).having)

@@ -1,5 +1,5 @@
 -- What a block shows depends on how often each row comes alone, and on no order of the rows.
-use Rattle.std.proofs.Common.{◌≡◌, refl, ℕ, suc, ◌+◌, Bool, true, false, if◌then◌else◌, min, List, [], ◌∷◌, length, map, ap, sym, ◌∙◌, arith, pos}
+use Rattle.std.proofs.Common.{◌≡◌, refl, ℕ, suc, ◌+◌, Bool, true, false, if◌then◌else◌, min, List, [], ◌∷◌, length, map, filter, ap, sym, ◌∙◌, arith, pos}
 use Rattle.std.proofs.lemmas.Int.{ints}
 use Rattle.std.proofs.lemmas.Cmp.{upto, then_total, on_total, back_total, nat_cmp_total}
 use Rattle.std.specs.declared.cmp.Ordering.{Ordering}
@@ -12,6 +12,7 @@ use Rattle.values.specs.declared.value.Value.{Value}
 use Rattle.values.specs.declared.value.Value.TheVariants.{Null, Int, Text}
 use Rattle.values.specs.Order.{order}
 use Rattle.values.specs.Truth.{is_null}
+use Rattle.values.proofs.Lists.{filter-map}
 use Rattle.values.proofs.Orders.{order_antisymmetric, order_total, not_gt-reverse}
 use Rattle.schema.specs.Databases.{Row, values_at}
 use Rattle.query.specs.declared.query.Aggregate.{Aggregate}
@@ -21,7 +22,7 @@ use Rattle.query.specs.declared.query.Item.TheVariants as item
 use Rattle.query.specs.declared.query.Block.{Block}
 use Rattle.query.specs.Rows.{Env, value_at, same_rows, count, distinct}
 use Rattle.query.specs.Aggregates.{Group, plus, lesser, greater, together, known, aggregate, group_of}
-use Rattle.query.specs.Meaning.{item_of_row, item_of_group, all_shown, shown}
+use Rattle.query.specs.Meaning.{item_of_group, row_of_row, row_of_group, all_shown, shown}
 use Rattle.query.specs.Laws.{number_shown}
 use Rattle.query.proofs.Counting.{count-distinct}
 use Rattle.query.proofs.SameCounts.{SameCounts, same-fold, same-map, same-filter, same-distinct}
@@ -145,28 +146,41 @@ same-group keys (i ∷ items) e key G H h = cc (same-item keys e key G H h i, sa
 
 -- ---- what a block shows
 
--- the row of a key's group
-abbrev group_row : List ℕ → List Item → Env → List Row → Row → Row
-group_row keys items e L key = map (item_of_group keys e (group_of keys L key)) items
+-- the row that items show of a key's group
+abbrev row_of_key : List ℕ → Env → List Item → List Row → Row → Row
+row_of_key keys e items L key = row_of_group keys e items (group_of keys L key)
 
-same-all_shown : (grouped : Bool) (keys : List ℕ) (items : List Item) (e : Env) (L M : List Row) → SameCounts L M → SameCounts (all_shown grouped keys items e L) (all_shown grouped keys items e M)
-same-all_shown false keys items e L M h r = same-map (λ s. map (item_of_row e s) items) L M h r
-same-all_shown true [] items e L M h r = ap (λ s. count r (s ∷ [])) (same-group [] items e [] L M h)
-same-all_shown true (k ∷ ks) items e L M h r =
-    let keys : List ℕ = k ∷ ks in
-    let keys_of : List Row → List Row = λ X. distinct (map (values_at keys) X) in
-    let show : Group → Row = λ g. map (item_of_group keys e g) items in
-    let same_keys : SameCounts (keys_of L) (keys_of M) = same-distinct _ _ (same-map (values_at keys) L M h) in
-    let same_row : (key : Row) → group_row keys items e L key ≡ group_row keys items e M key =
-    λ key. same-group keys items e key _ _ (same-filter (λ s. same_rows key (values_at keys s)) L M h) in
-    ap (count r) (map-map show (group_of keys L) (keys_of L) ∙ ap (λ (f : Row → Row). map f (keys_of L)) (λ i key. same_row key i))
-    ∙ same-map (group_row keys items e M) (keys_of L) (keys_of M) same_keys r
-    ∙ ap (count r) (sym (map-map show (group_of keys M) (keys_of M)))
+module _ (asked : List Item) (keeps : Row → Bool) (items : List Item) (e : Env) where
+  -- what the groups of these keys show, key by key
+  by-keys : (keys : List ℕ) (L : List Row) (ks : List Row) → map (row_of_group keys e items) (filter (λ g. keeps (row_of_group keys e asked g)) (map (group_of keys L) ks))
+      ≡ map (row_of_key keys e items L) (filter (λ key. keeps (row_of_key keys e asked L key)) ks)
+  by-keys keys L ks = ap (map (row_of_group keys e items)) (filter-map (λ g. keeps (row_of_group keys e asked g)) (group_of keys L) ks) ∙ map-map (row_of_group keys e items) (group_of keys L) _
 
-pub same-number : (q : Block) (e : Env) (L M : List Row) → SameCounts L M → (r : Row) → number_shown q e L r ≡ number_shown q e M r
-same-number q e L M h r = ap (λ n. if q.distinct then min 1 n else n) (same-all_shown q.grouped q.keys q.items e L M h r)
+  same-all_shown : (grouped : Bool) (keys : List ℕ) (L M : List Row) → SameCounts L M → SameCounts (all_shown grouped keys asked keeps items e L) (all_shown grouped keys asked keeps items e M)
+  same-all_shown false keys L M h r = same-map (row_of_row e items) _ _ (same-filter (λ s. keeps (row_of_row e asked s)) L M h) r
+  same-all_shown true [] L M h r = by _ _ (ap keeps (same-group [] asked e [] L M h))
+    where
+      by : (b c : Bool) → b ≡ c → count r (map (row_of_group [] e items) (if b then record { key = []; rows = L } ∷ [] else [])) ≡ count r (map (row_of_group [] e items) (if c then record { key = []; rows = M } ∷ [] else []))
+      by true true same = ap (λ s. count r (s ∷ [])) (same-group [] items e [] L M h)
+      by false false same = refl
+      by true false same = cc
+      by false true same = cc
+  same-all_shown true (k ∷ ks) L M h r =
+      let keys : List ℕ = k ∷ ks in
+      let keys_of : List Row → List Row = λ X. distinct (map (values_at keys) X) in
+      let same_keys : SameCounts (keys_of L) (keys_of M) = same-distinct _ _ (same-map (values_at keys) L M h) in
+      let same_row : (shown : List Item) (key : Row) → row_of_key keys e shown L key ≡ row_of_key keys e shown M key =
+      λ shown key. same-group keys shown e key _ _ (same-filter (λ s. same_rows key (values_at keys s)) L M h) in
+      ap (count r) (by-keys keys L (keys_of L)
+      ∙ ap (λ (f : Row → Row). map f (filter (λ key. keeps (row_of_key keys e asked L key)) (keys_of L))) (λ i key. same_row items key i)
+      ∙ ap (λ (f : Row → Row). map (row_of_key keys e items M) (filter (λ key. keeps (f key)) (keys_of L))) (λ i key. same_row asked key i))
+      ∙ same-map (row_of_key keys e items M) _ _ (same-filter (λ key. keeps (row_of_key keys e asked M key)) (keys_of L) (keys_of M) same_keys) r
+      ∙ ap (count r) (sym (by-keys keys M (keys_of M)))
 
-pub count-shown : (distinct' grouped : Bool) (keys : List ℕ) (items : List Item) (e : Env) (L : List Row) (r : Row)
-    → count r (shown distinct' grouped keys items e L) ≡ (let number = count r (all_shown grouped keys items e L) in if distinct' then min 1 number else number)
-count-shown false grouped keys items e L r = refl
-count-shown true grouped keys items e L r = count-distinct r (all_shown grouped keys items e L)
+pub same-number : (q : Block) (keeps : Row → Bool) (e : Env) (L M : List Row) → SameCounts L M → (r : Row) → number_shown q keeps e L r ≡ number_shown q keeps e M r
+same-number q keeps e L M h r = ap (λ n. if q.distinct then min 1 n else n) (same-all_shown q.having_items keeps q.items e q.grouped q.keys L M h r)
+
+pub count-shown : (distinct' grouped : Bool) (keys : List ℕ) (asked : List Item) (keeps : Row → Bool) (items : List Item) (e : Env) (L : List Row) (r : Row)
+    → count r (shown distinct' grouped keys asked keeps items e L) ≡ (let number = count r (all_shown grouped keys asked keeps items e L) in if distinct' then min 1 number else number)
+count-shown false grouped keys asked keeps items e L r = refl
+count-shown true grouped keys asked keeps items e L r = count-distinct r (all_shown grouped keys asked keeps items e L)

@@ -12,7 +12,7 @@ use Rattle.query.specs.declared.query.From.TheVariants.{LeftJoin}
 use Rattle.query.specs.declared.query.Block.{Block}
 use Rattle.query.specs.Rows.{Env, Tables, IsFitting, term_value, nulls, count, same_rows}
 use Rattle.query.specs.Meaning.{truth, source, rows, often, src, from_width, passes, passes_filter, pairs_of, matches, is_empty, equals_row}
-use Rattle.query.specs.Laws.{left_part, right_part, IsMeaning, holds_filter, number_joined, IsPadded}
+use Rattle.query.specs.Laws.{left_part, right_part, IsMeaning, holds_filter, number_joined, number_shown, IsPadded}
 use Rattle.query.proofs.Counting.{same_rows-equal, same_rows-from, counted-first, counted-later, counted-either, count-filter}
 use Rattle.query.proofs.Equations.{truth-Compare, truth-IsNull, truth-Not, truth-And, truth-Or, truth-Exists, truth-In, source-Table, source-Join, source-LeftJoin, source-Comma, rows-Block}
 use Rattle.query.proofs.Truths.{any-true, any-false}
@@ -121,6 +121,7 @@ meaning_obeys D fits e = record {
   left_join_padded = λ f o on s padded. count-left f o on D e s true fits ((padded-test o on D e s).1 padded) ∙ omega arith;
   source_exists = λ q. (kept_rows q D e, count-kept q D e);
   number = λ q L r h. ap (count r) (rows-Block q D e)
-      ∙ count-shown q.distinct q.grouped q.keys q.items e (kept_rows q D e) r
-      ∙ same-number q e (kept_rows q D e) L (λ s. count-kept q D e s ∙ sym (h s)) r;
+      ∙ count-shown q.distinct q.grouped q.keys q.having_items (passes_filter (option_map truth q.having) D []) q.items e (kept_rows q D e) r
+      ∙ same-number q (passes_filter (option_map truth q.having) D []) e (kept_rows q D e) L (λ s. count-kept q D e s ∙ sym (h s)) r
+      ∙ ap (λ (keeps : Row → Bool). number_shown q keeps e L r) (λ i s. passes-holds q.having D [] s i);
 }

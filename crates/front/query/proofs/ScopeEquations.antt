@@ -65,13 +65,28 @@ module _ (instances : List TableInstance) where
   pub scope-Comma : (f g : From) → from_scope instances (from.Comma f g) ≡ from_scope_layer instances (From-F.Comma (from_scope instances f) (from_scope instances g))
   scope-Comma f g = from_scope_at (From-F.Comma f g) _ (from.rolls-Comma f g)
 
-  abbrev pub scoped : Block → Block-F CondScope FromScope BlockScope
-  scoped q = record { from = from_scope instances q.from; filter = option_map (cond_scope instances) q.filter; grouped = q.grouped; keys = q.keys; items = q.items; distinct = q.distinct }
+  -- a layer with the scopes of its parts, where its WHERE and its HAVING are given
+  abbrev scoped_with : Block-F Cond From Block → Option Cond → Option Cond → Block-F CondScope FromScope BlockScope
+  scoped_with x w h = record {
+    from = from_scope instances x.from;
+    filter = option_map (cond_scope instances) w;
+    grouped = x.grouped;
+    keys = x.keys;
+    having = option_map (cond_scope instances) h;
+    having_items = x.having_items;
+    items = x.items;
+    distinct = x.distinct;
+  }
 
-  scoped-is : (x : Block-F Cond From Block) (w : Option Cond) → block_scope_layer instances (map-Block Cond From Block CondScope FromScope BlockScope (cond_scope instances) (from_scope instances) (block_scope instances) (record x { filter = w }))
-      ≡ block_scope_layer instances (record { from = from_scope instances x.from; filter = option_map (cond_scope instances) w; grouped = x.grouped; keys = x.keys; items = x.items; distinct = x.distinct })
-  scoped-is x None = refl
-  scoped-is x (Some c) = refl
+  abbrev pub scoped : Block → Block-F CondScope FromScope BlockScope
+  scoped q = scoped_with (out-Block q) q.filter q.having
+
+  scoped-is : (x : Block-F Cond From Block) (w h : Option Cond)
+      → block_scope_layer instances (map-Block Cond From Block CondScope FromScope BlockScope (cond_scope instances) (from_scope instances) (block_scope instances) (record x { filter = w; having = h })) ≡ block_scope_layer instances (scoped_with x w h)
+  scoped-is x None None = refl
+  scoped-is x None (Some d) = refl
+  scoped-is x (Some c) None = refl
+  scoped-is x (Some c) (Some d) = refl
 
   pub scope-Block : (q : Block) → block_scope instances q ≡ block_scope_layer instances (scoped q)
-  scope-Block q = block_scope_roll q ∙ scoped-is (out-Block q) (out-Block q).filter
+  scope-Block q = block_scope_roll q ∙ scoped-is (out-Block q) (out-Block q).filter (out-Block q).having

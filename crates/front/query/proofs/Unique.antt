@@ -1,5 +1,5 @@
 -- Whatever obeys the laws agrees with the computing form of the meaning.
-use Rattle.std.proofs.Common.{◌≡◌, ◌↔◌, refl, inl, inr, ℕ, ◌+◌, ◌*◌, if◌then◌else◌, List, [], ◌∷◌, ◌++◌, map, ap, sym, ◌∙◌, subst, Option, Some, None}
+use Rattle.std.proofs.Common.{◌≡◌, ◌↔◌, refl, inl, inr, ℕ, ◌+◌, ◌*◌, Bool, if◌then◌else◌, List, [], ◌∷◌, ◌++◌, map, ap, sym, ◌∙◌, subst, Option, Some, None}
 use Rattle.std.proofs.lemmas.Bool.{both_ways, cases_Bool}
 use Rattle.values.specs.declared.truth.Truth.{Truth}
 use Rattle.values.specs.declared.truth.Truth.TheVariants.{False, Unknown, True}
@@ -15,7 +15,7 @@ use Rattle.query.specs.declared.query.From.TheVariants.{LeftJoin, rolls-Table, r
 use Rattle.query.specs.declared.query.Block.{Block, roll-Block}
 use Rattle.query.specs.Rows.{Env, Tables, IsFitting, count}
 use Rattle.query.specs.Meaning.{truth, often, src, from_width, all_of, any_of}
-use Rattle.query.specs.Laws.{IsMeaningOn, IsPadded, holds_filter, number_joined, left_part, right_part}
+use Rattle.query.specs.Laws.{IsMeaningOn, IsPadded, holds_filter, number_joined, number_shown, left_part, right_part}
 use Rattle.query.specs.Answer.{Agree, LawsDetermineMeaning, AnswersAreByLaws}
 use Rattle.query.proofs.Obeys.{meaning_obeys, padded-test}
 use Rattle.query.proofs.Sources.{is_padded}
@@ -120,16 +120,23 @@ module _ (t : Cond → Tables → Env → Truth) (n : From → Tables → Env �
   abbrev plain_block : ProvedBlock → Block-F Cond From Block
   plain_block = map-Block _ _ _ Cond From Block (λ c. c.0) (λ f. f.0) (λ q. q.0)
 
+  -- a WHERE or a HAVING holds of the same rows
+  abbrev AgreesFilter : Option Cond → Type 0
+  AgreesFilter w = (e : Env) (s : Row) → holds_filter t n o w D e s ≡ holds_filter truth src often w D e s
+
   -- a source list of the one is a source list of the other
-  agrees-number : (q : Block) → AgreesFrom q.from → ((e : Env) (s : Row) → holds_filter t n o q.filter D e s ≡ holds_filter truth src often q.filter D e s) → AgreesBlock q
-  agrees-number q f w e r =
+  agrees-number : (q : Block) → AgreesFrom q.from → AgreesFilter q.filter → AgreesFilter q.having → AgreesBlock q
+  agrees-number q f w h e r =
       let source = (own e).source_exists q in
       (m e).number q source.0 r (λ s. source.1 s ∙ ap (λ b. if b then src q.from D e s else 0) (sym (w e s)) ∙ ap (λ k. if holds_filter t n o q.filter D e s then k else 0) (sym (f e s)))
+      ∙ ap (λ (keeps : Row → Bool). number_shown q keeps e source.0 r) (λ i s. h [] s i)
       ∙ sym ((own e).number q source.0 r source.1)
 
-  agrees-block : (y : ProvedBlock) (w : Option ((c : Cond) × AgreesCond c)) → AgreesBlock (roll-Block (plain_block (record y { filter = w })))
-  agrees-block y None = agrees-number (roll-Block (plain_block (record y { filter = None }))) y.from.1 (λ e s. refl)
-  agrees-block y (Some c) = agrees-number (roll-Block (plain_block (record y { filter = Some c }))) y.from.1 (λ e s. ap is_true (c.1 (s ∷ e)))
+  agrees-block : (y : ProvedBlock) (w h : Option ((c : Cond) × AgreesCond c)) → AgreesBlock (roll-Block (plain_block (record y { filter = w; having = h })))
+  agrees-block y None None = agrees-number (roll-Block (plain_block (record y { filter = None; having = None }))) y.from.1 (λ e s. refl) (λ e s. refl)
+  agrees-block y None (Some d) = agrees-number (roll-Block (plain_block (record y { filter = None; having = Some d }))) y.from.1 (λ e s. refl) (λ e s. ap is_true (d.1 (s ∷ e)))
+  agrees-block y (Some c) None = agrees-number (roll-Block (plain_block (record y { filter = Some c; having = None }))) y.from.1 (λ e s. ap is_true (c.1 (s ∷ e))) (λ e s. refl)
+  agrees-block y (Some c) (Some d) = agrees-number (roll-Block (plain_block (record y { filter = Some c; having = Some d }))) y.from.1 (λ e s. ap is_true (c.1 (s ∷ e))) (λ e s. ap is_true (d.1 (s ∷ e)))
 
   -- ---- the whole, by induction
 
@@ -140,7 +147,7 @@ module _ (t : Cond → Tables → Env → Truth) (n : From → Tables → Env �
   step-from x y is = subst (λ z. AgreesFrom (roll-From z)) is (agrees-from y)
 
   step-block : (x : Block-F Cond From Block) (y : ProvedBlock) → plain_block y ≡ x → AgreesBlock (roll-Block x)
-  step-block x y is = subst (λ z. AgreesBlock (roll-Block z)) is (agrees-block y y.filter)
+  step-block x y is = subst (λ z. AgreesBlock (roll-Block z)) is (agrees-block y y.filter y.having)
 
   agrees : Agree t n o D
   agrees = record {

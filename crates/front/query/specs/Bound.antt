@@ -1,6 +1,6 @@
 -- What is known of every bound query: what its blocks name is there, and the columns that a condition can name have numbers
 -- of their own. Columns by level and place, and their numbers, are this project's profile of SQL.
-use Rattle.std.specs.Prelude.{◌≡◌, ℕ, Bool, true, false, not, ◌&&◌, ◌==◌, nat_lt, if◌then◌else◌, List, [], ◌∷◌, ◌++◌, length, slice_get, slice_index_or, Option, Some, None}
+use Rattle.std.specs.Prelude.{◌≡◌, ℕ, Bool, true, false, not, ◌&&◌, ◌==◌, nat_lt, if◌then◌else◌, List, [], ◌∷◌, ◌++◌, length, slice_get, slice_index_or, map, Option, Some, None}
 use Rattle.std.specs.List.{AllByRecursion, list_any, list_all, range_with_len}
 use Rattle.schema.specs.declared.schema.Schema.{Schema}
 use Rattle.query.specs.declared.query.Column.{Column}
@@ -152,19 +152,30 @@ aggregate_numbers [] = []
 aggregate_numbers (item.Column c ∷ items) = aggregate_numbers items
 aggregate_numbers (item.Aggregate n a ∷ items) = n ∷ aggregate_numbers items
 
+-- the number of what an item shows
+abbrev pub item_number : Scope → Item → ℕ
+item_number scope (item.Column c) = number scope c
+item_number scope (item.Aggregate n a) = n
+
+-- the scope of a HAVING: the numbers of what its items show
+abbrev pub having_scope : Scope → List Item → Scope
+having_scope scope asked = map (item_number scope) asked ∷ []
+
 abbrev pub is_single : List Item → Bool
 is_single items = length items == 1
 
--- the numbers of aggregates are those of no table instance's columns, wherever that stands
+-- the numbers of aggregates are those of no table instance's columns, wherever that stands; HAVING reads what items may show
 abbrev pub block_scope_layer : List TableInstance → Block-F CondScope FromScope BlockScope → BlockScope
 block_scope_layer instances q =
     let numbers = q.from.numbers in
+    let items = q.items ++ q.having_items in
     record {
       single = is_single q.items;
       bound = λ scope.
-          are_new (aggregate_numbers q.items ++ numbers) scope
-          && (none_of_tables instances (aggregate_numbers q.items)
-          && (q.from.bound scope && (bound_filter q.filter (numbers ∷ scope) && bound_items q.grouped (length numbers) q.keys q.items (numbers ∷ scope))));
+          are_new (aggregate_numbers items ++ numbers) scope
+          && (none_of_tables instances (aggregate_numbers items)
+          && (q.from.bound scope && (bound_filter q.filter (numbers ∷ scope)
+          && (bound_items q.grouped (length numbers) q.keys items (numbers ∷ scope) && bound_filter q.having (having_scope (numbers ∷ scope) q.having_items)))));
     }
 
 unfoldable pub cond_scope : List TableInstance → Cond → CondScope

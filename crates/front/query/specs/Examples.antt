@@ -91,7 +91,7 @@ abbrev pub emp : ℕ → TableReference
 emp n = record { number = n; table = 1 }
 
 abbrev pub select : List Item → From → Option Cond → Block
-select items source filter = record { from = source; filter = filter; grouped = false; keys = []; items = items; distinct = false }
+select items source filter = record { from = source; filter = filter; grouped = false; keys = []; having = None; having_items = []; items = items; distinct = false }
 
 -- the rows of an outermost block
 abbrev pub answers : Block → List Row
@@ -152,7 +152,7 @@ comma_chain = select (show 0 ∷ show 3 ∷ show 7 ∷ [])
 
 -- SELECT DISTINCT badge FROM emp
 abbrev pub badges : Block
-badges = record { from = from.Table (emp 0); filter = None; grouped = false; keys = []; items = show 3 ∷ []; distinct = true }
+badges = record { from = from.Table (emp 0); filter = None; grouped = false; keys = []; having = None; having_items = []; items = show 3 ∷ []; distinct = true }
 
 -- SELECT COUNT(*), COUNT(pay), SUM(pay), MIN(pay) FROM emp, with this WHERE
 abbrev pub totals_where : Option Cond → Block
@@ -161,13 +161,15 @@ totals_where filter = record {
   filter = filter;
   grouped = true;
   keys = [];
+  having = None;
+  having_items = [];
   items = item.Aggregate 4 aggregate.CountRows ∷ item.Aggregate 5 (aggregate.Count 2) ∷ item.Aggregate 6 (aggregate.Sum 2) ∷ item.Aggregate 7 (aggregate.Min 2) ∷ [];
   distinct = false;
 }
 
 -- SELECT dept, SUM(pay) FROM emp GROUP BY dept
 abbrev pub pay_of_depts : Block
-pay_of_depts = record { from = from.Table (emp 0); filter = None; grouped = true; keys = 1 ∷ []; items = show 1 ∷ item.Aggregate 4 (aggregate.Sum 2) ∷ []; distinct = false }
+pay_of_depts = record { from = from.Table (emp 0); filter = None; grouped = true; keys = 1 ∷ []; having = None; having_items = []; items = show 1 ∷ item.Aggregate 4 (aggregate.Sum 2) ∷ []; distinct = false }
 
 -- SELECT dept, SUM(pay) FROM emp GROUP BY dept ORDER BY dept DESC
 abbrev pub pay_of_depts_in_order : Query
@@ -178,9 +180,35 @@ pay_of_depts_in_order = record {
   order = record { item = 0; descending = true } ∷ [];
 }
 
+-- SELECT dept, COUNT(*) FROM emp GROUP BY dept HAVING COUNT(*) > 1
+abbrev pub shared_depts : Block
+shared_depts = record {
+  from = from.Table (emp 0);
+  filter = None;
+  grouped = true;
+  keys = 1 ∷ [];
+  having = Some (cond.Compare by.Greater (own 0) (number 1));
+  having_items = item.Aggregate 5 aggregate.CountRows ∷ [];
+  items = show 1 ∷ item.Aggregate 4 aggregate.CountRows ∷ [];
+  distinct = false;
+}
+
+-- SELECT COUNT(*) FROM emp HAVING, with this condition of MIN(pay)
+abbrev pub number_having : Cond → Block
+number_having having = record {
+  from = from.Table (emp 0);
+  filter = None;
+  grouped = true;
+  keys = [];
+  having = Some having;
+  having_items = item.Aggregate 5 (aggregate.Min 2) ∷ [];
+  items = item.Aggregate 4 aggregate.CountRows ∷ [];
+  distinct = false;
+}
+
 -- SELECT MAX(pay), SUM(pay) FROM emp
 abbrev pub sum_of_pay : Block
-sum_of_pay = record { from = from.Table (emp 0); filter = None; grouped = true; keys = []; items = item.Aggregate 4 (aggregate.Max 2) ∷ item.Aggregate 5 (aggregate.Sum 2) ∷ []; distinct = false }
+sum_of_pay = record { from = from.Table (emp 0); filter = None; grouped = true; keys = []; having = None; having_items = []; items = item.Aggregate 4 (aggregate.Max 2) ∷ item.Aggregate 5 (aggregate.Sum 2) ∷ []; distinct = false }
 
 -- two rows of emp with the largest pay that a table holds
 abbrev pub well_paid : Database
@@ -217,6 +245,11 @@ pub record WorkedRows : Type 0 where
   -- WHERE id < 0
   pub aggregates_of_no_rows : answers (totals_where (Some (cond.Compare by.Less (own 0) (number 0)))) ≡ (int 0 ∷ int 0 ∷ value.Null ∷ value.Null ∷ []) ∷ []
   pub null_group : answers pay_of_depts ≡ two (int 1) (int 500) ∷ two (int 3) (int 400) ∷ two value.Null (int 500) ∷ []
+  pub having : answers shared_depts ≡ two (int 1) (int 2) ∷ []
+  -- HAVING MIN(pay) > 300
+  pub having_of_all : answers (number_having (cond.Compare by.Greater (own 0) (number 300))) ≡ one (int 4) ∷ []
+  -- HAVING MIN(pay) > 400: without GROUP BY too a group may be left out
+  pub having_of_none : answers (number_having (cond.Compare by.Greater (own 0) (number 400))) ≡ []
   -- Null is last under DESC
   pub null_last : IsAnswer pay_of_depts_in_order (tables_of company company_rows) (two (int 3) (int 400) ∷ two (int 1) (int 500) ∷ two value.Null (int 500) ∷ [])
   -- a sum goes past 64 bits

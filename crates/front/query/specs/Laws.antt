@@ -3,7 +3,7 @@
 -- how often it answers a block.
 -- Conditions, IN and EXISTS: Guagliardo and Libkin, PVLDB 11(1), 2017. Joins with ON, groups and aggregates are this
 -- project's profile of SQL.
-use Rattle.std.specs.Prelude.{◌≡◌, ◌↔◌, ◌≢◌, ℕ, ◌+◌, ◌*◌, ◌-◌, ◌<◌, min, Bool, true, if◌then◌else◌, List, ◌∷◌, ◌++◌, length, take, drop, map, Option, Some, None}
+use Rattle.std.specs.Prelude.{◌≡◌, ◌↔◌, ◌≢◌, ℕ, ◌+◌, ◌*◌, ◌-◌, ◌<◌, min, Bool, true, if◌then◌else◌, List, [], ◌∷◌, ◌++◌, length, take, drop, map, Option, Some, None}
 use Rattle.values.specs.declared.truth.Truth.{Truth}
 use Rattle.values.specs.declared.truth.Truth.TheVariants.{False, True}
 use Rattle.values.specs.declared.truth.Comparison.{Comparison}
@@ -27,10 +27,10 @@ left_part width s = take (length s - width) s
 abbrev pub right_part : ℕ → Row → Row
 right_part width s = drop (length s - width) s
 
--- how often a block shows a row, where the list is the rows of its FROM at which its WHERE holds
-abbrev pub number_shown : Block → Env → List Row → Row → ℕ
-number_shown q e source r =
-    let number = count r (all_shown q.grouped q.keys q.items e source) in
+-- how often a block shows a row, given whether its HAVING holds of a row, where the list is the rows of its FROM at which its WHERE holds
+abbrev pub number_shown : Block → (Row → Bool) → Env → List Row → Row → ℕ
+number_shown q keeps e source r =
+    let number = count r (all_shown q.grouped q.keys q.having_items keeps q.items e source) in
     if q.distinct then min 1 number else number
 
 module _ (truth : Cond → Tables → Env → Truth) (src : From → Tables → Env → Row → ℕ) (often : Block → Tables → Env → Row → ℕ) where
@@ -38,7 +38,7 @@ module _ (truth : Cond → Tables → Env → Truth) (src : From → Tables → 
   abbrev pub holds : Cond → Tables → Env → Row → Bool
   holds c D e s = is_true (truth c D (s ∷ e))
 
-  -- an absent WHERE holds of each row
+  -- an absent WHERE holds of each row, an absent HAVING of each group
   abbrev pub holds_filter : Option Cond → Tables → Env → Row → Bool
   holds_filter None D e s = true
   holds_filter (Some c) D e s = holds c D e s
@@ -84,9 +84,10 @@ module _ (truth : Cond → Tables → Env → Truth) (src : From → Tables → 
         → src (from.LeftJoin f o on) D e s ≡ number_joined f o on D e s
     pub left_join_padded : (f : From) (o : TableReference) (on : Cond) (s : Row) → IsPadded o on D e s
         → src (from.LeftJoin f o on) D e s ≡ number_joined f o on D e s + src f D e (left_part (D.width o.table) s)
-    -- a block shows the rows of its FROM at which its WHERE holds, whatever order they are taken in
+    -- a block shows the rows of its FROM at which its WHERE holds, whatever order they are taken in, or their groups; of these
+    -- it shows those at which its HAVING holds, which sees the row of its items and no other
     pub source_exists : (q : Block) → (L : List Row) × IsSource q D e L
-    pub number : (q : Block) (L : List Row) (r : Row) → IsSource q D e L → often q D e r ≡ number_shown q e L r
+    pub number : (q : Block) (L : List Row) (r : Row) → IsSource q D e L → often q D e r ≡ number_shown q (holds_filter q.having D []) e L r
 
   -- the laws at a database, in each environment
   abbrev pub IsMeaningOn : Tables → Type 0

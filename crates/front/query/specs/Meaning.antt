@@ -59,7 +59,7 @@ cond_layer (Cond-F.In a q) D e = any_of (map (equals_row (term_value a e)) (q D 
 abbrev pub passes : CondMeaning → Tables → Env → Row → Bool
 passes c D e s = is_true (c D (s ∷ e))
 
--- an absent WHERE holds of each row
+-- an absent WHERE holds of each row, an absent HAVING of each group
 abbrev pub passes_filter : Option CondMeaning → Tables → Env → Row → Bool
 passes_filter None D e s = true
 passes_filter (Some c) D e s = passes c D e s
@@ -106,19 +106,28 @@ abbrev pub item_of_group : List ℕ → Env → Group → Item → Value
 item_of_group keys e g (item.Column c) = if c.level == 0 then key_value keys g.key c.place else column c ([] ∷ e)
 item_of_group keys e g (item.Aggregate n a) = aggregate a g.rows
 
--- what the items show of the rows of FROM at which the WHERE holds
-abbrev pub all_shown : Bool → List ℕ → List Item → Env → List Row → List Row
-all_shown false keys items e source = map (λ s. map (item_of_row e s) items) source
-all_shown true keys items e source = map (λ g. map (item_of_group keys e g) items) (groups keys source)
+-- the row that items show of a row of FROM
+abbrev pub row_of_row : Env → List Item → Row → Row
+row_of_row e items s = map (item_of_row e s) items
+
+-- the row that items show of a group
+abbrev pub row_of_group : List ℕ → Env → List Item → Group → Row
+row_of_group keys e items g = map (item_of_group keys e g) items
+
+-- what the items show of the rows of FROM at which the WHERE holds, or of their groups: of those alone whose row of HAVING's
+-- items passes
+abbrev pub all_shown : Bool → List ℕ → List Item → (Row → Bool) → List Item → Env → List Row → List Row
+all_shown false keys asked keeps items e source = map (row_of_row e items) (filter (λ s. keeps (row_of_row e asked s)) source)
+all_shown true keys asked keeps items e source = map (row_of_group keys e items) (filter (λ g. keeps (row_of_group keys e asked g)) (groups keys source))
 
 -- the same, each row once with DISTINCT
-abbrev pub shown : Bool → Bool → List ℕ → List Item → Env → List Row → List Row
-shown false grouped keys items e source = all_shown grouped keys items e source
-shown true grouped keys items e source = distinct (all_shown grouped keys items e source)
+abbrev pub shown : Bool → Bool → List ℕ → List Item → (Row → Bool) → List Item → Env → List Row → List Row
+shown false grouped keys asked keeps items e source = all_shown grouped keys asked keeps items e source
+shown true grouped keys asked keeps items e source = distinct (all_shown grouped keys asked keeps items e source)
 
--- the rows of a block, given the meaning of its parts
+-- the rows of a block, given the meaning of its parts; HAVING sees nothing but what its items show
 abbrev pub block_layer : Block-F CondMeaning RowsMeaning RowsMeaning → RowsMeaning
-block_layer q D e = shown q.distinct q.grouped q.keys q.items e (filter (passes_filter q.filter D e) (q.from D e))
+block_layer q D e = shown q.distinct q.grouped q.keys q.having_items (passes_filter q.having D []) q.items e (filter (passes_filter q.filter D e) (q.from D e))
 
 -- ---- the whole
 

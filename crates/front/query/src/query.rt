@@ -80,10 +80,14 @@ pub enum Item {
 pub struct Block {
     pub from: From,
     pub filter: Option<Boxed<Cond>>,
-    /// Whether it has GROUP BY or an aggregate.
+    /// Whether it has GROUP BY, HAVING or an aggregate.
     pub grouped: bool,
     /// The GROUP BY columns, by their places in the own FROM.
     pub keys: Items<usize>,
+    /// What HAVING asks of each group. It sees one row alone, which has what `having_items` shows of the group.
+    pub having: Option<Boxed<Cond>>,
+    /// What HAVING names, in the order of the text.
+    pub having_items: Items<Item>,
     pub items: Items<Item>,
     pub distinct: bool,
 }

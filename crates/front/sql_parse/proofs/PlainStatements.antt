@@ -20,7 +20,7 @@ use Rattle.sql_parse.specs.declared.token.Keyword.TheVariants as k
 use Rattle.sql_parse.specs.declared.token.Symbol.TheVariants as s
 use Rattle.sql_parse.specs.declared.token.Token.{Token}
 use Rattle.sql_parse.specs.declared.token.TokenKind.TheVariants as token
-use Rattle.sql_parse.specs.Sql.{Place, of_condition, of_select, of_count, of_column, Sql, sample, sql, body, null_test, a_comparison, a_null_test, a_membership, a_missing, a_test, a_tested, an_existence, a_primary, a_negation, all_of, any_of, a_conjunction, a_condition, a_join, a_chain, a_from, a_filter, a_select, a_statement}
+use Rattle.sql_parse.specs.Sql.{Place, of_condition, of_having, of_select, of_count, of_column, Sql, sample, sql, body, null_test, a_comparison, a_null_test, a_membership, a_missing, a_test, a_tested, an_existence, a_primary, a_negation, all_of, any_of, a_conjunction, a_condition, a_join, a_chain, a_from, a_filter, a_select, a_statement}
 use Rattle.sql_parse.specs.PlainOns.{plainness, join_ons, chain_ons, select_ons, filter_ons, ons_are_plain, StatementsArePlain}
 use Rattle.sql_parse.proofs.PlainParts.{plain-Compare, plain-IsNull, plain-Not, plain-And, plain-Or, plain-Exists, plain-In, ons-join, ons-chain, ons-select}
 
@@ -32,6 +32,7 @@ Good clauses.On x = (plainness x).plain ≡ true
 
 abbrev GoodPlace : (A : Type 0) → Place A → A → Type 0
 GoodPlace A (of_condition clause) x = Good clause x
+GoodPlace A of_having x = Unit {0}
 GoodPlace A of_select q = select_ons q ≡ true
 GoodPlace A of_count o = Unit {0}
 GoodPlace A of_column column = Unit {0}
@@ -187,13 +188,14 @@ module _ (I : (A : Type 0) → Place A → List Token → A → Type 0) (good : 
 
   good-select : (w : List Token) (v : Select) → In sql I a_select w v → select_ons v ≡ true
   unfolding a_select
-  good-select w v (x, is, (a, b, s, head, (d, e, t, list, (f, g, u, from, (h, i, m, filter, group))))) =
-      let z : Select-F Condition Chain Join Select = record { distinct = x.0; list = x.1.0; from = x.1.1.0; filter = x.1.1.1.0; group = x.1.1.1.1 } in
+  good-select w v (x, is, (a, b, s, head, (d, e, t, list, (f, g, u, from, (h, i, m, filter, rest))))) =
+      let z : Select-F Condition Chain Join Select = record { distinct = x.0; list = x.1.0; from = x.1.1.0; filter = x.1.1.1.0; group = x.1.1.1.1.0; having = x.1.1.1.1.1 } in
       ap select_ons is ∙ ons-select (roll-Select z) ∙ ap (λ k. list_all (λ k. k) (map chain_ons k.from) && filter_ons (option_map plainness k.filter)) (out-roll-Select z)
       ∙ and_from _ _ (good-from f x.1.1.0 from) (good-filter h x.1.1.1.0 filter)
 
   good-body : (A : Type 0) (p : Place A) (w : List Token) (v : A) → In sql I (body A p) w v → GoodPlace A p v
   good-body A (of_condition clause) w v word = good-condition clause w v word
+  good-body A of_having w v word = tt
   good-body A of_select w v word = good-select w v word
   good-body A of_count w v word = tt
   good-body A of_column w v word = tt

@@ -14,7 +14,7 @@ use Rattle.sql_parse.specs.declared.token.Symbol.TheVariants as s
 use Rattle.sql_parse.specs.declared.token.Token.{Token}
 use Rattle.sql_parse.specs.declared.token.TokenKind.TheVariants as token
 use Rattle.sql_parse.specs.Classes.{kind_number}
-use Rattle.sql_parse.specs.Sql.{Place, Sql, sample, a_name, a_literal, an_operator, a_column, an_alias, a_table, a_term, a_comparison, a_null_test, a_membership, a_missing, a_test, a_tested, an_existence, a_primary, a_negation, a_conjunction, a_condition, a_join_kind, a_join, a_chain, an_aggregate, an_item_value, an_item, a_direction, a_key, sql}
+use Rattle.sql_parse.specs.Sql.{Place, Sql, sample, a_name, a_literal, an_operator, a_column, an_alias, a_table, a_term, a_comparison, a_null_test, a_membership, a_missing, a_test, a_tested, an_existence, a_primary, a_negation, a_conjunction, a_condition, a_join_kind, a_join, a_chain, an_aggregate, an_item_value, an_item, a_having_term, a_having_comparison, a_having_null_test, a_having_test, a_having_tested, a_having_primary, a_having_negation, a_having_conjunction, a_direction, a_key, sql}
 use Rattle.sql_parse.specs.StatementReading.{reported, reads}
 use Rattle.sql_parse.proofs.SqlDecided.{is_decided}
 
@@ -51,6 +51,14 @@ pub conjunctions_list : (clause : Clause) → IsList (sample (token.Keyword k.Or
 unfolding a_name a_literal an_operator a_column a_term a_comparison a_null_test a_membership a_missing a_test a_tested an_existence a_primary a_negation a_conjunction
 conjunctions_list clauses.Where = record { loop = record { decided = refl; pairs = refl }; decided = refl; pairs = refl; solid = refl }
 conjunctions_list clauses.On = record { loop = record { decided = refl; pairs = refl }; decided = refl; pairs = refl; solid = refl }
+
+pub having_negations_list : IsList (sample (token.Keyword k.And)) a_having_negation
+unfolding a_name a_literal an_operator a_column an_aggregate a_having_term a_having_comparison a_having_null_test a_having_test a_having_tested a_having_primary a_having_negation
+having_negations_list = record { loop = record { decided = refl; pairs = refl }; decided = refl; pairs = refl; solid = refl }
+
+pub having_conjunctions_list : IsList (sample (token.Keyword k.Or)) a_having_conjunction
+unfolding a_name a_literal an_operator a_column an_aggregate a_having_term a_having_comparison a_having_null_test a_having_test a_having_tested a_having_primary a_having_negation a_having_conjunction
+having_conjunctions_list = record { loop = record { decided = refl; pairs = refl }; decided = refl; pairs = refl; solid = refl }
 
 pub joins_loop : IsLoop a_join
 unfolding a_name a_literal an_operator a_column an_alias a_table a_term a_comparison a_null_test a_test a_tested a_primary a_negation a_conjunction a_condition a_join_kind a_join

@@ -32,6 +32,10 @@ use Rattle.sql_parse.specs.declared.statement.JoinKind.{JoinKind}
 use Rattle.sql_parse.specs.declared.statement.JoinKind.TheVariants as join
 use Rattle.sql_parse.specs.declared.statement.Join.{Join, roll-Join}
 use Rattle.sql_parse.specs.declared.statement.Chain.{Chain, roll-Chain}
+use Rattle.sql_parse.specs.declared.statement.HavingTerm.{HavingTerm}
+use Rattle.sql_parse.specs.declared.statement.HavingTerm.TheVariants as having_term
+use Rattle.sql_parse.specs.declared.statement.HavingCondition.{HavingCondition}
+use Rattle.sql_parse.specs.declared.statement.HavingCondition.TheVariants as h
 use Rattle.sql_parse.specs.declared.statement.Select.{Select, roll-Select}
 use Rattle.sql_parse.specs.declared.statement.OrderKey.{OrderKey}
 use Rattle.sql_parse.specs.declared.statement.Statement.{Statement}
@@ -43,6 +47,8 @@ use Rattle.sql_parse.specs.Classes.{kind_number}
 pub data Place : Type 0 → Type 1 where
   -- a condition in parentheses, in a WHERE or in an ON
   of_condition : Clause → Place Condition
+  -- a condition in parentheses, in a HAVING
+  of_having : Place HavingCondition
   -- a subquery
   of_select : Place Select
   -- what COUNT counts: rows or a column
@@ -226,6 +232,66 @@ a_list = alt (map (λ t. list.Star t.at) (symbol s.Star)) (map (λ items. list.I
 unfoldable pub the_columns : Sql (List ColumnName)
 the_columns = separated (sample (token.Symbol s.Comma)) a_column
 
+-- ---- HAVING
+
+-- `column | aggregate | number | text | NULL`
+unfoldable pub a_having_term : Sql HavingTerm
+a_having_term = alt (map (λ column. having_term.Column column) a_column)
+    (alt (map (λ call. having_term.Aggregate call) an_aggregate) (map (λ value. having_term.Literal value) a_literal))
+
+-- `operator term`
+unfoldable pub a_having_comparison : Sql (HavingTerm → HavingCondition)
+a_having_comparison = map (λ x left. h.Compare left x.0 x.1) (seq an_operator a_having_term)
+
+abbrev pub having_null_test : Option Token → HavingTerm → HavingCondition
+having_null_test None term = h.IsNull term
+having_null_test (Some _) term = h.Not (h.IsNull term)
+
+-- `IS [NOT] NULL`
+unfoldable pub a_having_null_test : Sql (HavingTerm → HavingCondition)
+a_having_null_test = map having_null_test (after (keyword k.Is) (before (optional (keyword k.Not)) (keyword k.Null)))
+
+-- what stands behind a term
+unfoldable pub a_having_test : Sql (HavingTerm → HavingCondition)
+a_having_test = alt a_having_comparison a_having_null_test
+
+-- `term test`
+unfoldable pub a_having_tested : Sql HavingCondition
+a_having_tested = map (λ x. x.1 x.0) (seq a_having_term a_having_test)
+
+-- `( condition ) | term test`
+unfoldable pub a_having_primary : Sql HavingCondition
+a_having_primary = alt (nested of_having) a_having_tested
+
+-- `[NOT] primary`
+unfoldable pub a_having_negation : Sql HavingCondition
+a_having_negation = alt (map (λ x. h.Not x) (after (keyword k.Not) a_having_primary)) a_having_primary
+
+-- one alone stands for itself
+abbrev pub all_having : List HavingCondition → HavingCondition
+all_having [] = h.And []
+all_having (x ∷ []) = x
+all_having (x ∷ y ∷ xs) = h.And (x ∷ y ∷ xs)
+
+abbrev pub any_having : List HavingCondition → HavingCondition
+any_having [] = h.Or []
+any_having (x ∷ []) = x
+any_having (x ∷ y ∷ xs) = h.Or (x ∷ y ∷ xs)
+
+-- `negation {AND negation}`
+unfoldable pub a_having_conjunction : Sql HavingCondition
+a_having_conjunction = map all_having (separated (sample (token.Keyword k.And)) a_having_negation)
+
+-- `conjunction {OR conjunction}`
+unfoldable pub a_having_condition : Sql HavingCondition
+a_having_condition = map any_having (separated (sample (token.Keyword k.Or)) a_having_conjunction)
+
+-- `[HAVING condition]`
+unfoldable pub the_having : Sql (Option HavingCondition)
+the_having = optional (after (keyword k.Having) a_having_condition)
+
+-- ---- the clauses of a SELECT
+
 -- `[WHERE condition]`
 unfoldable pub a_filter : Sql (Option Condition)
 a_filter = optional (after (keyword k.Where) (a_condition clauses.Where))
@@ -243,8 +309,8 @@ unfoldable pub a_head : Sql Bool
 a_head = map is_some (after (keyword k.Select) (optional (keyword k.Distinct)))
 
 unfoldable pub a_select : Sql Select
-a_select = map (λ x. roll-Select (record { distinct = x.0; list = x.1.0; from = x.1.1.0; filter = x.1.1.1.0; group = x.1.1.1.1 }))
-    (seq a_head (seq a_list (seq a_from (seq a_filter a_group))))
+a_select = map (λ x. roll-Select (record { distinct = x.0; list = x.1.0; from = x.1.1.0; filter = x.1.1.1.0; group = x.1.1.1.1.0; having = x.1.1.1.1.1 }))
+    (seq a_head (seq a_list (seq a_from (seq a_filter (seq a_group the_having)))))
 
 -- ---- the statement
 
@@ -268,6 +334,7 @@ a_statement = before (map (λ x. record { select = x.0; order = x.1 }) (seq a_se
 
 abbrev pub body : (A : Type 0) → Place A → Sql A
 body A (of_condition clause) = a_condition clause
+body A of_having = a_having_condition
 body A of_select = a_select
 body A of_count = a_count
 body A of_column = a_column

@@ -2,9 +2,10 @@
 
 ghost use Rattle.std.specs.Prelude.{◌≡◌};
 ghost use Rattle.grammar.specs.Grammars.{nested};
+ghost use Rattle.grammar.specs.Readers.{sees as sees_next, first};
 ghost use Rattle.values.specs.Faults.{Gives};
 ghost use Rattle.sql_parse.specs.Sql as grammar;
-ghost use Rattle.sql_parse.specs.Sql.{of_count, of_column};
+ghost use Rattle.sql_parse.specs.Sql.{sql, of_count, of_column};
 ghost use Rattle.sql_parse.specs.StatementReading.{reads};
 
 use crate::class::Class;
@@ -94,8 +95,25 @@ fn aggregate_by(
     Ok((call, rest))
 }
 
+/// Whether an aggregate comes next.
 #[tactic(auto, unfolding(crate::specs::Sql::an_aggregate))]
-fn aggregate(alloc: Global, tokens: &[Token], end: usize, depth: usize) -> Parsed<'_, AggregateCall>
+pub fn sees_aggregate(tokens: &[Token]) -> bool
+    ensures { result ≡ sees_next sql (first sql grammar.an_aggregate) tokens.now }
+{
+    sees(tokens, Class::Keyword(Keyword::Count))
+        || sees(tokens, Class::Keyword(Keyword::Sum))
+        || sees(tokens, Class::Keyword(Keyword::Min))
+        || sees(tokens, Class::Keyword(Keyword::Max))
+}
+
+/// `COUNT ( * ) | (COUNT | SUM | MIN | MAX) ( column )`
+#[tactic(auto, unfolding(crate::specs::Sql::an_aggregate))]
+pub fn aggregate(
+    alloc: Global,
+    tokens: &[Token],
+    end: usize,
+    depth: usize,
+) -> Parsed<'_, AggregateCall>
     ensures { Gives (λ x. (x.0, x.1.now)) result (reads end depth grammar.an_aggregate tokens.now) }
 {
     if let Some((token, rest)) = accept(tokens, end, Class::Keyword(Keyword::Count)) {

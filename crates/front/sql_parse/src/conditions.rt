@@ -11,6 +11,7 @@ ghost use Rattle.sql_parse.specs.StatementReading.{reads};
 use crate::class::{Class, Clause};
 use crate::clauses::{group, head, list};
 use crate::fault::ParseReason;
+use crate::having::having;
 use crate::reading::{Parsed, accept, expect, fault, followed, operator_of, sees, table, term};
 use crate::statement::{Chain, Condition, Join, JoinKind, Operator, Select, Term};
 use crate::token::{Keyword, Symbol, Token};
@@ -430,7 +431,7 @@ fn from(alloc: Global, tokens: &[Token], end: usize, depth: usize) -> Parsed<'_,
     }
 }
 
-/// `SELECT .. FROM .. [WHERE ..] [GROUP BY ..]`
+/// `SELECT .. FROM .. [WHERE ..] [GROUP BY ..] [HAVING ..]`
 #[cycle(conditions)]
 #[tactic(auto, unfolding(crate::specs::Sql::a_select))]
 pub fn select(alloc: Global, tokens: &[Token], end: usize, depth: usize) -> Parsed<'_, Select>
@@ -441,12 +442,14 @@ pub fn select(alloc: Global, tokens: &[Token], end: usize, depth: usize) -> Pars
     let (from, rest) = from(alloc, rest, end, depth)?;
     let (filter, rest) = filter(alloc, rest, end, depth)?;
     let (group, rest) = group(alloc, rest, end, depth)?;
+    let (having, rest) = having(alloc, rest, end, depth)?;
     let select = Select {
         distinct,
         list,
         from,
         filter,
         group,
+        having,
     };
     Ok((select, rest))
 }

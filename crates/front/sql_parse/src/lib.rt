@@ -5,6 +5,7 @@ mod class;
 mod clauses;
 mod conditions;
 pub mod fault;
+mod having;
 pub mod laws;
 mod lexer;
 pub mod name;

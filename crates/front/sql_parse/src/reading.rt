@@ -130,7 +130,7 @@ pub fn name(alloc: Global, tokens: &[Token], end: usize, depth: usize) -> Parsed
 
 /// `number | text | NULL`
 #[tactic(auto, unfolding(crate::specs::Sql::a_literal))]
-fn literal(alloc: Global, tokens: &[Token], end: usize, depth: usize) -> Parsed<'_, Literal>
+pub fn literal(alloc: Global, tokens: &[Token], end: usize, depth: usize) -> Parsed<'_, Literal>
     ensures { Gives (λ x. (x.0, x.1.now)) result (reads end depth grammar.a_literal tokens.now) }
 {
     match tokens {

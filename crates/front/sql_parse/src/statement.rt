@@ -106,7 +106,26 @@ pub struct Chain {
     pub joins: Items<Join>,
 }
 
-/// `SELECT .. FROM .. WHERE .. GROUP BY ..`, which may also stand as a subquery.
+/// What HAVING compares.
+#[derive(Drop)]
+pub enum HavingTerm {
+    Column(ColumnName),
+    Aggregate(AggregateCall),
+    Literal(Literal),
+}
+
+/// A condition of HAVING, which has no subquery. `x IS NOT NULL` is `Not` of `IsNull`. AND and OR have at least two sides.
+#[cycle(having)]
+#[derive(Drop)]
+pub enum HavingCondition {
+    Compare(HavingTerm, Operator, HavingTerm),
+    IsNull(HavingTerm),
+    Not(Boxed<HavingCondition>),
+    And(Items<HavingCondition>),
+    Or(Items<HavingCondition>),
+}
+
+/// `SELECT .. FROM .. WHERE .. GROUP BY .. HAVING ..`, which may also stand as a subquery.
 #[cycle(tree)]
 #[derive(Drop)]
 pub struct Select {
@@ -115,6 +134,7 @@ pub struct Select {
     pub from: Items<Chain>,
     pub filter: Option<Boxed<Condition>>,
     pub group: Items<ColumnName>,
+    pub having: Option<Boxed<HavingCondition>>,
 }
 
 /// A key of ORDER BY.

@@ -52,7 +52,11 @@ const USING: &str = "USING; write ON with a comparison, as ON e.dept = d.id";
 const UNION: &str =
     "UNION, EXCEPT and INTERSECT; ask two queries, or join conditions on one table by OR and AND";
 
-const HAVING: &str = "HAVING; the answer has all groups";
+const SUBQUERY_THERE: &str =
+    "a subquery in an ON, in a HAVING or among what is shown; EXISTS and IN stand in WHERE";
+
+const AGGREGATE_THERE: &str =
+    "an aggregate in WHERE or ON; HAVING, behind GROUP BY, compares those of groups, and in WHERE x = MAX(y) is x IN (SELECT MAX(y) FROM t)";
 
 const WITH: &str = "WITH; write the query where it is used, behind IN or EXISTS";
 
@@ -133,6 +137,9 @@ const HABITS: &[(&str, &str, &str)] = &[
     ("(", "*", STAR_OF_AGGREGATE),
     ("NOT IN (", "1", NOT_IN_LIST),
     ("IN (", "1", IN_LIST),
+    ("", "IN ( SELECT", SUBQUERY_THERE),
+    ("", "NOT IN ( SELECT", SUBQUERY_THERE),
+    ("", "EXISTS", SUBQUERY_THERE),
     ("(", "DISTINCT", COUNT_DISTINCT),
     ("SELECT", "1", CONSTANT),
     ("DISTINCT", "1", CONSTANT),
@@ -140,6 +147,14 @@ const HABITS: &[(&str, &str, &str)] = &[
     ("ORDER BY", "aggregate", AGGREGATE_AS_KEY),
     (",", "aggregate", AGGREGATE_AS_KEY),
     ("AS", "aggregate", AGGREGATE_AS_NAME),
+    ("WHERE", "aggregate", AGGREGATE_THERE),
+    ("ON", "aggregate", AGGREGATE_THERE),
+    ("AND", "aggregate", AGGREGATE_THERE),
+    ("OR", "aggregate", AGGREGATE_THERE),
+    ("NOT", "aggregate", AGGREGATE_THERE),
+    ("=", "aggregate", AGGREGATE_THERE),
+    ("<", "aggregate", AGGREGATE_THERE),
+    (">", "aggregate", AGGREGATE_THERE),
     ("", "NULLS FIRST", NULLS_ORDER),
     ("", "NULLS LAST", NULLS_ORDER),
     ("FROM name", ".", SCHEMA_OF_TABLE),
@@ -166,7 +181,6 @@ const HABITS: &[(&str, &str, &str)] = &[
     ("", "UNION", UNION),
     ("", "EXCEPT", UNION),
     ("", "INTERSECT", UNION),
-    ("", "HAVING", HAVING),
     ("", "WITH", WITH),
     ("", "BETWEEN", BETWEEN),
     ("", "LIKE", LIKE),
@@ -223,7 +237,7 @@ const HABITS: &[(&str, &str, &str)] = &[
     ("FALSE", "", TRUTH),
 ];
 
-fn is_word(byte: u8) -> bool {
+pub(crate) fn is_word(byte: u8) -> bool {
     byte.is_ascii_alphanumeric() || byte == b'_'
 }
 

@@ -225,6 +225,32 @@ fn output_name<'t>(item: &'t SelectItem) -> &'t str {
     }
 }
 
+/// Whether a SELECT shows something by this alias.
+fn has_alias(list: &SelectList, name: &str) -> bool {
+    let SelectList::Items(items) = list else {
+        return false;
+    };
+    let items = items.as_slice();
+    items.iter().any(|item| item
+        .alias
+        .as_ref()
+        .is_some_and(|alias| alias.text.as_str() == name))
+}
+
+/// Says of a plain name in a HAVING that it is refused though the SELECT has such an alias.
+pub(crate) fn say_alias(
+    list: &SelectList,
+    name: &ColumnName,
+    said: &mut String,
+) -> Result<(), AllocError> {
+    if name.table.is_none() && has_alias(list, name.name.text.as_str()) {
+        said.push_str(
+            "HAVING knows no alias; write what it stands for once more, as in HAVING COUNT(*) > 1\n",
+        )?;
+    }
+    Ok(())
+}
+
 /// Says what a SELECT shows, by which its rows can be ordered. The tables are those of its FROM.
 pub(crate) fn say_shown(
     alloc: Global,

@@ -1,12 +1,12 @@
 //! The name at a byte of a query's text, with the tables of the FROMs around it.
 
-use crate::names::{Around, say_ambiguous, say_shown, say_tables, say_unknown};
+use crate::names::{Around, say_alias, say_ambiguous, say_shown, say_tables, say_unknown};
 use binder::{BindReason, BindRefusal};
 use schema::Schema;
 use sql_parse::parse_bytes;
 use sql_parse::statement::{
-    Chain, ColumnName, Condition, ItemValue, OrderKey, Select, SelectList, Statement, TableName,
-    Term,
+    AggregateCall, Chain, ColumnName, Condition, HavingCondition, HavingTerm, ItemValue, OrderKey,
+    Select, SelectList, Statement, TableName, Term,
 };
 use std::alloc::{AllocError, Global};
 use values::Fault;
@@ -154,6 +154,18 @@ fn chain<'t>(
     Ok(())
 }
 
+fn aggregate(
+    sought: Sought<'_>,
+    call: &AggregateCall,
+    tables: &[Around<'_>],
+    said: &mut String,
+) -> Result<(), AllocError> {
+    match &call.column {
+        Some(name) => column(sought, name, tables, said),
+        None => Ok(()),
+    }
+}
+
 /// What a SELECT shows.
 fn list(
     sought: Sought<'_>,
@@ -167,12 +179,63 @@ fn list(
     for item in items.as_slice() {
         match &item.value {
             ItemValue::Column(name) => column(sought, name, tables, said)?,
-            ItemValue::Aggregate(call) => {
-                if let Some(name) = &call.column {
-                    column(sought, name, tables, said)?;
-                }
-            }
+            ItemValue::Aggregate(call) => aggregate(sought, call, tables, said)?,
         }
+    }
+    Ok(())
+}
+
+/// A term of a HAVING, whose SELECT has this list.
+fn having_term(
+    sought: Sought<'_>,
+    part: &HavingTerm,
+    list: &SelectList,
+    tables: &[Around<'_>],
+    said: &mut String,
+) -> Result<(), AllocError> {
+    match part {
+        HavingTerm::Column(name) => {
+            column(sought, name, tables, said)?;
+            if is_refused(sought, name) {
+                say_alias(list, name, said)?;
+            }
+            Ok(())
+        }
+        HavingTerm::Aggregate(call) => aggregate(sought, call, tables, said),
+        HavingTerm::Literal(_) => Ok(()),
+    }
+}
+
+#[cycle(having)]
+fn having(
+    sought: Sought<'_>,
+    part: &HavingCondition,
+    list: &SelectList,
+    tables: &[Around<'_>],
+    said: &mut String,
+) -> Result<(), AllocError> {
+    match part {
+        HavingCondition::Compare(left, _, right) => {
+            having_term(sought, left, &*list, &*tables, said)?;
+            having_term(sought, right, &*list, &*tables, said)
+        }
+        HavingCondition::IsNull(tested) => having_term(sought, tested, &*list, &*tables, said),
+        HavingCondition::Not(inner) => having(sought, inner.get(), &*list, &*tables, said),
+        HavingCondition::And(parts) => havings(sought, parts.as_slice(), &*list, &*tables, said),
+        HavingCondition::Or(parts) => havings(sought, parts.as_slice(), &*list, &*tables, said),
+    }
+}
+
+#[cycle(having)]
+fn havings(
+    sought: Sought<'_>,
+    parts: &[HavingCondition],
+    list: &SelectList,
+    tables: &[Around<'_>],
+    said: &mut String,
+) -> Result<(), AllocError> {
+    for part in parts {
+        having(sought, part, &*list, &*tables, said)?;
     }
     Ok(())
 }
@@ -195,6 +258,9 @@ fn select<'t>(
     }
     for name in part.group.as_slice() {
         column(sought, name, tables, said)?;
+    }
+    if let Some(asked) = &part.having {
+        having(sought, asked.get(), &part.list, tables, said)?;
     }
     list(sought, &part.list, tables, said)
 }

@@ -12,7 +12,7 @@ use input_hints::{
     size_explanation, statistics_there, table_there,
 };
 use pipeline::Refusal;
-use query_hints::{habits_there, names_there};
+use query_hints::{example_there, habits_there, names_there, tokens_there};
 use schema::{Schema, SchemaRefusal};
 use std::alloc::{AllocError, Global};
 use words::Meaning;
@@ -94,7 +94,11 @@ fn unread_table(
 fn more(alloc: Global, refusal: &Refusal, inputs: Inputs<'_>) -> Result<String, AllocError> {
     let tables = inputs.schema.tables.as_slice();
     match refusal {
-        Refusal::Text(refusal) => habits_there(alloc, inputs.text, *refusal),
+        Refusal::Text(refusal) => {
+            let mut said = tokens_there(alloc, inputs.text, *refusal)?;
+            said.push_str(habits_there(alloc, inputs.text, *refusal)?.as_str())?;
+            Ok(said)
+        }
         Refusal::Scope(refusal) => names_there(alloc, inputs.schema, inputs.text, *refusal),
         Refusal::Statistics(refusal) => {
             statistics_there(alloc, inputs.schema, inputs.statistics, *refusal)
@@ -117,6 +121,19 @@ fn more(alloc: Global, refusal: &Refusal, inputs: Inputs<'_>) -> Result<String, 
     }
 }
 
+/// What a refusal means, with an example of what may stand at its place where there is one.
+fn meaning_there(refusal: &Refusal, inputs: Inputs<'_>) -> Option<Meaning> {
+    let meaning = meaning(refusal)?;
+    let example = match refusal {
+        Refusal::Text(refusal) => example_there(inputs.text, *refusal),
+        _ => None,
+    };
+    Some(Meaning {
+        text: meaning.text,
+        example: example.unwrap_or(meaning.example),
+    })
+}
+
 /// What there is to say of a refusal.
 fn said_there<'a>(
     alloc: Global,
@@ -124,7 +141,7 @@ fn said_there<'a>(
     inputs: Inputs<'a>,
 ) -> Result<Said<'a>, AllocError> {
     Ok(Said {
-        meaning: meaning(refusal),
+        meaning: meaning_there(refusal, inputs),
         place: place_of(alloc, refusal, inputs),
         more: more(alloc, refusal, inputs)?,
     })

@@ -87,7 +87,7 @@ fn scope_text(reason: BindReason) -> &'static str {
             "the FROM has a table known by this name already; another name behind AS would tell them apart",
         BindReason::MixedKinds => "a number is compared with a text",
         BindReason::UngroupedColumn =>
-            "a grouped SELECT shows a column that isn't in GROUP BY, or GROUP BY names a column of an enclosing query",
+            "a grouped SELECT shows a column that is neither in GROUP BY nor in an aggregate, HAVING names one, or GROUP BY or HAVING names a column of an enclosing query",
         BindReason::SumOfText => "SUM is of a text",
         BindReason::NotOneColumn => "the subquery of an IN doesn't show one column",
         BindReason::NoOutputColumn => "a key of ORDER BY is no column that the SELECT shows",

@@ -26,35 +26,46 @@ fn has_copies(alloc: Global, line: &Expr) -> Result<bool, AllocError> {
     Ok(same && line.same(line))
 }
 
-/// The aggregates of a line.
-fn aggregates(line: &Expr) -> &[Aggregation] {
-    match line {
-        Expr::Group(_, added, _) => added.as_slice(),
-        _ => &[],
+/// The aggregates of all groups.
+fn aggregates(alloc: Global, frame: &[Expr]) -> Result<Vec<Aggregation>, AllocError> {
+    let mut all = Vec::new(alloc);
+    for line in frame {
+        if let Expr::Group(_, added, _) = line {
+            all.extend_from_slice(added.as_slice())?;
+        }
     }
+    Ok(all)
 }
 
 /// Whether a line is well formed after classes with these columns, which its own are added to.
 fn is_formed(
     alloc: Global,
     instances: &[TableInstance],
+    own: &[Aggregation],
     classes: &mut Vec<Columns>,
     line: &Expr,
 ) -> Result<bool, AllocError> {
     if !line.names_below(classes.len()) {
         return Ok(false);
     }
-    let formed = line.is_formed(instances, aggregates(line), classes.as_slice());
+    let formed = line.is_formed(instances, own, classes.as_slice());
     let columns = line.columns(alloc, instances, classes.as_slice())?;
     classes.push(columns)?;
     Ok(formed)
 }
 
-/// Whether each line is well formed, where no condition reads an aggregate.
+/// Whether each line is well formed.
 fn are_formed(alloc: Global, query: &Query, frame: &[Expr]) -> Result<bool, AllocError> {
+    let own = aggregates(alloc, frame)?;
     let mut classes = Vec::new(alloc);
     for line in frame {
-        if !is_formed(alloc, query.tables.as_slice(), &mut classes, line)? {
+        if !is_formed(
+            alloc,
+            query.tables.as_slice(),
+            own.as_slice(),
+            &mut classes,
+            line,
+        )? {
             return Ok(false);
         }
         if !has_copies(alloc, line)? {
@@ -99,6 +110,8 @@ SELECT c.boss FROM dept a JOIN dept b ON a.id = b.boss, dept c WHERE c.id = a.bo
 SELECT a.id FROM dept a WHERE (a.id NOT IN (SELECT boss FROM dept b) AND EXISTS (SELECT c.id, a.boss FROM dept c WHERE c.id = a.boss)) AND a.boss < 7 => get 0; get 1; keep 1: 3; get 2; select 3 [=(c4,c1)]; keep 4: 4; select 0 [<(c1,i7),exists(5),not(in(c0,2,c3))]; keep 6: 0
 SELECT SUM(id), boss, COUNT(*) FROM dept GROUP BY boss, id => get 0; group 0: 0 1; 2=sum:0 3=count; keep 1: 1 2 3
 SELECT COUNT(*) FROM dept => get 0; group 0:; 2=count; keep 1: 2
+SELECT boss, COUNT(*) FROM dept GROUP BY boss HAVING COUNT(id) > 1 AND boss < 7 => get 0; group 0: 1; 2=count 3=count:0; select 1 [<(c1,i7),>(c3,i1)]; keep 2: 1 2
+SELECT MAX(a.id) FROM dept a WHERE a.id IN (SELECT COUNT(*) FROM dept b HAVING MIN(b.id) > 1) HAVING NOT SUM(a.boss) = 3 => get 0; get 1; group 1:; 5=count 6=min:2; select 2 [>(c6,i1)]; keep 3: 5; select 0 [in(c0,4,c5)]; group 5:; 4=max:0 7=sum:1; select 6 [not(=(c7,i3))]; keep 7: 4
 SELECT DISTINCT boss FROM dept WHERE (boss < 7 AND id < 9) AND boss < 7 => get 0; select 0 [<(c0,i9),<(c1,i7)]; keep 1: 1; distinct 2
 SELECT id FROM dept WHERE NOT boss < 7 OR boss IS NULL AND NULL = 3 => get 0; select 0 [or(not(<(c1,i7)),and(null(c1),=(n,i3)))]; keep 1: 0
 SELECT a FROM t, u WHERE d >= 'y' => get 0; get 1; join 0 1 []; select 2 [>=(c3,t79)]; keep 3: 0";

@@ -59,6 +59,22 @@ SELECT dept, SUM(pay) FROM emp GROUP BY dept ORDER BY dept DESC => ;3,400,;1,500
 SELECT dept, SUM(pay) FROM emp GROUP BY dept ORDER BY dept => ;-,500,;1,500,;3,400,
 SELECT DISTINCT SUM(pay) s FROM emp GROUP BY dept ORDER BY s => ;400,;500,";
 
+/// A group stays where its HAVING is true, without GROUP BY too.
+const HAVING: &str = "SELECT dept, COUNT(*) FROM emp GROUP BY dept HAVING COUNT(*) > 1 => ;1,2,
+SELECT dept FROM emp GROUP BY dept HAVING SUM(pay) >= 500 => ;1,;-,
+SELECT dept FROM emp GROUP BY dept HAVING dept > 1 => ;3,
+SELECT COUNT(*) FROM emp HAVING MIN(pay) > 400 =>
+SELECT COUNT(*) FROM emp HAVING 1 = 2 =>
+SELECT COUNT(*) FROM emp WHERE id < 0 HAVING COUNT(*) = 0 => ;0,
+SELECT COUNT(*) FROM emp WHERE id < 0 HAVING SUM(pay) <> 0 =>
+SELECT dept FROM emp GROUP BY dept HAVING MIN(badge) IS NULL => ;3,
+SELECT dept FROM emp GROUP BY dept HAVING NOT MIN(badge) = 7 => ;-,
+SELECT dept FROM emp GROUP BY dept HAVING dept IS NULL OR COUNT(pay) < COUNT(*) => ;1,;-,
+SELECT DISTINCT COUNT(*) c FROM emp GROUP BY dept HAVING MIN(pay) IS NOT NULL ORDER BY c => ;1,;2,
+SELECT id FROM emp WHERE dept IN (SELECT dept FROM emp GROUP BY dept HAVING COUNT(*) > 1) => ;10,;11,
+SELECT name FROM dept d WHERE EXISTS (SELECT COUNT(*) FROM emp e WHERE e.dept = d.id HAVING COUNT(*) > 1) => ;ops,
+SELECT dept, SUM(pay) s FROM emp GROUP BY dept HAVING COUNT(pay) > 0 ORDER BY s, dept => ;3,400,;-,500,;1,500,";
+
 /// Nulls come first, and DISTINCT leaves one of each.
 const DISTINCT_AND_ORDER: &str = "SELECT DISTINCT badge FROM emp ORDER BY badge => ;-,;7,;9,
 SELECT pay, id FROM emp ORDER BY pay, id DESC => ;-,11,;400,12,;500,13,;500,10,
@@ -77,6 +93,7 @@ fn worked_queries(rt: HostRuntime) {
         SUBQUERIES,
         JOINS,
         AGGREGATES,
+        HAVING,
         DISTINCT_AND_ORDER,
     ];
     let company = Tables {

@@ -98,6 +98,31 @@ SELECT d.id FROM dept d WHERE d.id IN (SELECT MAX(d.id) FROM emp e) => B11 at 46
 SELECT d.id FROM dept d WHERE EXISTS (SELECT COUNT(*), SUM(d.name) FROM emp e) => B11 at 55
 SELECT d.id FROM dept d WHERE EXISTS (SELECT COUNT(boss), name FROM emp) => B11 at 45";
 
+/// All of these, in HAVING.
+const HAVING: &str = "SELECT dept FROM emp GROUP BY dept HAVING nope = 1 => B02 at 42
+SELECT dept FROM emp GROUP BY dept HAVING SUM(nope) > 1 => B02 at 46
+SELECT dept FROM emp e GROUP BY dept HAVING emp.dept = 1 => B02 at 44
+SELECT dept AS key FROM emp GROUP BY dept HAVING key > 1 => B02 at 49
+SELECT COUNT(*) n FROM emp HAVING n > 1 => B02 at 34
+SELECT boss FROM dept, emp GROUP BY boss HAVING 1 = MIN(id) => B03 at 56
+SELECT dept.id FROM dept, emp GROUP BY dept.id HAVING id > 1 => B03 at 54
+SELECT dept FROM emp GROUP BY dept HAVING COUNT(*) = 'x' => B05 at 51
+SELECT name FROM dept GROUP BY name HAVING name > MAX(id) => B05 at 48
+SELECT MAX(name) FROM dept HAVING COUNT(*) > 1 OR NOT (1 <> MIN(name)) => B05 at 57
+SELECT COUNT(*) FROM dept HAVING COUNT(name) < MAX(name) => B05 at 45
+SELECT COUNT(*) FROM dept HAVING 1 = 'x' => B05 at 35
+SELECT dept FROM emp GROUP BY dept HAVING pay > 1 => B06 at 42
+SELECT dept FROM emp GROUP BY dept HAVING dept > 1 AND (COUNT(*) > 1 OR emp.pay IS NULL) => B06 at 72
+SELECT COUNT(*) FROM emp HAVING id = 1 => B06 at 32
+SELECT id FROM emp HAVING COUNT(*) > 1 => B06 at 7
+SELECT * FROM emp HAVING 1 = 1 => B06 at 7
+SELECT d.id FROM dept d WHERE EXISTS (SELECT COUNT(*) FROM emp HAVING COUNT(*) > d.id) => B06 at 81
+SELECT d.id FROM dept d WHERE EXISTS (SELECT pay FROM emp GROUP BY pay HAVING pay > boss) => B06 at 84
+SELECT COUNT(*) FROM dept HAVING SUM(name) > 1 => B07 at 33
+SELECT name FROM dept GROUP BY name HAVING MAX(name) = name AND SUM(name) IS NULL => B07 at 64
+SELECT d.id FROM dept d WHERE EXISTS (SELECT COUNT(*) FROM emp HAVING MAX(d.id) > 1) => B11 at 70
+SELECT d.id FROM dept d WHERE EXISTS (SELECT pay FROM emp GROUP BY pay HAVING pay IS NULL OR SUM(d.name) = 'x') => B11 at 93";
+
 /// B09.
 const ORDERS: &str = "SELECT id FROM emp ORDER BY pay => B09 at 28
 SELECT id, pay FROM emp ORDER BY pay, dept DESC, id => B09 at 38
@@ -122,7 +147,21 @@ SELECT nope FROM emp WHERE EXISTS (SELECT gone FROM dept) => B02 at 42
 SELECT d.id FROM dept d WHERE EXISTS (SELECT SUM(d.name), nope FROM emp) => B11 at 45
 SELECT SUM(name), nope FROM dept => B07 at 7
 SELECT id, SUM(name) FROM dept => B06 at 7
-SELECT id FROM emp ORDER BY pay, nope => B09 at 28";
+SELECT id FROM emp ORDER BY pay, nope => B09 at 28
+SELECT id FROM emp GROUP BY none HAVING gone = 1 ORDER BY never => B02 at 28
+SELECT id FROM emp WHERE id = 'x' GROUP BY dept HAVING gone = 1 => B05 at 28
+SELECT id FROM emp GROUP BY dept HAVING gone = 1 ORDER BY never => B02 at 40
+SELECT SUM(name) FROM dept HAVING boss = 1 => B06 at 34
+SELECT id FROM emp GROUP BY dept HAVING COUNT(*) > 1 ORDER BY never => B06 at 7
+SELECT dept FROM emp GROUP BY dept HAVING pay = SUM(nope) => B06 at 42
+SELECT dept FROM emp GROUP BY dept HAVING SUM(nope) = pay => B02 at 46
+SELECT dept FROM emp GROUP BY dept HAVING pay = 'x' => B06 at 42
+SELECT name FROM dept GROUP BY name HAVING SUM(name) = 'x' => B07 at 43
+SELECT name FROM dept GROUP BY name HAVING MAX(id) = name AND nope = 1 => B05 at 51
+SELECT dept FROM emp GROUP BY dept HAVING pay = 1 AND COUNT(*) = 'x' => B06 at 42
+SELECT nope FROM dept WHERE id IN (SELECT dept FROM emp GROUP BY dept HAVING pay > 1) => B06 at 77
+SELECT id FROM dept WHERE id IN (SELECT dept, COUNT(*) FROM emp GROUP BY dept HAVING pay > 1) => B06 at 85
+SELECT id FROM dept WHERE id IN (SELECT dept, COUNT(*) FROM emp GROUP BY dept HAVING dept > 1) GROUP BY id HAVING boss = 1 => B08 at 29";
 
 /// Texts that bind.
 const BOUND: &str = "SELECT id FROM emp => bound
@@ -136,7 +175,13 @@ SELECT * FROM emp GROUP BY badge, pay, dept, id => bound
 SELECT id, id FROM emp ORDER BY id, emp.id DESC => bound
 SELECT id i, pay FROM emp ORDER BY emp.id, i DESC, pay => bound
 SELECT MAX(name), COUNT(name) FROM dept => bound
-SELECT emp.id FROM dept emp, emp dept => bound";
+SELECT emp.id FROM dept emp, emp dept => bound
+SELECT dept, COUNT(*) FROM emp GROUP BY dept HAVING COUNT(*) > 1 AND dept > 1 => bound
+SELECT MIN(pay) FROM emp e GROUP BY dept, badge HAVING e.dept IS NOT NULL OR MAX(badge) = badge => bound
+SELECT COUNT(*) FROM emp HAVING 1 = 2 => bound
+SELECT name FROM dept GROUP BY name HAVING MIN(id) = NULL OR NULL = 'x' OR MAX(name) >= name => bound
+SELECT d.id FROM dept d WHERE EXISTS (SELECT d.name FROM emp HAVING COUNT(pay) > 1) => bound
+SELECT d.id FROM dept d WHERE d.id IN (SELECT dept FROM emp GROUP BY dept HAVING SUM(pay) > 1) GROUP BY d.id HAVING d.id = 1 => bound";
 
 /// At most 24 table instances, 8 queries in one another and 1,024 tests; more are reported before an unknown table.
 const SIZES: &str = "SELECT t.id FROM dept t|23*, dept t# => bound
@@ -146,12 +191,16 @@ SELECT id FROM dept|7* WHERE EXISTS (SELECT * FROM dept|7*) => bound
 SELECT id FROM dept|8* WHERE EXISTS (SELECT * FROM dept|8*) => B10 at 0
 SELECT id FROM dept WHERE id IN (SELECT boss FROM dept WHERE id IS NULL)|1022* OR 1 = 2 => bound
 SELECT id FROM dept WHERE id IN (SELECT boss FROM dept WHERE id IS NULL)|1023* OR 1 = 2 => B10 at 0
+SELECT COUNT(*) FROM dept WHERE id = 1 HAVING MIN(id) IS NULL|1022* OR 1 = 2 => bound
+SELECT COUNT(*) FROM dept WHERE id = 1 HAVING MIN(id) IS NULL|1023* OR 1 = 2 => B10 at 0
 SELECT a FROM t WHERE a = b|7278* OR a = b|7*  => B10 at 0";
 
 /// At most 512 columns with numbers; more are reported after all other faults.
 const WIDTHS: &str = "SELECT w.a FROM w|7*, w w# => bound
 SELECT COUNT(*) FROM w|7*, w w# => B10 at 0
 SELECT COUNT(nope) FROM w|7*, w w# => B02 at 13
+SELECT w.a FROM w|7*, w w#| GROUP BY w.a HAVING w.a = 1 => bound
+SELECT w.a FROM w|7*, w w#| GROUP BY w.a HAVING COUNT(*) = 1 => B10 at 0
 SELECT COUNT(*) n FROM w|7*, w w#| ORDER BY nope => B09 at 76";
 
 /// The schema of these.
@@ -160,7 +209,9 @@ const WIDE: &str =
 
 #[test]
 fn names_are_bound(rt: HostRuntime) {
-    let lists = [TABLES, COLUMNS, KINDS, GROUPS, ORDERS, FIRST, BOUND, SIZES];
+    let lists = [
+        TABLES, COLUMNS, KINDS, GROUPS, HAVING, ORDERS, FIRST, BOUND, SIZES,
+    ];
     assert_eq!(rt;
         differences(rt.alloc(), &lists, &Names { schema: COMPANY }).as_deref(),
         Ok("")
@@ -191,7 +242,7 @@ fn push_block(reported: &mut String, block: &Block) -> Result<(), AllocError> {
     for key in block.keys.as_slice() {
         push_number(reported, " ", *key)?;
     }
-    Ok(())
+    push_having(reported, block)
 }
 
 /// The columns that a comparison compares.
@@ -203,6 +254,19 @@ fn push_comparison(reported: &mut String, condition: &Cond) -> Result<(), AllocE
         }
         _ => reported.push_str(" no comparison"),
     }
+}
+
+/// What a HAVING names, and the columns of its row that it compares.
+fn push_having(reported: &mut String, block: &Block) -> Result<(), AllocError> {
+    let Some(having) = &block.having else {
+        return Ok(());
+    };
+    reported.push_str("; having")?;
+    for item in block.having_items.as_slice() {
+        push_item(reported, *item)?;
+    }
+    reported.push_str(" by")?;
+    push_comparison(reported, having.get())
 }
 
 /// The subquery of an IN, and the comparison that it is filtered by.
@@ -259,11 +323,12 @@ impl QueryReporting for Numbers {
     }
 }
 
-/// Instances, columns and aggregates are numbered in the order of the text.
+/// Instances, columns and aggregates are numbered in the order of the text, the aggregates of a HAVING behind those of subqueries.
 #[test]
 fn parts_are_numbered(rt: HostRuntime) {
     const CASES: &str =
-        "SELECT COUNT(*), d.id k FROM dept d, dept x JOIN emp e ON e.id = x.boss WHERE d.id IN (SELECT MAX(f.pay) FROM emp f WHERE d.boss = f.id) GROUP BY d.id ORDER BY d.id, k DESC => d@0 x@3 e@6 f@10 items 14=count 0.0; keys 0; in items 15=max:2; keys 1.2 0.0; order 1; names 2";
+        "SELECT COUNT(*), d.id k FROM dept d, dept x JOIN emp e ON e.id = x.boss WHERE d.id IN (SELECT MAX(f.pay) FROM emp f WHERE d.boss = f.id) GROUP BY d.id ORDER BY d.id, k DESC => d@0 x@3 e@6 f@10 items 14=count 0.0; keys 0; in items 15=max:2; keys 1.2 0.0; order 1; names 2
+SELECT MAX(pay), dept FROM emp WHERE dept IN (SELECT MAX(f.id) FROM dept f WHERE emp.id = f.boss HAVING MAX(f.boss) > COUNT(*)) GROUP BY dept HAVING dept < COUNT(*) => emp@0 f@4 items 7=max:2 0.1; keys 1; having 0.1 11=count by 0.0 0.1; in items 8=max:0; keys; having 9=max:2 10=count by 0.0 0.1 1.0 0.2; order; names 2";
     let company = Tables {
         schema: COMPANY,
         first: DEPT,

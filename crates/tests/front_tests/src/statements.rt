@@ -74,6 +74,18 @@ SELECT a FROM t WHERE a IN (SELECT b FROM u) OR -1 NOT IN (SELECT c FROM v) => {
 SELECT a FROM t WHERE NOT EXISTS (SELECT * FROM u WHERE a = b GROUP BY c) => {a@7 , t@14 WHERE NOT EXISTS {*@41, u@48 WHERE a@56 =@58 b@60 BY c@71}}
 SELECT a FROM t JOIN u ON a = b AND (c > 1 OR d IS NULL) => {a@7 , t@14 JOIN u@21 ON (a@26 =@28 b@30 AND (c@37 >@39 1 OR d@46 IS NULL OR ) AND )}";
 
+/// Conditions of HAVING have trees.
+const HAVING: &str =
+    "SELECT a FROM t GROUP BY a HAVING COUNT(*) > 1 => {a@7 , t@14 BY a@25 HAVING count@34(*) >@43 1}
+SELECT COUNT(*) FROM t HAVING MIN(b) > 400 => {count@7(*) , t@21 HAVING min@30(b@34) >@37 400}
+select distinct a x from t where b = 1 group by a, t.c having t.c != 'y' order by x; => {DISTINCT a@16 AS x@18 , t@25 WHERE b@33 =@35 1 BY a@48 BY t@51.c@53 HAVING t@62.c@64 <>@66 <y>} ASC x@82
+SELECT a FROM t GROUP BY a HAVING SUM(b) <= a AND NOT MAX(t.c) IS NULL OR 'x' = MIN(d) => {a@7 , t@14 BY a@25 HAVING ((sum@34(b@38) <=@41 a@44 AND NOT max@54(t@58.c@60) IS NULL AND ) OR <x> =@78 min@80(d@84) OR )}
+SELECT a FROM t GROUP BY a HAVING COUNT(b) IS NOT NULL => {a@7 , t@14 BY a@25 HAVING NOT count@34(b@40) IS NULL}
+SELECT a FROM t GROUP BY a HAVING (a = 1 OR 2 >= COUNT(*)) AND NOT (NULL = 3) => {a@7 , t@14 BY a@25 HAVING ((a@35 =@37 1 OR 2 >=@46 count@49(*) OR ) AND NOT null =@73 3 AND )}
+SELECT a FROM t HAVING 1 = -1 => {a@7 , t@14 HAVING 1 =@25 -1}
+SELECT a FROM t WHERE a IN (SELECT b FROM u GROUP BY b HAVING COUNT(*) > 1) GROUP BY a HAVING a < 2 => {a@7 , t@14 WHERE a@22 IN@24 {b@35 , u@42 BY b@53 HAVING count@62(*) >@71 1} BY a@85 HAVING a@94 <@96 2}
+SELECT a FROM t WHERE EXISTS (SELECT * FROM u HAVING SUM(b) = 1) ORDER BY a => {a@7 , t@14 WHERE EXISTS {*@37, u@44 HAVING sum@53(b@57) =@60 1}} ASC a@74";
+
 /// Each operator is the longest.
 const OPERATORS: &str = "SELECT a FROM t WHERE b=1 => {a@7 , t@14 WHERE b@22 =@23 1}
 SELECT a FROM t WHERE b<>1 => {a@7 , t@14 WHERE b@22 <>@23 1}
@@ -137,7 +149,27 @@ SELECT 1 FROM emp => P04 at 7
 SELECT SUM(*) FROM emp => P04 at 11
 SELECT COUNT id FROM emp => P04 at 13
 SELECT id FROM (emp) => P04 at 15
-SELECT id FROM emp HAVING id = 1 => P04 at 19
+SELECT id FROM emp HAVING => P04 at 25
+SELECT id FROM emp GROUP BY HAVING id = 1 => P04 at 28
+SELECT id FROM emp GROUP BY id HAVING EXISTS (SELECT * FROM emp) => P04 at 38
+SELECT id FROM emp GROUP BY id HAVING NOT EXISTS (SELECT * FROM emp) => P04 at 42
+SELECT id FROM emp GROUP BY id HAVING id IN (SELECT id FROM emp) => P04 at 41
+SELECT id FROM emp GROUP BY id HAVING id NOT IN (SELECT id FROM emp) => P04 at 41
+SELECT id FROM emp GROUP BY id HAVING (MAX(pay) IN (SELECT pay FROM emp)) => P04 at 48
+SELECT id FROM emp GROUP BY id HAVING COUNT(*) > (SELECT id FROM emp) => P04 at 49
+SELECT id FROM emp GROUP BY id HAVING COUNT(*) => P04 at 46
+SELECT id FROM emp GROUP BY id HAVING (COUNT(*)) > 1 => P04 at 47
+SELECT id FROM emp GROUP BY id HAVING SUM(*) > 1 => P04 at 42
+SELECT id FROM emp GROUP BY id HAVING COUNT > 1 => P04 at 44
+SELECT id FROM emp GROUP BY id HAVING NOT NOT id = 1 => P04 at 42
+SELECT id FROM emp GROUP BY id HAVING id = 1 HAVING id = 2 => P04 at 45
+SELECT id FROM emp HAVING id = 1 GROUP BY id => P04 at 33
+SELECT id FROM emp HAVING id = 1 WHERE id = 1 => P04 at 33
+SELECT id FROM emp ORDER BY id HAVING id = 1 => P04 at 31
+SELECT id FROM emp JOIN dept HAVING id = 1 => P04 at 29
+SELECT having FROM emp => P04 at 7
+SELECT id FROM emp WHERE COUNT(*) > 1 => P04 at 25
+SELECT id FROM emp JOIN dept ON MAX(id) = 1 => P04 at 32
 SELECT id FROM emp JOIN dept => P04 at 28
 SELECT id FROM emp JOIN dept ON EXISTS (SELECT * FROM emp) => P04 at 32
 SELECT id FROM emp JOIN dept ON id IN (SELECT id FROM emp) => P04 at 35
@@ -176,7 +208,12 @@ SELECT id FROM emp WHERE |65*(|id = 1|65*) => P05 at 89
 SELECT id FROM emp WHERE = |65*( => P04 at 25
 SELECT id FROM emp WHERE |64*(|id = ( => P04 at 94
 SELECT id FROM emp WHERE |63*(|EXISTS (SELECT COUNT( => P05 at 108
-SELECT id FROM emp JOIN dept ON |65*( => P05 at 96";
+SELECT id FROM emp JOIN dept ON |65*( => P05 at 96
+SELECT id FROM emp GROUP BY id HAVING |64*(|id = 1|64*) => {id@7 , emp@15 BY id@28 HAVING id@102 =@105 1}
+SELECT id FROM emp GROUP BY id HAVING |63*(|COUNT(id) = 1|63*) => {id@7 , emp@15 BY id@28 HAVING count@101(id@107) =@111 1}
+SELECT id FROM emp GROUP BY id HAVING |65*(|id = 1|65*) => P05 at 102
+SELECT id FROM emp GROUP BY id HAVING |64*(|COUNT( => P05 at 107
+SELECT id FROM emp GROUP BY id HAVING |64*(|id = ( => P04 at 107";
 
 /// Texts have a limit.
 const LIMIT: &str = "SELECT a FROM t|65521*  => {a@7 , t@14}
@@ -192,6 +229,7 @@ fn texts_have_trees_or_faults(rt: HostRuntime) {
     let tables = [
         STATEMENTS,
         CONDITIONS,
+        HAVING,
         OPERATORS,
         NUMBERS,
         QUOTES,

@@ -3,8 +3,9 @@
 use fixtures::{push_lines, push_number};
 use sql_parse::Name;
 use sql_parse::statement::{
-    AggregateCall, AggregateFunction, ColumnName, Condition, ItemValue, Join, JoinKind, Operator,
-    OrderKey, Select, SelectItem, SelectList, Statement, TableName, Term,
+    AggregateCall, AggregateFunction, ColumnName, Condition, HavingCondition, HavingTerm,
+    ItemValue, Join, JoinKind, Operator, OrderKey, Select, SelectItem, SelectList, Statement,
+    TableName, Term,
 };
 use std::alloc::{AllocError, Global};
 use std::fmt::Write;
@@ -18,6 +19,7 @@ enum Part<'a> {
     Condition(&'a Condition),
     Select(&'a Select),
     Group(&'a [ColumnName]),
+    Having(&'a HavingCondition),
 }
 
 fn later<'a>(parts: &mut Vec<Part<'a>>, part: Part<'a>) -> Result<(), AllocError> {
@@ -124,18 +126,24 @@ fn push_list(reported: &mut String, list: &SelectList) -> Result<(), AllocError>
     }
 }
 
-/// The columns of GROUP BY, and the end of the SELECT.
+/// The columns of GROUP BY.
 fn push_group(reported: &mut String, group: &[ColumnName]) -> Result<(), AllocError> {
     for column in group {
         reported.push_str(" BY ")?;
         push_column(reported, column)?;
     }
-    reported.push_str("}")
+    Ok(())
 }
 
 fn push_table(reported: &mut String, table: &TableName) -> Result<(), AllocError> {
     push_name(reported, &table.name)?;
     push_alias(reported, &table.alias)
+}
+
+fn push_operator(reported: &mut String, by: Operator) -> Result<(), AllocError> {
+    reported.push_str(sign(by.comparison))?;
+    push_number(reported, "@", by.at)?;
+    reported.push_str(" ")
 }
 
 fn push_comparison(
@@ -145,9 +153,7 @@ fn push_comparison(
     right: &Term,
 ) -> Result<(), AllocError> {
     push_term(reported, left)?;
-    reported.push_str(sign(by.comparison))?;
-    push_number(reported, "@", by.at)?;
-    reported.push_str(" ")?;
+    push_operator(reported, by)?;
     push_term(reported, right)
 }
 
@@ -197,6 +203,58 @@ fn push_condition<'a>(
     }
 }
 
+// ---- HAVING
+
+fn push_having_term(reported: &mut String, term: &HavingTerm) -> Result<(), AllocError> {
+    match term {
+        HavingTerm::Column(column) => push_column(reported, column),
+        HavingTerm::Aggregate(call) => push_call(reported, call),
+        HavingTerm::Literal(literal) => push_literal(reported, literal.value()),
+    }
+}
+
+/// The conditions of a HAVING, each with a text after it, between parentheses.
+fn push_havings<'a>(
+    reported: &mut String,
+    parts: &mut Vec<Part<'a>>,
+    conditions: &'a [HavingCondition],
+    between: &'a str,
+) -> Result<(), AllocError> {
+    reported.push_str("(")?;
+    later(parts, Part::Text(")"))?;
+    for condition in conditions.iter().rev() {
+        later(parts, Part::Text(between))?;
+        later(parts, Part::Having(condition))?;
+    }
+    Ok(())
+}
+
+fn push_having<'a>(
+    reported: &mut String,
+    parts: &mut Vec<Part<'a>>,
+    condition: &'a HavingCondition,
+) -> Result<(), AllocError> {
+    match condition {
+        HavingCondition::Compare(left, by, right) => {
+            push_having_term(reported, left)?;
+            push_operator(reported, *by)?;
+            push_having_term(reported, right)
+        }
+        HavingCondition::IsNull(term) => {
+            push_having_term(reported, term)?;
+            reported.push_str(" IS NULL")
+        }
+        HavingCondition::Not(inner) => {
+            reported.push_str("NOT ")?;
+            later(parts, Part::Having(inner.get()))
+        }
+        HavingCondition::And(all) => push_havings(reported, parts, all.as_slice(), " AND "),
+        HavingCondition::Or(any) => push_havings(reported, parts, any.as_slice(), " OR "),
+    }
+}
+
+// ---- SELECT
+
 fn push_joins<'a>(parts: &mut Vec<Part<'a>>, joins: &'a [Join]) -> Result<(), AllocError> {
     for join in joins.iter().rev() {
         later(parts, Part::Condition(join.condition.get()))?;
@@ -220,6 +278,11 @@ fn push_select<'a>(
 ) -> Result<(), AllocError> {
     reported.push_str(if select.distinct { "{DISTINCT " } else { "{" })?;
     push_list(reported, &select.list)?;
+    later(parts, Part::Text("}"))?;
+    if let Some(having) = &select.having {
+        later(parts, Part::Having(having.get()))?;
+        later(parts, Part::Text(" HAVING "))?;
+    }
     later(parts, Part::Group(select.group.as_slice()))?;
     if let Some(filter) = &select.filter {
         later(parts, Part::Condition(filter.get()))?;
@@ -244,6 +307,7 @@ fn push_part<'a>(
         Part::Condition(condition) => push_condition(reported, parts, condition),
         Part::Select(select) => push_select(reported, parts, select),
         Part::Group(group) => push_group(reported, group),
+        Part::Having(condition) => push_having(reported, parts, condition),
     }
 }
 

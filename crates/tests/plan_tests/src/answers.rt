@@ -29,7 +29,9 @@ SELECT id FROM emp WHERE id ! 1 => refused P01 at 28
 SELECT id FROM emps => refused B01 at 15
 SELECT id, nam FROM dept => refused B02 at 11
 SELECT nam FROM dept WHERE bos = 1 => refused B02 at 27
-SELECT id FROM dept WHERE name <> 1 => refused B05 at 31";
+SELECT id FROM dept WHERE name <> 1 => refused B05 at 31
+SELECT dept FROM emp GROUP BY dept HAVING pay > 1 => refused B06 at 42
+SELECT dept FROM emp GROUP BY dept HAVING EXISTS (SELECT * FROM dept) => refused P04 at 42";
 
 /// Subqueries two deep: where the inner one has a Null, and where it has none.
 const NESTED: &str =

@@ -364,7 +364,7 @@ SELECT DISTINCT badge FROM emp => F get 0; F keep 3 0; F distinct 1 / scan 0 0 |
 SELECT DISTINCT badge FROM emp ORDER BY badge => F get 0; F keep 3 0; F distinct 1 / scan 0 0 | cut 1: 3 | distinct 2 => K08 line 3
 SELECT DISTINCT badge FROM emp ORDER BY badge => F get 0; F keep 3 0; F distinct 1 / scan 0 0 | cut 1: 3 | distinct 2 | sort: 3 => accepted ;-,;7,;9,";
 
-/// Plans over members that rules add: a join turned round, a filter below a join, a group as distinct rows, a group over a group. A node
+/// Plans over members that rules add: a join turned round, a filter below a join or a group, a group as distinct rows, a group over a group. A node
 /// names a line with an expression of its own class, or of one that earlier lines make the same.
 const MEMBERS: &str =
     "SELECT d.id, e.id FROM dept d JOIN emp e ON e.dept = d.id => F get 0; F get 1; F join [=(c4,c0)] 0 1; F keep 0,3 2; A 2 J1 0 2 - join [=(c4,c0)] 1 0 / scan 1 1 | scan 0 0 | hash 4 | cut 3: 0 3 => accepted ;1,10,;1,11,;3,12,
@@ -378,6 +378,9 @@ SELECT d.id, e.id FROM dept d JOIN emp e ON e.dept = d.id => F get 0; F get 1; F
 SELECT d.id FROM dept d JOIN emp e ON e.dept = d.id WHERE d.boss = 10 => F get 0; F get 1; F join [=(c4,c0)] 0 1; F select [=(c2,i10)] 2; F keep 0 3; F select [=(c2,i10)] 0; A 3 S2 0 3,2 5 join [=(c4,c0)] 5 1 / scan 0 0 | filter 5 | scan 1 1 | hash 6 | cut 4: 0 => accepted ;1,;1,
 SELECT d.id FROM dept d JOIN emp e ON e.dept = d.id WHERE d.boss = 10 => F get 0; F get 1; F join [=(c4,c0)] 0 1; F select [=(c2,i10)] 2; F keep 0 3; F select [=(c2,i12)] 0; A 3 S2 0 3,2 5 join [=(c4,c0)] 5 1 / scan 0 0 | filter 5 | scan 1 1 | hash 6 | cut 4: 0 => K03 line 6
 SELECT dept FROM emp GROUP BY dept => F get 0; F group 1 0; F keep 1 1; F keep 1 0; A 1 G1 0 1 3 distinct 3 / scan 0 0 | cut 3: 1 | distinct 4 | cut 2: 1 => accepted ;1,;3,;-,
+SELECT dept FROM emp GROUP BY dept HAVING dept > 1 => F get 0; F group 1 0; F select [>(c1,i1)] 1; F keep 1 2 / scan 0 0 | group 1 | filter 2 | cut 3: 1 => accepted ;3,
+SELECT dept FROM emp GROUP BY dept HAVING dept > 1 => F get 0; F group 1 0; F select [>(c1,i1)] 1; F keep 1 2; F select [>(c1,i1)] 0; A 2 G2 0 2,1 4 group 1 4 / scan 0 0 | filter 4 | group 5 | cut 3: 1 => accepted ;3,
+SELECT dept FROM emp GROUP BY dept HAVING dept > 1 => F get 0; F group 1 0; F select [>(c1,i1)] 1; F keep 1 2; F select [>(c1,i2)] 0; A 2 G2 0 2,1 4 group 1 4 / scan 0 0 | filter 4 | group 5 | cut 3: 1 => K03 line 5
 SELECT DISTINCT dept FROM emp GROUP BY dept => F get 0; F group 1 0; F keep 1 1; F distinct 2; F distinct 1; G 2 2; F group 1 1 / scan 0 0 | group 1 | cut 2: 1 | distinct 3 => accepted ;1,;3,;-,
 SELECT id FROM emp => F get 0; F keep 0 0; F get 0; G 0 2; F keep 0 2; G 1 4 / scan 2 0 | cut 4: 0 => accepted ;10,;11,;12,;13,
 SELECT id FROM emp => F get 0; F keep 0 0; F get 0; F keep 0 2; G 1 3; G 0 2 / scan 2 0 | cut 3: 0 => K02 line 4

@@ -224,8 +224,8 @@ fn plans_are_accepted_with_their_labels(rt: HostRuntime) {
     }
     assert!(rt; ended);
     assert_eq!(rt; found.wrong.as_str(), "");
-    assert_eq!(rt; found.asked, 116);
-    assert_eq!(rt; found.complete, 116);
+    assert_eq!(rt; found.asked, 137);
+    assert_eq!(rt; found.complete, 137);
 }
 
 /// Behind the plan stands over how many goals and lines it is the cheapest, and whether no rule adds anything to them, which is only found out by a search to

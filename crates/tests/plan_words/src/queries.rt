@@ -118,6 +118,30 @@ SELECT dept FROM emp GROUP BY dept => dept;1;3;\N
 SELECT d.id FROM dept d WHERE d.id IN (SELECT MIN(e.dept) FROM emp e GROUP BY e.pay) => id;1;3
 SELECT SUM(id), SUM(id) AS again, COUNT(*) FROM emp WHERE dept IN (SELECT id FROM dept) => sum,again,count;33,33,3";
 
+/// Groups stay where their HAVING is true. Without GROUP BY it may leave none.
+const HAVING: &str =
+    r"SELECT dept, COUNT(*) FROM emp GROUP BY dept HAVING COUNT(*) > 1 => dept,count;1,2
+SELECT dept FROM emp GROUP BY dept HAVING SUM(pay) >= 500 => dept;1;\N
+SELECT dept FROM emp GROUP BY dept HAVING dept > 1 => dept;3
+SELECT COUNT(*) FROM emp HAVING MIN(pay) > 400 => count
+SELECT COUNT(*) FROM emp HAVING MIN(pay) > 300 => count;4
+SELECT COUNT(*) FROM emp HAVING 1 = 2 => count
+SELECT COUNT(*) FROM emp WHERE id < 0 HAVING COUNT(*) = 0 => count;0
+SELECT COUNT(*) FROM emp WHERE id < 0 HAVING SUM(pay) <> 0 => count
+SELECT dept FROM emp GROUP BY dept HAVING MIN(badge) IS NULL => dept;3
+SELECT dept FROM emp GROUP BY dept HAVING NOT MIN(badge) = 7 => dept;\N
+SELECT dept FROM emp GROUP BY dept HAVING dept = NULL => dept
+SELECT dept FROM emp GROUP BY dept HAVING dept IS NULL OR COUNT(pay) < COUNT(*) => dept;1;\N
+SELECT dept FROM emp GROUP BY dept HAVING NOT (dept = 1 AND COUNT(*) = 2) => dept;3;\N
+SELECT dept, pay FROM emp GROUP BY dept, pay HAVING (dept = 1 OR dept IS NULL) AND pay IS NOT NULL => dept,pay;1,500;\N,500
+SELECT DISTINCT COUNT(*) FROM emp GROUP BY dept HAVING MIN(pay) IS NOT NULL => count;2;1
+SELECT id FROM emp WHERE dept IN (SELECT dept FROM emp GROUP BY dept HAVING COUNT(*) > 1) => id;10;11
+SELECT name FROM dept WHERE id NOT IN (SELECT dept FROM emp GROUP BY dept HAVING COUNT(*) < 2) => name
+SELECT name FROM dept d WHERE NOT EXISTS (SELECT COUNT(*) FROM emp e WHERE e.dept = d.id HAVING COUNT(*) > 1) => name;lab;dev
+SELECT d.name FROM dept d LEFT JOIN emp e ON e.dept = d.id GROUP BY d.id, d.name HAVING COUNT(e.id) = 0 => name;lab
+SELECT MAX(name) FROM dept HAVING MAX(name) > 'ops' => max
+SELECT dept, SUM(pay) AS total FROM emp GROUP BY dept HAVING COUNT(pay) > 0 ORDER BY total, dept => dept,total;3,400;\N,500;1,500";
+
 /// DISTINCT leaves one of each.
 const DISTINCT: &str = r"SELECT DISTINCT pay FROM emp => pay;500;\N;400
 SELECT DISTINCT dept, pay FROM emp WHERE pay = 500 OR pay IS NULL => dept,pay;1,500;1,\N;\N,500
@@ -139,6 +163,6 @@ SELECT d.id AS dept, e.id AS emp FROM dept d LEFT JOIN emp e ON e.dept = d.id OR
 SELECT pay AS p, pay AS q, id FROM emp ORDER BY p, q DESC, id => p,q,id;\N,\N,11;400,400,12;500,500,10;500,500,13";
 
 /// The lists whose texts are queries.
-pub const QUERIES: [&str; 9] = [
-    ONE_TABLE, WORKED, UNKNOWN, MEMBERSHIP, SUBQUERIES, JOINS, GROUPS, DISTINCT, ORDERS,
+pub const QUERIES: [&str; 10] = [
+    ONE_TABLE, WORKED, UNKNOWN, MEMBERSHIP, SUBQUERIES, JOINS, GROUPS, HAVING, DISTINCT, ORDERS,
 ];

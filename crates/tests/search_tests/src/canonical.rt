@@ -203,13 +203,14 @@ impl QueryReporting for Canonical {
     }
 }
 
-/// A table with a filter; a left join and a subquery in order; distinct groups.
+/// A table with a filter; a left join and a subquery in order; distinct groups; groups with a filter.
 #[test]
 fn certificates_are_canonical(rt: HostRuntime) {
     const CASES: &str =
         "SELECT id FROM emp WHERE pay <> 500 => get 0; select 0 [<>(c2,i500)]; keep 1: 0; cut 2 0 (filter 1 (scan 0 of 0))
 SELECT e.id, d.name FROM emp e LEFT JOIN dept d ON e.dept = d.id WHERE EXISTS (SELECT f.id FROM emp f WHERE f.badge = e.id) ORDER BY e.id DESC => get 0; get 1; left 0 1 [=(c1,c4)]; get 2; select 3 [=(c10,c0)]; keep 4: 7; select 2 [exists(5)]; keep 6: 0 5; sort 0d (cut 7 0 5 (filter by subqueries 6 (left join 2 (scan 0 of 0) (scan 1 of 1)) (cut 5 7 (filter 4 (scan 3 of 2)))))
-SELECT DISTINCT dept, COUNT(*) FROM emp GROUP BY dept => get 0; group 0: 1; 4=count; keep 1: 1 4; distinct 2; distinct 3 (cut 2 1 4 (group 1 1; 4=count (scan 0 of 0)))";
+SELECT DISTINCT dept, COUNT(*) FROM emp GROUP BY dept => get 0; group 0: 1; 4=count; keep 1: 1 4; distinct 2; distinct 3 (cut 2 1 4 (group 1 1; 4=count (scan 0 of 0)))
+SELECT dept, COUNT(*) FROM emp GROUP BY dept HAVING COUNT(*) > 1 AND dept > 2 => get 0; group 0: 1; 4=count 5=count; select 1 [>(c1,i2),>(c5,i1)]; keep 2: 1 4; cut 3 1 4 (filter 2 (group 1 1; 4=count 5=count (scan 0 of 0)))";
     let company = Tables {
         schema: COMPANY,
         first: DEPT,

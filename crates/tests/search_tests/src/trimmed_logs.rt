@@ -194,7 +194,7 @@ fn plans_need_few_lines(rt: HostRuntime) {
         }
     }
     assert_eq!(rt; found.as_str(), "");
-    assert_eq!(rt; asked, 125);
+    assert_eq!(rt; asked, 146);
 }
 
 /// The rule of a step, the lines to which it is applied, and behind `/` those that it makes.

@@ -97,10 +97,11 @@ add_block-returns t c =
     let scope = scope_of c.args.outer.now in
     let n = c.in_ok-numbers.ensures in
     record {
-      shown = first_shown_is instances scope c.args.lines.now c.args.block.now c.in_ok-numbers.numbers.items c.as_slice.result.now c.as_slice-3.result.now c.first_number.result
-          n.numbers c.as_slice.ensures.value c.as_slice-3.ensures c.first_number.ensures;
-      lines = block_lines_are instances scope c.args.lines.now c.args.block.now c.in_ok-numbers.numbers.items c.as_slice.result.now c.as_slice-2.result.now c.add_from.new.lines c.add_filter.new.lines c.add_group.new.lines
-          c.add_end.new.lines n.numbers c.as_slice.ensures.value c.as_slice-2.ensures.value n.lines c.in_ok-add_filter.ensures c.in_ok-add_group.ensures c.in_ok-add_end.ensures;
+      shown = first_shown_is instances scope c.args.lines.now c.args.block.now c.in_ok-numbers.numbers.items c.as_slice.result.now c.as_slice-5.result.now c.first_number.result
+          n.numbers c.as_slice.ensures.value c.as_slice-5.ensures c.first_number.ensures;
+      lines = block_lines_are instances scope c.args.lines.now c.args.block.now c.in_ok-numbers.numbers.items c.as_slice.result.now c.as_slice-2.result.now c.in_ok-asked.asked.items c.as_slice-4.result.now c.as_slice-3.result.now
+          c.add_from.new.lines c.add_filter.new.lines c.add_group.new.lines c.add_filter-2.new.lines
+          c.add_end.new.lines n.numbers c.as_slice.ensures.value c.as_slice-2.ensures.value n.lines c.in_ok-add_filter.ensures c.in_ok-add_group.ensures c.as_slice-3.ensures c.in_ok-asked.ensures c.as_slice-4.ensures.value c.in_ok-add_filter-2.ensures c.in_ok-add_end.ensures;
     }
 
 -- ---- exits
@@ -118,6 +119,16 @@ add_block-returns-in_err-add_filter t c =
 pub add_block-returns-in_err-add_group : goal.add_block-returns-in_err-add_group
 add_block-returns-in_err-add_group t c =
     let exit = c.from_residual-in_err-add_group in
+    record { shown = no_value exit.result _ _ exit.ensures.1; lines = no_change exit.result _ _ exit.ensures.1 }
+
+pub add_block-returns-in_err-asked : goal.add_block-returns-in_err-asked
+add_block-returns-in_err-asked t c =
+    let exit = c.from_residual-in_err-asked in
+    record { shown = no_value exit.result _ _ exit.ensures.1; lines = no_change exit.result _ _ exit.ensures.1 }
+
+pub add_block-returns-in_err-add_filter-2 : goal.add_block-returns-in_err-add_filter-2
+add_block-returns-in_err-add_filter-2 t c =
+    let exit = c.from_residual-in_err-add_filter-2 in
     record { shown = no_value exit.result _ _ exit.ensures.1; lines = no_change exit.result _ _ exit.ensures.1 }
 
 pub add_block-returns-in_err-add_end : goal.add_block-returns-in_err-add_end

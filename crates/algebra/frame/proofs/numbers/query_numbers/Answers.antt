@@ -1,6 +1,6 @@
 use Rattle.std.proofs.Common.{◌≡◌, ap, ◌∙◌, subst, List, [], ◌∷◌, ℕ, map, IfOk}
 use Rattle.query.specs.declared.query.Block.{out-Block}
-use Rattle.frame.specs.Frames.{item_number}
+use Rattle.query.specs.Bound.{item_number}
 use Rattle.algebra.proofs.Lists.{two}
 use Rattle.frame.proofs.QueryNumbers.{numbers_of, item-numbers}
 use Rattle.frame.proofs.numbers.query_numbers.Goals as goal

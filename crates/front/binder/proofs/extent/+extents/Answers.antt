@@ -1,4 +1,4 @@
-use Rattle.std.proofs.Common.{◌≡◌, refl, ℕ, ◌∙◌, ap, sym, subst, IfOk, List, map, option_map, arith}
+use Rattle.std.proofs.Common.{◌≡◌, refl, ℕ, ◌+◌, ◌∙◌, ap, sym, subst, IfOk, List, map, option_map, arith}
 use Rattle.std.proofs.lemmas.Result.{err_from_is_err_and}
 use Rattle.sql_parse.specs.declared.statement.Condition.{Condition}
 use Rattle.sql_parse.specs.declared.statement.Join.{Join, out-Join}
@@ -6,6 +6,7 @@ use Rattle.sql_parse.specs.declared.statement.Chain.{Chain, out-Chain}
 use Rattle.sql_parse.specs.declared.statement.Select.{out-Select}
 use Rattle.binder.specs.declared.extent.Extent.{Extent}
 use Rattle.binder.specs.Extents as spec
+use Rattle.binder.specs.HavingShapes.{having_tests}
 use Rattle.binder.proofs.ExtentParts.{extent-Compare, extent-IsNull, extent-Not, extent-And, extent-Or, extent-Exists, extent-In, extent-join, extent-chain, extent-select, all_more, all_done}
 use Rattle.binder.proofs.extent.+extents.Goals as goal
 
@@ -70,8 +71,10 @@ of_select-returns t c =
     let filter : c.in_ok-of_filter.field-0 ≡ spec.of_filter (option_map (spec.of_condition S) q.filter) = c.in_ok-of_filter.ensures in
     let inside : c.in_ok-inside.inside ≡ spec.beside (spec.all_of (map (spec.of_chain S) q.from)) (spec.of_filter (option_map (spec.of_condition S) q.filter)) =
     c.in_ok-inside.ensures ∙ ap (λ (x : Extent). spec.beside x c.in_ok-of_filter.field-0) from ∙ ap (spec.beside (spec.all_of (map (spec.of_chain S) q.from))) filter in
-    let levels = ap (λ (n : ℕ). record c.in_ok-inside.inside { levels = n }) c.in_ok-sum.ensures in
-    levels ∙ ap spec.one_level_more inside ∙ sym (extent-select S c.args.select.now)
+    let levels = ap (λ (n : ℕ). record c.in_ok-inside.inside { levels = n; tests = c.in_ok-sum-2.field-0 }) c.in_ok-sum.ensures in
+    let tests : c.in_ok-sum-2.field-0 ≡ c.in_ok-inside.inside.tests + having_tests q.having = c.in_ok-sum-2.ensures ∙ ap (λ n. c.in_ok-inside.inside.tests + n) c.in_ok-having_tests.ensures in
+    let counted = ap (λ (n : ℕ). record c.in_ok-inside.inside { levels = c.in_ok-inside.inside.levels + 1; tests = n }) tests in
+    levels ∙ counted ∙ ap (λ e. spec.with_tests (having_tests q.having) (spec.one_level_more e)) inside ∙ sym (extent-select S c.args.select.now)
 
 pub of_condition-returns-in_err-of_select-in-Exists : goal.of_condition-returns-in_err-of_select-in-Exists
 of_condition-returns-in_err-of_select-in-Exists t c =

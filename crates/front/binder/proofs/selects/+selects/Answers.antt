@@ -11,12 +11,11 @@ use Rattle.binder.specs.Outputs.{is_grouped}
 use Rattle.binder.specs.Scopes.{Scope}
 use Rattle.binder.specs.Chained.{scopes_of}
 use Rattle.binder.specs.Selects as spec
-use Rattle.binder.proofs.SelectExits.{left_fails, query_fails, membership_gives, right_fails, on_fails, join_is, from_fails, filter_fails, keys_fail, outputs_fail, select_is}
-use Rattle.binder.proofs.SelectParts.{compared, null_tested, negated, conjoined, disjoined, existing, chain_at, grouped_by_keys, grouped_by_aggregates}
+use Rattle.binder.proofs.SelectExits.{left_fails, query_fails, membership_gives, right_fails, on_fails, join_is, from_fails, filter_fails, keys_fail, outputs_fail, select_is, having_fails}
+use Rattle.binder.proofs.SelectParts.{compared, null_tested, negated, conjoined, disjoined, existing, chain_at, grouped_is}
 use Rattle.binder.proofs.SelectLoops.{none_in_front, conditions_on, conditions_end, conditions_done, filtered, not_filtered, joins_on, joins_end, joins_done, no_chain, first_chain, chains_on, chains_end, chains_done}
 use Rattle.binder.proofs.Steps.{reported, handed, seen, same}
 use Rattle.binder.proofs.selects.+selects.Goals as goal
-use Rattle.binder.proofs.selects.+selects.Goals.{select-then-len-gt0, select-else-len-gt0}
 
 pub condition-returns-in-Compare : goal.condition-returns-in-Compare
 condition-returns-in-Compare t c = seen (λ (bound : Cond). bound) (λ (bound : Cond). (bound, c.args.numbered.now)) c.comparison.result _ _ (compared c.args.schema.now c.args.part.now c.in-Compare.left c.in-Compare.by c.in-Compare.right (scopes_of c.args.scopes.now) c.args.numbered.now c.in-Compare.is) c.comparison.ensures
@@ -113,170 +112,39 @@ select-returns-in_err-filter t c =
     let p = err_from_is_err_and c.from_residual-in_err-filter.result c.from_residual-in_err-filter.ensures.1 in
     rw (p.1, p.2) (filter_fails c.args.schema.now c.args.part.now (scopes_of c.args.outer.now) c.args.numbered.now c.push_aggregates.new.self c.as_slice.result.now (out-Select c.args.part.now).group
     (c.in_ok-push_aggregates.ensures ∙ ap (with_aggregates c.args.numbered.now) c.aggregates-own_aggregates.ensures) c.as_slice.ensures refl
-    c.in_err-filter.field-0.0 (c.in_ok-from.from, c.in_ok-from.scope, c.sources.new.numbered) c.in_ok-from.ensures c.in_err-filter.ensures)
+    (c.in_ok-from.from, c.in_ok-from.scope, c.sources.new.numbered) c.in_ok-from.ensures c.in_err-filter.field-0.0 c.in_err-filter.ensures)
 
 pub select-returns-in_err-keys : goal.select-returns-in_err-keys
 select-returns-in_err-keys t c =
     let p = err_from_is_err_and c.from_residual-in_err-keys.result c.from_residual-in_err-keys.ensures.1 in
     rw (p.1, p.2) (keys_fail c.args.schema.now c.args.part.now (scopes_of c.args.outer.now) c.args.numbered.now c.push_aggregates.new.self c.as_slice.result.now c.as_slice-2.result.now
     (c.in_ok-push_aggregates.ensures ∙ ap (with_aggregates c.args.numbered.now) c.aggregates-own_aggregates.ensures) c.as_slice.ensures c.as_slice-2.ensures
-    c.in_err-keys.field-0.0 (c.in_ok-from.from, c.in_ok-from.scope, c.sources.new.numbered) (c.in_ok-filter.filter, c.filter.new.numbered) c.in_ok-from.ensures c.in_ok-filter.ensures c.in_err-keys.ensures)
+    (c.in_ok-from.from, c.in_ok-from.scope, c.sources.new.numbered) c.in_ok-from.ensures (c.in_ok-filter.filter, c.filter.new.numbered) c.in_ok-filter.ensures c.in_err-keys.field-0.0 c.in_err-keys.ensures)
+
+pub select-returns-in_err-asked : goal.select-returns-in_err-asked
+select-returns-in_err-asked t c =
+    let p = err_from_is_err_and c.from_residual-in_err-asked.result c.from_residual-in_err-asked.ensures.1 in
+    rw (p.1, p.2) (having_fails c.args.schema.now c.args.part.now (scopes_of c.args.outer.now) c.args.numbered.now c.push_aggregates.new.self c.as_slice.result.now c.as_slice-2.result.now
+    (c.in_ok-push_aggregates.ensures ∙ ap (with_aggregates c.args.numbered.now) c.aggregates-own_aggregates.ensures) c.as_slice.ensures c.as_slice-2.ensures
+    (c.in_ok-from.from, c.in_ok-from.scope, c.sources.new.numbered) c.in_ok-from.ensures (c.in_ok-filter.filter, c.filter.new.numbered) c.in_ok-filter.ensures c.in_ok-keys.keys c.in_ok-keys.ensures
+    (out-Select c.args.part.now).having c.filter.new.numbered.next_aggregate refl refl c.in_err-asked.field-0.0 c.in_err-asked.ensures)
 
 pub select-returns-in_err-outputs : goal.select-returns-in_err-outputs
 select-returns-in_err-outputs t c =
     let q = out-Select c.args.part.now in
-    let grouped : c.if-len-gt0.grouped ≡ is_grouped c.in_ok-keys.keys q.list = elim c.if-len-gt0.branch [
-      | select-then-len-gt0 w ↦ w.grouped-is ∙ grouped_by_keys c.in_ok-keys.keys q.list c.len.result c.len.ensures w.if-len-gt0.true
-      | select-else-len-gt0 w ↦
-          w.grouped-is ∙ grouped_by_aggregates c.in_ok-keys.keys q.list c.len.result c.aggregates-own_aggregates.result c.len.ensures w.if-len-gt0.false c.aggregates-own_aggregates.ensures
-    ] in
+    let grouped : c.is_grouped-grouped.result ≡ is_grouped c.in_ok-keys.keys q.list q.having = grouped_is c.in_ok-keys.keys q.list q.having c.len.result c.aggregates-own_aggregates.result c.is_some.result c.is_grouped-grouped.result c.len.ensures c.aggregates-own_aggregates.ensures c.is_some.ensures c.is_grouped-grouped.ensures in
     let p = err_from_is_err_and c.from_residual-in_err-outputs.result c.from_residual-in_err-outputs.ensures.1 in
     rw (p.1, p.2) (outputs_fail c.args.schema.now c.args.part.now (scopes_of c.args.outer.now) c.args.numbered.now c.push_aggregates.new.self c.as_slice.result.now c.as_slice-2.result.now
     (c.in_ok-push_aggregates.ensures ∙ ap (with_aggregates c.args.numbered.now) c.aggregates-own_aggregates.ensures) c.as_slice.ensures c.as_slice-2.ensures
-    c.in_err-outputs.field-0.0 (c.in_ok-from.from, c.in_ok-from.scope, c.sources.new.numbered) (c.in_ok-filter.filter, c.filter.new.numbered) c.in_ok-keys.keys c.if-len-gt0.grouped c.in_ok-from.ensures c.in_ok-filter.ensures c.in_ok-keys.ensures grouped c.in_err-outputs.ensures)
+    (c.in_ok-from.from, c.in_ok-from.scope, c.sources.new.numbered) c.in_ok-from.ensures (c.in_ok-filter.filter, c.filter.new.numbered) c.in_ok-filter.ensures c.in_ok-keys.keys c.in_ok-keys.ensures
+    q.having c.filter.new.numbered.next_aggregate refl refl c.in_ok-asked.asked c.in_ok-asked.ensures c.is_grouped-grouped.result grouped c.in_err-outputs.field-0.0 c.in_err-outputs.ensures)
 
 pub select-returns : goal.select-returns
 select-returns t c =
     let q = out-Select c.args.part.now in
-    let grouped : c.if-len-gt0.grouped ≡ is_grouped c.in_ok-keys.keys q.list = elim c.if-len-gt0.branch [
-      | select-then-len-gt0 w ↦ w.grouped-is ∙ grouped_by_keys c.in_ok-keys.keys q.list c.len.result c.len.ensures w.if-len-gt0.true
-      | select-else-len-gt0 w ↦
-          w.grouped-is ∙ grouped_by_aggregates c.in_ok-keys.keys q.list c.len.result c.aggregates-own_aggregates.result c.len.ensures w.if-len-gt0.false c.aggregates-own_aggregates.ensures
-    ] in
+    let grouped : c.is_grouped-grouped.result ≡ is_grouped c.in_ok-keys.keys q.list q.having = grouped_is c.in_ok-keys.keys q.list q.having c.len.result c.aggregates-own_aggregates.result c.is_some.result c.is_grouped-grouped.result c.len.ensures c.aggregates-own_aggregates.ensures c.is_some.ensures c.is_grouped-grouped.ensures in
     let items : c.in_ok-items.items ≡ map (λ (o : Output). o.item) c.in_ok-outputs.outputs = c.in_ok-items.ensures ∙ ap (map (λ (o : Output). o.item)) c.as_slice-3.ensures in
     rw (c.in_ok-new.ensures, c.into_items.ensures, c.into_inner.ensures) (select_is c.args.schema.now c.args.part.now (scopes_of c.args.outer.now) c.args.numbered.now c.push_aggregates.new.self c.as_slice.result.now c.as_slice-2.result.now
     (c.in_ok-push_aggregates.ensures ∙ ap (with_aggregates c.args.numbered.now) c.aggregates-own_aggregates.ensures) c.as_slice.ensures c.as_slice-2.ensures
-    (c.in_ok-from.from, c.in_ok-from.scope, c.sources.new.numbered) (c.in_ok-filter.filter, c.filter.new.numbered) c.in_ok-keys.keys c.if-len-gt0.grouped c.in_ok-outputs.outputs c.in_ok-items.items c.in_ok-from.ensures c.in_ok-filter.ensures c.in_ok-keys.ensures grouped c.in_ok-outputs.ensures items)
-
-pub sources-loop-part-preserved : goal.sources-loop-part-preserved
-sources-loop-part-preserved t c =
-    rw (c.in_ok-left-2.ensures, c.in_ok-scope.ensures) (chains_on (spec.chain_in c.args.schema.now) (scopes_of c.args.outer.now)
-    (take (length c.args.parts.now - 1) (drop 1 c.args.parts.now)) c.loop-part.part-index c.part-item.result c.loop-part.left c.in_ok-right.right c.loop-part.scope c.in_ok-right.tables
-    c.loop-part.numbered c.chain-in-loop-part.new.numbered (spec.from_in (map (spec.chain_in c.args.schema.now) c.args.parts.now) (scopes_of c.args.outer.now) c.args.numbered.now)
-    (omega arith) c.part-item.is c.in_ok-right.ensures c.loop-part.invariant)
-
-pub sources-returns-in_err-right : goal.sources-returns-in_err-right
-sources-returns-in_err-right t c =
-    let p = err_from_is_err_and c.from_residual-in_err-right.result c.from_residual-in_err-right.ensures.1 in
-    rw (p.1, p.2) (chains_end (spec.chain_in c.args.schema.now) c.in_err-right.field-0.0 (scopes_of c.args.outer.now) (take (length c.args.parts.now - 1) (drop 1 c.args.parts.now)) c.loop-part.part-index c.part-item.result
-    c.loop-part.left c.loop-part.scope c.loop-part.numbered (spec.from_in (map (spec.chain_in c.args.schema.now) c.args.parts.now) (scopes_of c.args.outer.now) c.args.numbered.now)
-    (omega arith) c.part-item.is c.in_err-right.ensures c.loop-part.invariant)
-
-pub sources-returns-in_err-scope : goal.sources-returns-in_err-scope
-sources-returns-in_err-scope t c =
-    let p = err_from_is_err_and c.from_residual-in_err-scope.result c.from_residual-in_err-scope.ensures.1 in
-    rw (p.1, p.2) tt
-
-pub condition-returns-in_err-new-in-Not : goal.condition-returns-in_err-new-in-Not
-condition-returns-in_err-new-in-Not t c =
-    let p = err_from_is_err_and c.from_residual-in_err-new-in-Not.result c.from_residual-in_err-new-in-Not.ensures.1 in
-    rw (p.1, p.2) tt
-
-pub conditions-loop-part-init : goal.conditions-loop-part-init
-conditions-loop-part-init t c =
-    none_in_front c.new-bound.result (spec.all_in (map (spec.condition_in c.args.schema.now) c.args.parts.now) (scopes_of c.args.scopes.now) c.args.numbered.now) c.new-bound.ensures
-
-pub conditions-loop-part-preserved : goal.conditions-loop-part-preserved
-conditions-loop-part-preserved t c =
-    rw c.in_ok-push.ensures.ok (conditions_on (spec.condition_in c.args.schema.now) (scopes_of c.args.scopes.now) c.loop-part.bound c.args.parts.now c.loop-part.part-index c.part-item.result c.in_ok-condition.field-0
-    c.loop-part.numbered c.condition.new.numbered (spec.all_in (map (spec.condition_in c.args.schema.now) c.args.parts.now) (scopes_of c.args.scopes.now) c.args.numbered.now) (omega arith) c.part-item.is c.in_ok-condition.ensures c.loop-part.invariant)
-
-pub conditions-returns-in_err-condition : goal.conditions-returns-in_err-condition
-conditions-returns-in_err-condition t c =
-    let p = err_from_is_err_and c.from_residual.result c.from_residual.ensures.1 in
-    rw (p.1, p.2) (conditions_end (spec.condition_in c.args.schema.now) c.in_err-condition.field-0.0 (scopes_of c.args.scopes.now) c.loop-part.bound c.args.parts.now c.loop-part.part-index c.part-item.result
-    c.loop-part.numbered (spec.all_in (map (spec.condition_in c.args.schema.now) c.args.parts.now) (scopes_of c.args.scopes.now) c.args.numbered.now) (omega arith) c.part-item.is c.in_err-condition.ensures c.loop-part.invariant)
-
-pub conditions-returns-in_err-push : goal.conditions-returns-in_err-push
-conditions-returns-in_err-push t c =
-    let p = err_from_is_err_and c.from_residual-in_err-push.result c.from_residual-in_err-push.ensures.1 in
-    rw (p.1, p.2) tt
-
-pub conditions-returns : goal.conditions-returns
-conditions-returns t c =
-    conditions_done (spec.condition_in c.args.schema.now) (scopes_of c.args.scopes.now) c.loop-part.bound c.args.parts.now c.loop-part.part-index c.loop-part.numbered (spec.all_in (map (spec.condition_in c.args.schema.now) c.args.parts.now) (scopes_of c.args.scopes.now) c.args.numbered.now) (omega arith) c.loop-part.invariant
-
-pub filter-returns-in_default : goal.filter-returns-in_default
-filter-returns-in_default t c =
-    not_filtered (spec.condition_in c.args.schema.now) c.args.part.now (scopes_of c.args.scopes.now) c.args.numbered.now c.in_default.is
-
-pub filter-returns-in_err-bound : goal.filter-returns-in_err-bound
-filter-returns-in_err-bound t c =
-    let p = err_from_is_err_and c.from_residual.result c.from_residual.ensures.1 in
-    rw (p.1, p.2) (reported c.in_err-bound.field-0.0 _ _ _ (filtered (spec.condition_in c.args.schema.now) c.args.part.now c.in-Some.part c.get.result.now (scopes_of c.args.scopes.now) c.args.numbered.now c.in-Some.is c.get.ensures) c.in_err-bound.ensures)
-
-pub filter-returns-in_err-new : goal.filter-returns-in_err-new
-filter-returns-in_err-new t c =
-    let p = err_from_is_err_and c.from_residual-in_err-new.result c.from_residual-in_err-new.ensures.1 in
-    rw (p.1, p.2) tt
-
-pub filter-returns : goal.filter-returns
-filter-returns t c =
-    handed _ _ _ _ (filtered (spec.condition_in c.args.schema.now) c.args.part.now c.in-Some.part c.get.result.now (scopes_of c.args.scopes.now) c.args.numbered.now c.in-Some.is c.get.ensures) c.in_ok-bound.ensures ∙ ap (λ (d : Cond). Ok (Some d, c.condition.new.numbered)) (sym c.in_ok-new.ensures)
-
-pub join-returns-in_err-joined : goal.join-returns-in_err-joined
-join-returns-in_err-joined t c =
-    let p = err_from_is_err_and c.from_residual-in_err-joined.result c.from_residual-in_err-joined.ensures.1 in
-    rw (p.1, p.2) tt
-
-pub joins-loop-part-init : goal.joins-loop-part-init
-joins-loop-part-init t c =
-    refl
-
-pub joins-loop-part-preserved : goal.joins-loop-part-preserved
-joins-loop-part-preserved t c =
-    joins_on (spec.join_in c.args.schema.now) (scopes_of c.args.outer.now) c.args.before.now c.args.parts.now c.loop-part.part-index c.part-item.result (c.loop-part.left.0, c.loop-part.left.1, c.loop-part.numbered)
-    (c.in_ok-left.left.0, c.in_ok-left.left.1, c.join.new.numbered) (spec.through (map (spec.join_in c.args.schema.now) c.args.parts.now) (scopes_of c.args.outer.now) c.args.before.now (c.args.first.0, c.args.first.1, c.args.numbered.now)) (omega arith) c.part-item.is c.in_ok-left.ensures c.loop-part.invariant
-
-pub joins-returns-in_err-left : goal.joins-returns-in_err-left
-joins-returns-in_err-left t c =
-    let p = err_from_is_err_and c.from_residual.result c.from_residual.ensures.1 in
-    rw (p.1, p.2) (joins_end (spec.join_in c.args.schema.now) c.in_err-left.field-0.0 (scopes_of c.args.outer.now) c.args.before.now c.args.parts.now c.loop-part.part-index c.part-item.result (c.loop-part.left.0, c.loop-part.left.1, c.loop-part.numbered)
-    (spec.through (map (spec.join_in c.args.schema.now) c.args.parts.now) (scopes_of c.args.outer.now) c.args.before.now (c.args.first.0, c.args.first.1, c.args.numbered.now)) (omega arith) c.part-item.is c.in_err-left.ensures c.loop-part.invariant)
-
-pub joins-returns : goal.joins-returns
-joins-returns t c =
-    joins_done (spec.join_in c.args.schema.now) (scopes_of c.args.outer.now) c.args.before.now c.args.parts.now c.loop-part.part-index (c.loop-part.left.0, c.loop-part.left.1, c.loop-part.numbered) (spec.through (map (spec.join_in c.args.schema.now) c.args.parts.now) (scopes_of c.args.outer.now) c.args.before.now (c.args.first.0, c.args.first.1, c.args.numbered.now)) (omega arith) c.loop-part.invariant
-
-pub chain-returns-in_err-new : goal.chain-returns-in_err-new
-chain-returns-in_err-new t c =
-    let p = err_from_is_err_and c.from_residual-in_err-new.result c.from_residual-in_err-new.ensures.1 in
-    rw (p.1, p.2) tt
-
-pub sources-returns-in_default : goal.sources-returns-in_default
-sources-returns-in_default t c =
-    rw c.refused.ensures (no_chain (spec.chain_in c.args.schema.now) c.args.parts.now (scopes_of c.args.outer.now) c.args.numbered.now c.in_default.len_below)
-
-pub sources-returns-in_err-left : goal.sources-returns-in_err-left
-sources-returns-in_err-left t c =
-    let p = err_from_is_err_and c.from_residual.result c.from_residual.ensures.1 in
-    rw (p.1, p.2) (reported c.in_err-left.field-0.0 _ _ _ (first_chain (spec.chain_in c.args.schema.now) c.args.parts.now c.first-item.result (scopes_of c.args.outer.now) c.new-none.result c.args.numbered.now (omega arith) c.first-item.is c.new-none.ensures) c.in_err-left.ensures)
-
-pub sources-loop-part-init : goal.sources-loop-part-init
-sources-loop-part-init t c =
-    sym (handed _ _ _ _ (first_chain (spec.chain_in c.args.schema.now) c.args.parts.now c.first-item.result (scopes_of c.args.outer.now) c.new-none.result c.args.numbered.now (omega arith) c.first-item.is c.new-none.ensures) c.in_ok-left.ensures)
-
-pub sources-returns-in_err-left-2 : goal.sources-returns-in_err-left-2
-sources-returns-in_err-left-2 t c =
-    let p = err_from_is_err_and c.from_residual-in_err-left-2.result c.from_residual-in_err-left-2.ensures.1 in
-    rw (p.1, p.2) tt
-
-pub sources-returns : goal.sources-returns
-sources-returns t c =
-    chains_done (spec.chain_in c.args.schema.now) (scopes_of c.args.outer.now) (take (length c.args.parts.now - 1) (drop 1 c.args.parts.now)) c.loop-part.part-index (c.loop-part.left, c.loop-part.scope, c.loop-part.numbered)
-    (spec.from_in (map (spec.chain_in c.args.schema.now) c.args.parts.now) (scopes_of c.args.outer.now) c.args.numbered.now) (omega arith) c.loop-part.invariant
-
-pub select-returns-in_err-push_aggregates : goal.select-returns-in_err-push_aggregates
-select-returns-in_err-push_aggregates t c =
-    let p = err_from_is_err_and c.from_residual.result c.from_residual.ensures.1 in
-    rw (p.1, p.2) tt
-
-pub select-returns-in_err-items : goal.select-returns-in_err-items
-select-returns-in_err-items t c =
-    let p = err_from_is_err_and c.from_residual-in_err-items.result c.from_residual-in_err-items.ensures.1 in
-    rw (p.1, p.2) tt
-
-pub select-returns-in_err-new : goal.select-returns-in_err-new
-select-returns-in_err-new t c =
-    let p = err_from_is_err_and c.from_residual-in_err-new.result c.from_residual-in_err-new.ensures.1 in
-    rw (p.1, p.2) tt
+    (c.in_ok-from.from, c.in_ok-from.scope, c.sources.new.numbered) c.in_ok-from.ensures (c.in_ok-filter.filter, c.filter.new.numbered) c.in_ok-filter.ensures c.in_ok-keys.keys c.in_ok-keys.ensures
+    q.having c.filter.new.numbered.next_aggregate refl refl c.in_ok-asked.asked c.in_ok-asked.ensures c.is_grouped-grouped.result grouped c.in_ok-outputs.outputs c.in_ok-items.items c.in_ok-becomes.field-0 c.in_ok-outputs.ensures items c.in_ok-becomes.ensures)
