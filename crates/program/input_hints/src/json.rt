@@ -46,7 +46,7 @@ impl<T: Drop> From<AllocFailed<T>> for Halt {
 }
 
 /// A text as a line.
-fn line_of(text: String) -> Result<String, AllocError>
+pub(crate) fn line_of(text: String) -> Result<String, AllocError>
     ensures { IfOk result (λ line. AreLines (string_bytes line)) }
 {
     let mut line = text;

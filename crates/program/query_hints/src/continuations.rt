@@ -11,13 +11,12 @@ const TOKENS: &[(&str, &str)] = &[
     ("1", "a number"),
     ("'x'", "a text"),
     ("NULL", "NULL"),
-    ("*", "*"),
+    ("*", "a star"),
     ("=", "a comparison"),
-    (".", "."),
-    (",", ","),
-    ("(", "("),
-    (")", ")"),
-    (";", ";"),
+    (".", "a dot"),
+    (",", "a comma"),
+    ("(", "a parenthesis"),
+    (")", "a closing parenthesis"),
     ("SELECT", "SELECT"),
     ("DISTINCT", "DISTINCT"),
     ("COUNT", "COUNT"),
@@ -44,6 +43,8 @@ const TOKENS: &[(&str, &str)] = &[
     ("ORDER", "ORDER"),
     ("ASC", "ASC"),
     ("DESC", "DESC"),
+    // Where a semicolon may stand, the text may end.
+    (";", "a semicolon or the end"),
 ];
 
 /// The words that begin a clause, and a text with each.

@@ -8,8 +8,8 @@ use crate::said::{Said, Words, said_of};
 use crate::stop::Stop;
 use devices::ReadFailure;
 use input_hints::{
-    FoundRow, file_explanation, json_fault, line_explanation, row_there, schema_there,
-    size_explanation, statistics_there, table_there,
+    FoundRow, Numbered, certificate_there, file_explanation, json_fault, line_explanation,
+    row_there, schema_there, size_explanation, statistics_there, table_there,
 };
 use pipeline::Refusal;
 use query_hints::{example_there, habits_there, names_there, tokens_there};
@@ -49,6 +49,8 @@ pub struct Inputs<'a> {
     pub statistics: &'a [u8],
     /// The folder of the tables; nothing where a command reads none.
     pub folder: &'a str,
+    /// The text of a certificate; nothing where a command reads none.
+    pub certificate: &'a [u8],
     /// Why a table's file was not read to its end, if one was not.
     pub failure: Option<&'a ReadFailure>,
     /// The row of a table's file that is refused, if it was found again.
@@ -90,6 +92,32 @@ fn unread_table(
     Ok(said)
 }
 
+/// What the refusal of a certificate numbers. A line that is another than the query's is one of the derivation.
+fn numbered(refusal: &Refusal) -> Option<Numbered> {
+    match refusal {
+        Refusal::Certificate(refusal) => Some(Numbered::Text(refusal.line)),
+        Refusal::Check(refusal) if refusal.reason.code() == "K03" => {
+            Some(Numbered::Derivation(refusal.line))
+        }
+        Refusal::Check(refusal) => Some(Numbered::LineOrNode(refusal.line)),
+        _ => None,
+    }
+}
+
+/// The refused line of a certificate, if one was given.
+fn certificate_line(
+    alloc: Global,
+    refusal: &Refusal,
+    certificate: &[u8],
+) -> Result<String, AllocError> {
+    match numbered(refusal) {
+        Some(numbered) if !certificate.is_empty() => {
+            certificate_there(alloc, certificate, numbered)
+        }
+        _ => Ok(String::new(alloc)),
+    }
+}
+
 /// What can be said of a refusal besides its code's meaning, in lines of its own.
 fn more(alloc: Global, refusal: &Refusal, inputs: Inputs<'_>) -> Result<String, AllocError> {
     let tables = inputs.schema.tables.as_slice();
@@ -117,7 +145,7 @@ fn more(alloc: Global, refusal: &Refusal, inputs: Inputs<'_>) -> Result<String, 
             }
             None => Ok(String::new(alloc)),
         },
-        _ => Ok(String::new(alloc)),
+        _ => certificate_line(alloc, refusal, inputs.certificate),
     }
 }
 

@@ -276,6 +276,8 @@ struct Given<'a> {
     text: &'a [u8],
     /// The folder of the tables; nothing where a command reads none.
     folder: &'a str,
+    /// The text of a certificate; nothing where a command reads none.
+    certificate: &'a [u8],
     /// How a refusal is put in words, if it is.
     words: Words,
     /// What is told how far the work is, where lines are wanted.
@@ -304,7 +306,15 @@ fn found_again(
     found_row(alloc, tables.get_mut(*place)?.reader_mut(), table, *refusal)
 }
 
-impl Given<'_> {
+impl<'a> Given<'a> {
+    /// The same with the text of a certificate.
+    fn with_certificate(self, certificate: &'a [u8]) -> Given<'a> {
+        Given {
+            certificate,
+            ..self
+        }
+    }
+
     /// The stop of a refusal, explained if words are asked for: by the statistics, by why a table's file was not read to its end, and by the row
     /// that was found again, where these are at hand.
     fn refused(
@@ -322,6 +332,7 @@ impl Given<'_> {
                 text: self.text,
                 statistics,
                 folder: self.folder,
+                certificate: self.certificate,
                 failure,
                 row,
             };
@@ -515,6 +526,7 @@ fn answer_by_certificate(
         tables.as_mut_slice(),
         &mut output,
     );
+    let given = given.with_certificate(certificate.as_slice());
     given.ended_over(rt.alloc(), outcome, output, tables.as_mut_slice())
 }
 
@@ -628,6 +640,7 @@ fn explain_by_statistics(
 fn accept(rt: &HostRuntime, given: Given<'_>, certificate: &str) -> Result<(), Stop> {
     let certificate = bytes_of(rt, certificate, given.words)?;
     let outcome = check(rt.alloc(), given.bytes, given.text, certificate.as_slice());
+    let given = given.with_certificate(certificate.as_slice());
     given.accepted(rt, outcome, &[])
 }
 
@@ -643,7 +656,9 @@ fn accept_least(
     let labels = bytes_of(rt, labels, given.words)?;
     let labels = labels.as_slice();
     let outcome = check_least(rt.alloc(), given.bytes, given.text, statistics, labels);
-    given.accepted(rt, outcome, statistics)
+    given
+        .with_certificate(labels)
+        .accepted(rt, outcome, statistics)
 }
 
 /// Lists on standard output the codes of refusals.
@@ -737,6 +752,7 @@ fn obey(rt: &HostRuntime, command: &str, arguments: &ArgMatches<'_>) -> Result<(
                 schema: &schema,
                 text: text.as_slice(),
                 folder: asked.folder(),
+                certificate: &[],
                 words,
                 progress: progress.as_ref(),
             };
