@@ -209,6 +209,12 @@ def main():
             _, memory = bench.beside("many groups with sums", 0.5, "SELECT k, COUNT(*), SUM(v) FROM emp GROUP BY k", columns=KEYS, unique=())
             bench.line("peak memory, many groups with sums, times the file", "", "", memory, 4)
             write_numbers(folder, wanted.rows)
+        if asked("having"):
+            write_keys(folder, wanted.rows)
+            grouped = "SELECT k, SUM(v) FROM emp GROUP BY k HAVING"
+            bench.beside("many groups, HAVING of a key", 0.2, f"{grouped} k < {wanted.rows // 1_000}", columns=KEYS, unique=())
+            bench.beside("many groups, HAVING of an aggregate", 0.5, f"{grouped} COUNT(*) > 2", columns=KEYS, unique=())
+            write_numbers(folder, wanted.rows)
         if asked("distinct"):
             bench.beside("distinct", 0.10, "SELECT DISTINCT dept, pay FROM emp")
         if asked("sort"):
