@@ -11,7 +11,18 @@ use pattern_rules::right_selects_merge::RightSelectsMerge;
 use rules::{Match, Rule};
 use std::alloc::{AllocError, Global};
 
-/// Reports what the rule of a name gives at lines of its pattern; of others, that they aren't.
+/// Reports what a rule gives at lines of its pattern; of others, that they aren't.
+fn report_rule<R: Rule>(
+    alloc: Global,
+    at: Match<'_>,
+    reported: &mut String,
+) -> Result<(), AllocError> {
+    push_applied(alloc, reported, &R::apply(alloc, at))?;
+    let fits = R::pattern().fits(alloc, at)?;
+    reported.push_str(if fits { "" } else { ", another pattern" })
+}
+
+/// The same of the rule of a name.
 fn report_unlisted(
     alloc: Global,
     name: &str,
@@ -27,24 +38,11 @@ fn report_unlisted(
         classes: known.lent(),
     };
     match name {
-        "right-selects-merge" => {
-            push_applied(alloc, reported, &RightSelectsMerge::apply(alloc, at))?;
-            push_fitting(reported, RightSelectsMerge::pattern().fits(alloc, at)?)
-        }
-        "right-select-of-none" => {
-            push_applied(alloc, reported, &RightSelectOfNone::apply(alloc, at))?;
-            push_fitting(reported, RightSelectOfNone::pattern().fits(alloc, at)?)
-        }
-        "input-exists" => {
-            push_applied(alloc, reported, &InputExists::apply(alloc, at))?;
-            push_fitting(reported, InputExists::pattern().fits(alloc, at)?)
-        }
+        "right-selects-merge" => report_rule::<RightSelectsMerge>(alloc, at, reported),
+        "right-select-of-none" => report_rule::<RightSelectOfNone>(alloc, at, reported),
+        "input-exists" => report_rule::<InputExists>(alloc, at, reported),
         _ => reported.push_str("no such rule"),
     }
-}
-
-fn push_fitting(reported: &mut String, fits: bool) -> Result<(), AllocError> {
-    reported.push_str(if fits { "" } else { ", another pattern" })
 }
 
 /// Reports what the rule of a name gives at lines.
