@@ -1,0 +1,4 @@
+pub mod Members
+pub mod Parts
+pub mod Shapes
+pub mod Texts
