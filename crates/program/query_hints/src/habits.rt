@@ -242,7 +242,7 @@ pub(crate) fn is_word(byte: u8) -> bool {
 }
 
 /// The text before the last token of a text, and that token: a word or one byte.
-fn last_token(text: &[u8]) -> (&[u8], &[u8]) {
+pub(crate) fn last_token(text: &[u8]) -> (&[u8], &[u8]) {
     let text = text.trim_ascii_end();
     let word = text.iter().rev().take_while(|byte| is_word(**byte)).count();
     text.split_at(text.len().saturating_sub(word.max(1)))
