@@ -5,6 +5,7 @@ pub mod LineLaws
 pub mod LineTexts
 pub mod NodeLaws
 pub mod NodeTexts
+pub mod OneFault
 pub mod PartWords
 pub mod PlanCounts
 pub mod PlanFaults

@@ -260,7 +260,7 @@ fact_taken (NotNull k) h = (tt, h)
 fact_taken (WeakKey K) h = (h.1, h.0)
 fact_taken (StrongKey K) h = (h.1, h.0)
 
-line_taken : (l : Line) → IsReadableLine l → IsTaken line_wording l
+pub line_taken : (l : Line) → IsReadableLine l → IsTaken line_wording l
 line_taken (Founds x) h = expr_taken x h
 line_taken (Adds g s x) h =
     let step = step_taken s h.1 in

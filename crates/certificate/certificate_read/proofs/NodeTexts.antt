@@ -124,10 +124,10 @@ parts_of (DistinctRows group.Sorted) line inputs s h = (operator.SortedDistinct,
 
 -- ---- nodes
 
-abbrev IsNode : Node → ℕ → AnyNode → Type 0
+abbrev pub IsNode : Node → ℕ → AnyNode → Type 0
 IsNode n inputs x = (node_of x.0 x.1 ≡ record { node = n; inputs = inputs }) × IsTaken node_wording x × IsPart (node_words n inputs) (node_wording.words x)
 
-node_parts : (n : Node) (inputs : ℕ) → IsReadableNode n inputs → (x : AnyNode) × IsNode n inputs x
+pub node_parts : (n : Node) (inputs : ℕ) → IsReadableNode n inputs → (x : AnyNode) × IsNode n inputs x
 node_parts (Implements line o) inputs h =
     let parts = parts_of o line inputs h.0 h.1 in (
       (node.Implements parts.0, (line, parts.1)),

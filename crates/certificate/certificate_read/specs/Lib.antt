@@ -1,6 +1,7 @@
 pub mod Fronts
 pub mod LineReading
 pub mod NodeReading
+pub mod OneFault
 pub mod TextCalls
 pub mod TextFaults
 pub mod TextReading

@@ -28,6 +28,7 @@ pub struct Front<'a> {
 pub fn read_front(alloc: Global, bytes: &[u8]) -> Result<Front<'_>, TextFault>
     ensures sound { IfOk result (λ front. spec.IsFront front.certificate front.rest.now bytes.now) }
     ensures lines { IfOk result (λ front. front.lines ≡ spec.line_count front.certificate) }
+    ensures readable { IfOk result (λ front. IsReadableCertificate front.certificate) }
     // Bytes that begin with the text of a certificate that can be read give that certificate and the rest.
     ensures complete { (c : Certificate) (rest : Text) → IsReadableCertificate c → spec.IsFront c rest bytes.now → UnlessMemory (λ front. (front.certificate ≡ c) × (front.rest.now ≡ rest)) result }
     // What is refused has a faulty line, as `read` tells it; the first of them is reported, and why.

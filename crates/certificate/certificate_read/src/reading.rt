@@ -222,6 +222,8 @@ fn last_plan(alloc: Global, text: &mut TextLines<'_>) -> Result<Plan, TextFault>
 /// its range.
 pub fn read(alloc: Global, bytes: &[u8]) -> Result<Certificate, TextFault>
     ensures sound { IfOk result (λ certificate. written certificate ≡ Ok bytes.now) }
+    // Numbers are in their ranges and lists in order, and each node has the inputs that it takes.
+    ensures readable { IfOk result IsReadableCertificate }
     // The text of each certificate that can be read is read as that certificate.
     ensures complete { (c : Certificate) → IsReadableCertificate c → written c ≡ Ok bytes.now → spec.UnlessMemory (λ read. read ≡ c) result }
     // What is refused has a faulty line; the first of them is reported, and why.

@@ -17,6 +17,9 @@ returns-clause-sound c = front_read c.args.bytes.now c.of-text.result c.of-text.
 pub returns-clause-lines : goal.returns-clause-lines
 returns-clause-lines c = front_lines c.args.bytes.now c.of-text.result c.of-text.ensures.left c.of-text.ensures.number c.expect.new.self c.in_ok-expect.ensures.exact c.derivation.new.text c.in_ok-lines.lines c.in_ok-lines.ensures.exact c.plan.new.text c.in_ok-plan.plan c.in_ok-plan.ensures.exact c.expect-2.new.self c.in_ok-expect-2.ensures.exact
 
+pub returns-clause-readable : goal.returns-clause-readable
+returns-clause-readable c = (c.in_ok-lines.ensures.exact.1.0, c.in_ok-plan.ensures.exact.2.0)
+
 pub returns-in_err-plan-clause-complete : goal.returns-in_err-plan-clause-complete
 returns-in_err-plan-clause-complete c = λ whole rest h is.
     let within = written_within whole is.0 is.1 in

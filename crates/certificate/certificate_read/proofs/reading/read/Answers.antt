@@ -33,6 +33,9 @@ returns-clause-complete c = λ whole h e.
 pub returns-clause-sound : goal.returns-clause-sound
 returns-clause-sound c = certificate_read c.args.bytes.now c.of-text.result c.of-text.ensures.left c.of-text.ensures.number c.expect.new.self c.in_ok-expect.ensures.exact c.derivation.new.text c.in_ok-lines.lines c.in_ok-lines.ensures.exact c.in_ok-plan.plan c.in_ok-plan.ensures.exact
 
+pub returns-clause-readable : goal.returns-clause-readable
+returns-clause-readable c = (c.in_ok-lines.ensures.exact.1.0, c.in_ok-plan.ensures.exact.2.0)
+
 pub returns-in_err-plan-clause-refused : goal.returns-in_err-plan-clause-refused
 returns-in_err-plan-clause-refused c =
     holds_of_fault (λ (r : Result Certificate (Fault TextRefusal)). IfErr r (λ fault. RefusesText c.args.bytes.now fault)) c.from_residual-in_err-plan.result c.in_err-plan.field-0.0 c.from_residual-in_err-plan.ensures.1
