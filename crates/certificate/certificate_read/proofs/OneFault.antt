@@ -147,7 +147,7 @@ module _ (ws : List ℕ) (counted : ℕ) where
   abbrev is_within : Bool
   is_within = nat_le (length ws) most_deep
 
-  -- nor is it where the plan can have its size behind it
+  -- it isn't refused for the size of the plan either, where the plan can have its size behind it
   node_stands : (n : Node) (inputs : ℕ) → IsReadableNode n inputs → length ws ≤ most_deep → IsBalanced (counted - 1) (sum (wanted_behind inputs ws)) → (reason : TextReason) → IsOtherNode ws counted (node_words n inputs) reason → ⊥
   node_stands n inputs h few balanced reason (inl other) = node_value_stands is_within n inputs (le-leb (length ws) most_deep few) h reason other
   node_stands n inputs h few balanced reason (inr (m, others, e, k, low, unbalanced, why)) =
