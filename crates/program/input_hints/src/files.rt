@@ -1,5 +1,6 @@
 //! Why a file fails, and what a row of a table's file is to be.
 
+use crate::foreign::push_kind;
 use crate::rows::FoundRow;
 use csv::ByteRecord;
 use schema::{Column, Kind, Table};
@@ -220,7 +221,12 @@ fn push_found(
 ) -> Result<(), AllocError> {
     let fields = &found.fields;
     match cause {
-        TableCause::OtherHeader | TableCause::OtherLength => push_row(alloc, said, fields)?,
+        TableCause::OtherHeader => {
+            push_row(alloc, said, fields)?;
+            said.push('\n')?;
+            return push_kind(table, fields, said);
+        }
+        TableCause::OtherLength => push_row(alloc, said, fields)?,
         TableCause::Field(place, _) => {
             said.push_str("there stands ")?;
             push_field(alloc, said, fields, place)?;
@@ -274,4 +280,17 @@ pub fn row_there(
 pub fn table_there(alloc: Global, path: &str) -> Result<String, AllocError> {
     let path = spelled(alloc, path)?;
     format!(in alloc; "the file is {path}\n")
+}
+
+/// What is said of a table's file that ends within quotes, by the line on which they open, if that is known: a line of its own.
+pub fn quote_there(alloc: Global, table: &str, line: Option<u64>) -> Result<String, AllocError> {
+    let mut said = String::new(alloc);
+    write!(&mut said, "table {table}")?;
+    if let Some(line) = line {
+        write!(&mut said, " line {line}")?;
+    }
+    said.push_str(
+        ": the quote that opens a field there is never closed, so the rest of the file stands in that field\n",
+    )?;
+    Ok(said)
 }

@@ -38,8 +38,8 @@ fn read_on<R: Read>(reader: &mut Reader<R>, count: usize, fields: &mut ByteRecor
     Some(fields.position()?.byte())
 }
 
-/// The line of the record that a reader places at this byte: past the line breaks there, which it passes over.
-fn line_of<R: Read + Seek>(file: &mut R, at: u64) -> Option<u64> {
+/// The line of a file on which the first byte stands, from this one on, that is no line break: a record begins there where a reader places it.
+pub fn line_at<R: Read + Seek>(file: &mut R, at: u64) -> Option<u64> {
     file.rewind().ok()?;
     let mut buffer = [0u8; 65_536];
     let mut line = 1u64;
@@ -173,7 +173,7 @@ pub fn found_row<R: Read + Seek>(
     if !has_cause(table, refusal.cause, &fields) {
         return None;
     }
-    let line = line_of(file, bytes.row)?;
+    let line = line_at(file, bytes.row)?;
     let Some(at) = bytes.earlier else {
         return Some(FoundRow {
             line,
@@ -182,7 +182,7 @@ pub fn found_row<R: Read + Seek>(
         });
     };
     let earlier = EarlierRow {
-        line: line_of(file, at)?,
+        line: line_at(file, at)?,
         list: repeated_list(table, &earlier_fields, &fields)?,
     };
     Some(FoundRow {

@@ -3,6 +3,7 @@
 ghost use Rattle.std.specs.Prelude.{IfOk, string_bytes};
 ghost use Rattle.input_hints.specs.Lines.{AreLines};
 
+use crate::foreign::mark_there;
 use crate::json::{
     Halt, element_place, elements, expect_array, expect_keys, expect_member, fault_at,
     member_place, said_of, unwanted, value_of,
@@ -275,6 +276,6 @@ pub fn schema_there(
 {
     match value_of(alloc, text)? {
         Some(schema) => said_of(alloc, walk(alloc, &schema, refusal)),
-        None => Ok(String::new(alloc)),
+        None => mark_there(alloc, text),
     }
 }

@@ -3,6 +3,7 @@
 ghost use Rattle.std.specs.Prelude.{IfOk, string_bytes};
 ghost use Rattle.input_hints.specs.Lines.{AreLines};
 
+use crate::foreign::mark_there;
 use crate::json::{
     Halt, element_place, expect_array, expect_first_keys, expect_keys, expect_member, fault_at,
     member_place, said_of, unwanted, value_of,
@@ -120,7 +121,7 @@ pub fn statistics_there(
     ensures { IfOk result (λ said. AreLines (string_bytes said)) }
 {
     match refusal {
-        StatisticsRefusal::NotJson => Ok(String::new(alloc)),
+        StatisticsRefusal::NotJson => mark_there(alloc, text),
         StatisticsRefusal::Shape => match value_of(alloc, text)? {
             Some(statistics) => said_of(alloc, expect_statistics(alloc, schema, &statistics)),
             None => Ok(String::new(alloc)),
