@@ -364,4 +364,4 @@ class Shown:
             return behind
 
         draw(plan, 0)
-        return "digraph plan {\n" + "".join(line + "\n" for line in lines) + "}\n"
+        return 'digraph plan {\n  node [shape=box fontname="sans-serif"];\n' + "".join(line + "\n" for line in lines) + "}\n"

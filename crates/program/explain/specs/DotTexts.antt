@@ -47,4 +47,4 @@ drawn names estimates = fold-Plan (ℕ → Drawn) (drawn_layer names estimates)
 
 -- the nodes are numbered in the order of the lines that explain the plan, from 0
 abbrev pub dot_text : Naming → List Estimate → Plan → Text
-dot_text names estimates p = codes "digraph plan {\n" ++ ((drawn names estimates p 0).text ++ codes "}\n")
+dot_text names estimates p = codes "digraph plan {\n  node [shape=box fontname=\"sans-serif\"];\n" ++ ((drawn names estimates p 0).text ++ codes "}\n")

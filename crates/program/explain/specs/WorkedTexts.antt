@@ -146,7 +146,7 @@ other_departments = a_plan (Filter (is_named (value.Text (codes "\\ or \"")) ∷
 abbrev pub PictureIsSpelled : Type 0
 PictureIsSpelled =
     dot_text names (an_estimate 2 135 ∷ []) other_departments
-    ≡ codes "digraph plan {\n  n0 [label=\"filter d.name <> '\\\\ or \\\"' rows=2 cost=135\"];\n  n0 -> n1;\n  n1 [label=\"scan dept d rows=0 cost=0\"];\n}\n"
+    ≡ codes "digraph plan {\n  node [shape=box fontname=\"sans-serif\"];\n  n0 [label=\"filter d.name <> '\\\\ or \\\"' rows=2 cost=135\"];\n  n0 -> n1;\n  n1 [label=\"scan dept d rows=0 cost=0\"];\n}\n"
 
 -- ---- what was measured
 

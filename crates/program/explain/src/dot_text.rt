@@ -98,7 +98,10 @@ pub fn dot(
     ensures { IfOk result (λ text. text.items ≡ spec.dot_text names.now estimates.now plan.now) }
 {
     let mut text = Vec::new(alloc);
-    push_text(&mut text, "digraph plan {\n")?;
+    push_text(
+        &mut text,
+        "digraph plan {\n  node [shape=box fontname=\"sans-serif\"];\n",
+    )?;
     push_drawn(alloc, &mut text, names, estimates, plan, 0)?;
     push_text(&mut text, "}\n")?;
     Ok(text)

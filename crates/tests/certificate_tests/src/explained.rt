@@ -187,7 +187,7 @@ SELECT d.id FROM dept d, emp e => SQLPLAN 1/lines 8/F get 0/F get 1/F select [=(
 #[test]
 fn plans_are_drawn(rt: HostRuntime) {
     const CASES: &str =
-        r#"SELECT d.id, e.id FROM dept d LEFT JOIN emp e ON e.dept = d.id WHERE e.pay > 0 => SQLPLAN 1/lines 5/F get 0/F get 1/F left [=(c4,c0)] 0 1/F select [>(c5,i0)] 2/F keep 0,3 3/plan 5/cut 4 0,3/filter 3 [>(c5,i0)]/hash 2 left [=(c4,c0)]/scan 0 0/scan 1 1/end/ => digraph plan {/  n0 [label="cut d.id,e.id rows=2 cost=285"];/  n0 -> n1;/  n1 [label="filter e.pay > 0 rows=2 cost=284"];/  n1 -> n2;/  n2 [label="hash left e.dept = d.id rows=3 cost=281"];/  n2 -> n3;/  n3 [label="scan dept d rows=3 cost=130"];/  n2 -> n4;/  n4 [label="scan emp e rows=4 cost=140"];/}/"#;
+        r#"SELECT d.id, e.id FROM dept d LEFT JOIN emp e ON e.dept = d.id WHERE e.pay > 0 => SQLPLAN 1/lines 5/F get 0/F get 1/F left [=(c4,c0)] 0 1/F select [>(c5,i0)] 2/F keep 0,3 3/plan 5/cut 4 0,3/filter 3 [>(c5,i0)]/hash 2 left [=(c4,c0)]/scan 0 0/scan 1 1/end/ => digraph plan {/  node [shape=box fontname="sans-serif"];/  n0 [label="cut d.id,e.id rows=2 cost=285"];/  n0 -> n1;/  n1 [label="filter e.pay > 0 rows=2 cost=284"];/  n1 -> n2;/  n2 [label="hash left e.dept = d.id rows=3 cost=281"];/  n2 -> n3;/  n3 [label="scan dept d rows=3 cost=130"];/  n2 -> n4;/  n4 [label="scan emp e rows=4 cost=140"];/}/"#;
     assert_eq!(rt;
         query_differences(rt.alloc(), TABLES, &[CASES], &OfPlan { what: What::Graph }).as_deref(),
         Ok("")

@@ -121,7 +121,7 @@ SELECT d.id, e.id FROM dept d LEFT JOIN emp e ON e.dept = d.id WHERE e.pay IS NU
 SELECT DISTINCT d.id FROM dept d => cut d.id rows=3 cost=131/  scan dept d rows=3 cost=130/
 SELECT * FROM dept => scan dept dept rows=3 cost=130/
 SELECT name FROM dept GROUP BY name => hgroup dept.name - rows=1 cost=136/  scan dept dept rows=3 cost=130/
-dot SELECT * FROM dept => digraph plan {/  n0 [label="scan dept dept rows=3 cost=130"];/}/
+dot SELECT * FROM dept => digraph plan {/  node [shape=box fontname="sans-serif"];/  n0 [label="scan dept dept rows=3 cost=130"];/}/
 SELECT nothing FROM emp => refused B02 at 7"#;
     const SUBQUERIES: &str =
         r#"SELECT d.id FROM dept d WHERE d.id NOT IN (SELECT e.dept FROM emp e) => cut d.id rows=2 cost=282/  hash anti sure true maybe d.id = e.dept rows=2 cost=281/    scan dept d rows=3 cost=130/    scan emp e rows=4 cost=140/
@@ -235,11 +235,11 @@ fn plans_are_told_to_be_the_cheapest(rt: HostRuntime) {
     const TO_LIMIT: &str =
         r#"least SELECT * FROM dept => scan dept dept rows=3 cost=130/least of 1 goals over 7 lines, closed/
 least SELECT id FROM emp ORDER BY id => sort emp.id ASC rows=4 cost=153/  cut emp.id rows=4 cost=141/    scan emp emp rows=4 cost=140/least of 4 goals over 9 lines, closed/
-least dot SELECT * FROM dept => digraph plan {/  n0 [label="scan dept dept rows=3 cost=130"];/}/// least of 1 goals over 7 lines, closed/
+least dot SELECT * FROM dept => digraph plan {/  node [shape=box fontname="sans-serif"];/  n0 [label="scan dept dept rows=3 cost=130"];/}/// least of 1 goals over 7 lines, closed/
 least SELECT nothing FROM emp => refused B02 at 7"#;
     const WHILE_WORTHWHILE: &str =
         r#"least SELECT * FROM dept => scan dept dept rows=3 cost=130/least of 1 goals, not closed at 3 lines/
-least dot SELECT * FROM dept => digraph plan {/  n0 [label="scan dept dept rows=3 cost=130"];/}/// least of 1 goals, not closed at 3 lines/"#;
+least dot SELECT * FROM dept => digraph plan {/  node [shape=box fontname="sans-serif"];/  n0 [label="scan dept dept rows=3 cost=130"];/}/// least of 1 goals, not closed at 3 lines/"#;
     assert_eq!(rt;
         differences(rt.alloc(), &[TO_LIMIT], &Explained(Exploration::ToLimit)).as_deref(),
         Ok("")
